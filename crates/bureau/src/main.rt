@@ -1,0 +1,5 @@
+//! The program `bureau`.
+
+#![tactic(auto)]
+
+fn main() {}

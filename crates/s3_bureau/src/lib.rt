@@ -1,0 +1,3 @@
+//! The bureau: two levels that take turns.
+
+#![tactic(auto)]

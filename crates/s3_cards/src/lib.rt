@@ -1,0 +1,3 @@
+//! Cards: characters, decks, the two levels' names, printed lines.
+
+#![tactic(auto)]

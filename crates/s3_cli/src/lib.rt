@@ -1,0 +1,3 @@
+//! A session: bytes in, bytes out.
+
+#![tactic(auto)]

@@ -1,0 +1,3 @@
+//! The compiler: diagnostics of a whole source, and programs.
+
+#![tactic(auto)]

@@ -1,0 +1,3 @@
+//! The cycle: a suspended run of a program.
+
+#![tactic(auto)]

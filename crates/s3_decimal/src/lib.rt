@@ -1,0 +1,3 @@
+//! Decimal numbers: exact arithmetic, and numbers in records.
+
+#![tactic(auto)]

@@ -1,0 +1,3 @@
+//! Edited numbers: edit codes and their pictures.
+
+#![tactic(auto)]

@@ -1,0 +1,3 @@
+//! Files of records. Not built yet.
+
+#![tactic(auto)]

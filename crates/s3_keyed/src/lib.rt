@@ -1,0 +1,3 @@
+//! Indexed files. Not built yet.
+
+#![tactic(auto)]

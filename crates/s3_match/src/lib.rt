@@ -1,0 +1,3 @@
+//! Selection of records. Not built yet.
+
+#![tactic(auto)]

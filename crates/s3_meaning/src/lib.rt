@@ -1,0 +1,3 @@
+//! What an RPG II source means.
+
+#![tactic(auto)]

@@ -1,0 +1,3 @@
+//! Job streams: the statements of OCL and where jobs begin and end.
+
+#![tactic(auto)]

@@ -1,0 +1,3 @@
+//! Halts and replies. Not built yet.
+
+#![tactic(auto)]

@@ -1,0 +1,3 @@
+//! The write-back pool of 16 buffers.
+
+#![tactic(auto)]

@@ -1,0 +1,3 @@
+//! The sheets of an RPG II source: typed lines and the diagnostics of single cards.
+
+#![tactic(auto)]

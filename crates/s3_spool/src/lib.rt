@@ -1,0 +1,3 @@
+//! The spool of printed lines. Not built yet.
+
+#![tactic(auto)]

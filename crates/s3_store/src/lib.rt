@@ -1,0 +1,3 @@
+//! Stores of sectors, and the trait of sectors that the layers above share.
+
+#![tactic(auto)]
