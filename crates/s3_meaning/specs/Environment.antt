@@ -1,0 +1,115 @@
+-- What a job holds between two lines: its fields and indicators by their names, and the facts of the cycle.
+use Rattle.std.specs.Prelude.{ℕ, zero, suc, ◌+◌, ◌*◌, ◌-◌, ◌/◌, ◌%◌, ◌^◌, ◌==◌, nat_lt, Bool, true, false, not, ◌&&◌, ◌||◌, ℤ, pos, List, [], ◌∷◌, ◌++◌, replicate, slice_index, Option, Some, None, if◌then◌else◌}
+use Rattle.std.specs.List.{list_any, list_all}
+use Rattle.s3_decimal.specs.Exact.{Fraction, exact}
+use Rattle.s3_sheets.specs.declared.name.Name.{Name}
+use Rattle.s3_sheets.specs.declared.indicator.Indicator.{Indicator}
+use Rattle.s3_sheets.specs.declared.indicator.Indicator.TheVariants.{Level, LastRecord, FirstPage, Switch}
+use Rattle.s3_sheets.specs.declared.indicator.Condition.{Condition}
+use Rattle.s3_meaning.specs.Names.{same_name, same_indicator, is_indicator, udate, umonth, uday, uyear}
+use Rattle.s3_meaning.specs.Source.{Source, length_of}
+
+pub record Environment : Type 0 where
+  -- the values of numeric and of alphanumeric fields
+  pub numbers : Name → ℤ
+  pub texts : Name → List ℕ
+  -- the indicators that are on
+  pub on : Indicator → Bool
+  -- what the last DIV leaves for MVR
+  pub remainder : Fraction
+  -- the number of each file's current record
+  pub current : Name → Option ℕ
+  -- the control field held for each level
+  pub held : ℕ → Option (List ℕ)
+  -- total time is no longer passed over
+  pub totals_due : Bool
+  -- the carriage
+  pub page : ℕ
+  pub line : ℕ
+
+-- ---- changes
+abbrev pub put_number : Name → ℤ → Environment → Environment
+put_number name value e = record e { numbers = λ other. if same_name other name then value else e.numbers other }
+
+abbrev pub put_text : Name → List ℕ → Environment → Environment
+put_text name text e = record e { texts = λ other. if same_name other name then text else e.texts other }
+
+abbrev pub turn : Indicator → Bool → Environment → Environment
+turn indicator to e = record e { on = λ other. if same_indicator other indicator then to else e.on other }
+
+-- indicators with what each is to show; one that is named twice is on where one of its causes holds
+abbrev pub show : List (Option Indicator × Bool) → Environment → Environment
+show marks e =
+    record e {
+      on = λ other.
+          if list_any (λ mark. is_indicator other mark.0) marks
+          then list_any (λ mark. is_indicator other mark.0 && mark.1) marks
+          else e.on other;
+    }
+
+abbrev pub is_level : Indicator → Bool
+is_level (Level zero) = false
+is_level (Level (suc n)) = true
+is_level _ = false
+
+-- L1 to L9 go on or off
+abbrev pub turn_levels : Bool → Environment → Environment
+turn_levels to e = record e { on = λ other. if is_level other then to else e.on other }
+
+-- LR and L1 to L9 go on
+abbrev pub with_last_record : Environment → Environment
+with_last_record e = turn LastRecord true (turn_levels true e)
+
+abbrev pub put_remainder : Fraction → Environment → Environment
+put_remainder remainder e = record e { remainder = remainder }
+
+abbrev pub no_remainder : Fraction
+no_remainder = exact (pos 0) 0
+
+abbrev pub put_current : Name → Option ℕ → Environment → Environment
+put_current file number e = record e { current = λ other. if same_name other file then number else e.current other }
+
+-- ---- conditions
+abbrev pub holds : Environment → Condition → Bool
+holds e condition = if condition.negated then not (e.on condition.indicator) else e.on condition.indicator
+
+abbrev pub all_hold : Environment → List Condition → Bool
+all_hold e conditions = list_all (holds e) conditions
+
+-- ---- the beginning
+-- the bit of a switch: U1 is the highest of eight
+abbrev pub switch_on : ℕ → ℕ → Bool
+switch_on switches n = switches / 2 ^ (8 - n) % 2 == 1
+
+-- L0 and 1P are on, and the switches as they are set
+abbrev pub on_at_first : ℕ → Indicator → Bool
+on_at_first switches (Level n) = n == 0
+on_at_first switches FirstPage = true
+on_at_first switches (Switch n) = switch_on switches n
+on_at_first switches _ = false
+
+-- the number that two of the digits of the date write
+abbrev pub date_part : List ℕ → ℕ → ℕ
+date_part date at = slice_index date at % 16 * 10 + slice_index date (at + 1) % 16
+
+-- the date is six EBCDIC digits, mmddyy
+abbrev pub numbers_at_first : List ℕ → Name → ℤ
+numbers_at_first date name =
+    if same_name name udate then pos (date_part date 0 * 10000 + date_part date 2 * 100 + date_part date 4)
+    else (if same_name name umonth then pos (date_part date 0)
+    else (if same_name name uday then pos (date_part date 2)
+    else (if same_name name uyear then pos (date_part date 4) else pos 0)))
+
+abbrev pub at_first : Source → ℕ → List ℕ → Environment
+at_first source switches date =
+    record {
+      numbers = numbers_at_first date;
+      texts = λ name. replicate (length_of source name) 0x40;
+      on = on_at_first switches;
+      remainder = no_remainder;
+      current = λ file. None;
+      held = λ level. None;
+      totals_due = false;
+      page = 1;
+      line = 1;
+    }

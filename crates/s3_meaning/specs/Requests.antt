@@ -1,0 +1,30 @@
+-- What a run asks for, and what it is answered.
+use Rattle.std.specs.Prelude.{ℕ, ℤ, Bool, List, Option}
+use Rattle.s3_sheets.specs.declared.name.Name.{Name}
+use Rattle.s3_meaning.specs.declared.halt.HaltCode.{HaltCode}
+
+-- what CHAIN looks for: a key, or a record number from 1
+pub data Sought : Type 0 where
+  Key : List ℕ → Sought
+  RecordNumber : ℤ → Sought
+
+pub data Request : Type 0 where
+  Card : Request
+  Read : (file : Name) → Request
+  Chain : (file : Name) → Sought → Request
+  Append : (file : Name) → (bytes : List ℕ) → Request
+  Add : (file : Name) → (bytes : List ℕ) → Request
+  -- the current record by its number, if there is one, and what is put at each of its positions
+  Update : (file : Name) → (current : Option ℕ) → (changes : List (Option ℕ)) → Request
+  Print : (page line : ℕ) → (text : List ℕ) → Request
+  Jump : Request
+  Ask : HaltCode → Request
+  End : (at_once : Bool) → Request
+
+pub data Answer : Type 0 where
+  -- the number of the record in its file, which an update names, and its bytes
+  Found : (number : ℕ) → (bytes : List ℕ) → Answer
+  Nothing : Answer
+  Done : Answer
+  Refused : HaltCode → Answer
+  Reply : (digit : ℕ) → Answer

@@ -1,0 +1,45 @@
+-- Runs: what a job asks for, given the answers so far. Nothing here suspends: a run takes all its answers,
+-- and gives the request that stands when they are used up.
+use Rattle.std.specs.Prelude.{ℕ, ◌==◌, Bool, true, false, List, [], ◌∷◌, if◌then◌else◌}
+use Rattle.s3_sheets.specs.declared.indicator.Indicator.TheVariants.{LastRecord, FirstPage}
+use Rattle.s3_meaning.specs.declared.halt.HaltCode.{HaltCode}
+use Rattle.s3_meaning.specs.Requests.{Request, Ask, End, Answer, Reply}
+use Rattle.s3_meaning.specs.Calculations.{Calculation}
+use Rattle.s3_meaning.specs.Environment.{Environment, turn, with_last_record}
+use Rattle.s3_meaning.specs.Selection.{InputFile, Reading}
+
+abbrev pub Run : Type 0
+Run = List Answer → Request
+
+-- what is still to come, from an environment
+abbrev pub Rest : Type 0
+Rest = Environment → Run
+
+-- a request is made, and the run goes on with its answer
+unfoldable pub ask : Request → (Answer → Run) → Run
+ask request go [] = request
+ask request go (answer ∷ answers) = go answer answers
+
+unfoldable pub ended : Bool → Rest
+ended at_once e answers = End at_once
+
+-- What an answer can begin anew: a section's lines after a jump, the reading of a file after a record was passed
+-- over, the totals of the last record after a reply 2, and the next cycle.
+pub record Anew : Type 0 where
+  pub jump : (section lines : List Calculation) → Rest → Rest
+  pub read : InputFile → (InputFile → Rest) → Rest
+  pub last : Rest
+  pub cycle : Reading → Rest
+
+-- ---- halts
+-- reply 2 sets LR and L1 to L9 and goes to the totals; once LR is on it ends the job
+unfoldable pub to_totals : Anew → Rest
+to_totals anew e = (if e.on LastRecord then ended true else anew.last) (turn FirstPage false (with_last_record e))
+
+-- reply 0 goes on, reply 3 ends the job
+unfoldable pub replied : Anew → Rest → Answer → Rest
+replied anew go (Reply digit) e = (if digit == 0 then go else (if digit == 2 then to_totals anew else ended true)) e
+replied anew go _ e = ended true e
+
+unfoldable pub halted : Anew → HaltCode → Rest → Rest
+halted anew code go e = ask (Ask code) (λ answer. replied anew go answer e)

@@ -1,0 +1,219 @@
+-- A source: what its sheets say, put together.
+use Rattle.std.specs.Prelude.{ℕ, ◌+◌, ◌-◌, ◌*◌, ◌==◌, Bool, true, false, not, ◌&&◌, ◌||◌, List, [], ◌∷◌, ◌++◌, Option, Some, None, is_some, unwrap_or, option_map, filter, filter_map, find, if◌then◌else◌}
+use Rattle.std.specs.Option.{option_or}
+use Rattle.std.specs.List.{list_any}
+use Rattle.s3_sheets.specs.declared.name.Name.{Name}
+use Rattle.s3_sheets.specs.declared.indicator.Indicator.{Indicator}
+use Rattle.s3_sheets.specs.declared.sheet.FileUse.{FileUse}
+use Rattle.s3_sheets.specs.declared.sheet.FileUse.TheVariants.{Output as OutputUse, Input as InputUse, Update}
+use Rattle.s3_sheets.specs.declared.sheet.Designation.{Designation}
+use Rattle.s3_sheets.specs.declared.sheet.Designation.TheVariants.{Primary, Secondary, Chained}
+use Rattle.s3_sheets.specs.declared.sheet.Device.{Device}
+use Rattle.s3_sheets.specs.declared.sheet.Device.TheVariants.{CardReader, Printer, Disk}
+use Rattle.s3_sheets.specs.declared.sheet.FileLine.{FileLine}
+use Rattle.s3_sheets.specs.declared.sheet.FieldForm.{FieldForm}
+use Rattle.s3_sheets.specs.declared.sheet.FieldForm.TheVariants.{Alphanumeric as AlphanumericForm, Zoned, Packed}
+use Rattle.s3_sheets.specs.declared.sheet.FieldLine.{FieldLine}
+use Rattle.s3_sheets.specs.declared.sheet.Shape.{Shape}
+use Rattle.s3_sheets.specs.declared.sheet.Shape.TheVariants.{Alphanumeric, Numeric}
+use Rattle.s3_sheets.specs.declared.sheet.InputLine.{InputLine}
+use Rattle.s3_sheets.specs.declared.sheet.InputLine.TheVariants.{Field}
+use Rattle.s3_sheets.specs.declared.sheet.CalculationLine.{CalculationLine}
+use Rattle.s3_sheets.specs.declared.sheet.OutputLine.{OutputLine}
+use Rattle.s3_sheets.specs.declared.sheet.SheetLine.{SheetLine}
+use Rattle.s3_sheets.specs.declared.sheet.SheetLine.TheVariants.{File, Input, Calculation as CalculationSheet, Output as OutputSheet}
+use Rattle.s3_sheets.specs.declared.sheet.Line.{Line}
+use Rattle.s3_meaning.specs.Names.{same_name, is_named, is_indicator, page, udate, umonth, uday, uyear}
+use Rattle.s3_meaning.specs.RecordTypes.{RecordType, types_of}
+use Rattle.s3_meaning.specs.Calculations.{Calculation, calculations_of, is_detail, is_total, begins, ends}
+use Rattle.s3_meaning.specs.OutputLines.{Output, outputs_of}
+
+pub record Source : Type 0 where
+  pub files : List FileLine
+  pub types : List RecordType
+  pub calculations : List Calculation
+  pub outputs : List Output
+  -- each field with the shape that a line gives it, in order of the lines
+  pub shapes : List (Name × Shape)
+
+-- ---- the sheets
+abbrev pub file_line : Line → Option FileLine
+file_line line = on line.sheet
+  where
+    on : SheetLine → Option FileLine
+    on (File file) = Some file
+    on _ = None
+
+abbrev pub input_line : Line → Option InputLine
+input_line line = on line.sheet
+  where
+    on : SheetLine → Option InputLine
+    on (Input input) = Some input
+    on _ = None
+
+abbrev pub calculation_line : Line → Option CalculationLine
+calculation_line line = on line.sheet
+  where
+    on : SheetLine → Option CalculationLine
+    on (CalculationSheet calculation) = Some calculation
+    on _ = None
+
+abbrev pub output_line : Line → Option OutputLine
+output_line line = on line.sheet
+  where
+    on : SheetLine → Option OutputLine
+    on (OutputSheet output) = Some output
+    on _ = None
+
+-- ---- the shapes of fields
+abbrev pub width : FieldLine → ℕ
+width field = field.to + 1 - field.from
+
+-- what the form and the width of a field in a record make of it
+abbrev pub field_shape : FieldForm → ℕ → Shape
+field_shape AlphanumericForm bytes = Alphanumeric bytes
+field_shape (Zoned decimals) bytes = Numeric bytes decimals
+field_shape (Packed decimals) bytes = Numeric (2 * bytes - 1) decimals
+
+abbrev pub input_shape : InputLine → Option (Name × Shape)
+input_shape (Field field) = Some (field.name, field_shape field.form (width field))
+input_shape _ = None
+
+abbrev pub result_shape : CalculationLine → Option (Name × Shape)
+result_shape line = on line.result line.definition
+  where
+    on : Option Name → Option Shape → Option (Name × Shape)
+    on (Some name) (Some shape) = Some (name, shape)
+    on _ _ = None
+
+abbrev pub reserved_shapes : List (Name × Shape)
+reserved_shapes = (page, Numeric 4 0) ∷ (udate, Numeric 6 0) ∷ (umonth, Numeric 2 0) ∷ (uday, Numeric 2 0) ∷ (uyear, Numeric 2 0) ∷ []
+
+abbrev pub shape_in : List (Name × Shape) → Name → Shape
+shape_in [] name = Alphanumeric 0
+shape_in (shape ∷ shapes) name = if same_name name shape.0 then shape.1 else shape_in shapes name
+
+-- a field's shape is that of its first definition
+abbrev pub shape_of : Source → Name → Shape
+shape_of source name = shape_in source.shapes name
+
+abbrev pub digits_of : Source → Name → ℕ
+digits_of source name = on (shape_of source name)
+  where
+    on : Shape → ℕ
+    on (Alphanumeric length) = 0
+    on (Numeric digits decimals) = digits
+
+abbrev pub decimals_of : Source → Name → ℕ
+decimals_of source name = on (shape_of source name)
+  where
+    on : Shape → ℕ
+    on (Alphanumeric length) = 0
+    on (Numeric digits decimals) = decimals
+
+abbrev pub length_of : Source → Name → ℕ
+length_of source name = on (shape_of source name)
+  where
+    on : Shape → ℕ
+    on (Alphanumeric length) = length
+    on (Numeric digits decimals) = 0
+
+abbrev pub is_numeric : Source → Name → Bool
+is_numeric source name = on (shape_of source name)
+  where
+    on : Shape → Bool
+    on (Alphanumeric length) = false
+    on (Numeric digits decimals) = true
+
+-- ---- the whole
+abbrev pub source_of : List Line → Source
+source_of lines =
+    let inputs : List InputLine = filter_map input_line lines in
+    let calculations : List CalculationLine = filter_map calculation_line lines in
+    record {
+      files = filter_map file_line lines;
+      types = types_of inputs;
+      calculations = calculations_of calculations;
+      outputs = outputs_of (filter_map output_line lines);
+      shapes = reserved_shapes ++ filter_map input_shape inputs ++ filter_map result_shape calculations;
+    }
+
+abbrev pub detail_calculations : Source → List Calculation
+detail_calculations source = filter is_detail source.calculations
+
+abbrev pub total_calculations : Source → List Calculation
+total_calculations source = filter is_total source.calculations
+
+-- the lines before ENDSR
+abbrev pub until_end : List Calculation → List Calculation
+until_end [] = []
+until_end (c ∷ cs) = if ends c then [] else c ∷ until_end cs
+
+-- the lines of a subroutine
+abbrev pub body_in : Name → List Calculation → List Calculation
+body_in name [] = []
+body_in name (c ∷ cs) = if begins name c then until_end cs else body_in name cs
+
+abbrev pub body : Source → Name → List Calculation
+body source name = body_in name source.calculations
+
+-- ---- files
+abbrev pub is_designated : Designation → FileLine → Bool
+is_designated Primary file = on file.designation
+  where
+    on : Option Designation → Bool
+    on (Some Primary) = true
+    on _ = false
+is_designated Secondary file = on file.designation
+  where
+    on : Option Designation → Bool
+    on (Some Secondary) = true
+    on _ = false
+is_designated Chained file = on file.designation
+  where
+    on : Option Designation → Bool
+    on (Some Chained) = true
+    on _ = false
+
+abbrev pub is_input : FileLine → Bool
+is_input file = is_designated Primary file || is_designated Secondary file
+
+abbrev pub is_card_reader : Device → Bool
+is_card_reader CardReader = true
+is_card_reader _ = false
+
+abbrev pub is_printer : Device → Bool
+is_printer Printer = true
+is_printer _ = false
+
+-- a line without ADD for it is an update
+abbrev pub is_updated : FileLine → Bool
+is_updated file = on file.usage
+  where
+    on : FileUse → Bool
+    on Update = true
+    on OutputUse = is_designated Chained file
+    on InputUse = false
+
+abbrev pub file_named : Source → Name → Option FileLine
+file_named source name = find (λ file. same_name file.name name) source.files
+
+-- the overflow indicator of the print file
+abbrev pub overflow_of : List FileLine → Option Indicator
+overflow_of [] = None
+overflow_of (file ∷ files) = option_or file.overflow (overflow_of files)
+
+-- ---- record types
+-- an entry in 63-64 makes a field one of the types with that indicator alone
+abbrev pub is_field_of : RecordType → FieldLine → Bool
+is_field_of kind field = not (is_some field.relation) || is_indicator kind.indicator field.relation
+
+abbrev pub own_fields : RecordType → List FieldLine
+own_fields kind = filter (is_field_of kind) kind.fields
+
+abbrev pub has_control_fields : RecordType → Bool
+has_control_fields kind = list_any (λ field. is_some field.control_level) (own_fields kind)
+
+-- a program with control fields has a control level on some field
+abbrev pub has_levels : Source → Bool
+has_levels source = list_any (λ kind. list_any (λ field. is_some field.control_level) kind.fields) source.types
