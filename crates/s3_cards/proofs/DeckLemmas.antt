@@ -1,0 +1,158 @@
+-- Lemmas on decks.
+use Rattle.std.proofs.Common.{◌≡◌, ℕ, ◌+◌, ◌-◌, ◌<◌, ◌≤◌, List, [], ◌∷◌, ◌++◌, Bool, true, false, cond, refl, sym, ◌∙◌, ap, arith, subst, inl, inr, length, take, drop, replicate, ltb-true, le-ltb, lt-ltb, add-zero, append_assoc, length-append, suc, get_or, set}
+use Rattle.std.specs.Prelude.{Option, Some, None, unwrap_or, Ok, Err, ◌==◌, map, position, nat_lt}
+use Rattle.std.specs.List.{list_all, slice_split, position_or_len}
+use Rattle.std.specs.Option.{option_map, option_or}
+use Rattle.std.specs.Str.Lines.{lines, lines_of_parts, strip_carriage_return}
+use Rattle.std.proofs.lemmas.Bool.{cases_lt}
+use Rattle.std.proofs.lemmas.Option.{cond_some}
+use Rattle.std.proofs.lemmas.List.{take-append-le, take_all, length-map, map-append, append-nil, take_more, set-append_right, length-take-le}
+use Rattle.std.proofs.lemmas.List.Folds.{list_all_more}
+use Rattle.std.proofs.lemmas.List.Sums.{fails_before_first}
+use Rattle.std.proofs.Math.Seq.{take-append-add}
+use Rattle.std.proofs.lemmas.List.Splits.{slice_split_first, length-slice_split, slice_split_none}
+use Rattle.s3_cards.specs.Deck.{fault_of, fault_from, cards_of, card_of, has_code}
+use Rattle.s3_cards.specs.Codes.{ebcdic_of}
+use Rattle.s3_cards.specs.declared.deck.CardFault.{CardFault}
+use Rattle.s3_cards.specs.declared.deck.CardFault.TheVariants.{TooMany}
+use Rattle.s3_cards.specs.declared.deck.DeckFault.TheVariants.{At}
+
+lines_of_parts-cons : (x : List ℕ) (parts : List (List ℕ)) → 0 < length parts → lines_of_parts (x ∷ parts) ≡ strip_carriage_return x ∷ lines_of_parts parts
+lines_of_parts-cons x [] h = absurd (omega arith)
+lines_of_parts-cons x (y ∷ more) h = refl
+
+abbrev is_newline : ℕ → Bool
+is_newline byte = byte == 10
+
+position-is : (w : List ℕ) (end : ℕ) → position is_newline w ≡ Some end → (position_or_len is_newline w < length w) × (position_or_len is_newline w ≡ end)
+position-is w end h =
+    let both = cond_some (nat_lt (position_or_len is_newline w) (length w)) (position_or_len is_newline w) end h in
+    (ltb-true _ _ both.0, both.1)
+
+split_at_end : (w : List ℕ) (end : ℕ) → position is_newline w ≡ Some end → slice_split is_newline w ≡ take end w ∷ slice_split is_newline (drop (end + 1) w)
+split_at_end w end h =
+    let p = position-is w end h in
+    subst (λ (e : ℕ). slice_split is_newline w ≡ take e w ∷ slice_split is_newline (drop (e + 1) w)) p.1 (slice_split_first is_newline w 0 p.0)
+
+pub lines_at_newline : (w : List ℕ) (end : ℕ) → position is_newline w ≡ Some end → lines w ≡ strip_carriage_return (take end w) ∷ lines (drop (end + 1) w)
+lines_at_newline w end h =
+    ap lines_of_parts (split_at_end w end h)
+    ∙ lines_of_parts-cons (take end w) (slice_split is_newline (drop (end + 1) w)) (omega (arith, length-slice_split is_newline (drop (end + 1) w)))
+
+position-none : (w : List ℕ) → position is_newline w ≡ None → length w ≤ position_or_len is_newline w
+position-none w h = elim (cases_lt (position_or_len is_newline w) (length w)) [
+  | inl lt ↦ absurd (let e : nat_lt (position_or_len is_newline w) (length w) ≡ true = lt-ltb _ _ lt in let f : cond (nat_lt (position_or_len is_newline w) (length w)) (Some (position_or_len is_newline w)) None ≡ None = h in let g : Some (position_or_len is_newline w) ≡ None = rw e at f in cc)
+  | inr ge ↦ ge
+]
+
+pub lines_last : (w : List ℕ) → position is_newline w ≡ None → lines w ≡ lines_of_parts (w ∷ [])
+lines_last w h =
+    ap lines_of_parts (slice_split_none is_newline w (λ k d below. fails_before_first is_newline w k d (let e = position-none w h in omega arith)))
+
+-- what has been read of a list of lines: the cards so far, and the lines that are left
+pub record ReadSoFar (cards all left : List (List ℕ)) : Type 0 where
+  pub passed : List (List ℕ)
+  pub split : all ≡ passed ++ left
+  pub spelled : cards ≡ map card_of passed
+  pub faultless : fault_from 1 passed ≡ None
+  pub room : length cards ≤ 9999
+
+option_or_assoc : {X : Type 0} (a b c : Option X) → option_or (option_or a b) c ≡ option_or a (option_or b c)
+option_or_assoc None b c = refl
+option_or_assoc (Some x) b c = refl
+
+fault_from-append : (n : ℕ) (a b : List (List ℕ)) → fault_from n (a ++ b) ≡ option_or (fault_from n a) (fault_from (n + length a) b)
+fault_from-append n [] b = simp add-zero
+fault_from-append n (x ∷ a) b =
+    let e : n + 1 + length a ≡ n + suc (length a) = omega arith in
+    ap (λ r. option_or (option_map (λ fault. At n fault) (fault_of x)) r) (fault_from-append (n + 1) a b ∙ ap (λ m. option_or (fault_from (n + 1) a) (fault_from m b)) e)
+    ∙ sym (option_or_assoc (option_map (λ fault. At n fault) (fault_of x)) (fault_from (n + 1) a) (fault_from (n + suc (length a)) b))
+
+fault_within : (m n : ℕ) (passed rest : List (List ℕ)) (line : List ℕ) (fault : CardFault) → length passed < m → fault_from n passed ≡ None → fault_of line ≡ Some fault → fault_from n (take m (passed ++ line ∷ rest)) ≡ Some (At (n + length passed) fault)
+fault_within m n passed rest line fault room faultless bad =
+    let k : ℕ = m - length passed - 1 in
+    let e : m ≡ length passed + suc k = omega arith in
+    let front : take m (passed ++ line ∷ rest) ≡ passed ++ line ∷ take k rest = ap (λ j. take j (passed ++ line ∷ rest)) e ∙ take-append-add passed (line ∷ rest) (suc k) in
+    ap (λ x. fault_from n x) front ∙ (fault_from-append n passed (line ∷ take k rest) ∙ (rw (faultless, bad) refl))
+
+pub none_read : (all : List (List ℕ)) → ReadSoFar [] all all
+none_read all = record { passed = []; split = refl; spelled = refl; faultless = refl; room = omega arith }
+
+length-passed : (cards all left : List (List ℕ)) (so_far : ReadSoFar cards all left) → length so_far.passed ≡ length cards
+length-passed cards all left so_far = sym (ap length so_far.spelled ∙ length-map so_far.passed card_of)
+
+pub one_more : (cards all left : List (List ℕ)) (line : List ℕ) → ReadSoFar cards all (line ∷ left) → length cards < 9999 → fault_of line ≡ None → ReadSoFar (cards ++ card_of line ∷ []) all left
+one_more cards all left line so_far room ok = record {
+  passed = so_far.passed ++ line ∷ [];
+  split = so_far.split ∙ sym (append_assoc so_far.passed (line ∷ []) left);
+  spelled = ap (λ x. x ++ card_of line ∷ []) so_far.spelled ∙ sym (map-append card_of so_far.passed (line ∷ []));
+  faultless = fault_from-append 1 so_far.passed (line ∷ []) ∙ rw (so_far.faultless, ok) refl;
+  room = omega (arith, length-append cards (card_of line ∷ []));
+}
+
+pub fault_found : (cards all left : List (List ℕ)) (line : List ℕ) (fault : CardFault) → ReadSoFar cards all (line ∷ left) → length cards < 9999 → fault_of line ≡ Some fault → cards_of all ≡ Err (At (length cards + 1) fault)
+unfolding cards_of
+fault_found cards all left line fault so_far room bad =
+    let n = length-passed cards all (line ∷ left) so_far in
+    let short : length so_far.passed < 9999 = omega arith in
+    let e : fault_from 1 (take 9999 all) ≡ Some (At (1 + length so_far.passed) fault) =
+    ap (λ x. fault_from 1 (take 9999 x)) so_far.split ∙ fault_within 9999 1 so_far.passed left line fault short so_far.faultless bad in
+    let number : 1 + length so_far.passed ≡ length cards + 1 = omega arith in
+    rw (e, number) refl
+
+pub too_many : (cards all left : List (List ℕ)) (line : List ℕ) → ReadSoFar cards all (line ∷ left) → length cards ≡ 9999 → cards_of all ≡ Err (At 9999 TooMany)
+unfolding cards_of
+too_many cards all left line so_far full =
+    let n = length-passed cards all (line ∷ left) so_far in
+    let front : take 9999 all ≡ so_far.passed =
+    ap (take 9999) so_far.split ∙ (take-append-le 9999 so_far.passed (line ∷ left) (omega arith) ∙ take_all 9999 so_far.passed (omega arith)) in
+    let e : fault_from 1 (take 9999 all) ≡ None = ap (fault_from 1) front ∙ so_far.faultless in
+    let more : nat_lt 9999 (length all) ≡ true = lt-ltb _ _ (omega (arith, ap length so_far.split, length-append so_far.passed (line ∷ left))) in
+    rw (e, more) refl
+
+pub all_read : (cards all : List (List ℕ)) → ReadSoFar cards all [] → cards_of all ≡ Ok cards
+unfolding cards_of
+all_read cards all so_far =
+    let n = length-passed cards all [] so_far in
+    let whole : all ≡ so_far.passed = so_far.split ∙ append-nil so_far.passed in
+    let front : take 9999 all ≡ so_far.passed = ap (take 9999) whole ∙ take_all 9999 so_far.passed (omega arith) in
+    let e : fault_from 1 (take 9999 all) ≡ None = ap (fault_from 1) front ∙ so_far.faultless in
+    let more : nat_lt 9999 (length all) ≡ false = le-ltb _ _ (omega (arith, ap length whole)) in
+    rw (e, more) (ap Ok (ap (map card_of) whole ∙ sym so_far.spelled))
+
+abbrev code : ℕ → ℕ
+code character = unwrap_or (ebcdic_of character) 0x40
+
+-- one more character of a card
+pub character_more : (line card : List ℕ) (i b : ℕ) → i < length line → length line ≤ 96 → card ≡ map code (take i line) ++ replicate (96 - i) 0x40
+    → ebcdic_of (get_or line i 0) ≡ Some b → set card i b ≡ map code (take (i + 1) line) ++ replicate (96 - (i + 1)) 0x40
+character_more line card i b in' short so_far known =
+    let k : ℕ = 96 - (i + 1) in
+    let e : 96 - i ≡ suc k = omega arith in
+    let n : length (map code (take i line)) ≡ i = length-map (take i line) code ∙ length-take-le i line (omega arith) in
+    let zero' : i - i ≡ 0 = omega arith in
+    let tail : set (replicate (96 - i) 0x40) (i - i) b ≡ b ∷ replicate k 0x40 = rw (zero', e) refl in
+    let is_code : code (get_or line i 0) ≡ b = rw known refl in
+    let front : map code (take (i + 1) line) ≡ map code (take i line) ++ b ∷ [] =
+    ap (map code) (take_more line i 0 in') ∙ (map-append code (take i line) (get_or line i 0 ∷ []) ∙ ap (λ x. map code (take i line) ++ x ∷ []) is_code) in
+    ap (λ x. set x i b) so_far
+    ∙ (set-append_right (map code (take i line)) (replicate (96 - i) 0x40) i i b n (omega arith)
+    ∙ (ap (λ x. map code (take i line) ++ x) tail
+    ∙ (sym (append_assoc (map code (take i line)) (b ∷ []) (replicate k 0x40)) ∙ sym (ap (λ x. x ++ replicate k 0x40) front))))
+
+pub known_more : (line : List ℕ) (i b : ℕ) → i < length line → list_all has_code (take i line) ≡ true → ebcdic_of (get_or line i 0) ≡ Some b → list_all has_code (take (i + 1) line) ≡ true
+known_more line i b in' so_far known =
+    list_all_more has_code line i 0 in' ∙ (rw (so_far, known) refl)
+
+-- the same three, where an equation says what is left
+pub fault_at : (cards all left after : List (List ℕ)) (line : List ℕ) (fault : CardFault) → ReadSoFar cards all left → left ≡ line ∷ after → length cards < 9999 → fault_of line ≡ Some fault → cards_of all ≡ Err (At (length cards + 1) fault)
+fault_at cards all left after line fault so_far e room bad = fault_found cards all after line fault (subst (λ (x : List (List ℕ)). ReadSoFar cards all x) e so_far) room bad
+
+pub too_many_at : (cards all left after : List (List ℕ)) (line : List ℕ) → ReadSoFar cards all left → left ≡ line ∷ after → length cards ≡ 9999 → cards_of all ≡ Err (At 9999 TooMany)
+too_many_at cards all left after line so_far e full = too_many cards all after line (subst (λ (x : List (List ℕ)). ReadSoFar cards all x) e so_far) full
+
+pub all_read_at : (cards all left : List (List ℕ)) → ReadSoFar cards all left → left ≡ [] → cards_of all ≡ Ok cards
+all_read_at cards all left so_far e = all_read cards all (subst (λ (x : List (List ℕ)). ReadSoFar cards all x) e so_far)
+
+pub lines_after_newline : (w line after : List ℕ) (end : ℕ) → position is_newline w ≡ Some end → line ≡ strip_carriage_return (take end w) → after ≡ drop (end + 1) w → lines w ≡ line ∷ lines after
+lines_after_newline w line after end h e f = rw (e, f) (lines_at_newline w end h)

@@ -1,0 +1,32 @@
+-- The card characters and their EBCDIC codes.
+use Rattle.std.specs.Prelude.{ℕ, ◌+◌, ◌==◌, List, [], ◌∷◌, ◌++◌, Option, codes, find, map, unwrap_or}
+use Rattle.std.specs.List.{range_with_len}
+use Rattle.std.specs.Option.{option_map}
+
+-- the codes from a first one on, each with its character
+abbrev pub codes_from : ℕ → List ℕ → List (ℕ × ℕ)
+codes_from code [] = []
+codes_from code (character ∷ characters) = (code, character) ∷ codes_from (code + 1) characters
+
+-- each code with its character, in the order of the codes
+unfoldable pub code_page : List (ℕ × ℕ)
+code_page =
+    codes_from 0x40 (codes " ") ++ codes_from 0x4b (codes ".<(+|&") ++ codes_from 0x5a (codes "!$*);") ++ codes_from 0x60 (codes "-/")
+    ++ codes_from 0x6b (codes ",%_>?") ++ codes_from 0x7a (codes ":#@'=\"") ++ codes_from 0xc0 (codes "{ABCDEFGHI")
+    ++ codes_from 0xd0 (codes "}JKLMNOPQR") ++ codes_from 0xe2 (codes "STUVWXYZ") ++ codes_from 0xf0 (codes "0123456789")
+
+-- the code of a character, if it is a card character
+abbrev pub ebcdic_of : ℕ → Option ℕ
+ebcdic_of character = option_map (λ entry. entry.0) (find (λ entry. entry.1 == character) code_page)
+
+-- the character of a code, if it has one
+abbrev pub host_of : ℕ → Option ℕ
+host_of code = option_map (λ entry. entry.1) (find (λ entry. entry.0 == code) code_page)
+
+-- the code of each byte, and 0 where the byte is no card character
+unfoldable pub codes_of_bytes : List ℕ
+codes_of_bytes = map (λ byte. unwrap_or (ebcdic_of byte) 0) (range_with_len 0 256)
+
+-- the character of each code, and 0 where the code has none
+unfoldable pub hosts_of_codes : List ℕ
+hosts_of_codes = map (λ code. unwrap_or (host_of code) 0) (range_with_len 0 256)

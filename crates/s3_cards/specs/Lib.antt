@@ -1,0 +1,4 @@
+pub mod Codes
+pub mod Deck
+pub mod Levels
+pub mod Printed

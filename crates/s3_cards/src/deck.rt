@@ -1,0 +1,205 @@
+//! Decks: a deck is the list of its cards.
+
+ghost use Rattle.std.specs.Prelude.{◌≡◌, ◌↔◌, ◌<◌, ◌≤◌, ◌∷◌, [], ℕ, List, length, IsTrue, IfOk, IfErr, MatchOption, IfSome, Ok, Err, Some, None, slice_get, position, ◌==◌};
+ghost use Rattle.std.specs.Option.{option_copied};
+ghost use Rattle.std.specs.Str.Lines.{lines, strip_carriage_return};
+ghost use Rattle.s3_cards.specs.Deck.{fault_of, card_of, deck_of, fault_code, detail_of, HasCardNumber, Gives};
+
+use super::code_of_byte;
+use super::ebcdic::BLANK;
+use std::alloc::{AllocError, AllocFailed, Global};
+use std::marker::Model;
+use thiserror::Error;
+
+/// The EBCDIC codes of the columns.
+pub type Card = [u8; 96];
+
+/// The most cards of a deck.
+const MAX_CARDS: usize = 9_999;
+
+/// What is wrong with a card of a text.
+#[derive(Clone, Copy, Debug, PartialEq, Eq, Error)]
+pub enum CardFault {
+    #[error("wider than 96 columns")]
+    TooWide,
+    #[error("a character that no card can have")]
+    BadCharacter,
+    #[error("more than 9,999 cards")]
+    TooMany,
+}
+
+impl CardFault {
+    /// The number of the fault, 1 to 3.
+    pub fn code(self) -> u8
+        ensures { result ≡ fault_code self }
+    {
+        match self {
+            CardFault::TooWide => 1,
+            CardFault::BadCharacter => 2,
+            CardFault::TooMany => 3,
+        }
+    }
+}
+
+/// Why a text is no deck.
+#[derive(Debug, Drop, Error)]
+pub enum DeckFault {
+    #[error("out of memory")]
+    NoMemory,
+    /// The number of the first card at fault, from 1, and what is wrong with it; of too many cards, 9,999.
+    #[error("card {0}: {1}")]
+    At(u16, CardFault),
+}
+
+impl DeckFault {
+    /// The number of the card at fault and the number of its fault; none where memory ran out.
+    pub fn detail(&self) -> Option<(u16, u8)>
+        ensures { result ≡ detail_of self.now }
+    {
+        match self {
+            DeckFault::NoMemory => None,
+            DeckFault::At(number, fault) => Some((*number, fault.code())),
+        }
+    }
+}
+
+impl From<AllocFailed<Card>> for DeckFault {
+    ghost use Rattle.std.specs.Prelude.{◌≡◌};
+    ghost use Rattle.s3_cards.specs.declared.deck.DeckFault.TheVariants.{NoMemory};
+
+    ghost from_gives = { λ _ e. e ≡ NoMemory };
+
+    fn from(_: AllocFailed<Card>) -> Self {
+        DeckFault::NoMemory
+    }
+}
+
+#[derive(Drop)]
+pub struct Deck {
+    cards: Vec<Card>,
+}
+
+impl Model for Deck {
+    ghost Value = { List (List ℕ) };
+
+    ghost view = { λ d. d.cards.items };
+
+    ghost invariant = { λ d. length d.cards.items ≤ 9_999 };
+}
+
+impl Deck {
+    /// A deck without cards.
+    pub fn empty(alloc: Global) -> Deck
+        ensures { result ≡ [] }
+    {
+        Deck {
+            cards: Vec::new(alloc),
+        }
+    }
+
+    /// The cards of a text, or its first fault. Lines end with a line feed, and one carriage return before it is dropped; a
+    /// last line without line feed is a card unless it is empty. A card is padded with blanks to 96 columns.
+    ///
+    /// A line over 96 bytes is refused, then one with a byte that is no card character, then the first card past 9,999.
+    #[tactic(auto, using(crate::proofs::DeckLemmas::none_read, crate::proofs::DeckLemmas::one_more, crate::proofs::DeckLemmas::fault_at, crate::proofs::DeckLemmas::too_many_at, crate::proofs::DeckLemmas::all_read_at))]
+    pub fn read(alloc: Global, text: &[u8]) -> Result<Deck, DeckFault>
+        ensures value { Gives result (deck_of text.now) }
+        ensures numbered { IfErr result HasCardNumber }
+    {
+        let mut cards = Vec::new(alloc);
+        let mut rest = text;
+        while let Some((line, after)) = first_line(rest) {
+            if cards.len() == MAX_CARDS {
+                return Err(DeckFault::At(9_999, CardFault::TooMany));
+            }
+            match card(line) {
+                Ok(card) => cards.push(card)?,
+                Err(fault) => return Err(DeckFault::At(cards.len() as u16 + 1, fault)),
+            }
+            rest = after;
+        }
+        Ok(Deck { cards })
+    }
+
+    /// The card at a place, from 0.
+    pub fn card(&self, place: usize) -> Option<&Card>
+        ensures { option_copied result ≡ slice_get self.now place }
+    {
+        self.cards.get(place)
+    }
+
+    /// The cards in order.
+    pub fn cards(&self) -> &[Card]
+        ensures value { result.now ≡ self.now }
+        ensures short { length self.now ≤ 9_999 }
+    {
+        &self.cards
+    }
+
+    /// How many cards there are, at most 9,999.
+    pub fn len(&self) -> usize
+        ensures value { result ≡ length self.now }
+        ensures short { length self.now ≤ 9_999 }
+    {
+        self.cards.len()
+    }
+
+    /// Whether there are no cards.
+    pub fn is_empty(&self) -> bool
+        ensures { IsTrue result ↔ (self.now ≡ []) }
+    {
+        self.cards.is_empty()
+    }
+}
+
+/// The card of a line, or its fault.
+#[tactic(auto, using(crate::proofs::DeckLemmas::character_more, crate::proofs::DeckLemmas::known_more), unfolding(crate::specs::Deck::fault_of, crate::specs::Deck::card_of))]
+fn card(line: &[u8]) -> Result<Card, CardFault>
+    ensures ok { IfOk result (λ card. card ≡ card_of line.now) }
+    ensures sound { IfOk result (λ _. fault_of line.now ≡ None) }
+    ensures fault { IfErr result (λ fault. fault_of line.now ≡ Some fault) }
+{
+    if line.len() > 96 {
+        return Err(CardFault::TooWide);
+    }
+    let mut card = [BLANK; 96];
+    for (column, byte) in line.iter().enumerate() {
+        match code_of_byte(*byte) {
+            Some(code) => card[column] = code,
+            None => return Err(CardFault::BadCharacter),
+        }
+    }
+    Ok(card)
+}
+
+/// The place of the first newline.
+fn newline(text: &[u8]) -> Option<usize>
+    ensures { result ≡ position (λ byte. byte == 10) text.now }
+{
+    text.iter().position(|byte| *byte == b'\n')
+}
+
+/// A line less the carriage return at its end, if it has one.
+fn without_carriage_return(line: &[u8]) -> &[u8]
+    ensures { result.now ≡ strip_carriage_return line.now }
+{
+    match line {
+        [front @ .., b'\r'] => front,
+        _ => line,
+    }
+}
+
+/// The first line of a text, and the text after it.
+#[tactic(auto, using(crate::proofs::DeckLemmas::lines_after_newline, crate::proofs::DeckLemmas::lines_last))]
+fn first_line(text: &[u8]) -> Option<(&[u8], &[u8])>
+    ensures line { MatchOption result (lines text.now ≡ []) (λ x. lines text.now ≡ x.0.now ∷ lines x.1.now) }
+    ensures shorter { IfSome result (λ x. length x.1.now < length text.now) }
+{
+    if text.is_empty() {
+        return None;
+    }
+    match newline(text) {
+        Some(end) => { Some((without_carriage_return(&text[..end]), &text[end + 1..])) }
+        None => Some((text, &[])),
+    }
+}

@@ -1,0 +1,94 @@
+//! Printed lines.
+ghost use Rattle.std.specs.Prelude.{◌≡◌, ◌-◌, ◌<◌, ◌≤◌, ◌++◌, length, replicate};
+
+use super::ebcdic::BLANK;
+use std::marker::Model;
+
+/// The most print positions of a line.
+pub const PRINT_POSITIONS: usize = 132;
+
+/// A printed line: its page, its line on the page, and as its text the 1 to 132 EBCDIC bytes of the print record.
+#[derive(Clone, Copy, Debug)]
+pub struct PrintLine {
+    page: u16,
+    line: u8,
+    width: u8,
+    /// The text, and blanks behind it.
+    positions: [u8; PRINT_POSITIONS],
+}
+
+impl Model for PrintLine {
+    ghost use Rattle.std.specs.Prelude.{◌≡◌, ◌-◌, ◌<◌, ◌≤◌, ◌++◌, length, take, drop, replicate};
+    ghost use Rattle.s3_cards.specs.Printed.{Printed, width_again, positions_again};
+
+    ghost Value = { Printed };
+
+    ghost view = { λ p. record { page = p.page; line = p.line; text = take p.width p.positions } };
+
+    ghost invariant = { λ p. (0 < p.width) × (p.width ≤ 132) × (length p.positions ≡ 132) × (drop p.width p.positions ≡ replicate (132 - p.width) 0x40) };
+
+    ghost inverse = { λ v. record {
+      page = v.page;
+      line = v.line;
+      width = length v.text;
+      positions = v.text ++ replicate (132 - length v.text) 0x40;
+    } };
+
+    ghost inverse_ok = { λ p h i. record {
+      page = p.page;
+      line = p.line;
+      width = width_again p.width p.positions h.1 h.2 i;
+      positions = positions_again p.width p.positions h.1 h.2 h.3 i;
+    } };
+}
+
+impl PrintLine {
+    ghost use Rattle.s3_cards.specs.Printed.{Printed};
+
+    /// The line of a page with a text of 1 to 132 EBCDIC bytes.
+    pub fn new(page: u16, line: u8, text: &[u8]) -> PrintLine
+        requires printed { 0 < length text.now }
+        requires fits { length text.now ≤ 132 }
+        ensures { result ≡ record { page = page; line = line; text = text.now } }
+    {
+        PrintLine {
+            page,
+            line,
+            width: text.len() as u8,
+            positions: padded(text),
+        }
+    }
+
+    /// The page, 0 to 9,999.
+    pub fn page(&self) -> u16
+        ensures { result ≡ self.now.page }
+    {
+        self.page
+    }
+
+    /// The line of the page, from 1.
+    pub fn line(&self) -> u8
+        ensures { result ≡ self.now.line }
+    {
+        self.line
+    }
+
+    /// The EBCDIC bytes of the print record, 1 to 132 of them.
+    pub fn text(&self) -> &[u8]
+        ensures value { result.now ≡ self.now.text }
+        ensures printed { 0 < length self.now.text }
+        ensures fits { length self.now.text ≤ 132 }
+    {
+        &self.positions[..self.width as usize]
+    }
+}
+
+/// The print positions with this text from the first one on, and blanks behind it.
+fn padded(text: &[u8]) -> [u8; PRINT_POSITIONS]
+    requires { length text.now ≤ 132 }
+    ensures { result ≡ text.now ++ replicate (132 - length text.now) 0x40 }
+{
+    let mut positions = [BLANK; PRINT_POSITIONS];
+    positions[..text.len()].copy_from_slice(text);
+    positions
+}
