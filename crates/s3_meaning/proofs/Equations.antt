@@ -26,7 +26,7 @@ use Rattle.s3_meaning.specs.Runs.{Run, Rest, Anew, ask, ended, to_totals, replie
 use Rattle.s3_meaning.specs.Moving.{counts, number_moved, field_moved, fields_moved}
 use Rattle.s3_meaning.specs.Output.{is_exception, is_heading_or_detail, is_total_line, is_served, line_holds, printed, stored_or_halted, file_line_put, line_put, lines_put}
 use Rattle.s3_meaning.specs.Calculating.{has_tag, after_tag, number_in, first_indicator, calculation_holds, divided, not_found, chained_to, on_chain, chained, performed, calculated}
-use Rattle.s3_meaning.specs.Cycle.{halts_shown, headings, cleared, headed, typed, on_read, file_read, files_read, totals, last_time, total_time, has_overflowed, overflow_lines, detail_time, record_time, selected_or_last, reading_time, one_cycle, renewed, anew_within, again}
+use Rattle.s3_meaning.specs.Cycle.{halts_shown, headings, cleared, headed, typed, counted_read, on_read, file_read, files_read, totals, last_time, total_time, has_overflowed, overflow_lines, detail_time, record_time, selected_or_last, reading_time, one_cycle, renewed, anew_within, again}
 
 -- two rests give the same run for answers that are at most so many
 pub record Agree (most : ℕ) (go go' : Rest) : Type 0 where
@@ -70,7 +70,7 @@ module _ (most : ℕ) (a a' : Anew) (same : AgreeAnew most a a') where
   replied-agree go go' (Reply digit) e answers few agree =
       choice-agree (digit == 0) _ _ _ _ e answers agree
       (choice-agree (digit == 2) _ _ _ _ e answers (to_totals-agree e answers few) refl)
-  replied-agree go go' (Found number bytes) e answers few agree = refl
+  replied-agree go go' (Found bytes) e answers few agree = refl
   replied-agree go go' Nothing e answers few agree = refl
   replied-agree go go' Done e answers few agree = refl
   replied-agree go go' (Refused code) e answers few agree = refl
@@ -114,7 +114,7 @@ module _ (most : ℕ) (a a' : Anew) (same : AgreeAnew most a a') where
   stored_or_halted-agree : (go go' : Rest) → Agree most go go' → (answer : Answer) → Agree most (stored_or_halted a go answer) (stored_or_halted a' go' answer)
   unfolding stored_or_halted
   stored_or_halted-agree go go' agree (Refused code) = record { at = λ e answers few. (halted-agree code go go' agree).at e answers few }
-  stored_or_halted-agree go go' agree (Found number bytes) = record { at = λ e answers few. agree.at e answers few }
+  stored_or_halted-agree go go' agree (Found bytes) = record { at = λ e answers few. agree.at e answers few }
   stored_or_halted-agree go go' agree Nothing = record { at = λ e answers few. agree.at e answers few }
   stored_or_halted-agree go go' agree Done = record { at = λ e answers few. agree.at e answers few }
   stored_or_halted-agree go go' agree (Reply digit) = record { at = λ e answers few. agree.at e answers few }
@@ -165,14 +165,14 @@ module _ (most : ℕ) (a a' : Anew) (same : AgreeAnew most a a') where
   not_found-agree (Some indicator) go go' agree = record { at = λ e answers few. agree.at _ answers few }
   not_found-agree None go go' agree = record { at = λ e answers few. (halted-agree NoRecordFound go go' agree).at e answers few }
 
-  chained_to-agree : (file : Name) (number : ℕ) (bytes : List ℕ) (kind : Option RecordType) (go go' : Rest) → Agree most go go' → Agree most (chained_to a file number bytes kind go) (chained_to a' file number bytes kind go')
+  chained_to-agree : (file : Name) (bytes : List ℕ) (kind : Option RecordType) (go go' : Rest) → Agree most go go' → Agree most (chained_to a file bytes kind go) (chained_to a' file bytes kind go')
   unfolding chained_to
-  chained_to-agree file number bytes None go go' agree = record { at = λ e answers few. (halted-agree UnidentifiedRecord go go' agree).at e answers few }
-  chained_to-agree file number bytes (Some kind) go go' agree = record { at = λ e answers few. (fields_moved-agree kind.fields bytes go go' agree).at _ answers few }
+  chained_to-agree file bytes None go go' agree = record { at = λ e answers few. (halted-agree UnidentifiedRecord go go' agree).at e answers few }
+  chained_to-agree file bytes (Some kind) go go' agree = record { at = λ e answers few. (fields_moved-agree kind.fields bytes go go' agree).at _ answers few }
 
   on_chain-agree : (source : Source) (line : CalculationLine) (file : Name) (go go' : Rest) → Agree most go go' → (answer : Answer) → Agree most (on_chain source a line file go answer) (on_chain source a' line file go' answer)
   unfolding on_chain
-  on_chain-agree source line file go go' agree (Found number bytes) = record { at = λ e answers few. (chained_to-agree file number bytes (type_of source file bytes) go go' agree).at _ answers few }
+  on_chain-agree source line file go go' agree (Found bytes) = record { at = λ e answers few. (chained_to-agree file bytes (type_of source file bytes) go go' agree).at _ answers few }
   on_chain-agree source line file go go' agree Nothing = record { at = λ e answers few. (not_found-agree (first_indicator line.indicators) go go' agree).at e answers few }
   on_chain-agree source line file go go' agree Done = record { at = λ e answers few. (not_found-agree (first_indicator line.indicators) go go' agree).at e answers few }
   on_chain-agree source line file go go' agree (Refused code) = record { at = λ e answers few. (not_found-agree (first_indicator line.indicators) go go' agree).at e answers few }
@@ -250,14 +250,14 @@ module _ (most : ℕ) (a a' : Anew) (same : AgreeAnew most a a') where
         ((read_anew-agree OutOfSequence input go go' agree).at e answers few);
   }
 
-  typed-agree : (input : InputFile) (number : ℕ) (bytes : List ℕ) (kind : Option RecordType) (go go' : InputFile → Rest) → ((input' : InputFile) → Agree most (go input') (go' input')) → Agree most (typed a input number bytes kind go) (typed a' input number bytes kind go')
+  typed-agree : (input : InputFile) (bytes : List ℕ) (kind : Option RecordType) (go go' : InputFile → Rest) → ((input' : InputFile) → Agree most (go input') (go' input')) → Agree most (typed a input bytes kind go) (typed a' input bytes kind go')
   unfolding typed
-  typed-agree input number bytes (Some kind) go go' agree = record { at = λ e answers few. (headed-agree input _ go go' agree).at e answers few }
-  typed-agree input number bytes None go go' agree = record { at = λ e answers few. (read_anew-agree UnidentifiedRecord input go go' agree).at e answers few }
+  typed-agree input bytes (Some kind) go go' agree = record { at = λ e answers few. (headed-agree input _ go go' agree).at e answers few }
+  typed-agree input bytes None go go' agree = record { at = λ e answers few. (read_anew-agree UnidentifiedRecord input go go' agree).at e answers few }
 
   on_read-agree : (source : Source) (input : InputFile) (go go' : InputFile → Rest) → ((input' : InputFile) → Agree most (go input') (go' input')) → (answer : Answer) → Agree most (on_read source a input go answer) (on_read source a' input go' answer)
   unfolding on_read
-  on_read-agree source input go go' agree (Found number bytes) = record { at = λ e answers few. (typed-agree input number bytes (type_of source input.file.name bytes) go go' agree).at e answers few }
+  on_read-agree source input go go' agree (Found bytes) = record { at = λ e answers few. (typed-agree (counted_read input) bytes (type_of source input.file.name bytes) go go' agree).at e answers few }
   on_read-agree source input go go' agree Nothing = record { at = λ e answers few. (agree _).at e answers few }
   on_read-agree source input go go' agree Done = record { at = λ e answers few. (agree _).at e answers few }
   on_read-agree source input go go' agree (Refused code) = record { at = λ e answers few. (agree _).at e answers few }

@@ -50,7 +50,7 @@ lines_overflow =
     ∷ (record { card = 10; sheet = (OutputSheet (OutputField (record { conditions = (None ∷ None ∷ None ∷ []); content = (FieldContent (record { name = (named (227 ∷ 197 ∷ 231 ∷ 227 ∷ [])); form = PlainOutput; blank_after = false })); end = 3 }))) })
     ∷ []
 
-row_overflow : asked (Req (source_of lines_overflow) 0 (240 ∷ 240 ∷ 240 ∷ 240 ∷ 240 ∷ 240 ∷ [])) (Done ∷ (Found 1 (padded_to 96 (240 ∷ 240 ∷ 241 ∷ []))) ∷ Done ∷ (Found 2 (padded_to 96 (240 ∷ 240 ∷ 242 ∷ []))) ∷ Done ∷ (Found 3 (padded_to 96 (240 ∷ 240 ∷ 243 ∷ []))) ∷ Done ∷ (Found 4 (padded_to 96 (240 ∷ 240 ∷ 244 ∷ []))) ∷ Done ∷ (Found 5 (padded_to 96 (240 ∷ 240 ∷ 245 ∷ []))) ∷ Done ∷ (Found 6 (padded_to 96 (240 ∷ 240 ∷ 246 ∷ []))) ∷ Done ∷ (Found 7 (padded_to 96 (240 ∷ 240 ∷ 247 ∷ []))) ∷ Done ∷ (Found 8 (padded_to 96 (240 ∷ 240 ∷ 248 ∷ []))) ∷ Done ∷ (Found 9 (padded_to 96 (240 ∷ 240 ∷ 249 ∷ []))) ∷ Done ∷ (Found 10 (padded_to 96 (240 ∷ 241 ∷ 240 ∷ []))) ∷ Done ∷ (Found 11 (padded_to 96 (240 ∷ 241 ∷ 241 ∷ []))) ∷ Done ∷ (Found 12 (padded_to 96 (240 ∷ 241 ∷ 242 ∷ []))) ∷ Done ∷ (Found 13 (padded_to 96 (240 ∷ 241 ∷ 243 ∷ []))) ∷ Done ∷ (Found 14 (padded_to 96 (240 ∷ 241 ∷ 244 ∷ []))) ∷ Done ∷ (Found 15 (padded_to 96 (240 ∷ 241 ∷ 245 ∷ []))) ∷ Done ∷ (Found 16 (padded_to 96 (240 ∷ 241 ∷ 246 ∷ []))) ∷ Done ∷ (Found 17 (padded_to 96 (240 ∷ 241 ∷ 247 ∷ []))) ∷ Done ∷ (Found 18 (padded_to 96 (240 ∷ 241 ∷ 248 ∷ []))) ∷ Done ∷ (Found 19 (padded_to 96 (240 ∷ 241 ∷ 249 ∷ []))) ∷ Done ∷ (Found 20 (padded_to 96 (240 ∷ 242 ∷ 240 ∷ []))) ∷ Done ∷ (Found 21 (padded_to 96 (240 ∷ 242 ∷ 241 ∷ []))) ∷ Done ∷ (Found 22 (padded_to 96 (240 ∷ 242 ∷ 242 ∷ []))) ∷ Done ∷ (Found 23 (padded_to 96 (240 ∷ 242 ∷ 243 ∷ []))) ∷ Done ∷ (Found 24 (padded_to 96 (240 ∷ 242 ∷ 244 ∷ []))) ∷ Done ∷ (Found 25 (padded_to 96 (240 ∷ 242 ∷ 245 ∷ []))) ∷ Done ∷ (Found 26 (padded_to 96 (240 ∷ 242 ∷ 246 ∷ []))) ∷ Done ∷ (Found 27 (padded_to 96 (240 ∷ 242 ∷ 247 ∷ []))) ∷ Done ∷ (Found 28 (padded_to 96 (240 ∷ 242 ∷ 248 ∷ []))) ∷ Done ∷ (Found 29 (padded_to 96 (240 ∷ 242 ∷ 249 ∷ []))) ∷ Done ∷ (Found 30 (padded_to 96 (240 ∷ 243 ∷ 240 ∷ []))) ∷ Done ∷ (Found 31 (padded_to 96 (240 ∷ 243 ∷ 241 ∷ []))) ∷ Done ∷ (Found 32 (padded_to 96 (240 ∷ 243 ∷ 242 ∷ []))) ∷ Done ∷ (Found 33 (padded_to 96 (240 ∷ 243 ∷ 243 ∷ []))) ∷ Done ∷ (Found 34 (padded_to 96 (240 ∷ 243 ∷ 244 ∷ []))) ∷ Done ∷ (Found 35 (padded_to 96 (240 ∷ 243 ∷ 245 ∷ []))) ∷ Done ∷ (Found 36 (padded_to 96 (240 ∷ 243 ∷ 246 ∷ []))) ∷ Done ∷ (Found 37 (padded_to 96 (240 ∷ 243 ∷ 247 ∷ []))) ∷ Done ∷ (Found 38 (padded_to 96 (240 ∷ 243 ∷ 248 ∷ []))) ∷ Done ∷ (Found 39 (padded_to 96 (240 ∷ 243 ∷ 249 ∷ []))) ∷ Done ∷ (Found 40 (padded_to 96 (240 ∷ 244 ∷ 240 ∷ []))) ∷ Done ∷ (Found 41 (padded_to 96 (240 ∷ 244 ∷ 241 ∷ []))) ∷ Done ∷ (Found 42 (padded_to 96 (240 ∷ 244 ∷ 242 ∷ []))) ∷ Done ∷ (Found 43 (padded_to 96 (240 ∷ 244 ∷ 243 ∷ []))) ∷ Done ∷ (Found 44 (padded_to 96 (240 ∷ 244 ∷ 244 ∷ []))) ∷ Done ∷ (Found 45 (padded_to 96 (240 ∷ 244 ∷ 245 ∷ []))) ∷ Done ∷ (Found 46 (padded_to 96 (240 ∷ 244 ∷ 246 ∷ []))) ∷ Done ∷ (Found 47 (padded_to 96 (240 ∷ 244 ∷ 247 ∷ []))) ∷ Done ∷ (Found 48 (padded_to 96 (240 ∷ 244 ∷ 248 ∷ []))) ∷ Done ∷ (Found 49 (padded_to 96 (240 ∷ 244 ∷ 249 ∷ []))) ∷ Done ∷ (Found 50 (padded_to 96 (240 ∷ 245 ∷ 240 ∷ []))) ∷ Done ∷ (Found 51 (padded_to 96 (240 ∷ 245 ∷ 241 ∷ []))) ∷ Done ∷ (Found 52 (padded_to 96 (240 ∷ 245 ∷ 242 ∷ []))) ∷ Done ∷ (Found 53 (padded_to 96 (240 ∷ 245 ∷ 243 ∷ []))) ∷ Done ∷ (Found 54 (padded_to 96 (240 ∷ 245 ∷ 244 ∷ []))) ∷ Done ∷ (Found 55 (padded_to 96 (240 ∷ 245 ∷ 245 ∷ []))) ∷ Done ∷ (Found 56 (padded_to 96 (240 ∷ 245 ∷ 246 ∷ []))) ∷ Done ∷ (Found 57 (padded_to 96 (240 ∷ 245 ∷ 247 ∷ []))) ∷ Done ∷ (Found 58 (padded_to 96 (240 ∷ 245 ∷ 248 ∷ []))) ∷ Done ∷ (Found 59 (padded_to 96 (240 ∷ 245 ∷ 249 ∷ []))) ∷ Done ∷ (Found 60 (padded_to 96 (240 ∷ 246 ∷ 240 ∷ []))) ∷ Done ∷ Done ∷ Nothing ∷ []) ≡
+row_overflow : asked (Req (source_of lines_overflow) 0 (240 ∷ 240 ∷ 240 ∷ 240 ∷ 240 ∷ 240 ∷ [])) (Done ∷ (Found (padded_to 96 (240 ∷ 240 ∷ 241 ∷ []))) ∷ Done ∷ (Found (padded_to 96 (240 ∷ 240 ∷ 242 ∷ []))) ∷ Done ∷ (Found (padded_to 96 (240 ∷ 240 ∷ 243 ∷ []))) ∷ Done ∷ (Found (padded_to 96 (240 ∷ 240 ∷ 244 ∷ []))) ∷ Done ∷ (Found (padded_to 96 (240 ∷ 240 ∷ 245 ∷ []))) ∷ Done ∷ (Found (padded_to 96 (240 ∷ 240 ∷ 246 ∷ []))) ∷ Done ∷ (Found (padded_to 96 (240 ∷ 240 ∷ 247 ∷ []))) ∷ Done ∷ (Found (padded_to 96 (240 ∷ 240 ∷ 248 ∷ []))) ∷ Done ∷ (Found (padded_to 96 (240 ∷ 240 ∷ 249 ∷ []))) ∷ Done ∷ (Found (padded_to 96 (240 ∷ 241 ∷ 240 ∷ []))) ∷ Done ∷ (Found (padded_to 96 (240 ∷ 241 ∷ 241 ∷ []))) ∷ Done ∷ (Found (padded_to 96 (240 ∷ 241 ∷ 242 ∷ []))) ∷ Done ∷ (Found (padded_to 96 (240 ∷ 241 ∷ 243 ∷ []))) ∷ Done ∷ (Found (padded_to 96 (240 ∷ 241 ∷ 244 ∷ []))) ∷ Done ∷ (Found (padded_to 96 (240 ∷ 241 ∷ 245 ∷ []))) ∷ Done ∷ (Found (padded_to 96 (240 ∷ 241 ∷ 246 ∷ []))) ∷ Done ∷ (Found (padded_to 96 (240 ∷ 241 ∷ 247 ∷ []))) ∷ Done ∷ (Found (padded_to 96 (240 ∷ 241 ∷ 248 ∷ []))) ∷ Done ∷ (Found (padded_to 96 (240 ∷ 241 ∷ 249 ∷ []))) ∷ Done ∷ (Found (padded_to 96 (240 ∷ 242 ∷ 240 ∷ []))) ∷ Done ∷ (Found (padded_to 96 (240 ∷ 242 ∷ 241 ∷ []))) ∷ Done ∷ (Found (padded_to 96 (240 ∷ 242 ∷ 242 ∷ []))) ∷ Done ∷ (Found (padded_to 96 (240 ∷ 242 ∷ 243 ∷ []))) ∷ Done ∷ (Found (padded_to 96 (240 ∷ 242 ∷ 244 ∷ []))) ∷ Done ∷ (Found (padded_to 96 (240 ∷ 242 ∷ 245 ∷ []))) ∷ Done ∷ (Found (padded_to 96 (240 ∷ 242 ∷ 246 ∷ []))) ∷ Done ∷ (Found (padded_to 96 (240 ∷ 242 ∷ 247 ∷ []))) ∷ Done ∷ (Found (padded_to 96 (240 ∷ 242 ∷ 248 ∷ []))) ∷ Done ∷ (Found (padded_to 96 (240 ∷ 242 ∷ 249 ∷ []))) ∷ Done ∷ (Found (padded_to 96 (240 ∷ 243 ∷ 240 ∷ []))) ∷ Done ∷ (Found (padded_to 96 (240 ∷ 243 ∷ 241 ∷ []))) ∷ Done ∷ (Found (padded_to 96 (240 ∷ 243 ∷ 242 ∷ []))) ∷ Done ∷ (Found (padded_to 96 (240 ∷ 243 ∷ 243 ∷ []))) ∷ Done ∷ (Found (padded_to 96 (240 ∷ 243 ∷ 244 ∷ []))) ∷ Done ∷ (Found (padded_to 96 (240 ∷ 243 ∷ 245 ∷ []))) ∷ Done ∷ (Found (padded_to 96 (240 ∷ 243 ∷ 246 ∷ []))) ∷ Done ∷ (Found (padded_to 96 (240 ∷ 243 ∷ 247 ∷ []))) ∷ Done ∷ (Found (padded_to 96 (240 ∷ 243 ∷ 248 ∷ []))) ∷ Done ∷ (Found (padded_to 96 (240 ∷ 243 ∷ 249 ∷ []))) ∷ Done ∷ (Found (padded_to 96 (240 ∷ 244 ∷ 240 ∷ []))) ∷ Done ∷ (Found (padded_to 96 (240 ∷ 244 ∷ 241 ∷ []))) ∷ Done ∷ (Found (padded_to 96 (240 ∷ 244 ∷ 242 ∷ []))) ∷ Done ∷ (Found (padded_to 96 (240 ∷ 244 ∷ 243 ∷ []))) ∷ Done ∷ (Found (padded_to 96 (240 ∷ 244 ∷ 244 ∷ []))) ∷ Done ∷ (Found (padded_to 96 (240 ∷ 244 ∷ 245 ∷ []))) ∷ Done ∷ (Found (padded_to 96 (240 ∷ 244 ∷ 246 ∷ []))) ∷ Done ∷ (Found (padded_to 96 (240 ∷ 244 ∷ 247 ∷ []))) ∷ Done ∷ (Found (padded_to 96 (240 ∷ 244 ∷ 248 ∷ []))) ∷ Done ∷ (Found (padded_to 96 (240 ∷ 244 ∷ 249 ∷ []))) ∷ Done ∷ (Found (padded_to 96 (240 ∷ 245 ∷ 240 ∷ []))) ∷ Done ∷ (Found (padded_to 96 (240 ∷ 245 ∷ 241 ∷ []))) ∷ Done ∷ (Found (padded_to 96 (240 ∷ 245 ∷ 242 ∷ []))) ∷ Done ∷ (Found (padded_to 96 (240 ∷ 245 ∷ 243 ∷ []))) ∷ Done ∷ (Found (padded_to 96 (240 ∷ 245 ∷ 244 ∷ []))) ∷ Done ∷ (Found (padded_to 96 (240 ∷ 245 ∷ 245 ∷ []))) ∷ Done ∷ (Found (padded_to 96 (240 ∷ 245 ∷ 246 ∷ []))) ∷ Done ∷ (Found (padded_to 96 (240 ∷ 245 ∷ 247 ∷ []))) ∷ Done ∷ (Found (padded_to 96 (240 ∷ 245 ∷ 248 ∷ []))) ∷ Done ∷ (Found (padded_to 96 (240 ∷ 245 ∷ 249 ∷ []))) ∷ Done ∷ (Found (padded_to 96 (240 ∷ 246 ∷ 240 ∷ []))) ∷ Done ∷ Done ∷ Nothing ∷ []) ≡
     ((Print 1 1 (padded_to 132 (200 ∷ 197 ∷ 193 ∷ 196 ∷ []))) ∷ Card ∷ (Print 1 2 (padded_to 132 (240 ∷ 240 ∷ 241 ∷ []))) ∷ Card ∷ (Print 1 3 (padded_to 132 (240 ∷ 240 ∷ 242 ∷ []))) ∷ Card ∷ (Print 1 4 (padded_to 132 (240 ∷ 240 ∷ 243 ∷ []))) ∷ Card ∷ (Print 1 5 (padded_to 132 (240 ∷ 240 ∷ 244 ∷ []))) ∷ Card ∷ (Print 1 6 (padded_to 132 (240 ∷ 240 ∷ 245 ∷ []))) ∷ Card ∷ (Print 1 7 (padded_to 132 (240 ∷ 240 ∷ 246 ∷ []))) ∷ Card ∷ (Print 1 8 (padded_to 132 (240 ∷ 240 ∷ 247 ∷ []))) ∷ Card ∷ (Print 1 9 (padded_to 132 (240 ∷ 240 ∷ 248 ∷ []))) ∷ Card ∷ (Print 1 10 (padded_to 132 (240 ∷ 240 ∷ 249 ∷ []))) ∷ Card ∷ (Print 1 11 (padded_to 132 (240 ∷ 241 ∷ 240 ∷ []))) ∷ Card ∷ (Print 1 12 (padded_to 132 (240 ∷ 241 ∷ 241 ∷ []))) ∷ Card ∷ (Print 1 13 (padded_to 132 (240 ∷ 241 ∷ 242 ∷ []))) ∷ Card ∷ (Print 1 14 (padded_to 132 (240 ∷ 241 ∷ 243 ∷ []))) ∷ Card ∷ (Print 1 15 (padded_to 132 (240 ∷ 241 ∷ 244 ∷ []))) ∷ Card ∷ (Print 1 16 (padded_to 132 (240 ∷ 241 ∷ 245 ∷ []))) ∷ Card ∷ (Print 1 17 (padded_to 132 (240 ∷ 241 ∷ 246 ∷ []))) ∷ Card ∷ (Print 1 18 (padded_to 132 (240 ∷ 241 ∷ 247 ∷ []))) ∷ Card ∷ (Print 1 19 (padded_to 132 (240 ∷ 241 ∷ 248 ∷ []))) ∷ Card ∷ (Print 1 20 (padded_to 132 (240 ∷ 241 ∷ 249 ∷ []))) ∷ Card ∷ (Print 1 21 (padded_to 132 (240 ∷ 242 ∷ 240 ∷ []))) ∷ Card ∷ (Print 1 22 (padded_to 132 (240 ∷ 242 ∷ 241 ∷ []))) ∷ Card ∷ (Print 1 23 (padded_to 132 (240 ∷ 242 ∷ 242 ∷ []))) ∷ Card ∷ (Print 1 24 (padded_to 132 (240 ∷ 242 ∷ 243 ∷ []))) ∷ Card ∷ (Print 1 25 (padded_to 132 (240 ∷ 242 ∷ 244 ∷ []))) ∷ Card ∷ (Print 1 26 (padded_to 132 (240 ∷ 242 ∷ 245 ∷ []))) ∷ Card ∷ (Print 1 27 (padded_to 132 (240 ∷ 242 ∷ 246 ∷ []))) ∷ Card ∷ (Print 1 28 (padded_to 132 (240 ∷ 242 ∷ 247 ∷ []))) ∷ Card ∷ (Print 1 29 (padded_to 132 (240 ∷ 242 ∷ 248 ∷ []))) ∷ Card ∷ (Print 1 30 (padded_to 132 (240 ∷ 242 ∷ 249 ∷ []))) ∷ Card ∷ (Print 1 31 (padded_to 132 (240 ∷ 243 ∷ 240 ∷ []))) ∷ Card ∷ (Print 1 32 (padded_to 132 (240 ∷ 243 ∷ 241 ∷ []))) ∷ Card ∷ (Print 1 33 (padded_to 132 (240 ∷ 243 ∷ 242 ∷ []))) ∷ Card ∷ (Print 1 34 (padded_to 132 (240 ∷ 243 ∷ 243 ∷ []))) ∷ Card ∷ (Print 1 35 (padded_to 132 (240 ∷ 243 ∷ 244 ∷ []))) ∷ Card ∷ (Print 1 36 (padded_to 132 (240 ∷ 243 ∷ 245 ∷ []))) ∷ Card ∷ (Print 1 37 (padded_to 132 (240 ∷ 243 ∷ 246 ∷ []))) ∷ Card ∷ (Print 1 38 (padded_to 132 (240 ∷ 243 ∷ 247 ∷ []))) ∷ Card ∷ (Print 1 39 (padded_to 132 (240 ∷ 243 ∷ 248 ∷ []))) ∷ Card ∷ (Print 1 40 (padded_to 132 (240 ∷ 243 ∷ 249 ∷ []))) ∷ Card ∷ (Print 1 41 (padded_to 132 (240 ∷ 244 ∷ 240 ∷ []))) ∷ Card ∷ (Print 1 42 (padded_to 132 (240 ∷ 244 ∷ 241 ∷ []))) ∷ Card ∷ (Print 1 43 (padded_to 132 (240 ∷ 244 ∷ 242 ∷ []))) ∷ Card ∷ (Print 1 44 (padded_to 132 (240 ∷ 244 ∷ 243 ∷ []))) ∷ Card ∷ (Print 1 45 (padded_to 132 (240 ∷ 244 ∷ 244 ∷ []))) ∷ Card ∷ (Print 1 46 (padded_to 132 (240 ∷ 244 ∷ 245 ∷ []))) ∷ Card ∷ (Print 1 47 (padded_to 132 (240 ∷ 244 ∷ 246 ∷ []))) ∷ Card ∷ (Print 1 48 (padded_to 132 (240 ∷ 244 ∷ 247 ∷ []))) ∷ Card ∷ (Print 1 49 (padded_to 132 (240 ∷ 244 ∷ 248 ∷ []))) ∷ Card ∷ (Print 1 50 (padded_to 132 (240 ∷ 244 ∷ 249 ∷ []))) ∷ Card ∷ (Print 1 51 (padded_to 132 (240 ∷ 245 ∷ 240 ∷ []))) ∷ Card ∷ (Print 1 52 (padded_to 132 (240 ∷ 245 ∷ 241 ∷ []))) ∷ Card ∷ (Print 1 53 (padded_to 132 (240 ∷ 245 ∷ 242 ∷ []))) ∷ Card ∷ (Print 1 54 (padded_to 132 (240 ∷ 245 ∷ 243 ∷ []))) ∷ Card ∷ (Print 1 55 (padded_to 132 (240 ∷ 245 ∷ 244 ∷ []))) ∷ Card ∷ (Print 1 56 (padded_to 132 (240 ∷ 245 ∷ 245 ∷ []))) ∷ Card ∷ (Print 1 57 (padded_to 132 (240 ∷ 245 ∷ 246 ∷ []))) ∷ Card ∷ (Print 1 58 (padded_to 132 (240 ∷ 245 ∷ 247 ∷ []))) ∷ Card ∷ (Print 1 59 (padded_to 132 (240 ∷ 245 ∷ 248 ∷ []))) ∷ Card ∷ (Print 1 60 (padded_to 132 (240 ∷ 245 ∷ 249 ∷ []))) ∷ Card ∷ (Print 2 1 (padded_to 132 (200 ∷ 197 ∷ 193 ∷ 196 ∷ []))) ∷ (Print 2 2 (padded_to 132 (240 ∷ 246 ∷ 240 ∷ []))) ∷ Card ∷ (End false) ∷ [])
 unfolding lines_overflow asked ask ended to_totals replied halted number_moved field_moved fields_moved printed stored_or_halted file_line_put line_put lines_put divided not_found chained_to on_chain chained performed calculated halts_shown headings cleared headed typed on_read file_read files_read totals last_time total_time overflow_lines detail_time record_time selected_or_last reading_time one_cycle anew_within again stored
 row_overflow = refl
@@ -74,7 +74,7 @@ lines_matching =
     ∷ (record { card = 14; sheet = (OutputSheet (OutputField (record { conditions = ((Some (record { negated = false; indicator = Matching })) ∷ None ∷ None ∷ []); content = (ConstantContent (record { codes = (padded_to 24 (212 ∷ 217 ∷ [])); length = 2 })); end = 6 }))) })
     ∷ []
 
-row_matching : asked (Req (source_of lines_matching) 0 (240 ∷ 240 ∷ 240 ∷ 240 ∷ 240 ∷ 240 ∷ [])) ((Found 1 (padded_to 10 (241 ∷ 240 ∷ []))) ∷ (Found 1 (padded_to 10 (242 ∷ 240 ∷ []))) ∷ Done ∷ (Found 2 (padded_to 10 (242 ∷ 240 ∷ []))) ∷ Done ∷ (Found 3 (padded_to 10 (242 ∷ 240 ∷ []))) ∷ Done ∷ (Found 4 (padded_to 10 (243 ∷ 240 ∷ []))) ∷ Done ∷ (Found 2 (padded_to 10 (242 ∷ 245 ∷ []))) ∷ Done ∷ (Found 3 (padded_to 10 (243 ∷ 240 ∷ []))) ∷ Done ∷ Nothing ∷ Done ∷ Nothing ∷ []) ≡
+row_matching : asked (Req (source_of lines_matching) 0 (240 ∷ 240 ∷ 240 ∷ 240 ∷ 240 ∷ 240 ∷ [])) ((Found (padded_to 10 (241 ∷ 240 ∷ []))) ∷ (Found (padded_to 10 (242 ∷ 240 ∷ []))) ∷ Done ∷ (Found (padded_to 10 (242 ∷ 240 ∷ []))) ∷ Done ∷ (Found (padded_to 10 (242 ∷ 240 ∷ []))) ∷ Done ∷ (Found (padded_to 10 (243 ∷ 240 ∷ []))) ∷ Done ∷ (Found (padded_to 10 (242 ∷ 245 ∷ []))) ∷ Done ∷ (Found (padded_to 10 (243 ∷ 240 ∷ []))) ∷ Done ∷ Nothing ∷ Done ∷ Nothing ∷ []) ≡
     ((Read (named (215 ∷ 217 ∷ 201 ∷ 212 ∷ []))) ∷ (Read (named (226 ∷ 197 ∷ 195 ∷ []))) ∷ (Print 1 1 (padded_to 132 (215 ∷ 241 ∷ 240 ∷ []))) ∷ (Read (named (215 ∷ 217 ∷ 201 ∷ 212 ∷ []))) ∷ (Print 1 2 (padded_to 132 (215 ∷ 242 ∷ 240 ∷ 64 ∷ 212 ∷ 217 ∷ []))) ∷ (Read (named (215 ∷ 217 ∷ 201 ∷ 212 ∷ []))) ∷ (Print 1 3 (padded_to 132 (215 ∷ 242 ∷ 240 ∷ 64 ∷ 212 ∷ 217 ∷ []))) ∷ (Read (named (215 ∷ 217 ∷ 201 ∷ 212 ∷ []))) ∷ (Print 1 4 (padded_to 132 (226 ∷ 242 ∷ 240 ∷ 64 ∷ 212 ∷ 217 ∷ []))) ∷ (Read (named (226 ∷ 197 ∷ 195 ∷ []))) ∷ (Print 1 5 (padded_to 132 (226 ∷ 242 ∷ 245 ∷ []))) ∷ (Read (named (226 ∷ 197 ∷ 195 ∷ []))) ∷ (Print 1 6 (padded_to 132 (215 ∷ 243 ∷ 240 ∷ 64 ∷ 212 ∷ 217 ∷ []))) ∷ (Read (named (215 ∷ 217 ∷ 201 ∷ 212 ∷ []))) ∷ (Print 1 7 (padded_to 132 (226 ∷ 243 ∷ 240 ∷ 64 ∷ 212 ∷ 217 ∷ []))) ∷ (Read (named (226 ∷ 197 ∷ 195 ∷ []))) ∷ (End false) ∷ [])
 unfolding lines_matching asked ask ended to_totals replied halted number_moved field_moved fields_moved printed stored_or_halted file_line_put line_put lines_put divided not_found chained_to on_chain chained performed calculated halts_shown headings cleared headed typed on_read file_read files_read totals last_time total_time overflow_lines detail_time record_time selected_or_last reading_time one_cycle anew_within again stored
 row_matching = refl
@@ -116,7 +116,7 @@ lines_numbers =
     ∷ (record { card = 32; sheet = (OutputSheet (OutputField (record { conditions = (None ∷ None ∷ None ∷ []); content = (FieldContent (record { name = (named (214 ∷ [])); form = PlainOutput; blank_after = false })); end = 48 }))) })
     ∷ []
 
-row_numbers : asked (Req (source_of lines_numbers) 0 (240 ∷ 240 ∷ 240 ∷ 240 ∷ 240 ∷ 240 ∷ [])) ((Found 1 (padded_to 96 (231 ∷ []))) ∷ (Reply 0) ∷ Done ∷ Nothing ∷ []) ≡
+row_numbers : asked (Req (source_of lines_numbers) 0 (240 ∷ 240 ∷ 240 ∷ 240 ∷ 240 ∷ 240 ∷ [])) ((Found (padded_to 96 (231 ∷ []))) ∷ (Reply 0) ∷ Done ∷ Nothing ∷ []) ≡
     (Card ∷ (Ask ZeroDivisor) ∷ (Print 1 1 (padded_to 132 (240 ∷ 240 ∷ 240 ∷ 240 ∷ 240 ∷ 240 ∷ 240 ∷ 242 ∷ 243 ∷ 245 ∷ 240 ∷ 240 ∷ 242 ∷ 243 ∷ 213 ∷ 240 ∷ 240 ∷ 242 ∷ 243 ∷ 212 ∷ 240 ∷ 240 ∷ 243 ∷ 240 ∷ 241 ∷ 240 ∷ 242 ∷ 243 ∷ 240 ∷ 240 ∷ 240 ∷ 240 ∷ 240 ∷ 242 ∷ 243 ∷ 244 ∷ 240 ∷ 243 ∷ 245 ∷ 240 ∷ 240 ∷ 240 ∷ 240 ∷ 240 ∷ 240 ∷ 240 ∷ 240 ∷ 240 ∷ []))) ∷ Card ∷ (End false) ∷ [])
 unfolding lines_numbers asked ask ended to_totals replied halted number_moved field_moved fields_moved printed stored_or_halted file_line_put line_put lines_put divided not_found chained_to on_chain chained performed calculated halts_shown headings cleared headed typed on_read file_read files_read totals last_time total_time overflow_lines detail_time record_time selected_or_last reading_time one_cycle anew_within again stored
 row_numbers = refl

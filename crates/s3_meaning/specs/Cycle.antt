@@ -11,7 +11,7 @@ use Rattle.s3_meaning.specs.Names.{same_indicator}
 use Rattle.s3_meaning.specs.RecordTypes.{RecordType}
 use Rattle.s3_meaning.specs.Calculations.{Calculation}
 use Rattle.s3_meaning.specs.Source.{Source, source_of, detail_calculations, total_calculations, is_input, is_card_reader, overflow_of, has_control_fields, has_levels}
-use Rattle.s3_meaning.specs.Requests.{Request, Card, Read, Answer, Found}
+use Rattle.s3_meaning.specs.Requests.{NthRead, Request, Card, Read, Answer, Found}
 use Rattle.s3_meaning.specs.Environment.{Environment, turn, turn_levels, with_last_record, put_current, at_first}
 use Rattle.s3_meaning.specs.Selection.{type_of, Head, Standing, Unread, Stands, Ended, InputFile, Reading, head_key, is_unread, Selected, select, is_matched, taken, in_sequence, broken}
 use Rattle.s3_meaning.specs.Runs.{Run, Rest, Anew, ask, ended, halted}
@@ -50,16 +50,20 @@ read_request file = if is_card_reader file.device then Card else Read file.name
 unfoldable pub headed : Anew → InputFile → Head → (InputFile → Rest) → Rest
 headed anew input head go e =
     (if in_sequence (head_key head) input.last_key
-    then go (record { file = input.file; standing = Stands head; last_key = option_or (head_key head) input.last_key })
+    then go (record input { standing = Stands head; last_key = option_or (head_key head) input.last_key })
     else halted anew OutOfSequence (anew.read input go)) e
 
 -- a record of no type halts, and reply 0 reads the next
-unfoldable pub typed : Anew → InputFile → ℕ → List ℕ → Option RecordType → (InputFile → Rest) → Rest
-typed anew input number bytes (Some kind) go e = headed anew input (record { number = number; bytes = bytes; kind = kind }) go e
-typed anew input number bytes None go e = halted anew UnidentifiedRecord (anew.read input go) e
+unfoldable pub typed : Anew → InputFile → List ℕ → Option RecordType → (InputFile → Rest) → Rest
+typed anew input bytes (Some kind) go e = headed anew input (record { number = input.reads; bytes = bytes; kind = kind }) go e
+typed anew input bytes None go e = halted anew UnidentifiedRecord (anew.read input go) e
+
+-- one record more was read
+abbrev pub counted_read : InputFile → InputFile
+counted_read input = record input { reads = input.reads + 1 }
 
 unfoldable pub on_read : Source → Anew → InputFile → (InputFile → Rest) → Answer → Rest
-on_read source anew input go (Found number bytes) e = typed anew input number bytes (type_of source input.file.name bytes) go e
+on_read source anew input go (Found bytes) e = typed anew (counted_read input) bytes (type_of source input.file.name bytes) go e
 on_read source anew input go _ e = go (record input { standing = Ended }) e
 
 unfoldable pub file_read : Source → Anew → InputFile → (InputFile → Rest) → Rest
@@ -116,7 +120,7 @@ overflow_lines source anew go e =
 -- ---- steps 10 to 12
 -- MR is set, and the record is the current one of its file
 abbrev pub matched : Bool → Selected → Environment → Environment
-matched is_matching selected e = put_current selected.file.name (Some selected.head.number) (turn Matching is_matching e)
+matched is_matching selected e = put_current selected.file.name (Some (NthRead selected.head.number)) (turn Matching is_matching e)
 
 -- total time is due from the cycle after the first, or after the first record with control fields
 abbrev pub with_totals_due : Source → Selected → Environment → Environment
@@ -183,7 +187,7 @@ again source =
 
 -- a file whose condition is off has ended at once
 abbrev pub first_standing : Environment → FileLine → InputFile
-first_standing e file = record { file = file; standing = if is_served e file then Unread else Ended; last_key = None }
+first_standing e file = record { file = file; standing = if is_served e file then Unread else Ended; reads = 0; last_key = None }
 
 abbrev pub first_reading : Source → Environment → Reading
 first_reading source e = record { files = map (first_standing e) (filter is_input source.files); primary_key = None }

@@ -8,6 +8,7 @@ use Rattle.s3_sheets.specs.declared.indicator.Indicator.TheVariants.{Level, Last
 use Rattle.s3_sheets.specs.declared.indicator.Condition.{Condition}
 use Rattle.s3_meaning.specs.Names.{same_name, same_indicator, is_indicator, udate, umonth, uday, uyear}
 use Rattle.s3_meaning.specs.Source.{Source, length_of}
+use Rattle.s3_meaning.specs.Requests.{Current}
 
 pub record Environment : Type 0 where
   -- the values of numeric and of alphanumeric fields
@@ -17,8 +18,8 @@ pub record Environment : Type 0 where
   pub on : Indicator → Bool
   -- what the last DIV leaves for MVR
   pub remainder : Fraction
-  -- the number of each file's current record
-  pub current : Name → Option ℕ
+  -- each file's current record
+  pub current : Name → Option Current
   -- the control field held for each level
   pub held : ℕ → Option (List ℕ)
   -- total time is no longer passed over
@@ -66,8 +67,8 @@ put_remainder remainder e = record e { remainder = remainder }
 abbrev pub no_remainder : Fraction
 no_remainder = exact (pos 0) 0
 
-abbrev pub put_current : Name → Option ℕ → Environment → Environment
-put_current file number e = record e { current = λ other. if same_name other file then number else e.current other }
+abbrev pub put_current : Name → Option Current → Environment → Environment
+put_current file current e = record e { current = λ other. if same_name other file then current else e.current other }
 
 -- ---- conditions
 abbrev pub holds : Environment → Condition → Bool

@@ -47,6 +47,10 @@ uday = record { codes = 0xe4 ∷ 0xc4 ∷ 0xc1 ∷ 0xe8 ∷ 0x40 ∷ 0x40 ∷ 0x
 abbrev pub uyear : Name
 uyear = record { codes = 0xe4 ∷ 0xe8 ∷ 0xc5 ∷ 0xc1 ∷ 0xd9 ∷ 0x40 ∷ 0x40 ∷ 0x40 ∷ [] }
 
+-- RPGOBJ, the name of a program whose H line bears none
+abbrev pub rpgobj : Name
+rpgobj = record { codes = 0xd9 ∷ 0xd7 ∷ 0xc7 ∷ 0xd6 ∷ 0xc2 ∷ 0xd1 ∷ 0x40 ∷ 0x40 ∷ [] }
+
 -- the name of an entry that is blank
 abbrev pub no_name : Name
 no_name = record { codes = replicate 8 0x40 }

@@ -8,22 +8,26 @@ pub data Sought : Type 0 where
   Key : List ℕ → Sought
   RecordNumber : ℤ → Sought
 
+-- the record of a file that an update changes: the n-th that was read, or the one that CHAIN found last
+pub data Current : Type 0 where
+  NthRead : ℕ → Current
+  LastChained : Current
+
 pub data Request : Type 0 where
   Card : Request
   Read : (file : Name) → Request
   Chain : (file : Name) → Sought → Request
   Append : (file : Name) → (bytes : List ℕ) → Request
   Add : (file : Name) → (bytes : List ℕ) → Request
-  -- the current record by its number, if there is one, and what is put at each of its positions
-  Update : (file : Name) → (current : Option ℕ) → (changes : List (Option ℕ)) → Request
+  -- the current record, if there is one, and what is put at each of its positions
+  Update : (file : Name) → (current : Option Current) → (changes : List (Option ℕ)) → Request
   Print : (page line : ℕ) → (text : List ℕ) → Request
   Jump : Request
   Ask : HaltCode → Request
   End : (at_once : Bool) → Request
 
 pub data Answer : Type 0 where
-  -- the number of the record in its file, which an update names, and its bytes
-  Found : (number : ℕ) → (bytes : List ℕ) → Answer
+  Found : (bytes : List ℕ) → Answer
   Nothing : Answer
   Done : Answer
   Refused : HaltCode → Answer

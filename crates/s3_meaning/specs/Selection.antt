@@ -86,7 +86,7 @@ same_key (Some a) (Some b) = pointwise nat_eq a b
 same_key _ _ = false
 
 -- ---- the lists not yet read
--- the record at the head of a file, with its number and type
+-- the record at the head of a file, the n-th that was read, with its type
 pub record Head : Type 0 where
   pub number : ℕ
   pub bytes : List ℕ
@@ -97,10 +97,12 @@ pub data Standing : Type 0 where
   Stands : Head → Standing
   Ended : Standing
 
--- a primary or secondary file; the last key is that of its last head that had match fields and wasn't passed over
+-- a primary or secondary file; how many of its records were read; the key of its last head that had match fields and
+-- wasn't passed over
 pub record InputFile : Type 0 where
   pub file : FileLine
   pub standing : Standing
+  pub reads : ℕ
   pub last_key : Option (List ℕ)
 
 -- the primary and secondary files in F order, and the key of the last selected primary record with match fields

@@ -21,9 +21,9 @@ use Rattle.s3_sheets.specs.declared.sheet.InputLine.TheVariants.{Field}
 use Rattle.s3_sheets.specs.declared.sheet.CalculationLine.{CalculationLine}
 use Rattle.s3_sheets.specs.declared.sheet.OutputLine.{OutputLine}
 use Rattle.s3_sheets.specs.declared.sheet.SheetLine.{SheetLine}
-use Rattle.s3_sheets.specs.declared.sheet.SheetLine.TheVariants.{File, Input, Calculation as CalculationSheet, Output as OutputSheet}
+use Rattle.s3_sheets.specs.declared.sheet.SheetLine.TheVariants.{Header, File, Input, Calculation as CalculationSheet, Output as OutputSheet}
 use Rattle.s3_sheets.specs.declared.sheet.Line.{Line}
-use Rattle.s3_meaning.specs.Names.{same_name, is_named, is_indicator, page, udate, umonth, uday, uyear}
+use Rattle.s3_meaning.specs.Names.{same_name, is_named, is_indicator, page, udate, umonth, uday, uyear, rpgobj}
 use Rattle.s3_meaning.specs.RecordTypes.{RecordType, types_of}
 use Rattle.s3_meaning.specs.Calculations.{Calculation, calculations_of, is_detail, is_total, begins, ends}
 use Rattle.s3_meaning.specs.OutputLines.{Output, outputs_of}
@@ -137,6 +137,19 @@ source_of lines =
       outputs = outputs_of (filter_map output_line lines);
       shapes = reserved_shapes ++ filter_map input_shape inputs ++ filter_map result_shape calculations;
     }
+
+-- the name in an H line
+abbrev pub header_name : Line → Option Name
+header_name line = on line.sheet
+  where
+    on : SheetLine → Option Name
+    on (Header name) = name
+    on _ = None
+
+-- the program's name: that of the first H line that bears one
+abbrev pub program_name : List Line → Name
+program_name [] = rpgobj
+program_name (line ∷ lines) = unwrap_or (header_name line) (program_name lines)
 
 abbrev pub detail_calculations : Source → List Calculation
 detail_calculations source = filter is_detail source.calculations

@@ -13,8 +13,8 @@ pub fn nothing_is_bounded()
 
 /// Cards A01, A02 and B05 under a total by their first column: 3 is printed for A, 5 for B, and the job ends.
 pub fn totals_are_printed()
-    ensures first { Req (source_of level_totals) 0 no_date (Found 1 (card (0xc1 ∷ 0xf0 ∷ 0xf1 ∷ [])) ∷ Found 2 (card (0xc1 ∷ 0xf0 ∷ 0xf2 ∷ [])) ∷ Found 3 (card (0xc2 ∷ 0xf0 ∷ 0xf5 ∷ [])) ∷ [])
+    ensures first { Req (source_of level_totals) 0 no_date (Found (card (0xc1 ∷ 0xf0 ∷ 0xf1 ∷ [])) ∷ Found (card (0xc1 ∷ 0xf0 ∷ 0xf2 ∷ [])) ∷ Found (card (0xc2 ∷ 0xf0 ∷ 0xf5 ∷ [])) ∷ [])
         ≡ Print 1 1 (print_line (0x40 ∷ 0x40 ∷ 0x40 ∷ 0xf3 ∷ [])) }
-    ensures end { Req (source_of level_totals) 0 no_date (Found 1 (card (0xc1 ∷ 0xf0 ∷ 0xf1 ∷ [])) ∷ Found 2 (card (0xc1 ∷ 0xf0 ∷ 0xf2 ∷ [])) ∷ Found 3 (card (0xc2 ∷ 0xf0 ∷ 0xf5 ∷ [])) ∷ Done ∷ Nothing ∷ Done ∷ [])
+    ensures end { Req (source_of level_totals) 0 no_date (Found (card (0xc1 ∷ 0xf0 ∷ 0xf1 ∷ [])) ∷ Found (card (0xc1 ∷ 0xf0 ∷ 0xf2 ∷ [])) ∷ Found (card (0xc2 ∷ 0xf0 ∷ 0xf5 ∷ [])) ∷ Done ∷ Nothing ∷ Done ∷ [])
         ≡ End false }
 {}

@@ -1,0 +1,60 @@
+ghost use Rattle.std.specs.Prelude.{◌≡◌, ◌+◌, ◌*◌, ◌^◌, ◌<◌, ◌≤◌, ◌||◌, nat_lt, IfOk, IfErr, is_err};
+ghost use Rattle.s3_decimal.specs.Exact.{signed};
+ghost use Rattle.s3_decimal.specs.Records.{cleaned};
+
+use crate::number::Dec;
+use crate::scale::with_sign;
+use thiserror::Error;
+
+/// A field has a digit above 9; `number` is what it holds with its bad digits 0.
+#[derive(Clone, Copy, Debug, PartialEq, Eq, Error)]
+#[error("a digit is above 9")]
+pub struct BadDigit {
+    pub number: Dec,
+}
+
+/// The digits of a field that are read so far, from the left.
+#[derive(Clone, Copy)]
+pub struct Reading {
+    pub magnitude: u64,
+    pub bad: bool,
+}
+
+impl Reading {
+    pub fn push(&mut self, digit: u8)
+        requires { self.old.magnitude < 10 ^ 15 }
+        ensures magnitude { self.new.magnitude ≡ self.old.magnitude * 10 + cleaned digit }
+        ensures bad { self.new.bad ≡ (self.old.bad || nat_lt 9 digit) }
+    {
+        self.magnitude *= 10;
+        if digit < 10 {
+            self.magnitude += u64::from(digit);
+        } else {
+            self.bad = true;
+        }
+    }
+
+    pub fn finish(self, negative: bool, digits: u8, decimals: u8) -> Result<Dec, BadDigit>
+        requires has_digits { 1 ≤ digits }
+        requires within_longest { digits ≤ 15 }
+        requires few_decimals { decimals ≤ 9 }
+        requires decimals_within { decimals ≤ digits }
+        requires within_digits { self.magnitude < 10 ^ digits }
+        ensures fault { is_err result ≡ self.bad }
+        ensures good { IfOk result (λ n. (n.value ≡ signed negative self.magnitude)
+            × (n.digits ≡ digits) × (n.decimals ≡ decimals)) }
+        ensures bad { IfErr result (λ e. (e.number.value ≡ signed negative self.magnitude)
+            × (e.number.digits ≡ digits) × (e.number.decimals ≡ decimals)) }
+    {
+        let number = Dec {
+            value: with_sign(negative, self.magnitude),
+            digits,
+            decimals,
+        };
+        if self.bad {
+            Err(BadDigit { number })
+        } else {
+            Ok(number)
+        }
+    }
+}

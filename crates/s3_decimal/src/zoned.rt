@@ -1,0 +1,54 @@
+ghost use Rattle.std.specs.Prelude.{◌≡◌, ◌≤◌, length, unsigned_abs, IfOk, IfErr, is_err, false};
+ghost use Rattle.s3_decimal.specs.Exact.{is_negative};
+ghost use Rattle.s3_decimal.specs.Records.{has_bad_digit, zone_at, zoned_bytes, zoned_digits, zoned_number};
+
+use crate::digits::{BadDigit, Reading};
+use crate::number::Dec;
+
+/// Reads a zoned field of 1 to 15 bytes: one digit in the low four bits of each, minus where the high four bits of
+/// the last are D, with any other zone plus. A blank is digit 0. `BadDigit` where a digit is above 9.
+pub fn zoned_read(bytes: &[u8], decimals: u8) -> Result<Dec, BadDigit>
+    requires some { 1 ≤ length bytes.now }
+    requires within_longest { length bytes.now ≤ 15 }
+    requires few_decimals { decimals ≤ 9 }
+    requires decimals_within { decimals ≤ length bytes.now }
+    ensures fault { is_err result ≡ has_bad_digit (zoned_digits bytes.now) }
+    ensures good { IfOk result (λ n. (n.value ≡ zoned_number bytes.now)
+        × (n.digits ≡ length bytes.now) × (n.decimals ≡ decimals)) }
+    ensures bad { IfErr result (λ e. (e.number.value ≡ zoned_number bytes.now)
+        × (e.number.digits ≡ length bytes.now) × (e.number.decimals ≡ decimals)) }
+{
+    let mut reading = Reading {
+        magnitude: 0,
+        bad: false,
+    };
+    for byte in bytes {
+        reading.push(byte % 16);
+    }
+    let negative = bytes[bytes.len() - 1] / 16 == 0xd;
+    reading.finish(negative, bytes.len() as u8, decimals)
+}
+
+fn zone(negative: bool, place: usize) -> u8
+    ensures { result ≡ zone_at negative place }
+{
+    if place == 0 && negative { 0xd0 } else { 0xf0 }
+}
+
+/// Writes a number as a zoned field of as many bytes as it has digits: zones are F, and D in the last byte of a
+/// negative number.
+pub fn zoned_write(number: Dec, bytes: &mut [u8])
+    requires { length bytes.old ≡ number.digits }
+    ensures written { bytes.new
+        ≡ zoned_bytes (is_negative number.value) number.digits (unsigned_abs number.value) }
+    ensures read_back { zoned_number bytes.new ≡ number.value }
+    ensures good { has_bad_digit (zoned_digits bytes.new) ≡ false }
+{
+    let count = bytes.len();
+    let mut rest = number.value.unsigned_abs();
+    for place in 0..count {
+        let zone = zone(number.is_negative(), place);
+        bytes[count - 1 - place] = zone + (rest % 10) as u8;
+        rest /= 10;
+    }
+}

@@ -1,0 +1,113 @@
+//! The pool.
+ghost use Rattle.std.specs.Prelude.{◌≡◌, ◌≤◌, ◌+◌, ◌↔◌, length, slice_get, Some, OnOk, IfOk, IfErr, IsErrOf};
+ghost use Rattle.std.specs.Borrow.{sem};
+ghost use Rattle.s3_store.specs.Failures.{failed_transfers};
+ghost use Rattle.s3_store.specs.State.{KeepsContents};
+
+use crate::buffers::{Buffers, give_up_all, load};
+use s3_store::{PackStore, PoolFault, Sectors};
+use std::alloc::{AllocFailed, Global};
+use std::marker::Model;
+
+/// The sectors of a store, up to 16 of them in memory.
+///
+/// What is written to a sector goes to the store when its buffer is given up, and at a flush. A call that is
+/// refused leaves the contents as they were. A pool is ended by `into_store` alone.
+pub struct Pool<S: PackStore> {
+    store: S,
+    buffers: Buffers,
+}
+
+impl<S: PackStore> Model for Pool<S> {
+    ghost use Rattle.s3_store.specs.State.{PoolState};
+    ghost use Rattle.s3_pool.specs.Buffers.{IsSound, pool_state};
+
+    ghost Value = { PoolState };
+
+    ghost view = { λ p. pool_state (S.contents p.store) (S.failures p.store) p.buffers };
+
+    ghost invariant = { λ p. IsSound (S.contents p.store) p.buffers };
+}
+
+impl<S: PackStore> Pool<S> {
+    ghost use Rattle.s3_pool.specs.Lending.{LendsSector, EndsKept};
+
+    /// A pool over a store, which comes back where memory is refused.
+    pub fn new(alloc: Global, store: S) -> Result<Self, AllocFailed<S>>
+        ensures contents { IfOk result (λ pool. pool.contents ≡ S.contents store) }
+        ensures stored { IfOk result (λ pool. pool.stored ≡ S.contents store) }
+        ensures failures { IfOk result (λ pool. pool.failures ≡ S.failures store) }
+        ensures value_returned { IfErr result (λ refused. refused.value ≡ store) }
+    {
+        match Buffers::new(alloc) {
+            Ok(buffers) => Ok(Pool { store, buffers }),
+            Err(_) => Err(AllocFailed { value: store }),
+        }
+    }
+
+    /// Sector `n`. The contents stay, refused or not.
+    pub fn sector(&mut self, n: u16) -> Result<&[u8; 256], PoolFault>
+        ensures* keeps { sem 𝓛 (EndsKept S.row S.PackStore self.entry result) }
+        ensures value { IfOk result (λ bytes. slice_get self.old.contents n ≡ Some bytes.now) }
+        ensures no_sector { (IsErrOf result PoolFault.NoSector) ↔ (length self.old.contents ≤ n) }
+    {
+        if n >= self.store.sectors() {
+            return Err(PoolFault::NoSector);
+        }
+        load(&mut self.store, &mut self.buffers, n)?;
+        Ok(self.buffers.bytes(n))
+    }
+
+    /// Sector `n` to write to. The other sectors stay, and refused, all do.
+    pub fn sector_mut(&mut self, n: u16) -> Result<&mut [u8; 256], PoolFault>
+        ensures* writes_back { sem 𝓛 (LendsSector S.row S.PackStore self.entry n result) }
+        ensures value { IfOk result (λ bytes. slice_get self.old.contents n ≡ Some bytes.now) }
+        ensures no_sector { (IsErrOf result PoolFault.NoSector) ↔ (length self.old.contents ≤ n) }
+    {
+        if n >= self.store.sectors() {
+            return Err(PoolFault::NoSector);
+        }
+        load(&mut self.store, &mut self.buffers, n)?;
+        Ok(self.buffers.bytes_mut(n))
+    }
+
+    /// Has the store hold the contents. Afterwards no sector is in memory.
+    pub fn flush(&mut self) -> Result<(), PoolFault>
+        ensures flushed { OnOk result (self.new.stored ≡ self.old.contents) }
+        ensures keeps { KeepsContents self.old self.new }
+        ensures failures { self.new.failures ≡ self.old.failures + failed_transfers result }
+        ensures fault { IfErr result (λ fault. fault ≡ PoolFault.Device) }
+    {
+        give_up_all(&mut self.store, &mut self.buffers)?;
+        Ok(())
+    }
+
+    /// The store as it stands: what was not flushed is lost.
+    pub fn into_store(self) -> S
+        ensures contents { S.contents result ≡ self.stored }
+        ensures failures { S.failures result ≡ self.failures }
+    {
+        let Pool { store, buffers: _ } = self;
+        store
+    }
+}
+
+impl<S: PackStore> Sectors for Pool<S> {
+    ghost state = { λ pool. pool };
+
+    fn sectors(&self) -> u16 {
+        self.store.sectors()
+    }
+
+    fn read_sector(&mut self, n: u16, bytes: &mut [u8; 256]) -> Result<(), PoolFault> {
+        let sector = self.sector(n)?;
+        *bytes = *sector;
+        Ok(())
+    }
+
+    fn write_sector(&mut self, n: u16, bytes: &[u8; 256]) -> Result<(), PoolFault> {
+        let sector = self.sector_mut(n)?;
+        *sector = *bytes;
+        Ok(())
+    }
+}

@@ -1,0 +1,3 @@
+pub mod Chunks
+pub mod Frames
+pub mod SectorLists

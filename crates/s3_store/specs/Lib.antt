@@ -1,0 +1,4 @@
+pub mod Contents
+pub mod Failures
+pub mod Fuse
+pub mod State

@@ -1,0 +1,39 @@
+//! A store of sectors, by what it contains and how often it has failed.
+ghost use Rattle.std.specs.Prelude.{◌≡◌, ◌+◌, ◌<◌, ℕ, List, length, slice_get, slice_set, Some, OnOk, OnErr};
+ghost use Rattle.s3_store.specs.Failures.{failed_calls};
+
+use thiserror::Error;
+
+/// A transfer failed.
+#[derive(Clone, Copy, Debug, PartialEq, Eq, Error)]
+#[error("a transfer failed")]
+pub struct StoreFault;
+
+/// Sectors of 256 bytes on some device, numbered from 0.
+///
+/// A call that fails has changed no sector.
+pub trait PackStore {
+    /// The sectors, each as a read would give it.
+    ghost contents: { Self → List (List ℕ) };
+
+    /// How many calls have failed.
+    ghost failures: { Self → ℕ };
+
+    /// How many sectors there are, which never changes.
+    fn sectors(&self) -> u16
+        ensures { result ≡ length (contents self.now) };
+
+    /// Reads sector `n`.
+    fn read(&mut self, n: u16, bytes: &mut [u8; 256]) -> Result<(), StoreFault>
+        requires { n < length (contents self.old) }
+        ensures ok { OnOk result (slice_get (contents self.old) n ≡ Some bytes.new) }
+        ensures contents { contents self.new ≡ contents self.old }
+        ensures failures { failures self.new ≡ failures self.old + failed_calls result };
+
+    /// Sets sector `n`.
+    fn write(&mut self, n: u16, bytes: &[u8; 256]) -> Result<(), StoreFault>
+        requires { n < length (contents self.old) }
+        ensures ok { OnOk result (contents self.new ≡ slice_set (contents self.old) n bytes.now) }
+        ensures err { OnErr result (contents self.new ≡ contents self.old) }
+        ensures failures { failures self.new ≡ failures self.old + failed_calls result };
+}

@@ -1,0 +1,53 @@
+//! What the layers above see: one list of sectors, over a store or over a pool.
+ghost use Rattle.std.specs.Prelude.{◌≡◌, ◌≢◌, ◌<◌, ◌+◌, ℕ, List, length, slice_get, slice_set, Some, OnOk, OnErr, IfErr};
+ghost use Rattle.s3_store.specs.State.{PoolState, KeepsContents, ChangesWithin};
+ghost use Rattle.s3_store.specs.Failures.{failed_transfers};
+
+use crate::pack_store::PackStore;
+use crate::pool_fault::PoolFault;
+
+/// Sectors of 256 bytes, numbered from 0, over some store.
+pub trait Sectors {
+    /// The sectors, what the store itself has, and how often it has failed.
+    ghost state: { Self → PoolState };
+
+    /// How many sectors there are, which never changes.
+    fn sectors(&self) -> u16
+        ensures { result ≡ length (state self.now).contents };
+
+    /// Reads sector `n`.
+    fn read_sector(&mut self, n: u16, bytes: &mut [u8; 256]) -> Result<(), PoolFault>
+        requires { n < length (state self.old).contents }
+        ensures ok { OnOk result (slice_get (state self.old).contents n ≡ Some bytes.new) }
+        ensures keeps { KeepsContents (state self.old) (state self.new) }
+        ensures failures { (state self.new).failures ≡ (state self.old).failures + failed_transfers result }
+        ensures fault { IfErr result (λ fault. fault ≢ PoolFault.NoSector) };
+
+    /// Sets sector `n`.
+    fn write_sector(&mut self, n: u16, bytes: &[u8; 256]) -> Result<(), PoolFault>
+        requires { n < length (state self.old).contents }
+        ensures ok { OnOk result ((state self.new).contents ≡ slice_set (state self.old).contents n bytes.now) }
+        ensures err { OnErr result ((state self.new).contents ≡ (state self.old).contents) }
+        ensures within { ChangesWithin (λ i. i ≡ n) (state self.old) (state self.new) }
+        ensures failures { (state self.new).failures ≡ (state self.old).failures + failed_transfers result }
+        ensures fault { IfErr result (λ fault. fault ≢ PoolFault.NoSector) };
+}
+
+/// A store is its own list of sectors.
+impl<S: PackStore> Sectors for S {
+    ghost state = { λ s. record { contents = S.contents s; stored = S.contents s; failures = S.failures s } };
+
+    fn sectors(&self) -> u16 {
+        PackStore::sectors(self)
+    }
+
+    fn read_sector(&mut self, n: u16, bytes: &mut [u8; 256]) -> Result<(), PoolFault> {
+        self.read(n, bytes)?;
+        Ok(())
+    }
+
+    fn write_sector(&mut self, n: u16, bytes: &[u8; 256]) -> Result<(), PoolFault> {
+        self.write(n, bytes)?;
+        Ok(())
+    }
+}
