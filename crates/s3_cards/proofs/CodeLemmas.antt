@@ -50,7 +50,7 @@ mapped : {X : Type 0} (f : X → ℕ) (o : Option X) (n : ℕ) → option_map f 
 mapped f None n h = cc
 mapped f (Some x) n h = (x, refl, cc)
 
-there : (character code : ℕ) → ebcdic_of character ≡ Some code → host_of code ≡ Some character
+pub there : (character code : ℕ) → ebcdic_of character ≡ Some code → host_of code ≡ Some character
 there character code h =
     let m = mapped (λ (e : ℕ × ℕ). e.0) (find (λ e. e.1 == character) code_page) code h in
     let p = found_passes (λ (e : ℕ × ℕ). e.1 == character) (λ e. holds (host_of e.0) e.1) code_page m.0 m.1 page-back in
@@ -69,7 +69,7 @@ back character code h =
 pub both_ways : (character code : ℕ) → (ebcdic_of character ≡ Some code) ↔ (host_of code ≡ Some character)
 both_ways character code = (there character code, back character code)
 
-none_at_zero : (character : ℕ) → host_of 0 ≡ Some character → ⊥
+pub none_at_zero : (character : ℕ) → host_of 0 ≡ Some character → ⊥
 unfolding code_page
 none_at_zero character h = cc
 
@@ -78,7 +78,7 @@ unfolding code_page
 none_at_code_zero code h = cc
 
 -- what a table with 0 for none says
-some_or_none : (o : Option ℕ) → (o ≡ Some 0 → ⊥) → unwrap_or o 0 ≡ 0 → o ≡ None
+pub some_or_none : (o : Option ℕ) → (o ≡ Some 0 → ⊥) → unwrap_or o 0 ≡ 0 → o ≡ None
 some_or_none None not_zero h = refl
 some_or_none (Some n) not_zero h = absurd (not_zero (ap (λ x. Some x) h))
 
@@ -86,22 +86,23 @@ some_or_zero : (o : Option ℕ) (n : ℕ) → unwrap_or o 0 ≡ n → (n ≡ 0 �
 some_or_zero None n h not_zero = absurd (not_zero (sym h))
 some_or_zero (Some m) n h not_zero = ap (λ x. Some x) h
 
-code_of_byte : (byte : ℕ) → byte < 256 → get_or codes_of_bytes byte 0 ≡ unwrap_or (ebcdic_of byte) 0
+pub its_code_or_zero : (byte : ℕ) → byte < 256 → get_or codes_of_bytes byte 0 ≡ unwrap_or (ebcdic_of byte) 0
 unfolding codes_of_bytes
-code_of_byte byte small = get_or-map-range_with_len (λ byte. unwrap_or (ebcdic_of byte) 0) 0 256 byte byte 0 small (omega arith)
+its_code_or_zero byte small = get_or-map-range_with_len (λ byte. unwrap_or (ebcdic_of byte) 0) 0 256 byte byte 0 small (omega arith)
 
 host_of_code : (code : ℕ) → code < 256 → get_or hosts_of_codes code 0 ≡ unwrap_or (host_of code) 0
 unfolding hosts_of_codes
 host_of_code code small = get_or-map-range_with_len (λ code. unwrap_or (host_of code) 0) 0 256 code code 0 small (omega arith)
 
--- the table has 0 where a byte has no code, and else the code
-pub no_code : (byte : ℕ) → byte < 256 → get_or codes_of_bytes byte 0 ≡ 0 → ebcdic_of byte ≡ None
-no_code byte small zero' =
-    some_or_none (ebcdic_of byte) (λ h. none_at_zero byte (there byte 0 h)) (sym (code_of_byte byte small) ∙ zero')
+-- no character has the code 0
+pub not_code_zero : (byte : ℕ) → ebcdic_of byte ≡ Some 0 → ⊥
+not_code_zero byte h = none_at_zero byte (there byte 0 h)
 
-pub its_code : (byte code : ℕ) → byte < 256 → get_or codes_of_bytes byte 0 ≡ code → code ≢ 0 → ebcdic_of byte ≡ Some code
-its_code byte code small e not_zero =
-    some_or_zero (ebcdic_of byte) code (sym (code_of_byte byte small) ∙ e) not_zero
+pub no_code : (byte : ℕ) → unwrap_or (ebcdic_of byte) 0 ≡ 0 → ebcdic_of byte ≡ None
+no_code byte zero' = some_or_none (ebcdic_of byte) (not_code_zero byte) zero'
+
+pub its_code : (byte code : ℕ) → unwrap_or (ebcdic_of byte) 0 ≡ code → code ≢ 0 → ebcdic_of byte ≡ Some code
+its_code byte code e not_zero = some_or_zero (ebcdic_of byte) code e not_zero
 
 pub no_host : (code : ℕ) → code < 256 → get_or hosts_of_codes code 0 ≡ 0 → host_of code ≡ None
 no_host code small zero' =

@@ -1,18 +1,20 @@
 -- Lemmas on decks.
-use Rattle.std.proofs.Common.{◌≡◌, ℕ, ◌+◌, ◌-◌, ◌<◌, ◌≤◌, List, [], ◌∷◌, ◌++◌, Bool, true, false, cond, refl, sym, ◌∙◌, ap, arith, subst, inl, inr, length, take, drop, replicate, ltb-true, le-ltb, lt-ltb, add-zero, append_assoc, length-append, suc, get_or, set}
-use Rattle.std.specs.Prelude.{Option, Some, None, unwrap_or, Ok, Err, ◌==◌, map, position, nat_lt}
+use Rattle.std.proofs.Common.{◌≡◌, ℕ, ◌+◌, ◌-◌, ◌<◌, ◌≤◌, List, [], ◌∷◌, ◌++◌, Bool, true, false, cond, refl, sym, ◌∙◌, ap, arith, subst, inl, inr, length, take, drop, replicate, ltb-true, zero, eqb-true, eq-eqb, le-ltb, lt-ltb, add-zero, append_assoc, length-append, suc, get_or, set}
+use Rattle.std.specs.Prelude.{Option, Some, None, unwrap_or, is_some, Ok, Err, ◌==◌, ◌&&◌, map, position, nat_lt}
 use Rattle.std.specs.List.{list_all, slice_split, position_or_len}
 use Rattle.std.specs.Option.{option_map, option_or}
 use Rattle.std.specs.Str.Lines.{lines, lines_of_parts, strip_carriage_return}
 use Rattle.std.proofs.lemmas.Bool.{cases_lt}
 use Rattle.std.proofs.lemmas.Option.{cond_some}
-use Rattle.std.proofs.lemmas.List.{take-append-le, take_all, length-map, map-append, append-nil, take_more, set-append_right, length-take-le}
+use Rattle.std.proofs.lemmas.List.{take-append-le, take_all, length-map, map-append, append-nil, take_more, set-append_right, length-take-le, length-replicate, get_or-replicate}
 use Rattle.std.proofs.lemmas.List.Folds.{list_all_more}
-use Rattle.std.proofs.lemmas.List.Sums.{fails_before_first}
+use Rattle.std.proofs.lemmas.List.Sums.{fails_before_first, position_or_len_is}
 use Rattle.std.proofs.Math.Seq.{take-append-add}
 use Rattle.std.proofs.lemmas.List.Splits.{slice_split_first, length-slice_split, slice_split_none}
-use Rattle.s3_cards.specs.Deck.{fault_of, fault_from, cards_of, card_of, has_code}
+use Rattle.s3_cards.specs.Deck.{fault_of, fault_from, cards_of, card_of, has_code, codes_and_blanks}
+use Rattle.memchr.specs.Find.{IsFirstByte, is_byte}
 use Rattle.s3_cards.specs.Codes.{ebcdic_of}
+use Rattle.s3_cards.proofs.CodeLemmas.{no_code}
 use Rattle.s3_cards.specs.declared.deck.CardFault.{CardFault}
 use Rattle.s3_cards.specs.declared.deck.CardFault.TheVariants.{TooMany}
 use Rattle.s3_cards.specs.declared.deck.DeckFault.TheVariants.{At}
@@ -120,19 +122,19 @@ all_read cards all so_far =
     let more : nat_lt 9999 (length all) ≡ false = le-ltb _ _ (omega (arith, ap length whole)) in
     rw (e, more) (ap Ok (ap (map card_of) whole ∙ sym so_far.spelled))
 
+-- the code of a byte, and 0 where it has none
 abbrev code : ℕ → ℕ
-code character = unwrap_or (ebcdic_of character) 0x40
+code byte = unwrap_or (ebcdic_of byte) 0
 
--- one more character of a card
-pub character_more : (line card : List ℕ) (i b : ℕ) → i < length line → length line ≤ 96 → card ≡ map code (take i line) ++ replicate (96 - i) 0x40
-    → ebcdic_of (get_or line i 0) ≡ Some b → set card i b ≡ map code (take (i + 1) line) ++ replicate (96 - (i + 1)) 0x40
-character_more line card i b in' short so_far known =
+-- one more byte of a line
+pub byte_more : (line card : List ℕ) (i b : ℕ) → i < length line → length line ≤ 96 → card ≡ map code (take i line) ++ replicate (96 - i) 0x40
+    → code (get_or line i 0) ≡ b → set card i b ≡ map code (take (i + 1) line) ++ replicate (96 - (i + 1)) 0x40
+byte_more line card i b in' short so_far is_code =
     let k : ℕ = 96 - (i + 1) in
     let e : 96 - i ≡ suc k = omega arith in
     let n : length (map code (take i line)) ≡ i = length-map (take i line) code ∙ length-take-le i line (omega arith) in
     let zero' : i - i ≡ 0 = omega arith in
     let tail : set (replicate (96 - i) 0x40) (i - i) b ≡ b ∷ replicate k 0x40 = rw (zero', e) refl in
-    let is_code : code (get_or line i 0) ≡ b = rw known refl in
     let front : map code (take (i + 1) line) ≡ map code (take i line) ++ b ∷ [] =
     ap (map code) (take_more line i 0 in') ∙ (map-append code (take i line) (get_or line i 0 ∷ []) ∙ ap (λ x. map code (take i line) ++ x ∷ []) is_code) in
     ap (λ x. set x i b) so_far
@@ -140,9 +142,37 @@ character_more line card i b in' short so_far known =
     ∙ (ap (λ x. map code (take i line) ++ x) tail
     ∙ (sym (append_assoc (map code (take i line)) (b ∷ []) (replicate k 0x40)) ∙ sym (ap (λ x. x ++ replicate k 0x40) front))))
 
-pub known_more : (line : List ℕ) (i b : ℕ) → i < length line → list_all has_code (take i line) ≡ true → ebcdic_of (get_or line i 0) ≡ Some b → list_all has_code (take (i + 1) line) ≡ true
-known_more line i b in' so_far known =
-    list_all_more has_code line i 0 in' ∙ (rw (so_far, known) refl)
+not_true : (b : Bool) → (b ≡ true → ⊥) → b ≡ false
+not_true true h = absurd (h refl)
+not_true false h = refl
+
+place_where : (test : ℕ → Bool) (w : List ℕ) (i : ℕ) → i ≤ length w → ((k : ℕ) → k < i → test (get_or w k 0) ≡ false) → (i < length w → test (get_or w i 0) ≡ true)
+    → position test w ≡ cond (nat_lt i (length w)) (Some i) None
+place_where test w i within before at =
+    ap (λ (n : ℕ). cond (nat_lt n (length w)) (Some n) None) (position_or_len_is test w i 0 within before at)
+
+-- the first place by a search is the first place by recursion
+pub first_place : (byte : ℕ) (w : List ℕ) (r : Option ℕ) → IsFirstByte (is_byte byte) w r → r ≡ position (λ x. x == byte) w
+first_place byte w None nowhere =
+    sym (place_where (is_byte byte) w (length w) (omega arith) (λ k below. not_true _ (nowhere k (omega arith) below)) (λ h. absurd (omega arith))
+    ∙ ap (λ (b : Bool). cond b (Some (length w)) None) (le-ltb (length w) (length w) (omega arith)))
+first_place byte w (Some i) found =
+    sym (place_where (is_byte byte) w i (omega (arith, found.0.high)) (λ k below. not_true _ (found.0.before k (omega arith) below)) (λ h. found.1)
+    ∙ ap (λ (b : Bool). cond b (Some i) None) (lt-ltb i (length w) found.0.high))
+
+-- what has no 0 has a code in each place
+clean : (line blanks : List ℕ) → ((k : ℕ) → k < length (map code line ++ blanks) → get_or (map code line ++ blanks) k 0 ≡ 0 → ⊥)
+    → (list_all has_code line ≡ true) × (map code line ≡ map (λ byte. unwrap_or (ebcdic_of byte) 0x40) line)
+clean [] blanks h = (refl, refl)
+clean (x ∷ line) blanks h =
+    let more = clean line blanks (λ k below e. h (suc k) (omega arith) e) in
+    let here : code x ≡ 0 → ⊥ = h 0 (omega arith) in
+    go (ebcdic_of x) here more
+  where
+    go : (o : Option ℕ) → (unwrap_or o 0 ≡ 0 → ⊥) → (list_all has_code line ≡ true) × (map code line ≡ map (λ byte. unwrap_or (ebcdic_of byte) 0x40) line)
+        → ((is_some o && list_all has_code line) ≡ true) × (unwrap_or o 0 ∷ map code line ≡ unwrap_or o 0x40 ∷ map (λ byte. unwrap_or (ebcdic_of byte) 0x40) line)
+    go None here more = absurd (here refl)
+    go (Some c) here more = (more.0, ap (λ xs. c ∷ xs) more.1)
 
 -- the same three, where an equation says what is left
 pub fault_at : (cards all left after : List (List ℕ)) (line : List ℕ) (fault : CardFault) → ReadSoFar cards all left → left ≡ line ∷ after → length cards < 9999 → fault_of line ≡ Some fault → cards_of all ≡ Err (At (length cards + 1) fault)
@@ -156,3 +186,37 @@ all_read_at cards all left so_far e = all_read cards all (subst (λ (x : List (L
 
 pub lines_after_newline : (w line after : List ℕ) (end : ℕ) → position is_newline w ≡ Some end → line ≡ strip_carriage_return (take end w) → after ≡ drop (end + 1) w → lines w ≡ line ∷ lines after
 lines_after_newline w line after end h e f = rw (e, f) (lines_at_newline w end h)
+
+no_zero : (card : List ℕ) → IsFirstByte (is_byte 0) card None → (k : ℕ) → k < length card → get_or card k 0 ≡ 0 → ⊥
+no_zero card nowhere k below e = nowhere k (omega arith) below (eq-eqb _ _ e)
+
+clean_codes : (line card : List ℕ) → card ≡ codes_and_blanks line → IsFirstByte (is_byte 0) card None
+    → (list_all has_code line ≡ true) × (map code line ≡ map (λ byte. unwrap_or (ebcdic_of byte) 0x40) line)
+clean_codes line card is nowhere =
+    clean line (replicate (96 - length line) 0x40) (no_zero _ (subst (λ (x : List ℕ). IsFirstByte (is_byte 0) x None) is nowhere))
+
+-- a line whose codes have no 0 has no bad character, and they are its card
+pub clean_line : (line card : List ℕ) → card ≡ codes_and_blanks line → IsFirstByte (is_byte 0) card None → list_all has_code line ≡ true
+clean_line line card is nowhere = (clean_codes line card is nowhere).0
+
+pub clean_card : (line card : List ℕ) → card ≡ codes_and_blanks line → IsFirstByte (is_byte 0) card None → card ≡ card_of line
+unfolding card_of
+clean_card line card is nowhere =
+    is ∙ ap (λ x. x ++ replicate (96 - length line) 0x40) (clean_codes line card is nowhere).1
+
+and_false : (b : Bool) → (b && false) ≡ false
+and_false true = refl
+and_false false = refl
+
+spoiled : (line : List ℕ) (n k : ℕ) → k < length line + n → get_or (map code line ++ replicate n 0x40) k 0 ≡ 0 → list_all has_code line ≡ false
+spoiled [] n k below e = absurd (omega (arith, e, get_or-replicate {A = ℕ} n k 0x40 0 (let b : k < n = omega arith in b)))
+spoiled (x ∷ line) n zero below e = rw (no_code x e) refl
+spoiled (x ∷ line) n (suc k) below e = rw (spoiled line n k (omega arith) e) (and_false (has_code x))
+
+-- a line whose codes have a 0 has a bad character
+pub spoiled_line : (line card : List ℕ) (k : ℕ) → length line ≤ 96 → card ≡ codes_and_blanks line → IsFirstByte (is_byte 0) card (Some k) → list_all has_code line ≡ false
+spoiled_line line card k short is found =
+    let at : IsFirstByte (is_byte 0) (codes_and_blanks line) (Some k) = subst (λ (x : List ℕ). IsFirstByte (is_byte 0) x (Some k)) is found in
+    spoiled line (96 - length line) k
+    (omega (arith, at.0.high, length-append (map code line) (replicate (96 - length line) 0x40), length-map line code, length-replicate {A = ℕ} (96 - length line) 0x40))
+    (eqb-true _ _ at.1)

@@ -21,6 +21,10 @@ fault_of line = if nat_lt 96 (length line) then Some TooWide else if list_all ha
 unfoldable pub card_of : List ℕ → List ℕ
 card_of line = map (λ character. unwrap_or (ebcdic_of character) 0x40) line ++ replicate (96 - length line) 0x40
 
+-- the codes of the bytes of a line, 0 for each that has none, and blanks up to column 96
+abbrev pub codes_and_blanks : List ℕ → List ℕ
+codes_and_blanks line = map (λ byte. unwrap_or (ebcdic_of byte) 0) line ++ replicate (96 - length line) 0x40
+
 -- the first fault in a list of lines whose first one is card n
 abbrev pub fault_from : ℕ → List (List ℕ) → Option DeckFault
 fault_from n [] = None

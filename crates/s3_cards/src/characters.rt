@@ -56,13 +56,22 @@ fn hosts() -> &'static [u8; 256]
     &HOSTS
 }
 
+/// The EBCDIC code of a byte of a text, or 0 where the byte is no card character.
+#[inline]
+#[tactic(auto, using(crate::proofs::CodeLemmas::its_code_or_zero))]
+pub(crate) fn code_or_zero(byte: u8) -> u8
+    ensures { result ≡ unwrap_or (ebcdic_of byte) 0 }
+{
+    codes()[byte as usize]
+}
+
 /// The EBCDIC code of a byte of a text, or `None` where the byte is no card character.
 #[inline]
 #[tactic(auto, using(crate::proofs::CodeLemmas::no_code, crate::proofs::CodeLemmas::its_code))]
 pub fn code_of_byte(byte: u8) -> Option<u8>
     ensures { result ≡ ebcdic_of byte }
 {
-    match codes()[byte as usize] {
+    match code_or_zero(byte) {
         0 => None,
         code => Some(code),
     }

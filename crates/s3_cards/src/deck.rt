@@ -3,16 +3,20 @@
 ghost use Rattle.std.specs.Prelude.{◌≡◌, ◌↔◌, ◌<◌, ◌≤◌, ◌∷◌, [], ℕ, List, length, IsTrue, IfOk, IfErr, MatchOption, IfSome, Ok, Err, Some, None, slice_get, position, ◌==◌};
 ghost use Rattle.std.specs.Option.{option_copied};
 ghost use Rattle.std.specs.Str.Lines.{lines, strip_carriage_return};
-ghost use Rattle.s3_cards.specs.Deck.{fault_of, card_of, deck_of, fault_code, detail_of, HasCardNumber, Gives};
+ghost use Rattle.s3_cards.specs.Deck.{fault_of, card_of, deck_of, fault_code, detail_of, HasCardNumber, Gives, codes_and_blanks};
 
-use super::code_of_byte;
+use super::characters::code_or_zero;
 use super::ebcdic::BLANK;
+use memchr::memchr;
 use std::alloc::{AllocError, AllocFailed, Global};
 use std::marker::Model;
 use thiserror::Error;
 
-/// The EBCDIC codes of the columns.
-pub type Card = [u8; 96];
+/// The columns of a card.
+pub const COLUMNS: usize = 96;
+
+/// A card: the EBCDIC codes of its columns.
+pub type Card = [u8; COLUMNS];
 
 /// The most cards of a deck.
 const MAX_CARDS: usize = 9_999;
@@ -153,30 +157,41 @@ impl Deck {
 }
 
 /// The card of a line, or its fault.
-#[tactic(auto, using(crate::proofs::DeckLemmas::character_more, crate::proofs::DeckLemmas::known_more), unfolding(crate::specs::Deck::fault_of, crate::specs::Deck::card_of))]
+#[tactic(auto, using(crate::proofs::DeckLemmas::clean_card, crate::proofs::DeckLemmas::clean_line, crate::proofs::DeckLemmas::spoiled_line), unfolding(crate::specs::Deck::fault_of, crate::specs::Deck::card_of))]
 fn card(line: &[u8]) -> Result<Card, CardFault>
     ensures ok { IfOk result (λ card. card ≡ card_of line.now) }
     ensures sound { IfOk result (λ _. fault_of line.now ≡ None) }
     ensures fault { IfErr result (λ fault. fault_of line.now ≡ Some fault) }
 {
-    if line.len() > 96 {
+    if line.len() > COLUMNS {
         return Err(CardFault::TooWide);
     }
-    let mut card = [BLANK; 96];
-    for (column, byte) in line.iter().enumerate() {
-        match code_of_byte(*byte) {
-            Some(code) => card[column] = code,
-            None => return Err(CardFault::BadCharacter),
-        }
+    let card = translated(line);
+    match memchr(0, &card) {
+        None => Ok(card),
+        Some(_) => Err(CardFault::BadCharacter),
     }
-    Ok(card)
+}
+
+/// The codes of a line's bytes, 0 for each that is no card character, and blanks behind them.
+#[tactic(auto, using(crate::proofs::DeckLemmas::byte_more))]
+fn translated(line: &[u8]) -> Card
+    requires { length line.now ≤ 96 }
+    ensures { result ≡ codes_and_blanks line.now }
+{
+    let mut card = [BLANK; COLUMNS];
+    for (column, byte) in line.iter().enumerate() {
+        card[column] = code_or_zero(*byte);
+    }
+    card
 }
 
 /// The place of the first newline.
+#[tactic(auto, using(crate::proofs::DeckLemmas::first_place))]
 fn newline(text: &[u8]) -> Option<usize>
     ensures { result ≡ position (λ byte. byte == 10) text.now }
 {
-    text.iter().position(|byte| *byte == b'\n')
+    memchr(b'\n', text)
 }
 
 /// A line less the carriage return at its end, if it has one.

@@ -6,10 +6,17 @@ use crate::number::Dec;
 use crate::scale::with_sign;
 use thiserror::Error;
 
-/// A field has a digit above 9; `number` is what it holds with its bad digits 0.
+/// The four bits of the minus sign.
+pub const MINUS: u8 = 0xd;
+
+/// The four bits of the plus sign as it is written; read, all others than those of the minus sign are plus.
+pub const PLUS: u8 = 0xf;
+
+/// A field has a digit above 9.
 #[derive(Clone, Copy, Debug, PartialEq, Eq, Error)]
 #[error("a digit is above 9")]
 pub struct BadDigit {
+    /// What the field holds with its bad digits 0.
     pub number: Dec,
 }
 
@@ -21,6 +28,7 @@ pub struct Reading {
 }
 
 impl Reading {
+    /// Reads one digit more, 0 for one above 9.
     pub fn push(&mut self, digit: u8)
         requires { self.old.magnitude < 10 ^ 15 }
         ensures magnitude { self.new.magnitude ≡ self.old.magnitude * 10 + cleaned digit }
@@ -34,6 +42,7 @@ impl Reading {
         }
     }
 
+    /// The field's number, of this sign and shape.
     pub fn finish(self, negative: bool, digits: u8, decimals: u8) -> Result<Dec, BadDigit>
         requires has_digits { 1 ≤ digits }
         requires within_longest { digits ≤ 15 }

@@ -4,7 +4,7 @@ ghost use Rattle.s3_decimal.specs.declared.rounding.Rounding.TheVariants.{Trunca
 
 use crate::number::{Dec, Form};
 use crate::rounding::Rounding;
-use crate::scale::{kept, magnitude_at, store, wide_with_sign};
+use crate::scale::{kept, magnitude_at, store, whole_units, wide_with_sign};
 use thiserror::Error;
 
 /// The divisor is zero.
@@ -15,7 +15,9 @@ pub struct ZeroDivisor;
 /// What a division gives.
 #[derive(Clone, Copy, Debug, PartialEq, Eq)]
 pub struct Division {
+    /// The quotient as its field keeps it.
     pub quotient: Dec,
+    /// What the quotient, cut to its decimals, leaves of the dividend, as its own field keeps it.
     pub remainder: Dec,
 }
 
@@ -49,10 +51,7 @@ pub fn div_mvr(
     }
     let parts = magnitude_at(dividend, divisor.decimals + quotient.decimals);
     let unit = magnitude_at(divisor, dividend.decimals);
-    let count = match rounding {
-        Rounding::Truncate => parts / unit,
-        Rounding::HalfAdjust => (2 * parts + unit) / (2 * unit),
-    };
+    let count = whole_units(parts, unit, rounding);
     let negative = dividend.is_negative() != divisor.is_negative();
     let left = wide_with_sign(dividend.is_negative(), parts % unit);
     let decimals = dividend.decimals + divisor.decimals + quotient.decimals;

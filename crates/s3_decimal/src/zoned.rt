@@ -1,9 +1,26 @@
-ghost use Rattle.std.specs.Prelude.{◌≡◌, ◌≤◌, length, unsigned_abs, IfOk, IfErr, is_err, false};
+ghost use Rattle.std.specs.Prelude.{◌≡◌, ◌^◌, ◌<◌, ◌≤◌, length, map, unsigned_abs, IfOk, IfErr, is_err, false};
 ghost use Rattle.s3_decimal.specs.Exact.{is_negative};
-ghost use Rattle.s3_decimal.specs.Records.{has_bad_digit, zone_at, zoned_bytes, zoned_digits, zoned_number};
+ghost use Rattle.s3_decimal.specs.Records.{cleaned, has_bad_digit, number_of, zone_at, zoned_bytes, zoned_digits, zoned_number};
 
-use crate::digits::{BadDigit, Reading};
+use crate::digits::{BadDigit, MINUS, Reading};
 use crate::number::Dec;
+
+/// Reads the digits of at most 15 zoned bytes.
+pub fn digits_of(bytes: &[u8]) -> Reading
+    requires { length bytes.now ≤ 15 }
+    ensures magnitude { result.magnitude ≡ number_of (map cleaned (zoned_digits bytes.now)) }
+    ensures bad { result.bad ≡ has_bad_digit (zoned_digits bytes.now) }
+    ensures bound { result.magnitude < 10 ^ length bytes.now }
+{
+    let mut reading = Reading {
+        magnitude: 0,
+        bad: false,
+    };
+    for byte in bytes {
+        reading.push(byte % 16);
+    }
+    reading
+}
 
 /// Reads a zoned field of 1 to 15 bytes: one digit in the low four bits of each, minus where the high four bits of
 /// the last are D, with any other zone plus. A blank is digit 0. `BadDigit` where a digit is above 9.
@@ -18,17 +35,11 @@ pub fn zoned_read(bytes: &[u8], decimals: u8) -> Result<Dec, BadDigit>
     ensures bad { IfErr result (λ e. (e.number.value ≡ zoned_number bytes.now)
         × (e.number.digits ≡ length bytes.now) × (e.number.decimals ≡ decimals)) }
 {
-    let mut reading = Reading {
-        magnitude: 0,
-        bad: false,
-    };
-    for byte in bytes {
-        reading.push(byte % 16);
-    }
-    let negative = bytes[bytes.len() - 1] / 16 == 0xd;
-    reading.finish(negative, bytes.len() as u8, decimals)
+    let negative = bytes[bytes.len() - 1] / 16 == MINUS;
+    digits_of(bytes).finish(negative, bytes.len() as u8, decimals)
 }
 
+/// The high four bits of the byte at a place, from the right.
 fn zone(negative: bool, place: usize) -> u8
     ensures { result ≡ zone_at negative place }
 {

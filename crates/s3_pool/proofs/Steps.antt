@@ -1,5 +1,5 @@
 -- What each step of a pool keeps.
-use Rattle.std.proofs.Common.{◌≡◌, ◌≢◌, ℕ, zero, suc, ◌+◌, ◌-◌, ◌<◌, ◌≤◌, true, false, List, [], ◌∷◌, ◌++◌, length, take, slice_get, slice_set, Option, Result, Some, None, IsSome, IsSomeAnd, is_some, nat_eq, Contains, refl, sym, ap, ◌∙◌, subst, arith, length-set, take_all, ◌⊎◌, inl, inr}
+use Rattle.std.proofs.Common.{◌≡◌, ◌≢◌, ℕ, zero, suc, ◌+◌, ◌-◌, ◌<◌, ◌≤◌, true, false, List, [], ◌∷◌, ◌++◌, length, take, slice_get, slice_set, Option, Result, Ok, Err, IsErrOf, ◌↔◌, Some, None, IsSome, IsSomeAnd, is_some, nat_eq, Contains, refl, sym, ap, ◌∙◌, subst, arith, length-set, take_all, ◌⊎◌, inl, inr}
 use Rattle.std.proofs.lemmas.Bool.{eqb-true, eq-eqb}
 use Rattle.std.proofs.lemmas.Bool.Decides.{eqb_tells}
 use Rattle.std.proofs.lemmas.List.Elements.{Contains-append_right}
@@ -10,6 +10,7 @@ use Rattle.lru.specs.LruCache.{promoted, put_entries, lru_cache, last_entry}
 use Rattle.lru.proofs.Splits.{Contains-head, Contains-tail, Contains-cons, Contains-nil}
 use Rattle.lru.proofs.CallerLemmas.{Contains-lookup_entry, Contains-promoted, Contains-take}
 use Rattle.s3_store.specs.declared.pool_fault.PoolFault.{PoolFault}
+use Rattle.s3_store.specs.declared.pool_fault.PoolFault.TheVariants.{NoSector}
 use Rattle.s3_store.specs.Failures.{failed_transfers}
 use Rattle.s3_store.specs.State.{KeepsContents}
 use Rattle.s3_store.proofs.Frames.{keeps_trans}
@@ -17,7 +18,7 @@ use Rattle.s3_store.proofs.SectorLists.{slice_get_set_same, slice_get_set_other,
 use Rattle.s3_pool.specs.declared.buffers.Buffer.{Buffer}
 use Rattle.s3_pool.specs.declared.buffers.Buffers.{Buffers}
 use Rattle.s3_pool.specs.Buffers.{laid, IsSound, KeepsLaid, pool_state}
-use Rattle.s3_pool.specs.BufferLending.{dirty, with_bytes}
+use Rattle.s3_pool.specs.BufferLending.{dirty, with_buffer}
 use Rattle.s3_pool.specs.Lending.{ChangesSector, KeepsAll}
 use Rattle.s3_pool.proofs.Laid.{apart, length_laid, laid_promoted, laid_held, laid_missed, laid_append, laid_set_value}
 
@@ -39,12 +40,12 @@ same_length {b} {b'} {f} {f'} k = sym (length_laid f'.cache.entries b') ∙ ap l
 
 -- ---- an eviction
 
-last_holds : (P : ℕ → Type 0) (xs : List (ℕ × Buffer (List ℕ))) (k : ℕ) (f : Buffer (List ℕ)) → AllByRecursion P (keys_of (xs ++ (k, f) ∷ [])) → P k
+last_holds : (P : ℕ → Type 0) (xs : List (ℕ × Buffer)) (k : ℕ) (f : Buffer) → AllByRecursion P (keys_of (xs ++ (k, f) ∷ [])) → P k
 last_holds P [] k f h = h.0
 last_holds P (x ∷ xs) k f h = last_holds P xs k f h.1
 
 -- the last of distinct keys is another than those before it
-last_apart : (xs : List (ℕ × Buffer (List ℕ))) (k : ℕ) (f : Buffer (List ℕ)) → IsDistinct nat_eq (keys_of (xs ++ (k, f) ∷ [])) → (n : ℕ) (g : Buffer (List ℕ)) → Contains xs (n, g) → n ≢ k
+last_apart : (xs : List (ℕ × Buffer)) (k : ℕ) (f : Buffer) → IsDistinct nat_eq (keys_of (xs ++ (k, f) ∷ [])) → (n : ℕ) (g : Buffer) → Contains xs (n, g) → n ≢ k
 unfolding IsDistinct
 last_apart [] k f h n g on = absurd (Contains-nil (n, g) on)
 last_apart (x ∷ xs) k f h n g on = elim (Contains-cons x xs (n, g) on) [
@@ -52,7 +53,7 @@ last_apart (x ∷ xs) k f h n g on = elim (Contains-cons x xs (n, g) on) [
   | inr later ↦ last_apart xs k f h.1 n g later
 ]
 
-lookup_last : (xs : List (ℕ × Buffer (List ℕ))) (k : ℕ) (f : Buffer (List ℕ)) → ((n : ℕ) (g : Buffer (List ℕ)) → Contains xs (n, g) → n ≢ k) → lookup (nat_eq k) (xs ++ (k, f) ∷ []) ≡ Some f
+lookup_last : (xs : List (ℕ × Buffer)) (k : ℕ) (f : Buffer) → ((n : ℕ) (g : Buffer) → Contains xs (n, g) → n ≢ k) → lookup (nat_eq k) (xs ++ (k, f) ∷ []) ≡ Some f
 lookup_last [] k f h = let t = eq-eqb k k refl in rw t refl
 lookup_last (x ∷ xs) k f h = (elim (nat_eq k x.0) as (λ y. nat_eq k x.0 ≡ y → lookup (nat_eq k) (x ∷ (xs ++ (k, f) ∷ [])) ≡ Some f) [
   | true ↦ λ t. absurd (h x.0 x.1 (Contains-head x xs) (sym (eqb-true k x.0 t)))
@@ -67,10 +68,10 @@ take_last (y ∷ z ∷ xs) x h =
     let h' = rw less at h in
     rw less (ap (λ ys. y ∷ ys) (take_last (z ∷ xs) x h'))
 
-pub Contains_last : (es : List (ℕ × Buffer (List ℕ))) (e : ℕ × Buffer (List ℕ)) → last_entry es ≡ Some e → Contains es e
+pub Contains_last : (es : List (ℕ × Buffer)) (e : ℕ × Buffer) → last_entry es ≡ Some e → Contains es e
 Contains_last es e last = subst (λ l. Contains l e) (sym (take_last es e last)) (Contains-append_right (take (length es - 1) es) (e ∷ []) e (Contains-head e []))
 
-pub last_some : (es : List (ℕ × Buffer (List ℕ))) → 0 < length es → last_entry es ≡ None → ⊥
+pub last_some : (es : List (ℕ × Buffer)) → 0 < length es → last_entry es ≡ None → ⊥
 last_some [] h none = omega arith
 last_some (e ∷ []) h none = cc
 last_some (e ∷ f ∷ es) h none =
@@ -82,7 +83,7 @@ abbrev pub without_last : Buffers → Buffers
 without_last buffers = record { cache = lru_cache (take (length buffers.cache.entries - 1) buffers.cache.entries) buffers.cache.cap }
 
 -- the least recently used buffer goes, and the store has what it held
-pub evicted : (b : List (List ℕ)) (buffers : Buffers) (k : ℕ) (f : Buffer (List ℕ)) → last_entry buffers.cache.entries ≡ Some (k, f) → IsDistinct nat_eq (keys_of buffers.cache.entries) → IsSound b buffers → KeepsLaid b buffers (slice_set b k f.value) (without_last buffers)
+pub evicted : (b : List (List ℕ)) (buffers : Buffers) (k : ℕ) (f : Buffer) → last_entry buffers.cache.entries ≡ Some (k, f) → IsDistinct nat_eq (keys_of buffers.cache.entries) → IsSound b buffers → KeepsLaid b buffers (slice_set b k f.bytes.value) (without_last buffers)
 evicted b buffers k f last distinct s =
     let es = buffers.cache.entries in let xs = take (length es - 1) es in
     let split : es ≡ xs ++ (k, f) ∷ [] = take_last es (k, f) last in
@@ -92,20 +93,20 @@ evicted b buffers k f last distinct s =
     record {
       sound = record {
         room = s.room;
-        in_range = λ n g on. omega (arith, s.in_range n g (Contains-take (length es - 1) es (n, g) on), length-set b k f.value);
-        clean = λ n g on c. slice_get_set_other b k n f.value (apart_from n g on) ∙ s.clean n g (Contains-take (length es - 1) es (n, g) on) c;
+        in_range = λ n g on. omega (arith, s.in_range n g (Contains-take (length es - 1) es (n, g) on), length-set b k f.bytes.value);
+        clean = λ n g on c. slice_get_set_other b k n f.bytes.value (apart_from n g on) ∙ s.clean n g (Contains-take (length es - 1) es (n, g) on) c;
       };
       contents = sym (ap (λ l. laid l b) split ∙ laid_append xs (k, f) b);
       stored = record {
         each = λ i. elim (eqb_tells i k) [
-          | inl same ↦ inr (ap (λ j. slice_get (slice_set b k f.value) j) same.1 ∙ slice_get_set_same b k f.value within ∙ sym (ap (λ j. slice_get (laid es b) j) same.1 ∙ laid_held k es b f found within))
-          | inr other ↦ inl (slice_get_set_other b k i f.value other.1)
+          | inl same ↦ inr (ap (λ j. slice_get (slice_set b k f.bytes.value) j) same.1 ∙ slice_get_set_same b k f.bytes.value within ∙ sym (ap (λ j. slice_get (laid es b) j) same.1 ∙ laid_held k es b f found within))
+          | inr other ↦ inl (slice_get_set_other b k i f.bytes.value other.1)
         ];
       };
     }
 
 -- what no buffer held, none does afterwards
-pub lookup_take : (n j : ℕ) (es : List (ℕ × Buffer (List ℕ))) → lookup (nat_eq n) es ≡ None → lookup (nat_eq n) (take j es) ≡ None
+pub lookup_take : (n j : ℕ) (es : List (ℕ × Buffer)) → lookup (nat_eq n) es ≡ None → lookup (nat_eq n) (take j es) ≡ None
 lookup_take n zero es h = refl
 lookup_take n (suc j) [] h = refl
 lookup_take n (suc j) (e ∷ es) h = (elim (nat_eq n e.0) as (λ y. nat_eq n e.0 ≡ y → lookup (nat_eq n) (take (suc j) (e ∷ es)) ≡ None) [
@@ -130,52 +131,52 @@ went_first b buffers n s = record {
   stored = record { each = λ i. inl refl };
 }
 
-lookup_entry_value : (n : ℕ) (es : List (ℕ × Buffer (List ℕ))) (e : ℕ × Buffer (List ℕ)) → lookup_entry (nat_eq n) es ≡ Some e → lookup (nat_eq n) es ≡ Some e.1
+lookup_entry_value : (n : ℕ) (es : List (ℕ × Buffer)) (e : ℕ × Buffer) → lookup_entry (nat_eq n) es ≡ Some e → lookup (nat_eq n) es ≡ Some e.1
 lookup_entry_value n [] e h = cc
 lookup_entry_value n (f ∷ es) e h = (elim (nat_eq n f.0) as (λ y. nat_eq n f.0 ≡ y → lookup (nat_eq n) (f ∷ es) ≡ Some e.1) [
   | true ↦ λ t. let h' = rw t at h in let same : f ≡ e = cc in rw (t, same) refl
   | false ↦ λ t. rw t (lookup_entry_value n es e (rw t at h))
 ]) refl
 
-lookup_to_front : (n : ℕ) (es : List (ℕ × Buffer (List ℕ))) (o : Option (ℕ × Buffer (List ℕ))) → lookup_entry (nat_eq n) es ≡ o → lookup (nat_eq n) (option_map_or (λ e. e ∷ remove_entry (nat_eq n) es) o es) ≡ lookup (nat_eq n) es
+lookup_to_front : (n : ℕ) (es : List (ℕ × Buffer)) (o : Option (ℕ × Buffer)) → lookup_entry (nat_eq n) es ≡ o → lookup (nat_eq n) (option_map_or (λ e. e ∷ remove_entry (nat_eq n) es) o es) ≡ lookup (nat_eq n) es
 lookup_to_front n es None h = refl
 lookup_to_front n es (Some e) h =
     let key : nat_eq n e.0 ≡ true = (Contains-lookup_entry (nat_eq n) es e h).1 in
     rw key (sym (lookup_entry_value n es e h))
 
-pub lookup_promoted : (n : ℕ) (es : List (ℕ × Buffer (List ℕ))) → lookup (nat_eq n) (promoted (nat_eq n) es) ≡ lookup (nat_eq n) es
+pub lookup_promoted : (n : ℕ) (es : List (ℕ × Buffer)) → lookup (nat_eq n) (promoted (nat_eq n) es) ≡ lookup (nat_eq n) es
 lookup_promoted n es = lookup_to_front n es (lookup_entry (nat_eq n) es) refl
 
-pub some_is : (o : Option (Buffer (List ℕ))) → is_some o ≡ true → IsSome o
+pub some_is : (o : Option Buffer) → is_some o ≡ true → IsSome o
 some_is None h = absurd cc
 some_is (Some f) h = refl
 
-pub none_is : (o : Option (Buffer (List ℕ))) → is_some o ≡ false → o ≡ None
+pub none_is : (o : Option Buffer) → is_some o ≡ false → o ≡ None
 none_is None h = refl
 none_is (Some f) h = absurd cc
 
 -- ---- a miss
 
-lookup_entry_missed : (n : ℕ) (es : List (ℕ × Buffer (List ℕ))) → lookup (nat_eq n) es ≡ None → lookup_entry (nat_eq n) es ≡ None
+lookup_entry_missed : (n : ℕ) (es : List (ℕ × Buffer)) → lookup (nat_eq n) es ≡ None → lookup_entry (nat_eq n) es ≡ None
 lookup_entry_missed n [] h = refl
 lookup_entry_missed n (e ∷ es) h = (elim (nat_eq n e.0) as (λ y. nat_eq n e.0 ≡ y → lookup_entry (nat_eq n) (e ∷ es) ≡ None) [
   | true ↦ λ t. let h' = rw t at h in absurd cc
   | false ↦ λ t. rw t (lookup_entry_missed n es (rw t at h))
 ]) refl
 
--- the buffers with a new one for sector n, as read from the store
-abbrev pub with_read : Buffers → ℕ → List ℕ → Buffers
-with_read buffers n v = record { cache = lru_cache (put_entries nat_eq buffers.cache n (record { value = v; is_dirty = false })) buffers.cache.cap }
+-- the buffers with a new one for sector n
+abbrev pub with_new : Buffers → ℕ → Buffer → Buffers
+with_new buffers n x = record { cache = lru_cache (put_entries nat_eq buffers.cache n x) buffers.cache.cap }
 
-read_entries : (buffers : Buffers) (n : ℕ) (v : List ℕ) → lookup (nat_eq n) buffers.cache.entries ≡ None → length buffers.cache.entries < 16 → buffers.cache.cap ≡ 16 → (with_read buffers n v).cache.entries ≡ (n, record { value = v; is_dirty = false }) ∷ buffers.cache.entries
-read_entries buffers n v none short cap = rw (lookup_entry_missed n buffers.cache.entries none, cap) (ap (λ l. (n, record { value = v; is_dirty = false }) ∷ l) (take_all 15 buffers.cache.entries (omega arith)))
+new_entries : (buffers : Buffers) (n : ℕ) (x : Buffer) → lookup (nat_eq n) buffers.cache.entries ≡ None → length buffers.cache.entries < 16 → buffers.cache.cap ≡ 16 → (with_new buffers n x).cache.entries ≡ (n, x) ∷ buffers.cache.entries
+new_entries buffers n x none short cap = rw (lookup_entry_missed n buffers.cache.entries none, cap) (ap (λ l. (n, x) ∷ l) (take_all 15 buffers.cache.entries (omega arith)))
 
-pub was_read : (b : List (List ℕ)) (buffers : Buffers) (n : ℕ) (v : List ℕ) → lookup (nat_eq n) buffers.cache.entries ≡ None → length buffers.cache.entries < 16 → slice_get b n ≡ Some v → n < length b → IsSound b buffers → KeepsLaid b buffers b (with_read buffers n v)
-was_read b buffers n v none short is within s =
+-- a new buffer has what the store has
+pub was_read : (b : List (List ℕ)) (buffers : Buffers) (n : ℕ) (x : Buffer) → lookup (nat_eq n) buffers.cache.entries ≡ None → length buffers.cache.entries < 16 → slice_get b n ≡ Some x.bytes.value → n < length b → IsSound b buffers → KeepsLaid b buffers b (with_new buffers n x)
+was_read b buffers n x none short is within s =
     let es = buffers.cache.entries in
-    let new : Buffer (List ℕ) = record { value = v; is_dirty = false } in
-    let entries : (with_read buffers n v).cache.entries ≡ (n, new) ∷ es = read_entries buffers n v none short s.room in
-    let either = λ (k : ℕ) (g : Buffer (List ℕ)) (on : Contains (with_read buffers n v).cache.entries (k, g)). Contains-cons (n, new) es (k, g) (subst (λ l. Contains l (k, g)) entries on) in
+    let entries : (with_new buffers n x).cache.entries ≡ (n, x) ∷ es = new_entries buffers n x none short s.room in
+    let either = λ (k : ℕ) (g : Buffer) (on : Contains (with_new buffers n x).cache.entries (k, g)). Contains-cons (n, x) es (k, g) (subst (λ l. Contains l (k, g)) entries on) in
     record {
       sound = record {
         room = s.room;
@@ -184,19 +185,19 @@ was_read b buffers n v none short is within s =
           | inr old ↦ s.in_range k g old
         ];
         clean = λ k g on c. elim (either k g on) [
-          | inl same ↦ subst (λ p. slice_get b p.0 ≡ Some p.1.value) same is
+          | inl same ↦ subst (λ p. slice_get b p.0 ≡ Some p.1.bytes.value) same is
           | inr old ↦ s.clean k g old c
         ];
       };
-      contents = ap (λ l. laid l b) entries ∙ slice_set_known (laid es b) n v (laid_missed n es b none ∙ is);
+      contents = ap (λ l. laid l b) entries ∙ slice_set_known (laid es b) n x.bytes.value (laid_missed n es b none ∙ is);
       stored = record { each = λ i. inl refl };
     }
 
 -- ---- what is lent
 
-Contains_set_value : (n : ℕ) (es : List (ℕ × Buffer (List ℕ))) (w : Buffer (List ℕ)) (k : ℕ) (g : Buffer (List ℕ)) → Contains (set_value (nat_eq n) es w) (k, g) → Contains es (k, g) ⊎ ((g ≡ w) × ((h : Buffer (List ℕ)) × Contains es (k, h)))
+Contains_set_value : (n : ℕ) (es : List (ℕ × Buffer)) (w : Buffer) (k : ℕ) (g : Buffer) → Contains (set_value (nat_eq n) es w) (k, g) → Contains es (k, g) ⊎ ((g ≡ w) × ((h : Buffer) × Contains es (k, h)))
 Contains_set_value n [] w k g on = inl on
-Contains_set_value n (e ∷ es) w k g on = (elim (nat_eq n e.0) as (λ y. nat_eq n e.0 ≡ y → Contains (e ∷ es) (k, g) ⊎ ((g ≡ w) × ((h : Buffer (List ℕ)) × Contains (e ∷ es) (k, h)))) [
+Contains_set_value n (e ∷ es) w k g on = (elim (nat_eq n e.0) as (λ y. nat_eq n e.0 ≡ y → Contains (e ∷ es) (k, g) ⊎ ((g ≡ w) × ((h : Buffer) × Contains (e ∷ es) (k, h)))) [
   | true ↦ λ t. elim (Contains-cons (e.0, w) es (k, g) (rw t at on)) [
     | inl same ↦ inr (sym (ap (λ p. p.1) same), (e.1, subst (λ j. Contains (e ∷ es) (j, e.1)) (ap (λ p. p.0) same) (Contains-head e es)))
     | inr old ↦ inl (Contains-tail e es (k, g) old)
@@ -210,44 +211,48 @@ Contains_set_value n (e ∷ es) w k g on = (elim (nat_eq n e.0) as (λ y. nat_eq
   ]
 ]) refl
 
-pub written_sound : (b : List (List ℕ)) (buffers : Buffers) (n : ℕ) (w : List ℕ) → IsSound b buffers → IsSound b (with_bytes buffers n w)
-written_sound b buffers n w s = record {
+pub written_sound : (b : List (List ℕ)) (buffers : Buffers) (n : ℕ) (x : Buffer) (w : List ℕ) → IsSound b buffers → IsSound b (with_buffer buffers n (dirty x w))
+written_sound b buffers n x w s = record {
   room = s.room;
-  in_range = λ k g on. elim (Contains_set_value n buffers.cache.entries (dirty w) k g on) [
+  in_range = λ k g on. elim (Contains_set_value n buffers.cache.entries (dirty x w) k g on) [
     | inl old ↦ s.in_range k g old
     | inr is ↦ s.in_range k is.1.0 is.1.1
   ];
-  clean = λ k g on c. elim (Contains_set_value n buffers.cache.entries (dirty w) k g on) [
+  clean = λ k g on c. elim (Contains_set_value n buffers.cache.entries (dirty x w) k g on) [
     | inl old ↦ s.clean k g old c
     | inr is ↦ let is_dirty : g.is_dirty ≡ true = ap (λ f. f.is_dirty) is.0 in absurd cc
   ];
 }
 
-pub written : {b b' : List (List ℕ)} {f f' : Buffers} (m m' : ℕ) (n : ℕ) (w : List ℕ) → KeepsLaid b f b' f' → m' ≡ m → IsSome (lookup (nat_eq n) f'.cache.entries) → ChangesSector n (pool_state b m f) (pool_state b' m' (with_bytes f' n w)) w
-written {b} {b'} {f} {f'} m m' n w keeps same held = record {
-  contents = laid_set_value n f'.cache.entries b' (dirty w) held ∙ ap (λ l. slice_set l n w) keeps.contents;
+pub written : {b b' : List (List ℕ)} {f f' : Buffers} (m m' : ℕ) (n : ℕ) (x : Buffer) (w : List ℕ) → KeepsLaid b f b' f' → m' ≡ m → IsSome (lookup (nat_eq n) f'.cache.entries) → ChangesSector n (pool_state b m f) (pool_state b' m' (with_buffer f' n (dirty x w))) w
+written {b} {b'} {f} {f'} m m' n x w keeps same held = record {
+  contents = laid_set_value n f'.cache.entries b' (dirty x w) held ∙ ap (λ l. slice_set l n w) keeps.contents;
   stored = keeps.stored;
   failures = same;
 }
 
-held_buffer : (o : Option (Buffer (List ℕ))) (v : List ℕ) → IsSomeAnd o (λ f. v ≡ f.value) → (f : Buffer (List ℕ)) × (o ≡ Some f) × (v ≡ f.value)
+held_buffer : (o : Option Buffer) (v : List ℕ) → IsSomeAnd o (λ f. v ≡ f.bytes.value) → (f : Buffer) × (o ≡ Some f) × (v ≡ f.bytes.value)
 held_buffer None v h = absurd h
 held_buffer (Some f) v h = (f, refl, h)
 
 -- what a buffer holds is the sector that was there before its load
-pub held_contents : {b b' : List (List ℕ)} {f f' : Buffers} (n : ℕ) (v : List ℕ) → KeepsLaid b f b' f' → n < length b → IsSomeAnd (lookup (nat_eq n) f'.cache.entries) (λ g. v ≡ g.value) → slice_get (laid f.cache.entries b) n ≡ Some v
-held_contents {b} {b'} {f} {f'} n v keeps within held =
+pub held_contents : {b b' : List (List ℕ)} {f f' : Buffers} (n : ℕ) (g : Buffer) → KeepsLaid b f b' f' → n < length b → lookup (nat_eq n) f'.cache.entries ≡ Some g → slice_get (laid f.cache.entries b) n ≡ Some g.bytes.value
+held_contents {b} {b'} {f} {f'} n g keeps within held =
+    ap (λ l. slice_get l n) (sym keeps.contents) ∙ laid_held n f'.cache.entries b' g held (omega (arith, within, same_length keeps))
+
+pub shown_contents : {b b' : List (List ℕ)} {f f' : Buffers} (n : ℕ) (v : List ℕ) → KeepsLaid b f b' f' → n < length b → IsSomeAnd (lookup (nat_eq n) f'.cache.entries) (λ g. v ≡ g.bytes.value) → slice_get (laid f.cache.entries b) n ≡ Some v
+shown_contents {b} {b'} {f} {f'} n v keeps within held =
     let g = held_buffer (lookup (nat_eq n) f'.cache.entries) v held in
-    ap (λ l. slice_get l n) (sym keeps.contents) ∙ laid_held n f'.cache.entries b' g.0 g.1 (omega (arith, within, same_length keeps)) ∙ ap Some (sym g.2)
+    held_contents n g.0 keeps within g.1 ∙ ap Some (sym g.2)
 
 -- ---- the ends of the calls
 
 pub kept : {b b' : List (List ℕ)} {f f' : Buffers} {T : Type 0} (m m' : ℕ) (result : Result T PoolFault) → KeepsLaid b f b' f' → m' ≡ m + failed_transfers result → KeepsAll (pool_state b m f) result (pool_state b' m' f')
 kept m m' result keeps failures = record { contents = keeps_contents m m' keeps; failures = failures }
 
--- a number below the count of the store's sectors is that of a sector
-pub below : (n count : ℕ) (b : List (List ℕ)) (f : Buffers) → count ≡ length b → n < count → length (laid f.cache.entries b) ≤ n → ⊥
-below n count b f is within past = omega (arith, length_laid f.cache.entries b)
+-- a refusal for the store's count of sectors is one for that of the contents
+pub no_sector_err : {T U : Type 0} (n : ℕ) (b : List (List ℕ)) (f : Buffers) (fault : PoolFault) → (IsErrOf {T = U} (Err fault) NoSector ↔ (length b ≤ n)) → IsErrOf {T = T} (Err fault) NoSector ↔ (length (laid f.cache.entries b) ≤ n)
+no_sector_err n b f fault h = (λ is. let past : length b ≤ n = h.0 cc in omega (arith, length_laid f.cache.entries b), λ past. let is = h.1 (omega (arith, length_laid f.cache.entries b)) in cc)
 
-pub beyond : (n count : ℕ) (b : List (List ℕ)) (f : Buffers) → count ≡ length b → count ≤ n → length (laid f.cache.entries b) ≤ n
-beyond n count b f is past = omega (arith, length_laid f.cache.entries b)
+pub no_sector_ok : {T : Type 0} (n : ℕ) (b : List (List ℕ)) (f : Buffers) (x : T) → n < length b → IsErrOf (Ok x) NoSector ↔ (length (laid f.cache.entries b) ≤ n)
+no_sector_ok n b f x within = (λ is. absurd cc, λ past. absurd (omega (arith, length_laid f.cache.entries b)))

@@ -1,6 +1,7 @@
 -- What the buffers end as, once a reference into one has ended.
 use Rattle.std.specs.Prelude.{ℕ, List, true, nat_eq}
-use Rattle.std.specs.Borrow.{Fml, RattleType, MutBor, Lends, Array, u8}
+use Rattle.std.specs.Borrow.{Fml, MutBor, Lends, Array, u8}
+use Rattle.std.specs.Box.{with_value}
 use Rattle.std.specs.Map.{set_value}
 use Rattle.lru.specs.LruCache.{lru_cache}
 use Rattle.s3_pool.specs.declared.buffers.Buffer.{Buffer}
@@ -8,24 +9,17 @@ use Rattle.s3_pool.specs.declared.buffers.Buffers.{Buffers}
 use Rattle.s3_pool.specs.contracts.buffers.Buffer as buffer
 use Rattle.s3_pool.specs.contracts.buffers.Buffers as buffers
 
--- a buffer whose value was written
-abbrev pub dirty : {T : Type 0} → T → Buffer T
-dirty value = record { value = value; is_dirty = true }
+-- a buffer after a write of its bytes
+abbrev pub dirty : Buffer → List ℕ → Buffer
+dirty b bytes = record { bytes = with_value b.bytes bytes; is_dirty = true }
 
--- the value that the caller leaves
-abbrev pub LendsValue : (T : RattleType) → MutBor (Buffer T.Denot) → MutBor T.Denot → Fml
-LendsValue T b r = Lends (buffer.the_row T) T b r (λ value. dirty value)
+-- the bytes that the caller leaves
+abbrev pub LendsBytes : MutBor Buffer → MutBor (List ℕ) → Fml
+LendsBytes b r = Lends buffer.the_row (Array u8 256) b r (dirty b.now)
 
 -- the buffers with this one in the place of sector n's
-abbrev pub with_buffer : Buffers → ℕ → Buffer (List ℕ) → Buffers
+abbrev pub with_buffer : Buffers → ℕ → Buffer → Buffers
 with_buffer s n b = record s { cache = lru_cache (set_value (nat_eq n) s.cache.entries b) s.cache.cap }
 
-abbrev pub LendsBuffer : MutBor Buffers → ℕ → MutBor (Buffer (List ℕ)) → Fml
-LendsBuffer s n r = Lends buffers.the_row (buffer.the_row (Array u8 256)) s r (with_buffer s.now n)
-
--- the buffers with the bytes that the caller leaves in sector n's
-abbrev pub with_bytes : Buffers → ℕ → List ℕ → Buffers
-with_bytes s n bytes = with_buffer s n (dirty bytes)
-
-abbrev pub LendsBytes : MutBor Buffers → ℕ → MutBor (List ℕ) → Fml
-LendsBytes s n r = Lends buffers.the_row (Array u8 256) s r (with_bytes s.now n)
+abbrev pub LendsBuffer : MutBor Buffers → ℕ → MutBor Buffer → Fml
+LendsBuffer s n r = Lends buffers.the_row buffer.the_row s r (with_buffer s.now n)

@@ -5,15 +5,15 @@ use Rattle.s3_pool.specs.declared.buffers.Buffer.{Buffer}
 use Rattle.s3_pool.specs.declared.buffers.Buffers.{Buffers}
 
 -- the sectors of a store with the buffers laid over it
-abbrev pub laid : List (ℕ × Buffer (List ℕ)) → List (List ℕ) → List (List ℕ)
+abbrev pub laid : List (ℕ × Buffer) → List (List ℕ) → List (List ℕ)
 laid [] sectors = sectors
-laid (e ∷ es) sectors = slice_set (laid es sectors) e.0 e.1.value
+laid (e ∷ es) sectors = slice_set (laid es sectors) e.0 e.1.bytes.value
 
 -- there is room for 16; each is of a sector that there is; one that isn't dirty holds what the store has
 pub record IsSound (sectors : List (List ℕ)) (buffers : Buffers) : Type 0 where
   pub room : buffers.cache.cap ≡ 16
-  pub in_range : (n : ℕ) (buffer : Buffer (List ℕ)) → Contains buffers.cache.entries (n, buffer) → n < length sectors
-  pub clean : (n : ℕ) (buffer : Buffer (List ℕ)) → Contains buffers.cache.entries (n, buffer) → buffer.is_dirty ≡ false → slice_get sectors n ≡ Some buffer.value
+  pub in_range : (n : ℕ) (buffer : Buffer) → Contains buffers.cache.entries (n, buffer) → n < length sectors
+  pub clean : (n : ℕ) (buffer : Buffer) → Contains buffers.cache.entries (n, buffer) → buffer.is_dirty ≡ false → slice_get sectors n ≡ Some buffer.bytes.value
 
 -- From a store and its buffers to a later store and buffers: what is seen stays, and each sector of the store is as it
 -- was or what is seen.

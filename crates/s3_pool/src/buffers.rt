@@ -1,39 +1,40 @@
 //! Up to 16 sectors in memory, and the transfers between them and a store.
-ghost use Rattle.std.specs.Prelude.{◌≡◌, ◌≢◌, ◌<◌, ◌+◌, ◌-◌, ℕ, [], length, slice_get, slice_set, take, Some, None, OnOk, OnErr, IfOk, IfErr, IsSome, IsSomeAnd, nat_eq, false};
+ghost use Rattle.std.specs.Prelude.{◌≡◌, ◌≢◌, ◌<◌, ◌≤◌, ◌+◌, ◌-◌, ◌↔◌, ℕ, [], length, slice_get, slice_set, take, Some, None, OnOk, OnErr, IfOk, IfErr, IsErrOf, IsSome, IsSomeAnd, nat_eq, false};
 ghost use Rattle.std.specs.Map.{lookup};
 ghost use Rattle.std.specs.Borrow.{sem};
+ghost use Rattle.lru.specs.LruCache.{IsValid};
 ghost use Rattle.s3_store.specs.Failures.{failed_calls, failed_transfers};
 ghost use Rattle.s3_pool.specs.Buffers.{IsSound, KeepsLaid};
-ghost use Rattle.s3_pool.specs.BufferLending.{LendsValue, LendsBuffer, LendsBytes};
+ghost use Rattle.s3_pool.specs.BufferLending.{LendsBytes, LendsBuffer};
 
 use lru::LruCache;
 use s3_store::{PackStore, PoolFault, StoreFault};
 use std::alloc::{AllocError, Global};
 use std::num::NonZeroUsize;
 
-/// A value in memory that stands for one in a store.
+/// A sector in memory. Its bytes have a place of their own, so that they aren't moved with it.
 #[derive(Drop)]
-pub(crate) struct Buffer<T> {
-    value: T,
-    /// Whether the store may have another value.
+pub(crate) struct Buffer {
+    bytes: Box<[u8; 256]>,
+    /// Whether the store may have other bytes.
     is_dirty: bool,
 }
 
-impl<T> Buffer<T> {
-    /// The value to write to, which is dirty from now on.
-    fn value_mut(&mut self) -> &mut T
-        ensures* writes_back { sem 𝓛 (LendsValue T.row self.entry result) }
-        ensures value { result.now ≡ self.old.value }
+impl Buffer {
+    /// The bytes to write to, which are dirty from now on.
+    pub(crate) fn bytes_mut(&mut self) -> &mut [u8; 256]
+        ensures* writes_back { sem 𝓛 (LendsBytes self.entry result) }
+        ensures value { result.now ≡ self.old.bytes.value }
     {
         self.is_dirty = true;
-        &mut self.value
+        self.bytes.as_mut()
     }
 }
 
 /// The sectors in memory, the most recently used first.
 #[derive(Drop)]
 pub(crate) struct Buffers {
-    cache: LruCache<u16, Buffer<[u8; 256]>>,
+    cache: LruCache<u16, Buffer>,
 }
 
 /// How many sectors may be in memory.
@@ -52,24 +53,16 @@ impl Buffers {
     /// The bytes of a sector that is held.
     pub(crate) fn bytes(&self, n: u16) -> &[u8; 256]
         requires { IsSome (lookup (nat_eq n) self.now.cache.entries) }
-        ensures { IsSomeAnd (lookup (nat_eq n) self.now.cache.entries) (λ buffer. result.now ≡ buffer.value) }
+        ensures { IsSomeAnd (lookup (nat_eq n) self.now.cache.entries) (λ buffer. result.now ≡ buffer.bytes.value) }
     {
         match self.cache.peek(&n) {
-            Some(buffer) => &buffer.value,
+            Some(buffer) => &buffer.bytes,
             None => unreachable!(),
         }
     }
 
-    /// The bytes of a sector that is held, to write to.
-    pub(crate) fn bytes_mut(&mut self, n: u16) -> &mut [u8; 256]
-        requires { IsSome (lookup (nat_eq n) self.old.cache.entries) }
-        ensures* writes_back { sem 𝓛 (LendsBytes self.entry n result) }
-        ensures value { IsSomeAnd (lookup (nat_eq n) self.old.cache.entries) (λ buffer. result.now ≡ buffer.value) }
-    {
-        self.buffer_mut(n).value_mut()
-    }
-
-    fn buffer_mut(&mut self, n: u16) -> &mut Buffer<[u8; 256]>
+    /// The buffer of a sector that is held.
+    pub(crate) fn buffer_mut(&mut self, n: u16) -> &mut Buffer
         requires { IsSome (lookup (nat_eq n) self.old.cache.entries) }
         ensures* writes_back { sem 𝓛 (LendsBuffer self.entry n result) }
         ensures value { lookup (nat_eq n) self.old.cache.entries ≡ Some result.now }
@@ -82,32 +75,28 @@ impl Buffers {
 }
 
 /// Has the store hold what a buffer of sector `n` does.
-fn write_back<S: PackStore>(
-    store: &mut S,
-    n: u16,
-    buffer: &Buffer<[u8; 256]>,
-) -> Result<(), StoreFault>
+fn write_back<S: PackStore>(store: &mut S, n: u16, buffer: &Buffer) -> Result<(), StoreFault>
     requires in_range { n < length (S.contents store.old) }
-    requires clean { buffer.now.is_dirty ≡ false → slice_get (S.contents store.old) n ≡ Some buffer.now.value }
-    ensures ok { OnOk result (S.contents store.new ≡ slice_set (S.contents store.old) n buffer.now.value) }
+    requires clean { buffer.now.is_dirty ≡ false → slice_get (S.contents store.old) n ≡ Some buffer.now.bytes.value }
+    ensures ok { OnOk result (S.contents store.new ≡ slice_set (S.contents store.old) n buffer.now.bytes.value) }
     ensures err { OnErr result (S.contents store.new ≡ S.contents store.old) }
     ensures failures { S.failures store.new ≡ S.failures store.old + failed_calls result }
 {
     if !buffer.is_dirty {
         return Ok(());
     }
-    store.write(n, &buffer.value)
+    store.write(n, &buffer.bytes)
 }
 
 /// Gives up the least recently used buffer, once the store has it.
 fn evict<S: PackStore>(store: &mut S, buffers: &mut Buffers) -> Result<(), StoreFault>
     requires sound { IsSound (S.contents store.old) buffers.old }
+    requires valid { IsValid nat_eq buffers.old.cache }
     requires some { 0 < length buffers.old.cache.entries }
     ensures keeps { KeepsLaid (S.contents store.old) buffers.old (S.contents store.new) buffers.new }
     ensures entries { OnOk result (buffers.new.cache.entries ≡ take (length buffers.old.cache.entries - 1) buffers.old.cache.entries) }
     ensures failures { S.failures store.new ≡ S.failures store.old + failed_calls result }
 {
-    let _count = buffers.cache.len();
     match buffers.cache.peek_lru() {
         Some((n, buffer)) => write_back(store, *n, buffer)?,
         None => unreachable!(),
@@ -141,15 +130,13 @@ fn fetch<S: PackStore>(store: &mut S, buffers: &mut Buffers, n: u16) -> Result<(
     ensures fault { IfErr result (λ fault. fault ≢ PoolFault.NoSector) }
 {
     make_room(store, buffers)?;
-    let mut value = [0; 256];
-    store.read(n, &mut value)?;
-    buffers.cache.put(
-        n,
-        Buffer {
-            value,
-            is_dirty: false,
-        },
-    )?;
+    let mut bytes = Box::new(*buffers.cache.allocator(), [0; 256])?;
+    store.read(n, &mut bytes)?;
+    let read = Buffer {
+        bytes,
+        is_dirty: false,
+    };
+    buffers.cache.put(n, read)?;
     Ok(())
 }
 
@@ -159,13 +146,16 @@ pub(crate) fn load<S: PackStore>(
     buffers: &mut Buffers,
     n: u16,
 ) -> Result<(), PoolFault>
-    requires sound { IsSound (S.contents store.old) buffers.old }
-    requires in_range { n < length (S.contents store.old) }
+    requires { IsSound (S.contents store.old) buffers.old }
     ensures keeps { KeepsLaid (S.contents store.old) buffers.old (S.contents store.new) buffers.new }
+    ensures in_range { OnOk result (n < length (S.contents store.old)) }
     ensures held { OnOk result (IsSome (lookup (nat_eq n) buffers.new.cache.entries)) }
     ensures failures { S.failures store.new ≡ S.failures store.old + failed_transfers result }
-    ensures fault { IfErr result (λ fault. fault ≢ PoolFault.NoSector) }
+    ensures no_sector { (IsErrOf result PoolFault.NoSector) ↔ (length (S.contents store.old) ≤ n) }
 {
+    if n >= store.sectors() {
+        return Err(PoolFault::NoSector);
+    }
     if buffers.cache.promote(&n) {
         return Ok(());
     }
@@ -182,7 +172,8 @@ pub(crate) fn give_up_all<S: PackStore>(
     ensures empty { OnOk result (buffers.new.cache.entries ≡ []) }
     ensures failures { S.failures store.new ≡ S.failures store.old + failed_calls result }
 {
-    while !buffers.cache.is_empty() {
+    // `len` also tells the proof that no sector is held twice, which `is_empty` doesn't.
+    while buffers.cache.len() > 0 {
         evict(store, buffers)?;
     }
     Ok(())

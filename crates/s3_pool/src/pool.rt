@@ -51,9 +51,6 @@ impl<S: PackStore> Pool<S> {
         ensures value { IfOk result (λ bytes. slice_get self.old.contents n ≡ Some bytes.now) }
         ensures no_sector { (IsErrOf result PoolFault.NoSector) ↔ (length self.old.contents ≤ n) }
     {
-        if n >= self.store.sectors() {
-            return Err(PoolFault::NoSector);
-        }
         load(&mut self.store, &mut self.buffers, n)?;
         Ok(self.buffers.bytes(n))
     }
@@ -64,11 +61,8 @@ impl<S: PackStore> Pool<S> {
         ensures value { IfOk result (λ bytes. slice_get self.old.contents n ≡ Some bytes.now) }
         ensures no_sector { (IsErrOf result PoolFault.NoSector) ↔ (length self.old.contents ≤ n) }
     {
-        if n >= self.store.sectors() {
-            return Err(PoolFault::NoSector);
-        }
         load(&mut self.store, &mut self.buffers, n)?;
-        Ok(self.buffers.bytes_mut(n))
+        Ok(self.buffers.buffer_mut(n).bytes_mut())
     }
 
     /// Has the store hold the contents. Afterwards no sector is in memory.
@@ -95,7 +89,7 @@ impl<S: PackStore> Pool<S> {
 impl<S: PackStore> Sectors for Pool<S> {
     ghost state = { λ pool. pool };
 
-    fn sectors(&self) -> u16 {
+    fn sector_count(&self) -> u16 {
         self.store.sectors()
     }
 

@@ -2,6 +2,19 @@
 
 #![tactic(auto)]
 
+mod codes;
+mod columns;
+pub mod diagnostic;
+mod entries;
 pub mod indicator;
+mod kind;
+mod lines;
 pub mod name;
+mod progress;
+mod reading;
+mod rules;
 pub mod sheet;
+mod tables;
+
+pub use diagnostic::{Diagnostic, SheetFault};
+pub use reading::read_sheets;

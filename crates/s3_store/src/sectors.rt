@@ -12,7 +12,7 @@ pub trait Sectors {
     ghost state: { Self → PoolState };
 
     /// How many sectors there are, which never changes.
-    fn sectors(&self) -> u16
+    fn sector_count(&self) -> u16
         ensures { result ≡ length (state self.now).contents };
 
     /// Reads sector `n`.
@@ -37,8 +37,8 @@ pub trait Sectors {
 impl<S: PackStore> Sectors for S {
     ghost state = { λ s. record { contents = S.contents s; stored = S.contents s; failures = S.failures s } };
 
-    fn sectors(&self) -> u16 {
-        PackStore::sectors(self)
+    fn sector_count(&self) -> u16 {
+        self.sectors()
     }
 
     fn read_sector(&mut self, n: u16, bytes: &mut [u8; 256]) -> Result<(), PoolFault> {

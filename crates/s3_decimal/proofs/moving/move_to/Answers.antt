@@ -1,20 +1,19 @@
-use Rattle.std.proofs.Common.{arith, ◌^◌, ◌<◌, ◌+◌, ◌*◌, ◌/◌, ◌%◌, FitsSigned, w64, rules}
-use Rattle.s3_decimal.proofs.Bounds.{kept_below}
-use Rattle.s3_decimal.proofs.Powers.{ten_le}
-use Rattle.s3_decimal.proofs.DigitsMoved.{moved_below}
+use Rattle.std.proofs.Common.{arith, ◌≡◌, ◌^◌, ◌%◌, ◌∙◌, ap, sym, length, min, refl, unsigned_abs}
+use Rattle.s3_decimal.specs.Exact.{is_negative}
+use Rattle.s3_decimal.specs.Records.{zoned_bytes}
+use Rattle.s3_decimal.proofs.DigitsMoved.{low_zoned, moved_is}
+use Rattle.s3_decimal.proofs.DigitsWritten.{length-zoned_bytes, zoned_last}
 use Rattle.s3_decimal.proofs.moving.move_to.Goals as goal
 
-below : (c : goal.After-is_negative) → c.unsigned_abs.result / c.power_of_ten-unit.result * c.power_of_ten-unit.result + c.unsigned_abs-2.result % c.power_of_ten-unit.result < 10 ^ c.args.target.digits
-below c =
-    let target : c.unsigned_abs.result < 10 ^ c.args.target.digits = grind arith in
-    rw (c.power_of_ten-unit.ensures.value) (moved_below c.unsigned_abs-2.result c.unsigned_abs.result c.min.result c.args.target.digits (omega arith) target)
-
-pub with_sign-requires : goal.with_sign-requires
-with_sign-requires c = omega (arith, below c, ten_le c.args.target.digits 15 c.args.target.within_longest)
-
-pub invariant_of-result-clause-within_digits : goal.invariant_of-result-clause-within_digits
-invariant_of-result-clause-within_digits c =
-    let fits : FitsSigned w64 c.with_sign.result = search rules in
-    let target : c.unsigned_abs.result < 10 ^ c.args.target.digits = grind arith in
-    kept_below c.with_sign.result c.is_negative.result (c.unsigned_abs.result / c.power_of_ten-unit.result * c.power_of_ten-unit.result + c.unsigned_abs-2.result % c.power_of_ten-unit.result) (10 ^ c.args.target.digits) fits c.with_sign.ensures
-    (rw (c.power_of_ten-unit.ensures.value) (moved_below c.unsigned_abs-2.result c.unsigned_abs.result c.min.result c.args.target.digits (omega arith) target))
+pub returns-clause-value : goal.returns-clause-value
+returns-clause-value c =
+    let s = c.args.source in
+    let t = c.args.target in
+    let places = c.min-places.result in
+    let shorter : places ≡ min (length (zoned_bytes (is_negative s.value) s.digits (unsigned_abs s.value))) t.digits =
+    c.min-places.ensures ∙ ap (λ k. min k t.digits) (sym (length-zoned_bytes (is_negative s.value) s.digits (unsigned_abs s.value))) in
+    let low = low_zoned (is_negative s.value) s.digits places (unsigned_abs s.value) (omega arith) in
+    let number = moved_is (zoned_bytes (is_negative s.value) s.digits (unsigned_abs s.value)) t.digits t.value places (unsigned_abs s.value % 10 ^ places) shorter t.within_digits low in
+    let magnitude : c.unsigned_abs.result ≡ unsigned_abs s.value = grind arith in
+    rw (zoned_last (is_negative s.value) s.digits (unsigned_abs s.value) s.has_digits, ← number)
+    (rw (c.replaced.ensures.value, c.is_negative.ensures, magnitude, c.power_of_ten.ensures.value) refl)

@@ -1,4 +1,6 @@
-use Rattle.std.proofs.Common.{◌<◌, length, arith}
+use Rattle.std.proofs.Common.{◌<◌, length, false, arith}
+use Rattle.std.specs.Box.{with_value}
+use Rattle.s3_pool.specs.declared.buffers.Buffer.{Buffer}
 use Rattle.s3_pool.proofs.Steps.{laid_trans, same_length, was_read}
 use Rattle.s3_pool.proofs.buffers.fetch.Goals as goal
 
@@ -10,5 +12,6 @@ returns-clause-keeps g c =
     let sectors = g.S.PackStore.contents c.make_room.new.store in
     let within : c.args.n < length sectors = omega (arith, c.requires.in_range, same_length c.make_room.ensures.keeps) in
     let missed = c.in_ok-make_room.ensures.missed c.args.n c.requires.missed in
+    let new : Buffer = record { bytes = with_value c.in_ok-bytes.bytes c.read.new.bytes; is_dirty = false } in
     rw (c.in_ok-read.ensures.contents, c.in_ok-put.ensures.entries)
-    (laid_trans c.make_room.ensures.keeps (was_read sectors c.make_room.new.buffers c.args.n c.read.new.bytes missed c.in_ok-make_room.ensures.room c.in_ok-read.ensures.ok within c.make_room.ensures.keeps.sound))
+    (laid_trans c.make_room.ensures.keeps (was_read sectors c.make_room.new.buffers c.args.n new missed c.in_ok-make_room.ensures.room c.in_ok-read.ensures.ok within c.make_room.ensures.keeps.sound))

@@ -1,6 +1,0 @@
-use Rattle.std.proofs.Common.{sym, ◌∙◌}
-use Rattle.s3_pool.proofs.Laid.{length_laid}
-use Rattle.s3_pool.proofs.pool.PoolSectors.sectors.Goals as goal
-
-pub returns : goal.returns
-returns g c = rw (← c.self.view_is) (c.sectors.ensures ∙ sym (length_laid c.self.inside.buffers.cache.entries (g.S.PackStore.contents c.self.inside.store)))

@@ -1,0 +1,6 @@
+pub mod NumberLemmas
+pub mod ProgressLemmas
+pub mod ReadingLemmas
+pub mod Rows
+pub mod RuleLemmas
+pub mod TextLemmas

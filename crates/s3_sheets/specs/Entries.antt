@@ -1,0 +1,65 @@
+-- What the entries of the sheets spell.
+use Rattle.std.specs.Prelude.{ℕ, ◌+◌, ◌-◌, ◌*◌, List, [], ◌∷◌, ◌++◌, Bool, true, false, not, ◌==◌, ◌&&◌, ◌||◌, Option, Some, None, is_some, unwrap_or, option_map, length, replicate, if◌then◌else◌, codes}
+use Rattle.std.specs.List.{list_any}
+use Rattle.std.specs.Option.{option_and_then}
+use Rattle.s3_cards.specs.declared.ebcdic.TheConstants.{BLANK, APOSTROPHE, LETTER_N, DIGIT_0}
+use Rattle.s3_sheets.specs.Codes.{ebcdic, is_digit}
+use Rattle.s3_sheets.specs.Columns.{are_blank, name_of, same_name}
+use Rattle.s3_sheets.specs.declared.name.Name.{Name}
+use Rattle.s3_sheets.specs.declared.indicator.Indicator.TheVariants.{General}
+use Rattle.s3_sheets.specs.declared.indicator.Condition.{Condition}
+use Rattle.s3_sheets.specs.declared.sheet.Constant.{Constant}
+
+-- the number of an indicator of two digits, 01 to 99
+abbrev pub general_of : List ℕ → Option ℕ
+general_of (tens ∷ units ∷ []) =
+    if is_digit tens && is_digit units && not (tens == DIGIT_0 && units == DIGIT_0)
+    then Some ((tens - DIGIT_0) * 10 + (units - DIGIT_0))
+    else None
+general_of _ = None
+
+-- all blank, or blank or N and then an indicator of two digits
+abbrev pub is_condition : List ℕ → Bool
+is_condition [] = false
+is_condition (sign ∷ indicator) = are_blank (sign ∷ indicator) || ((sign == BLANK || sign == LETTER_N) && is_some (general_of indicator))
+
+-- the condition in three columns, none where they are blank
+abbrev pub condition_of : List ℕ → Option Condition
+condition_of [] = None
+condition_of (sign ∷ indicator) =
+    if are_blank (sign ∷ indicator) then None
+    else Some (record { negated = sign == LETTER_N; indicator = General (unwrap_or (general_of indicator) 0) })
+
+-- the text up to the apostrophe that ends it, behind which all is blank; an apostrophe of the text is written twice. `ended`
+-- says that an apostrophe stands before these codes, which ends the text unless another one follows.
+unfoldable pub text_of : Bool → List ℕ → Option (List ℕ)
+text_of true [] = Some []
+text_of false [] = None
+text_of true (code ∷ codes) =
+    if code == APOSTROPHE then option_map (λ text. code ∷ text) (text_of false codes)
+    else if are_blank (code ∷ codes) then Some []
+    else None
+text_of false (code ∷ codes) =
+    let ends : Bool = code == APOSTROPHE in
+    option_map (λ text. if ends then text else code ∷ text) (text_of ends codes)
+
+abbrev pub unless_empty : List ℕ → Option (List ℕ)
+unless_empty [] = None
+unless_empty (code ∷ codes) = Some (code ∷ codes)
+
+-- the text of a constant in apostrophes, of at least one character, with blanks behind it
+unfoldable pub constant_text : List ℕ → Option (List ℕ)
+constant_text [] = None
+constant_text (first ∷ codes) = if first == APOSTROPHE then option_and_then unless_empty (text_of false codes) else None
+
+abbrev pub constant : List ℕ → Constant
+constant text = record { codes = text ++ replicate (24 - length text) BLANK; length = length text }
+
+-- the fields that no sheet defines
+unfoldable pub reserved_names : List Name
+reserved_names =
+    name_of (ebcdic (codes "UDATE")) ∷ name_of (ebcdic (codes "UMONTH")) ∷ name_of (ebcdic (codes "UDAY"))
+    ∷ name_of (ebcdic (codes "UYEAR")) ∷ name_of (ebcdic (codes "PAGE")) ∷ []
+
+abbrev pub is_reserved : Name → Bool
+is_reserved name = list_any (λ other. same_name other name) reserved_names

@@ -1,0 +1,53 @@
+-- What kind of card of a source each card is.
+use Rattle.std.specs.Prelude.{ℕ, List, Bool, true, false, ◌==◌, ◌&&◌, ◌||◌, if◌then◌else◌, nat_eq, codes}
+use Rattle.std.specs.Cmp.Lexicographic.{pointwise}
+use Rattle.s3_cards.specs.declared.ebcdic.TheConstants.{ASTERISK, LETTER_C, LETTER_F, LETTER_H, LETTER_I, LETTER_O}
+use Rattle.s3_sheets.specs.Codes.{ebcdic}
+use Rattle.s3_sheets.specs.Columns.{column, columns, are_blank}
+use Rattle.s3_sheets.specs.declared.kind.CardKind.{CardKind}
+use Rattle.s3_sheets.specs.declared.kind.CardKind.TheVariants.{Comment, Unknown, Header, File, Record, RecordGroup, Field, Calculation, OutputLine, OutputGroup, OutputField}
+
+-- AND or OR in 14-16, with the name columns before it blank
+unfoldable pub goes_on : List ℕ → Bool
+goes_on card =
+    are_blank (columns card 7 13)
+    && (pointwise nat_eq (columns card 14 16) (ebcdic (codes "AND")) || pointwise nat_eq (columns card 14 16) (ebcdic (codes "OR ")))
+
+abbrev pub input_kind : List ℕ → CardKind
+input_kind card = if goes_on card then RecordGroup else if are_blank (columns card 7 14) then Field else Record
+
+abbrev pub output_kind : List ℕ → CardKind
+output_kind card = if goes_on card then OutputGroup else if are_blank (columns card 7 15) then OutputField else OutputLine
+
+unfoldable pub kind_of : List ℕ → CardKind
+kind_of card =
+    let form : ℕ = column card 6 in
+    if column card 7 == ASTERISK then Comment
+    else if form == LETTER_H then Header
+    else if form == LETTER_F then File
+    else if form == LETTER_I then input_kind card
+    else if form == LETTER_C then Calculation
+    else if form == LETTER_O then output_kind card
+    else Unknown
+
+-- the sheets in their order from 1; 0 for a card that is of none
+abbrev pub sheet_of : CardKind → ℕ
+sheet_of Comment = 0
+sheet_of Unknown = 0
+sheet_of Header = 1
+sheet_of File = 2
+sheet_of Record = 3
+sheet_of RecordGroup = 3
+sheet_of Field = 3
+sheet_of Calculation = 4
+sheet_of OutputLine = 5
+sheet_of OutputGroup = 5
+sheet_of OutputField = 5
+
+abbrev pub is_record : CardKind → Bool
+is_record Record = true
+is_record _ = false
+
+abbrev pub is_output_line : CardKind → Bool
+is_output_line OutputLine = true
+is_output_line _ = false

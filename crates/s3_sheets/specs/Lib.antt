@@ -1,0 +1,11 @@
+pub mod Codes
+pub mod Columns
+pub mod Entries
+pub mod Literals
+pub mod Kinds
+pub mod Rules
+pub mod RuleViews
+pub mod Tables
+pub mod Lines
+pub mod Sheets
+pub mod Progress

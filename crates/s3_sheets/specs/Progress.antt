@@ -1,0 +1,91 @@
+-- Reading card by card: what is kept of the cards before, and what it says of the next one.
+use Rattle.std.specs.Prelude.{ℕ, ◌+◌, List, [], ◌++◌, Bool, true, false, ◌==◌, ◌&&◌, ◌||◌, not, Option, None, length, max}
+use Rattle.std.specs.Option.{option_to_list}
+use Rattle.s3_sheets.specs.Columns.{columns, are_blank, name_of}
+use Rattle.s3_sheets.specs.Kinds.{kind_of, sheet_of, is_record, is_output_line}
+use Rattle.s3_sheets.specs.Sheets.{is_behind, breaks_some_rule, file_of, record_length_of, new_file, input_length_behind, output_length_behind, last_position, is_past, length_for, field_of, new_field}
+use Rattle.s3_sheets.specs.declared.name.Name.{Name}
+use Rattle.s3_sheets.specs.declared.kind.CardKind.{CardKind}
+use Rattle.s3_sheets.specs.declared.kind.CardKind.TheVariants.{Comment, Unknown}
+use Rattle.s3_sheets.specs.declared.progress.KnownFile.{KnownFile}
+use Rattle.s3_sheets.specs.declared.progress.Standing.{Standing}
+
+-- what is kept of the cards before
+pub record Kept : Type 0 where
+  pub latest_sheet : ℕ
+  pub has_record : Bool
+  pub has_output_line : Bool
+  pub files : List KnownFile
+  pub input_length : Option ℕ
+  pub output_length : Option ℕ
+  pub fields : List Name
+
+abbrev pub nothing_kept : Kept
+nothing_kept = record {
+  latest_sheet = 0;
+  has_record = false;
+  has_output_line = false;
+  files = [];
+  input_length = None;
+  output_length = None;
+  fields = [];
+}
+
+abbrev pub is_misplaced_behind : CardKind → ℕ → Bool
+is_misplaced_behind Comment latest = false
+is_misplaced_behind Unknown latest = true
+is_misplaced_behind kind latest = is_behind (sheet_of kind) latest
+
+abbrev pub is_further : Kept → CardKind → Bool
+is_further kept kind = is_record kind && kept.has_record
+
+abbrev pub lacks_its_file : Kept → CardKind → List ℕ → Bool
+lacks_its_file kept kind card = is_output_line kind && are_blank (columns card 7 14) && not kept.has_output_line
+
+unfoldable pub is_outside_behind : Kept → CardKind → List ℕ → Bool
+is_outside_behind kept kind card = is_past (last_position kind card) (length_for kind kept.input_length kept.output_length)
+
+unfoldable pub is_at_fault_behind : Kept → List ℕ → Bool
+is_at_fault_behind kept card =
+    let kind : CardKind = kind_of card in
+    is_misplaced_behind kind kept.latest_sheet || is_further kept kind || lacks_its_file kept kind card || breaks_some_rule card
+
+-- one more element that makes a list longer than it may be
+abbrev pub passes_limit : ℕ → ℕ → ℕ → Bool
+passes_limit most old new = (old == most) && (new == most + 1)
+
+unfoldable pub files_with : Kept → List ℕ → List KnownFile
+files_with kept card = kept.files ++ option_to_list (new_file kept.files (file_of (kind_of card) (is_at_fault_behind kept card) card))
+
+unfoldable pub fields_with : Kept → List ℕ → List Name
+fields_with kept card =
+    kept.fields ++ option_to_list (new_field kept.fields (field_of (kind_of card) (is_at_fault_behind kept card || is_outside_behind kept (kind_of card) card) card))
+
+-- what is kept behind one more card
+unfoldable pub kept_behind : Kept → List ℕ → Kept
+kept_behind kept card =
+    let kind : CardKind = kind_of card in
+    let is_at_fault : Bool = is_at_fault_behind kept card in
+    let named : Option ℕ = record_length_of kept.files (name_of (columns card 7 14)) in
+    record {
+      latest_sheet = max kept.latest_sheet (sheet_of kind);
+      has_record = kept.has_record || is_record kind;
+      has_output_line = kept.has_output_line || is_output_line kind;
+      files = files_with kept card;
+      input_length = input_length_behind kind is_at_fault named kept.input_length;
+      output_length = output_length_behind kind is_at_fault (are_blank (columns card 7 14)) named kept.output_length;
+      fields = fields_with kept card;
+    }
+
+-- what it says of the next card
+unfoldable pub standing_behind : Kept → List ℕ → Standing
+standing_behind kept card =
+    let kind : CardKind = kind_of card in
+    record {
+      is_misplaced = is_misplaced_behind kind kept.latest_sheet;
+      is_further_record = is_further kept kind;
+      lacks_file = lacks_its_file kept kind card;
+      is_outside = is_outside_behind kept kind card;
+      is_too_many = passes_limit 20 (length kept.files) (length (files_with kept card))
+          || passes_limit 999 (length kept.fields) (length (fields_with kept card));
+    }

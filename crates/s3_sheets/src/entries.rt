@@ -1,0 +1,171 @@
+//! What the entries of the sheets spell.
+
+ghost use Rattle.std.specs.Prelude.{◌≡◌, ◌≤◌, ◌<◌, length, option_map, false, if◌then◌else◌};
+ghost use Rattle.s3_sheets.specs.Literals.{with_code, with_next_code, is_behind_end};
+ghost use Rattle.s3_sheets.specs.Columns.{are_blank as are_blank_spec};
+ghost use Rattle.s3_sheets.specs.Entries.{general_of, is_condition as condition_spec, condition_of, constant_text, constant as constant_spec, text_of, is_reserved as reserved_spec, reserved_names as reserved_names_spec};
+
+use crate::codes::is_digit;
+use crate::columns::{are_blank, same_name};
+use crate::indicator::{Condition, Indicator};
+use crate::name::Name;
+use crate::sheet::Constant;
+use s3_cards::ebcdic::{
+    APOSTROPHE, BLANK, DIGIT_0, LETTER_A, LETTER_D, LETTER_E, LETTER_G, LETTER_H, LETTER_M,
+    LETTER_N, LETTER_O, LETTER_P, LETTER_R, LETTER_T, LETTER_U, LETTER_Y,
+};
+
+/// The number of an indicator of two digits, 01 to 99.
+pub fn general(columns: &[u8]) -> Option<u8>
+    ensures { result ≡ general_of columns.now }
+{
+    match columns {
+        [DIGIT_0, DIGIT_0] => None,
+        [tens, units] if is_digit(*tens) && is_digit(*units) => Some(
+            (*tens - DIGIT_0) * 10 + (*units - DIGIT_0),
+        ),
+        _ => None,
+    }
+}
+
+/// Whether three columns are all blank, or have blank or N and then an indicator of two digits.
+pub fn is_condition(columns: &[u8]) -> bool
+    ensures { result ≡ condition_spec columns.now }
+{
+    match columns.split_first() {
+        None => false,
+        Some((sign, indicator)) => are_blank(columns)
+            || (matches!(*sign, BLANK | LETTER_N) && general(indicator).is_some()),
+    }
+}
+
+/// The condition in three columns, none where they are blank.
+pub fn condition(columns: &[u8]) -> Option<Condition>
+    ensures { result ≡ condition_of columns.now }
+{
+    if are_blank(columns) {
+        return None;
+    }
+    let (sign, indicator) = columns.split_first()?;
+    Some(Condition {
+        negated: *sign == LETTER_N,
+        indicator: Indicator::General(general(indicator).unwrap_or(0)),
+    })
+}
+
+/// The fields that no sheet defines: UDATE, UMONTH, UDAY, UYEAR and PAGE.
+static RESERVED_NAMES: [Name; 5] = [
+    Name {
+        codes: [
+            LETTER_U, LETTER_D, LETTER_A, LETTER_T, LETTER_E, BLANK, BLANK, BLANK,
+        ],
+    },
+    Name {
+        codes: [
+            LETTER_U, LETTER_M, LETTER_O, LETTER_N, LETTER_T, LETTER_H, BLANK, BLANK,
+        ],
+    },
+    Name {
+        codes: [
+            LETTER_U, LETTER_D, LETTER_A, LETTER_Y, BLANK, BLANK, BLANK, BLANK,
+        ],
+    },
+    Name {
+        codes: [
+            LETTER_U, LETTER_Y, LETTER_E, LETTER_A, LETTER_R, BLANK, BLANK, BLANK,
+        ],
+    },
+    Name {
+        codes: [
+            LETTER_P, LETTER_A, LETTER_G, LETTER_E, BLANK, BLANK, BLANK, BLANK,
+        ],
+    },
+];
+
+#[tactic(auto, unfolding(crate::specs::Entries::reserved_names, crate::specs::Codes::ebcdic, s3_cards::specs::Codes::code_page))]
+fn reserved_names() -> &'static [Name]
+    ensures { result.now ≡ reserved_names_spec }
+{
+    &RESERVED_NAMES
+}
+
+/// Whether a name is that of a field that no sheet defines.
+pub fn is_reserved(name: &Name) -> bool
+    ensures { result ≡ reserved_spec name.now }
+{
+    reserved_names().iter().any(|other| same_name(other, name))
+}
+
+impl Constant {
+    /// The constant without characters.
+    pub(crate) const EMPTY: Constant = Constant {
+        codes: [BLANK; 24],
+        length: 0,
+    };
+
+    /// The constant with one more character, if it has room.
+    fn with(self, code: u8) -> Option<Constant>
+        ensures { result ≡ with_code self code }
+    {
+        if self.length >= 24 {
+            return None;
+        }
+        let mut longer = self;
+        longer.codes[self.length as usize] = code;
+        longer.length += 1;
+        Some(longer)
+    }
+}
+
+/// A text and whether an apostrophe ends it, as far as one more code makes them.
+fn with_next(text: Constant, ended: bool, code: u8) -> Option<(Constant, bool)>
+    ensures { result ≡ with_next_code text ended code }
+{
+    if code == APOSTROPHE && !ended {
+        Some((text, true))
+    } else {
+        Some((text.with(code)?, false))
+    }
+}
+
+/// Whether a code stands behind the apostrophe that ends a text.
+fn is_behind(ended: bool, code: u8) -> bool
+    ensures { result ≡ is_behind_end ended code }
+{
+    ended && code != APOSTROPHE
+}
+
+/// A text behind which all is blank.
+fn unless_filled(text: Constant, codes: &[u8]) -> Option<Constant>
+    ensures { result ≡ (if are_blank_spec codes.now then Some text else None) }
+{
+    if are_blank(codes) { Some(text) } else { None }
+}
+
+/// The text up to the apostrophe that ends it, behind which all is blank; an apostrophe of the text is written twice.
+fn text(codes: &[u8]) -> Option<Constant>
+    requires { length codes.now ≤ 25 }
+    ensures { result ≡ option_map constant_spec (text_of false codes.now) }
+{
+    let mut text = Constant::EMPTY;
+    let mut ended = false;
+    for (place, code) in codes.iter().enumerate() {
+        if is_behind(ended, *code) {
+            return unless_filled(text, &codes[place..]);
+        }
+        (text, ended) = with_next(text, ended, *code)?;
+    }
+    if ended { Some(text) } else { None }
+}
+
+/// The constant in apostrophes, of at least one character, with blanks behind it.
+#[tactic(auto, unfolding(crate::specs::Entries::constant_text))]
+pub fn constant(columns: &[u8]) -> Option<Constant>
+    requires { length columns.now ≤ 26 }
+    ensures { result ≡ option_map constant_spec (constant_text columns.now) }
+{
+    match columns {
+        [APOSTROPHE, codes @ ..] => text(codes).filter(|constant| constant.length > 0),
+        _ => None,
+    }
+}

@@ -1,0 +1,117 @@
+//! What kind of card of a source each card is.
+
+ghost use Rattle.std.specs.Prelude.{◌≡◌};
+ghost use Rattle.s3_sheets.specs.Kinds.{goes_on as goes_on_spec, input_kind as input_kind_spec, output_kind as output_kind_spec, kind_of as kind_of_spec, sheet_of as sheet_of_spec, is_record as is_record_spec, is_output_line as is_output_line_spec};
+
+use crate::columns::{are_blank, columns};
+use s3_cards::Card;
+use s3_cards::ebcdic::{
+    ASTERISK, BLANK, LETTER_A, LETTER_C, LETTER_D, LETTER_F, LETTER_H, LETTER_I, LETTER_N,
+    LETTER_O, LETTER_R,
+};
+
+/// What a card of a source is, by its columns 6 to 16.
+#[derive(Clone, Copy)]
+pub enum CardKind {
+    /// `*` in column 7; it isn't read.
+    Comment,
+    /// Column 6 is no sheet.
+    Unknown,
+    Header,
+    File,
+    /// A record line: an I card with a file name.
+    Record,
+    /// An AND or OR line of the I sheet.
+    RecordGroup,
+    /// A field line: any other I card.
+    Field,
+    Calculation,
+    /// A line card: an O card with a file name or a type.
+    OutputLine,
+    /// An AND or OR line of the O sheet.
+    OutputGroup,
+    /// A field card: any other O card.
+    OutputField,
+}
+
+/// Whether columns 14 to 16 say AND or OR, and the name columns before them are blank.
+#[tactic(auto, unfolding(crate::specs::Kinds::goes_on, crate::specs::Codes::ebcdic, s3_cards::specs::Codes::code_page))]
+fn goes_on(card: &Card) -> bool
+    ensures { result ≡ goes_on_spec card.now }
+{
+    let word = columns(card, 14, 16);
+    are_blank(columns(card, 7, 13))
+        && (word == [LETTER_A, LETTER_N, LETTER_D].as_slice()
+            || word == [LETTER_O, LETTER_R, BLANK].as_slice())
+}
+
+fn input_kind(card: &Card) -> CardKind
+    ensures { result ≡ input_kind_spec card.now }
+{
+    if goes_on(card) {
+        CardKind::RecordGroup
+    } else if are_blank(columns(card, 7, 14)) {
+        CardKind::Field
+    } else {
+        CardKind::Record
+    }
+}
+
+fn output_kind(card: &Card) -> CardKind
+    ensures { result ≡ output_kind_spec card.now }
+{
+    if goes_on(card) {
+        CardKind::OutputGroup
+    } else if are_blank(columns(card, 7, 15)) {
+        CardKind::OutputField
+    } else {
+        CardKind::OutputLine
+    }
+}
+
+#[tactic(auto, unfolding(crate::specs::Kinds::kind_of))]
+pub fn kind_of(card: &Card) -> CardKind
+    ensures { result ≡ kind_of_spec card.now }
+{
+    if card[6] == ASTERISK {
+        return CardKind::Comment;
+    }
+    match card[5] {
+        LETTER_H => CardKind::Header,
+        LETTER_F => CardKind::File,
+        LETTER_I => input_kind(card),
+        LETTER_C => CardKind::Calculation,
+        LETTER_O => output_kind(card),
+        _ => CardKind::Unknown,
+    }
+}
+
+impl CardKind {
+    /// The sheets in their order from 1; 0 for a card that is of none.
+    pub fn sheet(self) -> u8
+        ensures { result ≡ sheet_of_spec self }
+    {
+        match self {
+            CardKind::Comment | CardKind::Unknown => 0,
+            CardKind::Header => 1,
+            CardKind::File => 2,
+            CardKind::Record | CardKind::RecordGroup | CardKind::Field => 3,
+            CardKind::Calculation => 4,
+            CardKind::OutputLine | CardKind::OutputGroup | CardKind::OutputField => 5,
+        }
+    }
+
+    /// Whether it is a record line.
+    pub fn is_record(self) -> bool
+        ensures { result ≡ is_record_spec self }
+    {
+        matches!(self, CardKind::Record)
+    }
+
+    /// Whether it is a line card of the O sheet.
+    pub fn is_output_line(self) -> bool
+        ensures { result ≡ is_output_line_spec self }
+    {
+        matches!(self, CardKind::OutputLine)
+    }
+}

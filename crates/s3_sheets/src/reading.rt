@@ -1,0 +1,99 @@
+//! Reading the sheets of a source.
+
+ghost use Rattle.std.specs.Prelude.{◌≡◌, ◌≤◌, ◌<◌, ◌+◌, ◌++◌, length, OnOk, slice_range};
+ghost use Rattle.std.specs.Option.{option_to_list};
+ghost use Rattle.s3_sheets.specs.Lines.{line_of as line_of_spec};
+ghost use Rattle.s3_sheets.specs.Sheets.{card_holds, card_diagnostics, numbers as numbers_spec, Reads};
+
+use crate::diagnostic::{Diagnostic, SheetFault};
+use crate::lines::line_of;
+use crate::progress::{Progress, Standing, breaks_rule};
+use crate::sheet::Line;
+use s3_cards::{Card, Deck};
+use std::alloc::{AllocError, Global};
+
+/// The diagnostics of single cards.
+const NUMBERS: [u8; 5] = [1, 2, 3, 4, 13];
+
+/// Whether a card with this standing has a diagnostic.
+#[tactic(auto, unfolding(crate::specs::Sheets::card_holds))]
+fn is_diagnosed(card: &Card, standing: Standing, number: u8) -> bool
+    ensures { result ≡ card_holds card.now standing number }
+{
+    match number {
+        1 => standing.is_misplaced,
+        2 => breaks_rule(2, card) || standing.is_further_record,
+        3 => breaks_rule(3, card) || standing.lacks_file,
+        4 => breaks_rule(4, card) || standing.is_outside,
+        _ => standing.is_too_many,
+    }
+}
+
+/// Adds the diagnostics of the card with this number.
+fn diagnose(
+    found: &mut Vec<Diagnostic>,
+    number: u16,
+    card: &Card,
+    standing: Standing,
+) -> Result<(), AllocError>
+    ensures { OnOk result (found.new.items ≡ found.old.items ++ card_diagnostics number card.now standing) }
+{
+    for diagnostic in NUMBERS {
+        if is_diagnosed(card, standing, diagnostic) {
+            found.push(Diagnostic {
+                card: number,
+                number: diagnostic,
+            })?;
+        }
+    }
+    Ok(())
+}
+
+/// Adds the line of the card with this number, if it has one.
+fn add_line(lines: &mut Vec<Line>, number: u16, card: &Card) -> Result<(), AllocError>
+    ensures { OnOk result (lines.new.items ≡ lines.old.items ++ option_to_list (line_of_spec number card.now)) }
+{
+    if let Some(line) = line_of(number, card) {
+        lines.push(line)?;
+    }
+    Ok(())
+}
+
+/// The lines of cards that stand from a place of their deck on, or their diagnostics.
+fn read_cards(alloc: Global, cards: &[Card], from: usize) -> Result<Vec<Line>, SheetFault>
+    requires { from + length cards.now ≤ 9_999 }
+    ensures { Reads from cards.now result }
+{
+    let mut lines = Vec::new(alloc);
+    let mut found = Vec::new(alloc);
+    let mut progress = Progress::new(alloc);
+    for (place, card) in cards.iter().enumerate() {
+        let number = (from + place + 1) as u16;
+        let standing = progress.enter(card)?;
+        diagnose(&mut found, number, card, standing)?;
+        add_line(&mut lines, number, card)?;
+    }
+    if found.is_empty() {
+        Ok(lines)
+    } else {
+        Err(SheetFault::Diagnostics(found))
+    }
+}
+
+/// The typed lines of the cards of a deck from place `from` up to but without place `to`, or their diagnostics.
+///
+/// A diagnostic names its card by its number in the deck, from 1. They are those that show on single cards: 1 no sheet, or out of
+/// order; 2 an entry that isn't allowed, or isn't built yet; 3 a name or constant that is ill formed; 4 a number that is ill formed
+/// or out of its range, or a position outside its record; 13 more than 20 files or 999 fields.
+pub fn read_sheets(
+    alloc: Global,
+    deck: &Deck,
+    from: usize,
+    to: usize,
+) -> Result<Vec<Line>, SheetFault>
+    requires order { from ≤ to }
+    requires within { to ≤ length deck.now }
+    ensures { Reads from (slice_range deck.now from to) result }
+{
+    read_cards(alloc, &deck.cards()[from..to], from)
+}
