@@ -1,5 +1,11 @@
-//! The program `bureau`.
+//! The program `bureau`: its command line, over standard input and output.
 
 #![tactic(auto)]
 
-fn main() {}
+mod command;
+
+use std::process::ExitCode;
+
+fn main(rt: HostRuntime) -> ExitCode {
+    ExitCode::from(command::execute(&rt))
+}

@@ -1,3 +1,19 @@
 //! The bureau: two levels that take turns.
-
 #![tactic(auto)]
+
+mod bureau;
+mod entry;
+mod halts;
+mod number;
+mod outcome;
+mod report;
+mod run_fault;
+mod runs;
+mod script;
+
+pub use bureau::Bureau;
+pub use entry::Entry;
+pub use outcome::{LevelTexts, Outcome};
+pub use run_fault::RunFault;
+pub use runs::run;
+pub use s3_level::{Action, Did, Halt, HaltCode, Stop};

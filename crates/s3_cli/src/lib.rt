@@ -1,3 +1,15 @@
 //! A session: bytes in, bytes out.
 
 #![tactic(auto)]
+
+mod exchange;
+mod fault;
+mod input;
+mod output;
+mod parts;
+
+pub use exchange::{INPUT_LIMIT, session};
+pub use fault::{CliFault, SessionFault, tell};
+pub use input::{ReadFault, read_within};
+pub use parts::{Parts, split_parts};
+pub use s3_bureau::RunFault;

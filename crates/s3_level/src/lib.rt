@@ -1,3 +1,17 @@
-//! One level: its jobs, its library and its job at work.
+//! One level: the jobs of its deck, its library of programs, the job at work, its printed lines and its halts.
 
 #![tactic(auto)]
+
+mod action;
+mod details;
+mod halt;
+mod halt_code;
+mod halt_log;
+mod job;
+mod level;
+mod printed_lines;
+
+pub use action::{Action, Did, Stop};
+pub use halt::Halt;
+pub use halt_code::HaltCode;
+pub use level::Level;

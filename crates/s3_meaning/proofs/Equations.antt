@@ -1,10 +1,10 @@
 -- The runs don't depend on their bounds: what can begin anew is what its definition would be without one.
-use Rattle.std.proofs.Common.{◌≡◌, ℕ, zero, suc, ◌+◌, ◌==◌, ◌<◌, ◌≤◌, Bool, true, false, not, ◌&&◌, ◌||◌, if◌then◌else◌, ℤ, pos, List, [], ◌∷◌, Option, Some, None, length, filter, unsigned_abs, refl, sym, subst, ap, true≢false, arith}
+use Rattle.std.proofs.Common.{◌≡◌, ℕ, zero, suc, ◌==◌, ◌<◌, ◌≤◌, Bool, true, false, ◌&&◌, ◌||◌, if◌then◌else◌, ℤ, List, [], ◌∷◌, Option, Some, None, length, unsigned_abs, refl, sym, true≢false, arith}
 use Rattle.std.specs.List.{list_any}
 use Rattle.s3_meaning.proofs.Selecting.{taken_unread}
 use Rattle.s3_sheets.specs.declared.name.Name.{Name}
 use Rattle.s3_sheets.specs.declared.indicator.Indicator.{Indicator}
-use Rattle.s3_sheets.specs.declared.indicator.Indicator.TheVariants.{LastRecord, Halt, FirstPage}
+use Rattle.s3_sheets.specs.declared.indicator.Indicator.TheVariants.{LastRecord, Halt}
 use Rattle.s3_meaning.specs.declared.halt.HaltCode.{HaltCode}
 use Rattle.s3_meaning.specs.declared.halt.HaltCode.TheVariants.{HaltIndicator, BadDigit, ZeroDivisor, NoRecordFound, UnidentifiedRecord, OutOfSequence}
 use Rattle.s3_sheets.specs.declared.sheet.FieldLine.{FieldLine}
@@ -13,19 +13,19 @@ use Rattle.s3_sheets.specs.declared.sheet.FieldForm.TheVariants.{Alphanumeric, Z
 use Rattle.s3_sheets.specs.declared.sheet.FileLine.{FileLine}
 use Rattle.s3_sheets.specs.declared.sheet.OutputKind.{OutputKind}
 use Rattle.s3_sheets.specs.declared.sheet.Operation.{Operation}
-use Rattle.s3_sheets.specs.declared.sheet.Operation.TheVariants.{Add, Subtract, Multiply, Divide, ZeroAdd, ZeroSubtract, MoveRemainder, Compare, Move, MoveLeft, SetOn, SetOff, GoTo, Tag, ExecuteSubroutine, BeginSubroutine, EndSubroutine, Except, Chain}
+use Rattle.s3_sheets.specs.declared.sheet.Operation.TheVariants.{Divide, GoTo, ExecuteSubroutine, Except, Chain}
 use Rattle.s3_sheets.specs.declared.sheet.CalculationLine.{CalculationLine}
 use Rattle.s3_meaning.specs.Requests.{Request, Answer, Found, Nothing, Done, Refused, Reply}
 use Rattle.s3_meaning.specs.RecordTypes.{RecordType}
 use Rattle.s3_meaning.specs.Calculations.{Calculation, name_in, is_tag}
 use Rattle.s3_meaning.specs.OutputLines.{Output}
-use Rattle.s3_meaning.specs.Source.{Source, body, file_named, is_printer, total_calculations, detail_calculations}
-use Rattle.s3_meaning.specs.Environment.{Environment, turn}
+use Rattle.s3_meaning.specs.Source.{Source, file_named, is_printer}
+use Rattle.s3_meaning.specs.Environment.{Environment}
 use Rattle.s3_meaning.specs.Selection.{Head, InputFile, Reading, Selected, head_key, in_sequence, is_unread, select, taken, is_matched, type_of}
 use Rattle.s3_meaning.specs.Runs.{Run, Rest, Anew, ask, ended, to_totals, replied, halted}
 use Rattle.s3_meaning.specs.Moving.{counts, number_moved, field_moved, fields_moved}
 use Rattle.s3_meaning.specs.Output.{is_exception, is_heading_or_detail, is_total_line, is_served, line_holds, printed, stored_or_halted, file_line_put, line_put, lines_put}
-use Rattle.s3_meaning.specs.Calculating.{has_tag, after_tag, number_in, first_indicator, calculation_holds, divided, not_found, chained_to, on_chain, chained, performed, calculated}
+use Rattle.s3_meaning.specs.Calculating.{has_tag, number_in, first_indicator, calculation_holds, divided, not_found, chained_to, on_chain, chained, performed, calculated}
 use Rattle.s3_meaning.specs.Cycle.{halts_shown, headings, cleared, headed, typed, counted_read, on_read, file_read, files_read, totals, last_time, total_time, has_overflowed, overflow_lines, detail_time, record_time, selected_or_last, reading_time, one_cycle, renewed, anew_within, again}
 
 -- two rests give the same run for answers that are at most so many

@@ -1,5 +1,5 @@
 -- After a record was selected, its file is to be read.
-use Rattle.std.proofs.Common.{◌≡◌, ℕ, ◌==◌, nat_eq, Bool, true, false, not, ◌&&◌, ◌||◌, if◌then◌else◌, cond, List, [], ◌∷◌, ◌++◌, map, filter, filter_map, find, Option, Some, None, is_some, option_map, refl, sym, subst, true≢false, arith}
+use Rattle.std.proofs.Common.{◌≡◌, ℕ, nat_eq, Bool, true, false, not, ◌&&◌, ◌||◌, if◌then◌else◌, cond, List, [], ◌∷◌, ◌++◌, map, filter, filter_map, find, Option, Some, None, is_some, option_map, refl, sym, subst, true≢false, arith}
 use Rattle.std.specs.Option.{option_or}
 use Rattle.std.specs.List.{list_any, cons_option}
 use Rattle.std.specs.Cmp.Lexicographic.{pointwise}
@@ -8,7 +8,7 @@ use Rattle.s3_sheets.specs.declared.name.Name.{Name}
 use Rattle.s3_sheets.specs.declared.sheet.Designation.TheVariants.{Primary, Secondary}
 use Rattle.s3_meaning.specs.Names.{same_name}
 use Rattle.s3_meaning.specs.Source.{is_designated}
-use Rattle.s3_meaning.specs.Selection.{Head, Standing, Unread, InputFile, Reading, Selected, head_of, is_unread, selectable, key_of, is_less, lesser, least, primary_first, has_met_end, select_at_end, select, same_key, vacated, taken}
+use Rattle.s3_meaning.specs.Selection.{Head, Unread, InputFile, Reading, Selected, head_of, is_unread, selectable, key_of, is_less, lesser, least, primary_first, has_met_end, select_at_end, select, same_key, vacated, taken}
 
 Every : {A : Type 0} → (A → Type 0) → List A → Type 0
 Every P [] = Unit {0}

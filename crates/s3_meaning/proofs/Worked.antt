@@ -1,27 +1,24 @@
 -- Worked rows, as a run's requests after each answer.
-use Rattle.std.proofs.Common.{◌≡◌, ℕ, ℤ, pos, negsuc, List, [], ◌∷◌, Option, Some, None, Bool, true, false, refl}
+use Rattle.std.proofs.Common.{◌≡◌, pos, negsuc, List, [], ◌∷◌, Some, None, true, false, refl}
 use Rattle.s3_decimal.specs.Exact.{stored}
-use Rattle.s3_edit.specs.declared.code.Sign.TheVariants.{Never, Credit, Minus}
-use Rattle.s3_edit.specs.declared.code.EditCode.TheVariants.{Edited as EditedCode, Zoned as ZonedCode, Date, Suppressed}
-use Rattle.s3_sheets.specs.declared.indicator.Indicator.TheVariants.{General, Level, LastRecord, Matching, Halt, FirstPage, Overflow, Switch}
-use Rattle.s3_meaning.specs.declared.halt.HaltCode.TheVariants.{HaltIndicator, UnidentifiedRecord, ZeroDivisor, BadDigit, NoRecordFound, DuplicateKey, OutOfSequence, KeyChanged, NothingToUpdate, FileFull, KeyNotAscending}
-use Rattle.s3_sheets.specs.declared.sheet.FileUse.TheVariants.{Input as InputUse, Output as OutputUse, Update as UpdateUse}
-use Rattle.s3_sheets.specs.declared.sheet.Designation.TheVariants.{Primary, Secondary, Chained}
+use Rattle.s3_sheets.specs.declared.indicator.Indicator.TheVariants.{General, Matching, FirstPage, Overflow}
+use Rattle.s3_meaning.specs.declared.halt.HaltCode.TheVariants.{ZeroDivisor}
+use Rattle.s3_sheets.specs.declared.sheet.FileUse.TheVariants.{Input as InputUse, Output as OutputUse}
+use Rattle.s3_sheets.specs.declared.sheet.Designation.TheVariants.{Primary, Secondary}
 use Rattle.s3_sheets.specs.declared.sheet.Device.TheVariants.{CardReader, Printer, Disk}
-use Rattle.s3_sheets.specs.declared.sheet.CodePart.TheVariants.{Character, Zone, Digit}
-use Rattle.s3_sheets.specs.declared.sheet.FieldForm.TheVariants.{Alphanumeric, Zoned, Packed}
-use Rattle.s3_sheets.specs.declared.sheet.InputLine.TheVariants.{Record, And as InputAnd, Or as InputOr, Field as InputField}
-use Rattle.s3_sheets.specs.declared.sheet.Factor.TheVariants.{Named, Number, Text}
-use Rattle.s3_sheets.specs.declared.sheet.Operation.TheVariants.{Add, Subtract, Multiply, Divide, ZeroAdd, ZeroSubtract, MoveRemainder, Compare, Move, MoveLeft, SetOn, SetOff, GoTo, Tag, ExecuteSubroutine, BeginSubroutine, EndSubroutine, Except, Chain}
-use Rattle.s3_sheets.specs.declared.sheet.CalculationTime.TheVariants.{Detail as DetailTime, Total as TotalTime, Subroutine as SubroutineTime, And as AndTime, Or as OrTime}
-use Rattle.s3_sheets.specs.declared.sheet.Shape.TheVariants.{Alphanumeric as AlphanumericShape, Numeric as NumericShape}
-use Rattle.s3_sheets.specs.declared.sheet.OutputKind.TheVariants.{Heading as HeadingLine, Detail as DetailLine, Total as TotalLine, Exception as ExceptionLine}
-use Rattle.s3_sheets.specs.declared.sheet.OutputForm.TheVariants.{Plain as PlainOutput, Packed as PackedOutput, Edited as EditedOutput}
+use Rattle.s3_sheets.specs.declared.sheet.FieldForm.TheVariants.{Alphanumeric}
+use Rattle.s3_sheets.specs.declared.sheet.InputLine.TheVariants.{Record, Field as InputField}
+use Rattle.s3_sheets.specs.declared.sheet.Factor.TheVariants.{Number}
+use Rattle.s3_sheets.specs.declared.sheet.Operation.TheVariants.{Add, Divide, ZeroAdd, MoveRemainder}
+use Rattle.s3_sheets.specs.declared.sheet.CalculationTime.TheVariants.{Detail as DetailTime}
+use Rattle.s3_sheets.specs.declared.sheet.Shape.TheVariants.{Numeric as NumericShape}
+use Rattle.s3_sheets.specs.declared.sheet.OutputKind.TheVariants.{Heading as HeadingLine, Detail as DetailLine}
+use Rattle.s3_sheets.specs.declared.sheet.OutputForm.TheVariants.{Plain as PlainOutput}
 use Rattle.s3_sheets.specs.declared.sheet.OutputContent.TheVariants.{Constant as ConstantContent, Field as FieldContent}
-use Rattle.s3_sheets.specs.declared.sheet.OutputLine.TheVariants.{Line as LineCard, And as OutputAnd, Or as OutputOr, Field as OutputField}
+use Rattle.s3_sheets.specs.declared.sheet.OutputLine.TheVariants.{Line as LineCard, Or as OutputOr, Field as OutputField}
 use Rattle.s3_sheets.specs.declared.sheet.SheetLine.TheVariants.{Header, File, Input, Calculation as CalculationSheet, Output as OutputSheet}
 use Rattle.s3_sheets.specs.declared.sheet.Line.{Line}
-use Rattle.s3_meaning.specs.Requests.{Request, Key, RecordNumber, Card, Read, Chain as ChainRequest, Append, Add as AddRequest, Update as UpdateRequest, Print, Jump, Ask, End, Answer, Found, Nothing, Done, Refused, Reply}
+use Rattle.s3_meaning.specs.Requests.{Request, Card, Read, Print, Ask, End, Answer, Found, Nothing, Done, Reply}
 use Rattle.s3_meaning.specs.Runs.{Run, ask, ended, to_totals, replied, halted}
 use Rattle.s3_meaning.specs.Moving.{number_moved, field_moved, fields_moved}
 use Rattle.s3_meaning.specs.Output.{printed, stored_or_halted, file_line_put, line_put, lines_put}

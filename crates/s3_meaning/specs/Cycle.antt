@@ -1,19 +1,17 @@
 -- The cycle: its twelve steps, each a function from what follows it, and the whole run of a job.
-use Rattle.std.specs.Prelude.{ℕ, zero, suc, ◌+◌, ◌==◌, Bool, true, false, not, ◌&&◌, ◌||◌, List, [], ◌∷◌, length, map, filter, Option, Some, None, is_some, if◌then◌else◌}
+use Rattle.std.specs.Prelude.{ℕ, zero, suc, ◌+◌, min, Bool, true, false, not, ◌&&◌, ◌||◌, List, [], ◌∷◌, length, map, filter, Option, Some, None, if◌then◌else◌}
 use Rattle.std.specs.Option.{option_or}
 use Rattle.std.specs.List.{list_any}
 use Rattle.s3_sheets.specs.declared.indicator.Indicator.{Indicator}
 use Rattle.s3_sheets.specs.declared.indicator.Indicator.TheVariants.{LastRecord, Matching, Halt, FirstPage}
 use Rattle.s3_meaning.specs.declared.halt.HaltCode.TheVariants.{HaltIndicator, UnidentifiedRecord, OutOfSequence}
 use Rattle.s3_sheets.specs.declared.sheet.FileLine.{FileLine}
-use Rattle.s3_sheets.specs.declared.sheet.Line.{Line}
 use Rattle.s3_meaning.specs.Names.{same_indicator}
 use Rattle.s3_meaning.specs.RecordTypes.{RecordType}
-use Rattle.s3_meaning.specs.Calculations.{Calculation}
-use Rattle.s3_meaning.specs.Source.{Source, source_of, detail_calculations, total_calculations, is_input, is_card_reader, overflow_of, has_control_fields, has_levels}
+use Rattle.s3_meaning.specs.Source.{Source, detail_calculations, total_calculations, is_input, is_card_reader, overflow_of, has_control_fields, has_levels}
 use Rattle.s3_meaning.specs.Requests.{NthRead, Request, Card, Read, Answer, Found}
 use Rattle.s3_meaning.specs.Environment.{Environment, turn, turn_levels, with_last_record, put_current, at_first}
-use Rattle.s3_meaning.specs.Selection.{type_of, Head, Standing, Unread, Stands, Ended, InputFile, Reading, head_key, is_unread, Selected, select, is_matched, taken, in_sequence, broken}
+use Rattle.s3_meaning.specs.Selection.{type_of, Head, Unread, Stands, Ended, InputFile, Reading, head_key, is_unread, Selected, select, is_matched, taken, in_sequence, broken}
 use Rattle.s3_meaning.specs.Runs.{Run, Rest, Anew, ask, ended, halted}
 use Rattle.s3_meaning.specs.Moving.{fields_moved}
 use Rattle.s3_meaning.specs.Output.{is_served, is_heading_or_detail, is_total_line, lines_put}
@@ -58,9 +56,9 @@ unfoldable pub typed : Anew → InputFile → List ℕ → Option RecordType →
 typed anew input bytes (Some kind) go e = headed anew input (record { number = input.reads; bytes = bytes; kind = kind }) go e
 typed anew input bytes None go e = halted anew UnidentifiedRecord (anew.read input go) e
 
--- one record more was read
+-- one record more was read; the count stays at 999,999, the most records that a file can have
 abbrev pub counted_read : InputFile → InputFile
-counted_read input = record input { reads = input.reads + 1 }
+counted_read input = record input { reads = min (input.reads + 1) 999999 }
 
 unfoldable pub on_read : Source → Anew → InputFile → (InputFile → Rest) → Answer → Rest
 on_read source anew input go (Found bytes) e = typed anew (counted_read input) bytes (type_of source input.file.name bytes) go e

@@ -1,5 +1,5 @@
 -- Names and indicators.
-use Rattle.std.specs.Prelude.{ℕ, ◌+◌, ◌==◌, nat_eq, Bool, true, false, not, List, [], ◌∷◌, ◌++◌, replicate, Option, Some, None, filter_map}
+use Rattle.std.specs.Prelude.{◌==◌, nat_eq, Bool, true, false, List, [], ◌∷◌, replicate, Option, Some, None, filter_map}
 use Rattle.std.specs.Cmp.Lexicographic.{pointwise}
 use Rattle.s3_sheets.specs.declared.name.Name.{Name}
 use Rattle.s3_sheets.specs.declared.indicator.Indicator.{Indicator}

@@ -1,5 +1,5 @@
 -- The lines of the O sheet: each with its groups of conditions and its fields.
-use Rattle.std.specs.Prelude.{ℕ, Bool, List, [], ◌∷◌, ◌++◌, Option, Some, None, unwrap_or}
+use Rattle.std.specs.Prelude.{Bool, List, [], ◌∷◌, ◌++◌, unwrap_or}
 use Rattle.s3_sheets.specs.declared.name.Name.{Name}
 use Rattle.s3_sheets.specs.declared.indicator.Condition.{Condition}
 use Rattle.s3_sheets.specs.declared.sheet.OutputKind.{OutputKind}

@@ -1,5 +1,5 @@
 -- The record types of the I sheet: each with all its codes, and the fields of its group.
-use Rattle.std.specs.Prelude.{ℕ, List, [], ◌∷◌, ◌++◌, Option}
+use Rattle.std.specs.Prelude.{List, [], ◌∷◌, ◌++◌, Option}
 use Rattle.s3_sheets.specs.declared.name.Name.{Name}
 use Rattle.s3_sheets.specs.declared.indicator.Indicator.{Indicator}
 use Rattle.s3_sheets.specs.declared.sheet.RecordCode.{RecordCode}

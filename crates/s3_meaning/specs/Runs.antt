@@ -1,6 +1,6 @@
 -- Runs: what a job asks for, given the answers so far. Nothing here suspends: a run takes all its answers,
 -- and gives the request that stands when they are used up.
-use Rattle.std.specs.Prelude.{ℕ, ◌==◌, Bool, true, false, List, [], ◌∷◌, if◌then◌else◌}
+use Rattle.std.specs.Prelude.{◌==◌, Bool, true, false, List, [], ◌∷◌, if◌then◌else◌}
 use Rattle.s3_sheets.specs.declared.indicator.Indicator.TheVariants.{LastRecord, FirstPage}
 use Rattle.s3_meaning.specs.declared.halt.HaltCode.{HaltCode}
 use Rattle.s3_meaning.specs.Requests.{Request, Ask, End, Answer, Reply}

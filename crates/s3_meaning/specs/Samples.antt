@@ -1,22 +1,18 @@
 -- Two sources of worked rows, as typed lines: the card lister, and totals by a control field.
-use Rattle.std.specs.Prelude.{ℕ, ◌-◌, ◌++◌, Bool, true, false, List, [], ◌∷◌, length, replicate, Option, Some, None, pos}
+use Rattle.std.specs.Prelude.{ℕ, ◌-◌, ◌++◌, true, false, List, [], ◌∷◌, length, replicate, Option, Some, None}
 use Rattle.s3_edit.specs.declared.code.EditCode.TheVariants.{Suppressed}
 use Rattle.s3_sheets.specs.declared.name.Name.{Name}
-use Rattle.s3_sheets.specs.declared.indicator.Indicator.{Indicator}
 use Rattle.s3_sheets.specs.declared.indicator.Indicator.TheVariants.{General, Level}
 use Rattle.s3_sheets.specs.declared.indicator.Condition.{Condition}
 use Rattle.s3_sheets.specs.declared.sheet.FileUse.TheVariants.{Input as InputUse, Output as OutputUse}
 use Rattle.s3_sheets.specs.declared.sheet.Designation.TheVariants.{Primary}
 use Rattle.s3_sheets.specs.declared.sheet.Device.TheVariants.{CardReader, Printer}
 use Rattle.s3_sheets.specs.declared.sheet.FieldForm.TheVariants.{Alphanumeric, Zoned}
-use Rattle.s3_sheets.specs.declared.sheet.FileLine.{FileLine}
 use Rattle.s3_sheets.specs.declared.sheet.InputLine.TheVariants.{Record, Field}
 use Rattle.s3_sheets.specs.declared.sheet.Factor.TheVariants.{Named}
 use Rattle.s3_sheets.specs.declared.sheet.Operation.TheVariants.{Add}
 use Rattle.s3_sheets.specs.declared.sheet.CalculationTime.TheVariants.{Detail as DetailTime}
-use Rattle.s3_sheets.specs.declared.sheet.CalculationLine.{CalculationLine}
 use Rattle.s3_sheets.specs.declared.sheet.Shape.TheVariants.{Numeric}
-use Rattle.s3_sheets.specs.declared.sheet.OutputKind.{OutputKind}
 use Rattle.s3_sheets.specs.declared.sheet.OutputKind.TheVariants.{Detail, Total}
 use Rattle.s3_sheets.specs.declared.sheet.OutputForm.TheVariants.{Plain, Edited}
 use Rattle.s3_sheets.specs.declared.sheet.OutputContent.TheVariants.{Field as FieldContent}

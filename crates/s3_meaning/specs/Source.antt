@@ -1,5 +1,5 @@
 -- A source: what its sheets say, put together.
-use Rattle.std.specs.Prelude.{ℕ, ◌+◌, ◌-◌, ◌*◌, ◌==◌, Bool, true, false, not, ◌&&◌, ◌||◌, List, [], ◌∷◌, ◌++◌, Option, Some, None, is_some, unwrap_or, option_map, filter, filter_map, find, if◌then◌else◌}
+use Rattle.std.specs.Prelude.{ℕ, ◌+◌, ◌-◌, ◌*◌, Bool, true, false, not, ◌||◌, List, [], ◌∷◌, ◌++◌, Option, Some, None, is_some, unwrap_or, filter, filter_map, find, if◌then◌else◌}
 use Rattle.std.specs.Option.{option_or}
 use Rattle.std.specs.List.{list_any}
 use Rattle.s3_sheets.specs.declared.name.Name.{Name}
@@ -9,7 +9,7 @@ use Rattle.s3_sheets.specs.declared.sheet.FileUse.TheVariants.{Output as OutputU
 use Rattle.s3_sheets.specs.declared.sheet.Designation.{Designation}
 use Rattle.s3_sheets.specs.declared.sheet.Designation.TheVariants.{Primary, Secondary, Chained}
 use Rattle.s3_sheets.specs.declared.sheet.Device.{Device}
-use Rattle.s3_sheets.specs.declared.sheet.Device.TheVariants.{CardReader, Printer, Disk}
+use Rattle.s3_sheets.specs.declared.sheet.Device.TheVariants.{CardReader, Printer}
 use Rattle.s3_sheets.specs.declared.sheet.FileLine.{FileLine}
 use Rattle.s3_sheets.specs.declared.sheet.FieldForm.{FieldForm}
 use Rattle.s3_sheets.specs.declared.sheet.FieldForm.TheVariants.{Alphanumeric as AlphanumericForm, Zoned, Packed}
@@ -23,7 +23,7 @@ use Rattle.s3_sheets.specs.declared.sheet.OutputLine.{OutputLine}
 use Rattle.s3_sheets.specs.declared.sheet.SheetLine.{SheetLine}
 use Rattle.s3_sheets.specs.declared.sheet.SheetLine.TheVariants.{Header, File, Input, Calculation as CalculationSheet, Output as OutputSheet}
 use Rattle.s3_sheets.specs.declared.sheet.Line.{Line}
-use Rattle.s3_meaning.specs.Names.{same_name, is_named, is_indicator, page, udate, umonth, uday, uyear, rpgobj}
+use Rattle.s3_meaning.specs.Names.{same_name, is_indicator, page, udate, umonth, uday, uyear, rpgobj}
 use Rattle.s3_meaning.specs.RecordTypes.{RecordType, types_of}
 use Rattle.s3_meaning.specs.Calculations.{Calculation, calculations_of, is_detail, is_total, begins, ends}
 use Rattle.s3_meaning.specs.OutputLines.{Output, outputs_of}

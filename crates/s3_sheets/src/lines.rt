@@ -3,6 +3,7 @@
 ghost use Rattle.std.specs.Prelude.{◌≡◌, ◌≤◌, length};
 ghost use Rattle.s3_sheets.specs.Lines.{number_or_zero as number_or_zero_spec, maybe_name as maybe_name_spec, use_of as use_of_spec, designation_of as designation_of_spec, device_of as device_of_spec, file_line as file_line_spec, record_line as record_line_spec, field_line as field_line_spec, three_conditions as three_conditions_spec, output_card as output_card_spec, content_of as content_of_spec, output_field as output_field_spec, sheet_line as sheet_line_spec, line_of as line_of_spec};
 
+use crate::codes::PRINTER;
 use crate::columns::{are_blank, columns, name, number};
 use crate::entries::{condition, constant, general};
 use crate::indicator::{Condition, Indicator};
@@ -14,7 +15,7 @@ use crate::sheet::{
     Spacing,
 };
 use s3_cards::Card;
-use s3_cards::ebcdic::{LETTER_E, LETTER_I, LETTER_N, LETTER_O, LETTER_P, LETTER_R, LETTER_T};
+use s3_cards::ebcdic::{LETTER_E, LETTER_O, LETTER_P};
 
 fn number_or_zero(columns: &[u8]) -> u16
     ensures { result ≡ number_or_zero_spec columns.now }
@@ -58,12 +59,7 @@ fn designation_of(code: u8) -> Option<Designation>
 fn device_of(device: &[u8]) -> Device
     ensures { result ≡ device_of_spec device.now }
 {
-    if device
-        == [
-            LETTER_P, LETTER_R, LETTER_I, LETTER_N, LETTER_T, LETTER_E, LETTER_R,
-        ]
-        .as_slice()
-    {
+    if device == PRINTER.as_slice() {
         Device::Printer
     } else {
         Device::CardReader

@@ -8,14 +8,10 @@ ghost use Rattle.s3_sheets.specs.Entries.{constant_text};
 ghost use Rattle.s3_sheets.specs.Rules.{rule_fault as rule_fault_spec, entry_fault as entry_fault_spec, out_of_range, longest_record as longest_record_spec, is_bad_extent as bad_extent_spec, content_fault as content_fault_spec, begins_too_early as too_early_spec, same_codes, is_on_card, fits, MaybeField, breaks as breaks_spec};
 ghost use Rattle.s3_sheets.specs.RuleViews.{rule_view, entry_view};
 
-use crate::codes::is_letter;
+use crate::codes::{MFCU1, MFCU2, PRINTER, is_letter};
 use crate::columns::{are_blank, columns, is_name, name, number};
 use crate::entries::{constant, general, is_condition, is_reserved};
 use s3_cards::Card;
-use s3_cards::ebcdic::{
-    BLANK, DIGIT_1, DIGIT_2, LETTER_C, LETTER_E, LETTER_F, LETTER_I, LETTER_M, LETTER_N, LETTER_P,
-    LETTER_R, LETTER_T, LETTER_U,
-};
 
 /// What may stand in some columns.
 #[derive(Clone, Copy)]
@@ -87,24 +83,9 @@ fn is_out_of_range(number: Option<u16>, low: u16, high: u16) -> bool
 fn longest_record(device: &[u8]) -> u16
     ensures { result ≡ longest_record_spec device.now }
 {
-    if device
-        == [
-            LETTER_M, LETTER_F, LETTER_C, LETTER_U, DIGIT_1, BLANK, BLANK,
-        ]
-        .as_slice()
-        || device
-            == [
-                LETTER_M, LETTER_F, LETTER_C, LETTER_U, DIGIT_2, BLANK, BLANK,
-            ]
-            .as_slice()
-    {
+    if device == MFCU1.as_slice() || device == MFCU2.as_slice() {
         96
-    } else if device
-        == [
-            LETTER_P, LETTER_R, LETTER_I, LETTER_N, LETTER_T, LETTER_E, LETTER_R,
-        ]
-        .as_slice()
-    {
+    } else if device == PRINTER.as_slice() {
         132
     } else {
         1_024

@@ -6,348 +6,104 @@ ghost use Rattle.s3_sheets.specs.Rules.{is_on_card};
 ghost use Rattle.s3_sheets.specs.RuleViews.{rule_view};
 ghost use Rattle.s3_sheets.specs.Tables.{rules_of as rules_of_spec};
 
+use crate::codes::{MFCU1, MFCU2, PRINTER};
 use crate::kind::CardKind;
 use crate::rules::{Entry, Rule};
 use s3_cards::ebcdic::{
-    BLANK, DIGIT_1, DIGIT_2, LETTER_A, LETTER_C, LETTER_D, LETTER_E, LETTER_F, LETTER_I, LETTER_M,
-    LETTER_N, LETTER_O, LETTER_P, LETTER_R, LETTER_T, LETTER_U,
+    BLANK, LETTER_A, LETTER_D, LETTER_E, LETTER_F, LETTER_I, LETTER_O, LETTER_P,
 };
+
+macro_rules! columns {
+    ($from:literal to $to:literal: $entry:expr) => {
+        Rule {
+            from: $from,
+            to: $to,
+            entry: $entry,
+        }
+    };
+}
 
 static NO_RULES: [Rule; 0] = [];
 
 /// The program identification; nothing else is read on the H card.
-static HEADER_RULES: [Rule; 1] = [Rule {
-    from: 75,
-    to: 80,
-    entry: Entry::MaybeName,
-}];
+static HEADER_RULES: [Rule; 1] = [columns!(75 to 80: Entry::MaybeName)];
 
 static FILE_RULES: [Rule; 20] = [
-    Rule {
-        from: 7,
-        to: 14,
-        entry: Entry::Name,
-    },
-    Rule {
-        from: 15,
-        to: 15,
-        entry: Entry::OneOf(&[&[LETTER_I], &[LETTER_O]]),
-    },
-    Rule {
-        from: 16,
-        to: 17,
-        entry: Entry::OneOf(&[&[BLANK, BLANK], &[LETTER_P, BLANK], &[LETTER_P, LETTER_E]]),
-    },
-    Rule {
-        from: 18,
-        to: 18,
-        entry: Entry::OneOf(&[&[BLANK], &[LETTER_A]]),
-    },
-    Rule {
-        from: 19,
-        to: 19,
-        entry: Entry::OneOf(&[&[LETTER_F]]),
-    },
-    Rule {
-        from: 20,
-        to: 23,
-        entry: Entry::MaybeNumber(0, 9_999),
-    },
-    Rule {
-        from: 24,
-        to: 46,
-        entry: Entry::RecordLength,
-    },
-    Rule {
-        from: 28,
-        to: 28,
-        entry: Entry::Blank,
-    },
-    Rule {
-        from: 29,
-        to: 30,
-        entry: Entry::Blank,
-    },
-    Rule {
-        from: 31,
-        to: 31,
-        entry: Entry::Blank,
-    },
-    Rule {
-        from: 32,
-        to: 32,
-        entry: Entry::Blank,
-    },
-    Rule {
-        from: 33,
-        to: 34,
-        entry: Entry::Blank,
-    },
-    Rule {
-        from: 35,
-        to: 38,
-        entry: Entry::Blank,
-    },
-    Rule {
-        from: 39,
-        to: 39,
-        entry: Entry::Blank,
-    },
-    Rule {
-        from: 40,
-        to: 46,
-        entry: Entry::OneOf(&[
-            &[
-                LETTER_M, LETTER_F, LETTER_C, LETTER_U, DIGIT_1, BLANK, BLANK,
-            ],
-            &[
-                LETTER_M, LETTER_F, LETTER_C, LETTER_U, DIGIT_2, BLANK, BLANK,
-            ],
-            &[
-                LETTER_P, LETTER_R, LETTER_I, LETTER_N, LETTER_T, LETTER_E, LETTER_R,
-            ],
-        ]),
-    },
-    Rule {
-        from: 47,
-        to: 65,
-        entry: Entry::Blank,
-    },
-    Rule {
-        from: 66,
-        to: 66,
-        entry: Entry::Blank,
-    },
-    Rule {
-        from: 67,
-        to: 70,
-        entry: Entry::Blank,
-    },
-    Rule {
-        from: 71,
-        to: 72,
-        entry: Entry::Blank,
-    },
-    Rule {
-        from: 73,
-        to: 74,
-        entry: Entry::Blank,
-    },
+    columns!(7 to 14: Entry::Name), // file name
+    columns!(15 to 15: Entry::OneOf(&[&[LETTER_I], &[LETTER_O]])), // type
+    columns!(16 to 17: Entry::OneOf(&[&[BLANK, BLANK], &[LETTER_P, BLANK], &[LETTER_P, LETTER_E]])), // designation; E for P alone
+    columns!(18 to 18: Entry::OneOf(&[&[BLANK], &[LETTER_A]])), // sequence: ascending
+    columns!(19 to 19: Entry::OneOf(&[&[LETTER_F]])), // format
+    columns!(20 to 23: Entry::MaybeNumber(0, 9_999)), // block length, not used
+    columns!(24 to 46: Entry::RecordLength), // record length, within the device's
+    columns!(28 to 28: Entry::Blank), // mode
+    columns!(29 to 30: Entry::Blank), // key length
+    columns!(31 to 31: Entry::Blank), // record address type
+    columns!(32 to 32: Entry::Blank), // organization
+    columns!(33 to 34: Entry::Blank), // overflow indicator
+    columns!(35 to 38: Entry::Blank), // key start
+    columns!(39 to 39: Entry::Blank),
+    columns!(40 to 46: Entry::OneOf(&[&MFCU1, &MFCU2, &PRINTER])), // device
+    columns!(47 to 65: Entry::Blank),
+    columns!(66 to 66: Entry::Blank), // addition
+    columns!(67 to 70: Entry::Blank),
+    columns!(71 to 72: Entry::Blank), // condition of the file
+    columns!(73 to 74: Entry::Blank),
 ];
 
 static RECORD_RULES: [Rule; 6] = [
-    Rule {
-        from: 7,
-        to: 14,
-        entry: Entry::Name,
-    },
-    Rule {
-        from: 15,
-        to: 16,
-        entry: Entry::Letters,
-    },
-    Rule {
-        from: 17,
-        to: 18,
-        entry: Entry::Blank,
-    },
-    Rule {
-        from: 19,
-        to: 20,
-        entry: Entry::GeneralIndicator,
-    },
-    Rule {
-        from: 21,
-        to: 41,
-        entry: Entry::Blank,
-    },
-    Rule {
-        from: 42,
-        to: 74,
-        entry: Entry::Blank,
-    },
+    columns!(7 to 14: Entry::Name), // file name
+    columns!(15 to 16: Entry::Letters), // sequence
+    columns!(17 to 18: Entry::Blank),
+    columns!(19 to 20: Entry::GeneralIndicator), // record identifying indicator
+    columns!(21 to 41: Entry::Blank), // three codes
+    columns!(42 to 74: Entry::Blank),
 ];
 
 /// AND and OR lines.
-static GROUP_RULES: [Rule; 1] = [Rule {
-    from: 14,
-    to: 16,
-    entry: Entry::Unbuilt,
-}];
+static GROUP_RULES: [Rule; 1] = [columns!(14 to 16: Entry::Unbuilt)];
 
 static FIELD_RULES: [Rule; 12] = [
-    Rule {
-        from: 7,
-        to: 42,
-        entry: Entry::Blank,
-    },
-    Rule {
-        from: 43,
-        to: 43,
-        entry: Entry::Blank,
-    },
-    Rule {
-        from: 44,
-        to: 47,
-        entry: Entry::Number(1, 9_999),
-    },
-    Rule {
-        from: 48,
-        to: 51,
-        entry: Entry::Number(1, 9_999),
-    },
-    Rule {
-        from: 44,
-        to: 51,
-        entry: Entry::Extent,
-    },
-    Rule {
-        from: 52,
-        to: 52,
-        entry: Entry::Blank,
-    },
-    Rule {
-        from: 53,
-        to: 58,
-        entry: Entry::Name,
-    },
-    Rule {
-        from: 59,
-        to: 60,
-        entry: Entry::Blank,
-    },
-    Rule {
-        from: 61,
-        to: 62,
-        entry: Entry::Blank,
-    },
-    Rule {
-        from: 63,
-        to: 64,
-        entry: Entry::Blank,
-    },
-    Rule {
-        from: 65,
-        to: 70,
-        entry: Entry::Blank,
-    },
-    Rule {
-        from: 71,
-        to: 74,
-        entry: Entry::Blank,
-    },
+    columns!(7 to 42: Entry::Blank),
+    columns!(43 to 43: Entry::Blank), // packed
+    columns!(44 to 47: Entry::Number(1, 9_999)), // from
+    columns!(48 to 51: Entry::Number(1, 9_999)), // to
+    columns!(44 to 51: Entry::Extent),
+    columns!(52 to 52: Entry::Blank), // decimals
+    columns!(53 to 58: Entry::Name), // field
+    columns!(59 to 60: Entry::Blank), // control level
+    columns!(61 to 62: Entry::Blank), // match field
+    columns!(63 to 64: Entry::Blank), // relation to a record type
+    columns!(65 to 70: Entry::Blank), // field indicators
+    columns!(71 to 74: Entry::Blank),
 ];
 
-static CALCULATION_RULES: [Rule; 1] = [Rule {
-    from: 6,
-    to: 74,
-    entry: Entry::Unbuilt,
-}];
+static CALCULATION_RULES: [Rule; 1] = [columns!(6 to 74: Entry::Unbuilt)];
 
 static OUTPUT_LINE_RULES: [Rule; 9] = [
-    Rule {
-        from: 7,
-        to: 14,
-        entry: Entry::MaybeName,
-    },
-    Rule {
-        from: 15,
-        to: 15,
-        entry: Entry::OneOf(&[&[LETTER_D]]),
-    },
-    Rule {
-        from: 16,
-        to: 16,
-        entry: Entry::Blank,
-    },
-    Rule {
-        from: 17,
-        to: 18,
-        entry: Entry::Blank,
-    },
-    Rule {
-        from: 19,
-        to: 22,
-        entry: Entry::Blank,
-    },
-    Rule {
-        from: 23,
-        to: 25,
-        entry: Entry::MaybeCondition,
-    },
-    Rule {
-        from: 26,
-        to: 28,
-        entry: Entry::MaybeCondition,
-    },
-    Rule {
-        from: 29,
-        to: 31,
-        entry: Entry::MaybeCondition,
-    },
-    Rule {
-        from: 32,
-        to: 74,
-        entry: Entry::Blank,
-    },
+    columns!(7 to 14: Entry::MaybeName), // file name
+    columns!(15 to 15: Entry::OneOf(&[&[LETTER_D]])), // type
+    columns!(16 to 16: Entry::Blank), // addition
+    columns!(17 to 18: Entry::Blank), // spaces
+    columns!(19 to 22: Entry::Blank), // skips
+    columns!(23 to 25: Entry::MaybeCondition),
+    columns!(26 to 28: Entry::MaybeCondition),
+    columns!(29 to 31: Entry::MaybeCondition),
+    columns!(32 to 74: Entry::Blank),
 ];
 
 static OUTPUT_FIELD_RULES: [Rule; 11] = [
-    Rule {
-        from: 7,
-        to: 22,
-        entry: Entry::Blank,
-    },
-    Rule {
-        from: 23,
-        to: 31,
-        entry: Entry::Blank,
-    },
-    Rule {
-        from: 32,
-        to: 37,
-        entry: Entry::MaybeField,
-    },
-    Rule {
-        from: 38,
-        to: 38,
-        entry: Entry::Blank,
-    },
-    Rule {
-        from: 39,
-        to: 39,
-        entry: Entry::Blank,
-    },
-    Rule {
-        from: 40,
-        to: 43,
-        entry: Entry::Number(1, 9_999),
-    },
-    Rule {
-        from: 44,
-        to: 44,
-        entry: Entry::Blank,
-    },
-    Rule {
-        from: 45,
-        to: 70,
-        entry: Entry::MaybeConstant,
-    },
-    Rule {
-        from: 32,
-        to: 70,
-        entry: Entry::Content,
-    },
-    Rule {
-        from: 40,
-        to: 70,
-        entry: Entry::ConstantPlace,
-    },
-    Rule {
-        from: 71,
-        to: 74,
-        entry: Entry::Blank,
-    },
+    columns!(7 to 22: Entry::Blank),
+    columns!(23 to 31: Entry::Blank), // conditions
+    columns!(32 to 37: Entry::MaybeField), // field
+    columns!(38 to 38: Entry::Blank), // edit code
+    columns!(39 to 39: Entry::Blank), // blank after
+    columns!(40 to 43: Entry::Number(1, 9_999)), // end position
+    columns!(44 to 44: Entry::Blank), // packed
+    columns!(45 to 70: Entry::MaybeConstant), // constant
+    columns!(32 to 70: Entry::Content),
+    columns!(40 to 70: Entry::ConstantPlace),
+    columns!(71 to 74: Entry::Blank),
 ];
 
 /// The rules of a kind of card.

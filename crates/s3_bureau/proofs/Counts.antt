@@ -1,0 +1,24 @@
+-- A count, read digit by digit.
+use Rattle.std.proofs.Common.{◌≡◌, ◌<◌, ◌≤◌, ◌+◌, ◌-◌, ◌*◌, ◌^◌, ℕ, List, [], ◌∷◌, ◌++◌, Bool, true, false, length, take, drop, get_or, refl, sym, ap, ◌∙◌, arith, zero, suc}
+use Rattle.std.specs.Prelude.{fold, ◌&&◌, Some, None, nat_le, nat_lt}
+use Rattle.std.specs.List.{list_all}
+use Rattle.std.specs.Char.{is_ascii_digit}
+use Rattle.std.proofs.lemmas.List.{take_more, take_all}
+use Rattle.std.proofs.lemmas.List.Folds.{list_all_more}
+use Rattle.std.proofs.lemmas.List.Sums.{fold-append}
+use Rattle.std.proofs.Math.Nat.{pow-suc}
+use Rattle.s3_bureau.specs.Script.{count_of, number_of}
+
+-- the first digits of a text and their number
+pub record CountedSoFar (digits : List ℕ) (i number : ℕ) : Type 0 where
+  pub digit : list_all is_ascii_digit (take i digits) ≡ true
+  pub value : number ≡ number_of (take i digits)
+  pub small : number < 10 ^ i
+
+-- a number of at most three digits has room for one more
+pub room_for_one : (i number : ℕ) → i < 4 → number < 10 ^ i → number * 10 + 9 < 10000
+room_for_one zero number few small = omega arith
+room_for_one (suc zero) number few small = omega arith
+room_for_one (suc (suc zero)) number few small = omega arith
+room_for_one (suc (suc (suc zero))) number few small = omega arith
+room_for_one (suc (suc (suc (suc i)))) number few small = absurd (omega arith)

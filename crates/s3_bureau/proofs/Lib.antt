@@ -1,0 +1,9 @@
+pub mod Closing
+pub mod Counts
+pub mod Digits
+pub mod Memory
+pub mod Performing
+pub mod Running
+pub mod Scripts
+pub mod Showing
+pub mod Trimming

@@ -1,0 +1,46 @@
+-- Only an entry that acts takes memory.
+use Rattle.std.proofs.Common.{◌≡◌, Bool, true, false, List, [], ◌∷◌, Option, Some, None, Result, Ok, Err, refl}
+use Rattle.std.specs.Prelude.{OnErr, if◌then◌else◌}
+use Rattle.s3_meaning.specs.Requests.{Request, Card, Print, Jump, Ask, End}
+use Rattle.s3_ocl.specs.Stream.{Job}
+use Rattle.s3_level.specs.declared.action.Action.TheVariants.{Turn}
+use Rattle.s3_level.specs.declared.action.Did.{Did}
+use Rattle.s3_level.specs.declared.action.Did.TheVariants.{Acted, Idle}
+use Rattle.s3_level.specs.declared.action.Stop.{Stop}
+use Rattle.s3_level.specs.declared.level.Level.{Level}
+use Rattle.s3_level.specs.Parts.{has_room, is_waiting}
+use Rattle.s3_level.specs.World.{World, JobAtWork}
+use Rattle.s3_level.specs.Serving.{Outcome, acted, idle, pending, served, begun}
+use Rattle.s3_level.specs.Solo.{step_of}
+use Rattle.s3_level.specs.Holds.{Holds}
+
+-- who isn't idle acts
+abbrev IdleOrActs : Outcome → Type 0
+IdleOrActs o = (o.did ≡ Idle → ⊥) → o.did ≡ Acted
+
+chosen : (b : Bool) (after w : World) → IdleOrActs (if b then acted after else idle w)
+chosen true after w not_idle = refl
+chosen false after w not_idle = absurd (not_idle refl)
+
+served_acts : (request : Request) (job : JobAtWork) (w : World) → IdleOrActs (served request job w)
+served_acts Card job w not_idle = refl
+served_acts (Print page line text) job w not_idle = chosen (has_room w.lines) _ w not_idle
+served_acts Jump job w not_idle = refl
+served_acts (End at_once) job w not_idle = refl
+served_acts _ job w not_idle = absurd (not_idle refl)
+
+begun_acts : (jobs : List Job) (w : World) → IdleOrActs (begun jobs w)
+begun_acts [] w not_idle = absurd (not_idle refl)
+begun_acts (job ∷ jobs) w not_idle = refl
+
+turn_acts : (w : World) (waits : Bool) (job : Option JobAtWork) → is_waiting w.halts ≡ waits → w.job ≡ job → IdleOrActs (step_of w Turn)
+turn_acts w true job halted at_work not_idle = absurd (not_idle (rw halted refl))
+turn_acts w false None halted at_work not_idle = rw (halted, at_work) (begun_acts w.deck.jobs _ (rw (halted, at_work) at not_idle))
+turn_acts w false (Some job) halted at_work not_idle =
+    let working : World = record w { job = Some job } in
+    rw (halted, at_work) (served_acts (pending job working) job working (rw (halted, at_work) at not_idle))
+
+-- a turn that stops would have acted
+pub turn_that_acts : (old : Level) (result : Result Did Stop) → ((w : World) → Holds old w → (step_of w Turn).did ≡ Idle → result ≡ Ok Idle) → OnErr result ((w : World) → Holds old w → (step_of w Turn).did ≡ Acted)
+turn_that_acts old (Ok did) idle_only = tt
+turn_that_acts old (Err stop) idle_only = λ w held. turn_acts w (is_waiting w.halts) w.job refl refl (λ rests. let same : Err stop ≡ Ok Idle = idle_only w held rests in cc)

@@ -1,0 +1,9 @@
+-- The commands so far were performed.
+use Rattle.std.proofs.Common.{take}
+use Rattle.std.specs.List.{flat_map}
+use Rattle.s3_bureau.specs.Performs.{Performs}
+use Rattle.s3_bureau.specs.Script.{entries_by}
+use Rattle.s3_bureau.proofs.runs.perform.Given as goal
+
+abbrev pub invariant-loop-command : goal.invariant-loop-command
+invariant-loop-command l = Performs (flat_map entries_by (take l.command-index l.commands)) l.initial.bureau l.bureau

@@ -1,0 +1,7 @@
+-- The entry was performed so many times.
+use Rattle.std.proofs.Common.{replicate}
+use Rattle.s3_bureau.specs.Performs.{Performs}
+use Rattle.s3_bureau.proofs.runs.repeat.Given as goal
+
+abbrev pub invariant-loop-time : goal.invariant-loop-time
+invariant-loop-time l = Performs (replicate l._time l.entry) l.initial.bureau l.bureau

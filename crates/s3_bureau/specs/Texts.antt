@@ -1,0 +1,88 @@
+-- Reports and halt texts as bytes.
+use Rattle.std.specs.Prelude.{◌≡◌, ◌<◌, ℕ, ◌-◌, ◌==◌, List, [], ◌∷◌, ◌++◌, Option, Some, None, codes, length, map, replicate, slice_index, unwrap_or, if◌then◌else◌}
+use Rattle.std.specs.List.{flat_map}
+use Rattle.std.specs.Fmt.{decimal}
+use Rattle.s3_cards.specs.Codes.{host_of}
+use Rattle.s3_cards.specs.Printed.{Printed}
+use Rattle.s3_meaning.specs.declared.halt.HaltCode.{HaltCode as ProgramHalt}
+use Rattle.s3_meaning.specs.declared.halt.HaltCode.TheVariants.{HaltIndicator, UnidentifiedRecord, ZeroDivisor, BadDigit, NoRecordFound, DuplicateKey, OutOfSequence, KeyChanged, NothingToUpdate, FileFull, KeyNotAscending}
+use Rattle.s3_level.specs.declared.halt_code.HaltCode.{HaltCode}
+use Rattle.s3_level.specs.declared.halt_code.HaltCode.TheVariants.{FaultyJob, NoProgram, FaultySource, Program}
+use Rattle.s3_level.specs.Parts.{ShownHalt}
+
+-- a number in at least so many decimal digits
+abbrev pub in_digits : ℕ → ℕ → List ℕ
+in_digits width number = replicate (width - length (decimal number)) 48 ++ decimal number
+
+-- the byte that shows an EBCDIC code: its character, or a question mark
+abbrev pub shown_byte : ℕ → ℕ
+shown_byte code = unwrap_or (host_of code) 0x3f
+
+-- the table has the byte that shows each code
+abbrev pub ShowsCodes : List ℕ → Type 0
+ShowsCodes table = (code : ℕ) → code < 256 → slice_index table code ≡ shown_byte code
+
+-- a code before a text that ends in no blank
+abbrev pub before_trimmed : ℕ → List ℕ → List ℕ
+before_trimmed code [] = if code == 0x40 then [] else code ∷ []
+before_trimmed code (next ∷ rest) = code ∷ next ∷ rest
+
+-- a text without the blanks at its end
+abbrev pub trimmed : List ℕ → List ℕ
+trimmed [] = []
+trimmed (code ∷ codes) = before_trimmed code (trimmed codes)
+
+-- page and line of a printed line, and its text
+unfoldable pub report_line : Printed → List ℕ
+report_line p = in_digits 4 p.page ++ 32 ∷ [] ++ in_digits 2 p.line ++ 32 ∷ [] ++ map shown_byte (trimmed p.text) ++ 10 ∷ []
+
+-- the report of printed lines
+abbrev pub report_of : List Printed → List ℕ
+report_of = flat_map report_line
+
+-- the letters of what a program halts for
+abbrev pub letters_of_program : ProgramHalt → List ℕ
+letters_of_program (HaltIndicator n) = codes "H" ++ in_digits 1 n
+letters_of_program UnidentifiedRecord = codes "UR"
+letters_of_program ZeroDivisor = codes "DZ"
+letters_of_program BadDigit = codes "DE"
+letters_of_program NoRecordFound = codes "NF"
+letters_of_program DuplicateKey = codes "DK"
+letters_of_program OutOfSequence = codes "SQ"
+letters_of_program KeyChanged = codes "KC"
+letters_of_program NothingToUpdate = codes "NU"
+letters_of_program FileFull = codes "EX"
+letters_of_program KeyNotAscending = codes "KA"
+
+-- the letters of what a level halts for
+abbrev pub letters_of : HaltCode → List ℕ
+letters_of FaultyJob = codes "OC"
+letters_of NoProgram = codes "PG"
+letters_of FaultySource = codes "CE"
+letters_of (Program code) = letters_of_program code
+
+-- a reply, or `-` for none
+abbrev pub reply_text : Option ℕ → List ℕ
+reply_text (Some digit) = in_digits 1 digit
+reply_text None = codes "-"
+
+-- the job, code and reply of a halt
+unfoldable pub halt_line : ShownHalt → List ℕ
+halt_line h = in_digits 3 h.job ++ 32 ∷ [] ++ letters_of h.code ++ 32 ∷ [] ++ reply_text h.reply ++ 10 ∷ []
+
+-- a job, a card and the number of what is wrong there
+unfoldable pub detail_line : ℕ → ℕ × ℕ → List ℕ
+detail_line job detail = in_digits 3 job ++ 32 ∷ [] ++ in_digits 4 detail.0 ++ 32 ∷ [] ++ in_digits 2 detail.1 ++ 10 ∷ []
+
+-- a halt and a line for each of its details
+unfoldable pub halt_lines : ShownHalt → List ℕ
+halt_lines h = halt_line h ++ flat_map (detail_line h.job) h.details
+
+-- the line of a deck that was refused
+abbrev pub refusal_line : Option (ℕ × ℕ) → List ℕ
+refusal_line (Some detail) = detail_line 0 detail
+refusal_line None = []
+
+-- the halt text of halts, after the line of a deck that was refused
+abbrev pub halt_text_of : Option (ℕ × ℕ) → List ShownHalt → List ℕ
+halt_text_of refusal halts = refusal_line refusal ++ flat_map halt_lines halts

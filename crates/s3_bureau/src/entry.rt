@@ -1,0 +1,11 @@
+//! Entries of a script.
+
+use s3_cards::LevelId;
+use s3_level::Action;
+
+/// One entry of a script: what one level does.
+#[derive(Clone, Copy, Debug, PartialEq, Eq)]
+pub struct Entry {
+    pub level: LevelId,
+    pub action: Action,
+}

@@ -1,0 +1,120 @@
+//! A level's halt text: its halts, with what was wrong at each.
+ghost use Rattle.std.specs.Prelude.{◌≡◌, ◌++◌, map, OnOk, IfOk};
+ghost use Rattle.std.specs.List.{flat_map};
+ghost use Rattle.s3_level.specs.Parts.{halt_of};
+ghost use Rattle.s3_meaning.specs.declared.halt.HaltCode.TheVariants.{HaltIndicator};
+ghost use Rattle.s3_bureau.specs.Texts.{letters_of, letters_of_program, reply_text, detail_line, halt_line, halt_lines, refusal_line, halt_text_of};
+
+use super::number::push_number;
+use s3_level::{Halt, HaltCode};
+use s3_meaning::halt::HaltCode as ProgramHalt;
+use std::alloc::{AllocError, Global};
+
+/// The halt text of the halts. Where the deck was refused, the number of the card at fault and of its fault go first, as
+/// of job 000.
+pub fn halt_text(
+    alloc: Global,
+    refusal: Option<(u16, u8)>,
+    halts: &[Halt],
+) -> Result<Vec<u8>, AllocError>
+    ensures { IfOk result (λ text. text.items ≡ halt_text_of refusal (map halt_of halts.now)) }
+{
+    let mut text = Vec::new(alloc);
+    push_refusal(&mut text, refusal)?;
+    for halt in halts {
+        push_halt(&mut text, halt)?;
+    }
+    Ok(text)
+}
+
+fn push_refusal(text: &mut Vec<u8>, refusal: Option<(u16, u8)>) -> Result<(), AllocError>
+    ensures { OnOk result (text.new.items ≡ text.old.items ++ refusal_line refusal) }
+{
+    match refusal {
+        Some((card, number)) => push_detail(text, 0, card, number),
+        None => Ok(()),
+    }
+}
+
+/// Appends a halt, and a line for each of its details.
+#[tactic(auto, unfolding(crate::specs::Texts::halt_lines))]
+fn push_halt(text: &mut Vec<u8>, halt: &Halt) -> Result<(), AllocError>
+    ensures { OnOk result (text.new.items ≡ text.old.items ++ halt_lines (halt_of halt.now)) }
+{
+    push_halt_line(text, halt)?;
+    for (card, number) in &halt.details {
+        push_detail(text, halt.job, *card, *number)?;
+    }
+    Ok(())
+}
+
+#[tactic(auto, unfolding(crate::specs::Texts::halt_line))]
+fn push_halt_line(text: &mut Vec<u8>, halt: &Halt) -> Result<(), AllocError>
+    ensures { OnOk result (text.new.items ≡ text.old.items ++ halt_line (halt_of halt.now)) }
+{
+    push_number(text, halt.job, 3)?;
+    text.push(b' ')?;
+    push_letters(text, halt.code)?;
+    text.push(b' ')?;
+    push_reply(text, halt.reply)?;
+    text.push(b'\n')?;
+    Ok(())
+}
+
+#[tactic(auto, unfolding(crate::specs::Texts::detail_line))]
+fn push_detail(text: &mut Vec<u8>, job: u16, card: u16, number: u8) -> Result<(), AllocError>
+    ensures { OnOk result (text.new.items ≡ text.old.items ++ detail_line job (card, number)) }
+{
+    push_number(text, job, 3)?;
+    text.push(b' ')?;
+    push_number(text, card, 4)?;
+    text.push(b' ')?;
+    push_number(text, u16::from(number), 2)?;
+    text.push(b'\n')?;
+    Ok(())
+}
+
+fn push_reply(text: &mut Vec<u8>, reply: Option<u8>) -> Result<(), AllocError>
+    ensures { OnOk result (text.new.items ≡ text.old.items ++ reply_text reply) }
+{
+    match reply {
+        Some(digit) => push_number(text, u16::from(digit), 1),
+        None => text.extend_from_slice(b"-"),
+    }
+}
+
+fn push_letters(text: &mut Vec<u8>, code: HaltCode) -> Result<(), AllocError>
+    ensures { OnOk result (text.new.items ≡ text.old.items ++ letters_of code) }
+{
+    match code {
+        HaltCode::FaultyJob => text.extend_from_slice(b"OC"),
+        HaltCode::NoProgram => text.extend_from_slice(b"PG"),
+        HaltCode::FaultySource => text.extend_from_slice(b"CE"),
+        HaltCode::Program(code) => push_program_letters(text, code),
+    }
+}
+
+fn push_program_letters(text: &mut Vec<u8>, code: ProgramHalt) -> Result<(), AllocError>
+    ensures { OnOk result (text.new.items ≡ text.old.items ++ letters_of_program code) }
+{
+    match code {
+        ProgramHalt::HaltIndicator(number) => push_indicator(text, number),
+        ProgramHalt::UnidentifiedRecord => text.extend_from_slice(b"UR"),
+        ProgramHalt::ZeroDivisor => text.extend_from_slice(b"DZ"),
+        ProgramHalt::BadDigit => text.extend_from_slice(b"DE"),
+        ProgramHalt::NoRecordFound => text.extend_from_slice(b"NF"),
+        ProgramHalt::DuplicateKey => text.extend_from_slice(b"DK"),
+        ProgramHalt::OutOfSequence => text.extend_from_slice(b"SQ"),
+        ProgramHalt::KeyChanged => text.extend_from_slice(b"KC"),
+        ProgramHalt::NothingToUpdate => text.extend_from_slice(b"NU"),
+        ProgramHalt::FileFull => text.extend_from_slice(b"EX"),
+        ProgramHalt::KeyNotAscending => text.extend_from_slice(b"KA"),
+    }
+}
+
+fn push_indicator(text: &mut Vec<u8>, number: u8) -> Result<(), AllocError>
+    ensures { OnOk result (text.new.items ≡ text.old.items ++ letters_of_program (HaltIndicator number)) }
+{
+    text.push(b'H')?;
+    push_number(text, u16::from(number), 1)
+}

@@ -1,0 +1,19 @@
+//! What a run hands out.
+
+/// A level's report and its halt text.
+#[derive(Drop)]
+pub struct LevelTexts {
+    /// A line for each printed line: the page, the line of the page, and the text.
+    pub report: Vec<u8>,
+    /// A line for each halt: the job's number, the letters of its code, and the reply. A line for each of its details,
+    /// with the job, a card of the deck and the number of what is wrong there, follows it.
+    pub halts: Vec<u8>,
+}
+
+/// The texts of both levels, and the pack.
+#[derive(Drop)]
+pub struct Outcome {
+    pub one: LevelTexts,
+    pub two: LevelTexts,
+    pub pack: Vec<u8>,
+}

@@ -1,0 +1,53 @@
+//! Why a run has no outcome.
+
+use super::script::ScriptFault;
+use s3_level::Stop;
+use std::alloc::AllocError;
+use thiserror::Error;
+
+/// Why a run has no outcome.
+#[derive(Clone, Copy, Debug, PartialEq, Eq, Error)]
+pub enum RunFault {
+    /// The number of the script's first ill-formed line, from 1.
+    #[error("script {line}")]
+    Script { line: usize },
+    #[error("memory")]
+    NoMemory,
+}
+
+impl From<AllocError> for RunFault {
+    ghost use Rattle.std.specs.Prelude.{◌≡◌};
+    ghost use Rattle.s3_bureau.specs.declared.run_fault.RunFault.TheVariants.{NoMemory};
+
+    ghost from_gives = { λ _ fault. fault ≡ NoMemory };
+
+    fn from(_: AllocError) -> RunFault {
+        RunFault::NoMemory
+    }
+}
+
+impl From<ScriptFault> for RunFault {
+    ghost use Rattle.std.specs.Prelude.{◌≡◌};
+    ghost use Rattle.s3_bureau.specs.Faults.{fault_of_script};
+
+    ghost from_gives = { λ fault given. given ≡ fault_of_script fault };
+
+    fn from(fault: ScriptFault) -> RunFault {
+        match fault {
+            ScriptFault::NoMemory => RunFault::NoMemory,
+            ScriptFault::Line(line) => RunFault::Script { line },
+        }
+    }
+}
+
+/// A run makes no call after a stop, so that only memory stops it.
+impl From<Stop> for RunFault {
+    ghost use Rattle.std.specs.Prelude.{◌≡◌};
+    ghost use Rattle.s3_bureau.specs.declared.run_fault.RunFault.TheVariants.{NoMemory};
+
+    ghost from_gives = { λ _ fault. fault ≡ NoMemory };
+
+    fn from(_: Stop) -> RunFault {
+        RunFault::NoMemory
+    }
+}

@@ -1,0 +1,101 @@
+//! A run: two decks and a script, from bytes to texts.
+ghost use Rattle.std.specs.Prelude.{◌≡◌, IfOk, OnOk, replicate};
+ghost use Rattle.std.specs.List.{flat_map};
+ghost use Rattle.s3_level.specs.World.{World};
+ghost use Rattle.s3_bureau.specs.Held.{HoldsFor};
+ghost use Rattle.s3_bureau.specs.Performs.{Performs};
+ghost use Rattle.s3_bureau.specs.Script.{entries_by};
+ghost use Rattle.s3_bureau.specs.Runs.{Runs, ReadsDeck, drained_texts, entries_texts, outcome_texts, texts_in};
+
+use super::bureau::Bureau;
+use super::entry::Entry;
+use super::halts::halt_text;
+use super::outcome::{LevelTexts, Outcome};
+use super::report::report_text;
+use super::run_fault::RunFault;
+use super::script::{Command, read_script};
+use s3_cards::{Deck, DeckFault, LevelId};
+use s3_level::Stop;
+use std::alloc::{AllocError, Global};
+
+/// The texts of both levels after a script's entries, each level over its own deck, and the pack.
+///
+/// A script with an ill-formed line is refused before anything else. A deck that can't be read counts as empty, and its
+/// level's halt text begins with its fault, as of job 000. Level two isn't served yet: its deck counts as empty. No pack is
+/// read yet: it is handed back as it came.
+pub fn run(
+    alloc: Global,
+    pack: &[u8],
+    deck1: &[u8],
+    deck2: &[u8],
+    script: &[u8],
+) -> Result<Outcome, RunFault>
+    ensures { Runs pack.now deck1.now deck2.now script.now result }
+{
+    let commands = read_script(alloc, script)?;
+    Ok(outcome(alloc, pack, deck1, commands.as_slice())?)
+}
+
+/// The texts of both levels after the entries of all commands, and the pack.
+fn outcome(alloc: Global, pack: &[u8], deck1: &[u8], commands: &[Command]) -> Result<Outcome, Stop>
+    ensures texts { IfOk result (λ outcome. outcome_texts outcome ≡ entries_texts deck1.now (flat_map entries_by commands.now)) }
+    ensures pack { IfOk result (λ outcome. outcome.pack.items ≡ pack.now) }
+{
+    let (cards, refusal) = read_deck(alloc, deck1)?;
+    let mut bureau = Bureau::open(alloc, cards, Deck::empty(alloc))?;
+    perform(&mut bureau, commands)?;
+    bureau.finish()?;
+    Ok(Outcome {
+        one: level_texts(alloc, &bureau, LevelId::One, refusal)?,
+        two: level_texts(alloc, &bureau, LevelId::Two, None)?,
+        pack: Vec::from_slice(alloc, pack)?,
+    })
+}
+
+/// The cards of a deck, and the number of the card at fault and of its fault where the deck is refused and counts as empty.
+fn read_deck(alloc: Global, text: &[u8]) -> Result<(Deck, Option<(u16, u8)>), AllocError>
+    ensures { IfOk result (λ read. ReadsDeck text.now read.0 read.1) }
+{
+    match Deck::read(alloc, text) {
+        Ok(deck) => Ok((deck, None)),
+        Err(fault) => match fault.detail() {
+            Some(detail) => Ok((Deck::empty(alloc), Some(detail))),
+            None => Err(AllocError),
+        },
+    }
+}
+
+/// Performs the entries of all commands, in order.
+fn perform(bureau: &mut Bureau, commands: &[Command]) -> Result<(), Stop>
+    ensures { OnOk result (Performs (flat_map entries_by commands.now) bureau.old bureau.new) }
+{
+    for command in commands {
+        repeat(bureau, command.entry, command.count)?;
+    }
+    Ok(())
+}
+
+/// Performs an entry so many times.
+fn repeat(bureau: &mut Bureau, entry: Entry, count: u16) -> Result<(), Stop>
+    ensures { OnOk result (Performs (replicate count entry) bureau.old bureau.new) }
+{
+    for _time in 0..count {
+        bureau.step(entry)?;
+    }
+    Ok(())
+}
+
+/// A level's texts.
+fn level_texts(
+    alloc: Global,
+    bureau: &Bureau,
+    level: LevelId,
+    refusal: Option<(u16, u8)>,
+) -> Result<LevelTexts, AllocError>
+    ensures { IfOk result (λ texts. (w : World) → HoldsFor level bureau.now w → texts_in texts ≡ drained_texts refusal w) }
+{
+    Ok(LevelTexts {
+        report: report_text(alloc, bureau.lines(level))?,
+        halts: halt_text(alloc, refusal, bureau.halts(level))?,
+    })
+}

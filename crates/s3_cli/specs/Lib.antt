@@ -1,0 +1,4 @@
+pub mod Faults
+pub mod Parts
+pub mod PartsView
+pub mod Session

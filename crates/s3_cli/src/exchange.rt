@@ -1,0 +1,47 @@
+//! One session: bytes in, bytes out.
+
+ghost use Rattle.std.specs.Prelude.{◌≡◌, Ok, Err, IfOk, IfErr, IfSome};
+ghost use Rattle.s3_cli.specs.Session.{Answers, Refuses};
+
+use crate::fault::SessionFault;
+use crate::input::{ReadFault, read_within};
+use crate::output::output_text;
+use crate::parts::split_parts;
+use s3_bureau::{RunFault, run};
+use std::alloc::Global;
+use std::io::{Read, Write};
+
+/// The most bytes of an input.
+pub const INPUT_LIMIT: u32 = 4_194_304;
+
+/// Reads an input to its end, runs its decks and its script over a pack, writes the reports and the halt texts, and gives
+/// the pack as the run leaves it.
+///
+/// Nothing is written where it refuses, but for a write that failed: `Input` where a marker is missing or out of order or
+/// there are over 4,194,304 bytes, `File` where a read or the write failed, and else as the run does.
+pub fn session<R: Read, W: Write>(
+    alloc: Global,
+    pack: &[u8],
+    reader: &mut R,
+    writer: &mut W,
+) -> Result<Vec<u8>, SessionFault>
+    ensures wrote { IfOk result (λ saved. IfSome (R.remaining reader.old) (λ input.
+        Answers pack.now input saved.items (W.contents writer.old) (W.contents writer.new))) }
+    ensures refused { IfErr result (λ fault. IfSome (R.remaining reader.old) (λ input. Refuses fault input)) }
+{
+    let input = match read_within(alloc, reader, INPUT_LIMIT) {
+        Ok(input) => input,
+        Err(ReadFault::TooLong) => return Err(SessionFault::Input),
+        Err(ReadFault::Failed) => return Err(SessionFault::File),
+        Err(ReadFault::NoMemory) => return Err(SessionFault::Run(RunFault::NoMemory)),
+    };
+    let Some(parts) = split_parts(input.as_slice()) else {
+        return Err(SessionFault::Input);
+    };
+    let outcome = run(alloc, pack, parts.deck1, parts.deck2, parts.script)?;
+    let output = output_text(alloc, &outcome)?;
+    match writer.write_all(output.as_slice()) {
+        Ok(()) => Ok(outcome.pack),
+        Err(_) => Err(SessionFault::File),
+    }
+}

@@ -1,0 +1,55 @@
+//! Bounded reading.
+
+ghost use Rattle.std.specs.Prelude.{◌≡◌, ◌<◌, ◌≤◌, ◌+◌, ◌^◌, IfOk, IfErr, IfSome, length, vec_len};
+ghost use Rattle.s3_cli.specs.declared.input.ReadFault.TheVariants.{TooLong, NoMemory};
+
+use std::alloc::{AllocError, Global};
+use std::io::Read;
+use thiserror::Error;
+
+const CHUNK: usize = 65_536;
+
+/// Why not all of a reader's bytes were kept.
+#[derive(Clone, Copy, Debug, Error)]
+pub enum ReadFault {
+    #[error("too long")]
+    TooLong,
+    #[error("a read failed")]
+    Failed,
+    #[error("out of memory")]
+    NoMemory,
+}
+
+impl From<AllocError> for ReadFault {
+    ghost from_gives = { λ _ fault. fault ≡ NoMemory };
+
+    fn from(_error: AllocError) -> ReadFault {
+        ReadFault::NoMemory
+    }
+}
+
+/// Reads all that a reader gives, if that is at most `limit` bytes. No failed read is tried again.
+pub fn read_within<R: Read>(alloc: Global, reader: &mut R, limit: u32) -> Result<Vec<u8>, ReadFault>
+    requires { limit + 1 < 2 ^ 32 }
+    ensures all { IfOk result (λ bytes. IfSome (R.remaining reader.old) (λ given. bytes.items ≡ given)) }
+    ensures short { IfOk result (λ bytes. vec_len bytes ≤ limit) }
+    ensures long { IfErr result (λ fault. fault ≡ ReadFault.TooLong →
+        IfSome (R.remaining reader.old) (λ given. limit < length given)) }
+{
+    let mut bytes = Vec::new(alloc);
+    let mut chunk = [0u8; CHUNK];
+    for _turn in 0..limit + 1 {
+        let count = match reader.read(&mut chunk) {
+            Ok(count) => count,
+            Err(_) => return Err(ReadFault::Failed),
+        };
+        if count == 0 {
+            return Ok(bytes);
+        }
+        bytes.extend_from_slice(&chunk[..count])?;
+        if bytes.len() > limit as usize {
+            return Err(ReadFault::TooLong);
+        }
+    }
+    Err(ReadFault::TooLong)
+}

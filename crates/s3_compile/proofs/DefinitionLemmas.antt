@@ -1,0 +1,93 @@
+-- Lemmas on the tables of files and fields.
+use Rattle.std.proofs.Common.{◌≡◌, ℕ, ◌+◌, ◌<◌, List, [], ◌∷◌, ◌++◌, Bool, true, false, cond, refl, sym, ◌∙◌, ap, arith, subst, inl, inr, ◌≤◌, length, take, get_or, eqb-true, length-take}
+use Rattle.std.specs.Prelude.{Option, Some, None, ◌&&◌, nat_eq}
+use Rattle.std.specs.Option.{option_or}
+use Rattle.std.specs.Cmp.Lexicographic.{pointwise}
+use Rattle.std.proofs.lemmas.Bool.{cases_Bool}
+use Rattle.std.proofs.lemmas.List.{take_more, take_all}
+use Rattle.std.proofs.Math.Path.{fun_ext}
+use Rattle.indexmap.specs.IndexMap.{get}
+use Rattle.s3_sheets.specs.declared.name.Name.{Name}
+use Rattle.s3_sheets.specs.declared.sheet.Line.{Line}
+use Rattle.s3_meaning.specs.Names.{same_name}
+use Rattle.s3_compile.specs.declared.definitions.DefinedFile.{DefinedFile}
+use Rattle.s3_compile.specs.declared.definitions.Definitions.{Definitions}
+use Rattle.s3_compile.specs.Definitions.{file_by, file_from, file_of, length_by, length_of, Known, known_of, shown, Files, Lengths, DefinesFile, DefinesField}
+
+-- ---- names
+both : (a b : Bool) → (a && b) ≡ true → (a ≡ true) × (b ≡ true)
+both true b h = (refl, h)
+both false b h = cc
+
+same_codes : (xs ys : List ℕ) → pointwise nat_eq xs ys ≡ true → xs ≡ ys
+same_codes [] [] h = refl
+same_codes [] (y ∷ ys) h = cc
+same_codes (x ∷ xs) [] h = cc
+same_codes (x ∷ xs) (y ∷ ys) h =
+    let p = both (nat_eq x y) (pointwise nat_eq xs ys) h in
+    let e : x ≡ y = eqb-true x y p.0 in
+    let f : xs ≡ ys = same_codes xs ys p.1 in cc
+
+pub is_same_name : (a b : Name) → same_name a b ≡ true → a ≡ b
+is_same_name a b h = ap (λ (codes : List ℕ). let n : Name = record { codes = codes } in n) (same_codes a.codes b.codes h)
+
+-- ---- a choice of the first
+option_or_assoc : {X : Type 0} (a b c : Option X) → option_or (option_or a b) c ≡ option_or a (option_or b c)
+option_or_assoc None b c = refl
+option_or_assoc (Some x) b c = refl
+
+option_or_none : {X : Type 0} (a : Option X) → option_or a None ≡ a
+option_or_none None = refl
+option_or_none (Some x) = refl
+
+-- where a name is new, the entry that is put in is what its line gives
+pub put_in : {X : Type 0} (key q : Name) (value : X) (old : Name → Option X) → old key ≡ None
+    → cond (same_name key q) (Some value) (old q) ≡ option_or (old q) (cond (same_name key q) (Some value) None)
+put_in key q value old none = elim (cases_Bool (same_name key q)) [
+  | inl same ↦ (let e : key ≡ q = is_same_name key q same in let f : old q ≡ None = subst (λ (n : Name). old n ≡ None) e none in rw (same, f) refl)
+  | inr other ↦ rw other (sym (option_or_none (old q)))
+]
+
+-- ---- one more line
+file_from-append : (place : ℕ) (xs : List Line) (line : Line) (name : Name)
+    → file_from place (xs ++ line ∷ []) name ≡ option_or (file_from place xs name) (file_by (place + length xs) line.sheet name)
+file_from-append place [] line name = let e : place + 0 ≡ place = omega arith in rw e (option_or_none (file_by place line.sheet name))
+file_from-append place (x ∷ xs) line name =
+    let e : place + 1 + length xs ≡ place + length (x ∷ xs) = omega arith in
+    ap (option_or (file_by place x.sheet name)) (file_from-append (place + 1) xs line name)
+    ∙ (rw e refl ∙ sym (option_or_assoc (file_by place x.sheet name) (file_from (place + 1) xs name) (file_by (place + length (x ∷ xs)) line.sheet name)))
+
+length_of-append : (xs : List Line) (line : Line) (name : Name) → length_of (xs ++ line ∷ []) name ≡ option_or (length_of xs name) (length_by line.sheet name)
+length_of-append [] line name = option_or_none (length_by line.sheet name)
+length_of-append (x ∷ xs) line name =
+    ap (option_or (length_by x.sheet name)) (length_of-append xs line name)
+    ∙ sym (option_or_assoc (length_by x.sheet name) (length_of xs name) (length_by line.sheet name))
+
+pub file_more : (old new : Files) (lines : List Line) (i : ℕ) (d : Line) → i < length lines
+    → ((name : Name) → get same_name old name ≡ file_of (take i lines) name) → DefinesFile old new i (get_or lines i d).sheet
+    → (name : Name) → get same_name new name ≡ file_of (take (i + 1) lines) name
+file_more old new lines i d in' so_far more name =
+    let e : 0 + length (take i lines) ≡ i = omega (arith, length-take i lines) in
+    more name
+    ∙ (ap (λ o. option_or o (file_by i (get_or lines i d).sheet name)) (so_far name)
+    ∙ (ap (λ n. option_or (file_of (take i lines) name) (file_by n (get_or lines i d).sheet name)) (sym e)
+    ∙ (sym (file_from-append 0 (take i lines) (get_or lines i d) name) ∙ sym (ap (λ xs. file_of xs name) (take_more lines i d in')))))
+
+pub length_more : (old new : Lengths) (lines : List Line) (i : ℕ) (d : Line) → i < length lines
+    → ((name : Name) → get same_name old name ≡ length_of (take i lines) name) → DefinesField old new (get_or lines i d).sheet
+    → (name : Name) → get same_name new name ≡ length_of (take (i + 1) lines) name
+length_more old new lines i d in' so_far more name =
+    more name
+    ∙ (ap (λ o. option_or o (length_by (get_or lines i d).sheet name)) (so_far name)
+    ∙ (sym (length_of-append (take i lines) (get_or lines i d) name) ∙ sym (ap (λ xs. length_of xs name) (take_more lines i d in'))))
+
+-- what tables show is known, where they agree on each name
+pub is_known : (definitions : Definitions) (lines : List Line) (i : ℕ) → length lines ≤ i
+    → ((name : Name) → get same_name definitions.files name ≡ file_of (take i lines) name)
+    → ((name : Name) → get same_name definitions.lengths name ≡ length_of (take i lines) name)
+    → shown definitions ≡ known_of lines
+is_known definitions lines i past files lengths =
+    let e : take i lines ≡ lines = take_all i lines past in
+    let file : get same_name definitions.files ≡ file_of lines = fun_ext (λ name. files name ∙ ap (λ xs. file_of xs name) e) in
+    let length : get same_name definitions.lengths ≡ length_of lines = fun_ext (λ name. lengths name ∙ ap (λ xs. length_of xs name) e) in
+    λ j. record { file = file j; length = length j }

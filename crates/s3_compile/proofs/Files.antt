@@ -1,0 +1,411 @@
+-- The files of an accepted source: one card file, at most one print file, and no others.
+use Rattle.std.proofs.Common.{◌≡◌, ℕ, ◌+◌, ◌<◌, ◌≤◌, List, [], ◌∷◌, Bool, true, false, cond, refl, sym, ◌∙◌, ap, arith, subst, inl, inr, length, suc, eqb-true, ltb-true, leb-true, lt-ltb, lit<, lit≤}
+use Rattle.std.specs.Prelude.{◌⊎◌, Option, Some, None, is_some, is_none, not, ◌&&◌, ◌||◌, filter, filter_map, find, nat_lt, nat_le, ◌==◌, unwrap_or, option_map, if◌then◌else◌}
+use Rattle.std.specs.Option.{option_or}
+use Rattle.std.specs.List.{count_by}
+use Rattle.std.proofs.Math.Path.{fun_ext}
+use Rattle.std.proofs.lemmas.Bool.{cases_Bool}
+use Rattle.std.proofs.lemmas.Bool.Decides.{nat_tests}
+use Rattle.std.proofs.lemmas.List.Sums.{length-filter}
+use Rattle.s3_sheets.specs.declared.name.Name.{Name}
+use Rattle.s3_sheets.specs.declared.sheet.FileUse.{FileUse}
+use Rattle.s3_sheets.specs.declared.sheet.FileUse.TheVariants.{Input as InputUse, Output as OutputUse, Update}
+use Rattle.s3_sheets.specs.declared.sheet.Designation.{Designation}
+use Rattle.s3_sheets.specs.declared.sheet.Designation.TheVariants.{Primary, Secondary, Chained}
+use Rattle.s3_sheets.specs.declared.sheet.Device.{Device}
+use Rattle.s3_sheets.specs.declared.sheet.Device.TheVariants.{CardReader, Printer, Disk}
+use Rattle.s3_sheets.specs.declared.sheet.FileLine.{FileLine}
+use Rattle.s3_sheets.specs.declared.sheet.SheetLine.{SheetLine}
+use Rattle.s3_sheets.specs.declared.sheet.SheetLine.TheVariants.{Header, File, Input, Calculation, Output}
+use Rattle.s3_sheets.specs.declared.sheet.Line.{Line}
+use Rattle.s3_meaning.specs.Names.{same_name}
+use Rattle.s3_meaning.specs.Source.{file_line, is_designated, is_input, is_card_reader, is_printer, overflow_of}
+use Rattle.s3_compile.specs.declared.definitions.DefinedFile.{DefinedFile}
+use Rattle.s3_compile.specs.Definitions.{file_by, file_from, file_of}
+use Rattle.s3_compile.specs.Before.{is_card_use, is_print_use, is_card_file, is_print_file}
+use Rattle.s3_compile.specs.Part.{is_built_file, is_built_use, is_built_designation, lies_within, longest_record, has_plain_entries, has_no_disk_entries}
+use Rattle.s3_compile.specs.Conditions.{is_output, is_primary, is_primary_line}
+use Rattle.s3_compile.specs.Diagnostics.{has_one_primary}
+use Rattle.s3_compile.specs.Translation.{file_on, first_of, print_length, print_length_of, byte_of}
+use Rattle.s3_compile.proofs.Accepted.{is_unfit, FineFile, FilesFine, files_of}
+use Rattle.s3_compile.proofs.Slots.{some_same}
+
+-- ---- tests
+pub and_left : (a b : Bool) → (a && b) ≡ true → a ≡ true
+and_left true b h = refl
+and_left false b h = cc
+
+pub and_right : (a b : Bool) → (a && b) ≡ true → b ≡ true
+and_right true b h = h
+and_right false b h = cc
+
+pub none_is : {X : Type 0} (o : Option X) → is_none o ≡ true → o ≡ None
+none_is None h = refl
+none_is (Some x) h = cc
+
+pub not_true : (b : Bool) → not b ≡ true → b ≡ false
+not_true true h = cc
+not_true false h = refl
+
+-- ---- the uses of files
+card_use : (usage : FileUse) (designation : Option Designation) (device : Device) → is_card_use usage designation device ≡ true
+    → (usage ≡ InputUse) × (designation ≡ Some Primary) × (device ≡ CardReader)
+card_use InputUse (Some Primary) CardReader h = (refl, refl, refl)
+card_use _ _ _ h = cc
+
+print_use : (usage : FileUse) (designation : Option Designation) (device : Device) → is_print_use usage designation device ≡ true
+    → (usage ≡ OutputUse) × (designation ≡ None) × (device ≡ Printer)
+print_use OutputUse None Printer h = (refl, refl, refl)
+print_use _ _ _ h = cc
+
+abbrev with_designation : FileLine → Option Designation → FileLine
+with_designation file designation = record file { designation = designation }
+
+pub record FineCard (file : FileLine) : Type 0 where
+  pub input : is_input file ≡ true
+  pub counted : is_primary file.designation ≡ true
+  pub primary : is_designated Primary file ≡ true
+  pub reader : is_card_reader file.device ≡ true
+  pub usage : is_output file.usage ≡ false
+  pub condition : file.condition ≡ None
+  pub overflow : file.overflow ≡ None
+  pub positions : file.record_length ≤ 96
+
+pub record FinePrint (file : FileLine) : Type 0 where
+  pub input : is_input file ≡ false
+  pub counted : is_primary file.designation ≡ false
+  pub printer : is_printer file.device ≡ true
+  pub usage : is_output file.usage ≡ true
+  pub condition : file.condition ≡ None
+  pub overflow : file.overflow ≡ None
+  pub some : 0 < file.record_length
+  pub positions : file.record_length ≤ 132
+
+within : (n last : ℕ) → lies_within n n last ≡ true → (0 < n) × (n ≤ last)
+within n last h =
+    let a : (nat_lt 0 n && nat_le n n) ≡ true = and_left (nat_lt 0 n && nat_le n n) (nat_le n last) h in
+    let b : nat_le n last ≡ true = and_right (nat_lt 0 n && nat_le n n) (nat_le n last) h in
+    let c : nat_lt 0 n ≡ true = and_left (nat_lt 0 n) (nat_le n n) a in
+    (ltb-true 0 n c, leb-true n last b)
+
+record Plain (file : FileLine) : Type 0 where
+  condition : file.condition ≡ None
+  overflow : file.overflow ≡ None
+  some : 0 < file.record_length
+  positions : file.record_length ≤ longest_record file.device
+
+plain : (file : FileLine) → is_built_file file ≡ true → Plain file
+plain file built =
+    let used : Bool = is_built_use file.usage && is_built_designation file.designation in
+    let size : Bool = lies_within file.record_length file.record_length (longest_record file.device) in
+    let a : (used && size && has_plain_entries file) ≡ true = and_left (used && size && has_plain_entries file) (has_no_disk_entries file) built in
+    let b : has_no_disk_entries file ≡ true = and_right (used && size && has_plain_entries file) (has_no_disk_entries file) built in
+    let c : size ≡ true = and_right used size (and_left (used && size) (has_plain_entries file) a) in
+    let d = within file.record_length (longest_record file.device) c in
+    let e : (is_none file.key && not file.has_additions && is_none file.overflow) ≡ true = and_left (is_none file.key && not file.has_additions && is_none file.overflow) (is_none file.condition) b in
+    record {
+      condition = none_is file.condition (and_right (is_none file.key && not file.has_additions && is_none file.overflow) (is_none file.condition) b);
+      overflow = none_is file.overflow (and_right (is_none file.key && not file.has_additions) (is_none file.overflow) e);
+      some = d.0;
+      positions = d.1;
+    }
+
+fine_card : (file : FileLine) → is_card_file file ≡ true → is_built_file file ≡ true → FineCard file
+fine_card file is_card built =
+    let used = card_use file.usage file.designation file.device is_card in
+    let entries = plain file built in
+    record {
+      input = ap (λ d. is_input (with_designation file d)) used.1;
+      counted = ap is_primary used.1;
+      primary = ap (λ d. is_designated Primary (with_designation file d)) used.1;
+      reader = ap is_card_reader used.2;
+      usage = ap is_output used.0;
+      condition = entries.condition;
+      overflow = entries.overflow;
+      positions = subst (λ (d : Device). file.record_length ≤ longest_record d) used.2 entries.positions;
+    }
+
+fine_print : (file : FileLine) → is_print_file file ≡ true → is_built_file file ≡ true → FinePrint file
+fine_print file is_print built =
+    let used = print_use file.usage file.designation file.device is_print in
+    let entries = plain file built in
+    record {
+      input = ap (λ d. is_input (with_designation file d)) used.1;
+      counted = ap is_primary used.1;
+      printer = ap is_printer used.2;
+      usage = ap is_output used.0;
+      condition = entries.condition;
+      overflow = entries.overflow;
+      some = entries.some;
+      positions = subst (λ (d : Device). file.record_length ≤ longest_record d) used.2 entries.positions;
+    }
+
+card_or_print : (c p card print : Bool) → cond c card (cond p print true) ≡ false → (c ≡ true) ⊎ (p ≡ true)
+card_or_print true p card print h = inl refl
+card_or_print false true card print h = inr refl
+card_or_print false false card print h = cc
+
+pub fine_file : (card print : Bool) (file : FileLine) → FineFile card print file → FineCard file ⊎ FinePrint file
+fine_file card print file fine = elim (card_or_print (is_card_file file) (is_print_file file) card print fine.allowed) [
+  | inl is_card ↦ inl (fine_card file is_card fine.built)
+  | inr is_print ↦ inr (fine_print file is_print fine.built)
+]
+
+-- ---- a file among others
+abbrev pub In : {X : Type 0} → X → List X → Type 0
+In x [] = ⊥
+In x (y ∷ ys) = (x ≡ y) ⊎ In x ys
+
+found_here : {X : Type 0} (b : Bool) (y x : X) (rest : Option X) (ys : List X) (p : X → Bool) → (b ≡ true → p y ≡ true) → (rest ≡ Some x → In x ys × (p x ≡ true))
+    → cond b (Some y) rest ≡ Some x → In x (y ∷ ys) × (p x ≡ true)
+found_here true y x rest ys p same later h = let e : x ≡ y = sym (some_same y x h) in (inl e, subst (λ z. p z ≡ true) (sym e) (same refl))
+found_here false y x rest ys p same later h = let l = later h in (inr l.0, l.1)
+
+pub find_in : {X : Type 0} (p : X → Bool) (xs : List X) (x : X) → find p xs ≡ Some x → In x xs × (p x ≡ true)
+find_in p [] x h = cc
+find_in p (y ∷ ys) x h = found_here (p y) y x (find p ys) ys p (λ e. e) (find_in p ys x) h
+
+in_kept : {X : Type 0} (b : Bool) (x y : X) (ys zs : List X) → (x ≡ y → b ≡ true) → (In x ys → In x zs) → In x (y ∷ ys) → In x (cond b (y ∷ zs) zs)
+in_kept true x y ys zs same later (inl e) = inl e
+in_kept true x y ys zs same later (inr i) = inr (later i)
+in_kept false x y ys zs same later (inl e) = let no : false ≡ true = same e in cc
+in_kept false x y ys zs same later (inr i) = later i
+
+in_filter : {X : Type 0} (p : X → Bool) (xs : List X) (x : X) → p x ≡ true → In x xs → In x (filter p xs)
+in_filter p [] x h i = i
+in_filter p (y ∷ ys) x h i = in_kept (p y) x y ys (filter p ys) (λ e. subst (λ z. p z ≡ true) e h) (in_filter p ys x h) i
+
+of_kept : {X : Type 0} (b : Bool) (x y : X) (ys zs : List X) (p : X → Bool) → (b ≡ true → p y ≡ true) → (In x zs → In x ys × (p x ≡ true)) → In x (cond b (y ∷ zs) zs)
+    → In x (y ∷ ys) × (p x ≡ true)
+of_kept true x y ys zs p same later (inl e) = (inl e, subst (λ z. p z ≡ true) (sym e) (same refl))
+of_kept true x y ys zs p same later (inr i) = let l = later i in (inr l.0, l.1)
+of_kept false x y ys zs p same later i = let l = later i in (inr l.0, l.1)
+
+of_filter : {X : Type 0} (p : X → Bool) (xs : List X) (x : X) → In x (filter p xs) → In x xs × (p x ≡ true)
+of_filter p [] x i = absurd i
+of_filter p (y ∷ ys) x i = of_kept (p y) x y ys (filter p ys) p (λ e. e) (of_filter p ys x) i
+
+pub fine_in : (card print : Bool) (files : List FileLine) (file : FileLine) → FilesFine card print files → In file files → FineCard file ⊎ FinePrint file
+fine_in card print [] file fine i = absurd i
+fine_in card print (f ∷ fs) file fine (inl e) = subst (λ (g : FileLine). FineCard g ⊎ FinePrint g) (sym e) (fine_file card print f fine.0)
+fine_in card print (f ∷ fs) file fine (inr i) = fine_in (card || is_card_file f) (print || is_print_file f) fs file fine.1 i
+
+-- ---- the one card file
+same_count : (card print : Bool) (file : FileLine) → FineFile card print file → is_primary file.designation ≡ is_input file
+same_count card print file fine = elim (fine_file card print file fine) [
+  | inl c ↦ c.counted ∙ sym c.input
+  | inr p ↦ p.counted ∙ sym p.input
+]
+
+abbrev pub one_line : ℕ → SheetLine → Line
+one_line card sheet = record { card = card; sheet = sheet }
+
+longer : {X Y : Type 0} (b : Bool) (x : X) (y : Y) (xs : List X) (ys : List Y) → length xs ≡ length ys → length (cond b (x ∷ xs) xs) ≡ length (cond b (y ∷ ys) ys)
+longer true x y xs ys e = ap suc e
+longer false x y xs ys e = e
+
+same_length : (card print : Bool) (place : ℕ) (sheet : SheetLine) (lines : List Line) → FilesFine card print (files_of (one_line place sheet ∷ lines))
+    → ((c p : Bool) → FilesFine c p (files_of lines) → length (filter is_input (files_of lines)) ≡ length (filter (λ (line : Line). is_primary_line line.sheet) lines))
+    → length (filter is_input (files_of (one_line place sheet ∷ lines))) ≡ length (filter (λ (line : Line). is_primary_line line.sheet) (one_line place sheet ∷ lines))
+same_length card print place (Header name) lines fine later = later card print fine
+same_length card print place (File file) lines fine later =
+    longer (is_input file) file (one_line place (File file)) (filter is_input (files_of lines)) (filter (λ (line : Line). is_primary_line line.sheet) lines)
+    (later (card || is_card_file file) (print || is_print_file file) fine.1)
+    ∙ ap (λ b. length (cond b (one_line place (File file) ∷ filter (λ (line : Line). is_primary_line line.sheet) lines) (filter (λ (line : Line). is_primary_line line.sheet) lines)))
+    (sym (same_count card print file fine.0))
+same_length card print place (Input input) lines fine later = later card print fine
+same_length card print place (Output output) lines fine later = later card print fine
+same_length card print place (Calculation calculation) lines fine later = later card print fine
+
+input_count : (card print : Bool) (lines : List Line) → FilesFine card print (files_of lines)
+    → length (filter is_input (files_of lines)) ≡ length (filter (λ (line : Line). is_primary_line line.sheet) lines)
+input_count card print [] fine = refl
+input_count card print (line ∷ lines) fine = same_length card print line.card line.sheet lines fine (λ c p. input_count c p lines)
+
+one_item : {X : Type 0} (xs : List X) → length xs ≡ 1 → (x : X) × (xs ≡ x ∷ [])
+one_item [] h = absurd (omega arith)
+one_item (x ∷ []) h = (x, refl)
+one_item (x ∷ y ∷ ys) h = absurd (omega arith)
+
+is_card : (file : FileLine) → is_input file ≡ true → FineCard file ⊎ FinePrint file → FineCard file
+is_card file input (inl c) = c
+is_card file input (inr p) = let no : true ≡ false = sym input ∙ p.input in cc
+
+pub record OneCard (files : List FileLine) : Type 0 where
+  pub card : FileLine
+  pub only : filter is_input files ≡ card ∷ []
+  pub fine : FineCard card
+
+pub one_card : (lines : List Line) → FilesFine false false (files_of lines) → has_one_primary lines ≡ true → OneCard (files_of lines)
+one_card lines fine one =
+    let count : count_by (λ (line : Line). is_primary_line line.sheet) lines ≡ 1 = eqb-true (count_by (λ (line : Line). is_primary_line line.sheet) lines) 1 one in
+    let long : length (filter is_input (files_of lines)) ≡ 1 = input_count false false lines fine ∙ (length-filter (λ (line : Line). is_primary_line line.sheet) lines ∙ count) in
+    let only = one_item (filter is_input (files_of lines)) long in
+    let there : In only.0 (filter is_input (files_of lines)) = subst (λ (xs : List FileLine). In only.0 xs) (sym only.1) (inl refl) in
+    let among = of_filter is_input (files_of lines) only.0 there in
+    record { card = only.0; only = only.1; fine = is_card only.0 among.1 (fine_in false false (files_of lines) only.0 fine among.0) }
+
+in_one : (x y : FileLine) → In x (y ∷ []) → x ≡ y
+in_one x y (inl e) = e
+in_one x y (inr i) = absurd i
+
+-- a file of type I is the card file
+pub the_card : (files : List FileLine) (o : OneCard files) (file : FileLine) → FilesFine false false files → In file files → is_output file.usage ≡ false → file ≡ o.card
+the_card files o file fine i usage =
+    let c : FineCard file ⊎ FinePrint file = fine_in false false files file fine i in
+    let input : is_input file ≡ true = elim c [ inl card ↦ card.input | inr print ↦ (let no : true ≡ false = sym print.usage ∙ usage in cc) ] in
+    in_one file o.card (subst (λ (xs : List FileLine). In file xs) o.only (in_filter is_input files file input i))
+
+-- ---- at most one print file
+abbrev pub print_in : FileLine → Option ℕ
+print_in file = if is_print_file file then byte_of file.record_length else None
+
+-- ---- no overflow
+no_overflow_on : (card print : Bool) (file : FileLine) → FineFile card print file → file.overflow ≡ None
+no_overflow_on card print file fine = elim (fine_file card print file fine) [ inl c ↦ c.overflow | inr p ↦ p.overflow ]
+
+pub no_overflow : (card print : Bool) (files : List FileLine) → FilesFine card print files → overflow_of files ≡ None
+no_overflow card print [] fine = refl
+no_overflow card print (file ∷ files) fine =
+    rw (no_overflow_on card print file fine.0) (no_overflow (card || is_card_file file) (print || is_print_file file) files fine.1)
+
+unfit_print : (c p card print : Bool) → c ≡ false → p ≡ true → cond c card (cond p print true) ≡ false → print ≡ false
+unfit_print true p card print other so h = cc
+unfit_print false true card print other so h = h
+unfit_print false false card print other so h = cc
+
+not_card : (file : FileLine) → is_print_file file ≡ true → is_card_file file ≡ false
+not_card file print = elim (cases_Bool (is_card_file file)) [
+  | inr other ↦ other
+  | inl so ↦
+      (let a = card_use file.usage file.designation file.device so in
+      let b = print_use file.usage file.designation file.device print in
+      let e : true ≡ false = sym (ap is_output b.0) ∙ ap is_output a.0 in cc)
+]
+
+pub or_left : (a b : Bool) → (a || b) ≡ false → a ≡ false
+or_left true b h = cc
+or_left false b h = refl
+
+pub or_right : (a b : Bool) → (a || b) ≡ false → b ≡ false
+or_right true b h = cc
+or_right false b h = h
+
+first_print : (card print : Bool) (f : FileLine) → FineFile card print f → is_print_file f ≡ true → print ≡ false
+first_print card print f fine so = unfit_print (is_card_file f) (is_print_file f) card print (not_card f so) so fine.allowed
+
+no_other_print : (card print : Bool) (files : List FileLine) (file : FileLine) → FilesFine card print files → In file files → is_print_file file ≡ true → print ≡ false
+no_other_print card print [] file fine i so = absurd i
+no_other_print card print (f ∷ fs) file fine (inl e) so = first_print card print f fine.0 (subst (λ (g : FileLine). is_print_file g ≡ true) e so)
+no_other_print card print (f ∷ fs) file fine (inr i) so =
+    or_left print (is_print_file f) (no_other_print (card || is_card_file f) (print || is_print_file f) fs file fine.1 i so)
+
+byte_small : (n : ℕ) → n ≤ 132 → byte_of n ≡ Some n
+byte_small n small = rw (lt-ltb n 256 (omega arith)) refl
+
+print_here : (b : Bool) (n : Option ℕ) (rest : Option ℕ) (m : ℕ) → b ≡ true → n ≡ Some m → option_or (cond b n None) rest ≡ Some m
+print_here true n rest m so e = rw e refl
+print_here false n rest m so e = cc
+
+print_later : (b : Bool) (n : Option ℕ) (rest : Option ℕ) (m : ℕ) → b ≡ false → rest ≡ Some m → option_or (cond b n None) rest ≡ Some m
+print_later true n rest m other e = cc
+print_later false n rest m other e = e
+
+print_found : (card print : Bool) (files : List FileLine) (file : FileLine) → FilesFine card print files → In file files → is_print_file file ≡ true → file.record_length ≤ 132
+    → first_of print_in files ≡ Some file.record_length
+print_found card print [] file fine i so small = absurd i
+print_found card print (f ∷ fs) file fine (inl e) so small =
+    subst (λ (g : FileLine). first_of print_in (g ∷ fs) ≡ Some file.record_length) e
+    (print_here (is_print_file file) (byte_of file.record_length) (first_of print_in fs) file.record_length so (byte_small file.record_length small))
+print_found card print (f ∷ fs) file fine (inr i) so small =
+    print_later (is_print_file f) (byte_of f.record_length) (first_of print_in fs) file.record_length
+    (or_right print (is_print_file f) (no_other_print (card || is_card_file f) (print || is_print_file f) fs file fine.1 i so))
+    (print_found (card || is_card_file f) (print || is_print_file f) fs file fine.1 i so small)
+
+first_print_line : (place : ℕ) (sheet : SheetLine) (lines : List Line) → first_of (λ (line : Line). print_length line.sheet) lines ≡ first_of print_in (files_of lines)
+    → first_of (λ (line : Line). print_length line.sheet) (one_line place sheet ∷ lines) ≡ first_of print_in (files_of (one_line place sheet ∷ lines))
+first_print_line place (Header name) lines later = later
+first_print_line place (File file) lines later = ap (option_or (print_in file)) later
+first_print_line place (Input input) lines later = later
+first_print_line place (Output output) lines later = later
+first_print_line place (Calculation calculation) lines later = later
+
+first_prints : (lines : List Line) → first_of (λ (line : Line). print_length line.sheet) lines ≡ first_of print_in (files_of lines)
+first_prints [] = refl
+first_prints (line ∷ lines) = first_print_line line.card line.sheet lines (first_prints lines)
+
+is_print : (file : FileLine) → is_output file.usage ≡ true → FineCard file ⊎ FinePrint file → FinePrint file
+is_print file usage (inl c) = let no : true ≡ false = sym usage ∙ c.usage in cc
+is_print file usage (inr p) = p
+
+print_use_of : (card print : Bool) (files : List FileLine) (file : FileLine) → FilesFine card print files → In file files → is_output file.usage ≡ true → is_print_file file ≡ true
+print_use_of card print [] file fine i usage = absurd i
+print_use_of card print (f ∷ fs) file fine (inl e) usage =
+    elim (card_or_print (is_card_file f) (is_print_file f) card print fine.0.allowed) [
+      | inl so ↦
+          (let a = card_use f.usage f.designation f.device so in
+          let no : true ≡ false = sym (subst (λ (g : FileLine). is_output g.usage ≡ true) e usage) ∙ ap is_output a.0 in cc)
+      | inr so ↦ subst (λ (g : FileLine). is_print_file g ≡ true) (sym e) so
+    ]
+print_use_of card print (f ∷ fs) file fine (inr i) usage = print_use_of (card || is_card_file f) (print || is_print_file f) fs file fine.1 i usage
+
+-- a file of type O is the print file, whose record length the program keeps
+pub record ThePrint (lines : List Line) (file : FileLine) : Type 0 where
+  pub fine : FinePrint file
+  pub length : print_length_of lines ≡ file.record_length
+
+pub the_print : (lines : List Line) (file : FileLine) → FilesFine false false (files_of lines) → In file (files_of lines) → is_output file.usage ≡ true → ThePrint lines file
+the_print lines file fine i usage =
+    let p : FinePrint file = is_print file usage (fine_in false false (files_of lines) file fine i) in
+    let found = print_found false false (files_of lines) file fine i (print_use_of false false (files_of lines) file fine i usage) p.positions in
+    record { fine = p; length = ap (λ o. unwrap_or o 132) (first_prints lines ∙ found) }
+
+print_in_range : (n : ℕ) (rest : Option ℕ) (b : Bool) → (b ≡ true → (0 < n) × (n ≤ 132)) → (0 < unwrap_or rest 132) × (unwrap_or rest 132 ≤ 132)
+    → (0 < unwrap_or (option_or (cond b (byte_of n) None) rest) 132) × (unwrap_or (option_or (cond b (byte_of n) None) rest) 132 ≤ 132)
+print_in_range n rest true size later = let s = size refl in rw (byte_small n s.1) s
+print_in_range n rest false size later = later
+
+print_size : (card print : Bool) (files : List FileLine) → FilesFine card print files
+    → (0 < unwrap_or (first_of print_in files) 132) × (unwrap_or (first_of print_in files) 132 ≤ 132)
+print_size card print [] fine = (lit< tt, lit≤ tt)
+print_size card print (f ∷ fs) fine =
+    print_in_range f.record_length (first_of print_in fs) (is_print_file f) (λ so. let p = fine_print f so fine.0.built in (p.some, p.positions))
+    (print_size (card || is_card_file f) (print || is_print_file f) fs fine.1)
+
+pub print_length_range : (lines : List Line) → FilesFine false false (files_of lines) → (0 < print_length_of lines) × (print_length_of lines ≤ 132)
+print_length_range lines fine = rw (first_prints lines) (print_size false false (files_of lines) fine)
+
+-- ---- files by name
+named_here : (b : Bool) (place : ℕ) (file : FileLine) (rest : Option DefinedFile) (other : Option FileLine) (g : DefinedFile) → (rest ≡ Some g → other ≡ Some g.line)
+    → option_or (cond b (Some (record { place = place; line = file })) None) rest ≡ Some g → cond b (Some file) other ≡ Some g.line
+named_here true place file rest other g later h = ap (λ (o : Option DefinedFile). option_map (λ d. d.line) o) h
+named_here false place file rest other g later h = later h
+
+named_in : (place card : ℕ) (sheet : SheetLine) (lines : List Line) (name : Name) (g : DefinedFile)
+    → (file_from (place + 1) lines name ≡ Some g → find (λ file. same_name file.name name) (files_of lines) ≡ Some g.line)
+    → file_from place (one_line card sheet ∷ lines) name ≡ Some g → find (λ file. same_name file.name name) (files_of (one_line card sheet ∷ lines)) ≡ Some g.line
+named_in place card (Header other) lines name g later h = later h
+named_in place card (File file) lines name g later h =
+    named_here (same_name file.name name) place file (file_from (place + 1) lines name) (find (λ file. same_name file.name name) (files_of lines)) g later h
+named_in place card (Input input) lines name g later h = later h
+named_in place card (Output output) lines name g later h = later h
+named_in place card (Calculation calculation) lines name g later h = later h
+
+named_from : (place : ℕ) (lines : List Line) (name : Name) (g : DefinedFile) → file_from place lines name ≡ Some g
+    → find (λ file. same_name file.name name) (files_of lines) ≡ Some g.line
+named_from place [] name g h = cc
+named_from place (line ∷ lines) name g h = named_in place line.card line.sheet lines name g (named_from (place + 1) lines name g) h
+
+pub file_found : (lines : List Line) (name : Name) (g : DefinedFile) → file_of lines name ≡ Some g → find (λ file. same_name file.name name) (files_of lines) ≡ Some g.line
+file_found lines name g h = named_from 0 lines name g h
+
+-- the files of a source are those of its lines
+file_line_is : (card : ℕ) (sheet : SheetLine) → file_line (one_line card sheet) ≡ file_on sheet
+file_line_is card (Header name) = refl
+file_line_is card (File file) = refl
+file_line_is card (Input input) = refl
+file_line_is card (Output output) = refl
+file_line_is card (Calculation calculation) = refl
+
+pub source_files : (lines : List Line) → filter_map file_line lines ≡ files_of lines
+source_files lines = ap (λ (f : Line → Option FileLine). filter_map f lines) (fun_ext (λ line. file_line_is line.card line.sheet))

@@ -1,0 +1,10 @@
+pub mod DefinitionLemmas
+pub mod DiagnosticLemmas
+pub mod ProgramLemmas
+pub mod Accepted
+pub mod Slots
+pub mod Files
+pub mod Moves
+pub mod Lines
+pub mod Shapes
+pub mod Translated

@@ -1,0 +1,10 @@
+pub mod Names
+pub mod Definitions
+pub mod Before
+pub mod Part
+pub mod Conditions
+pub mod Diagnostics
+pub mod Valid
+pub mod Stands
+pub mod Translation
+pub mod Compiles

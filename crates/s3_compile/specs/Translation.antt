@@ -1,0 +1,124 @@
+-- The parts of a program, line by line, with names as slots.
+use Rattle.std.specs.Prelude.{ℕ, ◌+◌, ◌-◌, nat_lt, Bool, true, false, List, [], ◌∷◌, map, Option, Some, None, unwrap_or, length, if◌then◌else◌}
+use Rattle.std.specs.List.{filter_map, cons_option}
+use Rattle.std.specs.Option.{option_or, option_and_then}
+use Rattle.indexmap.specs.IndexMap.{index_of}
+use Rattle.s3_sheets.specs.declared.indicator.Indicator.{Indicator}
+use Rattle.s3_sheets.specs.declared.indicator.Indicator.TheVariants.{General}
+use Rattle.s3_sheets.specs.declared.name.Name.{Name}
+use Rattle.s3_sheets.specs.declared.sheet.FileLine.{FileLine}
+use Rattle.s3_sheets.specs.declared.sheet.InputLine.{InputLine}
+use Rattle.s3_sheets.specs.declared.sheet.InputLine.TheVariants.{Record, Field as InputField}
+use Rattle.s3_sheets.specs.declared.sheet.OutputContent.{OutputContent}
+use Rattle.s3_sheets.specs.declared.sheet.OutputContent.TheVariants.{Constant as ConstantOutput, Field as FieldOutput}
+use Rattle.s3_sheets.specs.declared.sheet.OutputLine.{OutputLine}
+use Rattle.s3_sheets.specs.declared.sheet.OutputLine.TheVariants.{Line as LineCard, Field as FieldCard}
+use Rattle.s3_sheets.specs.declared.sheet.SheetLine.{SheetLine}
+use Rattle.s3_sheets.specs.declared.sheet.SheetLine.TheVariants.{File, Input, Output}
+use Rattle.s3_sheets.specs.declared.sheet.Line.{Line}
+use Rattle.s3_meaning.specs.Names.{same_name}
+use Rattle.s3_meaning.specs.OutputLines.{fields_from}
+use Rattle.s3_compile.specs.Definitions.{Lengths}
+use Rattle.s3_compile.specs.Before.{is_print_file}
+use Rattle.s3_compile.specs.declared.program.Field.{Field}
+use Rattle.s3_compile.specs.declared.program.FieldMove.{FieldMove}
+use Rattle.s3_compile.specs.declared.program.Content.{Content}
+use Rattle.s3_compile.specs.declared.program.Content.TheVariants.{Constant as ConstantContent, Field as FieldContent}
+use Rattle.s3_compile.specs.declared.program.Piece.{Piece}
+use Rattle.s3_compile.specs.declared.program.DetailLine.{DetailLine}
+
+-- ---- the sheets
+abbrev pub file_on : SheetLine → Option FileLine
+file_on (File file) = Some file
+file_on _ = None
+
+abbrev pub input_on : SheetLine → Option InputLine
+input_on (Input line) = Some line
+input_on _ = None
+
+abbrev pub output_on : SheetLine → Option OutputLine
+output_on (Output line) = Some line
+output_on _ = None
+
+abbrev pub inputs_of : List Line → List InputLine
+inputs_of lines = filter_map (λ line. input_on line.sheet) lines
+
+abbrev pub outputs_of : List Line → List OutputLine
+outputs_of lines = filter_map (λ line. output_on line.sheet) lines
+
+-- ---- fields
+abbrev pub fields_of : Lengths → List Field
+fields_of lengths = map (λ entry. record { name = entry.0; length = entry.1 }) lengths.entries
+
+-- the slot of a field that is defined
+abbrev pub slot_of : Lengths → Name → ℕ
+slot_of lengths name = unwrap_or (index_of same_name lengths name) 0
+
+-- ---- the record line and its fields
+abbrev pub number_of : Indicator → Option ℕ
+number_of (General number) = Some number
+number_of _ = None
+
+abbrev pub record_indicator : InputLine → Option ℕ
+record_indicator (Record file indicator codes) = number_of indicator
+record_indicator _ = None
+
+abbrev pub move_of : Lengths → InputLine → Option FieldMove
+move_of lengths (InputField field) = Some (record { start = field.from - 1; end = field.to; slot = slot_of lengths field.name })
+move_of lengths _ = None
+
+-- the first that one of the lines gives
+abbrev pub first_of : {X Y : Type 0} → (X → Option Y) → List X → Option Y
+first_of f [] = None
+first_of f (x ∷ xs) = option_or (f x) (first_of f xs)
+
+-- ---- output lines
+abbrev pub content_of : Lengths → OutputContent → Content
+content_of lengths (ConstantOutput constant) = ConstantContent constant
+content_of lengths (FieldOutput field) = FieldContent (slot_of lengths field.name)
+
+abbrev pub piece_of : Lengths → OutputLine → Option Piece
+piece_of lengths (FieldCard field) = Some (record { conditions = field.conditions; content = content_of lengths field.content; end = field.end })
+piece_of lengths _ = None
+
+-- a detail line, behind so many pieces, and the cards behind it
+abbrev pub detail_of : ℕ → OutputLine → List OutputLine → Option DetailLine
+detail_of first (LineCard card) lines = Some (record { conditions = card.conditions; first = first; past = first + length (fields_from lines) })
+detail_of first _ lines = None
+
+abbrev pub pieces_on : OutputLine → ℕ
+pieces_on (FieldCard field) = 1
+pieces_on _ = 0
+
+abbrev pub pieces_in : Option OutputLine → ℕ
+pieces_in None = 0
+pieces_in (Some line) = pieces_on line
+
+abbrev pub begins_line : Option OutputLine → Bool
+begins_line (Some (LineCard card)) = true
+begins_line _ = false
+
+abbrev pub details_from : ℕ → List OutputLine → List DetailLine
+details_from first [] = []
+details_from first (line ∷ lines) = cons_option (detail_of first line lines) (details_from (first + pieces_on line) lines)
+
+-- ---- the print file
+abbrev pub byte_of : ℕ → Option ℕ
+byte_of n = if nat_lt n 256 then Some n else None
+
+abbrev pub print_length : SheetLine → Option ℕ
+print_length (File file) = if is_print_file file then byte_of file.record_length else None
+print_length _ = None
+
+-- ---- the lines of all sheets
+abbrev pub moves_of : Lengths → List Line → List FieldMove
+moves_of lengths lines = filter_map (λ line. option_and_then (move_of lengths) (input_on line.sheet)) lines
+
+abbrev pub pieces_of : Lengths → List Line → List Piece
+pieces_of lengths lines = filter_map (λ line. option_and_then (piece_of lengths) (output_on line.sheet)) lines
+
+abbrev pub record_indicator_of : List Line → Option ℕ
+record_indicator_of lines = first_of (λ line. option_and_then record_indicator (input_on line.sheet)) lines
+
+abbrev pub print_length_of : List Line → ℕ
+print_length_of lines = unwrap_or (first_of (λ line. print_length line.sheet) lines) 132

@@ -1,0 +1,11 @@
+pub mod Following
+pub mod ListLemmas
+pub mod TextLemmas
+pub mod FieldLemmas
+pub mod ReadLemmas
+pub mod StepLemmas
+pub mod PlainLemmas
+pub mod TakeLemmas
+pub mod LineLemmas
+pub mod FitLemmas
+pub mod StartLemmas

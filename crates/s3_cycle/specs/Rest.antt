@@ -1,0 +1,82 @@
+-- The rest of a run from where it stands: what follows the answer to the pending request.
+use Rattle.std.specs.Prelude.{◌≡◌, ℕ, true, false, List, [], ◌∷◌, ◌++◌, map, filter, drop, None, if◌then◌else◌}
+use Rattle.s3_sheets.specs.declared.indicator.Indicator.TheVariants.{LastRecord, FirstPage}
+use Rattle.s3_sheets.specs.declared.sheet.FileLine.{FileLine}
+use Rattle.s3_meaning.specs.Source.{Source, is_input}
+use Rattle.s3_meaning.specs.OutputLines.{Output}
+use Rattle.s3_meaning.specs.Requests.{Answer}
+use Rattle.s3_meaning.specs.Environment.{turn}
+use Rattle.s3_meaning.specs.Selection.{Unread, InputFile, Reading, select}
+use Rattle.s3_meaning.specs.Runs.{Run, Rest, ask, ended, replied}
+use Rattle.s3_meaning.specs.Output.{is_heading_or_detail, lines_put}
+use Rattle.s3_meaning.specs.Cycle.{halts_shown, cleared, on_read, files_read, last_time, selected_or_last, reading_time, again, Req}
+use Rattle.s3_compile.specs.Stands.{Stands}
+use Rattle.s3_cycle.specs.declared.request.Request as Code
+use Rattle.s3_cycle.specs.declared.stepper.Point.{Point}
+use Rattle.s3_cycle.specs.declared.stepper.Point.TheVariants.{Headings, Card, Unidentified, End}
+use Rattle.s3_cycle.specs.declared.stepper.Stepper.{Stepper}
+use Rattle.s3_cycle.specs.Requests.{request_of}
+use Rattle.s3_cycle.specs.Held.{held}
+
+-- ---- what is to be read
+-- a card file whose head was taken
+abbrev pub input_of : Stepper → FileLine → InputFile
+input_of c file = record { file = file; standing = Unread; reads = c.reads; last_key = None }
+
+abbrev pub reading_of : Source → Stepper → Reading
+reading_of source c = record { files = map (input_of c) (filter is_input source.files); primary_key = None }
+
+-- ---- the steps from a place on
+-- step 1 after its lines, step 2, and all that follows
+unfoldable pub after_headings : Source → Reading → Rest
+after_headings source reading e =
+    halts_shown (again source) (1 ∷ 2 ∷ 3 ∷ 4 ∷ 5 ∷ 6 ∷ 7 ∷ 8 ∷ 9 ∷ [])
+    (cleared source (λ e'. (if e'.on LastRecord then last_time source (again source) else reading_time source (again source) reading) e'))
+    (turn FirstPage false e)
+
+-- step 1 from these of its lines on
+unfoldable pub headings_put : Source → Reading → List Output → Rest
+headings_put source reading lines = lines_put source (again source) is_heading_or_detail false lines (after_headings source reading)
+
+-- what follows the reading of all files
+unfoldable pub heads_read : Source → List InputFile → Rest
+heads_read source inputs =
+    let heads : Reading = record { files = inputs; primary_key = None } in
+    selected_or_last source (again source) heads (select heads)
+
+-- what follows the reading of the first file
+abbrev pub others_read : Source → Stepper → List FileLine → InputFile → Rest
+others_read source c files input = files_read source (again source) (map (input_of c) files) (λ inputs. heads_read source (input ∷ inputs))
+
+unfoldable pub card_answered : Source → Stepper → List FileLine → Answer → Rest
+card_answered source c [] answer = ended true
+card_answered source c (file ∷ files) answer = on_read source (again source) (input_of c file) (others_read source c files) answer
+
+-- a reply to the halt of a record without type
+unfoldable pub reply_answered : Source → Stepper → List FileLine → Answer → Rest
+reply_answered source c [] answer = ended true
+reply_answered source c (file ∷ files) answer = replied (again source) ((again source).read (input_of c file) (others_read source c files)) answer
+
+-- ---- the rest
+-- what follows the answer
+abbrev pub answered : Source → Stepper → Point → Answer → Run
+answered source c (Headings next) answer = headings_put source (reading_of source c) (drop next source.outputs) (held source c)
+answered source c Card answer = card_answered source c (filter is_input source.files) answer (held source c)
+answered source c Unidentified answer = reply_answered source c (filter is_input source.files) answer (held source c)
+answered source c End answer = λ answers. request_of c.request
+
+-- the request that stands after these answers more
+unfoldable pub rest : Source → Stepper → Run
+rest source c = ask (request_of c.request) (answered source c c.point)
+
+unfoldable pub StandsFor : Stepper → Source → Type 0
+StandsFor c source = Stands c.program source
+
+-- the pending request
+unfoldable pub asked : Stepper → Code.Request
+asked c = c.request
+
+-- a run that goes on from the request that these answers led to
+pub record Follows (source : Source) (switches : ℕ) (date : List ℕ) (past : List Answer) (c : Stepper) : Type 0 where
+  pub stands : StandsFor c source
+  pub runs : (answers : List Answer) → rest source c answers ≡ Req source switches date (past ++ answers)

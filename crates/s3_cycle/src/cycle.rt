@@ -1,0 +1,65 @@
+//! The cycle of a job.
+
+use crate::request::{Answer, Request};
+use crate::stepper::Stepper;
+use s3_compile::program::Program;
+use std::alloc::{AllocError, Global};
+use std::marker::Model;
+
+/// The run of a job, suspended at a request.
+#[derive(Drop)]
+pub struct Cycle {
+    stepper: Stepper,
+}
+
+impl Model for Cycle {
+    ghost use Rattle.s3_cycle.specs.declared.stepper.Stepper.{Stepper};
+    ghost use Rattle.s3_cycle.specs.Steps.{IsSound};
+
+    ghost Value = { Stepper };
+
+    ghost view = { λ c. c.stepper };
+
+    ghost invariant = { λ c. IsSound c.stepper };
+}
+
+impl Cycle {
+    ghost use Rattle.std.specs.Prelude.{◌≡◌, IfOk, IsTrue, List, [], ◌∷◌};
+    ghost use Rattle.s3_meaning.specs.Source.{Source};
+    ghost use Rattle.s3_meaning.specs.Requests.{Answer as MeantAnswer};
+    ghost use Rattle.s3_meaning.specs.Cycle.{Req};
+    ghost use Rattle.s3_compile.specs.Stands.{Stands};
+    ghost use Rattle.s3_cycle.specs.Requests.{request_of, answer_of, is_fit};
+    ghost use Rattle.s3_cycle.specs.Rest.{rest, StandsFor, asked};
+
+    /// A job at its first request, with its switches, U1 the highest bit, and its date, six EBCDIC digits. All memory of the
+    /// run is taken here.
+    pub fn start(
+        alloc: Global,
+        program: Program,
+        switches: u8,
+        date: [u8; 6],
+    ) -> Result<Cycle, AllocError>
+        ensures { IfOk result (λ c. (source : Source) → Stands program source → StandsFor c source × ((answers : List MeantAnswer) → rest source c answers ≡ Req source switches date answers)) }
+    {
+        Ok(Cycle {
+            stepper: Stepper::start(alloc, program, switches, date)?,
+        })
+    }
+
+    /// The request that waits for an answer.
+    pub fn pending(&self) -> &Request
+        ensures request { result.now ≡ asked self.now }
+        ensures next { (source : Source) → request_of result.now ≡ rest source self.now [] }
+    {
+        &self.stepper.request
+    }
+
+    /// Goes on with the answer, up to the next request. It takes no memory.
+    pub fn resume(&mut self, answer: &Answer)
+        requires { IsTrue (is_fit (asked self.old) answer.now) }
+        ensures { (source : Source) → StandsFor self.old source → StandsFor self.new source × ((answers : List MeantAnswer) → rest source self.new answers ≡ rest source self.old (answer_of answer.now ∷ answers)) }
+    {
+        self.stepper.go_on(answer);
+    }
+}

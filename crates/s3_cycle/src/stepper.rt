@@ -1,0 +1,242 @@
+//! A suspended run, and the twelve steps of its cycle.
+
+use crate::carriage::Carriage;
+use crate::indicators::Indicators;
+use crate::moving::move_fields;
+use crate::printing::put_pieces;
+use crate::request::{Answer, Request};
+use crate::texts::Texts;
+use s3_cards::ebcdic::BLANK;
+use s3_cards::{Card, PrintLine};
+use s3_compile::program::{DetailLine, Program};
+use s3_meaning::halt::HaltCode;
+use std::alloc::{AllocError, Global};
+
+/// The most cards that are counted.
+const MOST_READS: u64 = 999_999;
+
+/// What goes on once the pending request is answered.
+#[derive(Clone, Copy)]
+pub enum Point {
+    /// step 1, from this line on
+    Headings { next: usize },
+    /// step 3, with a card
+    Card,
+    /// step 3, after the halt of a record without type
+    Unidentified,
+    End,
+}
+
+/// A run that waits for the answer to its request.
+#[derive(Drop)]
+pub struct Stepper {
+    pub program: Program,
+    pub request: Request,
+    pub point: Point,
+    /// the date of the job, mmddyy
+    pub date: [u8; 6],
+    pub texts: Texts,
+    pub indicators: Indicators,
+    pub carriage: Carriage,
+    /// whether total time is no longer passed over
+    pub totals_due: bool,
+    /// how many cards were read
+    pub reads: u32,
+    /// the card that was moved last
+    pub current: Option<u32>,
+}
+
+impl Stepper {
+    ghost use Rattle.std.specs.Prelude.{◌≡◌, ◌<◌, ◌≤◌, ℕ, true, false, min, ◌+◌, IfSome, IfNone, IfOk, IsTrue, Some, None, ◌&&◌, nat_le, length, replicate, drop, filter, slice_get};
+    ghost use Rattle.std.specs.List.{list_all};
+    ghost use Rattle.s3_meaning.specs.Source.{Source, is_input};
+    ghost use Rattle.s3_meaning.specs.Requests.{Found, Nothing};
+    ghost use Rattle.s3_compile.specs.Stands.{Stands};
+    ghost use Rattle.s3_compile.specs.declared.program.DetailLine.{DetailLine};
+    ghost use Rattle.s3_cycle.specs.Requests.{answer_of, is_fit};
+    ghost use Rattle.s3_cycle.specs.Held.{held, entry_holds};
+    ghost use Rattle.s3_cycle.specs.Rest.{headings_put, after_headings, reading_of, card_answered, answered};
+    ghost use Rattle.s3_cycle.specs.Steps.{IsSound, GoesOn, Starts, SkipsTo, IsPrinted, text_of};
+
+    /// A job at its first request.
+    pub fn start(
+        alloc: Global,
+        program: Program,
+        switches: u8,
+        date: [u8; 6],
+    ) -> Result<Stepper, AllocError>
+        ensures { IfOk result (Starts program switches date) }
+    {
+        let texts = Texts::blank(alloc, program.fields.as_slice())?;
+        let mut stepper = Stepper {
+            program,
+            request: Request::Card,
+            point: Point::Card,
+            date,
+            texts,
+            indicators: Indicators::at_first(switches),
+            carriage: Carriage { page: 1, line: 1 },
+            totals_due: false,
+            reads: 0,
+            current: None,
+        };
+        stepper.put_headings(0);
+        Ok(stepper)
+    }
+
+    /// Goes on with the answer to the pending request, up to the next one.
+    pub fn go_on(&mut self, answer: &Answer)
+        requires sound { IsSound self.old }
+        requires fits { IsTrue (is_fit self.old.request answer.now) }
+        ensures { GoesOn self.old self.new (λ source. answered source self.old self.old.point (answer_of answer.now)) }
+    {
+        match self.point {
+            Point::Headings { next } => self.put_headings(next),
+            Point::Card => self.answer_card(answer),
+            Point::Unidentified => unreachable!(),
+            Point::End => {}
+        }
+    }
+
+    fn wait(&mut self, request: Request, point: Point)
+        ensures { self.new ≡ record self.old { request = request; point = point } }
+    {
+        self.request = request;
+        self.point = point;
+    }
+
+    /// Step 1 from a line on: the detail lines whose conditions hold are printed.
+    fn put_headings(&mut self, next: usize)
+        requires sound { IsSound self.old }
+        ensures { GoesOn self.old self.new (λ source. headings_put source (reading_of source self.old) (drop next source.outputs) (held source self.old)) }
+    {
+        match self.next_line(next) {
+            Some(place) => self.print(place),
+            None => self.read(),
+        }
+    }
+
+    /// The place of the first line from a place on whose conditions hold.
+    fn next_line(&self, next: usize) -> Option<usize>
+        ensures found { IfSome result (λ place. IsPrinted self.now place × SkipsTo self.now next place) }
+        ensures none { IfNone result (SkipsTo self.now next (length self.now.program.lines.items)) }
+    {
+        for place in next..self.program.lines.len() {
+            if self
+                .indicators
+                .all_hold(&self.program.lines[place].conditions)
+            {
+                return Some(place);
+            }
+        }
+        None
+    }
+
+    /// Prints the line of a place.
+    fn print(&mut self, place: usize)
+        requires sound { IsSound self.old }
+        requires line { IsPrinted self.old place }
+        ensures { GoesOn self.old self.new (λ source. headings_put source (reading_of source self.old) (drop place source.outputs) (held source self.old)) }
+    {
+        let line = self.printed(&self.program.lines[place]);
+        self.carriage = self.carriage.next_line();
+        self.wait(Request::Print(line), Point::Headings { next: place + 1 });
+    }
+
+    /// What a line prints where the carriage stands.
+    fn printed(&self, line: &DetailLine) -> PrintLine
+        requires sound { IsSound self.now }
+        requires line { IsTrue (nat_le line.now.first line.now.past && nat_le line.now.past (length self.now.program.pieces.items)) }
+        ensures { result ≡ record { page = self.now.carriage.page; line = self.now.carriage.line; text = text_of self.now line.now } }
+    {
+        let mut positions = [BLANK; 132];
+        let width = self.program.print_length as usize;
+        self.put_line(line, &mut positions[..width]);
+        PrintLine::new(self.carriage.page, self.carriage.line, &positions[..width])
+    }
+
+    /// Lays what a line prints over blanks.
+    fn put_line(&self, line: &DetailLine, text: &mut [u8])
+        requires sound { IsSound self.now }
+        requires line { IsTrue (nat_le line.now.first line.now.past && nat_le line.now.past (length self.now.program.pieces.items)) }
+        requires blank { text.old ≡ replicate self.now.program.print_length 0x40 }
+        ensures { text.new ≡ text_of self.now line.now }
+    {
+        let pieces = &self.program.pieces[line.first as usize..line.past as usize];
+        put_pieces(pieces, &self.texts, &self.indicators, text);
+    }
+
+    /// After the lines of step 1: 1P goes off; step 2; and step 3 asks for a card.
+    fn read(&mut self)
+        requires sound { IsSound self.old }
+        ensures { GoesOn self.old self.new (λ source. after_headings source (reading_of source self.old) (held source self.old)) }
+    {
+        self.indicators.clear(self.program.record_indicator);
+        self.wait(Request::Card, Point::Card);
+    }
+
+    fn answer_card(&mut self, answer: &Answer)
+        requires sound { IsSound self.old }
+        ensures { GoesOn self.old self.new (λ source. card_answered source self.old (filter is_input source.files) (answer_of answer.now) (held source self.old)) }
+    {
+        match answer {
+            Answer::Found(card) => self.take_card(card),
+            Answer::Nothing => self.end_job(),
+            Answer::Done => self.end_job(),
+            Answer::Reply(_) => self.end_job(),
+        }
+    }
+
+    /// Step 3: a card is typed.
+    fn take_card(&mut self, card: &Card)
+        requires sound { IsSound self.old }
+        ensures { GoesOn self.old self.new (λ source. card_answered source self.old (filter is_input source.files) (Found card.now) (held source self.old)) }
+    {
+        match self.program.record_indicator {
+            Some(number) => self.take_record(card, number),
+            None => self.halt_unidentified(card),
+        }
+    }
+
+    fn count_read(&mut self)
+        ensures { self.new ≡ record self.old { reads = min (self.old.reads + 1) 999999 } }
+    {
+        self.reads = (u64::from(self.reads) + 1).min(MOST_READS) as u32;
+    }
+
+    /// A card of no type halts.
+    fn halt_unidentified(&mut self, card: &Card)
+        requires sound { IsSound self.old }
+        requires untyped { self.old.program.record_indicator ≡ None }
+        ensures { GoesOn self.old self.new (λ source. card_answered source self.old (filter is_input source.files) (Found card.now) (held source self.old)) }
+    {
+        self.count_read();
+        self.wait(
+            Request::Ask(HaltCode::UnidentifiedRecord),
+            Point::Unidentified,
+        );
+    }
+
+    /// Steps 4 to 12 with the card that was read, and the next cycle.
+    fn take_record(&mut self, card: &Card, number: u8)
+        requires sound { IsSound self.old }
+        requires typed { self.old.program.record_indicator ≡ Some number }
+        ensures { GoesOn self.old self.new (λ source. card_answered source self.old (filter is_input source.files) (Found card.now) (held source self.old)) }
+    {
+        self.count_read();
+        self.indicators.turn_on(number);
+        self.current = Some(self.reads);
+        let program = &self.program;
+        move_fields(&program.moves, card, &mut self.texts);
+        self.totals_due = true;
+        self.put_headings(0);
+    }
+
+    /// Step 8 of the last cycle: without total lines, the job ends.
+    fn end_job(&mut self)
+        requires sound { IsSound self.old }
+        ensures { GoesOn self.old self.new (λ source. card_answered source self.old (filter is_input source.files) Nothing (held source self.old)) }
+    {
+        self.wait(Request::End { at_once: false }, Point::End);
+    }
+}

@@ -1,0 +1,3 @@
+pub mod Cards
+pub mod Running
+pub mod Starting

@@ -1,0 +1,5 @@
+pub mod Parts
+pub mod World
+pub mod Serving
+pub mod Solo
+pub mod Holds

@@ -1,0 +1,127 @@
+-- What the start of a job and each request of a job do to the world.
+use Rattle.std.specs.Prelude.{ℕ, List, [], ◌∷◌, ◌++◌, drop, map, Option, Some, None, if◌then◌else◌}
+use Rattle.s3_cards.specs.Printed.{Printed}
+use Rattle.s3_sheets.specs.declared.name.Name.{Name}
+use Rattle.s3_sheets.specs.declared.sheet.Line.{Line}
+use Rattle.s3_sheets.specs.declared.diagnostic.Diagnostic.{Diagnostic}
+use Rattle.s3_sheets.specs.Lines.{lines_of}
+use Rattle.s3_sheets.specs.Sheets.{sheet_diagnostics}
+use Rattle.s3_meaning.specs.Names.{same_name}
+use Rattle.s3_meaning.specs.Source.{Source, source_of}
+use Rattle.s3_meaning.specs.Requests.{Request, Card, Print, Jump, Ask, End, Answer, Found, Nothing, Done}
+use Rattle.s3_meaning.specs.Cycle.{Req}
+use Rattle.s3_compile.specs.Diagnostics.{compile_diagnostics}
+use Rattle.s3_compile.specs.Compiles.{program_name}
+use Rattle.s3_ocl.specs.declared.StatementFault.{StatementFault}
+use Rattle.s3_ocl.specs.declared.StatementFault.TheVariants.{NotOcl, Keyword, Value, NoRun, Twice}
+use Rattle.s3_ocl.specs.Stream.{Job, Compile, Run, Faulty}
+use Rattle.s3_level.specs.declared.action.Did.{Did}
+use Rattle.s3_level.specs.declared.action.Did.TheVariants.{Acted, Idle}
+use Rattle.s3_level.specs.declared.halt_code.HaltCode.{HaltCode}
+use Rattle.s3_level.specs.declared.halt_code.HaltCode.TheVariants.{FaultyJob, NoProgram, FaultySource, Program}
+use Rattle.s3_level.specs.Parts.{has_room, with_line, with_halt}
+use Rattle.s3_level.specs.World.{World, JobAtWork, number_after}
+
+-- what an entry is answered, and the world after it
+pub record Outcome : Type 0 where
+  pub did : Did
+  pub world : World
+
+abbrev pub idle : World → Outcome
+idle w = record { did = Idle; world = w }
+
+abbrev pub acted : World → Outcome
+acted w = record { did = Acted; world = w }
+
+-- ---- halts
+abbrev pub halting : ℕ → HaltCode → List (ℕ × ℕ) → World → World
+halting number code details w = record w { halts = with_halt number code details w.halts }
+
+-- where a job asks for a reply, its halt is shown
+abbrev pub asking : ℕ → Request → World → World
+asking number (Ask code) w = halting number (Program code) [] w
+asking number _ w = w
+
+-- ---- the job at work
+-- the request that stands
+abbrev pub pending : JobAtWork → World → Request
+pending job w = Req job.source w.switches w.date job.past
+
+abbrev pub at_work : JobAtWork → World → World
+at_work job w = asking job.number (pending job w) (record w { job = Some job })
+
+-- the pending request has this answer
+abbrev pub with_answer : Answer → JobAtWork → JobAtWork
+with_answer answer job = record job { past = job.past ++ answer ∷ [] }
+
+abbrev pub answered : Answer → JobAtWork → World → World
+answered answer job w = at_work (with_answer answer job) w
+
+-- the next data card, if there is one
+abbrev pub card_answer : List (List ℕ) → Answer
+card_answer [] = Nothing
+card_answer (card ∷ cards) = Found card
+
+abbrev pub with_card_read : JobAtWork → JobAtWork
+with_card_read job = record job { cards = drop 1 job.cards }
+
+-- a line is printed, unless 64 are queued
+abbrev pub line_printed : Printed → JobAtWork → World → Outcome
+line_printed line job w = if has_room w.lines then acted (answered Done job (record w { lines = with_line line w.lines })) else idle w
+
+abbrev pub job_ended : World → World
+job_ended w = record w { job = None }
+
+-- the pending request is served; those to files on the pack are not built yet
+abbrev pub served : Request → JobAtWork → World → Outcome
+served Card job w = acted (answered (card_answer job.cards) (with_card_read job) w)
+served (Print page line text) job w = line_printed (record { page = page; line = line; text = text }) job w
+served Jump job w = acted (answered Done job w)
+served (End at_once) job w = acted (job_ended w)
+served _ job w = idle w
+
+-- ---- the start of a job
+abbrev pub unless_empty : List Diagnostic → List Diagnostic → List Diagnostic
+unless_empty [] more = more
+unless_empty (first ∷ others) more = first ∷ others
+
+-- the diagnostics of a source: those of its cards, or, where there are none, those of the whole
+abbrev pub diagnostics_of : (run_card from : ℕ) → List (List ℕ) → List Diagnostic
+diagnostics_of run_card from cards = unless_empty (sheet_diagnostics from cards) (compile_diagnostics run_card (lines_of from cards))
+
+abbrev pub details_of : List Diagnostic → List (ℕ × ℕ)
+details_of diagnostics = map (λ diagnostic. (diagnostic.card, diagnostic.number)) diagnostics
+
+-- a source goes into the library under its program's name, in place of an earlier one of that name
+abbrev pub stocked : Name → Source → World → World
+stocked name source w = record w { library = λ other. if same_name name other then Some source else w.library other }
+
+-- a source without diagnostics goes into the library
+abbrev pub compiled : ℕ → List Line → List Diagnostic → World → World
+compiled number lines [] w = stocked (program_name lines) (source_of lines) w
+compiled number lines (first ∷ more) w = halting number FaultySource (details_of (first ∷ more)) w
+
+-- a program of the library is started
+abbrev pub run : ℕ → List (List ℕ) → Option Source → World → World
+run number cards None w = halting number NoProgram [] w
+run number cards (Some source) w = at_work (record { number = number; source = source; cards = cards; past = [] }) w
+
+abbrev pub fault_number : StatementFault → ℕ
+fault_number NotOcl = 1
+fault_number Keyword = 2
+fault_number Value = 3
+fault_number NoRun = 4
+fault_number Twice = 5
+
+abbrev pub started : ℕ → Job → World → World
+started number (Compile run_card from cards) w = compiled number (lines_of from cards) (diagnostics_of run_card from cards) w
+started number (Run name cards) w = run number cards (w.library (record { codes = name })) w
+started number (Faulty fault card) w = halting number FaultyJob ((card, fault_number fault) ∷ []) w
+
+-- the next job of the deck is taken
+abbrev pub with_jobs : List Job → World → World
+with_jobs jobs w = record w { deck = record { jobs = jobs; number = number_after w.deck.number } }
+
+abbrev pub begun : List Job → World → Outcome
+begun [] w = idle w
+begun (job ∷ jobs) w = acted (started w.deck.number job (with_jobs jobs w))

@@ -1,0 +1,47 @@
+-- The world of one level. It knows no place in a deck, no slot of a program, and nothing of the other level.
+use Rattle.std.specs.Prelude.{ℕ, ◌+◌, ◌==◌, List, [], replicate, Option, None, if◌then◌else◌}
+use Rattle.s3_sheets.specs.declared.name.Name.{Name}
+use Rattle.s3_meaning.specs.Source.{Source}
+use Rattle.s3_meaning.specs.Requests.{Answer}
+use Rattle.s3_ocl.specs.Stream.{Job, jobs_from}
+use Rattle.s3_level.specs.Parts.{Lines, no_lines, ShownHalt}
+
+-- the jobs of the deck that are not begun, and the number of the next one
+pub record JobsLeft : Type 0 where
+  pub jobs : List Job
+  pub number : ℕ
+
+-- the job at work: its number, its source, its data cards not yet read, and what its requests were answered so far
+pub record JobAtWork : Type 0 where
+  pub number : ℕ
+  pub source : Source
+  pub cards : List (List ℕ)
+  pub past : List Answer
+
+pub record World : Type 0 where
+  pub deck : JobsLeft
+  -- the sources of the programs, by their names
+  pub library : Name → Option Source
+  -- U1 to U8, U1 as the highest of eight bits, and six digits
+  pub switches : ℕ
+  pub date : List ℕ
+  pub job : Option JobAtWork
+  pub lines : Lines
+  pub halts : List ShownHalt
+
+-- the world of a level with this deck, before its first entry
+abbrev pub at_start : List (List ℕ) → World
+at_start deck =
+    record {
+      deck = record { jobs = jobs_from deck 0; number = 1 };
+      library = λ name. None;
+      switches = 0;
+      date = replicate 6 0xf0;
+      job = None;
+      lines = no_lines;
+      halts = [];
+    }
+
+-- jobs are numbered from 1, and 0 follows 999
+abbrev pub number_after : ℕ → ℕ
+number_after number = if number == 999 then 0 else number + 1

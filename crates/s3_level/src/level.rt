@@ -1,0 +1,442 @@
+//! One level.
+
+ghost use Rattle.std.specs.Prelude.{◌≤◌};
+
+use crate::action::{Did, Stop};
+use crate::details::{details_of, fault_number, one_detail};
+use crate::halt::Halt;
+use crate::halt_code::HaltCode;
+use crate::halt_log::HaltLog;
+use crate::job::OpenJob;
+use crate::printed_lines::PrintedLines;
+use indexmap::IndexMap;
+use s3_cards::ebcdic::DIGIT_0;
+use s3_cards::{Deck, LevelId, PrintLine};
+use s3_compile::{CompileFault, Program, compile};
+use s3_cycle::{Answer, Cycle, Request};
+use s3_ocl::{JobCards, JobKind, OclFault, StatementFault, job_at, split};
+use s3_sheets::name::Name;
+use s3_sheets::{Diagnostic, SheetFault, read_sheets};
+use std::alloc::{AllocError, Global};
+
+/// One level at work.
+#[derive(Drop)]
+pub struct Level {
+    alloc: Global,
+    id: LevelId,
+    deck: Deck,
+    /// the place in the deck after the last job that was begun
+    next: usize,
+    /// the number of the next job, 0 to 999
+    number: u16,
+    library: IndexMap<Name, Program>,
+    switches: u8,
+    date: [u8; 6],
+    job: Option<OpenJob>,
+    lines: PrintedLines,
+    halts: HaltLog,
+    ghost numbered: { number ≤ 999 },
+}
+
+/// `000000`, the date before any job sets one.
+const NO_DATE: [u8; 6] = [DIGIT_0; 6];
+
+/// The highest job number.
+const LAST_NUMBER: u16 = 999;
+
+impl Level {
+    ghost use Rattle.std.specs.Prelude.{◌≡◌, map, slice_range, IfErr, IfOk, IsTrue, OnOk};
+    ghost use Rattle.s3_meaning.specs.Source.{Source};
+    ghost use Rattle.s3_meaning.specs.Requests as Meant;
+    ghost use Rattle.s3_cycle.specs.declared.request.Request.TheVariants.{Card, Print};
+    ghost use Rattle.s3_compile.specs.Stands.{Stands};
+    ghost use Rattle.s3_cycle.specs.Requests.{answer_of, is_fit};
+    ghost use Rattle.s3_ocl.specs.Stream.{Compile, Faulty, job_of, jobs_from, IsWithin};
+    ghost use Rattle.s3_level.specs.declared.action.Action.TheVariants.{Turn, Reply, Drain};
+    ghost use Rattle.s3_level.specs.declared.action.Did.TheVariants.{Acted, Idle};
+    ghost use Rattle.s3_level.specs.declared.halt_code.HaltCode.TheVariants.{FaultySource};
+    ghost use Rattle.s3_level.specs.declared.action.Stop.TheVariants.{NoMemory};
+    ghost use Rattle.s3_level.specs.Parts.{drained_lines, halt_of, with_line};
+    ghost use Rattle.s3_level.specs.World.{World, JobAtWork, at_start};
+    ghost use Rattle.s3_level.specs.Serving.{answered, asking, card_answer, details_of, halting, job_ended, line_printed, pending, run, served, started, stocked, with_answer, with_card_read, with_jobs};
+    ghost use Rattle.s3_level.specs.Solo.{step_of, closed};
+    ghost use Rattle.s3_level.specs.Holds.{Holds, Becomes, Steps, Stays, Pends, request_by, FitsJob, AsksFor, AtWorkBecomes, Serves, Begins, Starts, Turns};
+
+    /// A level with this deck, before its first entry.
+    pub fn new(alloc: Global, id: LevelId, deck: Deck) -> Result<Level, AllocError>
+        ensures world { IfOk result (λ level. Holds level (at_start deck)) }
+        ensures id { IfOk result (λ level. level.id ≡ id) }
+    {
+        Ok(Level {
+            alloc,
+            id,
+            deck,
+            next: 0,
+            number: 1,
+            library: IndexMap::new(alloc),
+            switches: 0,
+            date: NO_DATE,
+            job: None,
+            lines: PrintedLines::new(alloc)?,
+            halts: HaltLog::new(alloc),
+        })
+    }
+
+    /// Which level it is.
+    pub fn id(&self) -> LevelId
+        ensures { result ≡ self.now.id }
+    {
+        self.id
+    }
+
+    /// Performs the pending request of the job at work, or begins the next job.
+    ///
+    /// It is idle, takes no memory and changes nothing where a halt waits, where no job is at work and none is left, and
+    /// where the job would print and 64 lines are queued. After `NoMemory` nothing is said of the worlds that are held.
+    pub fn turn(&mut self) -> Result<Did, Stop>
+        ensures step { IfOk result (λ did. Steps Turn did self.old self.new) }
+        ensures idle { (w : World) → Holds self.old w → (step_of w Turn).did ≡ Idle → result ≡ Ok Idle }
+        ensures stop { IfErr result (λ stop. stop ≡ NoMemory) }
+        ensures lines { drained_lines self.new.lines ≡ drained_lines self.old.lines }
+        ensures id { self.new.id ≡ self.old.id }
+    {
+        Ok(self.step()?)
+    }
+
+    /// Answers the halt that waits with a digit: refused with 1 where no halt waits, and with 2 where it doesn't allow
+    /// the digit, as no halt does yet.
+    pub fn answer(&mut self, digit: u8) -> Result<Did, Stop>
+        ensures step { IfOk result (λ did. Steps (Reply digit) did self.old self.new) }
+        ensures refused { (w : World) → Holds self.old w → result ≡ Ok (step_of w (Reply digit)).did }
+        ensures unchanged { self.new ≡ self.old }
+    {
+        Ok(Did::Refused(if self.halts.is_waiting() { 2 } else { 1 }))
+    }
+
+    /// Takes the first queued line into the printed output; refused with 3 where none is queued.
+    pub fn drain(&mut self) -> Did
+        ensures step { Steps Drain result self.old self.new }
+        ensures id { self.new.id ≡ self.old.id }
+    {
+        if self.lines.drain() {
+            Did::Acted
+        } else {
+            Did::Refused(3)
+        }
+    }
+
+    /// Ends the job at work without its pending request, and drains all queued lines; a halt that waits keeps no reply.
+    pub fn close(&mut self)
+        ensures world { Becomes closed self.old self.new }
+        ensures id { self.new.id ≡ self.old.id }
+    {
+        self.lines.drain_all();
+        self.job = None;
+    }
+
+    /// The drained lines, in order.
+    pub fn lines(&self) -> &[PrintLine]
+        ensures value { result.now ≡ drained_lines self.now.lines }
+        ensures world { (w : World) → Holds self.now w → result.now ≡ drained_lines w.lines }
+    {
+        self.lines.drained()
+    }
+
+    /// The halts that were shown, in order.
+    pub fn halts(&self) -> &[Halt]
+        ensures { (w : World) → Holds self.now w → map halt_of result.now ≡ w.halts }
+    {
+        self.halts.halts()
+    }
+
+    #[tactic(auto, unfolding(s3_cycle::specs::Requests::request_of))]
+    /// Performs the pending request of the job at work, or begins the next job.
+    fn step(&mut self) -> Result<Did, AllocError>
+        ensures world { Turns result self.old self.new }
+        ensures stays { Stays self.old self.new }
+    {
+        if self.halts.is_waiting() {
+            return Ok(Did::Idle);
+        }
+        match &self.pending() {
+            None => self.begin(),
+            Some(Request::Card) => self.read_card(),
+            Some(Request::Print(line)) => self.print(*line),
+            Some(Request::Ask(_)) => Ok(Did::Idle),
+            Some(Request::End { .. }) => Ok(self.end_job()),
+        }
+    }
+
+    /// The pending request of the job at work.
+    fn pending(&self) -> Option<Request>
+        ensures request { result ≡ request_by self.now.job }
+        ensures world { (w : World) → Holds self.now w → Pends result w }
+    {
+        let Some(job) = &self.job else {
+            return None;
+        };
+        Some(*job.cycle.pending())
+    }
+
+    /// Ends the job at work.
+    fn end_job(&mut self) -> Did
+        ensures world { Becomes job_ended self.old self.new }
+        ensures acted { result ≡ Acted }
+        ensures stays { Stays self.old self.new }
+    {
+        self.job = None;
+        Did::Acted
+    }
+
+    /// Reads a card for the job at work.
+    fn read_card(&mut self) -> Result<Did, AllocError>
+        requires { request_by self.old.job ≡ Some Card }
+        ensures served { Serves (served Meant.Card) result self.old self.new }
+        ensures stays { Stays self.old self.new }
+    {
+        let answer = self.next_card();
+        self.resume(&answer)?;
+        Ok(Did::Acted)
+    }
+
+    /// The next card of the job at work.
+    fn next_card(&mut self) -> Answer
+        ensures answer { (w : World) (job : JobAtWork) → w.job ≡ Some job → Holds self.old w → answer_of result ≡ card_answer job.cards }
+        ensures fits { IsTrue (is_fit Card result) }
+        ensures request { request_by self.new.job ≡ request_by self.old.job }
+        ensures world { AtWorkBecomes (λ job w. record w { job = Some (with_card_read job) }) self.old self.new }
+        ensures stays { Stays self.old self.new }
+    {
+        match &mut self.job {
+            Some(job) => job.read_card(&self.deck),
+            None => Answer::Nothing,
+        }
+    }
+
+    #[tactic(auto, unfolding(s3_cycle::specs::Requests::answer_of))]
+    /// Prints a line for the job at work, unless the queue is full.
+    fn print(&mut self, line: PrintLine) -> Result<Did, AllocError>
+        requires { request_by self.old.job ≡ Some (Print line) }
+        ensures served { Serves (line_printed line) result self.old self.new }
+        ensures stays { Stays self.old self.new }
+    {
+        if !self.lines.has_room() {
+            return Ok(Did::Idle);
+        }
+        self.put_line(line)?;
+        self.resume(&Answer::Done)?;
+        Ok(Did::Acted)
+    }
+
+    /// Puts a line last.
+    fn put_line(&mut self, line: PrintLine) -> Result<(), AllocError>
+        ensures world { OnOk result (Becomes (λ w. record w { lines = with_line line w.lines }) self.old self.new) }
+        ensures request { request_by self.new.job ≡ request_by self.old.job }
+        ensures stays { Stays self.old self.new }
+    {
+        self.lines.put(line)
+    }
+
+    /// Lets the job at work go on with the answer to its pending request.
+    fn resume(&mut self, answer: &Answer) -> Result<(), AllocError>
+        requires { FitsJob self.old.job answer.now }
+        ensures world { OnOk result (AtWorkBecomes (answered (answer_of answer.now)) self.old self.new) }
+        ensures stays { Stays self.old self.new }
+    {
+        self.take_answer(answer);
+        self.show_asked()
+    }
+
+    #[tactic(auto, using(crate::proofs::Running::resumed))]
+    /// Gives the pending request of the job at work its answer.
+    fn take_answer(&mut self, answer: &Answer)
+        requires { FitsJob self.old.job answer.now }
+        ensures world { AtWorkBecomes (λ job w. record w { job = Some (with_answer (answer_of answer.now) job) }) self.old self.new }
+        ensures stays { Stays self.old self.new }
+    {
+        if let Some(job) = &mut self.job {
+            job.cycle.resume(answer);
+        }
+    }
+
+    /// Where the job at work asks for a reply, shows that halt.
+    fn show_asked(&mut self) -> Result<(), AllocError>
+        ensures world { OnOk result (AtWorkBecomes (λ job w. asking job.number (pending job w) w) self.old self.new) }
+        ensures stays { Stays self.old self.new }
+    {
+        match self.asked() {
+            Some((number, code)) => {
+                self.show(number, HaltCode::Program(code), Vec::new(self.alloc))
+            }
+            None => Ok(()),
+        }
+    }
+
+    #[tactic(auto, unfolding(s3_cycle::specs::Requests::request_of, s3_cycle::specs::Requests::answer_of))]
+    /// The number of the job at work and what it halts for, where it asks for a reply.
+    fn asked(&self) -> Option<(u16, s3_meaning::halt::HaltCode)>
+        ensures { (w : World) (job : JobAtWork) → w.job ≡ Some job → Holds self.now w → AsksFor result job w }
+    {
+        let Some(job) = &self.job else {
+            return None;
+        };
+        match job.cycle.pending() {
+            Request::Ask(code) => Some((job.number, *code)),
+            _ => None,
+        }
+    }
+
+    /// Shows a halt.
+    fn show(
+        &mut self,
+        number: u16,
+        code: HaltCode,
+        details: Vec<(u16, u8)>,
+    ) -> Result<(), AllocError>
+        ensures world { OnOk result (Becomes (halting number code details.items) self.old self.new) }
+        ensures stays { Stays self.old self.new }
+    {
+        self.halts.show(number, code, details)
+    }
+
+    /// Begins the next job, if there is one.
+    fn begin(&mut self) -> Result<Did, AllocError>
+        ensures world { Begins result self.old self.new }
+        ensures stays { Stays self.old self.new }
+    {
+        if job_at(&self.deck, self.next).is_none() {
+            return Ok(Did::Idle);
+        }
+        match split(self.alloc, &self.deck, self.next) {
+            Ok(cards) => self.start(&cards)?,
+            Err(OclFault::NoMemory) => return Err(AllocError),
+            Err(OclFault::Faulty(fault, card, after)) => { self.refuse(fault, card, after)? }
+        }
+        Ok(Did::Acted)
+    }
+
+    /// Takes the next job, which ends before that place, and answers its number.
+    fn take_job(&mut self, after: usize) -> u16
+        ensures number { result ≡ self.old.number }
+        ensures world { Becomes (with_jobs (jobs_from self.old.deck after)) self.old self.new }
+        ensures stays { Stays self.old self.new }
+    {
+        let number = self.number;
+        self.next = after;
+        self.number = if number == LAST_NUMBER { 0 } else { number + 1 };
+        number
+    }
+
+    /// Passes a faulty job over and shows its fault.
+    fn refuse(&mut self, fault: StatementFault, card: u16, after: usize) -> Result<(), AllocError>
+        ensures world { OnOk result (Starts (Faulty fault card) after self.old self.new) }
+        ensures stays { Stays self.old self.new }
+    {
+        let number = self.take_job(after);
+        self.show_fault(number, fault, card)
+    }
+
+    /// Shows the fault of a job's statements.
+    fn show_fault(
+        &mut self,
+        number: u16,
+        fault: StatementFault,
+        card: u16,
+    ) -> Result<(), AllocError>
+        ensures world { OnOk result (Becomes (started number (Faulty fault card)) self.old self.new) }
+        ensures stays { Stays self.old self.new }
+    {
+        let details = one_detail(self.alloc, card, fault_number(fault))?;
+        self.show(number, HaltCode::FaultyJob, details)
+    }
+
+    #[tactic(auto, using(crate::proofs::Starting::taken_then_started))]
+    /// Starts the next job, which has these cards.
+    fn start(&mut self, cards: &JobCards) -> Result<(), AllocError>
+        requires { IsWithin self.old.deck cards.now }
+        ensures world { OnOk result (Starts (job_of self.old.deck cards.now) cards.now.after self.old self.new) }
+        ensures stays { Stays self.old self.new }
+    {
+        let number = self.take_job(cards.after);
+        self.perform(number, cards)
+    }
+
+    /// Compiles a job's source, or starts its program.
+    fn perform(&mut self, number: u16, cards: &JobCards) -> Result<(), AllocError>
+        requires { IsWithin self.old.deck cards.now }
+        ensures world { OnOk result (Becomes (started number (job_of self.old.deck cards.now)) self.old self.new) }
+        ensures stays { Stays self.old self.new }
+    {
+        match cards.kind {
+            JobKind::Compile => self.compile(number, cards),
+            JobKind::Run(codes) => self.run(number, Name { codes }, cards),
+        }
+    }
+
+    /// Compiles a job's source into the library, or shows its diagnostics.
+    fn compile(&mut self, number: u16, cards: &JobCards) -> Result<(), AllocError>
+        requires { IsWithin self.old.deck cards.now }
+        ensures world { OnOk result (Becomes (started number (Compile cards.now.run_card cards.now.first (slice_range self.old.deck cards.now.first cards.now.end))) self.old self.new) }
+        ensures stays { Stays self.old self.new }
+    {
+        let lines = match read_sheets(self.alloc, &self.deck, cards.first, cards.end) {
+            Ok(lines) => lines,
+            Err(SheetFault::NoMemory) => return Err(AllocError),
+            Err(SheetFault::Diagnostics(found)) => {
+                return self.show_diagnostics(number, &found);
+            }
+        };
+        match compile(self.alloc, &lines, cards.run_card) {
+            Ok(program) => self.stock(program),
+            Err(CompileFault::NoMemory) => Err(AllocError),
+            Err(CompileFault::Diagnostics(found)) => { self.show_diagnostics(number, &found) }
+        }
+    }
+
+    /// Shows the diagnostics of a source.
+    fn show_diagnostics(&mut self, number: u16, found: &[Diagnostic]) -> Result<(), AllocError>
+        ensures world { OnOk result (Becomes (halting number FaultySource (details_of found.now)) self.old self.new) }
+        ensures stays { Stays self.old self.new }
+    {
+        let details = details_of(self.alloc, found)?;
+        self.show(number, HaltCode::FaultySource, details)
+    }
+
+    /// Puts a program into the library, in place of an earlier one of its name.
+    fn stock(&mut self, program: Program) -> Result<(), AllocError>
+        ensures world { OnOk result ((source : Source) → Stands program source → Becomes (stocked program.name source) self.old self.new) }
+        ensures stays { Stays self.old self.new }
+    {
+        if self.library.insert(program.name, program).is_err() {
+            return Err(AllocError);
+        }
+        Ok(())
+    }
+
+    /// Starts a program of the library over a job's data cards.
+    #[tactic(auto, using(crate::proofs::Starting::started_program))]
+    fn run(&mut self, number: u16, name: Name, cards: &JobCards) -> Result<(), AllocError>
+        ensures world { OnOk result (Becomes (λ w. run number (slice_range self.old.deck cards.now.first cards.now.end) (w.library name) w) self.old self.new) }
+        ensures stays { Stays self.old self.new }
+    {
+        let Some(program) = self.library.get(&name) else {
+            return self.show(number, HaltCode::NoProgram, Vec::new(self.alloc));
+        };
+        let program = program.copy(self.alloc)?;
+        let cycle = Cycle::start(self.alloc, program, self.switches, self.date)?;
+        self.open(OpenJob {
+            number,
+            cycle,
+            next: cards.first,
+            end: cards.end,
+        });
+        self.show_asked()
+    }
+
+    /// Has this job at work.
+    fn open(&mut self, job: OpenJob)
+        ensures { self.new ≡ record self.old { job = Some job } }
+    {
+        self.job = Some(job);
+    }
+}

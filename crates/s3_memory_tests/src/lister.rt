@@ -1,0 +1,44 @@
+//! The card lister's eight turns.
+
+use s3_bureau::{Action, Bureau, Did, Entry, Stop};
+use s3_cards::{Deck, LevelId};
+use std::test::Fail;
+
+/// The card lister, compiled and run over the cards `ABC` and `DEF`.
+const DECK: &[u8] =
+    b"// LOAD $RPG,F1\n// RUN\n     H                                                                    LIST\n     FCARDS   IP  F  96  96            MFCU1\n     FPRINT   O   F 132 132            PRINTER\n     ICARDS   AA  01\n     I                                        1   3 TEXT\n     OPRINT   D        01\n     O                         TEXT       3\n/*\n/&\n// LOAD LIST,F1\n// RUN\nABC\nDEF\n/*\n/&\n";
+
+/// Compile, start, card, line, card, line, end of cards, end of job.
+const TURNS: u8 = 8;
+
+const TURN: Entry = Entry {
+    level: LevelId::One,
+    action: Action::Turn,
+};
+
+/// The lister ends with both lines, or a growth was refused: then every later call answers that the bureau is stopped.
+#[test]
+fn lister_ends_or_stays_stopped(rt: HostRuntime) -> Result<(), Fail> {
+    let Ok(deck) = Deck::read(rt.alloc(), DECK) else {
+        return Ok(());
+    };
+    let Ok(mut bureau) = Bureau::open(rt.alloc(), deck, Deck::empty(rt.alloc())) else {
+        return Ok(());
+    };
+    for _turn in 0..TURNS {
+        match bureau.step(TURN) {
+            Ok(did) => assert_eq!(rt; did, Did::Acted),
+            Err(stop) => {
+                assert_eq!(rt; stop, Stop::NoMemory);
+                assert_eq!(rt; bureau.step(TURN), Err(Stop::Stopped));
+                assert_eq!(rt; bureau.finish(), Err(Stop::Stopped));
+                assert_eq!(rt; bureau.step(TURN), Err(Stop::Stopped));
+                return Ok(());
+            }
+        }
+    }
+    assert_eq!(rt; bureau.finish(), Ok(()));
+    assert_eq!(rt; bureau.lines(LevelId::One).len(), 2);
+    assert_eq!(rt; bureau.finish(), Err(Stop::Stopped));
+    Ok(())
+}
