@@ -1,7 +1,7 @@
 -- Only an entry that acts takes memory.
 use Rattle.std.proofs.Common.{◌≡◌, Bool, true, false, List, [], ◌∷◌, Option, Some, None, Result, Ok, Err, refl}
 use Rattle.std.specs.Prelude.{OnErr, if◌then◌else◌}
-use Rattle.s3_meaning.specs.Requests.{Request, Card, Print, Jump, Ask, End}
+use Rattle.s3_meaning.specs.Requests.{Request, Card, Print, Jump, End}
 use Rattle.s3_ocl.specs.Stream.{Job}
 use Rattle.s3_level.specs.declared.action.Action.TheVariants.{Turn}
 use Rattle.s3_level.specs.declared.action.Did.{Did}

@@ -1,5 +1,5 @@
 -- The texts of a run.
-use Rattle.std.proofs.Common.{◌≡◌, ℕ, List, [], Option, Some, None, Result, Ok, Err, refl, sym, ap, ◌∙◌, arith, length, take}
+use Rattle.std.proofs.Common.{◌≡◌, ℕ, List, [], Option, None, Ok, refl, ◌∙◌, arith, length}
 use Rattle.std.proofs.lemmas.List.{take_all}
 use Rattle.s3_cards.specs.declared.levels.LevelId.{LevelId}
 use Rattle.s3_cards.specs.declared.levels.LevelId.TheVariants.{One, Two}
@@ -12,8 +12,7 @@ use Rattle.s3_bureau.specs.Entries.{own}
 use Rattle.s3_bureau.specs.Held.{HoldsFor}
 use Rattle.s3_bureau.specs.Performs.{Performs}
 use Rattle.s3_bureau.specs.Script.{entries_of}
-use Rattle.s3_bureau.specs.Texts.{report_of, halt_text_of}
-use Rattle.s3_bureau.specs.Runs.{Texts, RunTexts, ReadsDeck, texts_of, drained_texts, run_alone, level_texts, entries_texts, texts_after, cards_of, refusal_of}
+use Rattle.s3_bureau.specs.Runs.{Texts, RunTexts, ReadsDeck, texts_of, drained_texts, run_alone, level_texts, entries_texts, texts_after}
 
 -- all lines of a closed world were drained
 drained_closed : (refusal : Option (ℕ × ℕ)) (w : World) → drained_texts refusal (closed w) ≡ texts_of refusal (closed w)

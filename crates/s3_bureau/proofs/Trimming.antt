@@ -1,5 +1,5 @@
 -- Blanks at the end of a text.
-use Rattle.std.proofs.Common.{◌≡◌, ◌<◌, ◌-◌, ◌≤◌, ℕ, false, List, [], ◌∷◌, ◌++◌, refl, sym, ap, ◌∙◌, eqb, length, take, drop, replicate, get_or, append_assoc, take-append-drop, zero, suc}
+use Rattle.std.proofs.Common.{◌≡◌, ℕ, false, List, [], ◌∷◌, ◌++◌, refl, sym, ap, ◌∙◌, eqb, take, drop, replicate, take-append-drop}
 use Rattle.s3_bureau.specs.Texts.{trimmed, before_trimmed}
 
 -- a blank at the end goes

@@ -3,5 +3,6 @@ pub mod Faults
 pub mod Held
 pub mod Performs
 pub mod Runs
+pub mod Samples
 pub mod Script
 pub mod Texts

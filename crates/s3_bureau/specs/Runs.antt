@@ -1,5 +1,5 @@
 -- What a run makes of two decks and a script.
-use Rattle.std.specs.Prelude.{◌≡◌, ℕ, List, [], Option, Some, None, Result, Ok, Err}
+use Rattle.std.specs.Prelude.{◌≡◌, ℕ, List, [], Option, None, Result, Ok, Err}
 use Rattle.s3_cards.specs.declared.levels.LevelId.TheVariants.{One, Two}
 use Rattle.s3_cards.specs.declared.deck.DeckFault.{DeckFault}
 use Rattle.s3_cards.specs.Deck.{deck_of, detail_of}

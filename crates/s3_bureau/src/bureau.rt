@@ -73,8 +73,8 @@ impl Bureau {
         ensures goes_on { OnOk result (is_open self.new ≡ true) }
         ensures stops { OnErr result (is_open self.new ≡ false) }
 
-        // Only an entry that acts takes memory. Where there is none, the drained lines of both levels stay, and all of the
-        // other level.
+        // Only an entry that acts takes memory. Where memory runs out the drained lines of both levels stay. Whatever the
+        // answer is, the other level stays as it is.
         ensures memory { OnErr result (is_open self.old ≡ true → (w : World) → HoldsFor entry.level self.old w → (step_of w entry.action).did ≡ Did.Acted) }
         ensures lines { OnErr result ((level : LevelId) → lines_at level self.new ≡ lines_at level self.old) }
         ensures stays { level_of (other entry.level) self.new ≡ level_of (other entry.level) self.old }
@@ -132,7 +132,10 @@ impl Bureau {
 
     /// The halts that a level has shown, in order.
     pub fn halts(&self, level: LevelId) -> &[Halt]
-        ensures { (w : World) → HoldsFor level self.now w → map halt_of result.now ≡ w.halts }
+        ensures world { (w : World) → HoldsFor level self.now w → map halt_of result.now ≡ w.halts }
+
+        // Also where the bureau was stopped.
+        ensures level { (w : World) → Holds (level_of level self.now) w → map halt_of result.now ≡ w.halts }
     {
         self.level(level).halts()
     }

@@ -6,6 +6,8 @@ use s3_level::Action;
 /// One entry of a script: what one level does.
 #[derive(Clone, Copy, Debug, PartialEq, Eq)]
 pub struct Entry {
+    /// The level that it names.
     pub level: LevelId,
+    /// What that level does.
     pub action: Action,
 }

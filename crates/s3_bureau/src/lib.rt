@@ -4,6 +4,7 @@
 mod bureau;
 mod entry;
 mod halts;
+mod laws;
 mod number;
 mod outcome;
 mod report;
@@ -13,6 +14,7 @@ mod script;
 
 pub use bureau::Bureau;
 pub use entry::Entry;
+pub use laws::{halt_texts_are_written, reports_are_written, scripts_are_read};
 pub use outcome::{LevelTexts, Outcome};
 pub use run_fault::RunFault;
 pub use runs::run;

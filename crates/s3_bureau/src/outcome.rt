@@ -10,10 +10,13 @@ pub struct LevelTexts {
     pub halts: Vec<u8>,
 }
 
-/// The texts of both levels, and the pack.
+/// What a run hands out.
 #[derive(Drop)]
 pub struct Outcome {
+    /// The texts of level one.
     pub one: LevelTexts,
+    /// The texts of level two.
     pub two: LevelTexts,
+    /// The bytes of the pack.
     pub pack: Vec<u8>,
 }

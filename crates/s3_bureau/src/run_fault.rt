@@ -8,9 +8,10 @@ use thiserror::Error;
 /// Why a run has no outcome.
 #[derive(Clone, Copy, Debug, PartialEq, Eq, Error)]
 pub enum RunFault {
-    /// The number of the script's first ill-formed line, from 1.
+    /// The script has an ill-formed line; the first one's number, from 1.
     #[error("script {line}")]
     Script { line: usize },
+    /// A growth was refused.
     #[error("memory")]
     NoMemory,
 }

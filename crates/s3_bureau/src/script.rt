@@ -11,13 +11,16 @@ use std::alloc::{AllocFailed, Global};
 /// What a line of a script asks for: an entry, so many times.
 #[derive(Clone, Copy)]
 pub struct Command {
+    /// The entry.
     pub entry: Entry,
+    /// How many times, 1 to 9,999.
     pub count: u16,
 }
 
 /// Why a script can't be read.
 #[derive(Clone, Copy)]
 pub enum ScriptFault {
+    /// A growth was refused.
     NoMemory,
     /// The first ill-formed line, from 1.
     Line(usize),

@@ -1,10 +1,8 @@
 -- What lines without diagnostics meet, sheet by sheet.
-use Rattle.std.proofs.Common.{◌≡◌, ◌≢◌, ℕ, List, [], ◌∷◌, ◌++◌, Bool, true, false, cond, refl, sym, ◌∙◌, ap, subst, inl, inr, length, take}
+use Rattle.std.proofs.Common.{◌≡◌, ◌≢◌, ℕ, List, [], ◌∷◌, ◌++◌, Bool, true, false, cond, refl, ◌∙◌, ap, subst, length, take}
 use Rattle.std.specs.Prelude.{Option, Some, None, is_none, not, ◌&&◌, ◌||◌, map, filter, filter_map, slice_get, insert, if◌then◌else◌}
 use Rattle.std.specs.Option.{option_or}
 use Rattle.std.specs.List.{prefix_len}
-use Rattle.std.proofs.Math.Path.{fun_ext}
-use Rattle.std.proofs.lemmas.Bool.{cases_Bool}
 use Rattle.s3_sheets.specs.declared.diagnostic.Diagnostic.{Diagnostic}
 use Rattle.s3_sheets.specs.declared.name.Name.{Name}
 use Rattle.s3_sheets.specs.declared.sheet.FileLine.{FileLine}
@@ -16,14 +14,13 @@ use Rattle.s3_sheets.specs.declared.sheet.SheetLine.{SheetLine}
 use Rattle.s3_sheets.specs.declared.sheet.SheetLine.TheVariants.{Header, File, Input, Calculation, Output}
 use Rattle.s3_sheets.specs.declared.sheet.Line.{Line}
 use Rattle.s3_compile.specs.declared.before.Before.{Before}
-use Rattle.s3_meaning.specs.Source.{file_line, input_line, calculation_line, output_line}
-use Rattle.s3_meaning.specs.Calculations.{calculations_of}
+use Rattle.s3_meaning.specs.Source.{calculation_line}
 use Rattle.s3_compile.specs.Definitions.{Known, known_of}
 use Rattle.s3_compile.specs.Before.{before_of, record_file, line_file, has_card_file, has_print_file, is_card_file, is_print_file}
 use Rattle.s3_compile.specs.Part.{is_built, is_built_file, is_built_input, is_built_output_line}
 use Rattle.s3_compile.specs.Conditions.{line_holds, has_undefined_input, has_undefined_output, is_field_otherwise, output_begins_early, is_field, is_field_card, is_record_of_output, is_line_for_input}
-use Rattle.s3_compile.specs.Diagnostics.{line_diagnostics, diagnostics_after, own_numbers, further_numbers, is_same, placed_at, placed, precedes, has_one_primary, compile_diagnostics, first_else, diagnostics_with, further_diagnostics}
-use Rattle.s3_compile.specs.Translation.{file_on, input_on, output_on, inputs_of, outputs_of}
+use Rattle.s3_compile.specs.Diagnostics.{line_diagnostics, diagnostics_after, own_numbers, further_numbers, is_same, placed, precedes, has_one_primary, compile_diagnostics, first_else, diagnostics_with, further_diagnostics}
+use Rattle.s3_compile.specs.Translation.{file_on, inputs_of, outputs_of}
 use Rattle.s3_compile.proofs.DiagnosticLemmas.{last_of-append, any-append}
 
 -- ---- each sheet

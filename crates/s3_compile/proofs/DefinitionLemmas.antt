@@ -10,9 +10,8 @@ use Rattle.indexmap.specs.IndexMap.{get}
 use Rattle.s3_sheets.specs.declared.name.Name.{Name}
 use Rattle.s3_sheets.specs.declared.sheet.Line.{Line}
 use Rattle.s3_meaning.specs.Names.{same_name}
-use Rattle.s3_compile.specs.declared.definitions.DefinedFile.{DefinedFile}
 use Rattle.s3_compile.specs.declared.definitions.Definitions.{Definitions}
-use Rattle.s3_compile.specs.Definitions.{file_by, file_from, file_of, length_by, length_of, Known, known_of, shown, Files, Lengths, DefinesFile, DefinesField}
+use Rattle.s3_compile.specs.Definitions.{file_by, file_from, file_of, length_by, length_of, known_of, shown, Files, Lengths, DefinesFile, DefinesField}
 
 -- ---- names
 both : (a b : Bool) → (a && b) ≡ true → (a ≡ true) × (b ≡ true)

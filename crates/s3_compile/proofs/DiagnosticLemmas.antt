@@ -1,5 +1,5 @@
 -- Lemmas on the lists of diagnostics.
-use Rattle.std.proofs.Common.{◌≡◌, ℕ, ◌+◌, ◌<◌, ◌≤◌, List, [], ◌∷◌, ◌++◌, Bool, true, false, cond, refl, sym, ◌∙◌, ap, arith, subst, inl, inr, length, take, drop, get_or, append_assoc, length-take, suc, eqb-true}
+use Rattle.std.proofs.Common.{◌≡◌, ℕ, ◌+◌, ◌<◌, List, [], ◌∷◌, ◌++◌, Bool, true, false, refl, sym, ◌∙◌, ap, arith, length, take, drop, get_or, append_assoc, length-take, suc, eqb-true}
 use Rattle.std.specs.Prelude.{Option, Some, None, ◌==◌, ◌||◌, filter_map}
 use Rattle.std.specs.Option.{option_or}
 use Rattle.std.specs.List.{list_any, last_or, cons_option}

@@ -1,19 +1,18 @@
 -- The files of an accepted source: one card file, at most one print file, and no others.
 use Rattle.std.proofs.Common.{◌≡◌, ℕ, ◌+◌, ◌<◌, ◌≤◌, List, [], ◌∷◌, Bool, true, false, cond, refl, sym, ◌∙◌, ap, arith, subst, inl, inr, length, suc, eqb-true, ltb-true, leb-true, lt-ltb, lit<, lit≤}
-use Rattle.std.specs.Prelude.{◌⊎◌, Option, Some, None, is_some, is_none, not, ◌&&◌, ◌||◌, filter, filter_map, find, nat_lt, nat_le, ◌==◌, unwrap_or, option_map, if◌then◌else◌}
+use Rattle.std.specs.Prelude.{◌⊎◌, Option, Some, None, is_none, not, ◌&&◌, ◌||◌, filter, filter_map, find, nat_lt, nat_le, unwrap_or, option_map, if◌then◌else◌}
 use Rattle.std.specs.Option.{option_or}
 use Rattle.std.specs.List.{count_by}
 use Rattle.std.proofs.Math.Path.{fun_ext}
 use Rattle.std.proofs.lemmas.Bool.{cases_Bool}
-use Rattle.std.proofs.lemmas.Bool.Decides.{nat_tests}
 use Rattle.std.proofs.lemmas.List.Sums.{length-filter}
 use Rattle.s3_sheets.specs.declared.name.Name.{Name}
 use Rattle.s3_sheets.specs.declared.sheet.FileUse.{FileUse}
-use Rattle.s3_sheets.specs.declared.sheet.FileUse.TheVariants.{Input as InputUse, Output as OutputUse, Update}
+use Rattle.s3_sheets.specs.declared.sheet.FileUse.TheVariants.{Input as InputUse, Output as OutputUse}
 use Rattle.s3_sheets.specs.declared.sheet.Designation.{Designation}
-use Rattle.s3_sheets.specs.declared.sheet.Designation.TheVariants.{Primary, Secondary, Chained}
+use Rattle.s3_sheets.specs.declared.sheet.Designation.TheVariants.{Primary}
 use Rattle.s3_sheets.specs.declared.sheet.Device.{Device}
-use Rattle.s3_sheets.specs.declared.sheet.Device.TheVariants.{CardReader, Printer, Disk}
+use Rattle.s3_sheets.specs.declared.sheet.Device.TheVariants.{CardReader, Printer}
 use Rattle.s3_sheets.specs.declared.sheet.FileLine.{FileLine}
 use Rattle.s3_sheets.specs.declared.sheet.SheetLine.{SheetLine}
 use Rattle.s3_sheets.specs.declared.sheet.SheetLine.TheVariants.{Header, File, Input, Calculation, Output}
@@ -21,13 +20,13 @@ use Rattle.s3_sheets.specs.declared.sheet.Line.{Line}
 use Rattle.s3_meaning.specs.Names.{same_name}
 use Rattle.s3_meaning.specs.Source.{file_line, is_designated, is_input, is_card_reader, is_printer, overflow_of}
 use Rattle.s3_compile.specs.declared.definitions.DefinedFile.{DefinedFile}
-use Rattle.s3_compile.specs.Definitions.{file_by, file_from, file_of}
+use Rattle.s3_compile.specs.Definitions.{file_from, file_of}
 use Rattle.s3_compile.specs.Before.{is_card_use, is_print_use, is_card_file, is_print_file}
 use Rattle.s3_compile.specs.Part.{is_built_file, is_built_use, is_built_designation, lies_within, longest_record, has_plain_entries, has_no_disk_entries}
 use Rattle.s3_compile.specs.Conditions.{is_output, is_primary, is_primary_line}
 use Rattle.s3_compile.specs.Diagnostics.{has_one_primary}
 use Rattle.s3_compile.specs.Translation.{file_on, first_of, print_length, print_length_of, byte_of}
-use Rattle.s3_compile.proofs.Accepted.{is_unfit, FineFile, FilesFine, files_of}
+use Rattle.s3_compile.proofs.Accepted.{FineFile, FilesFine, files_of}
 use Rattle.s3_compile.proofs.Slots.{some_same}
 
 -- ---- tests

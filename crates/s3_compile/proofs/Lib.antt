@@ -8,3 +8,4 @@ pub mod Moves
 pub mod Lines
 pub mod Shapes
 pub mod Translated
+pub mod Ordering

@@ -1,8 +1,8 @@
 -- The output lines of an accepted source, and their pieces.
-use Rattle.std.proofs.Common.{◌≡◌, ℕ, ◌+◌, ◌-◌, ◌<◌, ◌≤◌, List, [], ◌∷◌, ◌++◌, Bool, true, false, cond, refl, sym, ◌∙◌, ap, arith, subst, inl, inr, length, take, drop, zero, suc, append_assoc, length-append, eq-eqb, eqb-true, ltb-true, leb-true, lt-ltb, le-leb}
-use Rattle.std.specs.Prelude.{Option, Some, None, IsTrue, is_some, is_none, not, ◌&&◌, ◌||◌, filter_map, slice_get, slice_range, nat_lt, nat_le, unwrap_or, if◌then◌else◌}
+use Rattle.std.proofs.Common.{◌≡◌, ℕ, ◌+◌, ◌-◌, ◌≤◌, List, [], ◌∷◌, ◌++◌, Bool, true, false, refl, sym, ◌∙◌, ap, arith, subst, length, take, drop, zero, suc, append_assoc, length-append, le-leb}
+use Rattle.std.specs.Prelude.{Option, Some, None, IsTrue, is_some, not, ◌&&◌, ◌||◌, filter_map, slice_get, slice_range, nat_lt, nat_le, unwrap_or}
 use Rattle.std.specs.Option.{option_or}
-use Rattle.std.specs.List.{AllZip, AllByRecursion, cons_option, list_all}
+use Rattle.std.specs.List.{AllZip, AllByRecursion}
 use Rattle.std.proofs.lemmas.Bool.Decides.{nat_tests}
 use Rattle.std.proofs.lemmas.Slice.Zip.{AllZip-long}
 use Rattle.std.proofs.Math.Seq.{drop-append_seam}
@@ -14,8 +14,6 @@ use Rattle.s3_sheets.specs.declared.sheet.Spacing.{Spacing}
 use Rattle.s3_sheets.specs.declared.sheet.OutputCard.{OutputCard}
 use Rattle.s3_sheets.specs.declared.sheet.OutputForm.{OutputForm}
 use Rattle.s3_sheets.specs.declared.sheet.OutputForm.TheVariants.{Plain, Packed, Edited}
-use Rattle.s3_sheets.specs.declared.sheet.Constant.{Constant as ConstantText}
-use Rattle.s3_sheets.specs.declared.sheet.FieldOutput.{FieldOutput as FieldPut}
 use Rattle.s3_sheets.specs.declared.sheet.OutputContent.{OutputContent}
 use Rattle.s3_sheets.specs.declared.sheet.OutputContent.TheVariants.{Constant as ConstantOutput, Field as FieldOutput}
 use Rattle.s3_sheets.specs.declared.sheet.OutputField.{OutputField}
@@ -27,20 +25,19 @@ use Rattle.s3_meaning.specs.OutputLines.{Output, groups_from, fields_from, outpu
 use Rattle.s3_meaning.specs.Source.{Source, file_named}
 use Rattle.s3_compile.specs.declared.definitions.DefinedFile.{DefinedFile}
 use Rattle.s3_compile.specs.declared.program.Field.{Field}
-use Rattle.s3_compile.specs.declared.program.Content.{Content}
-use Rattle.s3_compile.specs.declared.program.Content.TheVariants.{Constant as ConstantContent, Field as FieldContent}
+use Rattle.s3_compile.specs.declared.program.Content.TheVariants.{Field as FieldContent}
 use Rattle.s3_compile.specs.declared.program.Piece.{Piece}
 use Rattle.s3_compile.specs.declared.program.DetailLine.{DetailLine}
 use Rattle.s3_compile.specs.Definitions.{Known, Lengths}
 use Rattle.s3_compile.specs.Names.{is_reserved}
-use Rattle.s3_compile.specs.Part.{is_detail, is_plain, is_built_output, is_built_content, is_built_card, is_built_output_field, are_number_conditions, lies_within, positions_of, positions_in}
+use Rattle.s3_compile.specs.Part.{is_detail, is_plain, is_built_content, are_number_conditions, lies_within, positions_of, positions_in}
 use Rattle.s3_compile.specs.Conditions.{is_output, is_undefined_file, is_input_name, is_input_file, has_undefined_field, is_longer_than, content_begins_early}
-use Rattle.s3_compile.specs.Translation.{fields_of, slot_of, content_of, piece_of, detail_of, pieces_on, details_from}
+use Rattle.s3_compile.specs.Translation.{fields_of, slot_of, content_of, piece_of, details_from}
 use Rattle.s3_compile.specs.Stands.{SameContent, SamePiece, SamePieces, IsPrintFile, blank_spacing}
 use Rattle.s3_compile.specs.Valid.{content_fits, ArePieces, AreLines}
 use Rattle.s3_compile.proofs.Accepted.{FineOutput, OutputsFine, line_named}
 use Rattle.s3_compile.proofs.Slots.{field_with, some_same}
-use Rattle.s3_compile.proofs.Files.{and_left, and_right, none_is, not_true, or_left, or_right}
+use Rattle.s3_compile.proofs.Files.{and_left, and_right, not_true}
 use Rattle.s3_compile.proofs.Moves.{zip_each, both, not_not, some_is, Slots}
 
 -- ---- tests

@@ -1,9 +1,8 @@
 -- The record type of an accepted source, and what is moved from its records.
-use Rattle.std.proofs.Common.{◌≡◌, ℕ, ◌+◌, ◌-◌, ◌<◌, ◌≤◌, List, [], ◌∷◌, ◌++◌, Bool, true, false, cond, refl, sym, ◌∙◌, ap, arith, subst, inl, inr, length, zero, suc, eq-eqb, eqb-true, ltb-true, leb-true, lt-ltb, le-leb}
-use Rattle.std.specs.Prelude.{Option, Some, None, IsTrue, is_some, is_none, not, ◌&&◌, ◌||◌, filter_map, slice_get, nat_lt, nat_le, ◌==◌, unwrap_or, if◌then◌else◌}
+use Rattle.std.proofs.Common.{◌≡◌, ℕ, ◌-◌, ◌<◌, ◌≤◌, List, [], ◌∷◌, Bool, true, false, refl, sym, ◌∙◌, ap, arith, subst, zero, suc, eq-eqb, eqb-true, ltb-true, leb-true, lt-ltb, le-leb}
+use Rattle.std.specs.Prelude.{Option, Some, None, IsTrue, is_none, not, ◌&&◌, filter_map, slice_get, nat_lt, nat_le}
 use Rattle.std.specs.Option.{option_or, option_and_then}
-use Rattle.std.specs.List.{AllZip, cons_option, list_all}
-use Rattle.std.proofs.lemmas.Bool.Decides.{nat_tests}
+use Rattle.std.specs.List.{AllZip, cons_option}
 use Rattle.std.proofs.lemmas.Slice.Zip.{AllZip-long}
 use Rattle.s3_sheets.specs.declared.indicator.Indicator.{Indicator}
 use Rattle.s3_sheets.specs.declared.indicator.Indicator.TheVariants.{General}
@@ -19,18 +18,17 @@ use Rattle.s3_meaning.specs.Names.{same_name, entries}
 use Rattle.s3_meaning.specs.RecordTypes.{RecordType, types_from, type_from, further_codes, group_fields}
 use Rattle.s3_meaning.specs.Source.{width}
 use Rattle.s3_compile.specs.declared.definitions.DefinedFile.{DefinedFile}
-use Rattle.s3_compile.specs.declared.program.Field.{Field}
 use Rattle.s3_compile.specs.declared.program.FieldMove.{FieldMove}
 use Rattle.s3_compile.specs.Definitions.{Known, Lengths}
 use Rattle.s3_compile.specs.Part.{is_number, is_alphanumeric, has_no_codes, has_no_indicators, is_plain_field, is_placed_field, lies_within, positions_of, positions_in}
 use Rattle.s3_compile.specs.Conditions.{is_length, is_output, is_output_file}
 use Rattle.s3_compile.specs.Names.{is_reserved}
-use Rattle.s3_compile.specs.Translation.{fields_of, slot_of, record_indicator, number_of, move_of, first_of}
-use Rattle.s3_compile.specs.Stands.{SameMove, SameType, SameTypes}
+use Rattle.s3_compile.specs.Translation.{fields_of, slot_of, record_indicator, move_of, first_of}
+use Rattle.s3_compile.specs.Stands.{SameMove, SameTypes}
 use Rattle.s3_compile.specs.Valid.{move_fits, has_length, AreMoves}
-use Rattle.s3_compile.proofs.Accepted.{FineInput, InputsFine, record_named}
+use Rattle.s3_compile.proofs.Accepted.{FineInput, InputsFine}
 use Rattle.s3_compile.proofs.Slots.{field_with, some_same}
-use Rattle.s3_compile.proofs.Files.{and_left, and_right, none_is, or_left, or_right}
+use Rattle.s3_compile.proofs.Files.{and_left, and_right, none_is, or_right}
 
 -- ---- lists
 pub zip_each : {X Y : Type 0} (R : X → Y → Type 0) (xs : List X) (ys : List Y) → AllZip R xs ys → (k : ℕ) (x : X) (y : Y) → slice_get xs k ≡ Some x → slice_get ys k ≡ Some y → R x y

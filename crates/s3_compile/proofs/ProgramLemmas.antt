@@ -1,13 +1,11 @@
 -- Lemmas on programs.
-use Rattle.std.proofs.Common.{◌≡◌, ℕ, List, Bool, true, false, refl, sym, ◌∙◌, ap, subst, length}
-use Rattle.std.specs.Prelude.{Option, Some, None, slice_get, slice_range}
-use Rattle.s3_meaning.specs.OutputLines.{Output}
+use Rattle.std.proofs.Common.{◌≡◌, ℕ, List, sym, ◌∙◌, ap, subst, length}
+use Rattle.std.specs.Prelude.{Option, slice_get}
 use Rattle.s3_meaning.specs.Source.{Source, file_named}
-use Rattle.s3_compile.specs.declared.program.DetailLine.{DetailLine}
 use Rattle.s3_compile.specs.declared.program.FieldMove.{FieldMove}
 use Rattle.s3_compile.specs.declared.program.Field.{Field}
 use Rattle.s3_compile.specs.declared.program.Program.{Program}
-use Rattle.s3_compile.specs.Stands.{Stands, SameFields, SameTypes, SameLine, SamePieces, IsPrintFile}
+use Rattle.s3_compile.specs.Stands.{Stands, SameFields, SameTypes, IsPrintFile}
 
 -- a program with the same parts stands for the same source
 pub stands_too : (program copy : Program) (source : Source)

@@ -1,16 +1,13 @@
 -- The shapes of the fields of an accepted source.
-use Rattle.std.proofs.Common.{◌≡◌, ℕ, List, [], ◌∷◌, ◌++◌, Bool, true, false, cond, refl, sym, ◌∙◌, ap, subst, inl, inr, append_assoc}
-use Rattle.std.specs.Prelude.{Option, Some, None, not, ◌&&◌, ◌||◌, filter_map, slice_get}
+use Rattle.std.proofs.Common.{◌≡◌, ℕ, List, [], ◌∷◌, ◌++◌, Bool, true, false, cond, refl, sym, ◌∙◌, ap, subst}
+use Rattle.std.specs.Prelude.{Option, Some, None, not, ◌&&◌, filter_map}
 use Rattle.std.specs.Option.{option_or}
-use Rattle.std.specs.List.{list_any}
-use Rattle.std.proofs.lemmas.Bool.{cases_Bool}
 use Rattle.std.proofs.Math.Path.{fun_ext}
 use Rattle.indexmap.specs.IndexMap.{IsUnique, get}
 use Rattle.s3_sheets.specs.declared.name.Name.{Name}
-use Rattle.s3_sheets.specs.declared.sheet.FieldForm.TheVariants.{Alphanumeric as AlphanumericForm}
 use Rattle.s3_sheets.specs.declared.sheet.FieldLine.{FieldLine}
 use Rattle.s3_sheets.specs.declared.sheet.Shape.{Shape}
-use Rattle.s3_sheets.specs.declared.sheet.Shape.TheVariants.{Alphanumeric, Numeric}
+use Rattle.s3_sheets.specs.declared.sheet.Shape.TheVariants.{Alphanumeric}
 use Rattle.s3_sheets.specs.declared.sheet.InputLine.{InputLine}
 use Rattle.s3_sheets.specs.declared.sheet.InputLine.TheVariants.{Record, And, Or, Field as InputField}
 use Rattle.s3_sheets.specs.declared.sheet.OutputLine.{OutputLine}
@@ -18,18 +15,18 @@ use Rattle.s3_sheets.specs.declared.sheet.SheetLine.{SheetLine}
 use Rattle.s3_sheets.specs.declared.sheet.SheetLine.TheVariants.{Header, File, Input, Calculation, Output}
 use Rattle.s3_sheets.specs.declared.sheet.Line.{Line}
 use Rattle.s3_meaning.specs.Names.{same_name, page, udate, umonth, uday, uyear}
-use Rattle.s3_meaning.specs.Source.{Source, width, field_shape, input_line, output_line, input_shape, reserved_shapes, shape_in, shape_of, is_numeric, length_of as bytes_of}
+use Rattle.s3_meaning.specs.Source.{Source, width, field_shape, input_line, output_line, input_shape, reserved_shapes, shape_in, shape_of}
 use Rattle.s3_compile.specs.declared.program.Field.{Field}
 use Rattle.s3_compile.specs.Definitions.{Known, Lengths, length_by, length_of}
 use Rattle.s3_compile.specs.Names.{is_reserved}
-use Rattle.s3_compile.specs.Part.{is_alphanumeric, is_plain_field, is_placed_field, positions_in, has_no_indicators}
+use Rattle.s3_compile.specs.Part.{is_plain_field, is_placed_field, positions_in}
 use Rattle.s3_compile.specs.Conditions.{is_length}
 use Rattle.s3_compile.specs.Translation.{input_on, output_on, inputs_of, outputs_of, fields_of}
 use Rattle.s3_compile.specs.Stands.{SameField, SameFields}
-use Rattle.s3_compile.proofs.Accepted.{FineInput, InputsFine, record_named}
+use Rattle.s3_compile.proofs.Accepted.{FineInput, InputsFine}
 use Rattle.s3_compile.proofs.DefinitionLemmas.{is_same_name}
 use Rattle.s3_compile.proofs.Slots.{names_equal, some_same, field_known, once_each}
-use Rattle.s3_compile.proofs.Files.{and_left, and_right, or_left, or_right, one_line}
+use Rattle.s3_compile.proofs.Files.{and_left, or_left, or_right, one_line}
 use Rattle.s3_compile.proofs.Moves.{alphanumeric_is}
 
 -- ---- the input lines and output lines of a source are those of its lines

@@ -1,20 +1,18 @@
 -- What the lines of an accepted source become stands for it.
-use Rattle.std.proofs.Common.{◌≡◌, ℕ, ◌<◌, ◌≤◌, List, [], ◌∷◌, ◌++◌, Bool, true, false, cond, refl, sym, ◌∙◌, ap, arith, subst, inl, inr, length, lt-ltb, le-leb}
-use Rattle.std.specs.Prelude.{Option, Some, None, IsTrue, ◌&&◌, filter, filter_map, find, slice_get, slice_range, nat_lt, nat_le}
+use Rattle.std.proofs.Common.{◌≡◌, ℕ, ◌≤◌, List, [], ◌++◌, true, false, refl, sym, ◌∙◌, ap, subst, length, lt-ltb, le-leb}
+use Rattle.std.specs.Prelude.{Option, Some, None, filter, filter_map, find, slice_get, nat_lt, nat_le}
 use Rattle.std.specs.List.{AllZip}
 use Rattle.std.proofs.lemmas.Slice.Zip.{AllZip-long}
 use Rattle.indexmap.specs.IndexMap.{IsUnique, get}
 use Rattle.s3_sheets.specs.declared.name.Name.{Name}
 use Rattle.s3_sheets.specs.declared.sheet.FileLine.{FileLine}
 use Rattle.s3_sheets.specs.declared.sheet.InputLine.{InputLine}
-use Rattle.s3_sheets.specs.declared.sheet.OutputLine.{OutputLine}
 use Rattle.s3_sheets.specs.declared.sheet.Line.{Line}
 use Rattle.s3_meaning.specs.Names.{same_name, no_name}
 use Rattle.s3_meaning.specs.RecordTypes.{RecordType, types_from}
 use Rattle.s3_meaning.specs.Calculations.{calculations_of}
-use Rattle.s3_meaning.specs.OutputLines.{Output, outputs_from}
-use Rattle.s3_meaning.specs.Source.{Source, source_of, is_input, overflow_of, file_named, input_line, output_line, file_line, calculation_line, input_shape, result_shape, reserved_shapes}
-use Rattle.s3_compile.specs.declared.definitions.DefinedFile.{DefinedFile}
+use Rattle.s3_meaning.specs.OutputLines.{Output}
+use Rattle.s3_meaning.specs.Source.{Source, source_of, is_input, overflow_of, file_named, calculation_line, input_shape, result_shape, reserved_shapes}
 use Rattle.s3_compile.specs.declared.definitions.Definitions.{Definitions}
 use Rattle.s3_compile.specs.declared.program.Field.{Field}
 use Rattle.s3_compile.specs.declared.program.FieldMove.{FieldMove}
@@ -23,16 +21,15 @@ use Rattle.s3_compile.specs.declared.program.DetailLine.{DetailLine}
 use Rattle.s3_compile.specs.declared.program.Program.{Program}
 use Rattle.s3_compile.specs.Definitions.{Known, known_of, shown, Lengths, length_of}
 use Rattle.s3_compile.specs.Part.{positions_of}
-use Rattle.s3_compile.specs.Conditions.{is_output}
 use Rattle.s3_compile.specs.Compiles.{IsAccepted}
-use Rattle.s3_compile.specs.Translation.{input_on, output_on, inputs_of, outputs_of, fields_of, move_of, piece_of, record_indicator, first_of, details_from, moves_of, pieces_of, record_indicator_of, print_length_of}
-use Rattle.s3_compile.specs.Stands.{Stands, SameFields, SameTypes, SameLine, SamePieces, IsPrintFile}
+use Rattle.s3_compile.specs.Translation.{input_on, output_on, inputs_of, outputs_of, fields_of, move_of, piece_of, record_indicator, details_from, moves_of, pieces_of, record_indicator_of, print_length_of}
+use Rattle.s3_compile.specs.Stands.{Stands, SameFields, SameTypes, SameLine, IsPrintFile}
 use Rattle.s3_compile.specs.Valid.{AreMoves, ArePieces, AreLines, IsWidth}
 use Rattle.s3_compile.proofs.Accepted.{Accepted, accepted, files_of, FilesFine}
 use Rattle.s3_compile.proofs.Slots.{names_equal, slot_found}
-use Rattle.s3_compile.proofs.Files.{In, find_in, OneCard, one_card, the_card, ThePrint, the_print, no_overflow, print_length_range, file_found, source_files}
+use Rattle.s3_compile.proofs.Files.{find_in, OneCard, one_card, the_card, ThePrint, the_print, no_overflow, print_length_range, file_found, source_files}
 use Rattle.s3_compile.proofs.Moves.{zip_each, filter_map_twice, first_of_map, both, Slots, IsTheCard, Typed, typed, same_types, are_moves}
-use Rattle.s3_compile.proofs.Lines.{Prints, IsThePrint, SameDetail, are_pieces, are_lines, details}
+use Rattle.s3_compile.proofs.Lines.{IsThePrint, SameDetail, are_pieces, are_lines, details}
 use Rattle.s3_compile.proofs.Shapes.{source_inputs, source_outputs, same_fields}
 
 -- ---- what is known of an accepted source

@@ -5,7 +5,7 @@ use Rattle.s3_sheets.specs.declared.name.Name.{Name}
 use Rattle.s3_sheets.specs.declared.sheet.FileUse.{FileUse}
 use Rattle.s3_sheets.specs.declared.sheet.FileUse.TheVariants.{Input as InputUse, Output as OutputUse, Update}
 use Rattle.s3_sheets.specs.declared.sheet.Designation.{Designation}
-use Rattle.s3_sheets.specs.declared.sheet.Designation.TheVariants.{Primary, Secondary, Chained}
+use Rattle.s3_sheets.specs.declared.sheet.Designation.TheVariants.{Primary}
 use Rattle.s3_sheets.specs.declared.sheet.FileLine.{FileLine}
 use Rattle.s3_sheets.specs.declared.sheet.InputLine.{InputLine}
 use Rattle.s3_sheets.specs.declared.sheet.InputLine.TheVariants.{Record, Field as InputField}
@@ -56,7 +56,8 @@ is_length None length = false
 is_length (Some first) length = first == length
 
 abbrev pub is_field_otherwise : Known → InputLine → Bool
-is_field_otherwise known (InputField field) = is_reserved field.name || not (is_length (known.length field.name) (width field))
+is_field_otherwise known (InputField field) =
+    is_reserved field.name || not (is_length (known.length field.name) (width field))
 is_field_otherwise known _ = false
 
 abbrev pub is_defined_otherwise : Known → ℕ → SheetLine → Bool

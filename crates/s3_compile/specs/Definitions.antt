@@ -5,7 +5,6 @@ use Rattle.std.specs.declared.hash.FoldHasher.{FoldHasher}
 use Rattle.std.specs.declared.hash.BuildHasherDefault.{BuildHasherDefault}
 use Rattle.indexmap.specs.IndexMap.{IndexMap, get}
 use Rattle.s3_sheets.specs.declared.name.Name.{Name}
-use Rattle.s3_sheets.specs.declared.sheet.InputLine.{InputLine}
 use Rattle.s3_sheets.specs.declared.sheet.InputLine.TheVariants.{Field}
 use Rattle.s3_sheets.specs.declared.sheet.SheetLine.{SheetLine}
 use Rattle.s3_sheets.specs.declared.sheet.SheetLine.TheVariants.{File, Input}
@@ -58,7 +57,9 @@ Lengths = IndexMap Name ℕ (BuildHasherDefault FoldHasher)
 
 -- the new map has what the old one has, and where it lacks a name what the line gives it
 abbrev pub DefinesFile : Files → Files → ℕ → SheetLine → Type 0
-DefinesFile old new place line = (name : Name) → get same_name new name ≡ option_or (get same_name old name) (file_by place line name)
+DefinesFile old new place line =
+    (name : Name) → get same_name new name ≡ option_or (get same_name old name) (file_by place line name)
 
 abbrev pub DefinesField : Lengths → Lengths → SheetLine → Type 0
-DefinesField old new line = (name : Name) → get same_name new name ≡ option_or (get same_name old name) (length_by line name)
+DefinesField old new line =
+    (name : Name) → get same_name new name ≡ option_or (get same_name old name) (length_by line name)

@@ -1,5 +1,5 @@
 -- The diagnostics of lines: a filter of all pairs of a line and a number, in order.
-use Rattle.std.specs.Prelude.{ℕ, ◌==◌, nat_lt, Bool, true, false, not, ◌&&◌, ◌||◌, List, [], ◌∷◌, ◌++◌, length, map, filter, insert, Option, Some, None, slice_get, if◌then◌else◌}
+use Rattle.std.specs.Prelude.{ℕ, ◌==◌, nat_lt, Bool, false, ◌&&◌, ◌||◌, List, [], ◌∷◌, ◌++◌, length, map, filter, insert, Option, Some, None, slice_get, if◌then◌else◌}
 use Rattle.std.specs.List.{count_by, prefix_len}
 use Rattle.s3_sheets.specs.declared.diagnostic.Diagnostic.{Diagnostic}
 use Rattle.s3_sheets.specs.declared.sheet.Line.{Line}
@@ -17,7 +17,8 @@ line_diagnostics numbers known before place line =
 abbrev pub diagnostics_after : List ℕ → Known → List Line → List Line → List Diagnostic
 diagnostics_after numbers known earlier [] = []
 diagnostics_after numbers known earlier (line ∷ lines) =
-    line_diagnostics numbers known (before_of earlier) (length earlier) line ++ diagnostics_after numbers known (earlier ++ line ∷ []) lines
+    line_diagnostics numbers known (before_of earlier) (length earlier) line
+    ++ diagnostics_after numbers known (earlier ++ line ∷ []) lines
 
 abbrev pub diagnostics_with : List ℕ → List Line → List Diagnostic
 diagnostics_with numbers lines = diagnostics_after numbers (known_of lines) [] lines
@@ -39,7 +40,8 @@ is_same a (Some b) = (a.card == b.card) && (a.number == b.number)
 
 -- a diagnostic put where it belongs, unless it is there
 abbrev pub placed_at : List Diagnostic → ℕ → Diagnostic → List Diagnostic
-placed_at found place diagnostic = if is_same diagnostic (slice_get found place) then found else insert found place diagnostic
+placed_at found place diagnostic =
+    if is_same diagnostic (slice_get found place) then found else insert found place diagnostic
 
 abbrev pub placed : List Diagnostic → Diagnostic → List Diagnostic
 placed found diagnostic = placed_at found (prefix_len (λ other. precedes other diagnostic) found) diagnostic

@@ -6,5 +6,6 @@ pub mod Conditions
 pub mod Diagnostics
 pub mod Valid
 pub mod Stands
+pub mod Order
 pub mod Translation
 pub mod Compiles

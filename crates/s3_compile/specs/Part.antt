@@ -1,6 +1,6 @@
 -- The part of the language that is built: a card file and a print file, a record line without codes, alphanumeric
 -- fields, and detail lines of fields and constants under conditions 01 to 99.
-use Rattle.std.specs.Prelude.{ℕ, nat_lt, nat_le, ◌==◌, Bool, true, false, not, ◌&&◌, ◌||◌, List, [], ◌∷◌, Option, Some, None, is_some, is_none}
+use Rattle.std.specs.Prelude.{ℕ, nat_lt, nat_le, Bool, true, false, not, ◌&&◌, ◌||◌, List, [], ◌∷◌, Option, Some, None, is_some, is_none}
 use Rattle.std.specs.List.{list_all}
 use Rattle.s3_sheets.specs.declared.indicator.Indicator.{Indicator}
 use Rattle.s3_sheets.specs.declared.indicator.Indicator.TheVariants.{General}
@@ -22,7 +22,6 @@ use Rattle.s3_sheets.specs.declared.sheet.InputLine.TheVariants.{Record, And, Or
 use Rattle.s3_sheets.specs.declared.sheet.OutputKind.{OutputKind}
 use Rattle.s3_sheets.specs.declared.sheet.OutputKind.TheVariants.{Heading, Detail, Total, Exception}
 use Rattle.s3_sheets.specs.declared.sheet.OutputCard.{OutputCard}
-use Rattle.s3_sheets.specs.declared.sheet.Constant.{Constant as ConstantText}
 use Rattle.s3_sheets.specs.declared.sheet.OutputForm.{OutputForm}
 use Rattle.s3_sheets.specs.declared.sheet.OutputForm.TheVariants.{Plain, Packed as PackedForm, Edited}
 use Rattle.s3_sheets.specs.declared.sheet.FieldOutput.{FieldOutput}

@@ -1,5 +1,5 @@
 -- A program stands for a source: the same lines, with names as slots.
-use Rattle.std.specs.Prelude.{◌≡◌, ℕ, ◌+◌, ◌-◌, ◌<◌, ◌≤◌, Bool, true, false, List, [], ◌∷◌, filter, Option, Some, None, length, take, slice_get, slice_range}
+use Rattle.std.specs.Prelude.{◌≡◌, ℕ, ◌-◌, true, false, List, [], ◌∷◌, filter, Option, Some, None, length, slice_get, slice_range}
 use Rattle.s3_sheets.specs.declared.indicator.Indicator.TheVariants.{General}
 use Rattle.s3_sheets.specs.declared.sheet.FileLine.{FileLine}
 use Rattle.s3_sheets.specs.declared.sheet.FieldLine.{FieldLine}
@@ -10,7 +10,6 @@ use Rattle.s3_sheets.specs.declared.sheet.OutputKind.TheVariants.{Detail}
 use Rattle.s3_sheets.specs.declared.sheet.OutputForm.TheVariants.{Plain}
 use Rattle.s3_sheets.specs.declared.sheet.OutputContent.{OutputContent}
 use Rattle.s3_sheets.specs.declared.sheet.OutputContent.TheVariants.{Constant as ConstantOutput, Field as FieldOutput}
-use Rattle.s3_sheets.specs.declared.sheet.FieldOutput.{FieldOutput as FieldPut}
 use Rattle.s3_sheets.specs.declared.sheet.OutputField.{OutputField}
 use Rattle.s3_meaning.specs.Names.{same_name, page, entries}
 use Rattle.s3_meaning.specs.RecordTypes.{RecordType}

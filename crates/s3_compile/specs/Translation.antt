@@ -1,7 +1,7 @@
 -- The parts of a program, line by line, with names as slots.
 use Rattle.std.specs.Prelude.{ℕ, ◌+◌, ◌-◌, nat_lt, Bool, true, false, List, [], ◌∷◌, map, Option, Some, None, unwrap_or, length, if◌then◌else◌}
 use Rattle.std.specs.List.{filter_map, cons_option}
-use Rattle.std.specs.Option.{option_or, option_and_then}
+use Rattle.std.specs.Option.{option_or, option_and_then, option_to_list}
 use Rattle.indexmap.specs.IndexMap.{index_of}
 use Rattle.s3_sheets.specs.declared.indicator.Indicator.{Indicator}
 use Rattle.s3_sheets.specs.declared.indicator.Indicator.TheVariants.{General}
@@ -85,6 +85,9 @@ piece_of lengths _ = None
 abbrev pub detail_of : ℕ → OutputLine → List OutputLine → Option DetailLine
 detail_of first (LineCard card) lines = Some (record { conditions = card.conditions; first = first; past = first + length (fields_from lines) })
 detail_of first _ lines = None
+
+abbrev pub detail_on : ℕ → Option OutputLine → List OutputLine → List DetailLine
+detail_on first line lines = option_to_list (option_and_then (λ card. detail_of first card lines) line)
 
 abbrev pub pieces_on : OutputLine → ℕ
 pieces_on (FieldCard field) = 1

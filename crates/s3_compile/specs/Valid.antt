@@ -1,6 +1,5 @@
 -- What every program keeps: each slot, place and position is in range.
-use Rattle.std.specs.Prelude.{◌≡◌, ℕ, ◌+◌, ◌-◌, ◌<◌, ◌≤◌, ◌==◌, nat_lt, nat_le, Bool, false, true, ◌&&◌, IsTrue, List, Option, Some, None, length, slice_get}
-use Rattle.s3_sheets.specs.declared.sheet.Constant.{Constant}
+use Rattle.std.specs.Prelude.{◌≡◌, ℕ, ◌-◌, ◌==◌, nat_lt, nat_le, Bool, false, ◌&&◌, IsTrue, List, Option, Some, None, length, slice_get}
 use Rattle.s3_compile.specs.declared.program.Field.{Field}
 use Rattle.s3_compile.specs.declared.program.FieldMove.{FieldMove}
 use Rattle.s3_compile.specs.declared.program.Content.{Content}

@@ -28,7 +28,8 @@ fn diagnose(
     place: usize,
     line: &Line,
 ) -> Result<(), AllocError>
-    ensures { OnOk result (found.new.items ≡ found.old.items ++ spec.line_diagnostics numbers.now (shown known.now) before.now place line.now) }
+    ensures { OnOk result (found.new.items
+        ≡ found.old.items ++ spec.line_diagnostics numbers.now (shown known.now) before.now place line.now) }
 {
     for number in numbers {
         if is_diagnosed(known, before, place, &line.sheet, *number) {

@@ -8,10 +8,12 @@ mod before;
 mod conditions;
 mod definitions;
 mod diagnose;
+mod order;
 mod part;
 pub mod program;
 mod translate;
 
+pub use order::diagnostics_are_in_order;
 pub use program::Program;
 use s3_sheets::diagnostic::Diagnostic;
 use s3_sheets::sheet::Line;

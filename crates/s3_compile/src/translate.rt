@@ -1,12 +1,13 @@
 //! Lines become a program: names become slots.
 
 ghost use Rattle.std.specs.Prelude.{◌≡◌, ◌+◌, ◌-◌, ◌^◌, ◌<◌, ◌≤◌, ◌++◌, List, length, IfOk, OnOk};
-ghost use Rattle.std.specs.List.{cons_option};
-ghost use Rattle.std.specs.Option.{option_and_then, option_to_list};
+ghost use Rattle.std.specs.Option.{option_and_then};
 ghost use Rattle.s3_meaning.specs.OutputLines.{fields_from};
 ghost use Rattle.indexmap.specs.IndexMap.{IsUnique};
 ghost use Rattle.s3_meaning.specs.Names.{same_name};
-ghost use Rattle.s3_compile.specs.Compiles.{IsAccepted, StandsFor, header_name as header_name_lem, program_name as program_name_lem};
+ghost use Rattle.s3_compile.specs.Compiles.{IsAccepted, StandsFor};
+ghost use Rattle.s3_compile.specs.Compiles.{header_name as header_name_lem};
+ghost use Rattle.s3_compile.specs.Compiles.{program_name as program_name_lem};
 ghost use Rattle.s3_compile.specs.Definitions.{known_of, shown};
 ghost use Rattle.s3_compile.specs.Translation as spec;
 
@@ -170,7 +171,8 @@ fn add_detail(
     later: &[Line],
 ) -> Result<(), AllocError>
     requires { first + length later.now < 2 ^ 64 }
-    ensures { OnOk result (details.new.items ≡ details.old.items ++ option_to_list (option_and_then (λ card. spec.detail_of first card (spec.outputs_of later.now)) (spec.output_on line.now))) }
+    ensures { OnOk result (details.new.items
+        ≡ details.old.items ++ spec.detail_on first (spec.output_on line.now) (spec.outputs_of later.now)) }
 {
     if let SheetLine::Output(OutputLine::Line(card)) = line {
         details.push(DetailLine {

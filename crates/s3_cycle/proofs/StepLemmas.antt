@@ -59,7 +59,7 @@ pub at-answer : (c new : Stepper) (answer answer' : Answer) → answer ≡ answe
 at-answer c new answer answer' same goes = goes-mid c c new _ _ refl (λ source stands. ap (λ a. card_answered source c (filter is_input source.files) (answer_of a) (held source c)) (sym same)) goes
 
 -- a card is taken, and the next cycle begun
-pub takes : (old counted new : Stepper) (bytes : List ℕ) (number : ℕ) (indicators : Indicators) (texts : List (List ℕ)) (moves : List FieldMove) → IsSound old → old.program.record_indicator ≡ Some number → counted ≡ record old { reads = min (old.reads + 1) 999999 } → indicators ≡ record counted.indicators { general = slice_set counted.indicators.general number true } → number < length counted.indicators.general → moves ≡ counted.program.moves.items → texts ≡ texts_moved moves bytes counted.texts → GoesOn (record counted { indicators = indicators; current = Some counted.reads; texts = texts; totals_due = true }) new (λ source. headings_put source (reading_of source (record counted { indicators = indicators; current = Some counted.reads; texts = texts; totals_due = true })) source.outputs (held source (record counted { indicators = indicators; current = Some counted.reads; texts = texts; totals_due = true }))) → GoesOn old new (λ source. card_answered source old (filter is_input source.files) (Found bytes) (held source old))
+pub takes : (old counted new : Stepper) (bytes : List ℕ) (number : ℕ) (indicators : Indicators) (texts : List (List ℕ)) (moves : List FieldMove) → IsSound old → old.program.record_indicator ≡ Some number → counted ≡ record old { reads = min (old.reads + 1) 16776960 } → indicators ≡ record counted.indicators { general = slice_set counted.indicators.general number true } → number < length counted.indicators.general → moves ≡ counted.program.moves.items → texts ≡ texts_moved moves bytes counted.texts → GoesOn (record counted { indicators = indicators; current = Some counted.reads; texts = texts; totals_due = true }) new (λ source. headings_put source (reading_of source (record counted { indicators = indicators; current = Some counted.reads; texts = texts; totals_due = true })) source.outputs (held source (record counted { indicators = indicators; current = Some counted.reads; texts = texts; totals_due = true }))) → GoesOn old new (λ source. card_answered source old (filter is_input source.files) (Found bytes) (held source old))
 takes old counted new bytes number indicators texts moves sound typed_as is_counted on within same_moves moved goes =
     goes-mid old (moved_by old bytes number) new _ _ refl
     (λ source stands. sym (card-taken old source bytes number typed_as (let P : Stepper → Type 0 = λ c. number < length c.indicators.general in subst P is_counted within) (as-many old.program.fields.items old.texts sound.lengths) stands))

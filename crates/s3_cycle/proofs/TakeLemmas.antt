@@ -91,7 +91,7 @@ job-ended c source stands =
 -- ---- a card of no type
 -- the stepper that waits for a reply
 abbrev pub unidentified : Stepper → Stepper
-unidentified c = record c { reads = min (c.reads + 1) 999999; request = AskRequest UnidentifiedRecord; point = UnidentifiedPoint }
+unidentified c = record c { reads = min (c.reads + 1) 16776960; request = AskRequest UnidentifiedRecord; point = UnidentifiedPoint }
 
 pub card-unidentified : (c : Stepper) (source : Source) (bytes : List ℕ) → c.program.record_indicator ≡ None → Stands c.program source → card_answered source c (filter is_input source.files) (Found bytes) (held source c) ≡ ask (Ask UnidentifiedRecord) (λ answer. reply_answered source (unidentified c) (filter is_input source.files) answer (held source (unidentified c)))
 unfolding card_answered on_read typed halted reply_answered held
@@ -238,7 +238,7 @@ taken-head file head plain primary =
 -- ---- the whole of it
 -- the head that a card becomes
 abbrev pub head_from : Stepper → List ℕ → RecordType → Head
-head_from c bytes kind = record { number = min (c.reads + 1) 999999; bytes = bytes; kind = kind }
+head_from c bytes kind = record { number = min (c.reads + 1) 16776960; bytes = bytes; kind = kind }
 
 typed-one : (c : Stepper) (source : Source) (bytes : List ℕ) (number : ℕ) (kind : RecordType) (stands : Stands c.program source) → source.types ≡ kind ∷ [] → SameType c.program.fields.items c.program.moves.items stands.card number kind → card_answered source c (filter is_input source.files) (Found bytes) (held source c) ≡ heads_read source ((one_head stands.card (head_from c bytes kind)).files) (held source c)
 unfolding card_answered on_read typed headed files_read
@@ -264,10 +264,10 @@ cycle-begun source reading e = fun_ext λ answers. again-cycle source reading e 
 abbrev pub moved_by : Stepper → (bytes : List ℕ) → (number : ℕ) → Stepper
 moved_by c bytes number = record c {
   indicators = record c.indicators { general = slice_set c.indicators.general number true };
-  current = Some (min (c.reads + 1) 999999);
+  current = Some (min (c.reads + 1) 16776960);
   texts = texts_moved c.program.moves.items bytes c.texts;
   totals_due = true;
-  reads = min (c.reads + 1) 999999;
+  reads = min (c.reads + 1) 16776960;
 }
 
 head-taken : (c : Stepper) (source : Source) (bytes : List ℕ) (number : ℕ) (kind : RecordType) (stands : Stands c.program source) → source.types ≡ kind ∷ [] → SameType c.program.fields.items c.program.moves.items stands.card number kind → number < length c.indicators.general → length c.texts ≡ length c.program.fields.items → heads_read source ((one_head stands.card (head_from c bytes kind)).files) (held source c) ≡ headings_put source (reading_of source (moved_by c bytes number)) source.outputs (held source (moved_by c bytes number))

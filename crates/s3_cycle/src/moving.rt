@@ -26,5 +26,5 @@ fn move_field(field_move: &FieldMove, card: &Card, texts: &mut Texts)
     ensures lengths { SameLengths texts.old texts.new }
 {
     let part = &card[field_move.start as usize..field_move.end as usize];
-    texts.put(field_move.slot as usize, part);
+    texts.put(field_move.slot, part);
 }

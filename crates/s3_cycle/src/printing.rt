@@ -31,7 +31,7 @@ fn put_content(piece: &Piece, texts: &Texts, text: &mut [u8])
             end,
             &constant.codes[..constant.length as usize],
         ),
-        Content::Field(slot) => overlay(text, end, texts.text(*slot as usize)),
+        Content::Field(slot) => overlay(text, end, texts.text(*slot)),
     }
 }
 

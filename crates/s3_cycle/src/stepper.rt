@@ -1,4 +1,7 @@
-//! A suspended run, and the twelve steps of its cycle.
+//! A suspended run, and the twelve steps of its cycle: 1 heading and detail lines are printed; 2 the indicators of record
+//! types go off; 3 a card is read and typed; 4 the indicator of its type goes on; 11 its fields are moved. Control breaks (5),
+//! totals (6, 7), overflow (9), matching (10) and calculations (12) have nothing to do yet; without total lines the last
+//! cycle's step 8 ends the job at once.
 
 use crate::carriage::Carriage;
 use crate::indicators::Indicators;
@@ -13,7 +16,7 @@ use s3_meaning::halt::HaltCode;
 use std::alloc::{AllocError, Global};
 
 /// The most cards that are counted.
-const MOST_READS: u64 = 999_999;
+const MOST_READS: u64 = 16_776_960;
 
 /// What goes on once the pending request is answered.
 #[derive(Clone, Copy)]
@@ -162,7 +165,7 @@ impl Stepper {
         requires blank { text.old ≡ replicate self.now.program.print_length 0x40 }
         ensures { text.new ≡ text_of self.now line.now }
     {
-        let pieces = &self.program.pieces[line.first as usize..line.past as usize];
+        let pieces = &self.program.pieces[line.first..line.past];
         put_pieces(pieces, &self.texts, &self.indicators, text);
     }
 
@@ -187,7 +190,7 @@ impl Stepper {
         }
     }
 
-    /// Step 3: a card is typed.
+    /// Step 3: the card that was read is typed.
     fn take_card(&mut self, card: &Card)
         requires sound { IsSound self.old }
         ensures { GoesOn self.old self.new (λ source. card_answered source self.old (filter is_input source.files) (Found card.now) (held source self.old)) }
@@ -199,7 +202,7 @@ impl Stepper {
     }
 
     fn count_read(&mut self)
-        ensures { self.new ≡ record self.old { reads = min (self.old.reads + 1) 999999 } }
+        ensures { self.new ≡ record self.old { reads = min (self.old.reads + 1) 16776960 } }
     {
         self.reads = (u64::from(self.reads) + 1).min(MOST_READS) as u32;
     }
@@ -217,7 +220,7 @@ impl Stepper {
         );
     }
 
-    /// Steps 4 to 12 with the card that was read, and the next cycle.
+    /// Steps 4 to 12 with the card that was read: its indicator goes on and its fields are moved. Then the next cycle begins.
     fn take_record(&mut self, card: &Card, number: u8)
         requires sound { IsSound self.old }
         requires typed { self.old.program.record_indicator ≡ Some number }
@@ -232,7 +235,7 @@ impl Stepper {
         self.put_headings(0);
     }
 
-    /// Step 8 of the last cycle: without total lines, the job ends.
+    /// The last cycle, when there is no further card: without total lines, step 8 ends the job.
     fn end_job(&mut self)
         requires sound { IsSound self.old }
         ensures { GoesOn self.old self.new (λ source. card_answered source self.old (filter is_input source.files) Nothing (held source self.old)) }

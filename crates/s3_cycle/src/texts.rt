@@ -26,7 +26,7 @@ impl Texts {
     {
         let mut texts = Vec::with_capacity(alloc, fields.len())?;
         for field in fields {
-            texts.push(vec![in alloc; BLANK; field.length as usize]?)?;
+            texts.push(vec![in alloc; BLANK; field.length]?)?;
         }
         Ok(Texts { texts })
     }

@@ -1,3 +1,4 @@
 pub mod Cards
 pub mod Running
 pub mod Starting
+pub mod Lister

@@ -61,6 +61,7 @@ started_program (Ok _) number first end name program copy cycle old middle new f
   where
     at : Source → JobAtWork
     at source = record { number = number; source = source; cards = slice_range old.deck first end; past = [] }
+
     opened : (source : Source) → Stands program source → (w : World) → Holds old w → Holds (record old { job = Some (record { number = number; cycle = cycle; next = first; end = end }) }) (record w { job = Some (at source) })
     opened source stands w held =
         let runs = starts source (copies source stands) in
@@ -81,6 +82,7 @@ started_program (Ok _) number first end name program copy cycle old middle new f
           lines = held.lines;
           halts = held.halts;
         }
+
     by : (w : World) → Holds old w → (source : Option Source) → Stocks (Some program) source → Holds new (run number (slice_range old.deck first end) source w)
     by w held None stands = absurd stands
     by w held (Some source) stands = asks (record w { job = Some (at source) }) (at source) refl (subst (λ level. Holds level (record w { job = Some (at source) })) (sym opens) (opened source stands w held))

@@ -3,3 +3,4 @@ pub mod World
 pub mod Serving
 pub mod Solo
 pub mod Holds
+pub mod Samples

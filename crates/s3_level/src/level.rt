@@ -414,7 +414,6 @@ impl Level {
     }
 
     /// Starts a program of the library over a job's data cards.
-    #[tactic(auto, using(crate::proofs::Starting::started_program))]
     fn run(&mut self, number: u16, name: Name, cards: &JobCards) -> Result<(), AllocError>
         ensures world { OnOk result (Becomes (λ w. run number (slice_range self.old.deck cards.now.first cards.now.end) (w.library name) w) self.old self.new) }
         ensures stays { Stays self.old self.new }

@@ -8,10 +8,12 @@ mod halt;
 mod halt_code;
 mod halt_log;
 mod job;
+mod laws;
 mod level;
 mod printed_lines;
 
 pub use action::{Action, Did, Stop};
 pub use halt::Halt;
 pub use halt_code::HaltCode;
+pub use laws::card_lister_lists;
 pub use level::Level;

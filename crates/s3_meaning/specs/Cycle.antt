@@ -56,9 +56,9 @@ unfoldable pub typed : Anew → InputFile → List ℕ → Option RecordType →
 typed anew input bytes (Some kind) go e = headed anew input (record { number = input.reads; bytes = bytes; kind = kind }) go e
 typed anew input bytes None go e = halted anew UnidentifiedRecord (anew.read input go) e
 
--- one record more was read; the count stays at 999,999, the most records that a file can have
+-- one record more was read; the count stays at 16,776,960, the bytes of the largest pack, so no file has more records
 abbrev pub counted_read : InputFile → InputFile
-counted_read input = record input { reads = min (input.reads + 1) 999999 }
+counted_read input = record input { reads = min (input.reads + 1) 16776960 }
 
 unfoldable pub on_read : Source → Anew → InputFile → (InputFile → Rest) → Answer → Rest
 on_read source anew input go (Found bytes) e = typed anew (counted_read input) bytes (type_of source input.file.name bytes) go e

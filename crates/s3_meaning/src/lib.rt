@@ -5,4 +5,7 @@
 pub mod halt;
 mod laws;
 
-pub use laws::{nothing_is_bounded, totals_are_printed};
+pub use laws::{
+    cards_are_listed, nothing_is_bounded, the_carriage_moves_by_lines, the_least_key_is_selected,
+    totals_are_printed,
+};

@@ -1,3 +1,4 @@
+pub mod ConstantLemmas
 pub mod NumberLemmas
 pub mod ProgressLemmas
 pub mod ReadingLemmas

@@ -86,16 +86,16 @@ at_place : (codes : List ℕ) (place d : ℕ) → place < length codes → drop 
 at_place codes place d in' = rw (add-one, drop-cons codes place d) refl
 
 -- an apostrophe behind another one
-twice : (code : ℕ) (codes : List ℕ) → (code == 0x7d) ≡ true → text_of true (code ∷ codes) ≡ option_map (λ more. code ∷ more) (text_of false codes)
+pub twice : (code : ℕ) (codes : List ℕ) → (code == 0x7d) ≡ true → text_of true (code ∷ codes) ≡ option_map (λ more. code ∷ more) (text_of false codes)
 unfolding text_of
 twice code codes is = rw is refl
 
 -- an apostrophe that may end the text
-may_end : (code : ℕ) (codes : List ℕ) → (code == 0x7d) ≡ true → text_of false (code ∷ codes) ≡ option_map (λ more. more) (text_of true codes)
+pub may_end : (code : ℕ) (codes : List ℕ) → (code == 0x7d) ≡ true → text_of false (code ∷ codes) ≡ option_map (λ more. more) (text_of true codes)
 unfolding text_of
 may_end code codes is = rw is refl
 
-other : (code : ℕ) (codes : List ℕ) → (code == 0x7d) ≡ false → text_of false (code ∷ codes) ≡ option_map (λ more. code ∷ more) (text_of false codes)
+pub other : (code : ℕ) (codes : List ℕ) → (code == 0x7d) ≡ false → text_of false (code ∷ codes) ≡ option_map (λ more. code ∷ more) (text_of false codes)
 unfolding text_of
 other code codes is = rw is refl
 

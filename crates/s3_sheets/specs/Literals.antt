@@ -1,6 +1,6 @@
 -- Constants as they are read, code by code.
-use Rattle.std.specs.Prelude.{ℕ, ◌+◌, Bool, true, false, ◌==◌, ◌&&◌, not, Option, Some, None, option_map, nat_le, slice_set, if◌then◌else◌}
-use Rattle.s3_cards.specs.declared.ebcdic.TheConstants.{APOSTROPHE}
+use Rattle.std.specs.Prelude.{◌≡◌, ◌≢◌, ℕ, ◌+◌, Bool, true, false, ◌==◌, ◌&&◌, not, Option, Some, None, option_map, nat_le, slice_set, List, [], ◌∷◌, ◌++◌, replicate, if◌then◌else◌}
+use Rattle.s3_cards.specs.declared.ebcdic.TheConstants.{APOSTROPHE, BLANK}
 use Rattle.s3_sheets.specs.declared.sheet.Constant.{Constant}
 
 -- a constant with one more character, if it has room
@@ -21,3 +21,16 @@ with_next_code text ended code =
 -- whether a code stands behind the apostrophe that ends a text
 abbrev pub is_behind_end : Bool → ℕ → Bool
 is_behind_end ended code = ended && not (code == APOSTROPHE)
+
+-- a text with its apostrophes twice
+abbrev pub doubled : List ℕ → List ℕ
+doubled [] = []
+doubled (code ∷ text) = (if code == APOSTROPHE then code ∷ code ∷ [] else code ∷ []) ++ doubled text
+
+-- a constant as it is written, with so many blanks behind it
+abbrev pub written : List ℕ → ℕ → List ℕ
+written text blanks = APOSTROPHE ∷ (doubled text ++ APOSTROPHE ∷ replicate blanks BLANK)
+
+-- whether these columns have a constant of this text
+abbrev pub IsConstant : List ℕ → List ℕ → Type 0
+IsConstant columns text = (text ≢ []) × ((blanks : ℕ) × (columns ≡ written text blanks))

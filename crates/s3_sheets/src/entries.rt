@@ -1,7 +1,7 @@
 //! What the entries of the sheets spell.
 
-ghost use Rattle.std.specs.Prelude.{◌≡◌, ◌≤◌, ◌<◌, length, option_map, false, if◌then◌else◌};
-ghost use Rattle.s3_sheets.specs.Literals.{with_code, with_next_code, is_behind_end};
+ghost use Rattle.std.specs.Prelude.{◌≡◌, ◌≤◌, ◌<◌, length, option_map, ◌↔◌, List, ℕ, Some, false, if◌then◌else◌};
+ghost use Rattle.s3_sheets.specs.Literals.{with_code, with_next_code, is_behind_end, IsConstant};
 ghost use Rattle.s3_sheets.specs.Columns.{are_blank as are_blank_spec};
 ghost use Rattle.s3_sheets.specs.Entries.{general_of, is_condition as condition_spec, condition_of, constant_text, constant as constant_spec, text_of, is_reserved as reserved_spec, reserved_names as reserved_names_spec};
 
@@ -169,3 +169,8 @@ pub fn constant(columns: &[u8]) -> Option<Constant>
         _ => None,
     }
 }
+
+/// A constant is read as the text that was written, with its apostrophes twice and blanks behind it, and nothing else is a constant.
+pub fn constants_as_written()
+    ensures { (columns text : List ℕ) → (constant_text columns ≡ Some text) ↔ IsConstant columns text }
+{}

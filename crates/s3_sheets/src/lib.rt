@@ -17,4 +17,5 @@ pub mod sheet;
 mod tables;
 
 pub use diagnostic::{Diagnostic, SheetFault};
+pub use entries::constants_as_written;
 pub use reading::read_sheets;

@@ -1,8 +1,7 @@
 -- The details so far.
 use Rattle.std.proofs.Common.{◌≡◌, ◌++◌, take, vec_items}
 use Rattle.std.specs.List.{flat_map}
-use Rattle.s3_bureau.specs.Texts.{detail_line, halt_line}
-use Rattle.s3_level.specs.Parts.{halt_of}
+use Rattle.s3_bureau.specs.Texts.{detail_line}
 use Rattle.s3_bureau.proofs.halts.push_halt.Given as goal
 
 abbrev pub invariant-loop-card : goal.invariant-loop-card

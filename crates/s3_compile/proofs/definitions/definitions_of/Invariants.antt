@@ -1,4 +1,4 @@
-use Rattle.std.proofs.Common.{◌≡◌, take, length}
+use Rattle.std.proofs.Common.{◌≡◌, take}
 use Rattle.indexmap.specs.IndexMap.{IsUnique, get}
 use Rattle.s3_sheets.specs.declared.name.Name.{Name}
 use Rattle.s3_meaning.specs.Names.{same_name}

@@ -1,4 +1,4 @@
-use Rattle.std.proofs.Common.{◌≡◌, ◌≤◌, ◌+◌, ◌++◌, drop, length}
+use Rattle.std.proofs.Common.{◌≡◌, ◌≤◌, ◌++◌, drop}
 use Rattle.s3_compile.specs.Translation.{outputs_of, details_from}
 use Rattle.s3_compile.proofs.translate.details.Given as goal
 
