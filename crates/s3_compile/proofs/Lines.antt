@@ -30,7 +30,7 @@ use Rattle.s3_compile.specs.declared.program.Piece.{Piece}
 use Rattle.s3_compile.specs.declared.program.DetailLine.{DetailLine}
 use Rattle.s3_compile.specs.Definitions.{Known, Lengths}
 use Rattle.s3_compile.specs.Names.{is_reserved}
-use Rattle.s3_compile.specs.Part.{is_detail, is_plain, is_built_content, are_number_conditions, lies_within, positions_of, positions_in}
+use Rattle.s3_compile.specs.Part.{is_detail, is_plain, is_built_content, are_built_conditions, lies_within, positions_of, positions_in}
 use Rattle.s3_compile.specs.Conditions.{is_output, is_undefined_file, is_input_name, is_input_file, has_undefined_field, is_longer_than, content_begins_early}
 use Rattle.s3_compile.specs.Translation.{fields_of, slot_of, content_of, piece_of, details_from}
 use Rattle.s3_compile.specs.Stands.{SameContent, SamePiece, SamePieces, IsPrintFile, blank_spacing}
@@ -130,8 +130,8 @@ PieceFits lengths width piece = IsTrue (nat_le piece.end width && content_fits (
 built_content : (known : Known) (last : Option Name) (field : OutputField) → FineOutput known last (FieldCard field) → is_built_content field.content field.end ≡ true
 built_content known last field fine =
     let positions : ℕ = positions_in known last in
-    and_right (are_number_conditions field.conditions) (is_built_content field.content field.end)
-    (and_left (are_number_conditions field.conditions && is_built_content field.content field.end) (lies_within field.end field.end positions) fine.built)
+    and_right (are_built_conditions field.conditions) (is_built_content field.content field.end)
+    (and_left (are_built_conditions field.conditions && is_built_content field.content field.end) (lies_within field.end field.end positions) fine.built)
 
 same_piece : (known : Known) (lengths : Lengths) (last : Option Name) (field : OutputField) → Slots known lengths → FineOutput known last (FieldCard field)
     → SamePiece (fields_of lengths) (piece_on lengths field) field
@@ -147,7 +147,7 @@ piece_fits source known lengths width last field slots prints fine =
     let name = some_is last fine.accompanied in
     let wide : positions_in known last ≡ width = ap (positions_in known) name.1 ∙ (prints name.0 name.1).positions in
     let a : lies_within field.end field.end (positions_in known last) ≡ true =
-    and_right (are_number_conditions field.conditions && is_built_content field.content field.end) (lies_within field.end field.end (positions_in known last)) fine.built in
+    and_right (are_built_conditions field.conditions && is_built_content field.content field.end) (lies_within field.end field.end (positions_in known last)) fine.built in
     let b : nat_le field.end (positions_in known last) ≡ true = and_right (nat_lt 0 field.end && nat_le field.end field.end) (nat_le field.end (positions_in known last)) a in
     both (nat_le field.end width) (content_fits (fields_of lengths) (content_of lengths field.content) field.end)
     (ap (nat_le field.end) (sym wide) ∙ b)
@@ -257,9 +257,9 @@ detail : (source : Source) (known : Known) (lengths : Lengths) (width first : �
     (output_from (unwrap_or card.file before) card lines)
 detail source known lengths width first done all last before card lines slots the_print same fine later long split =
     let three : Bool = is_detail card.kind && not card.is_addition && is_blank card.spacing in
-    let a : (three && are_number_conditions card.conditions) ≡ true = and_left (three && are_number_conditions card.conditions) (is_some card.file || is_some last) fine.built in
-    let some : (is_some card.file || is_some last) ≡ true = and_right (three && are_number_conditions card.conditions) (is_some card.file || is_some last) fine.built in
-    let b : three ≡ true = and_left three (are_number_conditions card.conditions) a in
+    let a : (three && are_built_conditions card.conditions) ≡ true = and_left (three && are_built_conditions card.conditions) (is_some card.file || is_some last) fine.built in
+    let some : (is_some card.file || is_some last) ≡ true = and_right (three && are_built_conditions card.conditions) (is_some card.file || is_some last) fine.built in
+    let b : three ≡ true = and_left three (are_built_conditions card.conditions) a in
     let c : (is_detail card.kind && not card.is_addition) ≡ true = and_left (is_detail card.kind && not card.is_addition) (is_blank card.spacing) b in
     let there : option_or card.file last ≡ Some (unwrap_or card.file before) = file_is card.file last before some same in
     let range = range_behind done (filter_map (piece_of lengths) lines) all first (length (fields_from lines)) long split in

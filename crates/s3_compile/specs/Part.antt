@@ -1,9 +1,9 @@
 -- The part of the language that is built: a card file and a print file, a record line without codes, alphanumeric
--- fields, and detail lines of fields and constants under conditions 01 to 99.
+-- fields, and detail lines of fields and constants under conditions 01 to 99 and U1 to U8.
 use Rattle.std.specs.Prelude.{ℕ, nat_lt, nat_le, Bool, true, false, not, ◌&&◌, ◌||◌, List, [], ◌∷◌, Option, Some, None, is_some, is_none}
 use Rattle.std.specs.List.{list_all}
 use Rattle.s3_sheets.specs.declared.indicator.Indicator.{Indicator}
-use Rattle.s3_sheets.specs.declared.indicator.Indicator.TheVariants.{General}
+use Rattle.s3_sheets.specs.declared.indicator.Indicator.TheVariants.{General, Switch}
 use Rattle.s3_sheets.specs.declared.indicator.Condition.{Condition}
 use Rattle.s3_sheets.specs.declared.name.Name.{Name}
 use Rattle.s3_sheets.specs.declared.sheet.FileUse.{FileUse}
@@ -48,12 +48,18 @@ abbrev pub is_number : Indicator → Bool
 is_number (General number) = lies_within number number 99
 is_number _ = false
 
-abbrev pub is_number_condition : Option Condition → Bool
-is_number_condition None = true
-is_number_condition (Some condition) = is_number condition.indicator
+-- 01 to 99, U1 to U8
+abbrev pub is_built_indicator : Indicator → Bool
+is_built_indicator (General number) = lies_within number number 99
+is_built_indicator (Switch number) = lies_within number number 8
+is_built_indicator _ = false
 
-abbrev pub are_number_conditions : List (Option Condition) → Bool
-are_number_conditions conditions = list_all is_number_condition conditions
+abbrev pub is_built_condition : Option Condition → Bool
+is_built_condition None = true
+is_built_condition (Some condition) = is_built_indicator condition.indicator
+
+abbrev pub are_built_conditions : List (Option Condition) → Bool
+are_built_conditions conditions = list_all is_built_condition conditions
 
 -- ---- files
 abbrev pub is_built_use : FileUse → Bool
@@ -126,7 +132,7 @@ is_detail Exception = false
 -- its file is named, or is that of the line before
 abbrev pub is_built_card : OutputCard → Option Name → Bool
 is_built_card card line_file =
-    is_detail card.kind && not card.is_addition && is_blank card.spacing && are_number_conditions card.conditions
+    is_detail card.kind && not card.is_addition && is_blank card.spacing && are_built_conditions card.conditions
     && (is_some card.file || is_some line_file)
 
 abbrev pub is_plain : OutputForm → Bool
@@ -144,7 +150,7 @@ is_built_content (Field field) end = is_built_output field
 
 abbrev pub is_built_output_field : OutputField → ℕ → Bool
 is_built_output_field field positions =
-    are_number_conditions field.conditions && is_built_content field.content field.end && lies_within field.end field.end positions
+    are_built_conditions field.conditions && is_built_content field.content field.end && lies_within field.end field.end positions
 
 -- ---- lines
 -- of record lines there is one

@@ -57,21 +57,31 @@ fn is_number(indicator: &Indicator) -> bool
     }
 }
 
-fn is_number_condition(condition: &Option<Condition>) -> bool
-    ensures { result ≡ spec.is_number_condition condition.now }
+fn is_built_indicator(indicator: &Indicator) -> bool
+    ensures { result ≡ spec.is_built_indicator indicator.now }
+{
+    match indicator {
+        Indicator::General(number) => lies_within(u16::from(*number), u16::from(*number), 99),
+        Indicator::Switch(number) => lies_within(u16::from(*number), u16::from(*number), 8),
+        _ => false,
+    }
+}
+
+fn is_built_condition(condition: &Option<Condition>) -> bool
+    ensures { result ≡ spec.is_built_condition condition.now }
 {
     match condition {
-        Some(condition) => is_number(&condition.indicator),
+        Some(condition) => is_built_indicator(&condition.indicator),
         None => true,
     }
 }
 
-fn are_number_conditions(conditions: &[Option<Condition>; 3]) -> bool
-    ensures { result ≡ spec.are_number_conditions conditions.now }
+fn are_built_conditions(conditions: &[Option<Condition>; 3]) -> bool
+    ensures { result ≡ spec.are_built_conditions conditions.now }
 {
     conditions
         .iter()
-        .all(|condition| is_number_condition(condition))
+        .all(|condition| is_built_condition(condition))
 }
 
 fn are_blank<T: Copy>(entries: &[Option<T>]) -> bool
@@ -201,7 +211,7 @@ fn is_built_card(card: &OutputCard, line_file: Option<Name>) -> bool
     is_detail(card.kind)
         && !card.is_addition
         && is_blank(&card.spacing)
-        && are_number_conditions(&card.conditions)
+        && are_built_conditions(&card.conditions)
         && (card.file.is_some() || line_file.is_some())
 }
 
@@ -235,7 +245,7 @@ fn is_built_content(content: &OutputContent, end: u16) -> bool
 fn is_built_output_field(field: &OutputField, positions: u16) -> bool
     ensures { result ≡ spec.is_built_output_field field.now positions }
 {
-    are_number_conditions(&field.conditions)
+    are_built_conditions(&field.conditions)
         && is_built_content(&field.content, field.end)
         && lies_within(field.end, field.end, positions)
 }

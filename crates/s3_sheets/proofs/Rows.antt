@@ -274,6 +274,22 @@ condition_in_third : found (header ∷ cards_file ∷ print_file ∷ record_card
 unfolding code_page breaks_some_rule device_of ebcdic reserved_names longest_record digits_number is_word text_of constant_text goes_on kind_of rule_fault header_rules file_rules record_rules group_rules field_rules calculation_rules output_line_rules output_field_rules line_of lines_of is_at_fault is_outside is_too_many card_holds sheet_diagnostics
 condition_in_third = refl
 
+switch_first : found (header ∷ cards_file ∷ print_file ∷ record_card ∷ text_field ∷ (put 29 (codes "NU1") (put 15 (codes "D") (put 7 (codes "PRINT") (put 6 (codes "O") (blank_card))))) ∷ text_out ∷ []) ≡ []
+unfolding code_page breaks_some_rule device_of ebcdic reserved_names longest_record digits_number is_word text_of constant_text goes_on kind_of rule_fault header_rules file_rules record_rules group_rules field_rules calculation_rules output_line_rules output_field_rules line_of lines_of is_at_fault is_outside is_too_many card_holds sheet_diagnostics
+switch_first = refl
+
+switch_last : found (header ∷ cards_file ∷ print_file ∷ record_card ∷ text_field ∷ (put 29 (codes " U8") (put 15 (codes "D") (put 7 (codes "PRINT") (put 6 (codes "O") (blank_card))))) ∷ text_out ∷ []) ≡ []
+unfolding code_page breaks_some_rule device_of ebcdic reserved_names longest_record digits_number is_word text_of constant_text goes_on kind_of rule_fault header_rules file_rules record_rules group_rules field_rules calculation_rules output_line_rules output_field_rules line_of lines_of is_at_fault is_outside is_too_many card_holds sheet_diagnostics
+switch_last = refl
+
+switch_nought : found (header ∷ cards_file ∷ print_file ∷ record_card ∷ text_field ∷ (put 29 (codes " U0") (put 15 (codes "D") (put 7 (codes "PRINT") (put 6 (codes "O") (blank_card))))) ∷ text_out ∷ []) ≡ (8, 2) ∷ []
+unfolding code_page breaks_some_rule device_of ebcdic reserved_names longest_record digits_number is_word text_of constant_text goes_on kind_of rule_fault header_rules file_rules record_rules group_rules field_rules calculation_rules output_line_rules output_field_rules line_of lines_of is_at_fault is_outside is_too_many card_holds sheet_diagnostics
+switch_nought = refl
+
+switch_past_last : found (header ∷ cards_file ∷ print_file ∷ record_card ∷ text_field ∷ (put 29 (codes " U9") (put 15 (codes "D") (put 7 (codes "PRINT") (put 6 (codes "O") (blank_card))))) ∷ text_out ∷ []) ≡ (8, 2) ∷ []
+unfolding code_page breaks_some_rule device_of ebcdic reserved_names longest_record digits_number is_word text_of constant_text goes_on kind_of rule_fault header_rules file_rules record_rules group_rules field_rules calculation_rules output_line_rules output_field_rules line_of lines_of is_at_fault is_outside is_too_many card_holds sheet_diagnostics
+switch_past_last = refl
+
 constant_out : found (header ∷ cards_file ∷ print_file ∷ record_card ∷ text_field ∷ detail ∷ (put 45 (codes "'HEAD'") (put 43 (codes "4") (put 6 (codes "O") (blank_card)))) ∷ []) ≡ []
 unfolding code_page breaks_some_rule device_of ebcdic reserved_names longest_record digits_number is_word text_of constant_text goes_on kind_of rule_fault header_rules file_rules record_rules group_rules field_rules calculation_rules output_line_rules output_field_rules line_of lines_of is_at_fault is_outside is_too_many card_holds sheet_diagnostics
 constant_out = refl

@@ -1,12 +1,13 @@
 -- What the entries of the sheets spell.
-use Rattle.std.specs.Prelude.{ℕ, ◌+◌, ◌-◌, ◌*◌, List, [], ◌∷◌, ◌++◌, Bool, true, false, not, ◌==◌, ◌&&◌, ◌||◌, Option, Some, None, is_some, unwrap_or, option_map, length, replicate, if◌then◌else◌, codes}
+use Rattle.std.specs.Prelude.{ℕ, ◌+◌, ◌-◌, ◌*◌, nat_lt, nat_le, List, [], ◌∷◌, ◌++◌, Bool, true, false, not, ◌==◌, ◌&&◌, ◌||◌, Option, Some, None, is_some, unwrap_or, option_map, length, replicate, if◌then◌else◌, codes}
 use Rattle.std.specs.List.{list_any}
-use Rattle.std.specs.Option.{option_and_then}
-use Rattle.s3_cards.specs.declared.ebcdic.TheConstants.{BLANK, APOSTROPHE, LETTER_N, DIGIT_0}
+use Rattle.std.specs.Option.{option_or, option_and_then}
+use Rattle.s3_cards.specs.declared.ebcdic.TheConstants.{BLANK, APOSTROPHE, LETTER_N, LETTER_U, DIGIT_0}
 use Rattle.s3_sheets.specs.Codes.{ebcdic, is_digit}
 use Rattle.s3_sheets.specs.Columns.{are_blank, name_of, same_name}
 use Rattle.s3_sheets.specs.declared.name.Name.{Name}
-use Rattle.s3_sheets.specs.declared.indicator.Indicator.TheVariants.{General}
+use Rattle.s3_sheets.specs.declared.indicator.Indicator.{Indicator}
+use Rattle.s3_sheets.specs.declared.indicator.Indicator.TheVariants.{General, Switch}
 use Rattle.s3_sheets.specs.declared.indicator.Condition.{Condition}
 use Rattle.s3_sheets.specs.declared.sheet.Constant.{Constant}
 
@@ -18,17 +19,27 @@ general_of (tens ∷ units ∷ []) =
     else None
 general_of _ = None
 
--- all blank, or blank or N and then an indicator of two digits
+-- the number of a switch, U1 to U8
+abbrev pub switch_of : List ℕ → Option ℕ
+switch_of (letter ∷ digit ∷ []) =
+    if letter == LETTER_U && nat_lt DIGIT_0 digit && nat_le digit (DIGIT_0 + 8) then Some (digit - DIGIT_0) else None
+switch_of _ = None
+
+-- an indicator of a condition: 01 to 99, U1 to U8
+abbrev pub indicator_of : List ℕ → Option Indicator
+indicator_of columns = option_or (option_map (λ n. General n) (general_of columns)) (option_map (λ n. Switch n) (switch_of columns))
+
+-- all blank, or blank or N and then an indicator
 abbrev pub is_condition : List ℕ → Bool
 is_condition [] = false
-is_condition (sign ∷ indicator) = are_blank (sign ∷ indicator) || ((sign == BLANK || sign == LETTER_N) && is_some (general_of indicator))
+is_condition (sign ∷ indicator) = are_blank (sign ∷ indicator) || ((sign == BLANK || sign == LETTER_N) && is_some (indicator_of indicator))
 
 -- the condition in three columns, none where they are blank
 abbrev pub condition_of : List ℕ → Option Condition
 condition_of [] = None
-condition_of (sign ∷ indicator) =
-    if are_blank (sign ∷ indicator) then None
-    else Some (record { negated = sign == LETTER_N; indicator = General (unwrap_or (general_of indicator) 0) })
+condition_of (sign ∷ columns) =
+    if are_blank (sign ∷ columns) then None
+    else option_map (λ indicator. record { negated = sign == LETTER_N; indicator = indicator }) (indicator_of columns)
 
 -- the text up to the apostrophe that ends it, behind which all is blank; an apostrophe of the text is written twice. `ended`
 -- says that an apostrophe stands before these codes, which ends the text unless another one follows.

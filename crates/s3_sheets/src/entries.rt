@@ -3,7 +3,7 @@
 ghost use Rattle.std.specs.Prelude.{◌≡◌, ◌≤◌, ◌<◌, length, option_map, ◌↔◌, List, ℕ, Some, false, if◌then◌else◌};
 ghost use Rattle.s3_sheets.specs.Literals.{with_code, with_next_code, is_behind_end, IsConstant};
 ghost use Rattle.s3_sheets.specs.Columns.{are_blank as are_blank_spec};
-ghost use Rattle.s3_sheets.specs.Entries.{general_of, is_condition as condition_spec, condition_of, constant_text, constant as constant_spec, text_of, is_reserved as reserved_spec, reserved_names as reserved_names_spec};
+ghost use Rattle.s3_sheets.specs.Entries.{general_of, switch_of, indicator_of, is_condition as condition_spec, condition_of, constant_text, constant as constant_spec, text_of, is_reserved as reserved_spec, reserved_names as reserved_names_spec};
 
 use crate::codes::is_digit;
 use crate::columns::{are_blank, same_name};
@@ -28,14 +28,34 @@ pub fn general(columns: &[u8]) -> Option<u8>
     }
 }
 
-/// Whether three columns are all blank, or have blank or N and then an indicator of two digits.
+/// The number of a switch, U1 to U8.
+pub fn switch(columns: &[u8]) -> Option<u8>
+    ensures { result ≡ switch_of columns.now }
+{
+    match columns {
+        [LETTER_U, digit] if DIGIT_0 < *digit && *digit <= DIGIT_0 + 8 => Some(*digit - DIGIT_0),
+        _ => None,
+    }
+}
+
+/// The indicator of a condition: 01 to 99, U1 to U8.
+fn indicator(columns: &[u8]) -> Option<Indicator>
+    ensures { result ≡ indicator_of columns.now }
+{
+    match general(columns) {
+        Some(number) => Some(Indicator::General(number)),
+        None => Some(Indicator::Switch(switch(columns)?)),
+    }
+}
+
+/// Whether three columns are all blank, or have blank or N and then an indicator.
 pub fn is_condition(columns: &[u8]) -> bool
     ensures { result ≡ condition_spec columns.now }
 {
     match columns.split_first() {
         None => false,
-        Some((sign, indicator)) => are_blank(columns)
-            || (matches!(*sign, BLANK | LETTER_N) && general(indicator).is_some()),
+        Some((sign, rest)) => are_blank(columns)
+            || (matches!(*sign, BLANK | LETTER_N) && indicator(rest).is_some()),
     }
 }
 
@@ -46,10 +66,10 @@ pub fn condition(columns: &[u8]) -> Option<Condition>
     if are_blank(columns) {
         return None;
     }
-    let (sign, indicator) = columns.split_first()?;
+    let (sign, rest) = columns.split_first()?;
     Some(Condition {
         negated: *sign == LETTER_N,
-        indicator: Indicator::General(general(indicator).unwrap_or(0)),
+        indicator: indicator(rest)?,
     })
 }
 
