@@ -2,7 +2,8 @@
 use Rattle.std.proofs.Common.{◌≡◌, Bool, true, false, List, [], ◌∷◌, Option, Some, None, Result, Ok, Err, refl}
 use Rattle.std.specs.Prelude.{OnErr, if◌then◌else◌}
 use Rattle.s3_meaning.specs.Requests.{Request, Card, Print, Jump, End}
-use Rattle.s3_ocl.specs.Stream.{Job}
+use Rattle.s3_ocl.specs.declared.faults.FaultyJob.{FaultyJob}
+use Rattle.s3_ocl.specs.Jobs.{Job}
 use Rattle.s3_level.specs.declared.action.Action.TheVariants.{Turn}
 use Rattle.s3_level.specs.declared.action.Did.{Did}
 use Rattle.s3_level.specs.declared.action.Did.TheVariants.{Acted, Idle}
@@ -29,7 +30,7 @@ served_acts Jump job w not_idle = refl
 served_acts (End at_once) job w not_idle = refl
 served_acts _ job w not_idle = absurd (not_idle refl)
 
-begun_acts : (jobs : List Job) (w : World) → IdleOrActs (begun jobs w)
+begun_acts : (jobs : List (Result Job FaultyJob)) (w : World) → IdleOrActs (begun jobs w)
 begun_acts [] w not_idle = absurd (not_idle refl)
 begun_acts (job ∷ jobs) w not_idle = refl
 

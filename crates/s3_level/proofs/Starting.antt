@@ -1,5 +1,8 @@
 -- The start of a job: it is taken from the deck, and then started under its number.
-use Rattle.std.proofs.Common.{◌≡◌, ℕ, List, [], refl, sym, ◌∙◌, ap, subst, slice_range, Option, Some, None, Result, Ok, Err, OnOk}
+use Rattle.std.specs.Prelude.{Bool, false, unwrap_or, if◌then◌else◌}
+use Rattle.std.proofs.lemmas.Bool.{cases_lt}
+use Rattle.std.proofs.lemmas.Option.{none-some}
+use Rattle.std.proofs.Common.{◌≡◌, ◌≢◌, ◌<◌, inl, inr, lt-ltb, le-ltb, ℕ, List, [], ◌∷◌, length, refl, sym, ◌∙◌, ap, subst, slice_range, Option, Some, None, Result, Ok, Err, OnOk}
 use Rattle.indexmap.specs.IndexMap.{get}
 use Rattle.s3_sheets.specs.declared.name.Name.{Name}
 use Rattle.s3_meaning.specs.Names.{same_name}
@@ -16,19 +19,108 @@ use Rattle.s3_compile.specs.declared.program.Program.{Program}
 use Rattle.s3_compile.specs.Diagnostics.{compile_diagnostics}
 use Rattle.s3_compile.specs.Stands.{Stands}
 use Rattle.s3_compile.specs.Compiles.{StandsFor, program_name}
-use Rattle.s3_ocl.specs.Stream.{Job, Compile, jobs_from}
+use Rattle.s3_ocl.specs.declared.names.Name.{Name as ProgramName}
+use Rattle.s3_ocl.specs.declared.faults.FaultyJob.{FaultyJob}
+use Rattle.s3_ocl.specs.declared.jobs.OclFault.{OclFault}
+use Rattle.s3_ocl.specs.declared.jobs.OclFault.TheVariants.{NoMemory, Faulty}
+use Rattle.s3_ocl.specs.Jobs.{Job, Gives, is_compile, job_at, job_place, next_job, place_after}
+use Rattle.s3_ocl.specs.Streams.{jobs_from}
+use Rattle.s3_ocl.proofs.StreamLemmas.{jobs_from-none, jobs_from-next}
+use Rattle.s3_level.specs.declared.job.OpenJob.{OpenJob}
 use Rattle.s3_level.specs.declared.level.Level.{Level}
-use Rattle.s3_level.specs.Serving.{asking, pending, run, compiled, diagnostics_of, started, stocked, unless_empty, with_jobs}
-use Rattle.s3_level.specs.Holds.{Holds, Stocks, AtWorkBecomes, Becomes, Starts}
+use Rattle.s3_level.specs.Serving.{asking, pending, run, compiled, compiled_data, data_of, diagnostics_of, performed, program_of, started, stocked, unless_empty, switches_after, with_jobs, with_settings}
+use Rattle.s3_level.specs.Holds.{Holds, HoldsAtWork, Stocks, AtWorkBecomes, Becomes, NextIs, Starts}
 
-pub taken_then_started : {T E : Type 0} (result : Result T E) (old taken new : Level) (job : Job) (after number : ℕ)
+pub taken_then_started : {T E : Type 0} (result : Result T E) (old taken new : Level) (job : Result Job FaultyJob) (after number : ℕ)
     → number ≡ old.number
     → Becomes (with_jobs (jobs_from old.deck after)) old taken
     → OnOk result (Becomes (started number job) taken new)
     → OnOk result (Starts job after old new)
 taken_then_started (Ok _) old taken new job after number is_number takes starts =
-    λ w held. subst (λ n. Holds new (started n job (with_jobs (jobs_from old.deck after) w))) (is_number ∙ sym held.number) (starts _ (takes w held))
+    λ w at_rest held. subst (λ n. Holds new (started n job (with_jobs (jobs_from old.deck after) w))) (is_number ∙ sym held.number) (starts _ (takes w held))
 taken_then_started (Err _) old taken new job after number is_number takes starts = tt
+
+-- no job at work was started with the old date and switches
+between_jobs : (deck : List (List ℕ)) (job : Option OpenJob) (before after : World) (meant : Option JobAtWork) → meant ≡ None
+    → HoldsAtWork deck job before meant → HoldsAtWork deck job after meant
+between_jobs deck None before after None at_rest held = held
+between_jobs deck (Some job) before after None at_rest held = held
+between_jobs deck None before after (Some meant) at_rest held = held
+between_jobs deck (Some job) before after (Some meant) at_rest held = absurd (none-some meant (sym at_rest))
+
+-- the settings of a job are made where no job is at work
+settings_held : (old new : Level) (job : Job)
+    → new ≡ record old { switches = switches_after job.switches old.switches; date = unwrap_or job.date old.date }
+    → (w : World) → w.job ≡ None → Holds old w → Holds new (with_settings job w)
+settings_held old new job is_new w at_rest held =
+    subst (λ level. Holds level (with_settings job w)) (sym is_new)
+    (record {
+      cards = held.cards;
+      jobs = held.jobs;
+      number = held.number;
+      library = held.library;
+      switches = ap (switches_after job.switches) held.switches;
+      date = ap (unwrap_or job.date) held.date;
+      job = between_jobs old.deck old.job w (with_settings job w) w.job at_rest held.job;
+      lines = held.lines;
+      halts = held.halts;
+    })
+
+-- a job that isn't faulty is taken, its settings are made, and it is performed under its number
+pub set_then_performed : {T E : Type 0} (result : Result T E) (old taken set new : Level) (job : Job) (after number : ℕ)
+    → number ≡ old.number
+    → Becomes (with_jobs (jobs_from old.deck after)) old taken
+    → set ≡ record taken { switches = switches_after job.switches taken.switches; date = unwrap_or job.date taken.date }
+    → OnOk result (Becomes (performed number job (data_of set.deck job)) set new)
+    → OnOk result (Starts (Ok job) after old new)
+set_then_performed (Ok _) old taken set new job after number is_number takes sets performs =
+    λ w at_rest held.
+    let begun : World = with_settings job (with_jobs (jobs_from old.deck after) w) in
+    let ready : Holds set begun = settings_held taken set job sets (with_jobs (jobs_from old.deck after) w) at_rest (takes w held) in
+    subst (λ n. Holds new (performed n job (data_of w.deck.cards job) begun)) (is_number ∙ sym held.number)
+    (subst (λ cards. Holds new (performed number job (data_of cards job) begun)) (sym ready.cards) (performs begun ready))
+set_then_performed (Err _) old taken set new job after number is_number takes sets performs = tt
+
+-- where no job begins none is left, else some is
+pub no_job_left : (deck : List (List ℕ)) (from : ℕ) → job_place deck from ≡ None → jobs_from deck from ≡ []
+no_job_left deck from none = elim (cases_lt (next_job deck from) (length deck)) [
+  | inl less ↦
+      let some : job_place deck from ≡ Some (next_job deck from) = rw (lt-ltb (next_job deck from) (length deck) less) refl in
+      absurd (none-some (next_job deck from) (sym none ∙ some))
+  | inr past ↦ jobs_from-none deck from past
+]
+
+pub some_job_left : (deck : List (List ℕ)) (from place : ℕ) → job_place deck from ≡ Some place → jobs_from deck from ≢ []
+some_job_left deck from place some empty = elim (cases_lt (next_job deck from) (length deck)) [
+  | inl less ↦ let same : _ ≡ [] = sym (jobs_from-next deck from less) ∙ empty in cc
+  | inr past ↦
+      let none : job_place deck from ≡ None = rw (le-ltb (next_job deck from) (length deck) past) refl in
+      absurd (none-some place (sym none ∙ some))
+]
+
+-- the job that a call gave is the next one, and the others stand behind it
+pub next_is : (deck : List (List ℕ)) (from : ℕ) (result : Result Job OclFault) → next_job deck from < length deck
+    → Gives result (job_at deck (next_job deck from)) → NextIs deck from result
+next_is deck from (Ok job) less gives = jobs_from-next deck from less ∙ ap (λ (next : Result Job FaultyJob). next ∷ jobs_from deck (place_after next)) gives
+next_is deck from (Err (Faulty faulty)) less gives = jobs_from-next deck from less ∙ ap (λ (next : Result Job FaultyJob). next ∷ jobs_from deck (place_after next)) gives
+next_is deck from (Err NoMemory) less gives = tt
+
+-- a job that doesn't compile runs the program that it names over its data
+pub program_performed : {T E : Type 0} (result : Result T E) (number : ℕ) (job : Job) (program : ProgramName) (from to : ℕ) (old new : Level)
+    → is_compile job ≡ false
+    → program ≡ job.program
+    → from ≡ job.data_from
+    → to ≡ job.data_to
+    → OnOk result (Becomes (λ w. run number (slice_range old.deck from to) (w.library (record { codes = program.codes })) w) old new)
+    → OnOk result (Becomes (performed number job (data_of old.deck job)) old new)
+program_performed (Ok _) number job program from to old new runs is_program is_from is_to performs =
+    λ w held.
+    let over : List (List ℕ) = data_of old.deck job in
+    let same : slice_range old.deck from to ≡ over = ap (λ n. slice_range old.deck n to) is_from ∙ ap (slice_range old.deck job.data_from) is_to in
+    subst (λ (compiles : Bool). Holds new (if compiles then compiled_data number job.data_from job.data_from over w else run number over (w.library (program_of job)) w)) (sym runs)
+    (subst (λ cards. Holds new (run number cards (w.library (program_of job)) w)) same
+    (subst (λ (named : ProgramName). Holds new (run number (slice_range old.deck from to) (w.library (record { codes = named.codes })) w)) is_program (performs w held)))
+program_performed (Err _) number job program from to old new runs is_program is_from is_to performs = tt
 
 -- a source without diagnostics is compiled: a program that stands for it is in the library
 pub compiled_source : {T E : Type 0} (result : Result T E) (number run_card from : ℕ) (cards : List (List ℕ)) (lines : List Line) (program : Program) (old new : Level)
@@ -37,7 +129,7 @@ pub compiled_source : {T E : Type 0} (result : Result T E) (number run_card from
     → compile_diagnostics run_card lines ≡ []
     → StandsFor program lines
     → OnOk result ((source : Source) → Stands program source → Becomes (stocked program.name source) old new)
-    → OnOk result (Becomes (started number (Compile run_card from cards)) old new)
+    → OnOk result (Becomes (compiled_data number run_card from cards) old new)
 compiled_source (Ok _) number run_card from cards lines program old new no_faults are_lines accepted stands stocks =
     let none : diagnostics_of run_card from cards ≡ [] =
     ap (λ found. unless_empty found (compile_diagnostics run_card (lines_of from cards))) no_faults
@@ -66,6 +158,7 @@ started_program (Ok _) number first end name program copy cycle old middle new f
     opened source stands w held =
         let runs = starts source (copies source stands) in
         record {
+          cards = held.cards;
           jobs = held.jobs;
           number = held.number;
           library = held.library;

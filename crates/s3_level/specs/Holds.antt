@@ -1,5 +1,5 @@
 -- What it is that a level holds a world.
-use Rattle.std.specs.Prelude.{◌≡◌, ℕ, List, slice_range, IsTrue, Option, Some, None, Result, Ok, Err}
+use Rattle.std.specs.Prelude.{◌≡◌, ℕ, List, ◌∷◌, slice_range, IsTrue, Option, Some, None, Result, Ok, Err}
 use Rattle.std.specs.declared.alloc.AllocError.{AllocError}
 use Rattle.indexmap.specs.IndexMap.{get}
 use Rattle.s3_sheets.specs.declared.name.Name.{Name}
@@ -13,7 +13,11 @@ use Rattle.s3_cycle.specs.Rest.{Follows, asked}
 use Rattle.s3_cycle.specs.declared.request.Request.{Request as ProgramRequest}
 use Rattle.s3_cycle.specs.declared.request.Answer.{Answer as ProgramAnswer}
 use Rattle.s3_cycle.specs.Requests.{request_of, is_fit}
-use Rattle.s3_ocl.specs.Stream.{Job, jobs_from}
+use Rattle.s3_ocl.specs.declared.faults.FaultyJob.{FaultyJob}
+use Rattle.s3_ocl.specs.declared.jobs.OclFault.{OclFault}
+use Rattle.s3_ocl.specs.declared.jobs.OclFault.TheVariants.{NoMemory, Faulty}
+use Rattle.s3_ocl.specs.Jobs.{Job}
+use Rattle.s3_ocl.specs.Streams.{jobs_from}
 use Rattle.s3_level.specs.declared.action.Action.{Action}
 use Rattle.s3_level.specs.declared.action.Action.TheVariants.{Turn}
 use Rattle.s3_level.specs.declared.action.Did.{Did}
@@ -45,6 +49,7 @@ HoldsAtWork _ _ _ _ = ⊥
 
 -- The level holds the world. It is a relation: programs and cycles stand for sources, and no answer is stored.
 pub record Holds (level : Level) (w : World) : Type 0 where
+  pub cards : w.deck.cards ≡ level.deck
   pub jobs : w.deck.jobs ≡ jobs_from level.deck level.next
   pub number : w.deck.number ≡ level.number
   pub library : (name : Name) → Stocks (get same_name level.library name) (w.library name)
@@ -99,14 +104,24 @@ Serves serve (Ok did) old new = (w : World) (job : JobAtWork) → w.job ≡ Some
 Serves serve (Err _) old new = (w : World) (job : JobAtWork) → w.job ≡ Some job → Holds old w → (serve job w).did ≡ Acted
 
 -- ---- the start of a job
+-- the next job of a deck, or its fault, unless memory ran out
+abbrev pub NextIs : List (List ℕ) → ℕ → Result Job OclFault → Type 0
+NextIs deck from (Ok job) = jobs_from deck from ≡ Ok job ∷ jobs_from deck job.after
+NextIs deck from (Err (Faulty faulty)) = jobs_from deck from ≡ Err faulty ∷ jobs_from deck faulty.after
+NextIs deck from (Err NoMemory) = Unit {0}
+
 -- each world that was held with no job at work begins its next job; memory runs out only where there is one
 abbrev pub Begins : Result Did AllocError → Level → Level → Type 0
 Begins (Ok did) old new = (w : World) → w.job ≡ None → Holds old w → (did ≡ (begun w.deck.jobs w).did) × Holds new (begun w.deck.jobs w).world
 Begins (Err _) old new = (w : World) → w.job ≡ None → Holds old w → (begun w.deck.jobs w).did ≡ Acted
 
--- each world that was held starts this job, the one before that place
-abbrev pub Starts : Job → ℕ → Level → Level → Type 0
-Starts job after old new = Becomes (λ w. started w.deck.number job (with_jobs (jobs_from old.deck after) w)) old new
+-- each world that was held with no job at work becomes this one
+abbrev pub AtRestBecomes : (World → World) → Level → Level → Type 0
+AtRestBecomes change old new = (w : World) → w.job ≡ None → Holds old w → Holds new (change w)
+
+-- each world that was held with no job at work starts this job, the one before that place
+abbrev pub Starts : Result Job FaultyJob → ℕ → Level → Level → Type 0
+Starts job after old new = AtRestBecomes (λ w. started w.deck.number job (with_jobs (jobs_from old.deck after) w)) old new
 
 -- ---- a turn
 -- each world that was held takes its turn; memory runs out only where it acts

@@ -1,5 +1,5 @@
 -- What the start of a job and each request of a job do to the world.
-use Rattle.std.specs.Prelude.{ℕ, List, [], ◌∷◌, ◌++◌, drop, map, Option, Some, None, if◌then◌else◌}
+use Rattle.std.specs.Prelude.{ℕ, ◌-◌, ◌^◌, Bool, true, false, List, [], ◌∷◌, ◌++◌, drop, map, slice_range, slice_index_or, sum_by, Option, Some, None, unwrap_or, Result, Ok, Err, if◌then◌else◌}
 use Rattle.s3_cards.specs.Printed.{Printed}
 use Rattle.s3_sheets.specs.declared.name.Name.{Name}
 use Rattle.s3_sheets.specs.declared.sheet.Line.{Line}
@@ -9,16 +9,19 @@ use Rattle.s3_sheets.specs.Sheets.{sheet_diagnostics}
 use Rattle.s3_meaning.specs.Names.{same_name}
 use Rattle.s3_meaning.specs.Source.{Source, source_of}
 use Rattle.s3_meaning.specs.Requests.{Request, Card, Print, Jump, Ask, End, Answer, Found, Nothing, Done}
+use Rattle.s3_meaning.specs.Environment.{switch_on}
 use Rattle.s3_meaning.specs.Cycle.{Req}
 use Rattle.s3_compile.specs.Diagnostics.{compile_diagnostics}
 use Rattle.s3_compile.specs.Compiles.{program_name}
-use Rattle.s3_ocl.specs.declared.StatementFault.{StatementFault}
-use Rattle.s3_ocl.specs.declared.StatementFault.TheVariants.{NotOcl, Keyword, Value, NoRun, Twice}
-use Rattle.s3_ocl.specs.Stream.{Job, Compile, Run, Faulty}
+use Rattle.s3_ocl.specs.declared.values.Switch.{Switch}
+use Rattle.s3_ocl.specs.declared.values.Switch.TheVariants.{On, Off, Leave}
+use Rattle.s3_ocl.specs.declared.faults.FaultyJob.{FaultyJob}
+use Rattle.s3_ocl.specs.Faults.{fault_number}
+use Rattle.s3_ocl.specs.Jobs.{Job, is_compile}
 use Rattle.s3_level.specs.declared.action.Did.{Did}
 use Rattle.s3_level.specs.declared.action.Did.TheVariants.{Acted, Idle}
 use Rattle.s3_level.specs.declared.halt_code.HaltCode.{HaltCode}
-use Rattle.s3_level.specs.declared.halt_code.HaltCode.TheVariants.{FaultyJob, NoProgram, FaultySource, Program}
+use Rattle.s3_level.specs.declared.halt_code.HaltCode.TheVariants.{FaultyJob as FaultyStatements, NoProgram, FaultySource, Program}
 use Rattle.s3_level.specs.Parts.{has_room, with_line, with_halt}
 use Rattle.s3_level.specs.World.{World, JobAtWork, number_after}
 
@@ -106,22 +109,58 @@ abbrev pub run : ℕ → List (List ℕ) → Option Source → World → World
 run number cards None w = halting number NoProgram [] w
 run number cards (Some source) w = at_work (record { number = number; source = source; cards = cards; past = [] }) w
 
-abbrev pub fault_number : StatementFault → ℕ
-fault_number NotOcl = 1
-fault_number Keyword = 2
-fault_number Value = 3
-fault_number NoRun = 4
-fault_number Twice = 5
+-- the program that a job names
+abbrev pub program_of : Job → Name
+program_of job = record { codes = job.program.codes }
 
-abbrev pub started : ℕ → Job → World → World
-started number (Compile run_card from cards) w = compiled number (lines_of from cards) (diagnostics_of run_card from cards) w
-started number (Run name cards) w = run number cards (w.library (record { codes = name })) w
-started number (Faulty fault card) w = halting number FaultyJob ((card, fault_number fault) ∷ []) w
+-- the data of a job: the cards behind its RUN card
+abbrev pub data_of : List (List ℕ) → Job → List (List ℕ)
+data_of deck job = slice_range deck job.data_from job.data_to
+
+-- the source on these cards, the first at a place, is compiled
+abbrev pub compiled_data : (number run_card from : ℕ) → List (List ℕ) → World → World
+compiled_data number run_card from cards w = compiled number (lines_of from cards) (diagnostics_of run_card from cards) w
+
+-- a job compiles its data, or starts a program over them. The number of its RUN card is the place of the card behind it.
+abbrev pub performed : ℕ → Job → List (List ℕ) → World → World
+performed number job cards w =
+    if is_compile job
+    then compiled_data number job.data_from job.data_from cards w
+    else run number cards (w.library (program_of job)) w
+
+-- ---- date and switches
+-- a switch that was on or off, after what a job does with it
+abbrev pub is_on_after : Switch → Bool → Bool
+is_on_after On was_on = true
+is_on_after Off was_on = false
+is_on_after Leave was_on = was_on
+
+-- what a job does with one of U1 to U8
+abbrev pub switch_of : List Switch → ℕ → Switch
+switch_of switches n = slice_index_or switches (n - 1) Leave
+
+-- the bit of one of U1 to U8 after what a job does with it, where it is on
+abbrev pub bit_after : List Switch → ℕ → ℕ → ℕ
+bit_after switches was n = if is_on_after (switch_of switches n) (switch_on was n) then 2 ^ (8 - n) else 0
+
+-- U1 to U8 after what a job does with each
+abbrev pub switches_after : List Switch → ℕ → ℕ
+switches_after switches was = sum_by (bit_after switches was) (1 ∷ 2 ∷ 3 ∷ 4 ∷ 5 ∷ 6 ∷ 7 ∷ 8 ∷ [])
+
+-- the date is the job's, if it gives one, and each switch as the job sets it; both stay for later jobs
+abbrev pub with_settings : Job → World → World
+with_settings job w = record w { switches = switches_after job.switches w.switches; date = unwrap_or job.date w.date }
+
+-- ---- the next job
+-- a job that isn't faulty sets date and switches, whatever it halts for then; a faulty job sets nothing and halts
+abbrev pub started : ℕ → Result Job FaultyJob → World → World
+started number (Ok job) w = performed number job (data_of w.deck.cards job) (with_settings job w)
+started number (Err faulty) w = halting number FaultyStatements ((faulty.card, fault_number faulty.fault) ∷ []) w
 
 -- the next job of the deck is taken
-abbrev pub with_jobs : List Job → World → World
-with_jobs jobs w = record w { deck = record { jobs = jobs; number = number_after w.deck.number } }
+abbrev pub with_jobs : List (Result Job FaultyJob) → World → World
+with_jobs jobs w = record w { deck = record w.deck { jobs = jobs; number = number_after w.deck.number } }
 
-abbrev pub begun : List Job → World → Outcome
+abbrev pub begun : List (Result Job FaultyJob) → World → Outcome
 begun [] w = idle w
 begun (job ∷ jobs) w = acted (started w.deck.number job (with_jobs jobs w))

@@ -1,14 +1,18 @@
--- The world of one level. It knows no place in a deck, no slot of a program, and nothing of the other level.
-use Rattle.std.specs.Prelude.{ℕ, ◌+◌, ◌==◌, List, [], replicate, Option, None, if◌then◌else◌}
+-- The world of one level. It knows no slot of a program, and nothing of the other level.
+use Rattle.std.specs.Prelude.{ℕ, ◌+◌, ◌==◌, List, [], replicate, Option, None, Result, if◌then◌else◌}
 use Rattle.s3_sheets.specs.declared.name.Name.{Name}
 use Rattle.s3_meaning.specs.Source.{Source}
 use Rattle.s3_meaning.specs.Requests.{Answer}
-use Rattle.s3_ocl.specs.Stream.{Job, jobs_from}
+use Rattle.s3_ocl.specs.declared.faults.FaultyJob.{FaultyJob}
+use Rattle.s3_ocl.specs.Jobs.{Job}
+use Rattle.s3_ocl.specs.Streams.{jobs_from}
 use Rattle.s3_level.specs.Parts.{Lines, no_lines, ShownHalt}
 
--- the jobs of the deck that are not begun, and the number of the next one
+-- the cards of the deck, its jobs that are not begun, and the number of the next one. A job has its data by their places
+-- among the cards, which never change.
 pub record JobsLeft : Type 0 where
-  pub jobs : List Job
+  pub cards : List (List ℕ)
+  pub jobs : List (Result Job FaultyJob)
   pub number : ℕ
 
 -- the job at work: its number, its source, its data cards not yet read, and what its requests were answered so far
@@ -33,7 +37,7 @@ pub record World : Type 0 where
 abbrev pub at_start : List (List ℕ) → World
 at_start deck =
     record {
-      deck = record { jobs = jobs_from deck 0; number = 1 };
+      deck = record { cards = deck; jobs = jobs_from deck 0; number = 1 };
       library = λ name. None;
       switches = 0;
       date = replicate 6 0xf0;

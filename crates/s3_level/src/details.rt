@@ -1,23 +1,9 @@
 //! The details of a halt: numbers of cards, each with the number of what is wrong there.
 ghost use Rattle.std.specs.Prelude.{◌≡◌, [], ◌∷◌, IfOk};
-ghost use Rattle.s3_level.specs.Serving.{details_of, fault_number};
+ghost use Rattle.s3_level.specs.Serving.{details_of};
 
-use s3_ocl::StatementFault;
 use s3_sheets::Diagnostic;
 use std::alloc::{AllocError, Global};
-
-/// The number of a fault, 1 to 5.
-pub fn fault_number(fault: StatementFault) -> u8
-    ensures { result ≡ fault_number fault }
-{
-    match fault {
-        StatementFault::NotOcl => 1,
-        StatementFault::Keyword => 2,
-        StatementFault::Value => 3,
-        StatementFault::NoRun => 4,
-        StatementFault::Twice => 5,
-    }
-}
 
 /// The details of one card at fault.
 pub fn one_detail(alloc: Global, card: u16, number: u8) -> Result<Vec<(u16, u8)>, AllocError>

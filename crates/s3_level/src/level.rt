@@ -3,18 +3,19 @@
 ghost use Rattle.std.specs.Prelude.{◌≤◌};
 
 use crate::action::{Did, Stop};
-use crate::details::{details_of, fault_number, one_detail};
+use crate::details::{details_of, one_detail};
 use crate::halt::Halt;
 use crate::halt_code::HaltCode;
 use crate::halt_log::HaltLog;
 use crate::job::OpenJob;
 use crate::printed_lines::PrintedLines;
+use crate::switches::switches_after;
 use indexmap::IndexMap;
 use s3_cards::ebcdic::DIGIT_0;
 use s3_cards::{Deck, LevelId, PrintLine};
 use s3_compile::{CompileFault, Program, compile};
 use s3_cycle::{Answer, Cycle, Request};
-use s3_ocl::{JobCards, JobKind, OclFault, StatementFault, job_at, split};
+use s3_ocl::{FaultyJob, JobCards, OclFault, job_at, split};
 use s3_sheets::name::Name;
 use s3_sheets::{Diagnostic, SheetFault, read_sheets};
 use std::alloc::{AllocError, Global};
@@ -45,22 +46,23 @@ const NO_DATE: [u8; 6] = [DIGIT_0; 6];
 const LAST_NUMBER: u16 = 999;
 
 impl Level {
-    ghost use Rattle.std.specs.Prelude.{◌≡◌, map, slice_range, IfErr, IfOk, IsTrue, OnOk};
+    ghost use Rattle.std.specs.Prelude.{◌≡◌, ◌≢◌, ◌<◌, [], true, false, nat_lt, length, map, slice_range, unwrap_or, IfErr, IfOk, IsTrue, OnOk};
     ghost use Rattle.s3_meaning.specs.Source.{Source};
     ghost use Rattle.s3_meaning.specs.Requests as Meant;
     ghost use Rattle.s3_cycle.specs.declared.request.Request.TheVariants.{Card, Print};
     ghost use Rattle.s3_compile.specs.Stands.{Stands};
     ghost use Rattle.s3_cycle.specs.Requests.{answer_of, is_fit};
-    ghost use Rattle.s3_ocl.specs.Stream.{Compile, Faulty, job_of, jobs_from, IsWithin};
+    ghost use Rattle.s3_ocl.specs.Jobs.{next_job};
+    ghost use Rattle.s3_ocl.specs.Streams.{jobs_from};
     ghost use Rattle.s3_level.specs.declared.action.Action.TheVariants.{Turn, Reply, Drain};
     ghost use Rattle.s3_level.specs.declared.action.Did.TheVariants.{Acted, Idle};
     ghost use Rattle.s3_level.specs.declared.halt_code.HaltCode.TheVariants.{FaultySource};
     ghost use Rattle.s3_level.specs.declared.action.Stop.TheVariants.{NoMemory};
     ghost use Rattle.s3_level.specs.Parts.{drained_lines, halt_of, with_line};
     ghost use Rattle.s3_level.specs.World.{World, JobAtWork, at_start};
-    ghost use Rattle.s3_level.specs.Serving.{answered, asking, card_answer, details_of, halting, job_ended, line_printed, pending, run, served, started, stocked, with_answer, with_card_read, with_jobs};
+    ghost use Rattle.s3_level.specs.Serving.{answered, asking, card_answer, compiled_data, data_of, details_of, halting, job_ended, line_printed, pending, performed, run, served, started, stocked, switches_after, with_answer, with_card_read, with_jobs};
     ghost use Rattle.s3_level.specs.Solo.{step_of, closed};
-    ghost use Rattle.s3_level.specs.Holds.{Holds, Becomes, Steps, Stays, Pends, request_by, FitsJob, AsksFor, AtWorkBecomes, Serves, Begins, Starts, Turns};
+    ghost use Rattle.s3_level.specs.Holds.{Holds, Becomes, Steps, Stays, Pends, request_by, FitsJob, AsksFor, AtWorkBecomes, Serves, NextIs, Begins, Starts, Turns};
 
     /// A level with this deck, before its first entry.
     pub fn new(alloc: Global, id: LevelId, deck: Deck) -> Result<Level, AllocError>
@@ -304,15 +306,35 @@ impl Level {
         ensures world { Begins result self.old self.new }
         ensures stays { Stays self.old self.new }
     {
-        if job_at(&self.deck, self.next).is_none() {
+        if !self.has_job() {
             return Ok(Did::Idle);
         }
-        match split(self.alloc, &self.deck, self.next) {
-            Ok(cards) => self.start(&cards)?,
+        match self.next_job() {
+            Ok(job) => self.start(&job)?,
             Err(OclFault::NoMemory) => return Err(AllocError),
-            Err(OclFault::Faulty(fault, card, after)) => { self.refuse(fault, card, after)? }
+            Err(OclFault::Faulty(faulty)) => self.refuse(faulty)?,
         }
         Ok(Did::Acted)
+    }
+
+    #[tactic(auto, using(crate::proofs::Starting::no_job_left, crate::proofs::Starting::some_job_left))]
+    /// Whether a job is left.
+    fn has_job(&self) -> bool
+        ensures next { result ≡ nat_lt (next_job self.now.deck self.now.next) (length self.now.deck) }
+        ensures none { result ≡ false → jobs_from self.now.deck self.now.next ≡ [] }
+        ensures some { result ≡ true → jobs_from self.now.deck self.now.next ≢ [] }
+    {
+        job_at(&self.deck, self.next).is_some()
+    }
+
+    #[tactic(auto, using(crate::proofs::Starting::next_is))]
+    /// The next job, or its fault.
+    fn next_job(&self) -> Result<JobCards, OclFault>
+        requires { next_job self.now.deck self.now.next < length self.now.deck }
+        ensures job { NextIs self.now.deck self.now.next result }
+        ensures within { IfOk result (λ job. job.data_to ≤ length self.now.deck) }
+    {
+        split(self.alloc, &self.deck, self.next)
     }
 
     /// Takes the next job, which ends before that place, and answers its number.
@@ -328,65 +350,79 @@ impl Level {
     }
 
     /// Passes a faulty job over and shows its fault.
-    fn refuse(&mut self, fault: StatementFault, card: u16, after: usize) -> Result<(), AllocError>
-        ensures world { OnOk result (Starts (Faulty fault card) after self.old self.new) }
+    fn refuse(&mut self, faulty: FaultyJob) -> Result<(), AllocError>
+        ensures world { OnOk result (Starts (Err faulty) faulty.after self.old self.new) }
         ensures stays { Stays self.old self.new }
     {
-        let number = self.take_job(after);
-        self.show_fault(number, fault, card)
+        let number = self.take_job(faulty.after);
+        self.show_fault(number, faulty)
     }
 
     /// Shows the fault of a job's statements.
-    fn show_fault(
-        &mut self,
-        number: u16,
-        fault: StatementFault,
-        card: u16,
-    ) -> Result<(), AllocError>
-        ensures world { OnOk result (Becomes (started number (Faulty fault card)) self.old self.new) }
+    fn show_fault(&mut self, number: u16, faulty: FaultyJob) -> Result<(), AllocError>
+        ensures world { OnOk result (Becomes (started number (Err faulty)) self.old self.new) }
         ensures stays { Stays self.old self.new }
     {
-        let details = one_detail(self.alloc, card, fault_number(fault))?;
+        let details = one_detail(self.alloc, faulty.card, faulty.fault.number())?;
         self.show(number, HaltCode::FaultyJob, details)
     }
 
-    #[tactic(auto, using(crate::proofs::Starting::taken_then_started))]
-    /// Starts the next job, which has these cards.
-    fn start(&mut self, cards: &JobCards) -> Result<(), AllocError>
-        requires { IsWithin self.old.deck cards.now }
-        ensures world { OnOk result (Starts (job_of self.old.deck cards.now) cards.now.after self.old self.new) }
+    /// Starts the next job.
+    fn start(&mut self, job: &JobCards) -> Result<(), AllocError>
+        requires { job.now.data_to ≤ length self.old.deck }
+        ensures world { OnOk result (Starts (Ok job.now) job.now.after self.old self.new) }
         ensures stays { Stays self.old self.new }
     {
-        let number = self.take_job(cards.after);
-        self.perform(number, cards)
+        let number = self.take_job(job.after());
+        self.set(job);
+        self.perform(number, job)
+    }
+
+    /// Sets date and switches as a job does.
+    fn set(&mut self, job: &JobCards)
+        ensures value { self.new ≡ record self.old { switches = switches_after job.now.switches self.old.switches; date = unwrap_or job.now.date self.old.date } }
+        ensures stays { Stays self.old self.new }
+    {
+        self.switches = switches_after(self.switches, job.switches());
+        self.date = job.date().unwrap_or(self.date);
     }
 
     /// Compiles a job's source, or starts its program.
-    fn perform(&mut self, number: u16, cards: &JobCards) -> Result<(), AllocError>
-        requires { IsWithin self.old.deck cards.now }
-        ensures world { OnOk result (Becomes (started number (job_of self.old.deck cards.now)) self.old self.new) }
+    fn perform(&mut self, number: u16, job: &JobCards) -> Result<(), AllocError>
+        requires { job.now.data_to ≤ length self.old.deck }
+        ensures world { OnOk result (Becomes (performed number job.now (data_of self.old.deck job.now)) self.old self.new) }
         ensures stays { Stays self.old self.new }
     {
-        match cards.kind {
-            JobKind::Compile => self.compile(number, cards),
-            JobKind::Run(codes) => self.run(number, Name { codes }, cards),
+        let from = job.data_from();
+        let to = job.data_to();
+        if job.is_compile() {
+            return self.compile(number, job.run_card(), from, to);
         }
+        let codes = job.program().codes;
+        self.run(number, Name { codes }, from, to)
     }
 
-    /// Compiles a job's source into the library, or shows its diagnostics.
-    fn compile(&mut self, number: u16, cards: &JobCards) -> Result<(), AllocError>
-        requires { IsWithin self.old.deck cards.now }
-        ensures world { OnOk result (Becomes (started number (Compile cards.now.run_card cards.now.first (slice_range self.old.deck cards.now.first cards.now.end))) self.old self.new) }
+    /// Compiles the source between two places into the library, or shows its diagnostics.
+    fn compile(
+        &mut self,
+        number: u16,
+        run_card: u16,
+        from: usize,
+        to: usize,
+    ) -> Result<(), AllocError>
+        requires order { from ≤ to }
+        requires within { to ≤ length self.old.deck }
+        ensures world { OnOk result (Becomes (compiled_data number run_card from (slice_range self.old.deck from to)) self.old self.new) }
         ensures stays { Stays self.old self.new }
     {
-        let lines = match read_sheets(self.alloc, &self.deck, cards.first, cards.end) {
+        let lines = match read_sheets(self.alloc, &self.deck, from, to) {
             Ok(lines) => lines,
             Err(SheetFault::NoMemory) => return Err(AllocError),
             Err(SheetFault::Diagnostics(found)) => {
                 return self.show_diagnostics(number, &found);
             }
         };
-        match compile(self.alloc, &lines, cards.run_card) {
+        match compile(self.alloc, &lines, run_card) {
             Ok(program) => self.stock(program),
             Err(CompileFault::NoMemory) => Err(AllocError),
             Err(CompileFault::Diagnostics(found)) => { self.show_diagnostics(number, &found) }
@@ -413,9 +449,9 @@ impl Level {
         Ok(())
     }
 
-    /// Starts a program of the library over a job's data cards.
-    fn run(&mut self, number: u16, name: Name, cards: &JobCards) -> Result<(), AllocError>
-        ensures world { OnOk result (Becomes (λ w. run number (slice_range self.old.deck cards.now.first cards.now.end) (w.library name) w) self.old self.new) }
+    /// Starts a program of the library over the data cards between two places.
+    fn run(&mut self, number: u16, name: Name, from: usize, to: usize) -> Result<(), AllocError>
+        ensures world { OnOk result (Becomes (λ w. run number (slice_range self.old.deck from to) (w.library name) w) self.old self.new) }
         ensures stays { Stays self.old self.new }
     {
         let Some(program) = self.library.get(&name) else {
@@ -426,8 +462,8 @@ impl Level {
         self.open(OpenJob {
             number,
             cycle,
-            next: cards.first,
-            end: cards.end,
+            next: from,
+            end: to,
         });
         self.show_asked()
     }

@@ -1,2 +1,10 @@
+pub mod BoundLemmas
+pub mod FaultLemmas
+pub mod JobLemmas
 pub mod NameLemmas
+pub mod NumberLemmas
+pub mod PartLemmas
+pub mod PieceLemmas
+pub mod SoundLemmas
 pub mod StreamLemmas
+pub mod SwitchLemmas

@@ -1,222 +1,121 @@
--- The stream of jobs, one job after another.
-use Rattle.std.proofs.Common.{◌≡◌, ◌≢◌, ◌<◌, ◌≤◌, ◌+◌, ◌-◌, ℕ, zero, suc, min, Bool, true, false, nat_lt, List, [], ◌∷◌, length, drop, length-drop, refl, arith, sym, ◌∙◌, ap, subst, Option, Some, None, slice_get, ◌==◌, if◌then◌else◌}
-use Rattle.std.specs.List.{position_or_len}
-use Rattle.std.proofs.lemmas.Bool.Decides.{nat_tests}
-use Rattle.std.proofs.lemmas.Option.{slice_get_within}
-use Rattle.s3_ocl.specs.Cards.{next_place as place_of, begins_job, is_separator, closes_job, is_job_end}
-use Rattle.s3_ocl.specs.declared.opening.Opening.{Opening}
-use Rattle.s3_ocl.specs.declared.opening.Opening.TheVariants.{Opens, Fails}
-use Rattle.s3_ocl.specs.declared.names.Name.{Name}
-use Rattle.s3_ocl.specs.declared.opening.Said.{Said}
-use Rattle.s3_ocl.specs.declared.opening.Said.TheVariants.{Load, Run, Wrong}
-use Rattle.s3_ocl.specs.Opening.{opening_at, opening_of, opening_by, behind_load_at, behind_load, said, IsPlaced}
-use Rattle.s3_ocl.specs.declared.opening.StatementFault.{StatementFault}
-use Rattle.s3_ocl.specs.declared.job.JobCards.{JobCards}
-use Rattle.s3_ocl.specs.Stream.{Job, Faulty, IsWithin, job_of, job_cards_of, job_opened, after_fault, jobs_within, jobs_from, beginning, behind, is_job_end_at, data_end, after_data, after_opening, job_beginning_at, after_job_at}
+-- Lemmas on job streams.
+use Rattle.std.proofs.Common.{◌≡◌, ℕ, ◌+◌, ◌-◌, ◌<◌, ◌≤◌, List, [], ◌∷◌, ◌++◌, Bool, true, false, cond, refl, sym, ap, subst, inl, inr, arith, length, drop, zero, suc, lt-ltb, le-ltb, length-append}
+use Rattle.std.proofs.lemmas.List.Sums.{sum_by-cons}
+use Rattle.std.specs.Prelude.{Option, Some, None, Result, slice_get}
+use Rattle.std.proofs.lemmas.Bool.{cases_lt}
+use Rattle.s3_ocl.specs.declared.faults.FaultyJob.{FaultyJob}
+use Rattle.s3_ocl.specs.declared.faults.Mark.{Mark}
+use Rattle.s3_ocl.specs.declared.parameters.Verb.TheVariants.{Run}
+use Rattle.s3_ocl.specs.Cards.{is_statement, is_job_end, is_separator, closes_job, next_place}
+use Rattle.s3_ocl.specs.Statements.{Statement, statement_at, statements_within, is_verb}
+use Rattle.s3_ocl.specs.Contents.{has}
+use Rattle.s3_ocl.specs.Faults.{first_fault, faults_behind}
+use Rattle.s3_ocl.specs.Jobs.{Job, job_at, job_end, job_or_fault, holds_at, heading_at, cards_of, stop_fault, stop_faults, faulty_end, behind, next_job, place_after}
+use Rattle.s3_ocl.specs.Streams.{Stream, ends, next, jobs_within, jobs_from, OneStream}
+use Rattle.s3_ocl.proofs.BoundLemmas.{each-append, each_later}
+use Rattle.s3_ocl.proofs.JobLemmas.{On, first_on, each_stop, no_faults, statement_cards}
 
--- without a beginning there are no jobs
-pub none_within : (n : ℕ) (deck : List (List ℕ)) (from : ℕ) → nat_lt (beginning deck from) (length deck) ≡ false → jobs_within n deck from ≡ []
+after_faulty : (cards : List (List ℕ)) (place number : ℕ) → place < number → place < length cards → place < faulty_end cards number
+after_faulty cards place number low within = go (next_place is_job_end cards (number - 1)) (omega arith)
+  where
+    go : (end : ℕ) → number - 1 ≤ end → place < behind cards end
+    go end reached = elim (cases_lt end (length cards)) [
+      | inl less ↦ rw (lt-ltb _ _ less) (omega arith)
+      | inr past ↦ rw (le-ltb _ _ past) (omega arith)
+    ]
+
+after_job : (cards : List (List ℕ)) (place : ℕ) → place ≤ job_end cards place
+after_job cards place = go (next_place closes_job cards place) (holds_at is_job_end (slice_get cards (next_place closes_job cards place))) (omega arith)
+  where
+    go : (close : ℕ) (t : Bool) → place ≤ close → place ≤ cond t (close + 1) close
+    go close true reached = omega arith
+    go close false reached = reached
+
+-- the faults of the job that begins at a place are on cards behind it
+faults_on : (cards : List (List ℕ)) (place : ℕ) → place < length cards
+    → On (λ k. place < k) (first_fault (faults_behind [] (heading_at cards place) ++ stop_faults cards (heading_at cards place) (place + cards_of (heading_at cards place))))
+faults_on cards place within =
+    first_on (λ k. place < k) (faults_behind [] (heading_at cards place) ++ stop_faults cards (heading_at cards place) (place + cards_of (heading_at cards place)))
+    (each-append (λ k. place < k) (faults_behind [] (heading_at cards place)) (stop_faults cards (heading_at cards place) (place + cards_of (heading_at cards place)))
+    (each_later (λ k. place < k) (length (drop place cards)) (place + 1) (drop place cards) [] (λ k low. omega arith))
+    (each_stop (λ k. place < k) cards (heading_at cards place) (place + cards_of (heading_at cards place)) within (omega arith)))
+
+-- a job without a fault has a RUN
+has_run : (cards : List (List ℕ)) (heading : List Statement) (end : ℕ) → first_fault (faults_behind [] heading ++ stop_faults cards heading end) ≡ None → has Run heading ≡ true
+has_run cards heading end h = go (has Run heading) refl (no_faults (faults_behind [] heading ++ stop_faults cards heading end) h)
+  where
+    go : (t : Bool) → has Run heading ≡ t → faults_behind [] heading ++ cond (has Run heading) [] (stop_fault cards end (slice_get cards end) ∷ []) ≡ [] → has Run heading ≡ true
+    go true e none = e
+    go false e none =
+        let rest : faults_behind [] heading ++ stop_fault cards end (slice_get cards end) ∷ [] ≡ [] =
+        subst (λ (t : Bool). faults_behind [] heading ++ cond t [] (stop_fault cards end (slice_get cards end) ∷ []) ≡ []) e none in
+        absurd (omega (arith, ap length rest, length-append (faults_behind [] heading) (stop_fault cards end (slice_get cards end) ∷ [])))
+
+some_cards : (turns number : ℕ) (cards : List (List ℕ)) → has Run (statements_within turns number cards) ≡ true → 0 < cards_of (statements_within turns number cards)
+unfolding statements_within
+some_cards zero number cards h = cc
+some_cards (suc turns) number [] h = cc
+some_cards (suc turns) number (card ∷ cards) h = go (is_statement card) h
+  where
+    go : (t : Bool) → has Run (cond t (statement_at number card cards ∷ cond (is_verb Run (statement_at number card cards).verb) [] (statements_within turns (number + (statement_at number card cards).cards) (drop (statement_at number card cards).cards (card ∷ cards)))) []) ≡ true
+        → 0 < cards_of (cond t (statement_at number card cards ∷ cond (is_verb Run (statement_at number card cards).verb) [] (statements_within turns (number + (statement_at number card cards).cards) (drop (statement_at number card cards).cards (card ∷ cards)))) [])
+    go true h =
+        omega (
+          arith,
+          statement_cards number card cards,
+          sum_by-cons (λ (s : Statement). s.cards) (statement_at number card cards)
+              (cond (is_verb Run (statement_at number card cards).verb) [] (statements_within turns (number + (statement_at number card cards).cards) (drop (statement_at number card cards).cards (card ∷ cards)))),
+        )
+    go false h = cc
+
+-- a job ends behind the place where it begins
+pub after_place : (cards : List (List ℕ)) (place : ℕ) → place < length cards → place < place_after (job_at cards place)
+unfolding job_at
+after_place cards place within = go _ refl (faults_on cards place within)
+  where
+    go : (o : Option Mark) → first_fault (faults_behind [] (heading_at cards place) ++ stop_faults cards (heading_at cards place) (place + cards_of (heading_at cards place))) ≡ o
+        → On (λ k. place < k) o → place < place_after (job_or_fault cards (heading_at cards place) (place + cards_of (heading_at cards place)) o)
+    go None e on =
+        let some = some_cards (length (drop place cards)) (place + 1) (drop place cards) (has_run cards (heading_at cards place) (place + cards_of (heading_at cards place)) e) in
+        let ended = after_job cards (next_place is_separator cards (place + cards_of (heading_at cards place))) in
+        omega arith
+    go (Some mark) e on = after_faulty cards place mark.card on within
+
+stream_within : (turns : ℕ) (cards : List (List ℕ)) (from : ℕ) → length cards ≤ from + turns → Stream cards from (jobs_within turns cards from)
 unfolding jobs_within
-none_within zero deck from none = refl
-none_within (suc n) deck from none = rw none refl
+stream_within zero cards from enough = ends from (omega arith)
+stream_within (suc turns) cards from enough = elim (cases_lt (next_job cards from) (length cards)) [
+  | inl less ↦
+      subst (λ (t : Bool). Stream cards from (cond t (job_at cards (next_job cards from) ∷ jobs_within turns cards (place_after (job_at cards (next_job cards from)))) []))
+      (sym (lt-ltb (next_job cards from) (length cards) less))
+      (next from (jobs_within turns cards (place_after (job_at cards (next_job cards from)))) less
+      (stream_within turns cards (place_after (job_at cards (next_job cards from))) (omega (arith, after_place cards (next_job cards from) less))))
+  | inr past ↦
+      subst (λ (t : Bool). Stream cards from (cond t (job_at cards (next_job cards from) ∷ jobs_within turns cards (place_after (job_at cards (next_job cards from)))) []))
+      (sym (le-ltb (next_job cards from) (length cards) past)) (ends from past)
+]
 
-pub no_jobs : (deck : List (List ℕ)) (from : ℕ) → nat_lt (beginning deck from) (length deck) ≡ false → jobs_from deck from ≡ []
-unfolding jobs_from
-no_jobs deck from none = none_within (length deck - from) deck from none
+-- the jobs from a place on are a stream
+pub stream_from : (cards : List (List ℕ)) (from : ℕ) → Stream cards from (jobs_from cards from)
+stream_from cards from = stream_within (length cards) cards from (omega arith)
 
-pub past_end : (deck : List (List ℕ)) (from : ℕ) → length deck < from → jobs_from deck from ≡ []
-unfolding jobs_from jobs_within
-past_end deck from past = none (length deck - from) (omega arith)
-  where
-    none : (n : ℕ) → n ≡ 0 → jobs_within n deck from ≡ []
-    none zero is = refl
-    none (suc n) is = absurd (omega arith)
+-- and there is no other
+pub only_stream : (cards : List (List ℕ)) (from : ℕ) (xs ys : List (Result Job FaultyJob)) → Stream cards from xs → Stream cards from ys → xs ≡ ys
+only_stream cards _ _ _ (ends from h) (ends _ g) = refl
+only_stream cards _ _ _ (ends from h) (next _ jobs g more) = absurd (omega arith)
+only_stream cards _ _ _ (next from jobs h more) (ends _ g) = absurd (omega arith)
+only_stream cards _ _ _ (next from jobs h more) (next _ others g rest) =
+    ap (λ (js : List (Result Job FaultyJob)). job_at cards (next_job cards from) ∷ js) (only_stream cards (place_after (job_at cards (next_job cards from))) jobs others more rest)
 
--- a place that is sought is not before where the search begins
-pub behind_from : (deck : List (List ℕ)) (place : ℕ) → place ≤ behind deck place
-behind_from deck place = on (is_job_end_at (slice_get deck place))
-  where
-    on : (ends : Bool) → place ≤ (if ends then place + 1 else place)
-    on true = omega arith
-    on false = omega arith
+pub one_stream : OneStream
+one_stream cards from = (stream_from cards from, λ jobs s. only_stream cards from jobs (jobs_from cards from) s (stream_from cards from))
 
--- a job takes a card at least
-pub after_later : (deck : List (List ℕ)) (place : ℕ) (opening : Opening) → IsPlaced deck place opening → place < after_opening deck place opening
-after_later deck place (Opens name) placed = later (place_of closes_job deck (data_end deck (place + 2))) (behind_from deck _) (far _ _)
-  where
-    far : (a b : ℕ) → place + 2 ≤ (place + 2 + a) + b
-    far a b = omega arith
+-- where no job begins there are none
+pub jobs_from-none : (cards : List (List ℕ)) (from : ℕ) → length cards ≤ next_job cards from → jobs_from cards from ≡ []
+jobs_from-none cards from past = only_stream cards from (jobs_from cards from) [] (stream_from cards from) (ends from past)
 
-    later : (n : ℕ) → n ≤ behind deck n → place + 2 ≤ n → place < behind deck n
-    later n behind_n far_n = omega arith
-after_later deck place (Fails fault at) placed = later (position_or_len is_job_end (drop at deck)) (length deck) placed
-  where
-    later : (a n : ℕ) → (place ≤ at) × (at < n) → place < min ((at + a) + 1) n
-    later a n placed = grind (arith)
-
--- a job that opens has both its cards, and a fault is on one of them
-pub opening_placed : (deck : List (List ℕ)) (place : ℕ) → place < length deck → IsPlaced deck place (opening_at deck place)
-unfolding opening_at
-opening_placed deck place within = on (slice_get deck place)
-  where
-    here : (place ≤ place) × (place < length deck)
-    here = (omega arith, within)
-
-    third : (name : Name) (s : Said) → place + 1 < length deck → IsPlaced deck place (behind_load name place (place + 2 == length deck) s)
-    third name Run next = omega arith
-    third name (Wrong fault) next = (omega arith, next)
-    third name (Load other) next = (omega arith, next)
-
-    second : (name : Name) (card : Option (List ℕ)) → slice_get deck (place + 1) ≡ card → IsPlaced deck place (behind_load_at name deck place card)
-    second name None is = here
-    second name (Some card) is = third name (said card) (slice_get_within deck (place + 1) card is)
-
-    by : (s : Said) → IsPlaced deck place (opening_by deck place s)
-    by (Load name) = second name (slice_get deck (place + 1)) refl
-    by Run = here
-    by (Wrong fault) = here
-
-    on : (card : Option (List ℕ)) → IsPlaced deck place (opening_of deck place card)
-    on (Some card) = by (said card)
-    on None = here
-
-pub job_later : (deck : List (List ℕ)) (place : ℕ) → place < length deck → place < after_job_at deck place
-job_later deck place within = after_later deck place (opening_at deck place) (opening_placed deck place within)
-
--- beyond the last card nothing begins
-pub nothing_begins : (deck : List (List ℕ)) (from : ℕ) → length deck - from ≤ 0 → nat_lt (beginning deck from) (length deck) ≡ false
-nothing_begins deck from past = on (position_or_len begins_job (drop from deck)) past
-  where
-    on : (n : ℕ) → length deck - from ≤ 0 → nat_lt (from + n) (length deck) ≡ false
-    on n past = grind (arith, nat_tests)
-
--- the first of so many jobs
-pub first_job : (n : ℕ) (deck : List (List ℕ)) (from : ℕ) → nat_lt (beginning deck from) (length deck) ≡ true
-    → jobs_within (suc n) deck from ≡ job_beginning_at deck (beginning deck from) ∷ jobs_within n deck (after_job_at deck (beginning deck from))
-unfolding jobs_within
-first_job n deck from some = rw some refl
-
-pub begins_at : (deck : List (List ℕ)) (from : ℕ) → nat_lt (beginning deck from) (length deck) ≡ true → beginning deck from < length deck
-begins_at deck from some = on (beginning deck from) (length deck) some
-  where
-    on : (a b : ℕ) → nat_lt a b ≡ true → a < b
-    on a b is = grind (arith, nat_tests)
-
-pub begins_test : (deck : List (List ℕ)) (from : ℕ) → beginning deck from < length deck → nat_lt (beginning deck from) (length deck) ≡ true
-begins_test deck from within = on (beginning deck from) (length deck) within
-  where
-    on : (a b : ℕ) → a < b → nat_lt a b ≡ true
-    on a b is = grind (arith, nat_tests)
-
--- behind a job fewer cards are left
-pub fewer_left : (deck : List (List ℕ)) (from k : ℕ) → beginning deck from < length deck → length deck - from ≤ suc k
-    → length deck - after_job_at deck (beginning deck from) ≤ k
-fewer_left deck from k within most =
-    on (position_or_len begins_job (drop from deck)) (after_job_at deck (beginning deck from)) (job_later deck (beginning deck from) within) within
-  where
-    on : (n after : ℕ) → from + n < after → from + n < length deck → length deck - after ≤ k
-    on n after later within' = omega arith
-
--- any number of jobs that is enough gives the same
-pub one_more : (n m : ℕ) (deck : List (List ℕ)) (from : ℕ) → length deck - from ≤ suc n → length deck - from ≤ suc m
-    → ((from' : ℕ) → length deck - from' ≤ n → length deck - from' ≤ m → jobs_within n deck from' ≡ jobs_within m deck from')
-    → jobs_within (suc n) deck from ≡ jobs_within (suc m) deck from
-one_more n m deck from most most' again = by (nat_lt (beginning deck from) (length deck)) refl
-  where
-    by : (b : Bool) → nat_lt (beginning deck from) (length deck) ≡ b → jobs_within (suc n) deck from ≡ jobs_within (suc m) deck from
-    by false none = none_within (suc n) deck from none ∙ sym (none_within (suc m) deck from none)
-    by true some =
-        let within : beginning deck from < length deck = begins_at deck from some in
-        first_job n deck from some
-        ∙ ap (λ jobs. job_beginning_at deck (beginning deck from) ∷ jobs)
-        (again (after_job_at deck (beginning deck from)) (fewer_left deck from n within most) (fewer_left deck from m within most'))
-        ∙ sym (first_job m deck from some)
-
-pub enough : (n m : ℕ) (deck : List (List ℕ)) (from : ℕ) → length deck - from ≤ n → length deck - from ≤ m
-    → jobs_within n deck from ≡ jobs_within m deck from
-enough zero zero deck from most most' = refl
-enough zero (suc m) deck from most most' = none_within zero deck from (nothing_begins deck from most) ∙ sym (none_within (suc m) deck from (nothing_begins deck from most))
-enough (suc n) zero deck from most most' = none_within (suc n) deck from (nothing_begins deck from most') ∙ sym (none_within zero deck from (nothing_begins deck from most'))
-enough (suc n) (suc m) deck from most most' = one_more n m deck from most most' (λ from' left left'. enough n m deck from' left left')
-
--- the next job, and the jobs behind it
-pub next_job : (deck : List (List ℕ)) (from : ℕ) → beginning deck from < length deck
-    → jobs_from deck from ≡ job_beginning_at deck (beginning deck from) ∷ jobs_from deck (after_job_at deck (beginning deck from))
-unfolding jobs_from
-next_job deck from within =
-    let left : ℕ = length deck - from in
-    let after : ℕ = after_job_at deck (beginning deck from) in
-    enough left (suc left) deck from (same left) (less left)
-    ∙ first_job left deck from (begins_test deck from within)
-    ∙ ap (λ jobs. job_beginning_at deck (beginning deck from) ∷ jobs)
-    (enough left (length deck - after) deck after (fewer_left deck from left within (less left)) (same (length deck - after)))
-  where
-    same : (n : ℕ) → n ≤ n
-    same n = omega arith
-
-    less : (n : ℕ) → n ≤ suc n
-    less n = omega arith
-
-pub some_jobs : (deck : List (List ℕ)) (from : ℕ) → beginning deck from < length deck → jobs_from deck from ≢ []
-some_jobs deck from within none = absurd (cons_is_not_nil (sym (next_job deck from within) ∙ none))
-  where
-    cons_is_not_nil : {job : Job} {jobs : List Job} → job ∷ jobs ≡ [] → ⊥
-    cons_is_not_nil same = cc
-
--- a job that opens
-pub opened_gives : (deck cards : List (List ℕ)) (from begin : ℕ) (name : Name) (result : JobCards) → cards ≡ deck
-    → begin ≡ place_of begins_job cards from → Opens name ≡ opening_at cards begin → begin + 2 ≤ length cards
-    → result ≡ job_cards_of cards name (begin + 2) → IsWithin cards result
-    → IsWithin deck result × (jobs_from deck from ≡ job_of deck result ∷ jobs_from deck result.after)
-opened_gives deck cards from begin name result same at opens room is within = (
-  subst (λ list. IsWithin list result) same within,
-  subst Gives (sym is') (subst (λ opening. jobs_from deck from ≡ job_opened deck begin opening ∷ jobs_from deck (after_opening deck begin opening)) (sym opens')
-      (subst (λ place. jobs_from deck from ≡ job_opened deck place (opening_at deck place) ∷ jobs_from deck (after_opening deck place (opening_at deck place))) (sym at')
-      (next_job deck from here))),
-)
-  where
-    Gives : JobCards → Type 0
-    Gives given = jobs_from deck from ≡ job_of deck given ∷ jobs_from deck given.after
-
-    is' : result ≡ job_cards_of deck name (begin + 2)
-    is' = is ∙ ap (λ list. job_cards_of list name (begin + 2)) same
-
-    opens' : Opens name ≡ opening_at deck begin
-    opens' = opens ∙ ap (λ list. opening_at list begin) same
-
-    at' : begin ≡ beginning deck from
-    at' = at ∙ ap (λ list. place_of begins_job list from) same
-
-    near : begin < length deck
-    near = subst (λ list. begin < length list) same (omega arith)
-
-    here : beginning deck from < length deck
-    here = subst (λ place. place < length deck) at' near
-
--- a faulty job
-pub faulty_gives : (deck cards : List (List ℕ)) (from begin : ℕ) (fault : StatementFault) (place after : ℕ) → cards ≡ deck
-    → begin ≡ place_of begins_job cards from → Fails fault place ≡ opening_at cards begin → begin < length cards
-    → after ≡ after_fault cards place → after ≤ length cards
-    → (after ≤ length deck) × (jobs_from deck from ≡ Faulty fault (place + 1) ∷ jobs_from deck after)
-faulty_gives deck cards from begin fault place after same at fails room is within = (
-  subst (λ list. after ≤ length list) same within,
-  subst (λ next. jobs_from deck from ≡ Faulty fault (place + 1) ∷ jobs_from deck next) (sym is')
-      (subst (λ opening. jobs_from deck from ≡ job_opened deck begin opening ∷ jobs_from deck (after_opening deck begin opening)) (sym fails')
-      (subst (λ from'. jobs_from deck from ≡ job_opened deck from' (opening_at deck from') ∷ jobs_from deck (after_opening deck from' (opening_at deck from'))) (sym at')
-      (next_job deck from here))),
-)
-  where
-    is' : after ≡ after_fault deck place
-    is' = is ∙ ap (λ list. after_fault list place) same
-
-    fails' : Fails fault place ≡ opening_at deck begin
-    fails' = fails ∙ ap (λ list. opening_at list begin) same
-
-    at' : begin ≡ beginning deck from
-    at' = at ∙ ap (λ list. place_of begins_job list from) same
-
-    near : begin < length deck
-    near = subst (λ list. begin < length list) same room
-
-    here : beginning deck from < length deck
-    here = subst (λ place'. place' < length deck) at' near
+-- else there is the next one, and the jobs behind it
+pub jobs_from-next : (cards : List (List ℕ)) (from : ℕ) → next_job cards from < length cards
+    → jobs_from cards from ≡ job_at cards (next_job cards from) ∷ jobs_from cards (place_after (job_at cards (next_job cards from)))
+jobs_from-next cards from less =
+    only_stream cards from (jobs_from cards from) _ (stream_from cards from) (next from _ less (stream_from cards (place_after (job_at cards (next_job cards from)))))

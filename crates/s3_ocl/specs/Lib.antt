@@ -1,6 +1,12 @@
 pub mod Cards
+pub mod Contents
+pub mod Faults
+pub mod Jobs
 pub mod Names
-pub mod Opening
+pub mod Parameters
 pub mod Signs
-pub mod Stream
+pub mod Sound
+pub mod Statements
+pub mod Streams
+pub mod Values
 pub mod Words

@@ -1,5 +1,6 @@
 //! What a card is in a job stream, and the words on it.
-ghost use Rattle.std.specs.Prelude.{◌≡◌, ◌≤◌, ◌+◌, not, drop, length, nat_eq};
+ghost use Rattle.std.specs.Prelude.{◌≡◌, ◌<◌, ◌≤◌, IfSome, drop, length, slice_get};
+ghost use Rattle.std.specs.Option.{option_copied};
 ghost use Rattle.std.specs.List.{prefix_len, position_or_len};
 ghost use Rattle.s3_ocl.specs.Signs.{is_blank as blank_spec, is_mark as mark_spec};
 ghost use Rattle.s3_ocl.specs.Cards.{is_data_end as data_end_spec, is_job_end as job_end_spec, is_statement as statement_spec, is_separator as separator_spec, begins_job as begins_job_spec, closes_job as closes_job_spec, next_place, from_word as from_word_spec, word_of, behind_word, first_word as first_word_spec, second_word as second_word_spec, is_continuation as continuation_spec};
@@ -164,4 +165,12 @@ pub fn is_continuation(card: &Card) -> bool
     ensures { result ≡ continuation_spec card.now }
 {
     is_statement(card) && !first_word(card).is_empty()
+}
+
+/// The card at a place, if there is one.
+pub fn card_at(cards: &[Card], place: usize) -> Option<&Card>
+    ensures card { option_copied result ≡ slice_get cards.now place }
+    ensures within { IfSome result (λ _. place < length cards.now) }
+{
+    cards.get(place)
 }

@@ -1,14 +1,20 @@
 //! Job streams: the statements of OCL, and where jobs begin and end.
-
 #![tactic(auto)]
 
 mod cards;
-mod job;
+mod contents;
+mod faults;
+mod jobs;
 mod names;
-mod opening;
+mod parameters;
 mod signs;
+mod statements;
+mod values;
 mod words;
 
-pub use job::{JobCards, JobKind, OclFault, job_at, split};
+pub use contents::{FileSize, FileStatement};
+pub use faults::{FaultyJob, JobFault};
+pub use jobs::{JobCards, OclFault, job_at, split};
 pub use names::Name;
-pub use opening::StatementFault;
+pub use values::{Retention, Switch};
+pub use words::words_as_punched;

@@ -42,8 +42,6 @@ pub const F1: [u8; 2] = [LETTER_F, DIGIT_1];
 
 pub const F2: [u8; 2] = [LETTER_F, DIGIT_2];
 
-pub const COMPILER: [u8; 4] = [DOLLAR, LETTER_R, LETTER_P, LETTER_G];
-
 /// The definitions' words are these texts as they are punched.
 #[tactic(auto, unfolding(s3_cards::specs::Codes::code_page))]
 pub fn words_as_punched()

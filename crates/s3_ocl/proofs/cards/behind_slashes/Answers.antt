@@ -1,4 +1,4 @@
-use Rattle.std.proofs.Common.{◌≡◌, arith, drop, length-drop}
+use Rattle.std.proofs.Common.{arith, drop, length-drop}
 use Rattle.std.proofs.lemmas.List.{take_all}
 use Rattle.s3_ocl.proofs.cards.behind_slashes.Goals as goal
 

@@ -1,0 +1,11 @@
+use Rattle.std.proofs.Common.{ℕ, Ok, subst}
+use Rattle.std.specs.Prelude.{OnOk}
+use Rattle.s3_level.specs.Holds.{Starts}
+use Rattle.s3_level.proofs.Starting.{set_then_performed}
+use Rattle.s3_level.proofs.level.Level.start.Goals as goal
+
+pub returns-clause-world : goal.returns-clause-world
+returns-clause-world c =
+    subst (λ (after : ℕ). OnOk c.perform.result (Starts (Ok c.args.job.now) after c.args.self.now c.perform.new.self)) c.after.ensures.value
+    (set_then_performed c.perform.result c.args.self.now c.take_job-number.new.self c.set.new.self c.perform.new.self c.args.job.now c.after.result
+    c.take_job-number.result c.take_job-number.ensures.number c.take_job-number.ensures.world c.set.ensures.value c.perform.ensures.world)

@@ -1,0 +1,40 @@
+use Rattle.std.proofs.Common.{◌≡◌, ◌+◌, ℕ, true, false, sym, ◌∙◌, ap, subst, Ok}
+use Rattle.s3_ocl.specs.declared.parameters.Verb.TheVariants.{Run}
+use Rattle.s3_ocl.specs.Statements.{Statement, is_verb}
+use Rattle.s3_ocl.specs.Jobs.{job_with}
+use Rattle.s3_ocl.proofs.JobLemmas.{JobSoFar, is_read, job_faulty, job_run, one_more_statement, job_stopped, stop_within}
+use Rattle.s3_ocl.proofs.jobs.read_job.Goals as goal
+
+pub returns-in-Some-clause-value : goal.returns-in-Some-clause-value
+returns-in-Some-clause-value c =
+    let read = is_read c.args.cards.now c.loop-alloc.place c.in_ok-statement.statement (sym c.has_statement.ensures ∙ c.loop-alloc-test.true) c.in_ok-statement.ensures.value in
+    job_faulty c.args.cards.now c.args.start c.loop-alloc.place c.loop-alloc.contents c.in_ok-statement.statement c.in-Some.mark c.faulty.result c.loop-alloc.invariant read
+    c.in_ok-statement.ensures.within.1 (sym c.in-Some.ensures.value) c.faulty.ensures.value
+
+pub returns-then-is_verb-clause-value : goal.returns-then-is_verb-clause-value
+returns-then-is_verb-clause-value c =
+    let read = is_read c.args.cards.now c.loop-alloc.place c.in_ok-statement.statement (sym c.has_statement.ensures ∙ c.loop-alloc-test.true) c.in_ok-statement.ensures.value in
+    let cards : c.statement.inside.cards ≡ c.in_ok-statement.statement.cards = ap (λ (s : Statement). s.cards) c.statement.view_is in
+    let run : is_verb Run c.in_ok-statement.statement.verb ≡ true =
+    ap (λ (s : Statement). is_verb Run s.verb) (sym c.statement.view_is) ∙ (sym c.is_verb.ensures ∙ c.if-is_verb.true) in
+    job_run c.args.cards.now c.args.start c.loop-alloc.place c.loop-alloc.contents c.add.new.self c.in_ok-statement.statement _ c.loop-alloc.invariant read
+    (sym c.in_default.ensures.value) c.in_ok-add.ensures run
+    ∙ ap Ok (ap (λ (n : ℕ). job_with c.args.cards.now c.add.new.self (c.loop-alloc.place + n)) (sym cards) ∙ sym c.job_with.ensures.value)
+
+pub loop-alloc-preserved : goal.loop-alloc-preserved
+loop-alloc-preserved c =
+    let read = is_read c.args.cards.now c.loop-alloc.place c.in_ok-statement.statement (sym c.has_statement.ensures ∙ c.loop-alloc-test.true) c.in_ok-statement.ensures.value in
+    let cards : c.statement.inside.cards ≡ c.in_ok-statement.statement.cards = ap (λ (s : Statement). s.cards) c.statement.view_is in
+    let other : is_verb Run c.in_ok-statement.statement.verb ≡ false =
+    ap (λ (s : Statement). is_verb Run s.verb) (sym c.statement.view_is) ∙ (sym c.is_verb.ensures ∙ c.if-is_verb.false) in
+    subst (λ (n : ℕ). JobSoFar c.args.cards.now c.args.start (c.loop-alloc.place + n) c.add.new.self) (sym cards)
+    (one_more_statement c.args.cards.now c.args.start c.loop-alloc.place c.loop-alloc.contents c.add.new.self c.in_ok-statement.statement _ c.loop-alloc.invariant read
+    c.in_ok-statement.ensures.within.1 (sym c.in_default.ensures.value) c.in_ok-add.ensures other)
+
+pub faulty-requires-2-clause-within : goal.faulty-requires-2-clause-within
+faulty-requires-2-clause-within c = stop_within c.args.cards.now c.loop-alloc.place c.stop_fault.result c.stop_fault.ensures.value
+
+pub returns-clause-value : goal.returns-clause-value
+returns-clause-value c =
+    job_stopped c.args.cards.now c.args.start c.loop-alloc.place c.loop-alloc.contents c.stop_fault.result _ c.loop-alloc.invariant
+    (sym c.has_statement.ensures ∙ c.loop-alloc-test.false) c.stop_fault.ensures.value c.faulty-2.ensures.value

@@ -1,0 +1,177 @@
+-- What the statements of a job say together.
+use Rattle.std.specs.Prelude.{ℕ, ◌==◌, ◌||◌, List, [], ◌∷◌, ◌++◌, Bool, false, Option, Some, None, unwrap_or, find}
+use Rattle.std.specs.List.{list_any, filter_map}
+use Rattle.std.specs.Option.{option_map, option_or, option_to_list}
+use Rattle.std.specs.Prelude.{option_and_then}
+use Rattle.s3_ocl.specs.declared.names.Name.{Name}
+use Rattle.s3_ocl.specs.declared.parameters.Verb.{Verb}
+use Rattle.s3_ocl.specs.declared.parameters.Verb.TheVariants.{Load, Date, Switch as SwitchVerb}
+use Rattle.s3_ocl.specs.declared.parameters.Parameter.{Parameter}
+use Rattle.s3_ocl.specs.declared.parameters.Parameter.TheVariants as parameter
+use Rattle.s3_ocl.specs.declared.parameters.Entry.{Entry}
+use Rattle.s3_ocl.specs.declared.parameters.Entry.TheVariants.{Empty, Unknown, Surplus, Missing, Wrong, Right}
+use Rattle.s3_ocl.specs.declared.values.Value.{Value}
+use Rattle.s3_ocl.specs.declared.values.Value.TheVariants.{Named, Count, Kept, Dated, Set}
+use Rattle.s3_ocl.specs.declared.values.Retention.{Retention}
+use Rattle.s3_ocl.specs.declared.values.Retention.TheVariants.{Temporary}
+use Rattle.s3_ocl.specs.declared.values.Switch.{Switch}
+use Rattle.s3_ocl.specs.declared.statements.Piece.{Piece}
+use Rattle.s3_ocl.specs.declared.contents.FileSize.{FileSize}
+use Rattle.s3_ocl.specs.declared.contents.FileSize.TheVariants.{Records, Tracks}
+use Rattle.s3_ocl.specs.declared.contents.FileStatement.{FileStatement}
+use Rattle.s3_ocl.specs.Statements.{Statement, is_verb}
+
+-- each parameter's place among them
+abbrev pub rank : Parameter → ℕ
+rank parameter.Program = 0
+rank parameter.Unit = 1
+rank parameter.FileName = 2
+rank parameter.Pack = 3
+rank parameter.Label = 4
+rank parameter.Records = 5
+rank parameter.Tracks = 6
+rank parameter.Retain = 7
+rank parameter.Date = 8
+rank parameter.Switches = 9
+
+-- the parameter that stands at an entry, if one does
+abbrev pub stands_at : Entry → Option Parameter
+stands_at Empty = None
+stands_at Unknown = None
+stands_at Surplus = None
+stands_at (Missing parameter) = Some parameter
+stands_at (Wrong parameter) = Some parameter
+stands_at (Right parameter value) = Some parameter
+
+abbrev pub is_parameter : Parameter → Option Parameter → Bool
+is_parameter parameter None = false
+is_parameter parameter (Some other) = rank other == rank parameter
+
+-- whether a piece gives this parameter
+abbrev pub gives : Parameter → Piece → Bool
+gives parameter piece = is_parameter parameter (stands_at piece.entry)
+
+abbrev pub is_given : Parameter → List Piece → Bool
+is_given parameter pieces = list_any (gives parameter) pieces
+
+abbrev pub right_value : Entry → Option Value
+right_value Empty = None
+right_value Unknown = None
+right_value Surplus = None
+right_value (Missing parameter) = None
+right_value (Wrong parameter) = None
+right_value (Right parameter value) = Some value
+
+-- the value of a parameter, as it is first given
+abbrev pub value_in : Parameter → List Piece → Option Value
+value_in parameter pieces = option_and_then (λ piece. right_value piece.entry) (find (gives parameter) pieces)
+
+abbrev pub named : Value → Option Name
+named (Named name) = Some name
+named value = None
+
+abbrev pub count : Value → Option ℕ
+count (Count number) = Some number
+count value = None
+
+abbrev pub kept : Value → Option Retention
+kept (Kept retention) = Some retention
+kept value = None
+
+abbrev pub dated : Value → Option (List ℕ)
+dated (Dated digits) = Some digits
+dated value = None
+
+abbrev pub set : Value → Option (List Switch)
+set (Set switches) = Some switches
+set value = None
+
+-- the name that a parameter gives, and so on
+abbrev pub name_in : Parameter → List Piece → Option Name
+name_in parameter pieces = option_and_then named (value_in parameter pieces)
+
+abbrev pub count_in : Parameter → List Piece → Option ℕ
+count_in parameter pieces = option_and_then count (value_in parameter pieces)
+
+abbrev pub retention_in : List Piece → Option Retention
+retention_in pieces = option_and_then kept (value_in parameter.Retain pieces)
+
+abbrev pub date_in : List Piece → Option (List ℕ)
+date_in pieces = option_and_then dated (value_in parameter.Date pieces)
+
+abbrev pub switches_in : List Piece → Option (List Switch)
+switches_in pieces = option_and_then set (value_in parameter.Switches pieces)
+
+-- RECORDS gives the number of records, TRACKS that of tracks; with neither it is one track
+abbrev pub size_of : Option ℕ → Option ℕ → FileSize
+size_of (Some records) tracks = Records records
+size_of None tracks = Tracks (unwrap_or tracks 1)
+
+-- what a FILE statement says of a file of this name
+abbrev pub file_with : List Piece → Name → FileStatement
+file_with pieces name = record {
+  name = name;
+  label = unwrap_or (name_in parameter.Label pieces) name;
+  size = size_of (count_in parameter.Records pieces) (count_in parameter.Tracks pieces);
+  retention = unwrap_or (retention_in pieces) Temporary;
+}
+
+-- the file of a FILE statement
+abbrev pub file_of : List Piece → Option FileStatement
+file_of pieces = option_map (file_with pieces) (name_in parameter.FileName pieces)
+
+-- the files of the FILE statements
+abbrev pub files_of : List Statement → List FileStatement
+files_of statements = filter_map (λ statement. file_of statement.pieces) statements
+
+-- what the first statement says that says it
+unfoldable pub first_in : {X : Type 0} → (Statement → Option X) → List Statement → Option X
+first_in f [] = None
+first_in f (statement ∷ statements) = option_or (f statement) (first_in f statements)
+
+-- the program that LOAD names, the date that DATE gives, and what SWITCH does with each switch
+abbrev pub program_of : List Statement → Option Name
+program_of statements = first_in (λ statement. name_in parameter.Program statement.pieces) statements
+
+abbrev pub date_of : List Statement → Option (List ℕ)
+date_of statements = first_in (λ statement. date_in statement.pieces) statements
+
+abbrev pub switches_of : List Statement → Option (List Switch)
+switches_of statements = first_in (λ statement. switches_in statement.pieces) statements
+
+-- whether one of them is this statement
+abbrev pub has : Verb → List Statement → Bool
+has verb statements = list_any (λ statement. is_verb verb statement.verb) statements
+
+-- what the statements so far say, and which there were
+pub record Contents : Type 0 where
+  pub program : Option Name
+  pub date : Option (List ℕ)
+  pub switches : Option (List Switch)
+  pub files : List FileStatement
+  pub is_loaded : Bool
+  pub is_dated : Bool
+  pub is_switched : Bool
+
+abbrev pub contents_of : List Statement → Contents
+contents_of statements = record {
+  program = program_of statements;
+  date = date_of statements;
+  switches = switches_of statements;
+  files = files_of statements;
+  is_loaded = has Load statements;
+  is_dated = has Date statements;
+  is_switched = has SwitchVerb statements;
+}
+
+-- what they say with one more statement
+abbrev pub contents_with : Contents → Statement → Contents
+contents_with contents statement = record {
+  program = option_or contents.program (name_in parameter.Program statement.pieces);
+  date = option_or contents.date (date_in statement.pieces);
+  switches = option_or contents.switches (switches_in statement.pieces);
+  files = contents.files ++ option_to_list (file_of statement.pieces);
+  is_loaded = contents.is_loaded || is_verb Load statement.verb;
+  is_dated = contents.is_dated || is_verb Date statement.verb;
+  is_switched = contents.is_switched || is_verb SwitchVerb statement.verb;
+}

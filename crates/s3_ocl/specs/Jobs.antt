@@ -1,0 +1,137 @@
+-- The jobs of a list of cards.
+use Rattle.std.specs.Prelude.{◌≡◌, ◌<◌, ◌≤◌, ℕ, ◌+◌, ◌-◌, ◌||◌, List, [], ◌∷◌, ◌++◌, Bool, false, Option, Some, None, Result, Ok, Err, length, drop, replicate, sum_by, unwrap_or, slice_get, nat_lt, if◌then◌else◌}
+use Rattle.s3_ocl.specs.declared.names.Name.{Name}
+use Rattle.s3_ocl.specs.declared.values.Switch.{Switch}
+use Rattle.s3_ocl.specs.declared.values.Switch.TheVariants.{Leave}
+use Rattle.s3_ocl.specs.declared.parameters.Verb.{Verb}
+use Rattle.s3_ocl.specs.declared.parameters.Verb.TheVariants.{Run}
+use Rattle.s3_ocl.specs.declared.contents.FileStatement.{FileStatement}
+use Rattle.s3_ocl.specs.declared.faults.JobFault.TheVariants.{NotOcl, NoRun}
+use Rattle.s3_ocl.specs.declared.faults.Mark.{Mark}
+use Rattle.s3_ocl.specs.declared.faults.FaultyJob.{FaultyJob}
+use Rattle.s3_ocl.specs.declared.jobs.OclFault.{OclFault}
+use Rattle.s3_ocl.specs.declared.jobs.OclFault.TheVariants.{NoMemory, Faulty}
+use Rattle.s3_ocl.specs.Cards.{is_separator, is_job_end, begins_job, closes_job, next_place}
+use Rattle.s3_ocl.specs.Names.{name_eq, name_of}
+use Rattle.s3_ocl.specs.Words.{compiler_word}
+use Rattle.s3_ocl.specs.Statements.{Statement, is_verb, statements}
+use Rattle.s3_ocl.specs.Contents.{Contents, contents_of, has}
+use Rattle.s3_ocl.specs.Faults.{earlier, faults_behind, first_fault}
+
+-- a job without faults: the program that it names, its files, its date if it gives one, what it does with each switch,
+-- the places of its data, from the first up to the last but without it, and the place behind the job; the RUN card is
+-- the one before the data
+pub record Job : Type 0 where
+  pub program : Name
+  pub files : List FileStatement
+  pub date : Option (List ℕ)
+  pub switches : List Switch
+  pub data_from : ℕ
+  pub data_to : ℕ
+  pub after : ℕ
+
+-- a job for the compiler: its data are a source
+abbrev pub is_compile : Job → Bool
+is_compile job = name_eq job.program (name_of compiler_word)
+
+-- eight blanks, the name where no program is named
+abbrev pub no_name : Name
+no_name = record { codes = replicate 8 0x40 }
+
+-- how many cards statements have
+abbrev pub cards_of : List Statement → ℕ
+cards_of heading = sum_by (λ statement. statement.cards) heading
+
+-- whether a test holds of the card at a place, and not behind the last card
+abbrev pub holds_at : (List ℕ → Bool) → Option (List ℕ) → Bool
+holds_at test None = false
+holds_at test (Some card) = test card
+
+-- what is wrong with a job whose statements end at a place without RUN: at the deck's end the last card has the fault,
+-- else the card that is no statement
+abbrev pub stop_fault : List (List ℕ) → ℕ → Option (List ℕ) → Mark
+stop_fault cards end None = record { card = length cards; fault = NoRun }
+stop_fault cards end (Some card) = record { card = end + 1; fault = if is_separator card then NoRun else NotOcl }
+
+abbrev pub stop_faults : List (List ℕ) → List Statement → ℕ → List Mark
+stop_faults cards heading end = if has Run heading then [] else stop_fault cards end (slice_get cards end) ∷ []
+
+-- the place behind a card, if there is one
+abbrev pub behind : List (List ℕ) → ℕ → ℕ
+behind cards place = if nat_lt place (length cards) then place + 1 else place
+
+-- the place behind a faulty job: behind the first `/&` from the card at fault on, or the deck's end
+abbrev pub faulty_end : List (List ℕ) → ℕ → ℕ
+faulty_end cards number = behind cards (next_place is_job_end cards (number - 1))
+
+-- the place behind a job whose data end at a place: behind its `/&`, or before a statement that follows its `/*`, or the
+-- deck's end
+abbrev pub job_end : List (List ℕ) → ℕ → ℕ
+job_end cards place =
+    let close : ℕ = next_place closes_job cards place in
+    if holds_at is_job_end (slice_get cards close) then close + 1 else close
+
+-- the job with these contents, whose statements end at a place
+abbrev pub job_with : List (List ℕ) → Contents → ℕ → Job
+job_with cards contents end = record {
+  program = unwrap_or contents.program no_name;
+  files = contents.files;
+  date = contents.date;
+  switches = unwrap_or contents.switches (replicate 8 Leave);
+  data_from = end;
+  data_to = next_place is_separator cards end;
+  after = job_end cards (next_place is_separator cards end);
+}
+
+-- a job is faulty where its statements have a fault, and then has the first of them
+abbrev pub job_or_fault : List (List ℕ) → List Statement → ℕ → Option Mark → Result Job FaultyJob
+job_or_fault cards heading end None = Ok (job_with cards (contents_of heading) end)
+job_or_fault cards heading end (Some mark) = Err (record { fault = mark.fault; card = mark.card; after = faulty_end cards mark.card })
+
+-- the statements of the job that begins at a place
+abbrev pub heading_at : List (List ℕ) → ℕ → List Statement
+heading_at cards place = statements (place + 1) (drop place cards)
+
+-- the job that begins at a place
+unfoldable pub job_at : List (List ℕ) → ℕ → Result Job FaultyJob
+job_at cards place =
+    let heading : List Statement = heading_at cards place in
+    let end : ℕ = place + cards_of heading in
+    job_or_fault cards heading end (first_fault (faults_behind [] heading ++ stop_faults cards heading end))
+
+-- the fault of the deck's end, where a statement that is no RUN ends there
+abbrev pub last_fault : List (List ℕ) → Option Verb → ℕ → Option Mark
+last_fault cards named end =
+    if is_verb Run named || nat_lt end (length cards) then None else Some (record { card = length cards; fault = NoRun })
+
+-- the first of a statement's fault, if it has one, and that of the deck's end
+abbrev pub with_last : Option Mark → Option Mark → Option Mark
+with_last None last = None
+with_last (Some mark) last = earlier (Some mark) last
+
+-- the place behind a job
+abbrev pub place_after : Result Job FaultyJob → ℕ
+place_after (Ok job) = job.after
+place_after (Err faulty) = faulty.after
+
+-- the place of the next job from a place on, or that behind the last card
+abbrev pub next_job : List (List ℕ) → ℕ → ℕ
+next_job cards from = next_place begins_job cards from
+
+-- the same as an answer: none where there is no job
+abbrev pub job_place : List (List ℕ) → ℕ → Option ℕ
+job_place cards from = if nat_lt (next_job cards from) (length cards) then Some (next_job cards from) else None
+
+-- what a call answered is this job or its fault, unless memory ran out
+abbrev pub Gives : Result Job OclFault → Result Job FaultyJob → Type 0
+Gives (Err NoMemory) meant = Unit {0}
+Gives (Err (Faulty faulty)) meant = meant ≡ Err faulty
+Gives (Ok job) meant = meant ≡ Ok job
+
+-- where a job that begins at a place lies in the deck, and the card at fault in it
+abbrev pub LiesWithin : List (List ℕ) → ℕ → Result Job OclFault → Type 0
+LiesWithin cards place (Err NoMemory) = Unit {0}
+LiesWithin cards place (Err (Faulty faulty)) =
+    (place < faulty.card) × (faulty.card ≤ length cards) × (place < faulty.after) × (faulty.after ≤ length cards)
+LiesWithin cards place (Ok job) =
+    (place < job.data_from) × (job.data_from ≤ job.data_to) × (job.data_to ≤ job.after) × (job.after ≤ length cards)

@@ -1,0 +1,27 @@
+-- The ranges of what a FILE statement says.
+use Rattle.std.specs.Prelude.{ℕ, Bool, ◌&&◌, take, drop, nat_le}
+use Rattle.std.specs.List.{list_all, prefix_len}
+use Rattle.s3_ocl.specs.declared.names.Name.{Name}
+use Rattle.s3_ocl.specs.declared.contents.FileSize.{FileSize}
+use Rattle.s3_ocl.specs.declared.contents.FileSize.TheVariants.{Records, Tracks}
+use Rattle.s3_ocl.specs.declared.contents.FileStatement.{FileStatement}
+use Rattle.s3_ocl.specs.Signs.{is_blank, is_mark}
+use Rattle.s3_ocl.specs.Names.{is_name}
+
+-- a name and blanks behind it
+abbrev pub is_padded_name : Name → Bool
+is_padded_name name =
+    let end : ℕ = prefix_len is_mark name.codes in
+    is_name (take end name.codes) && list_all is_blank (drop end name.codes)
+
+abbrev pub is_between : ℕ → ℕ → ℕ → Bool
+is_between low high n = nat_le low n && nat_le n high
+
+-- 1 to 999,999 records or 1 to 999 tracks
+abbrev pub is_size : FileSize → Bool
+is_size (Records n) = is_between 1 999999 n
+is_size (Tracks n) = is_between 1 999 n
+
+-- its name and its label are names, and its size is one
+abbrev pub is_sound_file : FileStatement → Bool
+is_sound_file file = is_padded_name file.name && is_padded_name file.label && is_size file.size

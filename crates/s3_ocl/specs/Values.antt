@@ -1,0 +1,80 @@
+-- What the text of a value says.
+use Rattle.std.specs.Prelude.{ℕ, ◌+◌, ◌-◌, ◌*◌, ◌==◌, ◌&&◌, ◌||◌, List, [], ◌∷◌, Bool, Option, Some, None, length, map, nat_le, slice_index, if◌then◌else◌}
+use Rattle.std.specs.List.{list_all}
+use Rattle.std.specs.Int.Digits.{number_from_digits}
+use Rattle.s3_ocl.specs.declared.values.Value.{Value}
+use Rattle.s3_ocl.specs.declared.values.Value.TheVariants.{Named, Count, Kept, Dated, Set, Checked}
+use Rattle.s3_ocl.specs.declared.values.Switch.{Switch}
+use Rattle.s3_ocl.specs.declared.values.Switch.TheVariants.{On, Off, Leave}
+use Rattle.s3_ocl.specs.declared.values.Retention.TheVariants.{Temporary, Scratch, Permanent}
+use Rattle.s3_ocl.specs.Signs.{is_digit, is_name_code}
+use Rattle.s3_ocl.specs.Names.{is_name, name_of}
+use Rattle.s3_ocl.specs.Words.{reads, r1_unit, r2_unit, f1_unit, f2_unit}
+
+-- a name of at most so many codes
+abbrev pub name_value : ℕ → List ℕ → Option Value
+name_value limit text = if nat_le (length text) limit && is_name text then Some (Named (name_of text)) else None
+
+-- R1, R2, F1 or F2
+abbrev pub unit_value : List ℕ → Option Value
+unit_value text =
+    if reads text r1_unit || reads text r2_unit || reads text f1_unit || reads text f2_unit then Some Checked else None
+
+-- a pack: at most 6 letters, digits, $, # and @
+abbrev pub pack_value : List ℕ → Option Value
+pack_value text = if nat_le (length text) 6 && list_all is_name_code text then Some Checked else None
+
+-- the number of a run of digits
+abbrev pub number_of : List ℕ → ℕ
+number_of text = number_from_digits 10 (map (λ digit. digit - 0xf0) text)
+
+-- a number of at most so many digits that isn't 0
+unfoldable pub count_value : ℕ → List ℕ → Option Value
+count_value limit text =
+    if nat_le (length text) limit && list_all is_digit text && nat_le 1 (number_of text) then Some (Count (number_of text)) else None
+
+-- T, S or P
+abbrev pub retention_value : List ℕ → Option Value
+retention_value text =
+    if reads text (0xe3 ∷ []) then Some (Kept Temporary)
+    else if reads text (0xe2 ∷ []) then Some (Kept Scratch)
+    else if reads text (0xd7 ∷ []) then Some (Kept Permanent)
+    else None
+
+-- the pairs of codes at three places
+abbrev pub pairs_at : List ℕ → ℕ → ℕ → ℕ → List ℕ
+pairs_at text a b c =
+    slice_index text a ∷ slice_index text (a + 1) ∷ slice_index text b ∷ slice_index text (b + 1)
+    ∷ slice_index text c ∷ slice_index text (c + 1) ∷ []
+
+-- the number of the two digits at a place
+abbrev pub two_digits : List ℕ → ℕ → ℕ
+two_digits digits place = 10 * (slice_index digits place - 0xf0) + (slice_index digits (place + 1) - 0xf0)
+
+-- six digits of which the first two are a month and the next two a day
+abbrev pub is_date : List ℕ → Bool
+is_date digits =
+    list_all is_digit digits && nat_le 1 (two_digits digits 0) && nat_le (two_digits digits 0) 12 && nat_le 1 (two_digits digits 2)
+    && nat_le (two_digits digits 2) 31
+
+abbrev pub dated : List ℕ → Option Value
+dated digits = if is_date digits then Some (Dated digits) else None
+
+-- mmddyy or mm/dd/yy
+unfoldable pub date_value : List ℕ → Option Value
+date_value text =
+    if length text == 6 then dated (pairs_at text 0 2 4)
+    else if (length text == 8) && (slice_index text 2 == 0x61) && (slice_index text 5 == 0x61) then dated (pairs_at text 0 3 6)
+    else None
+
+-- 0, 1 or X
+abbrev pub is_switch : ℕ → Bool
+is_switch code = (code == 0xf0) || (code == 0xf1) || (code == 0xe7)
+
+-- X leaves a switch as it is
+abbrev pub switch_of : ℕ → Switch
+switch_of code = if code == 0xf1 then On else if code == 0xf0 then Off else Leave
+
+-- eight of 0, 1 and X
+unfoldable pub switches_value : List ℕ → Option Value
+switches_value text = if (length text == 8) && list_all is_switch text then Some (Set (map switch_of text)) else None

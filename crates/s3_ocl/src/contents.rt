@@ -1,0 +1,281 @@
+//! What the statements of a job say together.
+ghost use Rattle.std.specs.Prelude.{◌≡◌, ◌==◌, ◌||◌, ◌++◌, [], OnOk, find};
+ghost use Rattle.std.specs.Option.{option_copied, option_to_list};
+ghost use Rattle.s3_ocl.specs.Contents.{rank as rank_spec, is_parameter as is_parameter_spec, gives as gives_spec, is_given as is_given_spec, right_value as right_value_spec, value_in as value_in_spec, named as named_spec, count as count_spec, kept as kept_spec, dated as dated_spec, set as set_spec, name_in as name_in_spec, count_in as count_in_spec, retention_in, date_in as date_in_spec, switches_in as switches_in_spec, size_of as size_of_spec, file_with as file_with_spec, file_of as file_of_spec, contents_of, contents_with};
+
+use super::names::Name;
+use super::parameters::{Entry, Parameter, Verb};
+use super::statements::{Piece, Statement, is_verb};
+use super::values::{Retention, Switch, Value};
+use std::alloc::{AllocError, Global};
+use std::marker::Model;
+
+/// How large a FILE statement makes a new file.
+#[derive(Clone, Copy, Debug, PartialEq, Eq)]
+pub enum FileSize {
+    /// Room for 1 to 999,999 records.
+    Records(u32),
+    /// 1 to 999 tracks.
+    Tracks(u32),
+}
+
+/// What a FILE statement says.
+#[derive(Clone, Copy, Debug, PartialEq, Eq)]
+pub struct FileStatement {
+    /// The name by which the program knows the file.
+    pub name: Name,
+    /// The label on the pack; the name where none is given.
+    pub label: Name,
+    /// RECORDS or TRACKS; one track where neither is given.
+    pub size: FileSize,
+    /// RETAIN; T where none is given.
+    pub retention: Retention,
+}
+
+/// Each parameter's place among them.
+fn rank(parameter: Parameter) -> u8
+    ensures { result ≡ rank_spec parameter }
+{
+    match parameter {
+        Parameter::Program => 0,
+        Parameter::Unit => 1,
+        Parameter::FileName => 2,
+        Parameter::Pack => 3,
+        Parameter::Label => 4,
+        Parameter::Records => 5,
+        Parameter::Tracks => 6,
+        Parameter::Retain => 7,
+        Parameter::Date => 8,
+        Parameter::Switches => 9,
+    }
+}
+
+/// Whether two parameters are the same.
+pub fn is_parameter(parameter: Parameter, other: Parameter) -> bool
+    ensures { result ≡ (rank_spec other == rank_spec parameter) }
+{
+    rank(other) == rank(parameter)
+}
+
+/// Whether a piece gives this parameter.
+pub fn gives(parameter: Parameter, piece: &Piece) -> bool
+    ensures { result ≡ gives_spec parameter piece.now }
+{
+    match piece.entry {
+        Entry::Empty => false,
+        Entry::Unknown => false,
+        Entry::Surplus => false,
+        Entry::Missing(other) => is_parameter(parameter, other),
+        Entry::Wrong(other) => is_parameter(parameter, other),
+        Entry::Right(other, _) => is_parameter(parameter, other),
+    }
+}
+
+/// Whether a parameter is given.
+pub fn is_given(parameter: Parameter, pieces: &[Piece]) -> bool
+    ensures { result ≡ is_given_spec parameter pieces.now }
+{
+    pieces.iter().any(|piece| gives(parameter, piece))
+}
+
+fn right_value(entry: Entry) -> Option<Value>
+    ensures { result ≡ right_value_spec entry }
+{
+    match entry {
+        Entry::Right(_, value) => Some(value),
+        _ => None,
+    }
+}
+
+fn first_giving(parameter: Parameter, pieces: &[Piece]) -> Option<&Piece>
+    ensures { option_copied result ≡ find (gives_spec parameter) pieces.now }
+{
+    pieces.iter().find(|piece| gives(parameter, piece))
+}
+
+/// The value of a parameter, as it is first given.
+fn value_in(parameter: Parameter, pieces: &[Piece]) -> Option<Value>
+    ensures { result ≡ value_in_spec parameter pieces.now }
+{
+    match first_giving(parameter, pieces) {
+        None => None,
+        Some(piece) => right_value(piece.entry),
+    }
+}
+
+/// The name that a value is.
+pub fn named(value: Value) -> Option<Name>
+    ensures { result ≡ named_spec value }
+{
+    match value {
+        Value::Named(name) => Some(name),
+        _ => None,
+    }
+}
+
+fn count(value: Value) -> Option<u32>
+    ensures { result ≡ count_spec value }
+{
+    match value {
+        Value::Count(number) => Some(number),
+        _ => None,
+    }
+}
+
+fn kept(value: Value) -> Option<Retention>
+    ensures { result ≡ kept_spec value }
+{
+    match value {
+        Value::Kept(retention) => Some(retention),
+        _ => None,
+    }
+}
+
+fn dated(value: Value) -> Option<[u8; 6]>
+    ensures { result ≡ dated_spec value }
+{
+    match value {
+        Value::Dated(digits) => Some(digits),
+        _ => None,
+    }
+}
+
+fn set(value: Value) -> Option<[Switch; 8]>
+    ensures { result ≡ set_spec value }
+{
+    match value {
+        Value::Set(switches) => Some(switches),
+        _ => None,
+    }
+}
+
+fn name_in(parameter: Parameter, pieces: &[Piece]) -> Option<Name>
+    ensures { result ≡ name_in_spec parameter pieces.now }
+{
+    named(value_in(parameter, pieces)?)
+}
+
+fn count_in(parameter: Parameter, pieces: &[Piece]) -> Option<u32>
+    ensures { result ≡ count_in_spec parameter pieces.now }
+{
+    count(value_in(parameter, pieces)?)
+}
+
+fn retention_of(pieces: &[Piece]) -> Option<Retention>
+    ensures { result ≡ retention_in pieces.now }
+{
+    kept(value_in(Parameter::Retain, pieces)?)
+}
+
+fn date_in(pieces: &[Piece]) -> Option<[u8; 6]>
+    ensures { result ≡ date_in_spec pieces.now }
+{
+    dated(value_in(Parameter::Date, pieces)?)
+}
+
+fn switches_in(pieces: &[Piece]) -> Option<[Switch; 8]>
+    ensures { result ≡ switches_in_spec pieces.now }
+{
+    set(value_in(Parameter::Switches, pieces)?)
+}
+
+fn size_of(records: Option<u32>, tracks: Option<u32>) -> FileSize
+    ensures { result ≡ size_of_spec records tracks }
+{
+    match records {
+        Some(records) => FileSize::Records(records),
+        None => FileSize::Tracks(tracks.unwrap_or(1)),
+    }
+}
+
+/// What the parameters of a FILE statement say of a file of this name.
+fn file_with(pieces: &[Piece], name: Name) -> FileStatement
+    ensures { result ≡ file_with_spec pieces.now name }
+{
+    FileStatement {
+        name,
+        label: name_in(Parameter::Label, pieces).unwrap_or(name),
+        size: size_of(
+            count_in(Parameter::Records, pieces),
+            count_in(Parameter::Tracks, pieces),
+        ),
+        retention: retention_of(pieces).unwrap_or(Retention::Temporary),
+    }
+}
+
+/// The file of a FILE statement.
+fn file_of(pieces: &[Piece]) -> Option<FileStatement>
+    ensures { result ≡ file_of_spec pieces.now }
+{
+    match name_in(Parameter::FileName, pieces) {
+        None => None,
+        Some(name) => Some(file_with(pieces, name)),
+    }
+}
+
+/// What the statements so far say, and which there were.
+#[derive(Drop)]
+pub struct Contents {
+    pub program: Option<Name>,
+    pub date: Option<[u8; 6]>,
+    pub switches: Option<[Switch; 8]>,
+    pub files: Vec<FileStatement>,
+    pub is_loaded: bool,
+    pub is_dated: bool,
+    pub is_switched: bool,
+}
+
+impl Model for Contents {
+    ghost use Rattle.s3_ocl.specs.Contents.{Contents};
+
+    ghost Value = { Contents };
+
+    ghost view = { λ c. record { program = c.program; date = c.date; switches = c.switches; files = c.files.items; is_loaded = c.is_loaded; is_dated = c.is_dated; is_switched = c.is_switched } };
+}
+
+/// Adds a file, if there is one.
+fn add_file(files: &mut Vec<FileStatement>, file: Option<FileStatement>) -> Result<(), AllocError>
+    ensures { OnOk result (files.new.items ≡ files.old.items ++ option_to_list file) }
+{
+    match file {
+        None => Ok(()),
+        Some(file) => {
+            files.push(file)?;
+            Ok(())
+        }
+    }
+}
+
+impl Contents {
+    /// What no statements say.
+    #[tactic(auto, unfolding(crate::specs::Contents::first_in))]
+    pub fn new(alloc: Global) -> Contents
+        ensures { result ≡ contents_of [] }
+    {
+        Contents {
+            program: None,
+            date: None,
+            switches: None,
+            files: Vec::new(alloc),
+            is_loaded: false,
+            is_dated: false,
+            is_switched: false,
+        }
+    }
+
+    /// Adds what one more statement says.
+    pub fn add(&mut self, statement: &Statement) -> Result<(), AllocError>
+        ensures { OnOk result (self.new ≡ contents_with self.old statement.now) }
+    {
+        add_file(&mut self.files, file_of(&statement.pieces))?;
+        self.program = self
+            .program
+            .or(name_in(Parameter::Program, &statement.pieces));
+        self.date = self.date.or(date_in(&statement.pieces));
+        self.switches = self.switches.or(switches_in(&statement.pieces));
+        self.is_loaded = self.is_loaded || is_verb(Verb::Load, statement.verb);
+        self.is_dated = self.is_dated || is_verb(Verb::Date, statement.verb);
+        self.is_switched = self.is_switched || is_verb(Verb::Switch, statement.verb);
+        Ok(())
+    }
+}
