@@ -7,6 +7,7 @@ use super::entry::Entry;
 use s3_cards::LevelId;
 use s3_level::Action;
 use std::alloc::{AllocFailed, Global};
+use thiserror::Error;
 
 /// What a line of a script asks for: an entry, so many times.
 #[derive(Clone, Copy)]
@@ -18,11 +19,13 @@ pub struct Command {
 }
 
 /// Why a script can't be read.
-#[derive(Clone, Copy)]
+#[derive(Clone, Copy, Debug, Error)]
 pub enum ScriptFault {
     /// A growth was refused.
+    #[error("out of memory")]
     NoMemory,
     /// The first ill-formed line, from 1.
+    #[error("line {0} is ill formed")]
     Line(usize),
 }
 

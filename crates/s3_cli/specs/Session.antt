@@ -1,5 +1,5 @@
 -- What a session writes, and when it refuses.
-use Rattle.std.specs.Prelude.{◌≡◌, ◌⊎◌, ℕ, ◌<◌, List, [], ◌∷◌, ◌++◌, length, Option, Some, None, Result, Ok, Err, codes}
+use Rattle.std.specs.Prelude.{◌≡◌, ◌⊎◌, ℕ, ◌<◌, ◌≤◌, List, [], ◌∷◌, ◌++◌, length, Option, Some, None, Result, Ok, Err, codes}
 use Rattle.std.specs.Io.KnownBytes.{Appends}
 use Rattle.s3_bureau.specs.declared.run_fault.RunFault.{RunFault}
 use Rattle.s3_bureau.specs.declared.run_fault.RunFault.TheVariants.{Script, NoMemory}
@@ -31,8 +31,14 @@ abbrev pub WritesParts : Option Parts → Option (List ℕ) → Option (List ℕ
 WritesParts (Some parts) old new = WritesRun (texts_of parts) old new
 WritesParts None old new = ⊥
 
--- the input has its parts, what is written is the output of the run over them, and the pack is as it was
+-- an input has at most 4,194,304 bytes
+abbrev pub IsShort : List ℕ → Type 0
+IsShort input = length input ≤ 4194304
+
+-- the input isn't too long and has its parts, what is written is the output of the run over them, and the pack is as it
+-- was
 pub record Answers (pack input saved : List ℕ) (old new : Option (List ℕ)) : Type 0 where
+  pub short : IsShort input
   pub wrote : WritesParts (parts_of input) old new
   pub saved_pack : saved ≡ pack
 
@@ -43,7 +49,7 @@ HasBadLine fault None = ⊥
 
 -- when each refusal comes: nothing is said of memory and of files
 abbrev pub Refuses : SessionFault → List ℕ → Type 0
-Refuses (Run (Script number)) input = HasBadLine (Script number) (parts_of input)
+Refuses (Run (Script number)) input = IsShort input × HasBadLine (Script number) (parts_of input)
 Refuses (Run NoMemory) input = Unit {0}
 Refuses Input input = (4194304 < length input) ⊎ (parts_of input ≡ None)
 Refuses File input = Unit {0}
