@@ -6,13 +6,15 @@ use Rattle.std.specs.List.{count_by}
 use Rattle.std.proofs.Math.Path.{fun_ext}
 use Rattle.std.proofs.lemmas.Bool.{cases_Bool}
 use Rattle.std.proofs.lemmas.List.Sums.{length-filter}
+use Rattle.s3_sheets.specs.declared.indicator.Indicator.{Indicator}
+use Rattle.s3_sheets.specs.declared.indicator.Indicator.TheVariants.{General, Level, LastRecord, Matching, Halt, FirstPage, Overflow, Switch}
 use Rattle.s3_sheets.specs.declared.name.Name.{Name}
 use Rattle.s3_sheets.specs.declared.sheet.FileUse.{FileUse}
 use Rattle.s3_sheets.specs.declared.sheet.FileUse.TheVariants.{Input as InputUse, Output as OutputUse}
 use Rattle.s3_sheets.specs.declared.sheet.Designation.{Designation}
 use Rattle.s3_sheets.specs.declared.sheet.Designation.TheVariants.{Primary}
 use Rattle.s3_sheets.specs.declared.sheet.Device.{Device}
-use Rattle.s3_sheets.specs.declared.sheet.Device.TheVariants.{CardReader, Printer}
+use Rattle.s3_sheets.specs.declared.sheet.Device.TheVariants.{CardReader, Printer, Disk}
 use Rattle.s3_sheets.specs.declared.sheet.FileLine.{FileLine}
 use Rattle.s3_sheets.specs.declared.sheet.SheetLine.{SheetLine}
 use Rattle.s3_sheets.specs.declared.sheet.SheetLine.TheVariants.{Header, File, Input, Calculation, Output}
@@ -22,10 +24,11 @@ use Rattle.s3_meaning.specs.Source.{file_line, is_designated, is_input, is_card_
 use Rattle.s3_compile.specs.declared.definitions.DefinedFile.{DefinedFile}
 use Rattle.s3_compile.specs.Definitions.{file_from, file_of}
 use Rattle.s3_compile.specs.Before.{is_card_use, is_print_use, is_card_file, is_print_file}
-use Rattle.s3_compile.specs.Part.{is_built_file, is_built_use, is_built_designation, lies_within, longest_record, has_plain_entries, has_no_disk_entries}
+use Rattle.s3_compile.specs.Part.{is_built_file, is_built_use, is_built_designation, lies_within, longest_record, has_plain_entries, has_no_disk_entries, is_built_switch}
 use Rattle.s3_compile.specs.Conditions.{is_output, is_primary, is_primary_line}
 use Rattle.s3_compile.specs.Diagnostics.{has_one_primary}
-use Rattle.s3_compile.specs.Translation.{file_on, first_of, print_length, print_length_of, byte_of}
+use Rattle.s3_compile.specs.Translation.{file_on, first_of, print_length, print_length_of, byte_of, switch_of, switch_on, card_file, print_file, card_switch_of, print_switch_of}
+use Rattle.s3_compile.specs.Stands.{switched_by}
 use Rattle.s3_compile.proofs.Accepted.{FineFile, FilesFine, files_of}
 use Rattle.s3_compile.proofs.Slots.{some_same}
 
@@ -61,12 +64,13 @@ abbrev with_designation : FileLine → Option Designation → FileLine
 with_designation file designation = record file { designation = designation }
 
 pub record FineCard (file : FileLine) : Type 0 where
+  pub is_card : is_card_file file ≡ true
   pub input : is_input file ≡ true
   pub counted : is_primary file.designation ≡ true
   pub primary : is_designated Primary file ≡ true
   pub reader : is_card_reader file.device ≡ true
   pub usage : is_output file.usage ≡ false
-  pub condition : file.condition ≡ None
+  pub condition : file.condition ≡ switched_by (switch_of file.condition)
   pub overflow : file.overflow ≡ None
   pub positions : file.record_length ≤ 96
 
@@ -75,7 +79,7 @@ pub record FinePrint (file : FileLine) : Type 0 where
   pub counted : is_primary file.designation ≡ false
   pub printer : is_printer file.device ≡ true
   pub usage : is_output file.usage ≡ true
-  pub condition : file.condition ≡ None
+  pub condition : file.condition ≡ switched_by (switch_of file.condition)
   pub overflow : file.overflow ≡ None
   pub some : 0 < file.record_length
   pub positions : file.record_length ≤ 132
@@ -87,8 +91,23 @@ within n last h =
     let c : nat_lt 0 n ≡ true = and_left (nat_lt 0 n) (nat_le n n) a in
     (ltb-true 0 n c, leb-true n last b)
 
+-- a condition that is built is a switch
+switch_is : (indicator : Indicator) → is_built_switch (Some indicator) ≡ true → Some indicator ≡ switched_by (switch_of (Some indicator))
+switch_is (Switch number) h = refl
+switch_is (General number) h = cc
+switch_is (Level number) h = cc
+switch_is LastRecord h = cc
+switch_is Matching h = cc
+switch_is (Halt number) h = cc
+switch_is FirstPage h = cc
+switch_is (Overflow number) h = cc
+
+switched : (condition : Option Indicator) → is_built_switch condition ≡ true → condition ≡ switched_by (switch_of condition)
+switched None h = refl
+switched (Some indicator) h = switch_is indicator h
+
 record Plain (file : FileLine) : Type 0 where
-  condition : file.condition ≡ None
+  condition : file.condition ≡ switched_by (switch_of file.condition)
   overflow : file.overflow ≡ None
   some : 0 < file.record_length
   positions : file.record_length ≤ longest_record file.device
@@ -97,14 +116,15 @@ plain : (file : FileLine) → is_built_file file ≡ true → Plain file
 plain file built =
     let used : Bool = is_built_use file.usage && is_built_designation file.designation in
     let size : Bool = lies_within file.record_length file.record_length (longest_record file.device) in
-    let a : (used && size && has_plain_entries file) ≡ true = and_left (used && size && has_plain_entries file) (has_no_disk_entries file) built in
-    let b : has_no_disk_entries file ≡ true = and_right (used && size && has_plain_entries file) (has_no_disk_entries file) built in
+    let all : Bool = used && size && has_plain_entries file in
+    let most : (all && has_no_disk_entries file) ≡ true = and_left (all && has_no_disk_entries file) (is_built_switch file.condition) built in
+    let a : all ≡ true = and_left all (has_no_disk_entries file) most in
+    let b : has_no_disk_entries file ≡ true = and_right all (has_no_disk_entries file) most in
     let c : size ≡ true = and_right used size (and_left (used && size) (has_plain_entries file) a) in
     let d = within file.record_length (longest_record file.device) c in
-    let e : (is_none file.key && not file.has_additions && is_none file.overflow) ≡ true = and_left (is_none file.key && not file.has_additions && is_none file.overflow) (is_none file.condition) b in
     record {
-      condition = none_is file.condition (and_right (is_none file.key && not file.has_additions && is_none file.overflow) (is_none file.condition) b);
-      overflow = none_is file.overflow (and_right (is_none file.key && not file.has_additions) (is_none file.overflow) e);
+      condition = switched file.condition (and_right (all && has_no_disk_entries file) (is_built_switch file.condition) built);
+      overflow = none_is file.overflow (and_right (is_none file.key && not file.has_additions) (is_none file.overflow) b);
       some = d.0;
       positions = d.1;
     }
@@ -114,6 +134,7 @@ fine_card file is_card built =
     let used = card_use file.usage file.designation file.device is_card in
     let entries = plain file built in
     record {
+      is_card = is_card;
       input = ap (λ d. is_input (with_designation file d)) used.1;
       counted = ap is_primary used.1;
       primary = ap (λ d. is_designated Primary (with_designation file d)) used.1;
@@ -233,6 +254,7 @@ is_card file input (inr p) = let no : true ≡ false = sym input ∙ p.input in 
 pub record OneCard (files : List FileLine) : Type 0 where
   pub card : FileLine
   pub only : filter is_input files ≡ card ∷ []
+  pub among : In card files
   pub fine : FineCard card
 
 pub one_card : (lines : List Line) → FilesFine false false (files_of lines) → has_one_primary lines ≡ true → OneCard (files_of lines)
@@ -242,7 +264,7 @@ one_card lines fine one =
     let only = one_item (filter is_input (files_of lines)) long in
     let there : In only.0 (filter is_input (files_of lines)) = subst (λ (xs : List FileLine). In only.0 xs) (sym only.1) (inl refl) in
     let among = of_filter is_input (files_of lines) only.0 there in
-    record { card = only.0; only = only.1; fine = is_card only.0 among.1 (fine_in false false (files_of lines) only.0 fine among.0) }
+    record { card = only.0; only = only.1; among = among.0; fine = is_card only.0 among.1 (fine_in false false (files_of lines) only.0 fine among.0) }
 
 in_one : (x y : FileLine) → In x (y ∷ []) → x ≡ y
 in_one x y (inl e) = e
@@ -254,6 +276,49 @@ the_card files o file fine i usage =
     let c : FineCard file ⊎ FinePrint file = fine_in false false files file fine i in
     let input : is_input file ≡ true = elim c [ inl card ↦ card.input | inr print ↦ (let no : true ≡ false = sym print.usage ∙ usage in cc) ] in
     in_one file o.card (subst (λ (xs : List FileLine). In file xs) o.only (in_filter is_input files file input i))
+
+-- ---- the switch of the card file
+file_here : (b : Bool) (f : FileLine) (rest : Option FileLine) → b ≡ true → option_or (cond b (Some f) None) rest ≡ Some f
+file_here true f rest so = refl
+file_here false f rest so = cc
+
+file_later : (b : Bool) (f : FileLine) (rest : Option FileLine) (file : FileLine) → b ≡ false → rest ≡ Some file → option_or (cond b (Some f) None) rest ≡ Some file
+file_later true f rest file other e = cc
+file_later false f rest file other e = e
+
+abbrev card_in : FileLine → Option FileLine
+card_in file = if is_card_file file then Some file else None
+
+behind : (file f : FileLine) (fs : List FileLine) → is_card_file file ≡ true → is_card_file f ≡ false → In file (f ∷ fs) → In file fs
+behind file f fs so other (inl e) = let no : true ≡ false = sym so ∙ ap is_card_file e ∙ other in cc
+behind file f fs so other (inr i) = i
+
+card_found : (files : List FileLine) (file : FileLine) → In file files → is_card_file file ≡ true → ((g : FileLine) → In g files → is_card_file g ≡ true → g ≡ file)
+    → first_of card_in files ≡ Some file
+card_found [] file i so only = absurd i
+card_found (f ∷ fs) file i so only = elim (cases_Bool (is_card_file f)) [
+  | inl is ↦ file_here (is_card_file f) f (first_of card_in fs) is ∙ ap (λ g. Some g) (only f (inl refl) is)
+  | inr other ↦ file_later (is_card_file f) f (first_of card_in fs) file other (card_found fs file (behind file f fs so other i) so (λ g j. only g (inr j)))
+]
+
+first_card_line : (place : ℕ) (sheet : SheetLine) (lines : List Line) → first_of (λ (line : Line). card_file line.sheet) lines ≡ first_of card_in (files_of lines)
+    → first_of (λ (line : Line). card_file line.sheet) (one_line place sheet ∷ lines) ≡ first_of card_in (files_of (one_line place sheet ∷ lines))
+first_card_line place (Header name) lines later = later
+first_card_line place (File file) lines later = ap (option_or (card_in file)) later
+first_card_line place (Input input) lines later = later
+first_card_line place (Output output) lines later = later
+first_card_line place (Calculation calculation) lines later = later
+
+first_cards : (lines : List Line) → first_of (λ (line : Line). card_file line.sheet) lines ≡ first_of card_in (files_of lines)
+first_cards [] = refl
+first_cards (line ∷ lines) = first_card_line line.card line.sheet lines (first_cards lines)
+
+pub card_switch_is : (lines : List Line) (o : OneCard (files_of lines)) → FilesFine false false (files_of lines) → card_switch_of lines ≡ switch_of o.card.condition
+card_switch_is lines o fine =
+    ap switch_on
+    (first_cards lines
+    ∙ card_found (files_of lines) o.card o.among o.fine.is_card
+    (λ g i so. the_card (files_of lines) o g fine i (ap is_output (card_use g.usage g.designation g.device so).0)))
 
 -- ---- at most one print file
 abbrev pub print_in : FileLine → Option ℕ
@@ -333,6 +398,40 @@ first_prints : (lines : List Line) → first_of (λ (line : Line). print_length 
 first_prints [] = refl
 first_prints (line ∷ lines) = first_print_line line.card line.sheet lines (first_prints lines)
 
+-- its switch
+abbrev print_file_in : FileLine → Option FileLine
+print_file_in file = if is_print_file file then Some file else None
+
+print_file_found : (card print : Bool) (files : List FileLine) (file : FileLine) → FilesFine card print files → In file files → is_print_file file ≡ true → first_of print_file_in files ≡ Some file
+print_file_found card print [] file fine i so = absurd i
+print_file_found card print (f ∷ fs) file fine (inl e) so =
+    subst (λ (g : FileLine). first_of print_file_in (g ∷ fs) ≡ Some file) e (file_here (is_print_file file) file (first_of print_file_in fs) so)
+print_file_found card print (f ∷ fs) file fine (inr i) so =
+    file_later (is_print_file f) f (first_of print_file_in fs) file
+    (or_right print (is_print_file f) (no_other_print (card || is_card_file f) (print || is_print_file f) fs file fine.1 i so))
+    (print_file_found (card || is_card_file f) (print || is_print_file f) fs file fine.1 i so)
+
+first_print_file_line : (place : ℕ) (sheet : SheetLine) (lines : List Line) → first_of (λ (line : Line). print_file line.sheet) lines ≡ first_of print_file_in (files_of lines)
+    → first_of (λ (line : Line). print_file line.sheet) (one_line place sheet ∷ lines) ≡ first_of print_file_in (files_of (one_line place sheet ∷ lines))
+first_print_file_line place (Header name) lines later = later
+first_print_file_line place (File file) lines later = ap (option_or (print_file_in file)) later
+first_print_file_line place (Input input) lines later = later
+first_print_file_line place (Output output) lines later = later
+first_print_file_line place (Calculation calculation) lines later = later
+
+first_print_files : (lines : List Line) → first_of (λ (line : Line). print_file line.sheet) lines ≡ first_of print_file_in (files_of lines)
+first_print_files [] = refl
+first_print_files (line ∷ lines) = first_print_file_line line.card line.sheet lines (first_print_files lines)
+
+no_reader : (device : Device) → is_card_reader device ≡ true → is_printer device ≡ true → ⊥
+no_reader CardReader reader printer = let no : false ≡ true = printer in cc
+no_reader Printer reader printer = let no : false ≡ true = reader in cc
+no_reader Disk reader printer = let no : false ≡ true = reader in cc
+
+printer_is : (file : FileLine) → is_printer file.device ≡ true → FineCard file ⊎ FinePrint file → FinePrint file
+printer_is file printer (inl c) = absurd (no_reader file.device c.reader printer)
+printer_is file printer (inr p) = p
+
 is_print : (file : FileLine) → is_output file.usage ≡ true → FineCard file ⊎ FinePrint file → FinePrint file
 is_print file usage (inl c) = let no : true ≡ false = sym usage ∙ c.usage in cc
 is_print file usage (inr p) = p
@@ -347,6 +446,13 @@ print_use_of card print (f ∷ fs) file fine (inl e) usage =
       | inr so ↦ subst (λ (g : FileLine). is_print_file g ≡ true) (sym e) so
     ]
 print_use_of card print (f ∷ fs) file fine (inr i) usage = print_use_of (card || is_card_file f) (print || is_print_file f) fs file fine.1 i usage
+
+pub print_condition : (lines : List Line) (file : FileLine) → FilesFine false false (files_of lines) → In file (files_of lines) → is_printer file.device ≡ true
+    → file.condition ≡ switched_by (print_switch_of lines)
+print_condition lines file fine i printer =
+    let p : FinePrint file = printer_is file printer (fine_in false false (files_of lines) file fine i) in
+    p.condition
+    ∙ ap (λ o. switched_by (switch_on o)) (sym (first_print_files lines ∙ print_file_found false false (files_of lines) file fine i (print_use_of false false (files_of lines) file fine i p.usage)))
 
 -- a file of type O is the print file, whose record length the program keeps
 pub record ThePrint (lines : List Line) (file : FileLine) : Type 0 where

@@ -5,19 +5,21 @@ use Rattle.s3_meaning.specs.Source.{Source, file_named}
 use Rattle.s3_compile.specs.declared.program.FieldMove.{FieldMove}
 use Rattle.s3_compile.specs.declared.program.Field.{Field}
 use Rattle.s3_compile.specs.declared.program.Program.{Program}
-use Rattle.s3_compile.specs.Stands.{Stands, SameFields, SameTypes, IsPrintFile}
+use Rattle.s3_compile.specs.Stands.{Stands, SameFields, SameTypes, IsPrintFile, switched_by}
 
 -- a program with the same parts stands for the same source
 pub stands_too : (program copy : Program) (source : Source)
     → copy.fields.items ≡ program.fields.items → copy.moves.items ≡ program.moves.items → copy.lines.items ≡ program.lines.items
     → copy.pieces.items ≡ program.pieces.items → copy.record_indicator ≡ program.record_indicator → copy.print_length ≡ program.print_length
+    → copy.card_switch ≡ program.card_switch → copy.print_switch ≡ program.print_switch
     → Stands program source → Stands copy source
-stands_too program copy source fields moves lines pieces indicator width s = record {
+stands_too program copy source fields moves lines pieces indicator width card_switch print_switch s = record {
   card = s.card;
   inputs = s.inputs;
   primary = s.primary;
   reader = s.reader;
-  condition = s.condition;
+  condition = s.condition ∙ ap switched_by (sym card_switch);
+  printed = λ name file there printer. s.printed name file there printer ∙ ap switched_by (sym print_switch);
   no_overflow = s.no_overflow;
   no_calculations = s.no_calculations;
   fields = subst (λ (xs : List Field). SameFields source xs) (sym fields) s.fields;

@@ -22,12 +22,12 @@ use Rattle.s3_compile.specs.declared.program.Program.{Program}
 use Rattle.s3_compile.specs.Definitions.{Known, known_of, shown, Lengths, length_of}
 use Rattle.s3_compile.specs.Part.{positions_of}
 use Rattle.s3_compile.specs.Compiles.{IsAccepted}
-use Rattle.s3_compile.specs.Translation.{input_on, output_on, inputs_of, outputs_of, fields_of, move_of, piece_of, record_indicator, details_from, moves_of, pieces_of, record_indicator_of, print_length_of}
-use Rattle.s3_compile.specs.Stands.{Stands, SameFields, SameTypes, SameLine, IsPrintFile}
+use Rattle.s3_compile.specs.Translation.{input_on, output_on, inputs_of, outputs_of, fields_of, move_of, piece_of, record_indicator, details_from, moves_of, pieces_of, record_indicator_of, print_length_of, card_switch_of, print_switch_of}
+use Rattle.s3_compile.specs.Stands.{Stands, SameFields, SameTypes, SameLine, IsPrintFile, switched_by}
 use Rattle.s3_compile.specs.Valid.{AreMoves, ArePieces, AreLines, IsWidth}
 use Rattle.s3_compile.proofs.Accepted.{Accepted, accepted, files_of, FilesFine}
 use Rattle.s3_compile.proofs.Slots.{names_equal, slot_found}
-use Rattle.s3_compile.proofs.Files.{find_in, OneCard, one_card, the_card, ThePrint, the_print, no_overflow, print_length_range, file_found, source_files}
+use Rattle.s3_compile.proofs.Files.{find_in, OneCard, one_card, the_card, ThePrint, the_print, no_overflow, print_length_range, card_switch_is, print_condition, file_found, source_files}
 use Rattle.s3_compile.proofs.Moves.{zip_each, filter_map_twice, first_of_map, both, Slots, IsTheCard, Typed, typed, same_types, are_moves}
 use Rattle.s3_compile.proofs.Lines.{IsThePrint, SameDetail, are_pieces, are_lines, details}
 use Rattle.s3_compile.proofs.Shapes.{source_inputs, source_outputs, same_fields}
@@ -59,7 +59,6 @@ print_by_name lines fine name g there usage =
         line = g.line;
         there = ap (find (λ (file : FileLine). same_name file.name name)) (source_files lines) ∙ found;
         printer = print.fine.printer;
-        condition = print.fine.condition;
         length = sym print.length;
       };
       positions = ap positions_of there ∙ sym print.length;
@@ -145,8 +144,9 @@ same_line program source line output fields pieces width same_fields same_pieces
 
 pub stands : (program : Program) (definitions : Definitions) (lines : List Line) → Ready definitions lines → program.fields.items ≡ fields_of definitions.lengths
     → program.moves.items ≡ moves_of definitions.lengths lines → program.record_indicator ≡ record_indicator_of lines → program.lines.items ≡ details_from 0 (outputs_of lines)
-    → program.pieces.items ≡ pieces_of definitions.lengths lines → program.print_length ≡ print_length_of lines → Stands program (source_of lines)
-stands program definitions lines r fields moves indicator details pieces width =
+    → program.pieces.items ≡ pieces_of definitions.lengths lines → program.print_length ≡ print_length_of lines → program.card_switch ≡ card_switch_of lines
+    → program.print_switch ≡ print_switch_of lines → Stands program (source_of lines)
+stands program definitions lines r fields moves indicator details pieces width card_switch print_switch =
     let lengths : Lengths = definitions.lengths in
     let zipped = detail_lines definitions lines r in
     let types : SameTypes (fields_of lengths) (moves_of lengths lines) r.card.card (record_indicator_of lines) (types_from no_name (inputs_of lines)) =
@@ -156,7 +156,11 @@ stands program definitions lines r fields moves indicator details pieces width =
       inputs = ap (filter is_input) (source_files lines) ∙ r.card.only;
       primary = r.card.fine.primary;
       reader = r.card.fine.reader;
-      condition = r.card.fine.condition;
+      condition = r.card.fine.condition ∙ ap switched_by (sym (card_switch ∙ card_switch_is lines r.card r.whole.fine.files));
+      printed = λ name file there printer.
+          print_condition lines file r.whole.fine.files
+          (find_in (λ (file : FileLine). same_name file.name name) (files_of lines) file (ap (find (λ (file : FileLine). same_name file.name name)) (sym (source_files lines)) ∙ there)).0 printer
+          ∙ ap switched_by (sym print_switch);
       no_overflow = ap overflow_of (source_files lines) ∙ no_overflow false false (files_of lines) r.whole.fine.files;
       no_calculations = ap calculations_of r.whole.fine.calculations;
       fields = subst (λ (xs : List Field). SameFields (source_of lines) xs) (sym fields)

@@ -1,4 +1,4 @@
--- The part of the language that is built: a card file and a print file, a record line without codes, alphanumeric
+-- The part of the language that is built: a card file and a print file, each perhaps with a switch, a record line without codes, alphanumeric
 -- fields, and detail lines of fields and constants under conditions 01 to 99 and U1 to U8.
 use Rattle.std.specs.Prelude.{ℕ, nat_lt, nat_le, Bool, true, false, not, ◌&&◌, ◌||◌, List, [], ◌∷◌, Option, Some, None, is_some, is_none}
 use Rattle.std.specs.List.{list_all}
@@ -83,13 +83,19 @@ abbrev pub has_plain_entries : FileLine → Bool
 has_plain_entries file = not file.ends_job || is_some file.designation
 
 abbrev pub has_no_disk_entries : FileLine → Bool
-has_no_disk_entries file = is_none file.key && not file.has_additions && is_none file.overflow && is_none file.condition
+has_no_disk_entries file = is_none file.key && not file.has_additions && is_none file.overflow
+
+-- none, or U1 to U8
+abbrev pub is_built_switch : Option Indicator → Bool
+is_built_switch None = true
+is_built_switch (Some (Switch number)) = lies_within number number 8
+is_built_switch _ = false
 
 abbrev pub is_built_file : FileLine → Bool
 is_built_file file =
     is_built_use file.usage && is_built_designation file.designation
     && lies_within file.record_length file.record_length (longest_record file.device)
-    && has_plain_entries file && has_no_disk_entries file
+    && has_plain_entries file && has_no_disk_entries file && is_built_switch file.condition
 
 -- ---- records and fields
 abbrev pub is_alphanumeric : FieldForm → Bool

@@ -1,6 +1,8 @@
 -- A program stands for a source: the same lines, with names as slots.
-use Rattle.std.specs.Prelude.{◌≡◌, ℕ, ◌-◌, true, false, List, [], ◌∷◌, filter, Option, Some, None, length, slice_get, slice_range}
-use Rattle.s3_sheets.specs.declared.indicator.Indicator.TheVariants.{General}
+use Rattle.std.specs.Prelude.{◌≡◌, ℕ, ◌-◌, true, false, List, [], ◌∷◌, filter, Option, Some, None, option_map, length, slice_get, slice_range}
+use Rattle.s3_sheets.specs.declared.indicator.Indicator.{Indicator}
+use Rattle.s3_sheets.specs.declared.indicator.Indicator.TheVariants.{General, Switch}
+use Rattle.s3_sheets.specs.declared.name.Name.{Name}
 use Rattle.s3_sheets.specs.declared.sheet.FileLine.{FileLine}
 use Rattle.s3_sheets.specs.declared.sheet.FieldLine.{FieldLine}
 use Rattle.s3_sheets.specs.declared.sheet.FieldForm.TheVariants.{Alphanumeric}
@@ -84,12 +86,15 @@ pub record SamePieces (fields : List Field) (pieces : List Piece) (outputs : Lis
 abbrev pub blank_spacing : Spacing
 blank_spacing = record { space_before = None; space_after = None; skip_before = None; skip_after = None }
 
+-- the condition of a file
+abbrev pub switched_by : Option ℕ → Option Indicator
+switched_by switch = option_map (λ n. Switch n) switch
+
 -- the print file, of this record length
 pub record IsPrintFile (width : ℕ) (file : Option FileLine) : Type 0 where
   pub line : FileLine
   pub there : file ≡ Some line
   pub printer : is_printer line.device ≡ true
-  pub condition : line.condition ≡ None
   pub length : line.record_length ≡ width
 
 -- a detail line of the print file with one group of conditions
@@ -106,7 +111,8 @@ pub record Stands (program : Program) (source : Source) : Type 0 where
   pub inputs : filter is_input source.files ≡ card ∷ []
   pub primary : is_designated Primary card ≡ true
   pub reader : is_card_reader card.device ≡ true
-  pub condition : card.condition ≡ None
+  pub condition : card.condition ≡ switched_by program.card_switch
+  pub printed : (name : Name) (file : FileLine) → file_named source name ≡ Some file → is_printer file.device ≡ true → file.condition ≡ switched_by program.print_switch
   pub no_overflow : overflow_of source.files ≡ None
   pub no_calculations : source.calculations ≡ []
   pub fields : SameFields source program.fields.items

@@ -4,7 +4,7 @@ use Rattle.std.specs.List.{filter_map, cons_option}
 use Rattle.std.specs.Option.{option_or, option_and_then, option_to_list}
 use Rattle.indexmap.specs.IndexMap.{index_of}
 use Rattle.s3_sheets.specs.declared.indicator.Indicator.{Indicator}
-use Rattle.s3_sheets.specs.declared.indicator.Indicator.TheVariants.{General}
+use Rattle.s3_sheets.specs.declared.indicator.Indicator.TheVariants.{General, Switch}
 use Rattle.s3_sheets.specs.declared.name.Name.{Name}
 use Rattle.s3_sheets.specs.declared.sheet.FileLine.{FileLine}
 use Rattle.s3_sheets.specs.declared.sheet.InputLine.{InputLine}
@@ -19,7 +19,7 @@ use Rattle.s3_sheets.specs.declared.sheet.Line.{Line}
 use Rattle.s3_meaning.specs.Names.{same_name}
 use Rattle.s3_meaning.specs.OutputLines.{fields_from}
 use Rattle.s3_compile.specs.Definitions.{Lengths}
-use Rattle.s3_compile.specs.Before.{is_print_file}
+use Rattle.s3_compile.specs.Before.{is_card_file, is_print_file}
 use Rattle.s3_compile.specs.declared.program.Field.{Field}
 use Rattle.s3_compile.specs.declared.program.FieldMove.{FieldMove}
 use Rattle.s3_compile.specs.declared.program.Content.{Content}
@@ -113,6 +113,23 @@ abbrev pub print_length : SheetLine → Option ℕ
 print_length (File file) = if is_print_file file then byte_of file.record_length else None
 print_length _ = None
 
+-- ---- the switches of the files
+abbrev pub switch_of : Option Indicator → Option ℕ
+switch_of (Some (Switch number)) = Some number
+switch_of _ = None
+
+abbrev pub card_file : SheetLine → Option FileLine
+card_file (File file) = if is_card_file file then Some file else None
+card_file _ = None
+
+abbrev pub print_file : SheetLine → Option FileLine
+print_file (File file) = if is_print_file file then Some file else None
+print_file _ = None
+
+abbrev pub switch_on : Option FileLine → Option ℕ
+switch_on None = None
+switch_on (Some file) = switch_of file.condition
+
 -- ---- the lines of all sheets
 abbrev pub moves_of : Lengths → List Line → List FieldMove
 moves_of lengths lines = filter_map (λ line. option_and_then (move_of lengths) (input_on line.sheet)) lines
@@ -125,3 +142,9 @@ record_indicator_of lines = first_of (λ line. option_and_then record_indicator 
 
 abbrev pub print_length_of : List Line → ℕ
 print_length_of lines = unwrap_or (first_of (λ line. print_length line.sheet) lines) 132
+
+abbrev pub card_switch_of : List Line → Option ℕ
+card_switch_of lines = switch_on (first_of (λ line. card_file line.sheet) lines)
+
+abbrev pub print_switch_of : List Line → Option ℕ
+print_switch_of lines = switch_on (first_of (λ line. print_file line.sheet) lines)

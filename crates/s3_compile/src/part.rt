@@ -127,7 +127,17 @@ fn has_plain_entries(file: &FileLine) -> bool
 fn has_no_disk_entries(file: &FileLine) -> bool
     ensures { result ≡ spec.has_no_disk_entries file.now }
 {
-    file.key.is_none() && !file.has_additions && file.overflow.is_none() && file.condition.is_none()
+    file.key.is_none() && !file.has_additions && file.overflow.is_none()
+}
+
+fn is_built_switch(condition: Option<Indicator>) -> bool
+    ensures { result ≡ spec.is_built_switch condition }
+{
+    match condition {
+        None => true,
+        Some(Indicator::Switch(number)) => lies_within(u16::from(number), u16::from(number), 8),
+        Some(_) => false,
+    }
 }
 
 fn is_built_file(file: &FileLine) -> bool
@@ -142,6 +152,7 @@ fn is_built_file(file: &FileLine) -> bool
         )
         && has_plain_entries(file)
         && has_no_disk_entries(file)
+        && is_built_switch(file.condition)
 }
 
 fn is_alphanumeric(form: FieldForm) -> bool

@@ -62,6 +62,10 @@ pub struct Program {
     pub pieces: Vec<Piece>,
     /// The record length of the print file, 1 to 132.
     pub print_length: u8,
+    /// The switch without which the card file has ended at once, 1 to 8.
+    pub card_switch: Option<u8>,
+    /// The switch without which nothing is printed, 1 to 8.
+    pub print_switch: Option<u8>,
     pub ghost moves_fit: { AreMoves fields.items moves.items },
     pub ghost lines_fit: { AreLines pieces.items lines.items },
     pub ghost pieces_fit: { ArePieces fields.items print_length pieces.items },
@@ -87,6 +91,8 @@ impl Program {
             lines: self.lines.to_vec(alloc)?,
             pieces: self.pieces.to_vec(alloc)?,
             print_length: self.print_length,
+            card_switch: self.card_switch,
+            print_switch: self.print_switch,
         })
     }
 }

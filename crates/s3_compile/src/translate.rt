@@ -11,13 +11,13 @@ ghost use Rattle.s3_compile.specs.Compiles.{program_name as program_name_lem};
 ghost use Rattle.s3_compile.specs.Definitions.{known_of, shown};
 ghost use Rattle.s3_compile.specs.Translation as spec;
 
-use crate::before::is_print_file;
+use crate::before::{is_card_file, is_print_file};
 use crate::definitions::Definitions;
 use crate::program::{Content, DetailLine, Field, FieldMove, Piece, Program};
 use indexmap::IndexMap;
 use s3_sheets::indicator::Indicator;
 use s3_sheets::name::Name;
-use s3_sheets::sheet::{InputLine, Line, OutputContent, OutputLine, SheetLine};
+use s3_sheets::sheet::{FileLine, InputLine, Line, OutputContent, OutputLine, SheetLine};
 use std::alloc::{AllocError, Global};
 
 /// RPGOBJ in EBCDIC.
@@ -217,6 +217,58 @@ fn print_length(lines: &[Line]) -> u8
     132
 }
 
+/// The number of the switch that is the condition of a file.
+fn switch(condition: Option<Indicator>) -> Option<u8>
+    ensures { result ≡ spec.switch_of condition }
+{
+    match condition {
+        Some(Indicator::Switch(number)) => Some(number),
+        _ => None,
+    }
+}
+
+fn card_file(line: &SheetLine) -> Option<FileLine>
+    ensures { result ≡ spec.card_file line.now }
+{
+    match line {
+        SheetLine::File(file) if is_card_file(file) => Some(*file),
+        _ => None,
+    }
+}
+
+/// The switch of the card file.
+fn card_switch(lines: &[Line]) -> Option<u8>
+    ensures { result ≡ spec.card_switch_of lines.now }
+{
+    for line in lines {
+        if let Some(file) = card_file(&line.sheet) {
+            return switch(file.condition);
+        }
+    }
+    None
+}
+
+fn print_file(line: &SheetLine) -> Option<FileLine>
+    ensures { result ≡ spec.print_file line.now }
+{
+    match line {
+        SheetLine::File(file) if is_print_file(file) => Some(*file),
+        _ => None,
+    }
+}
+
+/// The switch of the print file.
+fn print_switch(lines: &[Line]) -> Option<u8>
+    ensures { result ≡ spec.print_switch_of lines.now }
+{
+    for line in lines {
+        if let Some(file) = print_file(&line.sheet) {
+            return switch(file.condition);
+        }
+    }
+    None
+}
+
 fn header_name(line: &SheetLine) -> Option<Name>
     ensures { result ≡ header_name_lem line.now }
 {
@@ -257,5 +309,7 @@ pub fn translate(alloc: Global, known: &Definitions, lines: &[Line]) -> Result<P
         lines: details,
         pieces,
         print_length: print_length(lines),
+        card_switch: card_switch(lines),
+        print_switch: print_switch(lines),
     })
 }

@@ -1,7 +1,7 @@
 -- What a detail line prints, by slots and by names.
 use Rattle.std.proofs.Common.{◌≡◌, ℕ, zero, suc, ◌+◌, ◌-◌, ◌≤◌, nat_lt, Bool, true, false, not, ◌&&◌, ◌||◌, if◌then◌else◌, List, [], ◌∷◌, ◌++◌, map, drop, take, length, replicate, slice_get, slice_range, Option, Some, None, unwrap_or, refl, ap, sym, ◌∙◌, arith}
 use Rattle.std.specs.List.{list_any, list_all}
-use Rattle.std.proofs.lemmas.Bool.{le-ltb, cond-false}
+use Rattle.std.proofs.lemmas.Bool.{true≢false, le-ltb, cond-false}
 use Rattle.std.proofs.lemmas.List.{map-append, take-map, drop_all}
 use Rattle.s3_sheets.specs.declared.indicator.Condition.{Condition}
 use Rattle.s3_sheets.specs.declared.sheet.FileLine.{FileLine}
@@ -23,14 +23,14 @@ use Rattle.s3_compile.specs.declared.program.Content.TheVariants.{Constant as Co
 use Rattle.s3_compile.specs.declared.program.Field.{Field}
 use Rattle.s3_compile.specs.declared.program.Piece.{Piece}
 use Rattle.s3_compile.specs.declared.program.DetailLine.{DetailLine}
-use Rattle.s3_compile.specs.Stands.{SameField, SameFields, SameContent, SamePiece, SamePieces, SameLine, Stands, blank_spacing}
+use Rattle.s3_compile.specs.Stands.{SameField, SameFields, SameContent, SamePiece, SamePieces, SameLine, Stands, blank_spacing, switched_by}
 use Rattle.s3_cycle.specs.declared.carriage.Carriage.{Carriage}
 use Rattle.s3_cycle.specs.declared.indicators.Indicators.{Indicators}
 use Rattle.s3_cycle.specs.declared.stepper.Stepper.{Stepper}
-use Rattle.s3_cycle.specs.Held.{held, entry_holds}
+use Rattle.s3_cycle.specs.Held.{held, entry_holds, is_used}
 use Rattle.s3_cycle.specs.Printing.{carriage_at, overlaid, content_bytes, pieces_put}
 use Rattle.s3_cycle.specs.Rest.{after_headings, headings_put}
-use Rattle.s3_cycle.specs.Steps.{text_of}
+use Rattle.s3_cycle.specs.Steps.{is_due, text_of}
 use Rattle.s3_cycle.proofs.ListLemmas.{drop-there, there-too}
 use Rattle.s3_cycle.proofs.FieldLemmas.{text_in-slot}
 
@@ -208,11 +208,24 @@ carriage-put source c new none next =
     there : to_print blank_spacing (carriage_at c.carriage) ≡ record { page = c.carriage.page; line = c.carriage.line; overflow = overflow }
     there = λ i. record { page = to_print-page c.carriage.page c.carriage.line c.carriage.line_fits i; line = to_print-line c.carriage.page c.carriage.line c.carriage.line_fits i; overflow = overflow }
 
-line-printed : (source : Source) (c : Stepper) (new : Carriage) (line : DetailLine) (output : Output) (go : Rest) → SameFields source c.program.fields.items → length c.texts ≡ length c.program.fields.items → overflow_of source.files ≡ None → SameLine c.program source line output → IsNextLine c.carriage new → line_put source (again source) output (file_named source output.file) go (held source c) ≡ ask (Print c.carriage.page c.carriage.line (text_of c line)) (λ answer. go (held source (record c { carriage = new })))
-unfolding line_put file_line_put printed
-line-printed source c new line output go fields long none same next =
+-- ---- the print file's switch
+served : (source : Source) (c : Stepper) (file : FileLine) (switch : Option ℕ) → is_served (held source c) (record file { condition = switched_by switch }) ≡ is_used c.indicators.switches switch
+unfolding held
+served source c file None = refl
+served source c file (Some number) = refl
+
+put-to : (source : Source) (c : Stepper) (line : DetailLine) (output : Output) (go : Rest) (same : SameLine c.program source line output) → same.file.line.condition ≡ switched_by c.program.print_switch → line_put source (again source) output (file_named source output.file) go (held source c) ≡ (if is_used c.indicators.switches c.program.print_switch then file_line_put source (again source) output same.file.line go else go) (held source c)
+unfolding line_put
+put-to source c line output go same condition =
     ap (λ named. line_put source (again source) output named go (held source c)) same.file.there
-    ∙ ap (λ condition. (if is_served (held source c) (record file { condition = condition }) then file_line_put source (again source) output file go else go) (held source c)) same.file.condition
+    ∙ ap (λ condition. (if is_served (held source c) (record same.file.line { condition = condition }) then file_line_put source (again source) output same.file.line go else go) (held source c)) condition
+    ∙ ap (λ b. (if b then file_line_put source (again source) output same.file.line go else go) (held source c)) (served source c same.file.line c.program.print_switch)
+
+line-printed : (source : Source) (c : Stepper) (new : Carriage) (line : DetailLine) (output : Output) (go : Rest) → SameFields source c.program.fields.items → length c.texts ≡ length c.program.fields.items → overflow_of source.files ≡ None → (same : SameLine c.program source line output) → same.file.line.condition ≡ switched_by c.program.print_switch → is_used c.indicators.switches c.program.print_switch ≡ true → IsNextLine c.carriage new → line_put source (again source) output (file_named source output.file) go (held source c) ≡ ask (Print c.carriage.page c.carriage.line (text_of c line)) (λ answer. go (held source (record c { carriage = new })))
+unfolding line_put file_line_put printed
+line-printed source c new line output go fields long none same condition on next =
+    put-to source c line output go same condition
+    ∙ ap (λ b. (if b then file_line_put source (again source) output file go else go) (held source c)) on
     ∙ ap (λ (k : Composed). (if is_printer file.device then printed source output (filled k.positions) go else (λ e'. ask (disk_request file output k.positions e') (λ answer. stored_or_halted (again source) go answer e'))) k.after) (pieces-composed source c fields long pieces output.fields (replicate file.record_length None) same.pieces)
     ∙ ap (λ printer. (if printer then printed source output (filled positions) go else (λ e'. ask (disk_request file output positions e') (λ answer. stored_or_halted (again source) go answer e'))) (held source c)) same.file.printer
     ∙ ap (λ text. printed source output text go (held source c)) (filled-pieces c.texts c.indicators pieces (replicate file.record_length None) ∙ ap (pieces_put c.texts c.indicators pieces) (filled-none file.record_length ∙ ap (λ n. replicate n 0x40) same.file.length))
@@ -237,20 +250,44 @@ headings-at source c reading k line output stands there output_there =
     ap (λ outputs. headings_put source reading outputs (held source c)) (drop-there source.outputs k output output_there)
     ∙ ap (λ b. (if b then line_put source (again source) output (file_named source output.file) (headings_put source reading (drop (k + 1) source.outputs)) else headings_put source reading (drop (k + 1) source.outputs)) (held source c)) (holds-here source c line output stands.no_overflow (stands.lines k line output there output_there))
 
--- a line whose conditions don't hold is passed over
-pub line-skipped : (source : Source) (c : Stepper) (reading : Reading) (k : ℕ) (line : DetailLine) → Stands c.program source → slice_get c.program.lines.items k ≡ Some line → list_all (entry_holds c.indicators) line.conditions ≡ false → headings_put source reading (drop k source.outputs) (held source c) ≡ headings_put source reading (drop (k + 1) source.outputs) (held source c)
+both-left : (a b : Bool) → (a && b) ≡ true → a ≡ true
+both-left true b e = refl
+both-left false b e = absurd (true≢false (sym e))
+
+both-right : (a b : Bool) → (a && b) ≡ true → b ≡ true
+both-right true b e = e
+both-right false b e = absurd (true≢false (sym e))
+
+-- the condition of the file that a line is put to
+its-condition : (source : Source) (c : Stepper) (line : DetailLine) (output : Output) → Stands c.program source → (same : SameLine c.program source line output) → same.file.line.condition ≡ switched_by c.program.print_switch
+its-condition source c line output stands same = stands.printed output.file same.file.line same.file.there same.file.printer
+
+-- a line that isn't due is passed over
+pub line-skipped : (source : Source) (c : Stepper) (reading : Reading) (k : ℕ) (line : DetailLine) → Stands c.program source → slice_get c.program.lines.items k ≡ Some line → is_due c line ≡ false → headings_put source reading (drop k source.outputs) (held source c) ≡ headings_put source reading (drop (k + 1) source.outputs) (held source c)
 line-skipped source c reading k line stands there off =
     let output : (output : Output) × (slice_get source.outputs k ≡ Some output) = there-too source.outputs c.program.lines.items k line stands.count there in
+    let same : SameLine c.program source line output.0 = stands.lines k line output.0 there output.1 in
     headings-at source c reading k line output.0 stands there output.1
-    ∙ ap (λ b. (if b then line_put source (again source) output.0 (file_named source output.0.file) (headings_put source reading (drop (k + 1) source.outputs)) else headings_put source reading (drop (k + 1) source.outputs)) (held source c)) off
+    ∙ passed (is_used c.indicators.switches c.program.print_switch) (list_all (entry_holds c.indicators) line.conditions) off (line_put source (again source) output.0 (file_named source output.0.file) go) (file_line_put source (again source) output.0 same.file.line go) (put-to source c line output.0 go same (its-condition source c line output.0 stands same))
+  where
+    go : Rest
+    go = headings_put source reading (drop (k + 1) source.outputs)
 
--- a line whose conditions hold is printed
-pub line-hit : (source : Source) (c : Stepper) (reading : Reading) (new : Carriage) (k : ℕ) (line : DetailLine) → Stands c.program source → length c.texts ≡ length c.program.fields.items → slice_get c.program.lines.items k ≡ Some line → list_all (entry_holds c.indicators) line.conditions ≡ true → IsNextLine c.carriage new → headings_put source reading (drop k source.outputs) (held source c) ≡ ask (Print c.carriage.page c.carriage.line (text_of c line)) (λ answer. headings_put source reading (drop (k + 1) source.outputs) (held source (record c { carriage = new })))
-line-hit source c reading new k line stands long there holds next =
+    passed : (used holds : Bool) → (used && holds) ≡ false → (put : Rest) (filed : Rest) → put (held source c) ≡ (if used then filed else go) (held source c) → (if holds then put else go) (held source c) ≡ go (held source c)
+    passed true true none put filed is = absurd (true≢false none)
+    passed true false none put filed is = refl
+    passed false true none put filed is = is
+    passed false false none put filed is = refl
+
+-- a line that is due is printed
+pub line-hit : (source : Source) (c : Stepper) (reading : Reading) (new : Carriage) (k : ℕ) (line : DetailLine) → Stands c.program source → length c.texts ≡ length c.program.fields.items → slice_get c.program.lines.items k ≡ Some line → is_due c line ≡ true → IsNextLine c.carriage new → headings_put source reading (drop k source.outputs) (held source c) ≡ ask (Print c.carriage.page c.carriage.line (text_of c line)) (λ answer. headings_put source reading (drop (k + 1) source.outputs) (held source (record c { carriage = new })))
+line-hit source c reading new k line stands long there due next =
     let output : (output : Output) × (slice_get source.outputs k ≡ Some output) = there-too source.outputs c.program.lines.items k line stands.count there in
+    let same : SameLine c.program source line output.0 = stands.lines k line output.0 there output.1 in
+    let used : Bool = is_used c.indicators.switches c.program.print_switch in
     headings-at source c reading k line output.0 stands there output.1
-    ∙ ap (λ b. (if b then line_put source (again source) output.0 (file_named source output.0.file) (headings_put source reading (drop (k + 1) source.outputs)) else headings_put source reading (drop (k + 1) source.outputs)) (held source c)) holds
-    ∙ line-printed source c new line output.0 (headings_put source reading (drop (k + 1) source.outputs)) stands.fields long stands.no_overflow (stands.lines k line output.0 there output.1) next
+    ∙ ap (λ b. (if b then line_put source (again source) output.0 (file_named source output.0.file) (headings_put source reading (drop (k + 1) source.outputs)) else headings_put source reading (drop (k + 1) source.outputs)) (held source c)) (both-right used (list_all (entry_holds c.indicators) line.conditions) due)
+    ∙ line-printed source c new line output.0 (headings_put source reading (drop (k + 1) source.outputs)) stands.fields long stands.no_overflow same (its-condition source c line output.0 stands same) (both-left used (list_all (entry_holds c.indicators) line.conditions) due) next
 
 -- past the last line step 1 goes on
 pub lines-past : (source : Source) (c : Stepper) (reading : Reading) (k : ℕ) (e : Environment) → Stands c.program source → length c.program.lines.items ≤ k → headings_put source reading (drop k source.outputs) e ≡ after_headings source reading e

@@ -9,17 +9,19 @@ use Rattle.s3_sheets.specs.declared.indicator.Indicator.TheVariants.{General, Le
 use Rattle.s3_meaning.specs.Names.{same_indicator}
 use Rattle.s3_meaning.specs.RecordTypes.{RecordType}
 use Rattle.s3_meaning.specs.Source.{Source, is_input}
-use Rattle.s3_meaning.specs.Requests.{Card, Read}
-use Rattle.s3_meaning.specs.Environment.{Environment, switch_on, is_level}
-use Rattle.s3_meaning.specs.Runs.{ask}
-use Rattle.s3_meaning.specs.Cycle.{halts_shown, cleared, reading_time, files_read, file_read, again}
+use Rattle.s3_meaning.specs.Requests.{Card, Read, End}
+use Rattle.s3_meaning.specs.Environment.{Environment, switch_on, is_level, with_last_record}
+use Rattle.s3_meaning.specs.Runs.{ask, ended}
+use Rattle.s3_meaning.specs.Cycle.{halts_shown, cleared, reading_time, files_read, file_read, selected_or_last, last_time, again}
 use Rattle.s3_compile.specs.Stands.{Stands, SameTypes}
 use Rattle.s3_cycle.specs.declared.stepper.Stepper.{Stepper}
-use Rattle.s3_cycle.specs.declared.stepper.Point.TheVariants.{Card as CardPoint}
-use Rattle.s3_cycle.specs.declared.request.Request.TheVariants.{Card as CardRequest}
+use Rattle.s3_cycle.specs.declared.stepper.Point.TheVariants.{Card as CardPoint, End as EndPoint}
+use Rattle.s3_cycle.specs.declared.request.Request.TheVariants.{Card as CardRequest, End as EndRequest}
 use Rattle.s3_cycle.specs.declared.indicators.Indicators.{Indicators}
-use Rattle.s3_cycle.specs.Held.{held, on_in, without_type}
-use Rattle.s3_cycle.specs.Rest.{input_of, reading_of, after_headings, heads_read, card_answered}
+use Rattle.s3_cycle.specs.Held.{held, on_in, is_used, without_type}
+use Rattle.s3_cycle.specs.Rest.{waiting_of, reading_of, after_headings, heads_read, card_answered}
+use Rattle.s3_meaning.specs.Selection.{Ended}
+use Rattle.s3_cycle.proofs.TakeLemmas.{ended-at-once, select-ended, no-totals-put, stands-unread, stands-ended}
 
 -- the indicators when 1P, the types' indicators and the levels have gone off
 abbrev pub cleared_on : List RecordType → (Indicator → Bool) → Indicator → Bool
@@ -89,10 +91,31 @@ unfolding held
 held-cleared c source stands = ap (λ (on : Indicator → Bool). let e : Environment = record (held source c) { on = on } in e) (fun_ext λ other. cleared-types c source stands c.program.record_indicator stands.types other)
 
 -- a card is asked for, with the indicators off
-pub card-asked : (c : Stepper) (source : Source) → Stands c.program source → after_headings source (reading_of source c) (held source c) ≡ ask Card (λ answer. card_answered source (reading c) (filter is_input source.files) answer (held source (reading c)))
+pub card-asked : (c : Stepper) (source : Source) → is_used c.indicators.switches c.program.card_switch ≡ true → Stands c.program source → after_headings source (reading_of source c) (held source c) ≡ ask Card (λ answer. card_answered source (reading c) (filter is_input source.files) answer (held source (reading c)))
 unfolding after_headings halts_shown cleared reading_time held heads_read files_read file_read card_answered
-card-asked c source stands =
-    ap (λ e. files_read source (again source) (map (input_of c) (filter is_input source.files)) (heads_read source) e) (held-cleared c source stands)
-    ∙ ap (λ files. files_read source (again source) (map (input_of c) files) (heads_read source) (held source (reading c))) stands.inputs
+card-asked c source used stands =
+    ap (λ e. files_read source (again source) (map (waiting_of c) (filter is_input source.files)) (heads_read source) e) (held-cleared c source stands)
+    ∙ ap (λ files. files_read source (again source) (map (waiting_of c) files) (heads_read source) (held source (reading c))) stands.inputs
+    ∙ ap (λ standing. files_read source (again source) (record { file = stands.card; standing = standing; reads = c.reads; last_key = None } ∷ []) (heads_read source) (held source (reading c))) (stands-unread c used)
     ∙ ap (λ reader. ask (if reader then Card else Read stands.card.name) (λ answer. card_answered source (reading c) (stands.card ∷ []) answer (held source (reading c)))) stands.reader
     ∙ ap (λ files. ask Card (λ answer. card_answered source (reading c) files answer (held source (reading c)))) (sym stands.inputs)
+
+-- the switches stay
+pub cleared-switches : (number : Option ℕ) (indicators : Indicators) → (without_type number indicators).switches ≡ indicators.switches
+cleared-switches None indicators = refl
+cleared-switches (Some number) indicators = refl
+
+-- the stepper at the end, with the indicators off
+abbrev pub unread : Stepper → Stepper
+unread c = record c { indicators = without_type c.program.record_indicator (record c.indicators { first_page = false }); request = EndRequest false; point = EndPoint }
+
+-- a card file that isn't used has ended, and so does the job
+pub unread-ended : (c : Stepper) (source : Source) → is_used c.indicators.switches c.program.card_switch ≡ false → Stands c.program source → after_headings source (reading_of source c) (held source c) ≡ ask (End false) (λ answer answers. End false)
+unfolding after_headings halts_shown cleared reading_time held heads_read files_read selected_or_last last_time ended
+unread-ended c source unused stands =
+    ap (λ e. files_read source (again source) (map (waiting_of c) (filter is_input source.files)) (heads_read source) e) (held-cleared c source stands)
+    ∙ ap (λ files. files_read source (again source) (map (waiting_of c) files) (heads_read source) (held source (reading c))) stands.inputs
+    ∙ ap (λ standing. files_read source (again source) (record { file = stands.card; standing = standing; reads = c.reads; last_key = None } ∷ []) (heads_read source) (held source (reading c))) (stands-ended c unused)
+    ∙ ap (λ selected. selected_or_last source (again source) (record { files = record { file = stands.card; standing = Ended; reads = c.reads; last_key = None } ∷ []; primary_key = None }) selected (held source (reading c))) (select-ended stands.card c.reads)
+    ∙ no-totals-put c source stands (ended false) (with_last_record (held source (reading c)))
+    ∙ sym (ended-at-once (End false))

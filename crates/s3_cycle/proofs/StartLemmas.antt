@@ -3,6 +3,7 @@ use Rattle.std.proofs.Common.{◌≡◌, ℕ, zero, suc, Bool, true, false, if�
 use Rattle.std.specs.List.{list_any}
 use Rattle.std.proofs.Math.Path.{fun_ext}
 use Rattle.s3_sheets.specs.declared.name.Name.{Name}
+use Rattle.s3_sheets.specs.declared.sheet.FileLine.{FileLine}
 use Rattle.s3_sheets.specs.declared.indicator.Indicator.{Indicator}
 use Rattle.s3_sheets.specs.declared.indicator.Indicator.TheVariants.{General, Level, LastRecord, Matching, Halt, FirstPage, Overflow, Switch}
 use Rattle.s3_meaning.specs.Names.{same_name}
@@ -14,11 +15,12 @@ use Rattle.s3_meaning.specs.Selection.{Standing, Unread, Ended, Reading}
 use Rattle.s3_meaning.specs.Cycle.{first_standing, first_reading, Req}
 use Rattle.s3_compile.specs.declared.program.Field.{Field}
 use Rattle.s3_compile.specs.declared.program.Program.{Program}
-use Rattle.s3_compile.specs.Stands.{SameField, SameFields, Stands}
+use Rattle.s3_compile.specs.Stands.{SameField, SameFields, Stands, switched_by}
+use Rattle.s3_cycle.specs.declared.indicators.Indicators.{Indicators}
 use Rattle.s3_cycle.specs.declared.stepper.Stepper.{Stepper}
 use Rattle.s3_cycle.specs.Texts.{blank_texts}
-use Rattle.s3_cycle.specs.Held.{held, on_in, text_in, current_in}
-use Rattle.s3_cycle.specs.Rest.{rest, headings_put, input_of, reading_of}
+use Rattle.s3_cycle.specs.Held.{held, on_in, is_used, text_in, current_in}
+use Rattle.s3_cycle.specs.Rest.{rest, headings_put, standing_of, waiting_of, reading_of}
 use Rattle.s3_cycle.specs.Steps.{GoesOn, Starts}
 use Rattle.s3_cycle.proofs.FieldLemmas.{same_name-equal}
 use Rattle.s3_cycle.proofs.TakeLemmas.{cycle-begun}
@@ -84,10 +86,16 @@ held-first source switches date c fields is = λ i. record {
   line = is.line i;
 }
 
-reading-first : (source : Source) (switches : ℕ) (date : List ℕ) (c : Stepper) → Stands c.program source → c.reads ≡ 0 → reading_of source c ≡ first_reading source (at_first source switches date)
-reading-first source switches date c stands none =
-    ap (λ files. let reading : Reading = record { files = map (input_of c) files; primary_key = None } in reading) stands.inputs
-    ∙ ap (λ reads. let reading : Reading = record { files = record { file = stands.card; standing = Unread; reads = reads; last_key = None } ∷ []; primary_key = None } in reading) none
+served-first : (source : Source) (switches : ℕ) (date : List ℕ) (file : FileLine) (switch : Option ℕ) → is_served (at_first source switches date) (record file { condition = switched_by switch }) ≡ is_used switches switch
+served-first source switches date file None = refl
+served-first source switches date file (Some number) = refl
+
+reading-first : (source : Source) (switches : ℕ) (date : List ℕ) (c : Stepper) → Stands c.program source → IsFresh switches date c → reading_of source c ≡ first_reading source (at_first source switches date)
+reading-first source switches date c stands is =
+    ap (λ files. let reading : Reading = record { files = map (waiting_of c) files; primary_key = None } in reading) stands.inputs
+    ∙ ap (λ reads. let reading : Reading = record { files = record { file = stands.card; standing = standing_of c; reads = reads; last_key = None } ∷ []; primary_key = None } in reading) is.reads
+    ∙ ap (λ (indicators : Indicators). let reading : Reading = record { files = record { file = stands.card; standing = if is_used indicators.switches c.program.card_switch then Unread else Ended; reads = 0; last_key = None } ∷ []; primary_key = None } in reading) is.indicators
+    ∙ ap (λ used. let reading : Reading = record { files = record { file = stands.card; standing = if used then Unread else Ended; reads = 0; last_key = None } ∷ []; primary_key = None } in reading) (sym (served-first source switches date stands.card c.program.card_switch))
     ∙ ap (λ condition. let reading : Reading = record { files = record { file = stands.card; standing = standing_by condition; reads = 0; last_key = None } ∷ []; primary_key = None } in reading) (sym stands.condition)
     ∙ ap (λ files. let reading : Reading = record { files = map (first_standing (at_first source switches date)) files; primary_key = None } in reading) (sym stands.inputs)
   where
@@ -105,5 +113,5 @@ starts program switches date c new same is goes = record {
     begun source stands =
         goes.runs source stands
         ∙ ap (λ e. headings_put source (reading_of source c) source.outputs e) (held-first source switches date c stands.fields is)
-        ∙ ap (λ reading. headings_put source reading source.outputs (at_first source switches date)) (reading-first source switches date c stands is.reads)
+        ∙ ap (λ reading. headings_put source reading source.outputs (at_first source switches date)) (reading-first source switches date c stands is)
         ∙ sym (cycle-begun source (first_reading source (at_first source switches date)) (at_first source switches date))

@@ -1,6 +1,5 @@
 -- Steps of a stepper, one after another.
 use Rattle.std.proofs.Common.{◌≡◌, ℕ, ◌+◌, ◌<◌, min, true, List, [], ◌∷◌, filter, length, drop, slice_get, slice_set, Some, refl, ap, sym, ◌∙◌, subst, arith}
-use Rattle.std.specs.List.{list_all}
 use Rattle.std.proofs.lemmas.Option.{same_Some}
 use Rattle.s3_meaning.specs.Source.{Source, is_input}
 use Rattle.s3_cards.specs.Printed.{Printed}
@@ -17,10 +16,10 @@ use Rattle.s3_cycle.specs.declared.stepper.Point.TheVariants.{Headings, End as E
 use Rattle.s3_cycle.specs.declared.stepper.Stepper.{Stepper}
 use Rattle.s3_cycle.specs.declared.request.Answer.{Answer}
 use Rattle.s3_cycle.specs.Requests.{request_of, answer_of}
-use Rattle.s3_cycle.specs.Held.{held, entry_holds}
+use Rattle.s3_cycle.specs.Held.{held, is_used}
 use Rattle.s3_cycle.specs.Texts.{texts_moved}
 use Rattle.s3_cycle.specs.Rest.{after_headings, headings_put, reading_of, answered, card_answered, rest, StandsFor}
-use Rattle.s3_cycle.specs.Steps.{IsSound, GoesOn, SkipsTo, IsPrinted, text_of}
+use Rattle.s3_cycle.specs.Steps.{IsSound, GoesOn, SkipsTo, IsPrinted, is_due, text_of}
 use Rattle.s3_cycle.proofs.FitLemmas.{as-many}
 use Rattle.s3_cycle.proofs.LineLemmas.{IsNextLine, line-hit, lines-past}
 use Rattle.s3_cycle.proofs.TakeLemmas.{ended-at-once, moved_by, card-taken}
@@ -59,10 +58,10 @@ pub at-answer : (c new : Stepper) (answer answer' : Answer) → answer ≡ answe
 at-answer c new answer answer' same goes = goes-mid c c new _ _ refl (λ source stands. ap (λ a. card_answered source c (filter is_input source.files) (answer_of a) (held source c)) (sym same)) goes
 
 -- a card is taken, and the next cycle begun
-pub takes : (old counted new : Stepper) (bytes : List ℕ) (number : ℕ) (indicators : Indicators) (texts : List (List ℕ)) (moves : List FieldMove) → IsSound old → old.program.record_indicator ≡ Some number → counted ≡ record old { reads = min (old.reads + 1) 16776960 } → indicators ≡ record counted.indicators { general = slice_set counted.indicators.general number true } → number < length counted.indicators.general → moves ≡ counted.program.moves.items → texts ≡ texts_moved moves bytes counted.texts → GoesOn (record counted { indicators = indicators; current = Some counted.reads; texts = texts; totals_due = true }) new (λ source. headings_put source (reading_of source (record counted { indicators = indicators; current = Some counted.reads; texts = texts; totals_due = true })) source.outputs (held source (record counted { indicators = indicators; current = Some counted.reads; texts = texts; totals_due = true }))) → GoesOn old new (λ source. card_answered source old (filter is_input source.files) (Found bytes) (held source old))
-takes old counted new bytes number indicators texts moves sound typed_as is_counted on within same_moves moved goes =
+pub takes : (old counted new : Stepper) (bytes : List ℕ) (number : ℕ) (indicators : Indicators) (texts : List (List ℕ)) (moves : List FieldMove) → IsSound old → is_used old.indicators.switches old.program.card_switch ≡ true → old.program.record_indicator ≡ Some number → counted ≡ record old { reads = min (old.reads + 1) 16776960 } → indicators ≡ record counted.indicators { general = slice_set counted.indicators.general number true } → number < length counted.indicators.general → moves ≡ counted.program.moves.items → texts ≡ texts_moved moves bytes counted.texts → GoesOn (record counted { indicators = indicators; current = Some counted.reads; texts = texts; totals_due = true }) new (λ source. headings_put source (reading_of source (record counted { indicators = indicators; current = Some counted.reads; texts = texts; totals_due = true })) source.outputs (held source (record counted { indicators = indicators; current = Some counted.reads; texts = texts; totals_due = true }))) → GoesOn old new (λ source. card_answered source old (filter is_input source.files) (Found bytes) (held source old))
+takes old counted new bytes number indicators texts moves sound used typed_as is_counted on within same_moves moved goes =
     goes-mid old (moved_by old bytes number) new _ _ refl
-    (λ source stands. sym (card-taken old source bytes number typed_as (let P : Stepper → Type 0 = λ c. number < length c.indicators.general in subst P is_counted within) (as-many old.program.fields.items old.texts sound.lengths) stands))
+    (λ source stands. sym (card-taken old source bytes number used typed_as (let P : Stepper → Type 0 = λ c. number < length c.indicators.general in subst P is_counted within) (as-many old.program.fields.items old.texts sound.lengths) stands))
     (let P : Stepper → Type 0 = λ c. GoesOn c new (λ source. headings_put source (reading_of source c) source.outputs (held source c)) in subst P same goes)
   where
     by-counted : Stepper → Stepper
@@ -78,16 +77,16 @@ takes old counted new bytes number indicators texts moves sound typed_as is_coun
 pub prints : (old : Stepper) (next : Carriage) (place : ℕ) (line : DetailLine) (printed : Printed) → IsSound old → IsPrinted old place → slice_get old.program.lines.items place ≡ Some line → printed ≡ record { page = old.carriage.page; line = old.carriage.line; text = text_of old line } → IsNextLine old.carriage next → GoesOn old (record old { carriage = next; request = PrintRequest printed; point = Headings (place + 1) }) (λ source. headings_put source (reading_of source old) (drop place source.outputs) (held source old))
 unfolding request_of held
 prints old next place line printed sound is_printed there is next_is =
-    goes-wait old _ _ refl (record { lengths = sound.lengths; point = tt })
+    goes-wait old _ _ refl (record { lengths = sound.lengths; point = tt; used = tt })
     (λ source stands.
-    line-hit source old (reading_of source old) next place line stands (as-many old.program.fields.items old.texts sound.lengths) there holds next_is
+    line-hit source old (reading_of source old) next place line stands (as-many old.program.fields.items old.texts sound.lengths) there due next_is
     ∙ ap (λ (p : Printed). ask (Meant.Print p.page p.line p.text) (λ answer. headings_put source (reading_of source old) (drop (place + 1) source.outputs) (held source (record old { carriage = next })))) (sym is))
   where
     same : is_printed.line ≡ line
     same = same_Some _ _ (sym is_printed.there ∙ there)
 
-    holds : list_all (entry_holds old.indicators) line.conditions ≡ true
-    holds = ap (λ (line : DetailLine). list_all (entry_holds old.indicators) line.conditions) (sym same) ∙ is_printed.holds
+    due : is_due old line ≡ true
+    due = ap (λ (line : DetailLine). is_due old line) (sym same) ∙ is_printed.due
 
 -- past the lines the run goes on as after them
 pub reads-on : (c new : Stepper) (next : ℕ) → SkipsTo c next (length c.program.lines.items) → GoesOn c new (λ source. after_headings source (reading_of source c) (held source c)) → GoesOn c new (λ source. headings_put source (reading_of source c) (drop next source.outputs) (held source c))

@@ -32,8 +32,8 @@ use Rattle.s3_cycle.specs.declared.indicators.Indicators.{Indicators}
 use Rattle.s3_cycle.specs.declared.request.Request.TheVariants.{Ask as AskRequest}
 use Rattle.s3_cycle.specs.declared.stepper.Point.TheVariants.{Unidentified as UnidentifiedPoint}
 use Rattle.s3_cycle.specs.declared.stepper.Stepper.{Stepper}
-use Rattle.s3_cycle.specs.Held.{held, on_in, current_in}
-use Rattle.s3_cycle.specs.Rest.{input_of, reading_of, after_headings, headings_put, heads_read, card_answered, reply_answered}
+use Rattle.s3_cycle.specs.Held.{held, on_in, is_used, current_in}
+use Rattle.s3_cycle.specs.Rest.{input_of, standing_of, waiting_of, reading_of, after_headings, headings_put, heads_read, card_answered, reply_answered}
 use Rattle.s3_cycle.proofs.ListLemmas.{there-too}
 use Rattle.s3_cycle.proofs.FieldLemmas.{same_name-self}
 use Rattle.s3_cycle.specs.Texts.{texts_moved}
@@ -57,7 +57,7 @@ are-detail c source stands k output there =
     (stands.lines k line.0 output line.1 there).kind
 
 -- totals without calculations and total lines
-no-totals-put : (c : Stepper) (source : Source) → Stands c.program source → (go : Rest) (e : Environment) → totals source (again source) go e ≡ go e
+pub no-totals-put : (c : Stepper) (source : Source) → Stands c.program source → (go : Rest) (e : Environment) → totals source (again source) go e ≡ go e
 unfolding totals calculated
 no-totals-put c source stands go e =
     ap (λ calculations. calculated source (again source) (filter is_total calculations) (lines_put source (again source) is_total_line false source.outputs go) None (filter is_total calculations) e) stands.no_calculations
@@ -73,7 +73,7 @@ ended-at-once request = fun_ext λ answers. by answers
     by (answer ∷ answers) = refl
 
 -- the one file has ended
-select-ended : (file : FileLine) (reads : ℕ) → select (record { files = record { file = file; standing = Ended; reads = reads; last_key = None } ∷ []; primary_key = None }) ≡ None
+pub select-ended : (file : FileLine) (reads : ℕ) → select (record { files = record { file = file; standing = Ended; reads = reads; last_key = None } ∷ []; primary_key = None }) ≡ None
 select-ended file reads = by_end file.ends_job
   where
     by_end : (ends_job : Bool) → select (record { files = record { file = record file { ends_job = ends_job }; standing = Ended; reads = reads; last_key = None } ∷ []; primary_key = None }) ≡ None
@@ -270,9 +270,16 @@ moved_by c bytes number = record c {
   reads = min (c.reads + 1) 16776960;
 }
 
-head-taken : (c : Stepper) (source : Source) (bytes : List ℕ) (number : ℕ) (kind : RecordType) (stands : Stands c.program source) → source.types ≡ kind ∷ [] → SameType c.program.fields.items c.program.moves.items stands.card number kind → number < length c.indicators.general → length c.texts ≡ length c.program.fields.items → heads_read source ((one_head stands.card (head_from c bytes kind)).files) (held source c) ≡ headings_put source (reading_of source (moved_by c bytes number)) source.outputs (held source (moved_by c bytes number))
+-- the standing of a card file that is used, and of one that isn't
+pub stands-unread : (c : Stepper) → is_used c.indicators.switches c.program.card_switch ≡ true → standing_of c ≡ Unread
+stands-unread c used = cond-true _ _ _ used
+
+pub stands-ended : (c : Stepper) → is_used c.indicators.switches c.program.card_switch ≡ false → standing_of c ≡ Ended
+stands-ended c unused = cond-false _ _ _ unused
+
+head-taken : (c : Stepper) (source : Source) (bytes : List ℕ) (number : ℕ) (kind : RecordType) (stands : Stands c.program source) → is_used c.indicators.switches c.program.card_switch ≡ true → source.types ≡ kind ∷ [] → SameType c.program.fields.items c.program.moves.items stands.card number kind → number < length c.indicators.general → length c.texts ≡ length c.program.fields.items → heads_read source ((one_head stands.card (head_from c bytes kind)).files) (held source c) ≡ headings_put source (reading_of source (moved_by c bytes number)) source.outputs (held source (moved_by c bytes number))
 unfolding heads_read selected_or_last record_time detail_time calculated held
-head-taken c source bytes number kind stands one same within long =
+head-taken c source bytes number kind stands used one same within long =
     ap (λ selected. selected_or_last source (again source) heads selected (held source c)) (select-head stands.card head plain)
     ∙ ap (λ is_matching. record_time source (again source) is_matching selected ((again source).cycle (taken heads selected)) (held source c)) (not-matched stands.card head stands.primary)
     ∙ ap (λ reading. record_time source (again source) false selected ((again source).cycle reading) (held source c)) (taken-head stands.card head plain stands.primary)
@@ -284,7 +291,8 @@ head-taken c source bytes number kind stands one same within long =
     ∙ ap (λ calculations. calculated source (again source) (filter is_detail calculations) (λ e. go (with_totals_due source selected e)) None (filter is_detail calculations) (held source moved)) stands.no_calculations
     ∙ ap go (due-now moved source selected (plain-has_levels source kind one plain))
     ∙ cycle-begun source next (held source (moved_by c bytes number))
-    ∙ ap (λ files. headings_put source (record { files = map (input_of (moved_by c bytes number)) files; primary_key = None }) source.outputs (held source (moved_by c bytes number))) (sym stands.inputs)
+    ∙ ap (λ standing. headings_put source (record { files = record { file = stands.card; standing = standing; reads = head.number; last_key = None } ∷ []; primary_key = None }) source.outputs (held source (moved_by c bytes number))) (sym (stands-unread c used))
+    ∙ ap (λ files. headings_put source (record { files = map (waiting_of (moved_by c bytes number)) files; primary_key = None }) source.outputs (held source (moved_by c bytes number))) (sym stands.inputs)
   where
     head : Head
     head = head_from c bytes kind
@@ -307,10 +315,10 @@ head-taken c source bytes number kind stands one same within long =
     moved : Stepper
     moved = record (identified number c) { current = Some head.number; texts = texts_moved c.program.moves.items bytes c.texts }
 
-pub card-taken : (c : Stepper) (source : Source) (bytes : List ℕ) (number : ℕ) → c.program.record_indicator ≡ Some number → number < length c.indicators.general → length c.texts ≡ length c.program.fields.items → Stands c.program source → card_answered source c (filter is_input source.files) (Found bytes) (held source c) ≡ headings_put source (reading_of source (moved_by c bytes number)) source.outputs (held source (moved_by c bytes number))
-card-taken c source bytes number typed_as within long stands =
+pub card-taken : (c : Stepper) (source : Source) (bytes : List ℕ) (number : ℕ) → is_used c.indicators.switches c.program.card_switch ≡ true → c.program.record_indicator ≡ Some number → number < length c.indicators.general → length c.texts ≡ length c.program.fields.items → Stands c.program source → card_answered source c (filter is_input source.files) (Found bytes) (held source c) ≡ headings_put source (reading_of source (moved_by c bytes number)) source.outputs (held source (moved_by c bytes number))
+card-taken c source bytes number used typed_as within long stands =
     let types : SameTypes c.program.fields.items c.program.moves.items stands.card (Some number) source.types = subst (λ number. SameTypes c.program.fields.items c.program.moves.items stands.card number source.types) typed_as stands.types in
-    typed-one c source bytes number types.0 stands types.1 types.2 ∙ head-taken c source bytes number types.0 stands types.1 types.2 within long
+    typed-one c source bytes number types.0 stands types.1 types.2 ∙ head-taken c source bytes number types.0 stands used types.1 types.2 within long
 
 -- another answer is as none
 pub other-answer : (c : Stepper) (source : Source) (files : List FileLine) (e : Environment) → card_answered source c files Done e ≡ card_answered source c files Nothing e

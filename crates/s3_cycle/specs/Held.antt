@@ -8,7 +8,7 @@ use Rattle.s3_sheets.specs.declared.indicator.Condition.{Condition}
 use Rattle.s3_meaning.specs.Names.{same_name}
 use Rattle.s3_meaning.specs.Source.{Source, is_input, length_of}
 use Rattle.s3_meaning.specs.Requests.{Current, NthRead}
-use Rattle.s3_meaning.specs.Environment.{Environment, no_remainder, on_at_first, numbers_at_first}
+use Rattle.s3_meaning.specs.Environment.{Environment, no_remainder, switch_on, on_at_first, numbers_at_first}
 use Rattle.s3_compile.specs.declared.program.Field.{Field}
 use Rattle.s3_cycle.specs.declared.indicators.Indicators.{Indicators}
 use Rattle.s3_cycle.specs.declared.stepper.Stepper.{Stepper}
@@ -31,6 +31,11 @@ condition_holds indicators condition = if condition.negated then not (on_in indi
 abbrev pub entry_holds : Indicators → Option Condition → Bool
 entry_holds indicators None = true
 entry_holds indicators (Some condition) = condition_holds indicators condition
+
+-- a file without a switch is used, and one whose switch is on
+abbrev pub is_used : (switches : ℕ) → Option ℕ → Bool
+is_used switches None = true
+is_used switches (Some number) = switch_on switches number
 
 -- the record identifying indicator goes off
 abbrev pub without_type : Option ℕ → Indicators → Indicators

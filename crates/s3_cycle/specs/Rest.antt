@@ -6,7 +6,7 @@ use Rattle.s3_meaning.specs.Source.{Source, is_input}
 use Rattle.s3_meaning.specs.OutputLines.{Output}
 use Rattle.s3_meaning.specs.Requests.{Answer}
 use Rattle.s3_meaning.specs.Environment.{turn}
-use Rattle.s3_meaning.specs.Selection.{Unread, InputFile, Reading, select}
+use Rattle.s3_meaning.specs.Selection.{Standing, Unread, Ended, InputFile, Reading, select}
 use Rattle.s3_meaning.specs.Runs.{Run, Rest, ask, ended, replied}
 use Rattle.s3_meaning.specs.Output.{is_heading_or_detail, lines_put}
 use Rattle.s3_meaning.specs.Cycle.{halts_shown, cleared, on_read, files_read, last_time, selected_or_last, reading_time, again, Req}
@@ -16,15 +16,22 @@ use Rattle.s3_cycle.specs.declared.stepper.Point.{Point}
 use Rattle.s3_cycle.specs.declared.stepper.Point.TheVariants.{Headings, Card, Unidentified, End}
 use Rattle.s3_cycle.specs.declared.stepper.Stepper.{Stepper}
 use Rattle.s3_cycle.specs.Requests.{request_of}
-use Rattle.s3_cycle.specs.Held.{held}
+use Rattle.s3_cycle.specs.Held.{held, is_used}
 
 -- ---- what is to be read
 -- a card file whose head was taken
 abbrev pub input_of : Stepper → FileLine → InputFile
 input_of c file = record { file = file; standing = Unread; reads = c.reads; last_key = None }
 
+-- one whose switch is off has ended
+abbrev pub standing_of : Stepper → Standing
+standing_of c = if is_used c.indicators.switches c.program.card_switch then Unread else Ended
+
+abbrev pub waiting_of : Stepper → FileLine → InputFile
+waiting_of c file = record (input_of c file) { standing = standing_of c }
+
 abbrev pub reading_of : Source → Stepper → Reading
-reading_of source c = record { files = map (input_of c) (filter is_input source.files); primary_key = None }
+reading_of source c = record { files = map (waiting_of c) (filter is_input source.files); primary_key = None }
 
 -- ---- the steps from a place on
 -- step 1 after its lines, step 2, and all that follows

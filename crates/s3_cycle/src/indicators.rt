@@ -15,7 +15,7 @@ pub struct Indicators {
 impl Indicators {
     ghost use Rattle.std.specs.Prelude.{◌≡◌, ◌<◌, length, replicate, slice_set, false, true};
     ghost use Rattle.std.specs.List.{list_all};
-    ghost use Rattle.s3_cycle.specs.Held.{on_in, condition_holds, entry_holds, without_type};
+    ghost use Rattle.s3_cycle.specs.Held.{on_in, condition_holds, entry_holds, is_used, without_type};
 
     /// 1P and L0 are on, and the switches as they are set.
     pub fn at_first(switches: u8) -> Indicators
@@ -64,6 +64,16 @@ impl Indicators {
             }
         }
         true
+    }
+
+    /// Whether a file with this switch, or without one, is used.
+    pub fn serves(&self, switch: Option<u8>) -> bool
+        ensures { result ≡ is_used self.now.switches switch }
+    {
+        match switch {
+            None => true,
+            Some(number) => self.is_on(Indicator::Switch(number)),
+        }
     }
 
     /// A record identifying indicator goes on.

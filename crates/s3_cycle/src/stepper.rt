@@ -57,9 +57,9 @@ impl Stepper {
     ghost use Rattle.s3_compile.specs.Stands.{Stands};
     ghost use Rattle.s3_compile.specs.declared.program.DetailLine.{DetailLine};
     ghost use Rattle.s3_cycle.specs.Requests.{answer_of, is_fit};
-    ghost use Rattle.s3_cycle.specs.Held.{held, entry_holds};
+    ghost use Rattle.s3_cycle.specs.Held.{held, entry_holds, is_used};
     ghost use Rattle.s3_cycle.specs.Rest.{headings_put, after_headings, reading_of, card_answered, answered};
-    ghost use Rattle.s3_cycle.specs.Steps.{IsSound, GoesOn, Starts, SkipsTo, IsPrinted, text_of};
+    ghost use Rattle.s3_cycle.specs.Steps.{IsSound, GoesOn, Starts, SkipsTo, IsPrinted, is_due, text_of};
 
     /// A job at its first request.
     pub fn start(
@@ -74,7 +74,7 @@ impl Stepper {
         let mut stepper = Stepper {
             program,
             request: Request::Card,
-            point: Point::Card,
+            point: Point::Headings { next: 0 },
             date,
             texts,
             indicators: Indicators::at_first(switches),
@@ -108,7 +108,7 @@ impl Stepper {
         self.point = point;
     }
 
-    /// Step 1 from a line on: the detail lines whose conditions hold are printed.
+    /// Step 1 from a line on: the detail lines whose conditions hold are printed, where the print file is used.
     fn put_headings(&mut self, next: usize)
         requires sound { IsSound self.old }
         ensures { GoesOn self.old self.new (λ source. headings_put source (reading_of source self.old) (drop next source.outputs) (held source self.old)) }
@@ -119,16 +119,21 @@ impl Stepper {
         }
     }
 
-    /// The place of the first line from a place on whose conditions hold.
+    /// Whether a line's conditions hold and the print file is used.
+    fn is_due(&self, line: &DetailLine) -> bool
+        ensures { result ≡ is_due self.now line.now }
+    {
+        self.indicators.serves(self.program.print_switch)
+            && self.indicators.all_hold(&line.conditions)
+    }
+
+    /// The place of the first line from a place on that is printed.
     fn next_line(&self, next: usize) -> Option<usize>
         ensures found { IfSome result (λ place. IsPrinted self.now place × SkipsTo self.now next place) }
         ensures none { IfNone result (SkipsTo self.now next (length self.now.program.lines.items)) }
     {
         for place in next..self.program.lines.len() {
-            if self
-                .indicators
-                .all_hold(&self.program.lines[place].conditions)
-            {
+            if self.is_due(&self.program.lines[place]) {
                 return Some(place);
             }
         }
@@ -169,17 +174,41 @@ impl Stepper {
         put_pieces(pieces, &self.texts, &self.indicators, text);
     }
 
-    /// After the lines of step 1: 1P goes off; step 2; and step 3 asks for a card.
+    /// After the lines of step 1: 1P goes off; step 2; and step 3, which reads the card file.
     fn read(&mut self)
         requires sound { IsSound self.old }
+        ensures { GoesOn self.old self.new (λ source. after_headings source (reading_of source self.old) (held source self.old)) }
+    {
+        if self.indicators.serves(self.program.card_switch) {
+            self.ask_card();
+        } else {
+            self.end_unread();
+        }
+    }
+
+    /// Step 3 asks for a card.
+    fn ask_card(&mut self)
+        requires sound { IsSound self.old }
+        requires used { is_used self.old.indicators.switches self.old.program.card_switch ≡ true }
         ensures { GoesOn self.old self.new (λ source. after_headings source (reading_of source self.old) (held source self.old)) }
     {
         self.indicators.clear(self.program.record_indicator);
         self.wait(Request::Card, Point::Card);
     }
 
+    /// Step 3 finds the card file ended, and the job ends with this cycle.
+    fn end_unread(&mut self)
+        requires sound { IsSound self.old }
+        requires unused { is_used self.old.indicators.switches self.old.program.card_switch ≡ false }
+        ensures { GoesOn self.old self.new (λ source. after_headings source (reading_of source self.old) (held source self.old)) }
+    {
+        self.indicators.clear(self.program.record_indicator);
+        self.wait(Request::End { at_once: false }, Point::End);
+    }
+
     fn answer_card(&mut self, answer: &Answer)
         requires sound { IsSound self.old }
+        requires used { is_used self.old.indicators.switches self.old.program.card_switch ≡ true }
         ensures { GoesOn self.old self.new (λ source. card_answered source self.old (filter is_input source.files) (answer_of answer.now) (held source self.old)) }
     {
         match answer {
@@ -193,6 +222,7 @@ impl Stepper {
     /// Step 3: the card that was read is typed.
     fn take_card(&mut self, card: &Card)
         requires sound { IsSound self.old }
+        requires used { is_used self.old.indicators.switches self.old.program.card_switch ≡ true }
         ensures { GoesOn self.old self.new (λ source. card_answered source self.old (filter is_input source.files) (Found card.now) (held source self.old)) }
     {
         match self.program.record_indicator {
@@ -223,6 +253,7 @@ impl Stepper {
     /// Steps 4 to 12 with the card that was read: its indicator goes on and its fields are moved. Then the next cycle begins.
     fn take_record(&mut self, card: &Card, number: u8)
         requires sound { IsSound self.old }
+        requires used { is_used self.old.indicators.switches self.old.program.card_switch ≡ true }
         requires typed { self.old.program.record_indicator ≡ Some number }
         ensures { GoesOn self.old self.new (λ source. card_answered source self.old (filter is_input source.files) (Found card.now) (held source self.old)) }
     {

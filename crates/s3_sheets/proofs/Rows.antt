@@ -180,6 +180,18 @@ overflow_unbuilt : found (header ∷ cards_file ∷ (put 40 (codes "PRINTER") (p
 unfolding code_page breaks_some_rule device_of ebcdic reserved_names longest_record digits_number is_word text_of constant_text goes_on kind_of rule_fault header_rules file_rules record_rules group_rules field_rules calculation_rules output_line_rules output_field_rules line_of lines_of is_at_fault is_outside is_too_many card_holds sheet_diagnostics
 overflow_unbuilt = refl
 
+print_switched : found (header ∷ cards_file ∷ (put 40 (codes "PRINTER") (put 71 (codes "U8") (put 25 (codes "132") (put 19 (codes "F") (put 15 (codes "O") (put 7 (codes "PRINT") (put 6 (codes "F") (blank_card)))))))) ∷ record_card ∷ text_field ∷ detail ∷ text_out ∷ []) ≡ []
+unfolding code_page breaks_some_rule device_of ebcdic reserved_names longest_record digits_number is_word text_of constant_text goes_on kind_of rule_fault header_rules file_rules record_rules group_rules field_rules calculation_rules output_line_rules output_field_rules line_of lines_of is_at_fault is_outside is_too_many card_holds sheet_diagnostics
+print_switched = refl
+
+print_switch_past_last : found (header ∷ cards_file ∷ (put 40 (codes "PRINTER") (put 71 (codes "U9") (put 25 (codes "132") (put 19 (codes "F") (put 15 (codes "O") (put 7 (codes "PRINT") (put 6 (codes "F") (blank_card)))))))) ∷ record_card ∷ text_field ∷ detail ∷ text_out ∷ []) ≡ (5, 2) ∷ []
+unfolding code_page breaks_some_rule device_of ebcdic reserved_names longest_record digits_number is_word text_of constant_text goes_on kind_of rule_fault header_rules file_rules record_rules group_rules field_rules calculation_rules output_line_rules output_field_rules line_of lines_of is_at_fault is_outside is_too_many card_holds sheet_diagnostics
+print_switch_past_last = refl
+
+print_switch_signed : found (header ∷ cards_file ∷ (put 40 (codes "PRINTER") (put 71 (codes "NU") (put 25 (codes "132") (put 19 (codes "F") (put 15 (codes "O") (put 7 (codes "PRINT") (put 6 (codes "F") (blank_card)))))))) ∷ record_card ∷ text_field ∷ detail ∷ text_out ∷ []) ≡ (5, 2) ∷ []
+unfolding code_page breaks_some_rule device_of ebcdic reserved_names longest_record digits_number is_word text_of constant_text goes_on kind_of rule_fault header_rules file_rules record_rules group_rules field_rules calculation_rules output_line_rules output_field_rules line_of lines_of is_at_fault is_outside is_too_many card_holds sheet_diagnostics
+print_switch_signed = refl
+
 -- a file card that is a comment defines nothing
 file_commented_out : found (header ∷ (put 40 (codes "MFCU1") (put 26 (codes "XX") (put 15 (codes "IP") (put 7 (codes "*X") (put 6 (codes "F") (blank_card)))))) ∷ print_file ∷ record_card ∷ text_field ∷ detail ∷ text_out ∷ []) ≡ []
 unfolding code_page breaks_some_rule device_of ebcdic reserved_names longest_record digits_number is_word text_of constant_text goes_on kind_of rule_fault header_rules file_rules record_rules group_rules field_rules calculation_rules output_line_rules output_field_rules line_of lines_of is_at_fault is_outside is_too_many card_holds sheet_diagnostics

@@ -1,17 +1,18 @@
 -- The typed line of a card. It is defined for every card; of a source without diagnostics it is what the card says.
-use Rattle.std.specs.Prelude.{ℕ, ◌+◌, List, [], ◌∷◌, ◌++◌, false, ◌==◌, zero, suc, Option, Some, None, unwrap_or, length, slice_index_or, if◌then◌else◌, codes}
+use Rattle.std.specs.Prelude.{ℕ, ◌+◌, List, [], ◌∷◌, ◌++◌, false, ◌==◌, zero, suc, Option, Some, None, unwrap_or, option_map, length, slice_index_or, if◌then◌else◌, codes}
 use Rattle.std.specs.Option.{option_to_list}
 use Rattle.s3_cards.specs.declared.ebcdic.TheConstants.{LETTER_E, LETTER_O, LETTER_P}
 use Rattle.s3_sheets.specs.Codes.{ebcdic}
 use Rattle.s3_sheets.specs.Columns.{column, columns, are_blank, number_of, name_of}
-use Rattle.s3_sheets.specs.Entries.{general_of, condition_of, constant_text, constant}
+use Rattle.s3_sheets.specs.Entries.{general_of, switch_of, condition_of, constant_text, constant}
 use Rattle.s3_sheets.specs.Kinds.{kind_of}
 use Rattle.s3_sheets.specs.Rules.{same_codes}
 use Rattle.s3_sheets.specs.declared.kind.CardKind.{CardKind}
 use Rattle.s3_sheets.specs.declared.kind.CardKind.TheVariants as kind
 use Rattle.s3_sheets.specs.declared.name.Name.{Name}
 use Rattle.s3_sheets.specs.declared.indicator.Condition.{Condition}
-use Rattle.s3_sheets.specs.declared.indicator.Indicator.TheVariants.{General}
+use Rattle.s3_sheets.specs.declared.indicator.Indicator.{Indicator}
+use Rattle.s3_sheets.specs.declared.indicator.Indicator.TheVariants.{General, Switch}
 use Rattle.s3_sheets.specs.declared.sheet.FileUse.{FileUse}
 use Rattle.s3_sheets.specs.declared.sheet.FileUse.TheVariants.{Input as InputUse, Output as OutputUse}
 use Rattle.s3_sheets.specs.declared.sheet.Designation.{Designation}
@@ -54,6 +55,10 @@ designation_of code = if code == LETTER_P then Some Primary else None
 unfoldable pub device_of : List ℕ → Device
 device_of entry = if same_codes entry (ebcdic (codes "PRINTER")) then Printer else CardReader
 
+-- the switch without which a file isn't used
+abbrev pub file_condition : List ℕ → Option Indicator
+file_condition entry = option_map (λ n. Switch n) (switch_of entry)
+
 abbrev pub file_line : List ℕ → FileLine
 file_line card = record {
   name = name_of (columns card 7 14);
@@ -65,7 +70,7 @@ file_line card = record {
   overflow = None;
   device = device_of (columns card 40 46);
   has_additions = false;
-  condition = None;
+  condition = file_condition (columns card 71 72);
 }
 
 -- ---- the I sheet

@@ -17,6 +17,7 @@ entry_view (variant.Number low high) = spec.Number low high
 entry_view (variant.MaybeNumber low high) = spec.MaybeNumber low high
 entry_view variant.GeneralIndicator = spec.GeneralIndicator
 entry_view variant.MaybeCondition = spec.MaybeCondition
+entry_view variant.MaybeSwitch = spec.MaybeSwitch
 entry_view variant.MaybeConstant = spec.MaybeConstant
 entry_view variant.RecordLength = spec.RecordLength
 entry_view variant.Extent = spec.Extent

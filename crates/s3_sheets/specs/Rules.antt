@@ -4,7 +4,7 @@ use Rattle.std.specs.List.{list_all, list_any}
 use Rattle.std.specs.Cmp.Lexicographic.{pointwise}
 use Rattle.s3_sheets.specs.Codes.{ebcdic, is_letter}
 use Rattle.s3_sheets.specs.Columns.{columns, are_blank, number_of, is_name, name_of}
-use Rattle.s3_sheets.specs.Entries.{general_of, is_condition, constant_text, is_reserved}
+use Rattle.s3_sheets.specs.Entries.{general_of, switch_of, is_condition, constant_text, is_reserved}
 
 -- what may stand in some columns
 pub data Entry : Type 0 where
@@ -25,6 +25,8 @@ pub data Entry : Type 0 where
   -- 01 to 99
   GeneralIndicator : Entry
   MaybeCondition : Entry
+  -- U1 to U8, or blank
+  MaybeSwitch : Entry
   MaybeConstant : Entry
   -- columns 24 to 46 of an F card: the record length, and the device that bounds it
   RecordLength : Entry
@@ -93,6 +95,7 @@ entry_fault (Number low high) entry = when (out_of_range (number_of entry) low h
 entry_fault (MaybeNumber low high) entry = when (not (are_blank entry) && out_of_range (number_of entry) low high) 4
 entry_fault GeneralIndicator entry = when (not (is_some (general_of entry))) 2
 entry_fault MaybeCondition entry = when (not (is_condition entry)) 2
+entry_fault MaybeSwitch entry = when (not (are_blank entry || is_some (switch_of entry))) 2
 entry_fault MaybeConstant entry = when (not (are_blank entry || is_some (constant_text entry))) 3
 entry_fault RecordLength entry = when (out_of_range (number_of (take 4 entry)) 1 (longest_record (drop 16 entry))) 4
 entry_fault Extent entry = when (is_bad_extent (number_of (take 4 entry)) (number_of (drop 4 entry))) 4

@@ -1,7 +1,7 @@
 -- The rules of each kind of card. A column that nothing has built yet must be blank.
 use Rattle.std.specs.Prelude.{ℕ, List, [], ◌∷◌, codes}
 use Rattle.s3_sheets.specs.Codes.{ebcdic}
-use Rattle.s3_sheets.specs.Rules.{Entry, Blank, Unbuilt, OneOf, Letters, Name, MaybeName, MaybeField, Number, MaybeNumber, GeneralIndicator, MaybeCondition, MaybeConstant, RecordLength, Extent, Content, ConstantPlace, Rule}
+use Rattle.s3_sheets.specs.Rules.{Entry, Blank, Unbuilt, OneOf, Letters, Name, MaybeName, MaybeField, Number, MaybeNumber, GeneralIndicator, MaybeCondition, MaybeSwitch, MaybeConstant, RecordLength, Extent, Content, ConstantPlace, Rule}
 use Rattle.s3_sheets.specs.declared.kind.CardKind.{CardKind}
 use Rattle.s3_sheets.specs.declared.kind.CardKind.TheVariants.{Comment, Unknown, Header, File, Record, RecordGroup, Field, Calculation, OutputLine, OutputGroup, OutputField}
 
@@ -35,7 +35,7 @@ file_rules =
     ∷ rule 47 65 Blank
     ∷ rule 66 66 Blank  -- addition
     ∷ rule 67 70 Blank
-    ∷ rule 71 72 Blank  -- condition of the file
+    ∷ rule 71 72 MaybeSwitch  -- condition of the file
     ∷ rule 73 74 Blank
     ∷ []
 

@@ -1,11 +1,11 @@
 //! The typed line of a card. It is made of every card; of a source without diagnostics it is what the card says.
 
 ghost use Rattle.std.specs.Prelude.{◌≡◌, ◌≤◌, length};
-ghost use Rattle.s3_sheets.specs.Lines.{number_or_zero as number_or_zero_spec, maybe_name as maybe_name_spec, use_of as use_of_spec, designation_of as designation_of_spec, device_of as device_of_spec, file_line as file_line_spec, record_line as record_line_spec, field_line as field_line_spec, three_conditions as three_conditions_spec, output_card as output_card_spec, content_of as content_of_spec, output_field as output_field_spec, sheet_line as sheet_line_spec, line_of as line_of_spec};
+ghost use Rattle.s3_sheets.specs.Lines.{number_or_zero as number_or_zero_spec, maybe_name as maybe_name_spec, use_of as use_of_spec, designation_of as designation_of_spec, file_condition as file_condition_spec, device_of as device_of_spec, file_line as file_line_spec, record_line as record_line_spec, field_line as field_line_spec, three_conditions as three_conditions_spec, output_card as output_card_spec, content_of as content_of_spec, output_field as output_field_spec, sheet_line as sheet_line_spec, line_of as line_of_spec};
 
 use crate::codes::PRINTER;
 use crate::columns::{are_blank, columns, name, number};
-use crate::entries::{condition, constant, general};
+use crate::entries::{condition, constant, general, switch};
 use crate::indicator::{Condition, Indicator};
 use crate::kind::{CardKind, kind_of};
 use crate::name::Name;
@@ -66,6 +66,13 @@ fn device_of(device: &[u8]) -> Device
     }
 }
 
+/// The switch without which a file isn't used.
+fn file_condition(columns: &[u8]) -> Option<Indicator>
+    ensures { result ≡ file_condition_spec columns.now }
+{
+    Some(Indicator::Switch(switch(columns)?))
+}
+
 fn file_line(card: &Card) -> FileLine
     ensures { result ≡ file_line_spec card.now }
 {
@@ -79,7 +86,7 @@ fn file_line(card: &Card) -> FileLine
         overflow: None,
         device: device_of(columns(card, 40, 46)),
         has_additions: false,
-        condition: None,
+        condition: file_condition(columns(card, 71, 72)),
     }
 }
 

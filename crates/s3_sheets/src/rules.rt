@@ -10,7 +10,7 @@ ghost use Rattle.s3_sheets.specs.RuleViews.{rule_view, entry_view};
 
 use crate::codes::{MFCU1, MFCU2, PRINTER, is_letter};
 use crate::columns::{are_blank, columns, is_name, name, number};
-use crate::entries::{constant, general, is_condition, is_reserved};
+use crate::entries::{constant, general, is_condition, is_reserved, switch};
 use s3_cards::Card;
 
 /// What may stand in some columns.
@@ -33,6 +33,8 @@ pub enum Entry {
     /// 01 to 99.
     GeneralIndicator,
     MaybeCondition,
+    /// U1 to U8, or blank.
+    MaybeSwitch,
     MaybeConstant,
     /// Columns 24 to 46 of an F card: the record length, and the device that bounds it.
     RecordLength,
@@ -174,6 +176,7 @@ fn entry_fault(entry: &Entry, columns: &[u8]) -> u8
             if !are_blank(columns) && is_out_of_range(number(columns), *low, *high) => 4,
         Entry::GeneralIndicator if general(columns).is_none() => 2,
         Entry::MaybeCondition if !is_condition(columns) => 2,
+        Entry::MaybeSwitch if !(are_blank(columns) || switch(columns).is_some()) => 2,
         Entry::MaybeConstant if !(are_blank(columns) || constant(columns).is_some()) => 3,
         Entry::RecordLength if is_bad_record_length(columns) => 4,
         Entry::Extent if is_bad_extent(number(&columns[..4]), number(&columns[4..])) => 4,

@@ -47,7 +47,7 @@ static FILE_RULES: [Rule; 20] = [
     columns!(47 to 65: Entry::Blank),
     columns!(66 to 66: Entry::Blank), // addition
     columns!(67 to 70: Entry::Blank),
-    columns!(71 to 72: Entry::Blank), // condition of the file
+    columns!(71 to 72: Entry::MaybeSwitch), // condition of the file
     columns!(73 to 74: Entry::Blank),
 ];
 

@@ -10,6 +10,6 @@ invariant_of-result c =
 pub returns : goal.returns
 returns c = record {
   meaning = stands _ c.args.known.now c.args.lines.now (ready c.args.known.now c.args.lines.now c.requires.shows c.requires.unique c.requires.accepted)
-      c.in_ok-fields.ensures c.in_ok-moves.ensures c.record_indicator.ensures c.in_ok-details.ensures c.in_ok-pieces.ensures c.print_length.ensures;
+      c.in_ok-fields.ensures c.in_ok-moves.ensures c.record_indicator.ensures c.in_ok-details.ensures c.in_ok-pieces.ensures c.print_length.ensures c.card_switch.ensures c.print_switch.ensures;
   name = c.program_name.ensures;
 }

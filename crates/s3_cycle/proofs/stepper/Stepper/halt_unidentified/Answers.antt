@@ -12,4 +12,4 @@ pub returns : goal.returns
 unfolding request_of
 returns c = goes-along _ _ (unidentified c.args.self.now) _
     (c.wait.ensures ∙ ap (λ (k : Stepper). let new : Stepper = record k { request = Ask UnidentifiedRecord; point = Unidentified } in new) c.count_read.ensures)
-    (goes-wait c.args.self.now (unidentified c.args.self.now) _ refl (record { lengths = c.requires.sound.lengths; point = refl }) (λ source stands. card-unidentified c.args.self.now source c.args.card.now c.requires.untyped stands))
+    (goes-wait c.args.self.now (unidentified c.args.self.now) _ refl (record { lengths = c.requires.sound.lengths; point = refl; used = tt }) (λ source stands. card-unidentified c.args.self.now source c.args.card.now c.requires.untyped stands))

@@ -6,9 +6,9 @@ use Rattle.s3_cycle.proofs.stepper.Stepper.next_line.Goals as goal
 pub loop-place-preserved : goal.loop-place-preserved
 loop-place-preserved c =
     let there : slice_get c.args.self.now.program.lines.items c.loop-place.place ≡ Some c.index.result.now = slice_get_read c.args.self.now.program.lines.items (length c.args.self.now.program.lines.items) c.loop-place.place c.index.result.now refl (omega arith) c.index.ensures in
-    λ source stands. c.loop-place.invariant source stands ∙ line-skipped source c.args.self.now _ c.loop-place.place c.index.result.now stands there (sym c.all_hold.ensures ∙ c.if-all_hold.false)
+    λ source stands. c.loop-place.invariant source stands ∙ line-skipped source c.args.self.now _ c.loop-place.place c.index.result.now stands there (sym c.is_due.ensures ∙ c.if-is_due.false)
 
-pub returns-then-all_hold-clause-found : goal.returns-then-all_hold-clause-found
-returns-then-all_hold-clause-found c =
+pub returns-then-is_due-clause-found : goal.returns-then-is_due-clause-found
+returns-then-is_due-clause-found c =
     let there : slice_get c.args.self.now.program.lines.items c.loop-place.place ≡ Some c.index.result.now = slice_get_read c.args.self.now.program.lines.items (length c.args.self.now.program.lines.items) c.loop-place.place c.index.result.now refl (omega arith) c.index.ensures in
-    (record { within = omega arith; line = c.index.result.now; there = there; holds = sym c.all_hold.ensures ∙ c.if-all_hold.true }, c.loop-place.invariant)
+    (record { within = omega arith; line = c.index.result.now; there = there; due = sym c.is_due.ensures ∙ c.if-is_due.true }, c.loop-place.invariant)

@@ -9,6 +9,7 @@ put_headings-requires c = record {
   sound = record {
     lengths = ap (map (λ text. length text)) (c.in_ok-texts.ensures ∙ ap blank_texts c.as_slice.ensures.value) ∙ blank-lengths c.args.program.fields.items;
     point = tt;
+    used = tt;
   };
 }
 

@@ -14,4 +14,4 @@ move_fields-requires c = λ k field_move there.
 
 pub returns : goal.returns
 returns c = takes c.args.self.now c.count_read.new.self c.put_headings.new.self c.args.card.now c.args.number c.turn_on.new.self c.move_fields.new.texts c.deref.result.now
-    c.requires.sound c.requires.typed c.count_read.ensures c.turn_on.ensures.value c.turn_on.ensures.there c.deref.ensures.value c.move_fields.ensures.value c.put_headings.ensures
+    c.requires.sound c.requires.used c.requires.typed c.count_read.ensures c.turn_on.ensures.value c.turn_on.ensures.there c.deref.ensures.value c.move_fields.ensures.value c.put_headings.ensures
