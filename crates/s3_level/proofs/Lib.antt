@@ -2,3 +2,5 @@ pub mod Cards
 pub mod Running
 pub mod Starting
 pub mod Lister
+pub mod SwitchLaw
+pub mod Settings

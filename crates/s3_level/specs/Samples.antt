@@ -70,3 +70,15 @@ first_line = listed 1 (0xc1 ∷ 0xc2 ∷ 0xc3 ∷ [])
 -- and DEF on line 2
 abbrev pub listing : List Printed
 listing = first_line ∷ listed 2 (0xc4 ∷ 0xc5 ∷ 0xc6 ∷ []) ∷ []
+
+-- a job that sets date and switches, of a program that isn't there
+abbrev pub settings_deck : List (List ℕ)
+settings_deck =
+    card_of (codes "// LOAD NONE,F1") ∷ card_of (codes "// DATE 06/15/76") ∷ card_of (codes "// SWITCH 1XX0XXX1") ∷ card_of (codes "// RUN")
+    ∷ card_of (codes "/&") ∷ []
+
+-- the same without RUN
+abbrev pub faulty_deck : List (List ℕ)
+faulty_deck =
+    card_of (codes "// LOAD NONE,F1") ∷ card_of (codes "// DATE 06/15/76") ∷ card_of (codes "// SWITCH 1XX0XXX1")
+    ∷ card_of (codes "/&") ∷ []

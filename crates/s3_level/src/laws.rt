@@ -1,9 +1,15 @@
-//! What the definitions say of themselves: a worked row.
-ghost use Rattle.std.specs.Prelude.{◌≡◌, [], ◌∷◌};
+//! What the definitions say of themselves: worked rows, and each switch after the start of a job.
+ghost use Rattle.std.specs.Prelude.{◌≡◌, ◌≤◌, ℕ, List, [], ◌∷◌};
+ghost use Rattle.s3_ocl.specs.declared.values.Switch.{Switch};
+ghost use Rattle.s3_meaning.specs.Environment.{switch_on};
+ghost use Rattle.s3_level.specs.Serving.{is_on_after, switch_of, switches_after};
 ghost use Rattle.s3_level.specs.declared.action.Action.TheVariants.{Turn};
 ghost use Rattle.s3_level.specs.declared.action.Did.TheVariants.{Idle};
+ghost use Rattle.s3_level.specs.declared.halt_code.HaltCode.TheVariants.{FaultyJob, NoProgram};
+ghost use Rattle.s3_level.specs.Parts.{with_halt};
+ghost use Rattle.s3_level.specs.World.{at_start};
 ghost use Rattle.s3_level.specs.Solo.{step_of, closed};
-ghost use Rattle.s3_level.specs.Samples.{after_turns, first_line, listing};
+ghost use Rattle.s3_level.specs.Samples.{after_turns, first_line, listing, settings_deck, faulty_deck};
 
 /// The deck that compiles the card lister and lists ABC and DEF. Its turns are: compile, start, card, line, card, line, end of
 /// the cards, end of the job.
@@ -15,4 +21,21 @@ pub fn card_lister_lists()
     // closed after six turns it has the same lines, closed after five the first alone
     ensures six { (closed (after_turns 6)).lines.printed ≡ listing }
     ensures five { (closed (after_turns 5)).lines.printed ≡ first_line ∷ [] }
+{}
+
+/// Each of U1 to U8 is on after the start of a job where the job sets it on, or leaves it and it was on.
+#[tactic(auto, using(crate::proofs::SwitchLaw::each_switch))]
+pub fn each_switch_is_set()
+    ensures { (switches : List Switch) (was n : ℕ) → 1 ≤ n → n ≤ 8 → switch_on (switches_after switches was) n ≡ is_on_after (switch_of switches n) (switch_on was n) }
+{}
+
+/// A job sets date and switches although its program isn't there, and a faulty job sets nothing.
+pub fn jobs_set_date_and_switches()
+    ensures date { (step_of (at_start settings_deck) Turn).world.date ≡ 0xf0 ∷ 0xf6 ∷ 0xf1 ∷ 0xf5 ∷ 0xf7 ∷ 0xf6 ∷ [] }
+    ensures switches { (step_of (at_start settings_deck) Turn).world.switches ≡ 0x81 }
+    ensures no_program { (step_of (at_start settings_deck) Turn).world.halts ≡ with_halt 1 NoProgram [] [] }
+    // the fault is 4 on the card `/&`
+    ensures faulty { (step_of (at_start faulty_deck) Turn).world.halts ≡ with_halt 1 FaultyJob ((4, 4) ∷ []) [] }
+    ensures faulty_date { (step_of (at_start faulty_deck) Turn).world.date ≡ (at_start faulty_deck).date }
+    ensures faulty_switches { (step_of (at_start faulty_deck) Turn).world.switches ≡ 0 }
 {}

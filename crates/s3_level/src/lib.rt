@@ -16,5 +16,5 @@ mod switches;
 pub use action::{Action, Did, Stop};
 pub use halt::Halt;
 pub use halt_code::HaltCode;
-pub use laws::card_lister_lists;
+pub use laws::{card_lister_lists, each_switch_is_set, jobs_set_date_and_switches};
 pub use level::Level;
