@@ -4,7 +4,7 @@ use clap::error::ErrorKind;
 use clap::{ArgMatches, Command, Error};
 use s3_cli::{CliFault, RunFault, SessionFault, session, tell};
 use std::alloc::{AllocError, Global};
-use std::env;
+use std::{env, io};
 
 /// The exit status of words that can't be read.
 const USAGE: u8 = 2;
@@ -17,8 +17,13 @@ const FILE: CliFault = CliFault::Session(SessionFault::File);
 /// else that of the refusal whose line it wrote on standard error.
 pub fn execute(rt: &HostRuntime) -> u8 {
     let alloc = rt.alloc();
-    let Ok(given) = env::args(rt) else {
-        return USAGE;
+    let given = match env::args(rt) {
+        Ok(given) => given,
+        Err(error) if error.kind() == io::ErrorKind::OutOfMemory => return refuse(
+            rt,
+            &OUT_OF_MEMORY,
+        ),
+        Err(_) => return USAGE,
     };
     let words: Vec<String> = match given.collect(alloc) {
         Ok(words) => words,
