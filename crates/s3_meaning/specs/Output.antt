@@ -5,7 +5,7 @@ use Rattle.s3_decimal.specs.Exact.{is_negative}
 use Rattle.s3_decimal.specs.Records.{zoned_bytes, packed_bytes}
 use Rattle.s3_edit.specs.declared.code.EditCode.{EditCode}
 use Rattle.s3_edit.specs.declared.code.EditCode.TheVariants.{Suppressed}
-use Rattle.s3_edit.specs.Picture.{width_of, picture}
+use Rattle.s3_edit.specs.Picture.{width_of, pictured}
 use Rattle.s3_sheets.specs.declared.name.Name.{Name}
 use Rattle.s3_sheets.specs.declared.indicator.Indicator.{Indicator}
 use Rattle.s3_sheets.specs.declared.indicator.Condition.{Condition}
@@ -65,11 +65,6 @@ is_exception Exception = true
 is_exception _ = false
 
 -- ---- what a field card puts out
--- a picture from its width down, so from the left
-abbrev pub pictured : EditCode → ℕ → Bool → ℕ → (width : ℕ) → List ℕ
-pictured code decimals negative n zero = []
-pictured code decimals negative n (suc place) = picture code decimals negative n place ∷ pictured code decimals negative n place
-
 abbrev pub edited : EditCode → ℕ → ℕ → ℤ → List ℕ
 edited code digits decimals value = pictured code decimals (is_negative value) (unsigned_abs value) (unwrap_or (width_of code digits decimals) 0)
 
