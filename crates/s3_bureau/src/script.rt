@@ -1,10 +1,9 @@
 //! Scripts: the entries of both levels in their order, a line for each or for so many of one kind.
-ghost use Rattle.std.specs.Prelude.{◌≡◌, ◌<◌, ◌≤◌, ◌+◌, ◌==◌, ◌∷◌, [], Some, None, length, position, MatchOption, IfSome};
-ghost use Rattle.std.specs.Str.Lines.{lines, strip_carriage_return};
+ghost use Rattle.std.specs.Prelude.{◌≡◌};
 ghost use Rattle.s3_bureau.specs.Script.{level_named, count_of, times_of, digit_behind, command_of, entries_of, ReadsScript};
 
 use super::entry::Entry;
-use s3_cards::LevelId;
+use s3_cards::{LevelId, first_line};
 use s3_level::Action;
 use std::alloc::{AllocFailed, Global};
 use thiserror::Error;
@@ -132,37 +131,5 @@ fn digit_after_blank(rest: &[u8]) -> Option<u8>
     match rest {
         [b' ', digit] if digit.is_ascii_digit() => Some(*digit - b'0'),
         _ => None,
-    }
-}
-
-/// The place of the first newline.
-fn newline(text: &[u8]) -> Option<usize>
-    ensures { result ≡ position (λ byte. byte == 10) text.now }
-{
-    text.iter().position(|byte| *byte == b'\n')
-}
-
-/// A line less the carriage return at its end, if it has one.
-fn without_carriage_return(line: &[u8]) -> &[u8]
-    ensures { result.now ≡ strip_carriage_return line.now }
-{
-    match line {
-        [front @ .., b'\r'] => front,
-        _ => line,
-    }
-}
-
-/// The first line of a text, and the text after it.
-#[tactic(auto, using(s3_cards::proofs::DeckLemmas::lines_after_newline, s3_cards::proofs::DeckLemmas::lines_last))]
-fn first_line(text: &[u8]) -> Option<(&[u8], &[u8])>
-    ensures line { MatchOption result (lines text.now ≡ []) (λ x. lines text.now ≡ x.0.now ∷ lines x.1.now) }
-    ensures shorter { IfSome result (λ x. length x.1.now < length text.now) }
-{
-    if text.is_empty() {
-        return None;
-    }
-    match newline(text) {
-        Some(end) => { Some((without_carriage_return(&text[..end]), &text[end + 1..])) }
-        None => Some((text, &[])),
     }
 }

@@ -23,6 +23,10 @@ ebcdic_of character = option_map (λ entry. entry.0) (find (λ entry. entry.1 ==
 abbrev pub host_of : ℕ → Option ℕ
 host_of code = option_map (λ entry. entry.1) (find (λ entry. entry.0 == code) code_page)
 
+-- the codes of a text of card characters
+unfoldable pub ebcdic : List ℕ → List ℕ
+ebcdic characters = map (λ character. unwrap_or (ebcdic_of character) 0) characters
+
 -- the code of each byte, and 0 where the byte is no card character
 unfoldable pub codes_of_bytes : List ℕ
 codes_of_bytes = map (λ byte. unwrap_or (ebcdic_of byte) 0) (range_with_len 0 256)

@@ -2,3 +2,4 @@ pub mod Codes
 pub mod Deck
 pub mod Levels
 pub mod Printed
+pub mod Names

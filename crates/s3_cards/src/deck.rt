@@ -204,9 +204,10 @@ fn without_carriage_return(line: &[u8]) -> &[u8]
     }
 }
 
-/// The first line of a text, and the text after it.
+/// The first line of a text, and the text after it; `None` for the empty text. Lines end with a line feed, and one carriage
+/// return before it is dropped; a last line without line feed is one as it stands.
 #[tactic(auto, using(crate::proofs::DeckLemmas::lines_after_newline, crate::proofs::DeckLemmas::lines_last))]
-fn first_line(text: &[u8]) -> Option<(&[u8], &[u8])>
+pub fn first_line(text: &[u8]) -> Option<(&[u8], &[u8])>
     ensures line { MatchOption result (lines text.now ≡ []) (λ x. lines text.now ≡ x.0.now ∷ lines x.1.now) }
     ensures shorter { IfSome result (λ x. length x.1.now < length text.now) }
 {

@@ -1,4 +1,4 @@
-//! What every part of the job shop shares: the card characters, decks of cards, the names of the two levels and printed
+//! What every part of the job shop shares: the card characters, decks of cards, names, the two levels and printed
 //! lines.
 #![tactic(auto)]
 
@@ -6,9 +6,13 @@ mod characters;
 mod deck;
 pub mod ebcdic;
 mod levels;
+mod name;
 mod print_line;
 
 pub use characters::{code_of_byte, codes_and_characters, host_byte, to_ebcdic, to_host};
-pub use deck::{Card, CardFault, Deck, DeckFault};
+pub use deck::{Card, CardFault, Deck, DeckFault, first_line};
 pub use levels::LevelId;
+pub use name::{
+    Name, begins_name, go_on_in_name, goes_on_in_name, is_digit, is_letter, is_name, is_word,
+};
 pub use print_line::PrintLine;

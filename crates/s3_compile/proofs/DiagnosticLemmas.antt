@@ -6,7 +6,7 @@ use Rattle.std.specs.List.{list_any, last_or, cons_option}
 use Rattle.std.proofs.lemmas.List.{take_more}
 use Rattle.std.proofs.Math.Seq.{drop-cons}
 use Rattle.s3_sheets.specs.declared.diagnostic.Diagnostic.{Diagnostic}
-use Rattle.s3_sheets.specs.declared.name.Name.{Name}
+use Rattle.s3_cards.specs.declared.name.Name.{Name}
 use Rattle.s3_sheets.specs.declared.sheet.Line.{Line}
 use Rattle.s3_compile.specs.declared.before.Before.{Before}
 use Rattle.s3_compile.specs.Definitions.{Known}

@@ -8,7 +8,7 @@ use Rattle.std.proofs.lemmas.Bool.{cases_Bool}
 use Rattle.std.proofs.lemmas.List.Sums.{length-filter}
 use Rattle.s3_sheets.specs.declared.indicator.Indicator.{Indicator}
 use Rattle.s3_sheets.specs.declared.indicator.Indicator.TheVariants.{General, Level, LastRecord, Matching, Halt, FirstPage, Overflow, Switch}
-use Rattle.s3_sheets.specs.declared.name.Name.{Name}
+use Rattle.s3_cards.specs.declared.name.Name.{Name}
 use Rattle.s3_sheets.specs.declared.sheet.FileUse.{FileUse}
 use Rattle.s3_sheets.specs.declared.sheet.FileUse.TheVariants.{Input as InputUse, Output as OutputUse}
 use Rattle.s3_sheets.specs.declared.sheet.Designation.{Designation}
@@ -19,7 +19,7 @@ use Rattle.s3_sheets.specs.declared.sheet.FileLine.{FileLine}
 use Rattle.s3_sheets.specs.declared.sheet.SheetLine.{SheetLine}
 use Rattle.s3_sheets.specs.declared.sheet.SheetLine.TheVariants.{Header, File, Input, Calculation, Output}
 use Rattle.s3_sheets.specs.declared.sheet.Line.{Line}
-use Rattle.s3_meaning.specs.Names.{same_name}
+use Rattle.s3_cards.specs.Names.{same_name}
 use Rattle.s3_meaning.specs.Source.{file_line, is_designated, is_input, is_card_reader, is_printer, overflow_of}
 use Rattle.s3_compile.specs.declared.definitions.DefinedFile.{DefinedFile}
 use Rattle.s3_compile.specs.Definitions.{file_from, file_of}

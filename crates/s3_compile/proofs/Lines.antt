@@ -7,7 +7,7 @@ use Rattle.std.proofs.lemmas.Bool.Decides.{nat_tests}
 use Rattle.std.proofs.lemmas.Slice.Zip.{AllZip-long}
 use Rattle.std.proofs.Math.Seq.{drop-append_seam}
 use Rattle.s3_sheets.specs.declared.indicator.Condition.{Condition}
-use Rattle.s3_sheets.specs.declared.name.Name.{Name}
+use Rattle.s3_cards.specs.declared.name.Name.{Name}
 use Rattle.s3_sheets.specs.declared.sheet.OutputKind.{OutputKind}
 use Rattle.s3_sheets.specs.declared.sheet.OutputKind.TheVariants.{Heading, Detail, Total, Exception}
 use Rattle.s3_sheets.specs.declared.sheet.Spacing.{Spacing}

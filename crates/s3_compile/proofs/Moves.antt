@@ -6,7 +6,7 @@ use Rattle.std.specs.List.{AllZip, cons_option}
 use Rattle.std.proofs.lemmas.Slice.Zip.{AllZip-long}
 use Rattle.s3_sheets.specs.declared.indicator.Indicator.{Indicator}
 use Rattle.s3_sheets.specs.declared.indicator.Indicator.TheVariants.{General}
-use Rattle.s3_sheets.specs.declared.name.Name.{Name}
+use Rattle.s3_cards.specs.declared.name.Name.{Name}
 use Rattle.s3_sheets.specs.declared.sheet.FileLine.{FileLine}
 use Rattle.s3_sheets.specs.declared.sheet.FieldForm.{FieldForm}
 use Rattle.s3_sheets.specs.declared.sheet.FieldForm.TheVariants.{Alphanumeric, Zoned, Packed}
@@ -14,7 +14,8 @@ use Rattle.s3_sheets.specs.declared.sheet.FieldLine.{FieldLine}
 use Rattle.s3_sheets.specs.declared.sheet.RecordCode.{RecordCode}
 use Rattle.s3_sheets.specs.declared.sheet.InputLine.{InputLine}
 use Rattle.s3_sheets.specs.declared.sheet.InputLine.TheVariants.{Record, And, Or, Field as InputField}
-use Rattle.s3_meaning.specs.Names.{same_name, entries}
+use Rattle.s3_meaning.specs.Names.{entries}
+use Rattle.s3_cards.specs.Names.{same_name}
 use Rattle.s3_meaning.specs.RecordTypes.{RecordType, types_from, type_from, further_codes, group_fields}
 use Rattle.s3_meaning.specs.Source.{width}
 use Rattle.s3_compile.specs.declared.definitions.DefinedFile.{DefinedFile}

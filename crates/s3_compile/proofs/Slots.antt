@@ -10,8 +10,8 @@ use Rattle.std.proofs.lemmas.Cmp.{nat_list_eq_equiv}
 use Rattle.std.proofs.lemmas.Map.Entries.{hash_map_get_place}
 use Rattle.std.proofs.lemmas.Map.Keys.{IsDistinct-head, IsDistinct-tail}
 use Rattle.indexmap.specs.IndexMap.{get, keys, IsUnique}
-use Rattle.s3_sheets.specs.declared.name.Name.{Name}
-use Rattle.s3_meaning.specs.Names.{same_name}
+use Rattle.s3_cards.specs.declared.name.Name.{Name}
+use Rattle.s3_cards.specs.Names.{same_name}
 use Rattle.s3_compile.specs.declared.program.Field.{Field}
 use Rattle.s3_compile.specs.Definitions.{Lengths}
 use Rattle.s3_compile.specs.Translation.{fields_of, slot_of}

@@ -4,11 +4,11 @@ use Rattle.std.specs.Prelude.{Option, Some, None, filter, filter_map, find, slic
 use Rattle.std.specs.List.{AllZip}
 use Rattle.std.proofs.lemmas.Slice.Zip.{AllZip-long}
 use Rattle.indexmap.specs.IndexMap.{IsUnique, get}
-use Rattle.s3_sheets.specs.declared.name.Name.{Name}
+use Rattle.s3_cards.specs.declared.name.Name.{Name}
 use Rattle.s3_sheets.specs.declared.sheet.FileLine.{FileLine}
 use Rattle.s3_sheets.specs.declared.sheet.InputLine.{InputLine}
 use Rattle.s3_sheets.specs.declared.sheet.Line.{Line}
-use Rattle.s3_meaning.specs.Names.{same_name, no_name}
+use Rattle.s3_cards.specs.Names.{no_name, same_name}
 use Rattle.s3_meaning.specs.RecordTypes.{RecordType, types_from}
 use Rattle.s3_meaning.specs.Calculations.{calculations_of}
 use Rattle.s3_meaning.specs.OutputLines.{Output}

@@ -1,7 +1,7 @@
 -- What stands before a line.
 use Rattle.std.specs.Prelude.{Bool, true, false, List, Option, Some, None, filter_map}
 use Rattle.std.specs.List.{list_any, last_or}
-use Rattle.s3_sheets.specs.declared.name.Name.{Name}
+use Rattle.s3_cards.specs.declared.name.Name.{Name}
 use Rattle.s3_sheets.specs.declared.sheet.FileUse.{FileUse}
 use Rattle.s3_sheets.specs.declared.sheet.FileUse.TheVariants.{Input as InputUse, Output as OutputUse}
 use Rattle.s3_sheets.specs.declared.sheet.Designation.{Designation}

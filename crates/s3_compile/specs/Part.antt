@@ -5,7 +5,7 @@ use Rattle.std.specs.List.{list_all}
 use Rattle.s3_sheets.specs.declared.indicator.Indicator.{Indicator}
 use Rattle.s3_sheets.specs.declared.indicator.Indicator.TheVariants.{General, Switch}
 use Rattle.s3_sheets.specs.declared.indicator.Condition.{Condition}
-use Rattle.s3_sheets.specs.declared.name.Name.{Name}
+use Rattle.s3_cards.specs.declared.name.Name.{Name}
 use Rattle.s3_sheets.specs.declared.sheet.FileUse.{FileUse}
 use Rattle.s3_sheets.specs.declared.sheet.FileUse.TheVariants.{Input as InputUse, Output as OutputUse, Update}
 use Rattle.s3_sheets.specs.declared.sheet.Designation.{Designation}

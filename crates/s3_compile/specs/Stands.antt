@@ -2,7 +2,7 @@
 use Rattle.std.specs.Prelude.{◌≡◌, ℕ, ◌-◌, true, false, List, [], ◌∷◌, filter, Option, Some, None, option_map, length, slice_get, slice_range}
 use Rattle.s3_sheets.specs.declared.indicator.Indicator.{Indicator}
 use Rattle.s3_sheets.specs.declared.indicator.Indicator.TheVariants.{General, Switch}
-use Rattle.s3_sheets.specs.declared.name.Name.{Name}
+use Rattle.s3_cards.specs.declared.name.Name.{Name}
 use Rattle.s3_sheets.specs.declared.sheet.FileLine.{FileLine}
 use Rattle.s3_sheets.specs.declared.sheet.FieldLine.{FieldLine}
 use Rattle.s3_sheets.specs.declared.sheet.FieldForm.TheVariants.{Alphanumeric}
@@ -13,7 +13,8 @@ use Rattle.s3_sheets.specs.declared.sheet.OutputForm.TheVariants.{Plain}
 use Rattle.s3_sheets.specs.declared.sheet.OutputContent.{OutputContent}
 use Rattle.s3_sheets.specs.declared.sheet.OutputContent.TheVariants.{Constant as ConstantOutput, Field as FieldOutput}
 use Rattle.s3_sheets.specs.declared.sheet.OutputField.{OutputField}
-use Rattle.s3_meaning.specs.Names.{same_name, page, entries}
+use Rattle.s3_meaning.specs.Names.{page, entries}
+use Rattle.s3_cards.specs.Names.{same_name}
 use Rattle.s3_meaning.specs.RecordTypes.{RecordType}
 use Rattle.s3_meaning.specs.OutputLines.{Output}
 use Rattle.s3_meaning.specs.Source.{Source, is_designated, is_input, is_card_reader, is_printer, file_named, overflow_of, length_of, is_numeric}

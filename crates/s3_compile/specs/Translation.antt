@@ -5,7 +5,7 @@ use Rattle.std.specs.Option.{option_or, option_and_then, option_to_list}
 use Rattle.indexmap.specs.IndexMap.{index_of}
 use Rattle.s3_sheets.specs.declared.indicator.Indicator.{Indicator}
 use Rattle.s3_sheets.specs.declared.indicator.Indicator.TheVariants.{General, Switch}
-use Rattle.s3_sheets.specs.declared.name.Name.{Name}
+use Rattle.s3_cards.specs.declared.name.Name.{Name}
 use Rattle.s3_sheets.specs.declared.sheet.FileLine.{FileLine}
 use Rattle.s3_sheets.specs.declared.sheet.InputLine.{InputLine}
 use Rattle.s3_sheets.specs.declared.sheet.InputLine.TheVariants.{Record, Field as InputField}
@@ -16,7 +16,7 @@ use Rattle.s3_sheets.specs.declared.sheet.OutputLine.TheVariants.{Line as LineCa
 use Rattle.s3_sheets.specs.declared.sheet.SheetLine.{SheetLine}
 use Rattle.s3_sheets.specs.declared.sheet.SheetLine.TheVariants.{File, Input, Output}
 use Rattle.s3_sheets.specs.declared.sheet.Line.{Line}
-use Rattle.s3_meaning.specs.Names.{same_name}
+use Rattle.s3_cards.specs.Names.{same_name}
 use Rattle.s3_meaning.specs.OutputLines.{fields_from}
 use Rattle.s3_compile.specs.Definitions.{Lengths}
 use Rattle.s3_compile.specs.Before.{is_card_file, is_print_file}

@@ -4,7 +4,7 @@ ghost use Rattle.std.specs.Prelude.{◌≡◌, ◌||◌, []};
 ghost use Rattle.std.specs.Option.{option_or};
 ghost use Rattle.s3_compile.specs.Before as spec;
 
-use s3_sheets::name::Name;
+use s3_cards::Name;
 use s3_sheets::sheet::{
     Designation, Device, FileLine, FileUse, InputLine, Line, OutputLine, SheetLine,
 };

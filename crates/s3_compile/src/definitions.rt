@@ -2,12 +2,12 @@
 
 ghost use Rattle.std.specs.Prelude.{◌≡◌, IfOk, OnOk};
 ghost use Rattle.indexmap.specs.IndexMap.{IsUnique};
-ghost use Rattle.s3_meaning.specs.Names.{same_name};
+ghost use Rattle.s3_cards.specs.Names.{same_name};
 ghost use Rattle.s3_meaning.specs.Source.{width};
 ghost use Rattle.s3_compile.specs.Definitions.{DefinesFile, DefinesField, known_of, shown};
 
 use indexmap::IndexMap;
-use s3_sheets::name::Name;
+use s3_cards::Name;
 use s3_sheets::sheet::{FieldLine, FileLine, InputLine, Line, SheetLine};
 use std::alloc::{AllocError, Global};
 

@@ -9,8 +9,8 @@ ghost use Rattle.s3_compile.specs.Part as spec;
 
 use crate::before::Before;
 use crate::definitions::{Definitions, length_of_field};
+use s3_cards::Name;
 use s3_sheets::indicator::{Condition, Indicator};
-use s3_sheets::name::Name;
 use s3_sheets::sheet::{
     Designation, Device, FieldForm, FieldLine, FieldOutput, FileLine, FileUse, InputLine,
     OutputCard, OutputContent, OutputField, OutputForm, OutputKind, OutputLine, SheetLine, Spacing,

@@ -1,8 +1,8 @@
 //! A compiled program: its names as slots.
 ghost use Rattle.s3_compile.specs.Valid.{AreMoves, ArePieces, AreLines, IsWidth};
 
+use s3_cards::Name;
 use s3_sheets::indicator::Condition;
-use s3_sheets::name::Name;
 use s3_sheets::sheet::Constant;
 use std::alloc::{AllocError, Global};
 

@@ -4,7 +4,7 @@ ghost use Rattle.std.specs.Prelude.{◌≡◌, ◌+◌, ◌-◌, ◌^◌, ◌<�
 ghost use Rattle.std.specs.Option.{option_and_then};
 ghost use Rattle.s3_meaning.specs.OutputLines.{fields_from};
 ghost use Rattle.indexmap.specs.IndexMap.{IsUnique};
-ghost use Rattle.s3_meaning.specs.Names.{same_name};
+ghost use Rattle.s3_cards.specs.Names.{same_name};
 ghost use Rattle.s3_compile.specs.Compiles.{IsAccepted, StandsFor};
 ghost use Rattle.s3_compile.specs.Compiles.{header_name as header_name_lem};
 ghost use Rattle.s3_compile.specs.Compiles.{program_name as program_name_lem};
@@ -15,8 +15,8 @@ use crate::before::{is_card_file, is_print_file};
 use crate::definitions::Definitions;
 use crate::program::{Content, DetailLine, Field, FieldMove, Piece, Program};
 use indexmap::IndexMap;
+use s3_cards::Name;
 use s3_sheets::indicator::Indicator;
-use s3_sheets::name::Name;
 use s3_sheets::sheet::{FileLine, InputLine, Line, OutputContent, OutputLine, SheetLine};
 use std::alloc::{AllocError, Global};
 

@@ -8,11 +8,12 @@ use Rattle.s3_sheets.specs.declared.sheet.FileLine.{FileLine}
 use Rattle.s3_sheets.specs.declared.sheet.OutputContent.{OutputContent}
 use Rattle.s3_sheets.specs.declared.sheet.OutputForm.TheVariants.{Plain}
 use Rattle.s3_sheets.specs.declared.sheet.OutputField.{OutputField}
-use Rattle.s3_meaning.specs.Names.{same_name, page, entries}
+use Rattle.s3_meaning.specs.Names.{page, entries}
+use Rattle.s3_cards.specs.Names.{same_name}
 use Rattle.s3_meaning.specs.OutputLines.{Output}
 use Rattle.s3_meaning.specs.Source.{Source, is_printer, is_numeric, file_named, overflow_of}
 use Rattle.s3_meaning.specs.Requests.{Print}
-use Rattle.s3_meaning.specs.Environment.{Environment, holds, all_hold}
+use Rattle.s3_meaning.specs.Environment.{Environment, all_hold}
 use Rattle.s3_meaning.specs.Selection.{Reading}
 use Rattle.s3_meaning.specs.Runs.{Rest, ask}
 use Rattle.s3_meaning.specs.Carriage.{Carriage as Place, next_page, passes, spaced, to_print, after_print}

@@ -5,7 +5,7 @@ use Rattle.std.specs.Option.{option_or}
 use Rattle.std.proofs.Math.Path.{fun_ext}
 use Rattle.std.proofs.lemmas.Bool.{cases_eq, eq-eqb, ne_eqb, true≢false, cond-true, cond-false}
 use Rattle.std.proofs.lemmas.List.{get_or-set_same, get_or-set_other}
-use Rattle.s3_sheets.specs.declared.name.Name.{Name}
+use Rattle.s3_cards.specs.declared.name.Name.{Name}
 use Rattle.s3_sheets.specs.declared.indicator.Indicator.{Indicator}
 use Rattle.s3_sheets.specs.declared.indicator.Indicator.TheVariants.{General, Level, LastRecord, Matching, Halt, FirstPage, Overflow, Switch}
 use Rattle.s3_sheets.specs.declared.sheet.FileLine.{FileLine}
@@ -13,7 +13,8 @@ use Rattle.s3_sheets.specs.declared.sheet.Designation.{Designation}
 use Rattle.s3_sheets.specs.declared.sheet.Designation.TheVariants.{Primary, Secondary, Chained}
 use Rattle.s3_sheets.specs.declared.sheet.OutputKind.TheVariants.{Detail}
 use Rattle.s3_meaning.specs.declared.halt.HaltCode.TheVariants.{UnidentifiedRecord, OutOfSequence}
-use Rattle.s3_meaning.specs.Names.{same_name, same_indicator}
+use Rattle.s3_meaning.specs.Names.{same_indicator}
+use Rattle.s3_cards.specs.Names.{same_name}
 use Rattle.s3_meaning.specs.RecordTypes.{RecordType}
 use Rattle.s3_meaning.specs.Calculations.{is_detail, is_total}
 use Rattle.s3_meaning.specs.OutputLines.{Output}

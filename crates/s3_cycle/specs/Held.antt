@@ -1,11 +1,11 @@
 -- What a suspended run holds: its environment by names.
 use Rattle.std.specs.Prelude.{ℕ, Bool, true, false, List, ◌∷◌, filter, replicate, get_or, slice_set, not, Option, Some, None, option_map, if◌then◌else◌}
 use Rattle.std.specs.List.{list_any}
-use Rattle.s3_sheets.specs.declared.name.Name.{Name}
+use Rattle.s3_cards.specs.declared.name.Name.{Name}
 use Rattle.s3_sheets.specs.declared.indicator.Indicator.{Indicator}
 use Rattle.s3_sheets.specs.declared.indicator.Indicator.TheVariants.{General, FirstPage}
 use Rattle.s3_sheets.specs.declared.indicator.Condition.{Condition}
-use Rattle.s3_meaning.specs.Names.{same_name}
+use Rattle.s3_cards.specs.Names.{same_name}
 use Rattle.s3_meaning.specs.Source.{Source, is_input, length_of}
 use Rattle.s3_meaning.specs.Requests.{Current, NthRead}
 use Rattle.s3_meaning.specs.Environment.{Environment, no_remainder, switch_on, on_at_first, numbers_at_first}

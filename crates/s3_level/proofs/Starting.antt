@@ -2,10 +2,10 @@
 use Rattle.std.specs.Prelude.{Bool, false, unwrap_or, if◌then◌else◌}
 use Rattle.std.proofs.lemmas.Bool.{cases_lt}
 use Rattle.std.proofs.lemmas.Option.{none-some}
-use Rattle.std.proofs.Common.{◌≡◌, ◌≢◌, ◌<◌, inl, inr, lt-ltb, le-ltb, ℕ, List, [], ◌∷◌, length, refl, sym, ◌∙◌, ap, subst, slice_range, Option, Some, None, Result, Ok, Err, OnOk}
+use Rattle.std.proofs.Common.{◌≡◌, ◌≢◌, ◌<◌, arith, inl, inr, lt-ltb, le-ltb, ℕ, List, [], ◌∷◌, length, refl, sym, ◌∙◌, ap, subst, slice_range, Option, Some, None, Result, Ok, Err, OnOk}
 use Rattle.indexmap.specs.IndexMap.{get}
-use Rattle.s3_sheets.specs.declared.name.Name.{Name}
-use Rattle.s3_meaning.specs.Names.{same_name}
+use Rattle.s3_cards.specs.declared.name.Name.{Name}
+use Rattle.s3_cards.specs.Names.{same_name}
 use Rattle.s3_meaning.specs.Requests.{Answer}
 use Rattle.s3_meaning.specs.Cycle.{Req}
 use Rattle.s3_cycle.specs.declared.stepper.Stepper.{Stepper}
@@ -19,7 +19,6 @@ use Rattle.s3_compile.specs.declared.program.Program.{Program}
 use Rattle.s3_compile.specs.Diagnostics.{compile_diagnostics}
 use Rattle.s3_compile.specs.Stands.{Stands}
 use Rattle.s3_compile.specs.Compiles.{StandsFor, program_name}
-use Rattle.s3_ocl.specs.declared.names.Name.{Name as ProgramName}
 use Rattle.s3_ocl.specs.declared.faults.FaultyJob.{FaultyJob}
 use Rattle.s3_ocl.specs.declared.jobs.OclFault.{OclFault}
 use Rattle.s3_ocl.specs.declared.jobs.OclFault.TheVariants.{NoMemory, Faulty}
@@ -28,7 +27,7 @@ use Rattle.s3_ocl.specs.Streams.{jobs_from}
 use Rattle.s3_ocl.proofs.StreamLemmas.{jobs_from-none, jobs_from-next}
 use Rattle.s3_level.specs.declared.job.OpenJob.{OpenJob}
 use Rattle.s3_level.specs.declared.level.Level.{Level}
-use Rattle.s3_level.specs.Serving.{asking, pending, run, compiled, compiled_data, data_of, diagnostics_of, performed, program_of, started, stocked, unless_empty, switches_after, with_jobs, with_settings}
+use Rattle.s3_level.specs.Serving.{asking, pending, run, compiled, compiled_data, data_of, diagnostics_of, performed, started, stocked, unless_empty, switches_after, with_jobs, with_settings}
 use Rattle.s3_level.specs.Holds.{Holds, HoldsAtWork, Stocks, AtWorkBecomes, Becomes, NextIs, Starts}
 
 pub taken_then_started : {T E : Type 0} (result : Result T E) (old taken new : Level) (job : Result Job FaultyJob) (after number : ℕ)
@@ -90,6 +89,10 @@ no_job_left deck from none = elim (cases_lt (next_job deck from) (length deck)) 
   | inr past ↦ jobs_from-none deck from past
 ]
 
+-- behind the last card none is left
+pub no_job_behind : (deck : List (List ℕ)) → jobs_from deck (length deck) ≡ []
+no_job_behind deck = jobs_from-none deck (length deck) (omega arith)
+
 pub some_job_left : (deck : List (List ℕ)) (from place : ℕ) → job_place deck from ≡ Some place → jobs_from deck from ≢ []
 some_job_left deck from place some empty = elim (cases_lt (next_job deck from) (length deck)) [
   | inl less ↦ let same : _ ≡ [] = sym (jobs_from-next deck from less) ∙ empty in cc
@@ -106,20 +109,20 @@ next_is deck from (Err (Faulty faulty)) less gives = jobs_from-next deck from le
 next_is deck from (Err NoMemory) less gives = tt
 
 -- a job that doesn't compile runs the program that it names over its data
-pub program_performed : {T E : Type 0} (result : Result T E) (number : ℕ) (job : Job) (program : ProgramName) (from to : ℕ) (old new : Level)
+pub program_performed : {T E : Type 0} (result : Result T E) (number : ℕ) (job : Job) (program : Name) (from to : ℕ) (old new : Level)
     → is_compile job ≡ false
     → program ≡ job.program
     → from ≡ job.data_from
     → to ≡ job.data_to
-    → OnOk result (Becomes (λ w. run number (slice_range old.deck from to) (w.library (record { codes = program.codes })) w) old new)
+    → OnOk result (Becomes (λ w. run number (slice_range old.deck from to) (w.library program) w) old new)
     → OnOk result (Becomes (performed number job (data_of old.deck job)) old new)
 program_performed (Ok _) number job program from to old new runs is_program is_from is_to performs =
     λ w held.
     let over : List (List ℕ) = data_of old.deck job in
     let same : slice_range old.deck from to ≡ over = ap (λ n. slice_range old.deck n to) is_from ∙ ap (slice_range old.deck job.data_from) is_to in
-    subst (λ (compiles : Bool). Holds new (if compiles then compiled_data number job.data_from job.data_from over w else run number over (w.library (program_of job)) w)) (sym runs)
-    (subst (λ cards. Holds new (run number cards (w.library (program_of job)) w)) same
-    (subst (λ (named : ProgramName). Holds new (run number (slice_range old.deck from to) (w.library (record { codes = named.codes })) w)) is_program (performs w held)))
+    subst (λ (compiles : Bool). Holds new (if compiles then compiled_data number job.data_from job.data_from over w else run number over (w.library job.program) w)) (sym runs)
+    (subst (λ cards. Holds new (run number cards (w.library job.program) w)) same
+    (subst (λ (named : Name). Holds new (run number (slice_range old.deck from to) (w.library named) w)) is_program (performs w held)))
 program_performed (Err _) number job program from to old new runs is_program is_from is_to performs = tt
 
 -- a source without diagnostics is compiled: a program that stands for it is in the library

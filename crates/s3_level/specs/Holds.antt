@@ -2,8 +2,8 @@
 use Rattle.std.specs.Prelude.{◌≡◌, ℕ, List, ◌∷◌, slice_range, IsTrue, Option, Some, None, Result, Ok, Err}
 use Rattle.std.specs.declared.alloc.AllocError.{AllocError}
 use Rattle.indexmap.specs.IndexMap.{get}
-use Rattle.s3_sheets.specs.declared.name.Name.{Name}
-use Rattle.s3_meaning.specs.Names.{same_name}
+use Rattle.s3_cards.specs.declared.name.Name.{Name}
+use Rattle.s3_cards.specs.Names.{same_name}
 use Rattle.s3_meaning.specs.Source.{Source}
 use Rattle.s3_meaning.specs.declared.halt.HaltCode.{HaltCode as ProgramHalt}
 use Rattle.s3_meaning.specs.Requests.{Ask}

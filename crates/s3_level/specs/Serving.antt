@@ -1,12 +1,12 @@
 -- What the start of a job and each request of a job do to the world.
 use Rattle.std.specs.Prelude.{ℕ, ◌-◌, ◌^◌, Bool, true, false, List, [], ◌∷◌, ◌++◌, drop, map, slice_range, slice_index_or, sum_by, Option, Some, None, unwrap_or, Result, Ok, Err, if◌then◌else◌}
 use Rattle.s3_cards.specs.Printed.{Printed}
-use Rattle.s3_sheets.specs.declared.name.Name.{Name}
+use Rattle.s3_cards.specs.declared.name.Name.{Name}
 use Rattle.s3_sheets.specs.declared.sheet.Line.{Line}
 use Rattle.s3_sheets.specs.declared.diagnostic.Diagnostic.{Diagnostic}
 use Rattle.s3_sheets.specs.Lines.{lines_of}
 use Rattle.s3_sheets.specs.Sheets.{sheet_diagnostics}
-use Rattle.s3_meaning.specs.Names.{same_name}
+use Rattle.s3_cards.specs.Names.{same_name}
 use Rattle.s3_meaning.specs.Source.{Source, source_of}
 use Rattle.s3_meaning.specs.Requests.{Request, Card, Print, Jump, Ask, End, Answer, Found, Nothing, Done}
 use Rattle.s3_meaning.specs.Environment.{switch_on}
@@ -109,10 +109,6 @@ abbrev pub run : ℕ → List (List ℕ) → Option Source → World → World
 run number cards None w = halting number NoProgram [] w
 run number cards (Some source) w = at_work (record { number = number; source = source; cards = cards; past = [] }) w
 
--- the program that a job names
-abbrev pub program_of : Job → Name
-program_of job = record { codes = job.program.codes }
-
 -- the data of a job: the cards behind its RUN card
 abbrev pub data_of : List (List ℕ) → Job → List (List ℕ)
 data_of deck job = slice_range deck job.data_from job.data_to
@@ -126,7 +122,7 @@ abbrev pub performed : ℕ → Job → List (List ℕ) → World → World
 performed number job cards w =
     if is_compile job
     then compiled_data number job.data_from job.data_from cards w
-    else run number cards (w.library (program_of job)) w
+    else run number cards (w.library job.program) w
 
 -- ---- date and switches
 -- a switch that was on or off, after what a job does with it

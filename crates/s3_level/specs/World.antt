@@ -1,6 +1,6 @@
 -- The world of one level. It knows no slot of a program, and nothing of the other level.
 use Rattle.std.specs.Prelude.{ℕ, ◌+◌, ◌==◌, List, [], replicate, Option, None, Result, if◌then◌else◌}
-use Rattle.s3_sheets.specs.declared.name.Name.{Name}
+use Rattle.s3_cards.specs.declared.name.Name.{Name}
 use Rattle.s3_meaning.specs.Source.{Source}
 use Rattle.s3_meaning.specs.Requests.{Answer}
 use Rattle.s3_ocl.specs.declared.faults.FaultyJob.{FaultyJob}

@@ -12,11 +12,10 @@ use crate::printed_lines::PrintedLines;
 use crate::switches::switches_after;
 use indexmap::IndexMap;
 use s3_cards::ebcdic::DIGIT_0;
-use s3_cards::{Deck, LevelId, PrintLine};
+use s3_cards::{Deck, LevelId, Name, PrintLine};
 use s3_compile::{CompileFault, Program, compile};
 use s3_cycle::{Answer, Cycle, Request};
 use s3_ocl::{FaultyJob, JobCards, OclFault, job_at, split};
-use s3_sheets::name::Name;
 use s3_sheets::{Diagnostic, SheetFault, read_sheets};
 use std::alloc::{AllocError, Global};
 
@@ -307,6 +306,7 @@ impl Level {
         ensures stays { Stays self.old self.new }
     {
         if !self.has_job() {
+            self.pass_over();
             return Ok(Did::Idle);
         }
         match self.next_job() {
@@ -325,6 +325,16 @@ impl Level {
         ensures some { result ≡ true → jobs_from self.now.deck self.now.next ≢ [] }
     {
         job_at(&self.deck, self.next).is_some()
+    }
+
+    /// Goes behind the last card of a deck that has no job left, so that no later turn looks at the separators there again.
+    #[tactic(auto, using(crate::proofs::Starting::no_job_behind))]
+    fn pass_over(&mut self)
+        requires { jobs_from self.old.deck self.old.next ≡ [] }
+        ensures world { Becomes (λ w. w) self.old self.new }
+        ensures stays { Stays self.old self.new }
+    {
+        self.next = self.deck.len();
     }
 
     #[tactic(auto, using(crate::proofs::Starting::next_is))]
@@ -398,8 +408,7 @@ impl Level {
         if job.is_compile() {
             return self.compile(number, job.run_card(), from, to);
         }
-        let codes = job.program().codes;
-        self.run(number, Name { codes }, from, to)
+        self.run(number, job.program(), from, to)
     }
 
     /// Compiles the source between two places into the library, or shows its diagnostics.

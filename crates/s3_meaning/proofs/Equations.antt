@@ -2,7 +2,7 @@
 use Rattle.std.proofs.Common.{◌≡◌, ℕ, zero, suc, ◌==◌, ◌<◌, ◌≤◌, Bool, true, false, ◌&&◌, ◌||◌, if◌then◌else◌, ℤ, List, [], ◌∷◌, Option, Some, None, length, unsigned_abs, refl, sym, true≢false, arith}
 use Rattle.std.specs.List.{list_any}
 use Rattle.s3_meaning.proofs.Selecting.{taken_unread}
-use Rattle.s3_sheets.specs.declared.name.Name.{Name}
+use Rattle.s3_cards.specs.declared.name.Name.{Name}
 use Rattle.s3_sheets.specs.declared.indicator.Indicator.{Indicator}
 use Rattle.s3_sheets.specs.declared.indicator.Indicator.TheVariants.{LastRecord, Halt}
 use Rattle.s3_meaning.specs.declared.halt.HaltCode.{HaltCode}

@@ -2,11 +2,12 @@
 use Rattle.std.specs.Prelude.{ℕ, zero, suc, ◌+◌, ◌*◌, ◌-◌, ◌/◌, ◌%◌, ◌^◌, ◌==◌, Bool, true, false, not, ◌&&◌, ℤ, pos, List, replicate, slice_index, Option, None, if◌then◌else◌}
 use Rattle.std.specs.List.{list_any, list_all}
 use Rattle.s3_decimal.specs.Exact.{Fraction, exact}
-use Rattle.s3_sheets.specs.declared.name.Name.{Name}
+use Rattle.s3_cards.specs.declared.name.Name.{Name}
 use Rattle.s3_sheets.specs.declared.indicator.Indicator.{Indicator}
 use Rattle.s3_sheets.specs.declared.indicator.Indicator.TheVariants.{Level, LastRecord, FirstPage, Switch}
 use Rattle.s3_sheets.specs.declared.indicator.Condition.{Condition}
-use Rattle.s3_meaning.specs.Names.{same_name, same_indicator, is_indicator, udate, umonth, uday, uyear}
+use Rattle.s3_meaning.specs.Names.{same_indicator, is_indicator, udate, umonth, uday, uyear}
+use Rattle.s3_cards.specs.Names.{same_name}
 use Rattle.s3_meaning.specs.Source.{Source, length_of}
 use Rattle.s3_meaning.specs.Requests.{Current}
 

@@ -1,12 +1,9 @@
 -- Names and indicators.
-use Rattle.std.specs.Prelude.{◌==◌, nat_eq, Bool, true, false, List, [], ◌∷◌, replicate, Option, Some, None, filter_map}
-use Rattle.std.specs.Cmp.Lexicographic.{pointwise}
-use Rattle.s3_sheets.specs.declared.name.Name.{Name}
+use Rattle.std.specs.Prelude.{◌==◌, Bool, true, false, List, [], ◌∷◌, Option, Some, None, filter_map}
+use Rattle.s3_cards.specs.Names.{same_name}
+use Rattle.s3_cards.specs.declared.name.Name.{Name}
 use Rattle.s3_sheets.specs.declared.indicator.Indicator.{Indicator}
 use Rattle.s3_sheets.specs.declared.indicator.Indicator.TheVariants.{General, Level, LastRecord, Matching, Halt, FirstPage, Overflow, Switch}
-
-abbrev pub same_name : Name → Name → Bool
-same_name a b = pointwise nat_eq a.codes b.codes
 
 abbrev pub is_named : Name → Option Name → Bool
 is_named a (Some b) = same_name a b
@@ -50,7 +47,3 @@ uyear = record { codes = 0xe4 ∷ 0xe8 ∷ 0xc5 ∷ 0xc1 ∷ 0xd9 ∷ 0x40 ∷ 0
 -- RPGOBJ, the name of a program whose H line bears none
 abbrev pub rpgobj : Name
 rpgobj = record { codes = 0xd9 ∷ 0xd7 ∷ 0xc7 ∷ 0xd6 ∷ 0xc2 ∷ 0xd1 ∷ 0x40 ∷ 0x40 ∷ [] }
-
--- the name of an entry that is blank
-abbrev pub no_name : Name
-no_name = record { codes = replicate 8 0x40 }

@@ -1,12 +1,12 @@
 -- Output lines: when one holds, what it puts out, and the request that it makes.
-use Rattle.std.specs.Prelude.{ℕ, zero, suc, ◌+◌, ◌-◌, ◌/◌, ◌==◌, Bool, true, false, not, ◌&&◌, ℤ, pos, ◌+ℤ◌, unsigned_abs, List, [], ◌∷◌, ◌++◌, map, length, take, drop, replicate, Option, Some, None, is_some, unwrap_or, if◌then◌else◌}
+use Rattle.std.specs.Prelude.{ℕ, ◌+◌, ◌-◌, ◌/◌, ◌==◌, Bool, true, false, not, ◌&&◌, ℤ, pos, ◌+ℤ◌, unsigned_abs, List, [], ◌∷◌, ◌++◌, map, length, take, drop, replicate, Option, Some, None, is_some, unwrap_or, if◌then◌else◌}
 use Rattle.std.specs.List.{list_any}
 use Rattle.s3_decimal.specs.Exact.{is_negative}
 use Rattle.s3_decimal.specs.Records.{zoned_bytes, packed_bytes}
 use Rattle.s3_edit.specs.declared.code.EditCode.{EditCode}
 use Rattle.s3_edit.specs.declared.code.EditCode.TheVariants.{Suppressed}
 use Rattle.s3_edit.specs.Picture.{width_of, pictured}
-use Rattle.s3_sheets.specs.declared.name.Name.{Name}
+use Rattle.s3_cards.specs.declared.name.Name.{Name}
 use Rattle.s3_sheets.specs.declared.indicator.Indicator.{Indicator}
 use Rattle.s3_sheets.specs.declared.indicator.Condition.{Condition}
 use Rattle.s3_sheets.specs.declared.sheet.OutputKind.{OutputKind}
@@ -18,7 +18,8 @@ use Rattle.s3_sheets.specs.declared.sheet.OutputContent.TheVariants.{Constant, F
 use Rattle.s3_sheets.specs.declared.sheet.FieldOutput.{FieldOutput}
 use Rattle.s3_sheets.specs.declared.sheet.OutputField.{OutputField}
 use Rattle.s3_sheets.specs.declared.sheet.FileLine.{FileLine}
-use Rattle.s3_meaning.specs.Names.{same_name, same_indicator, page, entries}
+use Rattle.s3_meaning.specs.Names.{same_indicator, page, entries}
+use Rattle.s3_cards.specs.Names.{same_name}
 use Rattle.s3_meaning.specs.Requests.{Request, Append, Add, Update, Print, Answer, Refused}
 use Rattle.s3_meaning.specs.OutputLines.{Output}
 use Rattle.s3_meaning.specs.Source.{Source, digits_of, decimals_of, length_of, is_numeric, is_printer, is_updated, file_named, overflow_of}

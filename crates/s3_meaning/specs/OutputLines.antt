@@ -1,6 +1,6 @@
 -- The lines of the O sheet: each with its groups of conditions and its fields.
 use Rattle.std.specs.Prelude.{Bool, List, [], ◌∷◌, ◌++◌, unwrap_or}
-use Rattle.s3_sheets.specs.declared.name.Name.{Name}
+use Rattle.s3_cards.specs.declared.name.Name.{Name}
 use Rattle.s3_sheets.specs.declared.indicator.Condition.{Condition}
 use Rattle.s3_sheets.specs.declared.sheet.OutputKind.{OutputKind}
 use Rattle.s3_sheets.specs.declared.sheet.Spacing.{Spacing}
@@ -8,7 +8,8 @@ use Rattle.s3_sheets.specs.declared.sheet.OutputCard.{OutputCard}
 use Rattle.s3_sheets.specs.declared.sheet.OutputField.{OutputField}
 use Rattle.s3_sheets.specs.declared.sheet.OutputLine.{OutputLine}
 use Rattle.s3_sheets.specs.declared.sheet.OutputLine.TheVariants.{Line, And, Or, Field}
-use Rattle.s3_meaning.specs.Names.{entries, no_name}
+use Rattle.s3_meaning.specs.Names.{entries}
+use Rattle.s3_cards.specs.Names.{no_name}
 
 -- it holds where one of its groups of conditions does
 pub record Output : Type 0 where

@@ -1,12 +1,13 @@
 -- The record types of the I sheet: each with all its codes, and the fields of its group.
 use Rattle.std.specs.Prelude.{List, [], ◌∷◌, ◌++◌, Option}
-use Rattle.s3_sheets.specs.declared.name.Name.{Name}
+use Rattle.s3_cards.specs.declared.name.Name.{Name}
 use Rattle.s3_sheets.specs.declared.indicator.Indicator.{Indicator}
 use Rattle.s3_sheets.specs.declared.sheet.RecordCode.{RecordCode}
 use Rattle.s3_sheets.specs.declared.sheet.FieldLine.{FieldLine}
 use Rattle.s3_sheets.specs.declared.sheet.InputLine.{InputLine}
 use Rattle.s3_sheets.specs.declared.sheet.InputLine.TheVariants.{Record, And, Or, Field}
-use Rattle.s3_meaning.specs.Names.{entries, no_name}
+use Rattle.s3_meaning.specs.Names.{entries}
+use Rattle.s3_cards.specs.Names.{no_name}
 
 pub record RecordType : Type 0 where
   pub file : Name

@@ -1,6 +1,6 @@
 -- What a run asks for, and what it is answered.
 use Rattle.std.specs.Prelude.{ℕ, ℤ, Bool, List, Option}
-use Rattle.s3_sheets.specs.declared.name.Name.{Name}
+use Rattle.s3_cards.specs.declared.name.Name.{Name}
 use Rattle.s3_meaning.specs.declared.halt.HaltCode.{HaltCode}
 
 -- what CHAIN looks for: a key, or a record number from 1

@@ -1,7 +1,7 @@
 -- Two sources of worked rows, as typed lines: the card lister, and totals by a control field.
 use Rattle.std.specs.Prelude.{ℕ, ◌-◌, ◌++◌, true, false, List, [], ◌∷◌, length, replicate, Option, Some, None}
 use Rattle.s3_edit.specs.declared.code.EditCode.TheVariants.{Suppressed}
-use Rattle.s3_sheets.specs.declared.name.Name.{Name}
+use Rattle.s3_cards.specs.declared.name.Name.{Name}
 use Rattle.s3_sheets.specs.declared.indicator.Indicator.TheVariants.{General, Level}
 use Rattle.s3_sheets.specs.declared.indicator.Condition.{Condition}
 use Rattle.s3_sheets.specs.declared.sheet.FileUse.TheVariants.{Input as InputUse, Output as OutputUse}

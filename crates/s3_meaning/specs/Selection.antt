@@ -4,7 +4,7 @@ use Rattle.std.specs.Option.{option_or}
 use Rattle.std.specs.List.{list_any, list_all}
 use Rattle.std.specs.Cmp.Lexicographic.{pointwise}
 use Rattle.s3_decimal.specs.Records.{zoned_digits, packed_digits}
-use Rattle.s3_sheets.specs.declared.name.Name.{Name}
+use Rattle.s3_cards.specs.declared.name.Name.{Name}
 use Rattle.s3_sheets.specs.declared.indicator.Indicator.{Indicator}
 use Rattle.s3_sheets.specs.declared.indicator.Indicator.TheVariants.{Level}
 use Rattle.s3_sheets.specs.declared.sheet.Designation.TheVariants.{Primary, Secondary}
@@ -15,7 +15,7 @@ use Rattle.s3_sheets.specs.declared.sheet.FieldForm.{FieldForm}
 use Rattle.s3_sheets.specs.declared.sheet.FieldForm.TheVariants.{Alphanumeric, Zoned, Packed}
 use Rattle.s3_sheets.specs.declared.sheet.FieldLine.{FieldLine}
 use Rattle.s3_sheets.specs.declared.sheet.FileLine.{FileLine}
-use Rattle.s3_meaning.specs.Names.{same_name}
+use Rattle.s3_cards.specs.Names.{same_name}
 use Rattle.s3_meaning.specs.RecordTypes.{RecordType}
 use Rattle.s3_meaning.specs.Source.{Source, is_designated, own_fields}
 use Rattle.s3_meaning.specs.Environment.{Environment}

@@ -2,7 +2,7 @@
 use Rattle.std.specs.Prelude.{ℕ, ◌+◌, ◌-◌, ◌*◌, Bool, true, false, not, ◌||◌, List, [], ◌∷◌, ◌++◌, Option, Some, None, is_some, unwrap_or, filter, filter_map, find, if◌then◌else◌}
 use Rattle.std.specs.Option.{option_or}
 use Rattle.std.specs.List.{list_any}
-use Rattle.s3_sheets.specs.declared.name.Name.{Name}
+use Rattle.s3_cards.specs.declared.name.Name.{Name}
 use Rattle.s3_sheets.specs.declared.indicator.Indicator.{Indicator}
 use Rattle.s3_sheets.specs.declared.sheet.FileUse.{FileUse}
 use Rattle.s3_sheets.specs.declared.sheet.FileUse.TheVariants.{Output as OutputUse, Input as InputUse, Update}
@@ -23,7 +23,8 @@ use Rattle.s3_sheets.specs.declared.sheet.OutputLine.{OutputLine}
 use Rattle.s3_sheets.specs.declared.sheet.SheetLine.{SheetLine}
 use Rattle.s3_sheets.specs.declared.sheet.SheetLine.TheVariants.{Header, File, Input, Calculation as CalculationSheet, Output as OutputSheet}
 use Rattle.s3_sheets.specs.declared.sheet.Line.{Line}
-use Rattle.s3_meaning.specs.Names.{same_name, is_indicator, page, udate, umonth, uday, uyear, rpgobj}
+use Rattle.s3_meaning.specs.Names.{is_indicator, page, udate, umonth, uday, uyear, rpgobj}
+use Rattle.s3_cards.specs.Names.{same_name}
 use Rattle.s3_meaning.specs.RecordTypes.{RecordType, types_of}
 use Rattle.s3_meaning.specs.Calculations.{Calculation, calculations_of, is_detail, is_total, begins, ends}
 use Rattle.s3_meaning.specs.OutputLines.{Output, outputs_of}

@@ -1,7 +1,7 @@
 pub mod BoundLemmas
 pub mod FaultLemmas
+pub mod FileLemmas
 pub mod JobLemmas
-pub mod NameLemmas
 pub mod NumberLemmas
 pub mod PartLemmas
 pub mod PieceLemmas

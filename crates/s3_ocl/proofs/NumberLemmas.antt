@@ -9,7 +9,7 @@ use Rattle.std.proofs.lemmas.List.{take_more, take_all, map-append}
 use Rattle.std.proofs.lemmas.List.Folds.{list_all_at}
 use Rattle.std.proofs.lemmas.Int.Digits.{number_after_append}
 use Rattle.std.proofs.lemmas.Bool.{cases_Bool}
-use Rattle.s3_ocl.specs.Signs.{is_digit}
+use Rattle.s3_cards.specs.Names.{is_digit}
 use Rattle.s3_ocl.specs.Values.{number_of}
 
 abbrev pub digit : ℕ → ℕ

@@ -7,7 +7,7 @@ use Rattle.std.proofs.lemmas.Option.{cond_some}
 use Rattle.std.proofs.lemmas.List.Folds.{list_all-append}
 use Rattle.std.proofs.Math.Nat.{pow-le-pow_right}
 use Rattle.std.proofs.Math.Seq.{drop-append_seam, take-append_seam}
-use Rattle.s3_ocl.specs.declared.names.Name.{Name}
+use Rattle.s3_cards.specs.declared.name.Name.{Name}
 use Rattle.s3_ocl.specs.declared.values.Value.{Value}
 use Rattle.s3_ocl.specs.declared.values.Value.TheVariants.{Named, Count, Kept, Dated, Set, Checked}
 use Rattle.s3_ocl.specs.declared.parameters.Parameter.{Parameter}
@@ -17,8 +17,8 @@ use Rattle.s3_ocl.specs.declared.parameters.Entry.TheVariants.{Empty, Unknown, S
 use Rattle.s3_ocl.specs.declared.parameters.Verb.{Verb}
 use Rattle.s3_ocl.specs.declared.parameters.Verb.TheVariants as verb
 use Rattle.s3_ocl.specs.declared.statements.Piece.{Piece}
-use Rattle.s3_ocl.specs.Signs.{is_blank, is_mark, is_hyphen, is_digit, is_letter, is_name_code}
-use Rattle.s3_ocl.specs.Names.{is_name, name_of}
+use Rattle.s3_ocl.specs.Signs.{is_mark, is_hyphen}
+use Rattle.s3_cards.specs.Names.{is_blank, is_digit, begins_name, goes_on_in_name, is_word, name_of}
 use Rattle.s3_ocl.specs.Values.{name_value, count_value, number_of}
 use Rattle.s3_ocl.specs.Parameters.{value_of, given_by, given, given_key, keyed, entry_at, entry_of, parameter_of, parts_of, verb_of}
 use Rattle.s3_ocl.specs.Cards.{first_word, is_statement}
@@ -36,31 +36,31 @@ both_true : (a b : Bool) → (a && b) ≡ true → (a ≡ true) × (b ≡ true)
 both_true true b h = (refl, h)
 both_true false b h = cc
 
-letter_is_mark : (code : ℕ) → is_letter code ≡ true → is_mark code ≡ true
+letter_is_mark : (code : ℕ) → begins_name code ≡ true → is_mark code ≡ true
 letter_is_mark code h = go (code == 0x40) refl
   where
     go : (t : Bool) → (code == 0x40) ≡ t → not t ≡ true
-    go true e = absurd (let s : code ≡ 0x40 = eqb-true code 0x40 e in let f : is_letter 0x40 ≡ true = subst (λ (n : ℕ). is_letter n ≡ true) s h in cc)
+    go true e = absurd (let s : code ≡ 0x40 = eqb-true code 0x40 e in let f : begins_name 0x40 ≡ true = subst (λ (n : ℕ). begins_name n ≡ true) s h in cc)
     go false e = refl
 
-name_code_is_mark : (code : ℕ) → is_name_code code ≡ true → is_mark code ≡ true
+name_code_is_mark : (code : ℕ) → goes_on_in_name code ≡ true → is_mark code ≡ true
 name_code_is_mark code h = go (code == 0x40) refl
   where
     go : (t : Bool) → (code == 0x40) ≡ t → not t ≡ true
-    go true e = absurd (let s : code ≡ 0x40 = eqb-true code 0x40 e in let f : is_name_code 0x40 ≡ true = subst (λ (n : ℕ). is_name_code n ≡ true) s h in cc)
+    go true e = absurd (let s : code ≡ 0x40 = eqb-true code 0x40 e in let f : goes_on_in_name 0x40 ≡ true = subst (λ (n : ℕ). goes_on_in_name n ≡ true) s h in cc)
     go false e = refl
 
-all_marks : (codes : List ℕ) → list_all is_name_code codes ≡ true → list_all is_mark codes ≡ true
+all_marks : (codes : List ℕ) → list_all goes_on_in_name codes ≡ true → list_all is_mark codes ≡ true
 all_marks [] h = refl
 all_marks (code ∷ codes) h =
-    let both = both_true (is_name_code code) (list_all is_name_code codes) h in
+    let both = both_true (goes_on_in_name code) (list_all goes_on_in_name codes) h in
     rw (name_code_is_mark code both.0) (all_marks codes both.1)
 
-name_marks : (text : List ℕ) → is_name text ≡ true → list_all is_mark text ≡ true
-unfolding is_name
+name_marks : (text : List ℕ) → is_word text ≡ true → list_all is_mark text ≡ true
+unfolding is_word
 name_marks [] h = cc
 name_marks (code ∷ codes) h =
-    let both = both_true (is_letter code) (list_all is_name_code codes) h in
+    let both = both_true (begins_name code) (list_all goes_on_in_name codes) h in
     rw (letter_is_mark code both.0) (all_marks codes both.1)
 
 prefix_all : (p : ℕ → Bool) (xs ys : List ℕ) → list_all p xs ≡ true → prefix_len p ys ≡ 0 → prefix_len p (xs ++ ys) ≡ length xs
@@ -77,11 +77,11 @@ all_blanks : (n : ℕ) → list_all is_blank (replicate n 0x40) ≡ true
 all_blanks zero = refl
 all_blanks (suc n) = all_blanks n
 
-padded : (text : List ℕ) → is_name text ≡ true → is_padded_name (name_of text) ≡ true
+padded : (text : List ℕ) → is_word text ≡ true → is_padded_name (name_of text) ≡ true
 padded text h =
     let blanks : List ℕ = replicate (8 - length text) 0x40 in
     let end : prefix_len is_mark (text ++ blanks) ≡ length text = prefix_all is_mark text blanks (name_marks text h) (no_marks (8 - length text)) in
-    ap (λ (n : ℕ). is_name (take n (text ++ blanks)) && list_all is_blank (drop n (text ++ blanks))) end
+    ap (λ (n : ℕ). is_word (take n (text ++ blanks)) && list_all is_blank (drop n (text ++ blanks))) end
     ∙ (rw (take-append_seam text blanks, drop-append_seam text blanks, h) (all_blanks (8 - length text)))
 
 so_far : (codes : List ℕ) (i : ℕ) → i ≤ length codes → list_all is_digit codes ≡ true → (n : ℕ) × NumberSoFar codes i n
@@ -117,8 +117,8 @@ is_sound_count limit Checked = true
 
 name_sound : (limit : ℕ) (text : List ℕ) (value : Value) → name_value limit text ≡ Some value → is_sound_name value ≡ true
 name_sound limit text value h =
-    let both = cond_some (nat_le (length text) limit && is_name text) (Named (name_of text)) value h in
-    subst (λ (v : Value). is_sound_name v ≡ true) both.1 (padded text (both_true (nat_le (length text) limit) (is_name text) both.0).1)
+    let both = cond_some (nat_le (length text) limit && is_word text) (Named (name_of text)) value h in
+    subst (λ (v : Value). is_sound_name v ≡ true) both.1 (padded text (both_true (nat_le (length text) limit) (is_word text) both.0).1)
 
 between : (low high n : ℕ) → low ≤ n → n ≤ high → is_between low high n ≡ true
 between low high n p q = grind (arith, nat_tests)

@@ -1,7 +1,8 @@
 -- What a card is in a job stream, and the words on it.
 use Rattle.std.specs.Prelude.{ℕ, ◌+◌, ◌==◌, ◌||◌, ◌&&◌, not, List, [], ◌∷◌, Bool, take, drop, length, nat_eq}
 use Rattle.std.specs.List.{prefix_len, position_or_len, starts_with}
-use Rattle.s3_ocl.specs.Signs.{is_blank, is_mark}
+use Rattle.s3_ocl.specs.Signs.{is_mark}
+use Rattle.s3_cards.specs.Names.{is_blank}
 
 -- a card that begins `/*`
 abbrev pub is_data_end : List ℕ → Bool

@@ -3,7 +3,7 @@ use Rattle.std.specs.Prelude.{ℕ, ◌==◌, ◌||◌, List, [], ◌∷◌, ◌+
 use Rattle.std.specs.List.{list_any, filter_map}
 use Rattle.std.specs.Option.{option_map, option_or, option_to_list}
 use Rattle.std.specs.Prelude.{option_and_then}
-use Rattle.s3_ocl.specs.declared.names.Name.{Name}
+use Rattle.s3_cards.specs.declared.name.Name.{Name}
 use Rattle.s3_ocl.specs.declared.parameters.Verb.{Verb}
 use Rattle.s3_ocl.specs.declared.parameters.Verb.TheVariants.{Load, Date, Switch as SwitchVerb}
 use Rattle.s3_ocl.specs.declared.parameters.Parameter.{Parameter}

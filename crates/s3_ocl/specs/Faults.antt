@@ -1,7 +1,7 @@
 -- What is wrong with the statements of a job, and on which card.
 use Rattle.std.specs.Prelude.{ℕ, ◌==◌, ◌&&◌, ◌||◌, not, List, [], ◌∷◌, ◌++◌, Bool, true, false, Option, Some, None, find, nat_lt, if◌then◌else◌}
 use Rattle.std.specs.List.{list_any, after_first, flat_map}
-use Rattle.s3_ocl.specs.declared.names.Name.{Name}
+use Rattle.s3_cards.specs.declared.name.Name.{Name}
 use Rattle.s3_ocl.specs.declared.faults.JobFault.{JobFault}
 use Rattle.s3_ocl.specs.declared.faults.JobFault.TheVariants as fault
 use Rattle.s3_ocl.specs.declared.faults.Mark.{Mark}
@@ -13,7 +13,7 @@ use Rattle.s3_ocl.specs.declared.parameters.Entry.{Entry}
 use Rattle.s3_ocl.specs.declared.parameters.Entry.TheVariants.{Empty, Unknown, Surplus, Missing, Wrong, Right}
 use Rattle.s3_ocl.specs.declared.statements.Piece.{Piece}
 use Rattle.s3_ocl.specs.declared.contents.FileStatement.{FileStatement}
-use Rattle.s3_ocl.specs.Names.{name_eq}
+use Rattle.s3_cards.specs.Names.{same_name}
 use Rattle.s3_ocl.specs.Statements.{Statement}
 use Rattle.s3_ocl.specs.Contents.{Contents, contents_of, gives, is_given, is_parameter, named}
 
@@ -46,7 +46,7 @@ fault_if test number fault = if test then record { card = number; fault = fault 
 -- whether a file has this name
 abbrev pub is_taken : List FileStatement → Option Name → Bool
 is_taken files None = false
-is_taken files (Some name) = list_any (λ file. name_eq file.name name) files
+is_taken files (Some name) = list_any (λ file. same_name file.name name) files
 
 -- what is wrong with a parameter of the statement that begins on card `number`, after these files: a missing value is a
 -- fault of that card; a parameter that the statement does not have, a wrong or surplus value and the name of an earlier

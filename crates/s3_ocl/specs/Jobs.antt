@@ -1,6 +1,6 @@
 -- The jobs of a list of cards.
 use Rattle.std.specs.Prelude.{◌≡◌, ◌<◌, ◌≤◌, ℕ, ◌+◌, ◌-◌, ◌||◌, List, [], ◌∷◌, ◌++◌, Bool, false, Option, Some, None, Result, Ok, Err, length, drop, replicate, sum_by, unwrap_or, slice_get, nat_lt, if◌then◌else◌}
-use Rattle.s3_ocl.specs.declared.names.Name.{Name}
+use Rattle.s3_cards.specs.declared.name.Name.{Name}
 use Rattle.s3_ocl.specs.declared.values.Switch.{Switch}
 use Rattle.s3_ocl.specs.declared.values.Switch.TheVariants.{Leave}
 use Rattle.s3_ocl.specs.declared.parameters.Verb.{Verb}
@@ -12,7 +12,7 @@ use Rattle.s3_ocl.specs.declared.faults.FaultyJob.{FaultyJob}
 use Rattle.s3_ocl.specs.declared.jobs.OclFault.{OclFault}
 use Rattle.s3_ocl.specs.declared.jobs.OclFault.TheVariants.{NoMemory, Faulty}
 use Rattle.s3_ocl.specs.Cards.{is_separator, is_job_end, begins_job, closes_job, next_place}
-use Rattle.s3_ocl.specs.Names.{name_eq, name_of}
+use Rattle.s3_cards.specs.Names.{same_name, name_of, no_name}
 use Rattle.s3_ocl.specs.Words.{compiler_word}
 use Rattle.s3_ocl.specs.Statements.{Statement, is_verb, statements}
 use Rattle.s3_ocl.specs.Contents.{Contents, contents_of, has}
@@ -32,11 +32,7 @@ pub record Job : Type 0 where
 
 -- a job for the compiler: its data are a source
 abbrev pub is_compile : Job → Bool
-is_compile job = name_eq job.program (name_of compiler_word)
-
--- eight blanks, the name where no program is named
-abbrev pub no_name : Name
-no_name = record { codes = replicate 8 0x40 }
+is_compile job = same_name job.program (name_of compiler_word)
 
 -- how many cards statements have
 abbrev pub cards_of : List Statement → ℕ

@@ -2,7 +2,6 @@ pub mod Cards
 pub mod Contents
 pub mod Faults
 pub mod Jobs
-pub mod Names
 pub mod Parameters
 pub mod Signs
 pub mod Sound

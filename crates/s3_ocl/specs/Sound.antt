@@ -1,18 +1,14 @@
 -- The ranges of what a FILE statement says.
-use Rattle.std.specs.Prelude.{ℕ, Bool, ◌&&◌, take, drop, nat_le}
-use Rattle.std.specs.List.{list_all, prefix_len}
-use Rattle.s3_ocl.specs.declared.names.Name.{Name}
+use Rattle.std.specs.Prelude.{ℕ, Bool, ◌&&◌, nat_le}
+use Rattle.s3_cards.specs.declared.name.Name.{Name}
 use Rattle.s3_ocl.specs.declared.contents.FileSize.{FileSize}
 use Rattle.s3_ocl.specs.declared.contents.FileSize.TheVariants.{Records, Tracks}
 use Rattle.s3_ocl.specs.declared.contents.FileStatement.{FileStatement}
-use Rattle.s3_ocl.specs.Signs.{is_blank, is_mark}
-use Rattle.s3_ocl.specs.Names.{is_name}
+use Rattle.s3_cards.specs.Names.{is_name}
 
 -- a name and blanks behind it
 abbrev pub is_padded_name : Name → Bool
-is_padded_name name =
-    let end : ℕ = prefix_len is_mark name.codes in
-    is_name (take end name.codes) && list_all is_blank (drop end name.codes)
+is_padded_name name = is_name name.codes
 
 abbrev pub is_between : ℕ → ℕ → ℕ → Bool
 is_between low high n = nat_le low n && nat_le n high

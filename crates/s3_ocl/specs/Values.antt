@@ -7,13 +7,12 @@ use Rattle.s3_ocl.specs.declared.values.Value.TheVariants.{Named, Count, Kept, D
 use Rattle.s3_ocl.specs.declared.values.Switch.{Switch}
 use Rattle.s3_ocl.specs.declared.values.Switch.TheVariants.{On, Off, Leave}
 use Rattle.s3_ocl.specs.declared.values.Retention.TheVariants.{Temporary, Scratch, Permanent}
-use Rattle.s3_ocl.specs.Signs.{is_digit, is_name_code}
-use Rattle.s3_ocl.specs.Names.{is_name, name_of}
+use Rattle.s3_cards.specs.Names.{is_digit, goes_on_in_name, is_word, name_of}
 use Rattle.s3_ocl.specs.Words.{reads, r1_unit, r2_unit, f1_unit, f2_unit}
 
 -- a name of at most so many codes
 abbrev pub name_value : ℕ → List ℕ → Option Value
-name_value limit text = if nat_le (length text) limit && is_name text then Some (Named (name_of text)) else None
+name_value limit text = if nat_le (length text) limit && is_word text then Some (Named (name_of text)) else None
 
 -- R1, R2, F1 or F2
 abbrev pub unit_value : List ℕ → Option Value
@@ -22,7 +21,7 @@ unit_value text =
 
 -- a pack: at most 6 letters, digits, $, # and @
 abbrev pub pack_value : List ℕ → Option Value
-pack_value text = if nat_le (length text) 6 && list_all is_name_code text then Some Checked else None
+pack_value text = if nat_le (length text) 6 && list_all goes_on_in_name text then Some Checked else None
 
 -- the number of a run of digits
 abbrev pub number_of : List ℕ → ℕ

@@ -1,15 +1,11 @@
 -- The words of the statements.
-use Rattle.std.specs.Prelude.{ℕ, List, [], ◌∷◌, Bool, map, unwrap_or, nat_eq, codes}
+use Rattle.std.specs.Prelude.{ℕ, List, [], ◌∷◌, Bool, nat_eq, codes}
 use Rattle.std.specs.Cmp.Lexicographic.{pointwise}
-use Rattle.s3_cards.specs.Codes.{ebcdic_of}
+use Rattle.s3_cards.specs.Codes.{ebcdic}
 
 -- whether a text is this word
 abbrev pub reads : List ℕ → List ℕ → Bool
 reads text word = pointwise nat_eq text word
-
--- the EBCDIC codes of a text
-abbrev pub punched : List ℕ → List ℕ
-punched text = map (λ character. unwrap_or (ebcdic_of character) 0) text
 
 -- LOAD
 abbrev pub load_word : List ℕ
@@ -86,4 +82,4 @@ words =
 
 abbrev pub punched_words : List (List ℕ)
 punched_words =
-    punched (codes "LOAD") ∷ punched (codes "FILE") ∷ punched (codes "DATE") ∷ punched (codes "SWITCH") ∷ punched (codes "RUN") ∷ punched (codes "NAME") ∷ punched (codes "UNIT") ∷ punched (codes "PACK") ∷ punched (codes "LABEL") ∷ punched (codes "RECORDS") ∷ punched (codes "TRACKS") ∷ punched (codes "RETAIN") ∷ punched (codes "R1") ∷ punched (codes "R2") ∷ punched (codes "F1") ∷ punched (codes "F2") ∷ punched (codes "$RPG") ∷ []
+    ebcdic (codes "LOAD") ∷ ebcdic (codes "FILE") ∷ ebcdic (codes "DATE") ∷ ebcdic (codes "SWITCH") ∷ ebcdic (codes "RUN") ∷ ebcdic (codes "NAME") ∷ ebcdic (codes "UNIT") ∷ ebcdic (codes "PACK") ∷ ebcdic (codes "LABEL") ∷ ebcdic (codes "RECORDS") ∷ ebcdic (codes "TRACKS") ∷ ebcdic (codes "RETAIN") ∷ ebcdic (codes "R1") ∷ ebcdic (codes "R2") ∷ ebcdic (codes "F1") ∷ ebcdic (codes "F2") ∷ ebcdic (codes "$RPG") ∷ []

@@ -3,10 +3,11 @@ ghost use Rattle.std.specs.Prelude.{◌≡◌, ◌==◌, ◌||◌, ◌++◌, [],
 ghost use Rattle.std.specs.Option.{option_copied, option_to_list};
 ghost use Rattle.s3_ocl.specs.Contents.{rank as rank_spec, is_parameter as is_parameter_spec, gives as gives_spec, is_given as is_given_spec, right_value as right_value_spec, value_in as value_in_spec, named as named_spec, count as count_spec, kept as kept_spec, dated as dated_spec, set as set_spec, name_in as name_in_spec, count_in as count_in_spec, retention_in, date_in as date_in_spec, switches_in as switches_in_spec, size_of as size_of_spec, file_with as file_with_spec, file_of as file_of_spec, contents_of, contents_with};
 
-use super::names::Name;
+use super::file_list::FileList;
 use super::parameters::{Entry, Parameter, Verb};
 use super::statements::{Piece, Statement, is_verb};
 use super::values::{Retention, Switch, Value};
+use s3_cards::Name;
 use std::alloc::{AllocError, Global};
 use std::marker::Model;
 
@@ -219,7 +220,7 @@ pub struct Contents {
     pub program: Option<Name>,
     pub date: Option<[u8; 6]>,
     pub switches: Option<[Switch; 8]>,
-    pub files: Vec<FileStatement>,
+    pub files: FileList,
     pub is_loaded: bool,
     pub is_dated: bool,
     pub is_switched: bool,
@@ -230,19 +231,16 @@ impl Model for Contents {
 
     ghost Value = { Contents };
 
-    ghost view = { λ c. record { program = c.program; date = c.date; switches = c.switches; files = c.files.items; is_loaded = c.is_loaded; is_dated = c.is_dated; is_switched = c.is_switched } };
+    ghost view = { λ c. record { program = c.program; date = c.date; switches = c.switches; files = c.files; is_loaded = c.is_loaded; is_dated = c.is_dated; is_switched = c.is_switched } };
 }
 
 /// Adds a file, if there is one.
-fn add_file(files: &mut Vec<FileStatement>, file: Option<FileStatement>) -> Result<(), AllocError>
-    ensures { OnOk result (files.new.items ≡ files.old.items ++ option_to_list file) }
+fn add_file(files: &mut FileList, file: Option<FileStatement>) -> Result<(), AllocError>
+    ensures { OnOk result (files.new ≡ files.old ++ option_to_list file) }
 {
     match file {
         None => Ok(()),
-        Some(file) => {
-            files.push(file)?;
-            Ok(())
-        }
+        Some(file) => files.push(file),
     }
 }
 
@@ -256,7 +254,7 @@ impl Contents {
             program: None,
             date: None,
             switches: None,
-            files: Vec::new(alloc),
+            files: FileList::new(alloc),
             is_loaded: false,
             is_dated: false,
             is_switched: false,

@@ -5,8 +5,8 @@ ghost use Rattle.std.specs.Option.{option_copied};
 ghost use Rattle.s3_ocl.specs.Contents.{gives as gives_spec, named as named_spec};
 ghost use Rattle.s3_ocl.specs.Faults.{fault_number, is_before as is_before_spec, earlier as earlier_spec, first_fault, fault_if as fault_if_spec, is_taken as is_taken_spec, piece_faults, twice_on, again_faults, file_parameters, lacks_needed as lacks_needed_spec, is_ill_formed as is_ill_formed_spec, is_again as is_again_spec, lacks_load as lacks_load_spec, verb_faults, has_two_sizes as has_two_sizes_spec, statement_faults};
 
-use super::contents::{Contents, FileStatement, gives, is_given, is_parameter, named};
-use super::names::Name;
+use super::contents::{Contents, gives, is_given, is_parameter, named};
+use super::file_list::FileList;
 use super::parameters::{Entry, Parameter, Verb};
 use super::statements::{Piece, Statement};
 use super::values::Value;
@@ -87,25 +87,19 @@ fn fault_if(test: bool, card: u16, fault: JobFault) -> Option<Mark>
     }
 }
 
-fn has_name(files: &[FileStatement], name: Name) -> bool
-    ensures { result ≡ is_taken_spec files.now (Some name) }
-{
-    files.iter().any(|file| file.name == name)
-}
-
 /// Whether a file has the name that a value is.
-fn is_taken(files: &[FileStatement], value: Value) -> bool
+fn is_taken(files: &FileList, value: Value) -> bool
     ensures { result ≡ is_taken_spec files.now (named_spec value) }
 {
     match named(value) {
         None => false,
-        Some(name) => has_name(files, name),
+        Some(name) => files.has(name),
     }
 }
 
 /// What is wrong with a parameter of the statement that begins on card `number`, after these files.
 #[tactic(auto, unfolding(crate::specs::Faults::first_fault))]
-fn piece_fault(files: &[FileStatement], number: u16, piece: &Piece) -> Option<Mark>
+fn piece_fault(files: &FileList, number: u16, piece: &Piece) -> Option<Mark>
     ensures { result ≡ first_fault (piece_faults files.now number piece.now) }
 {
     match piece.entry {
@@ -124,7 +118,7 @@ fn piece_fault(files: &[FileStatement], number: u16, piece: &Piece) -> Option<Ma
 
 /// The first fault of the parameters one by one.
 #[tactic(auto, using(crate::proofs::FaultLemmas::no_fault_yet, crate::proofs::FaultLemmas::fault_more))]
-fn pieces_fault(files: &[FileStatement], number: u16, pieces: &[Piece]) -> Option<Mark>
+fn pieces_fault(files: &FileList, number: u16, pieces: &[Piece]) -> Option<Mark>
     ensures { result ≡ first_fault (flat_map (piece_faults files.now number) pieces.now) }
 {
     let mut fault = None;

@@ -14,12 +14,11 @@ use super::cards::{
 };
 use super::contents::{Contents, FileStatement};
 use super::faults::{FaultyJob, JobFault, Mark, earlier, statement_fault};
-use super::names::Name;
 use super::parameters::Verb;
 use super::statements::{Statement, is_verb, read_statement};
 use super::values::Switch;
 use s3_cards::ebcdic::{BLANK, DOLLAR, LETTER_G, LETTER_P, LETTER_R};
-use s3_cards::{Card, Deck};
+use s3_cards::{Card, Deck, Name};
 use std::alloc::{AllocError, Global};
 use std::marker::Model;
 use thiserror::Error;
@@ -204,7 +203,7 @@ fn job_with(contents: Contents, cards: &[Card], end: usize) -> JobCards
     let data_to = next_separator(cards, end);
     JobCards {
         program: contents.program.unwrap_or(Name { codes: [BLANK; 8] }),
-        files: contents.files,
+        files: contents.files.into_vec(),
         date: contents.date,
         switches: contents.switches.unwrap_or([Switch::Leave; 8]),
         data_from: end,

@@ -4,10 +4,9 @@
 mod cards;
 mod contents;
 mod faults;
+mod file_list;
 mod jobs;
-mod names;
 mod parameters;
-mod signs;
 mod statements;
 mod values;
 mod words;
@@ -15,6 +14,5 @@ mod words;
 pub use contents::{FileSize, FileStatement};
 pub use faults::{FaultyJob, JobFault};
 pub use jobs::{JobCards, OclFault, job_at, split};
-pub use names::Name;
 pub use values::{Retention, Switch};
 pub use words::words_as_punched;

@@ -1,13 +1,12 @@
 //! What the text of a value says.
 ghost use Rattle.std.specs.Prelude.{◌≡◌, ◌<◌, ◌≤◌, ◌+◌, ◌-◌, ◌^◌, IsTrue, length, map};
 ghost use Rattle.std.specs.List.{list_all};
-ghost use Rattle.s3_ocl.specs.Signs.{is_digit as digit_spec};
+ghost use Rattle.s3_cards.specs.Names.{is_digit as digit_spec};
 ghost use Rattle.s3_ocl.specs.Values.{name_value as name_value_spec, unit_value as unit_value_spec, pack_value as pack_value_spec, number_of, count_value as count_value_spec, retention_value as retention_value_spec, pairs_at, two_digits as two_digits_spec, is_date as date_spec, dated as dated_spec, date_value as date_value_spec, is_switch as switch_spec, switch_of, switches_value as switches_value_spec};
 
-use super::names::{Name, are_name_codes, is_name, make_name};
-use super::signs::is_digit;
 use super::words::{F1, F2, R1, R2};
 use s3_cards::ebcdic::{DIGIT_0, DIGIT_1, LETTER_P, LETTER_S, LETTER_T, LETTER_X, SLASH};
+use s3_cards::{Name, go_on_in_name, is_digit, is_word};
 
 /// What a SWITCH statement does with one switch.
 #[derive(Clone, Copy, Debug, PartialEq, Eq)]
@@ -46,8 +45,8 @@ pub fn name_value(limit: usize, text: &[u8]) -> Option<Value>
     requires { limit ≤ 8 }
     ensures { result ≡ name_value_spec limit text.now }
 {
-    if text.len() <= limit && is_name(text) {
-        Some(Value::Named(make_name(text)))
+    if text.len() <= limit && is_word(text) {
+        Some(Value::Named(Name::of(text)))
     } else {
         None
     }
@@ -72,7 +71,7 @@ pub fn unit_value(text: &[u8]) -> Option<Value>
 pub fn pack_value(text: &[u8]) -> Option<Value>
     ensures { result ≡ pack_value_spec text.now }
 {
-    if text.len() <= 6 && are_name_codes(text) {
+    if text.len() <= 6 && go_on_in_name(text) {
         Some(Value::Checked)
     } else {
         None

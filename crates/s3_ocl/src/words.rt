@@ -43,7 +43,7 @@ pub const F1: [u8; 2] = [LETTER_F, DIGIT_1];
 pub const F2: [u8; 2] = [LETTER_F, DIGIT_2];
 
 /// The definitions' words are these texts as they are punched.
-#[tactic(auto, unfolding(s3_cards::specs::Codes::code_page))]
+#[tactic(auto, unfolding(s3_cards::specs::Codes::ebcdic, s3_cards::specs::Codes::code_page))]
 pub fn words_as_punched()
     ensures { words_spec ≡ punched_words }
 {}

@@ -8,7 +8,7 @@ use Rattle.std.proofs.Math.Nat.{pow-le-pow_right, pow-suc}
 use Rattle.std.proofs.lemmas.List.{take_more, take_all, map-append}
 use Rattle.std.proofs.lemmas.List.Folds.{list_all_more, list_all_at}
 use Rattle.std.proofs.lemmas.Int.Digits.{number_after_append}
-use Rattle.s3_sheets.specs.Codes.{is_digit}
+use Rattle.s3_cards.specs.Names.{is_digit}
 use Rattle.s3_sheets.specs.Columns.{digits_number}
 
 abbrev pub digit : ℕ → ℕ

@@ -6,7 +6,8 @@ use Rattle.std.specs.Option.{option_to_list}
 use Rattle.std.proofs.lemmas.Bool.Decides.{nat_tests}
 use Rattle.std.proofs.lemmas.List.{map-append, take_more}
 use Rattle.std.proofs.lemmas.List.Folds.{list_any-append}
-use Rattle.s3_sheets.specs.Columns.{columns, are_blank, name_of}
+use Rattle.s3_sheets.specs.Columns.{columns, are_blank}
+use Rattle.s3_cards.specs.Names.{name_of}
 use Rattle.s3_sheets.specs.Kinds.{kind_of, sheet_of, is_record, is_output_line}
 use Rattle.s3_sheets.specs.Lines.{card_at}
 use Rattle.s3_sheets.specs.Sheets.{before, kind_at, is_behind, is_misplaced, is_further_record, lacks_file, is_at_fault, is_outside, is_too_many, new_file, new_field, file_of, field_of, record_length_of, named_length, input_length_behind, output_length_behind, files, fields, input_length, output_length, standing_at}

@@ -1,16 +1,16 @@
 -- The definitions computed on small sources.
 use Rattle.std.proofs.Common.{◌≡◌, ℕ, ◌+◌, ◌-◌, List, [], ◌∷◌, ◌++◌, refl, length, take, drop, replicate, false}
 use Rattle.std.specs.Prelude.{codes, Option, Some, None, map}
-use Rattle.s3_cards.specs.Codes.{code_page}
-use Rattle.s3_sheets.specs.Codes.{ebcdic}
-use Rattle.s3_sheets.specs.Columns.{digits_number, is_word, name_of}
+use Rattle.s3_cards.specs.Codes.{code_page, ebcdic}
+use Rattle.s3_sheets.specs.Columns.{digits_number}
+use Rattle.s3_cards.specs.Names.{is_word, name_of}
 use Rattle.s3_sheets.specs.Entries.{text_of, reserved_names, constant_text}
 use Rattle.s3_sheets.specs.Kinds.{goes_on, kind_of}
 use Rattle.s3_sheets.specs.Rules.{rule_fault, longest_record}
 use Rattle.s3_sheets.specs.Tables.{header_rules, file_rules, record_rules, group_rules, field_rules, calculation_rules, output_line_rules, output_field_rules}
 use Rattle.s3_sheets.specs.Lines.{line_of, device_of, lines_of, none_of_three, no_spacing}
 use Rattle.s3_sheets.specs.Sheets.{is_at_fault, breaks_some_rule, is_outside, is_too_many, card_holds, sheet_diagnostics}
-use Rattle.s3_sheets.specs.declared.name.Name.{Name}
+use Rattle.s3_cards.specs.declared.name.Name.{Name}
 use Rattle.s3_sheets.specs.declared.diagnostic.Diagnostic.{Diagnostic}
 use Rattle.s3_sheets.specs.declared.indicator.Indicator.TheVariants.{General}
 use Rattle.s3_sheets.specs.declared.indicator.Condition.{Condition}

@@ -1,11 +1,12 @@
 -- What the entries of the sheets spell.
-use Rattle.std.specs.Prelude.{ℕ, ◌+◌, ◌-◌, ◌*◌, nat_lt, nat_le, List, [], ◌∷◌, ◌++◌, Bool, true, false, not, ◌==◌, ◌&&◌, ◌||◌, Option, Some, None, is_some, unwrap_or, option_map, length, replicate, if◌then◌else◌, codes}
+use Rattle.std.specs.Prelude.{ℕ, ◌+◌, ◌-◌, ◌*◌, nat_lt, nat_le, List, [], ◌∷◌, ◌++◌, Bool, true, false, not, ◌==◌, ◌&&◌, ◌||◌, Option, Some, None, is_some, option_map, length, replicate, if◌then◌else◌, codes}
 use Rattle.std.specs.List.{list_any}
 use Rattle.std.specs.Option.{option_or, option_and_then}
 use Rattle.s3_cards.specs.declared.ebcdic.TheConstants.{BLANK, APOSTROPHE, LETTER_N, LETTER_U, DIGIT_0}
-use Rattle.s3_sheets.specs.Codes.{ebcdic, is_digit}
-use Rattle.s3_sheets.specs.Columns.{are_blank, name_of, same_name}
-use Rattle.s3_sheets.specs.declared.name.Name.{Name}
+use Rattle.s3_cards.specs.Codes.{ebcdic}
+use Rattle.s3_cards.specs.Names.{is_digit, name_of, same_name}
+use Rattle.s3_sheets.specs.Columns.{are_blank}
+use Rattle.s3_cards.specs.declared.name.Name.{Name}
 use Rattle.s3_sheets.specs.declared.indicator.Indicator.{Indicator}
 use Rattle.s3_sheets.specs.declared.indicator.Indicator.TheVariants.{General, Switch}
 use Rattle.s3_sheets.specs.declared.indicator.Condition.{Condition}

@@ -2,7 +2,7 @@
 use Rattle.std.specs.Prelude.{ℕ, List, Bool, true, false, ◌==◌, ◌&&◌, ◌||◌, if◌then◌else◌, nat_eq, codes}
 use Rattle.std.specs.Cmp.Lexicographic.{pointwise}
 use Rattle.s3_cards.specs.declared.ebcdic.TheConstants.{ASTERISK, LETTER_C, LETTER_F, LETTER_H, LETTER_I, LETTER_O}
-use Rattle.s3_sheets.specs.Codes.{ebcdic}
+use Rattle.s3_cards.specs.Codes.{ebcdic}
 use Rattle.s3_sheets.specs.Columns.{column, columns, are_blank}
 use Rattle.s3_sheets.specs.declared.kind.CardKind.{CardKind}
 use Rattle.s3_sheets.specs.declared.kind.CardKind.TheVariants.{Comment, Unknown, Header, File, Record, RecordGroup, Field, Calculation, OutputLine, OutputGroup, OutputField}

@@ -1,4 +1,3 @@
-pub mod Codes
 pub mod Columns
 pub mod Entries
 pub mod Literals

@@ -2,14 +2,15 @@
 use Rattle.std.specs.Prelude.{ℕ, ◌+◌, List, [], ◌∷◌, ◌++◌, false, ◌==◌, zero, suc, Option, Some, None, unwrap_or, option_map, length, slice_index_or, if◌then◌else◌, codes}
 use Rattle.std.specs.Option.{option_to_list}
 use Rattle.s3_cards.specs.declared.ebcdic.TheConstants.{LETTER_E, LETTER_O, LETTER_P}
-use Rattle.s3_sheets.specs.Codes.{ebcdic}
-use Rattle.s3_sheets.specs.Columns.{column, columns, are_blank, number_of, name_of}
+use Rattle.s3_cards.specs.Codes.{ebcdic}
+use Rattle.s3_sheets.specs.Columns.{column, columns, are_blank, number_of}
+use Rattle.s3_cards.specs.Names.{name_of}
 use Rattle.s3_sheets.specs.Entries.{general_of, switch_of, condition_of, constant_text, constant}
 use Rattle.s3_sheets.specs.Kinds.{kind_of}
 use Rattle.s3_sheets.specs.Rules.{same_codes}
 use Rattle.s3_sheets.specs.declared.kind.CardKind.{CardKind}
 use Rattle.s3_sheets.specs.declared.kind.CardKind.TheVariants as kind
-use Rattle.s3_sheets.specs.declared.name.Name.{Name}
+use Rattle.s3_cards.specs.declared.name.Name.{Name}
 use Rattle.s3_sheets.specs.declared.indicator.Condition.{Condition}
 use Rattle.s3_sheets.specs.declared.indicator.Indicator.{Indicator}
 use Rattle.s3_sheets.specs.declared.indicator.Indicator.TheVariants.{General, Switch}

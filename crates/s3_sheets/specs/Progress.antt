@@ -1,10 +1,11 @@
 -- Reading card by card: what is kept of the cards before, and what it says of the next one.
 use Rattle.std.specs.Prelude.{ℕ, ◌+◌, List, [], ◌++◌, Bool, true, false, ◌==◌, ◌&&◌, ◌||◌, not, Option, None, length, max}
 use Rattle.std.specs.Option.{option_to_list}
-use Rattle.s3_sheets.specs.Columns.{columns, are_blank, name_of}
+use Rattle.s3_sheets.specs.Columns.{columns, are_blank}
+use Rattle.s3_cards.specs.Names.{name_of}
 use Rattle.s3_sheets.specs.Kinds.{kind_of, sheet_of, is_record, is_output_line}
 use Rattle.s3_sheets.specs.Sheets.{is_behind, breaks_some_rule, file_of, record_length_of, new_file, input_length_behind, output_length_behind, last_position, is_past, length_for, field_of, new_field}
-use Rattle.s3_sheets.specs.declared.name.Name.{Name}
+use Rattle.s3_cards.specs.declared.name.Name.{Name}
 use Rattle.s3_sheets.specs.declared.kind.CardKind.{CardKind}
 use Rattle.s3_sheets.specs.declared.kind.CardKind.TheVariants.{Comment, Unknown}
 use Rattle.s3_sheets.specs.declared.progress.KnownFile.{KnownFile}

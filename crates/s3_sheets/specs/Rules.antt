@@ -2,8 +2,9 @@
 use Rattle.std.specs.Prelude.{ℕ, ◌+◌, ◌-◌, List, Bool, true, false, ◌==◌, ◌&&◌, ◌||◌, not, Option, Some, None, is_some, length, take, drop, nat_eq, nat_le, nat_lt, if◌then◌else◌, codes}
 use Rattle.std.specs.List.{list_all, list_any}
 use Rattle.std.specs.Cmp.Lexicographic.{pointwise}
-use Rattle.s3_sheets.specs.Codes.{ebcdic, is_letter}
-use Rattle.s3_sheets.specs.Columns.{columns, are_blank, number_of, is_name, name_of}
+use Rattle.s3_cards.specs.Codes.{ebcdic}
+use Rattle.s3_cards.specs.Names.{is_letter, is_name, name_of}
+use Rattle.s3_sheets.specs.Columns.{columns, are_blank, number_of}
 use Rattle.s3_sheets.specs.Entries.{general_of, switch_of, is_condition, constant_text, is_reserved}
 
 -- what may stand in some columns

@@ -3,12 +3,13 @@ use Rattle.std.specs.Prelude.{◌≡◌, ◌≢◌, ℕ, zero, suc, ◌+◌, Lis
 use Rattle.std.specs.List.{list_any}
 use Rattle.std.specs.Option.{option_to_list}
 use Rattle.std.specs.declared.alloc.Global.{Global}
-use Rattle.s3_sheets.specs.Columns.{columns, are_blank, number_of, name_of, same_name}
+use Rattle.s3_sheets.specs.Columns.{columns, are_blank, number_of}
+use Rattle.s3_cards.specs.Names.{name_of, same_name}
 use Rattle.s3_sheets.specs.Kinds.{kind_of, sheet_of, is_record, is_output_line}
 use Rattle.s3_sheets.specs.Rules.{breaks}
 use Rattle.s3_sheets.specs.Tables.{rules_of}
 use Rattle.s3_sheets.specs.Lines.{card_at, lines_of, number_or_zero}
-use Rattle.s3_sheets.specs.declared.name.Name.{Name}
+use Rattle.s3_cards.specs.declared.name.Name.{Name}
 use Rattle.s3_sheets.specs.declared.kind.CardKind.{CardKind}
 use Rattle.s3_sheets.specs.declared.kind.CardKind.TheVariants.{Comment, Unknown, File, Record, RecordGroup, Field, OutputLine, OutputGroup, OutputField}
 use Rattle.s3_sheets.specs.declared.progress.KnownFile.{KnownFile}

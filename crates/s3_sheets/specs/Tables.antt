@@ -1,6 +1,6 @@
 -- The rules of each kind of card. A column that nothing has built yet must be blank.
 use Rattle.std.specs.Prelude.{ℕ, List, [], ◌∷◌, codes}
-use Rattle.s3_sheets.specs.Codes.{ebcdic}
+use Rattle.s3_cards.specs.Codes.{ebcdic}
 use Rattle.s3_sheets.specs.Rules.{Entry, Blank, Unbuilt, OneOf, Letters, Name, MaybeName, MaybeField, Number, MaybeNumber, GeneralIndicator, MaybeCondition, MaybeSwitch, MaybeConstant, RecordLength, Extent, Content, ConstantPlace, Rule}
 use Rattle.s3_sheets.specs.declared.kind.CardKind.{CardKind}
 use Rattle.s3_sheets.specs.declared.kind.CardKind.TheVariants.{Comment, Unknown, Header, File, Record, RecordGroup, Field, Calculation, OutputLine, OutputGroup, OutputField}

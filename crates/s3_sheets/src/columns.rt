@@ -2,13 +2,11 @@
 
 ghost use Rattle.std.specs.Prelude.{◌≡◌, ◌<◌, ◌≤◌, ◌+◌, ◌-◌, ◌^◌, length, not, IfSome};
 ghost use Rattle.std.specs.List.{prefix_len, list_all};
-ghost use Rattle.s3_sheets.specs.Codes.{is_blank as blank_spec, goes_on_in_name as goes_on_spec};
-ghost use Rattle.s3_sheets.specs.Columns.{columns as columns_spec, are_blank as are_blank_spec, number_of, digits_number, is_name as name_spec, is_word as word_spec, name_of, same_name as same_name_spec};
+ghost use Rattle.s3_cards.specs.Names.{is_blank as blank_spec, goes_on_in_name as goes_on_spec, is_name as name_spec, is_word as word_spec, name_of, same_name as same_name_spec};
+ghost use Rattle.s3_sheets.specs.Columns.{columns as columns_spec, are_blank as are_blank_spec, number_of, digits_number};
 
-use crate::codes::{begins_name, goes_on_in_name, is_digit};
-use crate::name::Name;
-use s3_cards::Card;
 use s3_cards::ebcdic::{BLANK, DIGIT_0};
+use s3_cards::{Card, is_digit};
 
 /// The columns from one to another, both counted from 1.
 pub fn columns(card: &Card, from: usize, to: usize) -> &[u8]
@@ -34,14 +32,6 @@ fn blanks_in_front(columns: &[u8]) -> usize
     ensures value { result ≡ prefix_len blank_spec columns.now }
 {
     columns.iter().take_while(|code| **code == BLANK).count()
-}
-
-/// How many codes stand before the first blank.
-fn word_len(columns: &[u8]) -> usize
-    ensures within { result ≤ length columns.now }
-    ensures value { result ≡ prefix_len (λ code. not (blank_spec code)) columns.now }
-{
-    columns.iter().take_while(|code| **code != BLANK).count()
 }
 
 /// The number that at most four digits spell.
@@ -71,46 +61,4 @@ pub fn number(columns: &[u8]) -> Option<u16>
         return None;
     }
     number_of_digits(&columns[blanks_in_front(columns)..])
-}
-
-/// Whether all codes may stand in a name behind its first one.
-fn go_on_in_name(codes: &[u8]) -> bool
-    ensures { result ≡ list_all goes_on_spec codes.now }
-{
-    codes.iter().all(|code| goes_on_in_name(*code))
-}
-
-#[tactic(auto, unfolding(crate::specs::Columns::is_word))]
-fn is_word(word: &[u8]) -> bool
-    ensures { result ≡ word_spec word.now }
-{
-    match word.split_first() {
-        None => false,
-        Some((first, rest)) => begins_name(*first) && go_on_in_name(rest),
-    }
-}
-
-/// Whether the columns have a name on their left, and blanks behind it.
-pub fn is_name(columns: &[u8]) -> bool
-    ensures { result ≡ name_spec columns.now }
-{
-    let (word, rest) = columns.split_at(word_len(columns));
-    is_word(word) && are_blank(rest)
-}
-
-/// The name in at most eight columns.
-pub fn name(columns: &[u8]) -> Name
-    requires { length columns.now ≤ 8 }
-    ensures { result ≡ name_of columns.now }
-{
-    let mut codes = [BLANK; 8];
-    codes[..columns.len()].copy_from_slice(columns);
-    Name { codes }
-}
-
-/// Whether two names are the same.
-pub fn same_name(one: &Name, other: &Name) -> bool
-    ensures { result ≡ same_name_spec one.now other.now }
-{
-    one == other
 }

@@ -5,15 +5,14 @@ ghost use Rattle.s3_sheets.specs.Literals.{with_code, with_next_code, is_behind_
 ghost use Rattle.s3_sheets.specs.Columns.{are_blank as are_blank_spec};
 ghost use Rattle.s3_sheets.specs.Entries.{general_of, switch_of, indicator_of, is_condition as condition_spec, condition_of, constant_text, constant as constant_spec, text_of, is_reserved as reserved_spec, reserved_names as reserved_names_spec};
 
-use crate::codes::is_digit;
-use crate::columns::{are_blank, same_name};
+use crate::columns::are_blank;
 use crate::indicator::{Condition, Indicator};
-use crate::name::Name;
 use crate::sheet::Constant;
 use s3_cards::ebcdic::{
     APOSTROPHE, BLANK, DIGIT_0, LETTER_A, LETTER_D, LETTER_E, LETTER_G, LETTER_H, LETTER_M,
     LETTER_N, LETTER_O, LETTER_P, LETTER_R, LETTER_T, LETTER_U, LETTER_Y,
 };
+use s3_cards::{Name, is_digit};
 
 /// The number of an indicator of two digits, 01 to 99.
 pub fn general(columns: &[u8]) -> Option<u8>
@@ -102,7 +101,7 @@ static RESERVED_NAMES: [Name; 5] = [
     },
 ];
 
-#[tactic(auto, unfolding(crate::specs::Entries::reserved_names, crate::specs::Codes::ebcdic, s3_cards::specs::Codes::code_page))]
+#[tactic(auto, unfolding(crate::specs::Entries::reserved_names, s3_cards::specs::Codes::ebcdic, s3_cards::specs::Codes::code_page))]
 fn reserved_names() -> &'static [Name]
     ensures { result.now ≡ reserved_names_spec }
 {
@@ -113,7 +112,7 @@ fn reserved_names() -> &'static [Name]
 pub fn is_reserved(name: &Name) -> bool
     ensures { result ≡ reserved_spec name.now }
 {
-    reserved_names().iter().any(|other| same_name(other, name))
+    reserved_names().iter().any(|other| other == name)
 }
 
 impl Constant {

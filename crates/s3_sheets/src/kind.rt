@@ -35,7 +35,7 @@ pub enum CardKind {
 }
 
 /// Whether columns 14 to 16 say AND or OR, and the name columns before them are blank.
-#[tactic(auto, unfolding(crate::specs::Kinds::goes_on, crate::specs::Codes::ebcdic, s3_cards::specs::Codes::code_page))]
+#[tactic(auto, unfolding(crate::specs::Kinds::goes_on, s3_cards::specs::Codes::ebcdic, s3_cards::specs::Codes::code_page))]
 fn goes_on(card: &Card) -> bool
     ensures { result ≡ goes_on_spec card.now }
 {

@@ -2,14 +2,13 @@
 
 #![tactic(auto)]
 
-mod codes;
 mod columns;
+mod devices;
 pub mod diagnostic;
 mod entries;
 pub mod indicator;
 mod kind;
 mod lines;
-pub mod name;
 mod progress;
 mod reading;
 mod rules;

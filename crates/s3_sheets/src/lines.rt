@@ -3,19 +3,18 @@
 ghost use Rattle.std.specs.Prelude.{◌≡◌, ◌≤◌, length};
 ghost use Rattle.s3_sheets.specs.Lines.{number_or_zero as number_or_zero_spec, maybe_name as maybe_name_spec, use_of as use_of_spec, designation_of as designation_of_spec, file_condition as file_condition_spec, device_of as device_of_spec, file_line as file_line_spec, record_line as record_line_spec, field_line as field_line_spec, three_conditions as three_conditions_spec, output_card as output_card_spec, content_of as content_of_spec, output_field as output_field_spec, sheet_line as sheet_line_spec, line_of as line_of_spec};
 
-use crate::codes::PRINTER;
-use crate::columns::{are_blank, columns, name, number};
+use crate::columns::{are_blank, columns, number};
+use crate::devices::PRINTER;
 use crate::entries::{condition, constant, general, switch};
 use crate::indicator::{Condition, Indicator};
 use crate::kind::{CardKind, kind_of};
-use crate::name::Name;
 use crate::sheet::{
     Constant, Designation, Device, FieldForm, FieldLine, FieldOutput, FileLine, FileUse, InputLine,
     Line, OutputCard, OutputContent, OutputField, OutputForm, OutputKind, OutputLine, SheetLine,
     Spacing,
 };
-use s3_cards::Card;
 use s3_cards::ebcdic::{LETTER_E, LETTER_O, LETTER_P};
+use s3_cards::{Card, Name};
 
 fn number_or_zero(columns: &[u8]) -> u16
     ensures { result ≡ number_or_zero_spec columns.now }
@@ -31,7 +30,7 @@ fn maybe_name(columns: &[u8]) -> Option<Name>
     if are_blank(columns) {
         None
     } else {
-        Some(name(columns))
+        Some(Name::of(columns))
     }
 }
 
@@ -55,7 +54,7 @@ fn designation_of(code: u8) -> Option<Designation>
     }
 }
 
-#[tactic(auto, unfolding(crate::specs::Lines::device_of, crate::specs::Codes::ebcdic, s3_cards::specs::Codes::code_page))]
+#[tactic(auto, unfolding(crate::specs::Lines::device_of, s3_cards::specs::Codes::ebcdic, s3_cards::specs::Codes::code_page))]
 fn device_of(device: &[u8]) -> Device
     ensures { result ≡ device_of_spec device.now }
 {
@@ -77,7 +76,7 @@ fn file_line(card: &Card) -> FileLine
     ensures { result ≡ file_line_spec card.now }
 {
     FileLine {
-        name: name(columns(card, 7, 14)),
+        name: Name::of(columns(card, 7, 14)),
         usage: use_of(card[14]),
         designation: designation_of(card[15]),
         ends_job: card[16] == LETTER_E,
@@ -94,7 +93,7 @@ fn record_line(card: &Card) -> InputLine
     ensures { result ≡ record_line_spec card.now }
 {
     InputLine::Record(
-        name(columns(card, 7, 14)),
+        Name::of(columns(card, 7, 14)),
         Indicator::General(general(columns(card, 19, 20)).unwrap_or(0)),
         [None; 3],
     )
@@ -104,7 +103,7 @@ fn field_line(card: &Card) -> FieldLine
     ensures { result ≡ field_line_spec card.now }
 {
     FieldLine {
-        name: name(columns(card, 53, 58)),
+        name: Name::of(columns(card, 53, 58)),
         from: number_or_zero(columns(card, 44, 47)),
         to: number_or_zero(columns(card, 48, 51)),
         form: FieldForm::Alphanumeric,
@@ -151,7 +150,7 @@ fn content_of(card: &Card) -> OutputContent
         OutputContent::Constant(constant(columns(card, 45, 70)).unwrap_or(Constant::EMPTY))
     } else {
         OutputContent::Field(FieldOutput {
-            name: name(field),
+            name: Name::of(field),
             form: OutputForm::Plain,
             blank_after: false,
         })

@@ -3,16 +3,15 @@
 ghost use Rattle.std.specs.Prelude.{◌≡◌, ◌<◌, ◌^◌, nat_lt, ◌&&◌, ◌||◌, ◌==◌, ◌++◌, length, OnOk, IfOk};
 ghost use Rattle.std.specs.List.{list_any};
 ghost use Rattle.std.specs.Option.{option_to_list};
-ghost use Rattle.s3_sheets.specs.Columns.{same_name as same_name_spec};
+ghost use Rattle.s3_cards.specs.Names.{same_name as same_name_spec};
 ghost use Rattle.s3_sheets.specs.Sheets.{breaks_rule as breaks_rule_spec, breaks_some_rule as breaks_some_rule_spec, file_of as file_of_spec, field_of as field_of_spec, record_length_of as record_length_of_spec, new_file as new_file_spec, new_field as new_field_spec, input_length_behind as input_length_spec, output_length_behind as output_length_spec, last_position as last_position_spec, is_past as is_past_spec};
 ghost use Rattle.s3_sheets.specs.Progress.{is_misplaced_behind, is_further, lacks_its_file, is_outside_behind, passes_limit as passes_limit_spec, files_with, fields_with};
 
-use crate::columns::{are_blank, columns, name, number, same_name};
+use crate::columns::{are_blank, columns, number};
 use crate::kind::{CardKind, kind_of};
-use crate::name::Name;
 use crate::rules::breaks;
 use crate::tables::rules_of;
-use s3_cards::Card;
+use s3_cards::{Card, Name};
 use std::alloc::{AllocError, Global};
 use std::marker::Model;
 
@@ -106,7 +105,7 @@ impl Progress {
         let lacks_file = self.lacks_file(kind, card);
         let is_outside = self.is_outside(kind, card);
         let is_at_fault = is_misplaced || is_further_record || lacks_file || breaks_some_rule(card);
-        let named = record_length_of(&self.files, &name(columns(card, 7, 14)));
+        let named = record_length_of(&self.files, &Name::of(columns(card, 7, 14)));
         let known_files = self.files.len();
         add_file(&mut self.files, file_of(kind, is_at_fault, card))?;
         let known_fields = self.fields.len();
@@ -210,7 +209,7 @@ fn file_of(kind: CardKind, is_at_fault: bool, card: &Card) -> Option<KnownFile>
 {
     match (kind, is_at_fault) {
         (CardKind::File, false) => Some(KnownFile {
-            name: name(columns(card, 7, 14)),
+            name: Name::of(columns(card, 7, 14)),
             record_length: number(columns(card, 24, 27)).unwrap_or(0),
         }),
         _ => None,
@@ -222,7 +221,7 @@ fn field_of(kind: CardKind, is_at_fault: bool, card: &Card) -> Option<Name>
     ensures { result ≡ field_of_spec kind is_at_fault card.now }
 {
     match (kind, is_at_fault) {
-        (CardKind::Field, false) => Some(name(columns(card, 53, 58))),
+        (CardKind::Field, false) => Some(Name::of(columns(card, 53, 58))),
         _ => None,
     }
 }
@@ -232,7 +231,7 @@ fn record_length_of(files: &[KnownFile], name: &Name) -> Option<u16>
 {
     files
         .iter()
-        .find(|file| same_name(&file.name, name))
+        .find(|file| file.name == *name)
         .map(|file| file.record_length)
 }
 
@@ -272,13 +271,13 @@ fn output_length_behind(
 fn has_file(files: &[KnownFile], name: &Name) -> bool
     ensures { result ≡ list_any (λ other. same_name_spec other.name name.now) files.now }
 {
-    files.iter().any(|other| same_name(&other.name, name))
+    files.iter().any(|other| other.name == *name)
 }
 
 fn has_field(fields: &[Name], name: &Name) -> bool
     ensures { result ≡ list_any (λ other. same_name_spec other name.now) fields.now }
 {
-    fields.iter().any(|other| same_name(other, name))
+    fields.iter().any(|other| other == name)
 }
 
 /// A file that isn't known yet, unless there are too many already.

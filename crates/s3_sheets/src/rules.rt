@@ -2,16 +2,16 @@
 
 ghost use Rattle.std.specs.Prelude.{◌≡◌, ◌≤◌, ◌<◌, ◌-◌, ◌+◌, ◌==◌, map, length, take, drop, true};
 ghost use Rattle.std.specs.List.{list_all, list_any};
-ghost use Rattle.s3_sheets.specs.Codes.{is_letter as letter_spec};
+ghost use Rattle.s3_cards.specs.Names.{is_letter as letter_spec};
 ghost use Rattle.s3_sheets.specs.Columns.{number_of};
 ghost use Rattle.s3_sheets.specs.Entries.{constant_text};
 ghost use Rattle.s3_sheets.specs.Rules.{rule_fault as rule_fault_spec, entry_fault as entry_fault_spec, out_of_range, longest_record as longest_record_spec, is_bad_extent as bad_extent_spec, content_fault as content_fault_spec, begins_too_early as too_early_spec, same_codes, is_on_card, fits, MaybeField, breaks as breaks_spec};
 ghost use Rattle.s3_sheets.specs.RuleViews.{rule_view, entry_view};
 
-use crate::codes::{MFCU1, MFCU2, PRINTER, is_letter};
-use crate::columns::{are_blank, columns, is_name, name, number};
+use crate::columns::{are_blank, columns, number};
+use crate::devices::{MFCU1, MFCU2, PRINTER};
 use crate::entries::{constant, general, is_condition, is_reserved, switch};
-use s3_cards::Card;
+use s3_cards::{Card, Name, is_letter, is_name};
 
 /// What may stand in some columns.
 #[derive(Clone, Copy)]
@@ -81,7 +81,7 @@ fn is_out_of_range(number: Option<u16>, low: u16, high: u16) -> bool
 }
 
 /// The longest record of a device.
-#[tactic(auto, unfolding(crate::specs::Rules::longest_record, crate::specs::Codes::ebcdic, s3_cards::specs::Codes::code_page))]
+#[tactic(auto, unfolding(crate::specs::Rules::longest_record, s3_cards::specs::Codes::ebcdic, s3_cards::specs::Codes::code_page))]
 fn longest_record(device: &[u8]) -> u16
     ensures { result ≡ longest_record_spec device.now }
 {
@@ -122,7 +122,7 @@ fn field_fault(columns: &[u8]) -> u8
 {
     if !are_blank(columns) && !is_name(columns) {
         3
-    } else if is_reserved(&name(columns)) {
+    } else if is_reserved(&Name::of(columns)) {
         2
     } else {
         0

@@ -2,7 +2,7 @@
 //! rules of the cards.
 
 use crate::indicator::{Condition, Indicator};
-use crate::name::Name;
+use s3_cards::Name;
 use s3_edit::EditCode;
 
 /// What a program does with a file.

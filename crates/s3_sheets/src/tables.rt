@@ -6,7 +6,7 @@ ghost use Rattle.s3_sheets.specs.Rules.{is_on_card};
 ghost use Rattle.s3_sheets.specs.RuleViews.{rule_view};
 ghost use Rattle.s3_sheets.specs.Tables.{rules_of as rules_of_spec};
 
-use crate::codes::{MFCU1, MFCU2, PRINTER};
+use crate::devices::{MFCU1, MFCU2, PRINTER};
 use crate::kind::CardKind;
 use crate::rules::{Entry, Rule};
 use s3_cards::ebcdic::{
@@ -107,7 +107,7 @@ static OUTPUT_FIELD_RULES: [Rule; 11] = [
 ];
 
 /// The rules of a kind of card.
-#[tactic(auto, unfolding(crate::specs::Tables::header_rules, crate::specs::Tables::file_rules, crate::specs::Tables::record_rules, crate::specs::Tables::group_rules, crate::specs::Tables::field_rules, crate::specs::Tables::calculation_rules, crate::specs::Tables::output_line_rules, crate::specs::Tables::output_field_rules, crate::specs::Codes::ebcdic, s3_cards::specs::Codes::code_page))]
+#[tactic(auto, unfolding(crate::specs::Tables::header_rules, crate::specs::Tables::file_rules, crate::specs::Tables::record_rules, crate::specs::Tables::group_rules, crate::specs::Tables::field_rules, crate::specs::Tables::calculation_rules, crate::specs::Tables::output_line_rules, crate::specs::Tables::output_field_rules, s3_cards::specs::Codes::ebcdic, s3_cards::specs::Codes::code_page))]
 pub fn rules_of(kind: CardKind) -> &'static [Rule]
     ensures list { map rule_view result.now ≡ rules_of_spec kind }
     ensures on_card { list_all is_on_card (map rule_view result.now) ≡ true }

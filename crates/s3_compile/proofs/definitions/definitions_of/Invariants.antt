@@ -1,7 +1,7 @@
 use Rattle.std.proofs.Common.{◌≡◌, take}
 use Rattle.indexmap.specs.IndexMap.{IsUnique, get}
-use Rattle.s3_sheets.specs.declared.name.Name.{Name}
-use Rattle.s3_meaning.specs.Names.{same_name}
+use Rattle.s3_cards.specs.declared.name.Name.{Name}
+use Rattle.s3_cards.specs.Names.{same_name}
 use Rattle.s3_compile.specs.Definitions.{file_of, length_of}
 use Rattle.s3_compile.proofs.definitions.definitions_of.Given as goal
 

@@ -1,5 +1,5 @@
 use Rattle.std.proofs.Common.{◌≡◌, true, get_or, arith}
-use Rattle.s3_sheets.specs.Codes.{is_digit}
+use Rattle.s3_cards.specs.Names.{is_digit}
 use Rattle.s3_sheets.proofs.NumberLemmas.{number_next}
 use Rattle.s3_sheets.proofs.columns.number_of_digits.Goals as goal
 
