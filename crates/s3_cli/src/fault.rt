@@ -41,9 +41,11 @@ impl From<RunFault> for SessionFault {
     }
 }
 
-/// Why the program ended without its work done.
+/// Why the program ended without its work done: a variant for each command. `run` is the only command yet; those that make
+/// a pack and bring one to a newer form get theirs with them.
 #[derive(Clone, Copy, Debug, Error)]
 pub enum CliFault {
+    /// `run` was refused.
     #[error(transparent)]
     Session(SessionFault),
 }

@@ -7,15 +7,19 @@ use std::alloc::{AllocError, Global};
 use std::io::Read;
 use thiserror::Error;
 
+/// The most bytes that are asked of a reader at once.
 const CHUNK: usize = 65_536;
 
 /// Why not all of a reader's bytes were kept.
 #[derive(Clone, Copy, Debug, Error)]
 pub enum ReadFault {
+    /// The reader gave more bytes than the limit.
     #[error("too long")]
     TooLong,
+    /// A read failed.
     #[error("a read failed")]
     Failed,
+    /// A growth was refused.
     #[error("out of memory")]
     NoMemory,
 }

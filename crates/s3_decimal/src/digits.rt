@@ -1,3 +1,4 @@
+//! Digits and signs as the bytes of a record have them.
 ghost use Rattle.std.specs.Prelude.{◌≡◌, ◌+◌, ◌*◌, ◌^◌, ◌<◌, ◌≤◌, ◌||◌, nat_lt, IfOk, IfErr, is_err};
 ghost use Rattle.s3_decimal.specs.Exact.{signed};
 ghost use Rattle.s3_decimal.specs.Records.{cleaned};
@@ -23,7 +24,9 @@ pub struct BadDigit {
 /// The digits of a field that are read so far, from the left.
 #[derive(Clone, Copy)]
 pub struct Reading {
+    /// The number that they spell, bad ones as 0.
     pub magnitude: u64,
+    /// Whether one of them is above 9.
     pub bad: bool,
 }
 

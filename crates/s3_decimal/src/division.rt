@@ -1,3 +1,4 @@
+//! Division, with its remainder.
 ghost use Rattle.std.specs.Prelude.{◌≡◌, ◌↔◌, IfOk, IsErr, pos};
 ghost use Rattle.s3_decimal.specs.Exact.{exact, quotient_of, remainder_of, stored};
 ghost use Rattle.s3_decimal.specs.declared.rounding.Rounding.TheVariants.{Truncate};

@@ -1,3 +1,4 @@
+//! Moves into numbers: digits over digits, from the right.
 ghost use Rattle.std.specs.Prelude.{◌≡◌, ◌+◌, ◌*◌, ◌/◌, ◌^◌, ◌<◌, ◌≤◌, length, unsigned_abs};
 ghost use Rattle.s3_decimal.specs.Exact.{is_negative, signed};
 ghost use Rattle.s3_decimal.specs.Records.{moved_number, zoned_bytes};

@@ -1,3 +1,4 @@
+//! Zoned numbers: a digit in a byte, the sign in the zone of the last.
 ghost use Rattle.std.specs.Prelude.{◌≡◌, ◌^◌, ◌<◌, ◌≤◌, length, map, unsigned_abs, IfOk, IfErr, is_err, false};
 ghost use Rattle.s3_decimal.specs.Exact.{is_negative};
 ghost use Rattle.s3_decimal.specs.Records.{cleaned, has_bad_digit, number_of, zone_at, zoned_bytes, zoned_digits, zoned_number};
