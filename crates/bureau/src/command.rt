@@ -1,9 +1,11 @@
 //! The command's words, and what they ask for.
+ghost use Rattle.std.specs.Prelude.{◌≤◌, ◌≡◌};
 
 use clap::error::ErrorKind;
 use clap::{ArgMatches, Command, Error};
 use s3_cli::{CliFault, RunFault, SessionFault, session, tell};
 use std::alloc::{AllocError, Global};
+use std::io::Write;
 use std::{env, io};
 
 /// The exit status of words that can't be read.
@@ -15,7 +17,9 @@ const FILE: CliFault = CliFault::Session(SessionFault::File);
 
 /// Does what the process's words ask, and gives the exit status: 0 where it is done, 2 where the words can't be read,
 /// else that of the refusal whose line it wrote on standard error.
-pub fn execute(rt: &HostRuntime) -> u8 {
+pub fn execute(rt: &HostRuntime) -> u8
+    ensures { result ≤ 3 }
+{
     let alloc = rt.alloc();
     let given = match env::args(rt) {
         Ok(given) => given,
@@ -23,7 +27,7 @@ pub fn execute(rt: &HostRuntime) -> u8 {
             rt,
             &OUT_OF_MEMORY,
         ),
-        Err(_) => return USAGE,
+        Err(_) => return misuse(rt, "a word is no UTF-8 text"),
     };
     let words: Vec<String> = match given.collect(alloc) {
         Ok(words) => words,
@@ -34,20 +38,29 @@ pub fn execute(rt: &HostRuntime) -> u8 {
         Err(_) => return refuse(rt, &OUT_OF_MEMORY),
     };
     match command.try_get_matches_from(words.as_slice()) {
-        Ok(matches) => match perform(rt, &matches) {
-            Ok(()) => 0,
-            Err(fault) => refuse(rt, &fault),
-        },
+        Ok(matches) => perform(rt, &matches),
         Err(error) => explain(rt, &error),
     }
 }
 
-fn refuse(rt: &HostRuntime, fault: &CliFault) -> u8 {
+/// Says why words that were read can't be followed.
+fn misuse(rt: &HostRuntime, reason: &str) -> u8
+    ensures { result ≡ 2 }
+{
+    let _ = writeln!(rt.stderr(), "error: {reason}");
+    USAGE
+}
+
+fn refuse(rt: &HostRuntime, fault: &CliFault) -> u8
+    ensures { result ≤ 3 }
+{
     tell(&mut rt.stderr(), fault)
 }
 
 /// Prints why the words can't be read, or the help that they ask for.
-fn explain(rt: &HostRuntime, error: &Error) -> u8 {
+fn explain(rt: &HostRuntime, error: &Error) -> u8
+    ensures { result ≤ 3 }
+{
     // clap has a status of its own for want of memory
     if error.kind() == ErrorKind::OutOfMemory {
         return refuse(rt, &OUT_OF_MEMORY);
@@ -70,10 +83,18 @@ fn command<'a>(alloc: Global) -> Result<Command<'a>, AllocError> {
         .subcommand(run)
 }
 
-fn perform(rt: &HostRuntime, matches: &ArgMatches<'_>) -> Result<(), CliFault> {
-    match matches.subcommand() {
+/// Does what the command asks, and gives the exit status.
+fn perform(rt: &HostRuntime, matches: &ArgMatches<'_>) -> u8
+    ensures { result ≤ 3 }
+{
+    let done = match matches.subcommand() {
         Some(("run", _)) => run(rt),
-        _ => Ok(()),
+        // a command that is offered above has a line here
+        _ => return misuse(rt, "the command isn't built"),
+    };
+    match done {
+        Ok(()) => 0,
+        Err(fault) => refuse(rt, &fault),
     }
 }
 

@@ -1,7 +1,7 @@
 //! The card lister's eight turns.
 
 use s3_bureau::{Action, Bureau, Did, Entry, Stop};
-use s3_cards::{Deck, LevelId};
+use s3_cards::{Deck, DeckFault, LevelId};
 use std::test::Fail;
 
 /// The card lister, compiled and run over the cards `ABC` and `DEF`.
@@ -19,9 +19,14 @@ const TURN: Entry = Entry {
 /// The lister ends with both lines, or a growth was refused: then every later call answers that the bureau is stopped.
 #[test]
 fn lister_ends_or_stays_stopped(rt: HostRuntime) -> Result<(), Fail> {
-    let Ok(deck) = Deck::read(rt.alloc(), DECK) else {
-        return Ok(());
+    let deck = match Deck::read(rt.alloc(), DECK) {
+        Ok(deck) => deck,
+        Err(fault) => {
+            assert!(rt; matches!(fault, DeckFault::NoMemory));
+            return Ok(());
+        }
     };
+    // its only refusal is want of memory
     let Ok(mut bureau) = Bureau::open(rt.alloc(), deck, Deck::empty(rt.alloc())) else {
         return Ok(());
     };
@@ -39,6 +44,7 @@ fn lister_ends_or_stays_stopped(rt: HostRuntime) -> Result<(), Fail> {
     }
     assert_eq!(rt; bureau.finish(), Ok(()));
     assert_eq!(rt; bureau.lines(LevelId::One).len(), 2);
+    assert_eq!(rt; bureau.halts(LevelId::One).len(), 0);
     assert_eq!(rt; bureau.finish(), Err(Stop::Stopped));
     Ok(())
 }
