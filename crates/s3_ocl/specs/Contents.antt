@@ -163,15 +163,3 @@ contents_of statements = record {
   is_dated = has Date statements;
   is_switched = has SwitchVerb statements;
 }
-
--- what they say with one more statement
-abbrev pub contents_with : Contents → Statement → Contents
-contents_with contents statement = record {
-  program = option_or contents.program (name_in parameter.Program statement.pieces);
-  date = option_or contents.date (date_in statement.pieces);
-  switches = option_or contents.switches (switches_in statement.pieces);
-  files = contents.files ++ option_to_list (file_of statement.pieces);
-  is_loaded = contents.is_loaded || is_verb Load statement.verb;
-  is_dated = contents.is_dated || is_verb Date statement.verb;
-  is_switched = contents.is_switched || is_verb SwitchVerb statement.verb;
-}

@@ -95,16 +95,6 @@ job_at cards place =
     let end : ℕ = place + cards_of heading in
     job_or_fault cards heading end (first_fault (faults_behind [] heading ++ stop_faults cards heading end))
 
--- the fault of the deck's end, where a statement that is no RUN ends there
-abbrev pub last_fault : List (List ℕ) → Option Verb → ℕ → Option Mark
-last_fault cards named end =
-    if is_verb Run named || nat_lt end (length cards) then None else Some (record { card = length cards; fault = NoRun })
-
--- the first of a statement's fault, if it has one, and that of the deck's end
-abbrev pub with_last : Option Mark → Option Mark → Option Mark
-with_last None last = None
-with_last (Some mark) last = earlier (Some mark) last
-
 -- the place behind a job
 abbrev pub place_after : Result Job FaultyJob → ℕ
 place_after (Ok job) = job.after

@@ -46,11 +46,6 @@ pieces_from verb number place [] = []
 pieces_from verb number place (text ∷ texts) =
     pieces_in verb number place (parts_of text) ++ pieces_from verb (number + 1) (place + length (parts_of text)) texts
 
--- the parameters in one more text of a statement that has these
-abbrev pub pieces_more : Option Verb → ℕ → List Piece → List ℕ → List Piece
-pieces_more None number pieces text = []
-pieces_more (Some verb) number pieces text = pieces_in verb number (length pieces) (parts_of text)
-
 -- an unknown statement has no parameters that could be told
 abbrev pub pieces_of : Option Verb → ℕ → List (List ℕ) → List Piece
 pieces_of None number texts = []

@@ -1,0 +1,40 @@
+-- How the reader goes on. None of this says what a job is: that stands in the other files, and the proofs tie the two.
+use Rattle.std.specs.Prelude.{ℕ, ◌||◌, List, [], ◌++◌, Option, Some, None, length, nat_lt, if◌then◌else◌}
+use Rattle.std.specs.Option.{option_or, option_to_list}
+use Rattle.s3_ocl.specs.declared.faults.JobFault.TheVariants.{NoRun}
+use Rattle.s3_ocl.specs.declared.faults.Mark.{Mark}
+use Rattle.s3_ocl.specs.declared.parameters.Parameter.TheVariants.{Program}
+use Rattle.s3_ocl.specs.declared.parameters.Verb.{Verb}
+use Rattle.s3_ocl.specs.declared.parameters.Verb.TheVariants.{Load, Date, Switch, Run}
+use Rattle.s3_ocl.specs.declared.statements.Piece.{Piece}
+use Rattle.s3_ocl.specs.Contents.{Contents, date_in, file_of, name_in, switches_in}
+use Rattle.s3_ocl.specs.Faults.{earlier}
+use Rattle.s3_ocl.specs.Parameters.{parts_of}
+use Rattle.s3_ocl.specs.Statements.{Statement, is_verb, pieces_in}
+
+-- the parameters in one more text of a statement that has these
+abbrev pub pieces_more : Option Verb → ℕ → List Piece → List ℕ → List Piece
+pieces_more None number pieces text = []
+pieces_more (Some verb) number pieces text = pieces_in verb number (length pieces) (parts_of text)
+
+-- what statements say with one more
+abbrev pub contents_with : Contents → Statement → Contents
+contents_with contents statement = record {
+  program = option_or contents.program (name_in Program statement.pieces);
+  date = option_or contents.date (date_in statement.pieces);
+  switches = option_or contents.switches (switches_in statement.pieces);
+  files = contents.files ++ option_to_list (file_of statement.pieces);
+  is_loaded = contents.is_loaded || is_verb Load statement.verb;
+  is_dated = contents.is_dated || is_verb Date statement.verb;
+  is_switched = contents.is_switched || is_verb Switch statement.verb;
+}
+
+-- the fault of the deck's end, where a statement that is no RUN ends there
+abbrev pub last_fault : List (List ℕ) → Option Verb → ℕ → Option Mark
+last_fault cards named end =
+    if is_verb Run named || nat_lt end (length cards) then None else Some (record { card = length cards; fault = NoRun })
+
+-- the first of a statement's fault, if it has one, and that of the deck's end
+abbrev pub with_last : Option Mark → Option Mark → Option Mark
+with_last None last = None
+with_last (Some mark) last = earlier (Some mark) last
