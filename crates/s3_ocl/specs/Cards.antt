@@ -1,20 +1,21 @@
 -- What a card is in a job stream, and the words on it.
 use Rattle.std.specs.Prelude.{ℕ, ◌+◌, ◌==◌, ◌||◌, ◌&&◌, not, List, [], ◌∷◌, Bool, take, drop, length, nat_eq}
 use Rattle.std.specs.List.{prefix_len, position_or_len, starts_with}
+use Rattle.s3_cards.specs.declared.ebcdic.TheConstants.{BLANK, AMPERSAND, ASTERISK, SLASH}
 use Rattle.s3_ocl.specs.Signs.{is_mark}
 use Rattle.s3_cards.specs.Names.{is_blank}
 
 -- a card that begins `/*`
 abbrev pub is_data_end : List ℕ → Bool
-is_data_end card = starts_with nat_eq card (0x61 ∷ 0x5c ∷ [])
+is_data_end card = starts_with nat_eq card (SLASH ∷ ASTERISK ∷ [])
 
 -- a card that begins `/&`
 abbrev pub is_job_end : List ℕ → Bool
-is_job_end card = starts_with nat_eq card (0x61 ∷ 0x50 ∷ [])
+is_job_end card = starts_with nat_eq card (SLASH ∷ AMPERSAND ∷ [])
 
 -- a card that begins `//` and a blank
 abbrev pub is_statement : List ℕ → Bool
-is_statement card = starts_with nat_eq card (0x61 ∷ 0x61 ∷ 0x40 ∷ [])
+is_statement card = starts_with nat_eq card (SLASH ∷ SLASH ∷ BLANK ∷ [])
 
 -- a card that ends data, and that stands between jobs
 abbrev pub is_separator : List ℕ → Bool

@@ -2,6 +2,7 @@
 use Rattle.std.specs.Prelude.{ℕ, ◌+◌, ◌-◌, ◌*◌, ◌==◌, ◌&&◌, ◌||◌, List, [], ◌∷◌, Bool, Option, Some, None, length, map, nat_le, slice_index, if◌then◌else◌}
 use Rattle.std.specs.List.{list_all}
 use Rattle.std.specs.Int.Digits.{number_from_digits}
+use Rattle.s3_cards.specs.declared.ebcdic.TheConstants.{SLASH, LETTER_P, LETTER_S, LETTER_T, LETTER_X, DIGIT_0, DIGIT_1}
 use Rattle.s3_ocl.specs.declared.values.Value.{Value}
 use Rattle.s3_ocl.specs.declared.values.Value.TheVariants.{Named, Count, Kept, Dated, Set, Checked}
 use Rattle.s3_ocl.specs.declared.values.Switch.{Switch}
@@ -25,7 +26,7 @@ pack_value text = if nat_le (length text) 6 && list_all goes_on_in_name text the
 
 -- the number of a run of digits
 abbrev pub number_of : List ℕ → ℕ
-number_of text = number_from_digits 10 (map (λ digit. digit - 0xf0) text)
+number_of text = number_from_digits 10 (map (λ digit. digit - DIGIT_0) text)
 
 -- a number of at most so many digits that isn't 0
 unfoldable pub count_value : ℕ → List ℕ → Option Value
@@ -35,9 +36,9 @@ count_value limit text =
 -- T, S or P
 abbrev pub retention_value : List ℕ → Option Value
 retention_value text =
-    if reads text (0xe3 ∷ []) then Some (Kept Temporary)
-    else if reads text (0xe2 ∷ []) then Some (Kept Scratch)
-    else if reads text (0xd7 ∷ []) then Some (Kept Permanent)
+    if reads text (LETTER_T ∷ []) then Some (Kept Temporary)
+    else if reads text (LETTER_S ∷ []) then Some (Kept Scratch)
+    else if reads text (LETTER_P ∷ []) then Some (Kept Permanent)
     else None
 
 -- the pairs of codes at three places
@@ -48,7 +49,7 @@ pairs_at text a b c =
 
 -- the number of the two digits at a place
 abbrev pub two_digits : List ℕ → ℕ → ℕ
-two_digits digits place = 10 * (slice_index digits place - 0xf0) + (slice_index digits (place + 1) - 0xf0)
+two_digits digits place = 10 * (slice_index digits place - DIGIT_0) + (slice_index digits (place + 1) - DIGIT_0)
 
 -- six digits of which the first two are a month and the next two a day
 abbrev pub is_date : List ℕ → Bool
@@ -63,16 +64,16 @@ dated digits = if is_date digits then Some (Dated digits) else None
 unfoldable pub date_value : List ℕ → Option Value
 date_value text =
     if length text == 6 then dated (pairs_at text 0 2 4)
-    else if (length text == 8) && (slice_index text 2 == 0x61) && (slice_index text 5 == 0x61) then dated (pairs_at text 0 3 6)
+    else if (length text == 8) && (slice_index text 2 == SLASH) && (slice_index text 5 == SLASH) then dated (pairs_at text 0 3 6)
     else None
 
 -- 0, 1 or X
 abbrev pub is_switch : ℕ → Bool
-is_switch code = (code == 0xf0) || (code == 0xf1) || (code == 0xe7)
+is_switch code = (code == DIGIT_0) || (code == DIGIT_1) || (code == LETTER_X)
 
 -- X leaves a switch as it is
 abbrev pub switch_of : ℕ → Switch
-switch_of code = if code == 0xf1 then On else if code == 0xf0 then Off else Leave
+switch_of code = if code == DIGIT_1 then On else if code == DIGIT_0 then Off else Leave
 
 -- eight of 0, 1 and X
 unfoldable pub switches_value : List ℕ → Option Value

@@ -1,6 +1,7 @@
 -- The words of the statements.
 use Rattle.std.specs.Prelude.{ℕ, List, [], ◌∷◌, Bool, nat_eq, codes}
 use Rattle.std.specs.Cmp.Lexicographic.{pointwise}
+use Rattle.s3_cards.specs.declared.ebcdic.TheConstants.{DOLLAR, LETTER_A, LETTER_B, LETTER_C, LETTER_D, LETTER_E, LETTER_F, LETTER_G, LETTER_H, LETTER_I, LETTER_K, LETTER_L, LETTER_M, LETTER_N, LETTER_O, LETTER_P, LETTER_R, LETTER_S, LETTER_T, LETTER_U, LETTER_W, DIGIT_1, DIGIT_2}
 use Rattle.s3_cards.specs.Codes.{ebcdic}
 
 -- whether a text is this word
@@ -9,71 +10,71 @@ reads text word = pointwise nat_eq text word
 
 -- LOAD
 abbrev pub load_word : List ℕ
-load_word = 0xd3 ∷ 0xd6 ∷ 0xc1 ∷ 0xc4 ∷ []
+load_word = LETTER_L ∷ LETTER_O ∷ LETTER_A ∷ LETTER_D ∷ []
 
 -- FILE
 abbrev pub file_word : List ℕ
-file_word = 0xc6 ∷ 0xc9 ∷ 0xd3 ∷ 0xc5 ∷ []
+file_word = LETTER_F ∷ LETTER_I ∷ LETTER_L ∷ LETTER_E ∷ []
 
 -- DATE
 abbrev pub date_word : List ℕ
-date_word = 0xc4 ∷ 0xc1 ∷ 0xe3 ∷ 0xc5 ∷ []
+date_word = LETTER_D ∷ LETTER_A ∷ LETTER_T ∷ LETTER_E ∷ []
 
 -- SWITCH
 abbrev pub switch_word : List ℕ
-switch_word = 0xe2 ∷ 0xe6 ∷ 0xc9 ∷ 0xe3 ∷ 0xc3 ∷ 0xc8 ∷ []
+switch_word = LETTER_S ∷ LETTER_W ∷ LETTER_I ∷ LETTER_T ∷ LETTER_C ∷ LETTER_H ∷ []
 
 -- RUN
 abbrev pub run_word : List ℕ
-run_word = 0xd9 ∷ 0xe4 ∷ 0xd5 ∷ []
+run_word = LETTER_R ∷ LETTER_U ∷ LETTER_N ∷ []
 
 -- NAME
 abbrev pub name_word : List ℕ
-name_word = 0xd5 ∷ 0xc1 ∷ 0xd4 ∷ 0xc5 ∷ []
+name_word = LETTER_N ∷ LETTER_A ∷ LETTER_M ∷ LETTER_E ∷ []
 
 -- UNIT
 abbrev pub unit_word : List ℕ
-unit_word = 0xe4 ∷ 0xd5 ∷ 0xc9 ∷ 0xe3 ∷ []
+unit_word = LETTER_U ∷ LETTER_N ∷ LETTER_I ∷ LETTER_T ∷ []
 
 -- PACK
 abbrev pub pack_word : List ℕ
-pack_word = 0xd7 ∷ 0xc1 ∷ 0xc3 ∷ 0xd2 ∷ []
+pack_word = LETTER_P ∷ LETTER_A ∷ LETTER_C ∷ LETTER_K ∷ []
 
 -- LABEL
 abbrev pub label_word : List ℕ
-label_word = 0xd3 ∷ 0xc1 ∷ 0xc2 ∷ 0xc5 ∷ 0xd3 ∷ []
+label_word = LETTER_L ∷ LETTER_A ∷ LETTER_B ∷ LETTER_E ∷ LETTER_L ∷ []
 
 -- RECORDS
 abbrev pub records_word : List ℕ
-records_word = 0xd9 ∷ 0xc5 ∷ 0xc3 ∷ 0xd6 ∷ 0xd9 ∷ 0xc4 ∷ 0xe2 ∷ []
+records_word = LETTER_R ∷ LETTER_E ∷ LETTER_C ∷ LETTER_O ∷ LETTER_R ∷ LETTER_D ∷ LETTER_S ∷ []
 
 -- TRACKS
 abbrev pub tracks_word : List ℕ
-tracks_word = 0xe3 ∷ 0xd9 ∷ 0xc1 ∷ 0xc3 ∷ 0xd2 ∷ 0xe2 ∷ []
+tracks_word = LETTER_T ∷ LETTER_R ∷ LETTER_A ∷ LETTER_C ∷ LETTER_K ∷ LETTER_S ∷ []
 
 -- RETAIN
 abbrev pub retain_word : List ℕ
-retain_word = 0xd9 ∷ 0xc5 ∷ 0xe3 ∷ 0xc1 ∷ 0xc9 ∷ 0xd5 ∷ []
+retain_word = LETTER_R ∷ LETTER_E ∷ LETTER_T ∷ LETTER_A ∷ LETTER_I ∷ LETTER_N ∷ []
 
 -- R1
 abbrev pub r1_unit : List ℕ
-r1_unit = 0xd9 ∷ 0xf1 ∷ []
+r1_unit = LETTER_R ∷ DIGIT_1 ∷ []
 
 -- R2
 abbrev pub r2_unit : List ℕ
-r2_unit = 0xd9 ∷ 0xf2 ∷ []
+r2_unit = LETTER_R ∷ DIGIT_2 ∷ []
 
 -- F1
 abbrev pub f1_unit : List ℕ
-f1_unit = 0xc6 ∷ 0xf1 ∷ []
+f1_unit = LETTER_F ∷ DIGIT_1 ∷ []
 
 -- F2
 abbrev pub f2_unit : List ℕ
-f2_unit = 0xc6 ∷ 0xf2 ∷ []
+f2_unit = LETTER_F ∷ DIGIT_2 ∷ []
 
 -- $RPG, the name of the compiler
 abbrev pub compiler_word : List ℕ
-compiler_word = 0x5b ∷ 0xd9 ∷ 0xd7 ∷ 0xc7 ∷ []
+compiler_word = DOLLAR ∷ LETTER_R ∷ LETTER_P ∷ LETTER_G ∷ []
 
 -- these words as they are punched
 abbrev pub words : List (List ℕ)
