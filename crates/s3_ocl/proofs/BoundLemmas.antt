@@ -14,7 +14,7 @@ use Rattle.s3_ocl.specs.declared.contents.FileStatement.{FileStatement}
 use Rattle.s3_ocl.specs.Cards.{first_word, is_statement}
 use Rattle.s3_ocl.specs.Parameters.{parts_of, verb_of}
 use Rattle.s3_ocl.specs.Statements.{Statement, pieces_in, pieces_from, pieces_of, texts_of, statement_at, statements_within, is_verb}
-use Rattle.s3_ocl.specs.Contents.{Contents, contents_of, gives}
+use Rattle.s3_ocl.specs.Contents.{files_of, gives}
 use Rattle.s3_ocl.specs.Faults.{fault_if, entry_faults, piece_faults, twice_on, again_faults, file_parameters, is_ill_formed, lacks_load, is_again, verb_faults, statement_faults, faults_behind}
 
 -- P holds of the card of each mark
@@ -89,25 +89,25 @@ each_known : (P : ℕ → Type 0) (known : Option Verb) (number : ℕ) (texts : 
 each_known P None number texts p = tt
 each_known P (Some verb) number texts p = each_text P verb number 0 texts p
 
-each_verb : (P : ℕ → Type 0) (contents : Contents) (statement : Statement) (known : Option Verb) → P statement.number → EachPiece P statement.pieces
-    → Each P (verb_faults contents statement known)
-each_verb P contents statement None p e = (p, tt)
-each_verb P contents statement (Some verb) p e =
-    each-append P _ (fault_if (is_again verb contents) statement.number _)
-    (each-append P _ (fault_if (lacks_load verb contents) statement.number _)
+each_verb : (P : ℕ → Type 0) (before : List Statement) (statement : Statement) (known : Option Verb) → P statement.number → EachPiece P statement.pieces
+    → Each P (verb_faults before statement known)
+each_verb P before statement None p e = (p, tt)
+each_verb P before statement (Some verb) p e =
+    each-append P _ (fault_if (is_again verb before) statement.number _)
+    (each-append P _ (fault_if (lacks_load verb before) statement.number _)
     (each-append P _ (fault_if (is_ill_formed verb statement) statement.number _)
-    (each-append P (flat_map (piece_faults contents.files statement.number) statement.pieces) (flat_map (again_faults statement.pieces) file_parameters)
-    (each_pieces P contents.files statement.number statement.pieces p e) (each_again P statement.pieces file_parameters e))
+    (each-append P (flat_map (piece_faults (files_of before) statement.number) statement.pieces) (flat_map (again_faults statement.pieces) file_parameters)
+    (each_pieces P (files_of before) statement.number statement.pieces p e) (each_again P statement.pieces file_parameters e))
     (each_if P _ _ _ p))
     (each_if P _ _ _ p))
     (each_if P _ _ _ p)
 
 -- the faults of a statement are on its cards
-pub each_statement : (P : ℕ → Type 0) (contents : Contents) (number : ℕ) (card : List ℕ) (cards : List (List ℕ))
-    → ((k : ℕ) → number ≤ k → k < number + (statement_at number card cards).cards → P k) → Each P (statement_faults contents (statement_at number card cards))
+pub each_statement : (P : ℕ → Type 0) (before : List Statement) (number : ℕ) (card : List ℕ) (cards : List (List ℕ))
+    → ((k : ℕ) → number ≤ k → k < number + (statement_at number card cards).cards → P k) → Each P (statement_faults before (statement_at number card cards))
 unfolding statement_at statement_faults
-each_statement P contents number card cards p =
-    each_verb P contents (statement_at number card cards) (verb_of (first_word card)) (p number (omega arith) (omega arith))
+each_statement P before number card cards p =
+    each_verb P before (statement_at number card cards) (verb_of (first_word card)) (p number (omega arith) (omega arith))
     (each_known P (verb_of (first_word card)) number (texts_of card cards) p)
 
 -- those of the statements from a card on are on later cards
@@ -118,12 +118,12 @@ each_later P zero number cards before p = tt
 each_later P (suc turns) number [] before p = tt
 each_later P (suc turns) number (card ∷ cards) before p =
     let s : Statement = statement_at number card cards in
-    go (is_statement card) (is_verb Run s.verb) (each_statement P (contents_of before) number card cards (λ k low high. p k low))
+    go (is_statement card) (is_verb Run s.verb) (each_statement P before number card cards (λ k low high. p k low))
     (each_later P turns (number + s.cards) (drop s.cards (card ∷ cards)) (before ++ s ∷ []) (λ k low. p k (omega arith)))
   where
-    go : (b r : Bool) → Each P (statement_faults (contents_of before) (statement_at number card cards))
+    go : (b r : Bool) → Each P (statement_faults before (statement_at number card cards))
         → Each P (faults_behind (before ++ statement_at number card cards ∷ []) (statements_within turns (number + (statement_at number card cards).cards) (drop (statement_at number card cards).cards (card ∷ cards))))
         → Each P (faults_behind before (cond b (statement_at number card cards ∷ cond r [] (statements_within turns (number + (statement_at number card cards).cards) (drop (statement_at number card cards).cards (card ∷ cards)))) []))
     go false r here more = tt
-    go true true here more = each-append P (statement_faults (contents_of before) (statement_at number card cards)) [] here tt
-    go true false here more = each-append P (statement_faults (contents_of before) (statement_at number card cards)) _ here more
+    go true true here more = each-append P (statement_faults before (statement_at number card cards)) [] here tt
+    go true false here more = each-append P (statement_faults before (statement_at number card cards)) _ here more

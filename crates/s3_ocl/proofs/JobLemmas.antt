@@ -18,10 +18,10 @@ use Rattle.s3_ocl.specs.declared.parameters.Parameter.TheVariants.{Program}
 use Rattle.s3_ocl.specs.declared.parameters.Verb.TheVariants.{Load, Date, Switch, Run}
 use Rattle.s3_ocl.specs.Cards.{is_statement}
 use Rattle.s3_ocl.specs.Statements.{Statement, statement_at, statements_within, is_verb}
-use Rattle.s3_ocl.specs.Contents.{Contents, contents_of, first_in, has, files_of, file_of, name_in, date_in, switches_in}
+use Rattle.s3_ocl.specs.Contents.{first_in, has, files_of, file_of, name_in, date_in, switches_in}
 use Rattle.s3_ocl.specs.Faults.{fault_number, is_before, earlier, first_fault, statement_faults, faults_behind}
 use Rattle.s3_ocl.specs.Jobs.{Job, cards_of, holds_at, stop_fault, stop_faults, faulty_end, job_with, job_or_fault, heading_at, job_at}
-use Rattle.s3_ocl.specs.Steps.{contents_with, last_fault, with_last}
+use Rattle.s3_ocl.specs.Steps.{Contents, KeptOf, contents_of, contents_with, last_fault, with_last}
 use Rattle.s3_ocl.proofs.FaultLemmas.{earlier_assoc, first_fault-append}
 use Rattle.s3_ocl.proofs.PieceLemmas.{at_card, past}
 use Rattle.s3_ocl.proofs.BoundLemmas.{Each, each-append, each_statement, each_later}
@@ -80,18 +80,18 @@ unfolding statement_at
 statement_cards number card cards = omega arith
 
 -- the fault of a statement, or of the deck's end behind it, is on a card of the deck
-pub mark_within : (cards : List (List ℕ)) (contents : Contents) (statement : Statement) (place : ℕ) (mark : Mark) (last result : Option Mark)
+pub mark_within : (cards : List (List ℕ)) (before : List Statement) (statement : Statement) (place : ℕ) (mark : Mark) (last result : Option Mark)
     → statement ≡ statement_at (place + 1) (get_or cards place []) (drop (place + 1) cards) → place + statement.cards ≤ length cards
-    → first_fault (statement_faults contents statement) ≡ Some mark → last ≡ last_fault cards statement.verb (place + statement.cards)
+    → first_fault (statement_faults before statement) ≡ Some mark → last ≡ last_fault cards statement.verb (place + statement.cards)
     → result ≡ earlier (Some mark) last → IfSome result (λ mark. (place < mark.card) × (mark.card ≤ length cards))
-mark_within cards contents statement place mark last result is within first lasts both =
+mark_within cards before statement place mark last result is within first lasts both =
     let P : ℕ → Type 0 = λ k. (place < k) × (k ≤ length cards) in
     let s : Statement = statement_at (place + 1) (get_or cards place []) (drop (place + 1) cards) in
     let long : place + s.cards ≤ length cards = subst (λ (x : Statement). place + x.cards ≤ length cards) is within in
-    let each : Each P (statement_faults contents statement) =
-    subst (λ (x : Statement). Each P (statement_faults contents x)) (sym is)
-    (each_statement P contents (place + 1) (get_or cards place []) (drop (place + 1) cards) (λ k low high. (omega arith, omega arith))) in
-    let here : P mark.card = subst (On P) first (first_on P (statement_faults contents statement) each) in
+    let each : Each P (statement_faults before statement) =
+    subst (λ (x : Statement). Each P (statement_faults before x)) (sym is)
+    (each_statement P before (place + 1) (get_or cards place []) (drop (place + 1) cards) (λ k low high. (omega arith, omega arith))) in
+    let here : P mark.card = subst (On P) first (first_on P (statement_faults before statement) each) in
     let end : On P (last_fault cards statement.verb (place + statement.cards)) =
     go (is_verb Run statement.verb || nat_lt (place + statement.cards) (length cards))
     (subst (λ (x : Statement). 0 < x.cards) (sym is) (statement_cards (place + 1) (get_or cards place []) (drop (place + 1) cards))) in
@@ -157,9 +157,9 @@ faults_behind-append : (before xs ys : List Statement) → faults_behind before 
 unfolding faults_behind
 faults_behind-append before [] ys = ap (λ (b : List Statement). faults_behind b ys) (sym (append-nil before))
 faults_behind-append before (x ∷ xs) ys =
-    ap (λ (m : List Mark). statement_faults (contents_of before) x ++ m) (faults_behind-append (before ++ x ∷ []) xs ys)
-    ∙ (ap (λ (b : List Statement). statement_faults (contents_of before) x ++ (faults_behind (before ++ x ∷ []) xs ++ faults_behind b ys)) (append_assoc before (x ∷ []) xs)
-    ∙ sym (append_assoc (statement_faults (contents_of before) x) (faults_behind (before ++ x ∷ []) xs) (faults_behind (before ++ x ∷ xs) ys)))
+    ap (λ (m : List Mark). statement_faults before x ++ m) (faults_behind-append (before ++ x ∷ []) xs ys)
+    ∙ (ap (λ (b : List Statement). statement_faults before x ++ (faults_behind (before ++ x ∷ []) xs ++ faults_behind b ys)) (append_assoc before (x ∷ []) xs)
+    ∙ sym (append_assoc (statement_faults before x) (faults_behind (before ++ x ∷ []) xs) (faults_behind (before ++ x ∷ xs) ys)))
 
 or_none : {X : Type 0} (o : Option X) → option_or o None ≡ o
 or_none None = refl
@@ -269,16 +269,14 @@ with_last-none (Some mark) (Some other) h = go (is_before other mark) h
     go true e = cc
     go false e = cc
 
-one_more_faultless : (cards : List (List ℕ)) (start place : ℕ) (contents : Contents) (statement : Statement) (so_far : JobSoFar cards start place contents)
-    → first_fault (statement_faults contents statement) ≡ None → faults_behind [] (so_far.passed ++ statement ∷ []) ≡ []
+one_more_faultless : (passed : List Statement) (statement : Statement) → faults_behind [] passed ≡ [] → first_fault (statement_faults passed statement) ≡ None
+    → faults_behind [] (passed ++ statement ∷ []) ≡ []
 unfolding faults_behind
-one_more_faultless cards start place contents statement so_far none =
-    let here : statement_faults (contents_of so_far.passed) statement ≡ [] =
-    ap (λ (c : Contents). statement_faults c statement) (sym so_far.kept) ∙ no_faults (statement_faults contents statement) none in
-    faults_behind-append [] so_far.passed (statement ∷ []) ∙ (rw (so_far.faultless, here) refl)
+one_more_faultless passed statement faultless none =
+    faults_behind-append [] passed (statement ∷ []) ∙ (rw (faultless, no_faults (statement_faults passed statement) none) refl)
 
-pub one_more_statement : (cards : List (List ℕ)) (start place : ℕ) (contents new : Contents) (statement : Statement) (last : Option Mark) → JobSoFar cards start place contents
-    → IsRead cards place statement → place + statement.cards ≤ length cards → with_last (first_fault (statement_faults contents statement)) last ≡ None
+pub one_more_statement : (cards : List (List ℕ)) (start place : ℕ) (contents new : Contents) (statement : Statement) (last : Option Mark) (so_far : JobSoFar cards start place contents)
+    → IsRead cards place statement → place + statement.cards ≤ length cards → with_last (first_fault (statement_faults so_far.passed statement)) last ≡ None
     → new ≡ contents_with contents statement → is_verb Run statement.verb ≡ false → JobSoFar cards start (place + statement.cards) new
 one_more_statement cards start place contents new statement last so_far read within none with other = record {
   passed = so_far.passed ++ statement ∷ [];
@@ -286,28 +284,29 @@ one_more_statement cards start place contents new statement last so_far read wit
       so_far.split ∙ (ap (λ (xs : List Statement). so_far.passed ++ xs) (read.at ∙ rw other refl)
       ∙ sym (append_assoc so_far.passed (statement ∷ []) (heading_at cards (place + statement.cards))));
   no_run = has-append Run so_far.passed statement ∙ rw (so_far.no_run, other) refl;
-  faultless = one_more_faultless cards start place contents statement so_far (with_last-none _ last none);
+  faultless = one_more_faultless so_far.passed statement so_far.faultless (with_last-none _ last none);
   kept = with ∙ (ap (λ (c : Contents). contents_with c statement) so_far.kept ∙ sym (contents-append so_far.passed statement));
   reached = omega (arith, so_far.reached, cards_of-append so_far.passed statement);
   within = within;
 }
 
-pub job_run : (cards : List (List ℕ)) (start place : ℕ) (contents new : Contents) (statement : Statement) (last : Option Mark) → JobSoFar cards start place contents
-    → IsRead cards place statement → with_last (first_fault (statement_faults contents statement)) last ≡ None
-    → new ≡ contents_with contents statement → is_verb Run statement.verb ≡ true → job_at cards start ≡ Ok (job_with cards new (place + statement.cards))
+pub job_run : (cards : List (List ℕ)) (start place : ℕ) (contents new : Contents) (statement : Statement) (last : Option Mark) (job : Job) (so_far : JobSoFar cards start place contents)
+    → IsRead cards place statement → with_last (first_fault (statement_faults so_far.passed statement)) last ≡ None
+    → new ≡ contents_with contents statement → is_verb Run statement.verb ≡ true → KeptOf new (λ heading. job ≡ job_with cards heading (place + statement.cards))
+    → job_at cards start ≡ Ok job
 unfolding job_at first_fault
-job_run cards start place contents new statement last so_far read faultless with is =
+job_run cards start place contents new statement last job so_far read faultless with is gives =
     let heading : List Statement = so_far.passed ++ statement ∷ [] in
     let whole : heading_at cards start ≡ heading = so_far.split ∙ ap (λ (xs : List Statement). so_far.passed ++ xs) (read.at ∙ rw is refl) in
-    let clean : faults_behind [] heading ≡ [] = one_more_faultless cards start place contents statement so_far (with_last-none _ last faultless) in
+    let clean : faults_behind [] heading ≡ [] = one_more_faultless so_far.passed statement so_far.faultless (with_last-none _ last faultless) in
     let ended : has Run heading ≡ true = has-append Run so_far.passed statement ∙ rw (so_far.no_run, is) refl in
     let end : start + cards_of heading ≡ place + statement.cards = omega (arith, so_far.reached, cards_of-append so_far.passed statement) in
-    let kept : contents_of heading ≡ new =
-    sym (with ∙ (ap (λ (c : Contents). contents_with c statement) so_far.kept ∙ sym (contents-append so_far.passed statement))) in
+    let kept : new ≡ contents_of heading =
+    with ∙ (ap (λ (c : Contents). contents_with c statement) so_far.kept ∙ sym (contents-append so_far.passed statement)) in
     let none : first_fault (faults_behind [] heading ++ stop_faults cards heading (start + cards_of heading)) ≡ None = rw (clean, ended) refl in
     ap (job_of cards start) whole
     ∙ (ap (job_or_fault cards heading (start + cards_of heading)) none
-    ∙ (ap (λ (n : ℕ). Ok (job_with cards (contents_of heading) n)) end ∙ ap (λ (c : Contents). Ok (job_with cards c (place + statement.cards))) kept))
+    ∙ (ap (λ (n : ℕ). Ok (job_with cards heading n)) end ∙ ap Ok (sym (gives heading kept))))
 
 stop_on : (P : ℕ → Type 0) (cards : List (List ℕ)) (end : ℕ) (o : Option (List ℕ)) → (o ≡ None → P (length cards)) → ((card : List ℕ) → o ≡ Some card → P (end + 1)) → P (stop_fault cards end o).card
 stop_on P cards end None p q = p refl
@@ -361,7 +360,7 @@ later_faults cards start place passed s mark false is reached no_run on within =
 
 -- the first fault of a job at whose statement there is one
 first_of : (cards : List (List ℕ)) (start place : ℕ) (contents : Contents) (statement : Statement) (mark : Mark) (so_far : JobSoFar cards start place contents) (read : IsRead cards place statement)
-    → place + statement.cards ≤ length cards → first_fault (statement_faults contents statement) ≡ Some mark
+    → place + statement.cards ≤ length cards → first_fault (statement_faults so_far.passed statement) ≡ Some mark
     → first_fault (faults_behind [] (heading_at cards start) ++ stop_faults cards (heading_at cards start) (start + cards_of (heading_at cards start)))
     ≡ earlier (Some mark) (last_fault cards statement.verb (place + statement.cards))
 unfolding faults_behind
@@ -370,17 +369,16 @@ first_of cards start place contents statement mark so_far read within first =
     let rest : List Statement = cond (is_verb Run statement.verb) [] (heading_at cards (place + statement.cards)) in
     let heading : List Statement = passed ++ statement ∷ rest in
     let whole : heading_at cards start ≡ heading = so_far.split ∙ ap (λ (xs : List Statement). passed ++ xs) read.at in
-    let own : List Mark = statement_faults contents statement in
+    let own : List Mark = statement_faults passed statement in
     let later : List Mark = faults_behind (passed ++ statement ∷ []) rest in
     let stops : List Mark = stop_faults cards heading (start + cards_of heading) in
     let faults : faults_behind [] heading ≡ own ++ later =
-    faults_behind-append [] passed (statement ∷ rest)
-    ∙ (rw so_far.faultless (ap (λ (c : Contents). statement_faults c statement ++ later) (sym so_far.kept))) in
+    faults_behind-append [] passed (statement ∷ rest) ∙ rw so_far.faultless refl in
     let on : mark.card < place + 1 + statement.cards =
     subst (On (λ k. k < place + 1 + statement.cards)) first
     (first_on (λ k. k < place + 1 + statement.cards) own
-    (subst (λ (x : Statement). Each (λ k. k < place + 1 + x.cards) (statement_faults contents x)) (sym read.is)
-    (each_statement (λ k. k < place + 1 + (here cards place read.card).cards) contents (place + 1) read.card (drop (place + 1) cards) (λ k low high. high)))) in
+    (subst (λ (x : Statement). Each (λ k. k < place + 1 + x.cards) (statement_faults passed x)) (sym read.is)
+    (each_statement (λ k. k < place + 1 + (here cards place read.card).cards) passed (place + 1) read.card (drop (place + 1) cards) (λ k low high. high)))) in
     ap (λ (h : List Statement). first_fault (faults_behind [] h ++ stop_faults cards h (start + cards_of h))) whole
     ∙ (ap (λ (m : List Mark). first_fault (m ++ stops)) faults
     ∙ (ap first_fault (append_assoc own later stops)
@@ -388,14 +386,14 @@ first_of cards start place contents statement mark so_far read within first =
     ∙ (ap (λ m. earlier m (first_fault (later ++ stops))) first
     ∙ later_faults cards start place passed statement mark (is_verb Run statement.verb) refl so_far.reached so_far.no_run on within))))
 
-pub job_faulty : (cards : List (List ℕ)) (start place : ℕ) (contents : Contents) (statement : Statement) (mark : Mark) (faulty : FaultyJob) → JobSoFar cards start place contents
+pub job_faulty : (cards : List (List ℕ)) (start place : ℕ) (contents : Contents) (statement : Statement) (mark : Mark) (faulty : FaultyJob) (so_far : JobSoFar cards start place contents)
     → IsRead cards place statement → place + statement.cards ≤ length cards
-    → with_last (first_fault (statement_faults contents statement)) (last_fault cards statement.verb (place + statement.cards)) ≡ Some mark
+    → with_last (first_fault (statement_faults so_far.passed statement)) (last_fault cards statement.verb (place + statement.cards)) ≡ Some mark
     → faulty ≡ record { fault = mark.fault; card = mark.card; after = faulty_end cards mark.card } → job_at cards start ≡ Err faulty
 unfolding job_at
-job_faulty cards start place contents statement mark faulty so_far read within found gives = go (first_fault (statement_faults contents statement)) refl found
+job_faulty cards start place contents statement mark faulty so_far read within found gives = go (first_fault (statement_faults so_far.passed statement)) refl found
   where
-    go : (o : Option Mark) → first_fault (statement_faults contents statement) ≡ o → with_last o (last_fault cards statement.verb (place + statement.cards)) ≡ Some mark
+    go : (o : Option Mark) → first_fault (statement_faults so_far.passed statement) ≡ o → with_last o (last_fault cards statement.verb (place + statement.cards)) ≡ Some mark
         → job_or_fault cards (heading_at cards start) (start + cards_of (heading_at cards start))
         (first_fault (faults_behind [] (heading_at cards start) ++ stop_faults cards (heading_at cards start) (start + cards_of (heading_at cards start)))) ≡ Err faulty
     go None first h = cc

@@ -28,7 +28,7 @@ use Rattle.s3_ocl.specs.declared.faults.Mark.{Mark}
 use Rattle.s3_ocl.specs.declared.jobs.OclFault.{OclFault}
 use Rattle.s3_ocl.specs.Jobs.{Job, Gives, job_at, job_or_fault, job_with, heading_at, cards_of}
 use Rattle.std.specs.Option.{option_map}
-use Rattle.s3_ocl.specs.Contents.{rank, is_parameter, stands_at, gives, right_value, value_in, named, count, name_in, count_in, size_of, file_with, files_of, contents_of}
+use Rattle.s3_ocl.specs.Contents.{rank, is_parameter, stands_at, gives, right_value, value_in, named, count, name_in, count_in, size_of, file_with, files_of}
 use Rattle.s3_ocl.specs.Sound.{is_padded_name, is_between, is_size, is_sound_file}
 use Rattle.s3_ocl.proofs.NumberLemmas.{NumberSoFar, none_yet, number_next, digits_right}
 
@@ -332,7 +332,7 @@ sound_job cards place job h = go _ h
   where
     go : (o : Option Mark) → job_or_fault cards (heading_at cards place) (place + cards_of (heading_at cards place)) o ≡ Ok job → list_all is_sound_file job.files ≡ true
     go None e =
-        let same : job_with cards (contents_of (heading_at cards place)) (place + cards_of (heading_at cards place)) ≡ job = cc in
+        let same : job_with cards (heading_at cards place) (place + cards_of (heading_at cards place)) ≡ job = cc in
         subst (λ (j : Job). list_all is_sound_file j.files ≡ true) same (sound_files (length (drop place cards)) (place + 1) (drop place cards))
     go (Some mark) e = cc
 

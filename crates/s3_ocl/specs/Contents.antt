@@ -1,11 +1,10 @@
 -- What the statements of a job say together.
-use Rattle.std.specs.Prelude.{ℕ, ◌==◌, ◌||◌, List, [], ◌∷◌, ◌++◌, Bool, false, Option, Some, None, unwrap_or, find}
+use Rattle.std.specs.Prelude.{ℕ, ◌==◌, List, [], ◌∷◌, Bool, false, Option, Some, None, unwrap_or, find}
 use Rattle.std.specs.List.{list_any, filter_map}
-use Rattle.std.specs.Option.{option_map, option_or, option_to_list}
+use Rattle.std.specs.Option.{option_map, option_or}
 use Rattle.std.specs.Prelude.{option_and_then}
 use Rattle.s3_cards.specs.declared.name.Name.{Name}
 use Rattle.s3_ocl.specs.declared.parameters.Verb.{Verb}
-use Rattle.s3_ocl.specs.declared.parameters.Verb.TheVariants.{Load, Date, Switch as SwitchVerb}
 use Rattle.s3_ocl.specs.declared.parameters.Parameter.{Parameter}
 use Rattle.s3_ocl.specs.declared.parameters.Parameter.TheVariants as parameter
 use Rattle.s3_ocl.specs.declared.parameters.Entry.{Entry}
@@ -142,24 +141,3 @@ switches_of statements = first_in (λ statement. switches_in statement.pieces) s
 -- whether one of them is this statement
 abbrev pub has : Verb → List Statement → Bool
 has verb statements = list_any (λ statement. is_verb verb statement.verb) statements
-
--- what the statements so far say, and which there were
-pub record Contents : Type 0 where
-  pub program : Option Name
-  pub date : Option (List ℕ)
-  pub switches : Option (List Switch)
-  pub files : List FileStatement
-  pub is_loaded : Bool
-  pub is_dated : Bool
-  pub is_switched : Bool
-
-abbrev pub contents_of : List Statement → Contents
-contents_of statements = record {
-  program = program_of statements;
-  date = date_of statements;
-  switches = switches_of statements;
-  files = files_of statements;
-  is_loaded = has Load statements;
-  is_dated = has Date statements;
-  is_switched = has SwitchVerb statements;
-}

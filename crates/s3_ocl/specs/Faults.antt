@@ -15,7 +15,7 @@ use Rattle.s3_ocl.specs.declared.statements.Piece.{Piece}
 use Rattle.s3_ocl.specs.declared.contents.FileStatement.{FileStatement}
 use Rattle.s3_cards.specs.Names.{same_name}
 use Rattle.s3_ocl.specs.Statements.{Statement}
-use Rattle.s3_ocl.specs.Contents.{Contents, contents_of, gives, is_given, is_parameter, named}
+use Rattle.s3_ocl.specs.Contents.{files_of, gives, has, is_given, is_parameter, named}
 
 -- the number of a fault
 abbrev pub fault_number : JobFault → ℕ
@@ -92,37 +92,31 @@ abbrev pub is_ill_formed : Verb → Statement → Bool
 is_ill_formed verb statement =
     statement.is_open || lacks_needed verb statement.pieces || has_two_sizes statement.pieces
 
--- whether there was such a statement already; FILE may be repeated
-abbrev pub is_again : Verb → Contents → Bool
-is_again verb.Load contents = contents.is_loaded
-is_again verb.File contents = false
-is_again verb.Date contents = contents.is_dated
-is_again verb.Switch contents = contents.is_switched
-is_again verb.Run contents = false
+-- whether this statement stands before; FILE may be repeated
+abbrev pub is_again : Verb → List Statement → Bool
+is_again verb.File before = false
+is_again verb before = has verb before
 
 -- whether this is RUN without LOAD before it
-abbrev pub lacks_load : Verb → Contents → Bool
-lacks_load verb.Load contents = false
-lacks_load verb.File contents = false
-lacks_load verb.Date contents = false
-lacks_load verb.Switch contents = false
-lacks_load verb.Run contents = not contents.is_loaded
+abbrev pub lacks_load : Verb → List Statement → Bool
+lacks_load verb.Run before = not (has verb.Load before)
+lacks_load verb before = false
 
-abbrev pub verb_faults : Contents → Statement → Option Verb → List Mark
-verb_faults contents statement None = fault_if true statement.number fault.Keyword
-verb_faults contents statement (Some verb) =
-    (((flat_map (piece_faults contents.files statement.number) statement.pieces
+abbrev pub verb_faults : List Statement → Statement → Option Verb → List Mark
+verb_faults before statement None = fault_if true statement.number fault.Keyword
+verb_faults before statement (Some verb) =
+    (((flat_map (piece_faults (files_of before) statement.number) statement.pieces
     ++ flat_map (again_faults statement.pieces) file_parameters)
     ++ fault_if (is_ill_formed verb statement) statement.number fault.Value)
-    ++ fault_if (lacks_load verb contents) statement.number fault.NoRun)
-    ++ fault_if (is_again verb contents) statement.number fault.Twice
+    ++ fault_if (lacks_load verb before) statement.number fault.NoRun)
+    ++ fault_if (is_again verb before) statement.number fault.Twice
 
--- what is wrong with a statement after what the ones before it said
-unfoldable pub statement_faults : Contents → Statement → List Mark
-statement_faults contents statement = verb_faults contents statement statement.verb
+-- what is wrong with a statement that stands behind others
+unfoldable pub statement_faults : List Statement → Statement → List Mark
+statement_faults before statement = verb_faults before statement statement.verb
 
 -- what is wrong with statements that stand behind others
 unfoldable pub faults_behind : List Statement → List Statement → List Mark
 faults_behind before [] = []
 faults_behind before (statement ∷ statements) =
-    statement_faults (contents_of before) statement ++ faults_behind (before ++ statement ∷ []) statements
+    statement_faults before statement ++ faults_behind (before ++ statement ∷ []) statements

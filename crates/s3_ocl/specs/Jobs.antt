@@ -1,9 +1,8 @@
 -- The jobs of a list of cards.
-use Rattle.std.specs.Prelude.{◌≡◌, ◌<◌, ◌≤◌, ℕ, ◌+◌, ◌-◌, ◌||◌, List, [], ◌∷◌, ◌++◌, Bool, false, Option, Some, None, Result, Ok, Err, length, drop, replicate, sum_by, unwrap_or, slice_get, nat_lt, if◌then◌else◌}
+use Rattle.std.specs.Prelude.{◌≡◌, ◌<◌, ◌≤◌, ℕ, ◌+◌, ◌-◌, List, [], ◌∷◌, ◌++◌, Bool, false, Option, Some, None, Result, Ok, Err, length, drop, replicate, sum_by, unwrap_or, slice_get, nat_lt, if◌then◌else◌}
 use Rattle.s3_cards.specs.declared.name.Name.{Name}
 use Rattle.s3_ocl.specs.declared.values.Switch.{Switch}
 use Rattle.s3_ocl.specs.declared.values.Switch.TheVariants.{Leave}
-use Rattle.s3_ocl.specs.declared.parameters.Verb.{Verb}
 use Rattle.s3_ocl.specs.declared.parameters.Verb.TheVariants.{Run}
 use Rattle.s3_ocl.specs.declared.contents.FileStatement.{FileStatement}
 use Rattle.s3_ocl.specs.declared.faults.JobFault.TheVariants.{NotOcl, NoRun}
@@ -14,9 +13,9 @@ use Rattle.s3_ocl.specs.declared.jobs.OclFault.TheVariants.{NoMemory, Faulty}
 use Rattle.s3_ocl.specs.Cards.{is_separator, is_job_end, begins_job, closes_job, next_place}
 use Rattle.s3_cards.specs.Names.{same_name, name_of, no_name}
 use Rattle.s3_ocl.specs.Words.{compiler_word}
-use Rattle.s3_ocl.specs.Statements.{Statement, is_verb, statements}
-use Rattle.s3_ocl.specs.Contents.{Contents, contents_of, has}
-use Rattle.s3_ocl.specs.Faults.{earlier, faults_behind, first_fault}
+use Rattle.s3_ocl.specs.Statements.{Statement, statements}
+use Rattle.s3_ocl.specs.Contents.{date_of, files_of, has, program_of, switches_of}
+use Rattle.s3_ocl.specs.Faults.{faults_behind, first_fault}
 
 -- a job without faults: the program that it names, its files, its date if it gives one, what it does with each switch,
 -- the places of its data, from the first up to the last but without it, and the place behind the job; the RUN card is
@@ -67,13 +66,13 @@ job_end cards place =
     let close : ℕ = next_place closes_job cards place in
     if holds_at is_job_end (slice_get cards close) then close + 1 else close
 
--- the job with these contents, whose statements end at a place
-abbrev pub job_with : List (List ℕ) → Contents → ℕ → Job
-job_with cards contents end = record {
-  program = unwrap_or contents.program no_name;
-  files = contents.files;
-  date = contents.date;
-  switches = unwrap_or contents.switches (replicate 8 Leave);
+-- the job with these statements, which end at a place
+abbrev pub job_with : List (List ℕ) → List Statement → ℕ → Job
+job_with cards heading end = record {
+  program = unwrap_or (program_of heading) no_name;
+  files = files_of heading;
+  date = date_of heading;
+  switches = unwrap_or (switches_of heading) (replicate 8 Leave);
   data_from = end;
   data_to = next_place is_separator cards end;
   after = job_end cards (next_place is_separator cards end);
@@ -81,7 +80,7 @@ job_with cards contents end = record {
 
 -- a job is faulty where its statements have a fault, and then has the first of them
 abbrev pub job_or_fault : List (List ℕ) → List Statement → ℕ → Option Mark → Result Job FaultyJob
-job_or_fault cards heading end None = Ok (job_with cards (contents_of heading) end)
+job_or_fault cards heading end None = Ok (job_with cards heading end)
 job_or_fault cards heading end (Some mark) = Err (record { fault = mark.fault; card = mark.card; after = faulty_end cards mark.card })
 
 -- the statements of the job that begins at a place

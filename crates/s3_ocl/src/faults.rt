@@ -4,6 +4,7 @@ ghost use Rattle.std.specs.List.{after_first, flat_map, position_or_len};
 ghost use Rattle.std.specs.Option.{option_copied};
 ghost use Rattle.s3_ocl.specs.Contents.{gives as gives_spec, named as named_spec};
 ghost use Rattle.s3_ocl.specs.Faults.{fault_number, is_before as is_before_spec, earlier as earlier_spec, first_fault, fault_if as fault_if_spec, is_taken as is_taken_spec, piece_faults, twice_on, again_faults, file_parameters, lacks_needed as lacks_needed_spec, is_ill_formed as is_ill_formed_spec, is_again as is_again_spec, lacks_load as lacks_load_spec, verb_faults, has_two_sizes as has_two_sizes_spec, statement_faults};
+ghost use Rattle.s3_ocl.specs.Steps.{Behind};
 
 use super::contents::{Contents, gives, is_given, is_parameter, named};
 use super::file_list::FileList;
@@ -218,7 +219,7 @@ fn is_ill_formed(verb: Verb, statement: &Statement) -> bool
 
 /// Whether there was such a statement already; FILE may be repeated.
 fn is_again(verb: Verb, contents: &Contents) -> bool
-    ensures { result ≡ is_again_spec verb contents.now }
+    ensures { Behind contents.now (λ before. result ≡ is_again_spec verb before) }
 {
     match verb {
         Verb::Load => contents.is_loaded,
@@ -231,7 +232,7 @@ fn is_again(verb: Verb, contents: &Contents) -> bool
 
 /// Whether this is RUN without LOAD before it.
 fn lacks_load(verb: Verb, contents: &Contents) -> bool
-    ensures { result ≡ lacks_load_spec verb contents.now }
+    ensures { Behind contents.now (λ before. result ≡ lacks_load_spec verb before) }
 {
     match verb {
         Verb::Run => !contents.is_loaded,
@@ -242,7 +243,7 @@ fn lacks_load(verb: Verb, contents: &Contents) -> bool
 /// The first fault of a known statement after what the ones before it said.
 #[tactic(auto, using(crate::proofs::FaultLemmas::all_faults))]
 fn verb_fault(contents: &Contents, statement: &Statement, verb: Verb) -> Option<Mark>
-    ensures { result ≡ first_fault (verb_faults contents.now statement.now (Some verb)) }
+    ensures { Behind contents.now (λ before. result ≡ first_fault (verb_faults before statement.now (Some verb))) }
 {
     let number = statement.number;
     let values = earlier(
@@ -258,7 +259,7 @@ fn verb_fault(contents: &Contents, statement: &Statement, verb: Verb) -> Option<
 /// The first fault of a statement after what the ones before it said.
 #[tactic(auto, unfolding(crate::specs::Faults::statement_faults))]
 pub fn statement_fault(contents: &Contents, statement: &Statement) -> Option<Mark>
-    ensures { result ≡ first_fault (statement_faults contents.now statement.now) }
+    ensures { Behind contents.now (λ before. result ≡ first_fault (statement_faults before statement.now)) }
 {
     match statement.verb {
         None => fault_if(true, statement.number, JobFault::Keyword),

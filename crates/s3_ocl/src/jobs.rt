@@ -2,7 +2,7 @@
 ghost use Rattle.std.specs.Prelude.{◌≡◌, ◌<◌, ◌≤◌, ◌+◌, [], IfOk, IfSome, IsTrue, length, drop, slice_get, slice_index_or};
 ghost use Rattle.s3_ocl.specs.Cards.{is_job_end as job_end_spec, is_statement as statement_spec};
 ghost use Rattle.s3_ocl.specs.Jobs.{job_with as job_with_spec, faulty_end, job_end as job_end_at, stop_fault as stop_fault_spec, holds_at, job_at as job_at_spec, next_job, job_place, is_compile as is_compile_spec, Gives, LiesWithin};
-ghost use Rattle.s3_ocl.specs.Steps.{last_fault as last_fault_spec, with_last};
+ghost use Rattle.s3_ocl.specs.Steps.{Behind, IsKept, KeptOf, last_fault as last_fault_spec, with_last};
 ghost use Rattle.s3_ocl.specs.Sound.{is_sound_file};
 ghost use Rattle.s3_ocl.specs.Streams.{OneStream};
 ghost use Rattle.std.specs.List.{list_all};
@@ -198,8 +198,8 @@ fn faulty(cards: &[Card], mark: Mark) -> FaultyJob
 fn job_with(contents: Contents, cards: &[Card], end: usize) -> JobCards
     requires within { end ≤ length cards.now }
     requires short { length cards.now ≤ 9_999 }
-    ensures value { result ≡ job_with_spec cards.now contents end }
-    ensures places { (end ≤ result.data_to) × (result.data_to ≤ result.after) × (result.after ≤ length cards.now) }
+    ensures value { KeptOf contents (λ heading. result ≡ job_with_spec cards.now heading end) }
+    ensures places { (result.data_from ≡ end) × (end ≤ result.data_to) × (result.data_to ≤ result.after) × (result.after ≤ length cards.now) }
 {
     let data_to = next_separator(cards, end);
     JobCards {
@@ -264,8 +264,9 @@ fn fault_here(
 ) -> Option<Mark>
     requires short { length cards.now ≤ 9_999 }
     requires within { place + statement.now.cards ≤ length cards.now }
+    requires kept { IsKept contents.now }
     requires read { statement.now ≡ statement_at (place + 1) (slice_index_or cards.now place []) (drop (place + 1) cards.now) }
-    ensures value { result ≡ with_last (first_fault (statement_faults contents.now statement.now)) (last_fault_spec cards.now statement.now.verb (place + statement.now.cards)) }
+    ensures value { Behind contents.now (λ before. result ≡ with_last (first_fault (statement_faults before statement.now)) (last_fault_spec cards.now statement.now.verb (place + statement.now.cards))) }
     ensures within { IfSome result (λ mark. (place < mark.card) × (mark.card ≤ length cards.now)) }
 {
     let mark = statement_fault(contents, statement)?;

@@ -1,4 +1,4 @@
-use Rattle.std.proofs.Common.{◌≡◌, ◌+◌, ℕ, true, false, sym, ◌∙◌, ap, subst, Ok}
+use Rattle.std.proofs.Common.{◌≡◌, ◌+◌, ℕ, true, false, sym, ◌∙◌, ap, subst}
 use Rattle.s3_ocl.specs.declared.parameters.Verb.TheVariants.{Run}
 use Rattle.s3_ocl.specs.Statements.{Statement, is_verb}
 use Rattle.s3_ocl.specs.Jobs.{job_with}
@@ -9,7 +9,8 @@ pub returns-in-Some-clause-value : goal.returns-in-Some-clause-value
 returns-in-Some-clause-value c =
     let read = is_read c.args.cards.now c.loop-alloc.place c.in_ok-statement.statement (sym c.has_statement.ensures ∙ c.loop-alloc-test.true) c.in_ok-statement.ensures.value in
     job_faulty c.args.cards.now c.args.start c.loop-alloc.place c.loop-alloc.contents c.in_ok-statement.statement c.in-Some.mark c.faulty.result c.loop-alloc.invariant read
-    c.in_ok-statement.ensures.within.1 (sym c.in-Some.ensures.value) c.faulty.ensures.value
+    c.in_ok-statement.ensures.within.1
+    (sym (c.in-Some.ensures.value c.loop-alloc.invariant.passed c.loop-alloc.invariant.kept c.loop-alloc.invariant.no_run)) c.faulty.ensures.value
 
 pub returns-then-is_verb-clause-value : goal.returns-then-is_verb-clause-value
 returns-then-is_verb-clause-value c =
@@ -17,9 +18,9 @@ returns-then-is_verb-clause-value c =
     let cards : c.statement.inside.cards ≡ c.in_ok-statement.statement.cards = ap (λ (s : Statement). s.cards) c.statement.view_is in
     let run : is_verb Run c.in_ok-statement.statement.verb ≡ true =
     ap (λ (s : Statement). is_verb Run s.verb) (sym c.statement.view_is) ∙ (sym c.is_verb.ensures ∙ c.if-is_verb.true) in
-    job_run c.args.cards.now c.args.start c.loop-alloc.place c.loop-alloc.contents c.add.new.self c.in_ok-statement.statement _ c.loop-alloc.invariant read
-    (sym c.in_default.ensures.value) c.in_ok-add.ensures run
-    ∙ ap Ok (ap (λ (n : ℕ). job_with c.args.cards.now c.add.new.self (c.loop-alloc.place + n)) (sym cards) ∙ sym c.job_with.ensures.value)
+    job_run c.args.cards.now c.args.start c.loop-alloc.place c.loop-alloc.contents c.add.new.self c.in_ok-statement.statement _ _ c.loop-alloc.invariant read
+    (sym (c.in_default.ensures.value c.loop-alloc.invariant.passed c.loop-alloc.invariant.kept c.loop-alloc.invariant.no_run)) c.in_ok-add.ensures run
+    (λ heading kept. c.job_with.ensures.value heading kept ∙ ap (λ (n : ℕ). job_with c.args.cards.now heading (c.loop-alloc.place + n)) cards)
 
 pub loop-alloc-preserved : goal.loop-alloc-preserved
 loop-alloc-preserved c =
@@ -29,7 +30,8 @@ loop-alloc-preserved c =
     ap (λ (s : Statement). is_verb Run s.verb) (sym c.statement.view_is) ∙ (sym c.is_verb.ensures ∙ c.if-is_verb.false) in
     subst (λ (n : ℕ). JobSoFar c.args.cards.now c.args.start (c.loop-alloc.place + n) c.add.new.self) (sym cards)
     (one_more_statement c.args.cards.now c.args.start c.loop-alloc.place c.loop-alloc.contents c.add.new.self c.in_ok-statement.statement _ c.loop-alloc.invariant read
-    c.in_ok-statement.ensures.within.1 (sym c.in_default.ensures.value) c.in_ok-add.ensures other)
+    c.in_ok-statement.ensures.within.1
+    (sym (c.in_default.ensures.value c.loop-alloc.invariant.passed c.loop-alloc.invariant.kept c.loop-alloc.invariant.no_run)) c.in_ok-add.ensures other)
 
 pub faulty-requires-2-clause-within : goal.faulty-requires-2-clause-within
 faulty-requires-2-clause-within c = stop_within c.args.cards.now c.loop-alloc.place c.stop_fault.result c.stop_fault.ensures.value
