@@ -1,4 +1,5 @@
 pub mod BoundLemmas
+pub mod DateLemmas
 pub mod FaultLemmas
 pub mod FileLemmas
 pub mod JobLemmas

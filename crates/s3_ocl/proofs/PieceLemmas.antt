@@ -1,16 +1,16 @@
 -- Lemmas on the parameters of statements.
 use Rattle.std.proofs.Common.{◌≡◌, ℕ, ◌+◌, ◌-◌, ◌<◌, ◌≤◌, List, [], ◌∷◌, ◌++◌, Bool, true, false, refl, sym, ◌∙◌, ap, subst, arith, length, drop, append_assoc, length-append, suc, inl, inr, add-one}
-use Rattle.std.specs.Prelude.{Option, Some, None, ◌&&◌, slice_get}
+use Rattle.std.specs.Prelude.{Option, Some, None, ◌&&◌, slice_get, unwrap_or}
 use Rattle.std.proofs.lemmas.Option.{slice_get_within, slice_get_cases, get_or_from_slice_get}
 use Rattle.std.proofs.Math.Seq.{drop-cons}
-use Rattle.std.specs.List.{before_first, slice_split}
+use Rattle.std.specs.List.{before_first, last_or, slice_split}
 use Rattle.std.proofs.lemmas.List.{append-nil, drop_all}
 use Rattle.s3_ocl.specs.declared.parameters.Verb.{Verb}
 use Rattle.s3_ocl.specs.declared.statements.Piece.{Piece}
 use Rattle.s3_ocl.specs.Signs.{is_comma}
 use Rattle.s3_ocl.specs.Cards.{is_continuation, first_word, second_word}
 use Rattle.s3_ocl.specs.Parameters.{verb_of, goes_on, parts_of}
-use Rattle.s3_ocl.specs.Statements.{piece_of, texts_behind, last_text, pieces_in, pieces_from, pieces_of, statement_at}
+use Rattle.s3_ocl.specs.Statements.{piece_of, texts_behind, pieces_in, pieces_from, pieces_of, statement_at}
 use Rattle.s3_ocl.specs.Steps.{pieces_more}
 
 -- a text without parameters adds none
@@ -98,7 +98,7 @@ pub record CardsSoFar (verb : Option Verb) (cards : List (List ℕ)) (place end 
   pub count : length passed + place ≡ end
   pub within : end ≤ length cards
   pub begun : place < end
-  pub last : last_text first (texts_behind first (drop (place + 1) cards)) ≡ last_text text (texts_behind text (drop end cards))
+  pub last : last_or (Some first) (texts_behind first (drop (place + 1) cards)) ≡ last_or (Some text) (texts_behind text (drop end cards))
   pub read : pieces_of verb (place + 1) (first ∷ texts_behind first (drop (place + 1) cards)) ≡ pieces ++ pieces_left verb (end + 1) pieces (texts_behind text (drop end cards))
 
 length-pieces_in : (verb : Verb) (number place : ℕ) (parts : List (List ℕ)) → length (pieces_in verb number place parts) ≡ length parts
@@ -137,7 +137,6 @@ first_card_read verb cards place number text pieces new in' is none added =
 pub one_more_card : (verb : Option Verb) (cards : List (List ℕ)) (place end number : ℕ) (first text next : List ℕ) (pieces new : List Piece) → CardsSoFar verb cards place end first text pieces
     → texts_behind text (drop end cards) ≡ next ∷ texts_behind next (drop (end + 1) cards) → end < length cards → number ≡ end + 1
     → new ≡ pieces ++ pieces_more verb number pieces next → CardsSoFar verb cards place (end + 1) first next new
-unfolding last_text
 one_more_card verb cards place end number first text next pieces new so_far more in' is added =
     let rest : List (List ℕ) = texts_behind next (drop (end + 1) cards) in
     record {
@@ -146,7 +145,7 @@ one_more_card verb cards place end number first text next pieces new so_far more
       count = omega (arith, so_far.count, length-append so_far.passed (next ∷ []));
       within = omega arith;
       begun = omega (arith, so_far.begun);
-      last = so_far.last ∙ ap (last_text text) more;
+      last = so_far.last ∙ ap (last_or (Some text)) more;
       read = so_far.read ∙ (ap (λ x. pieces ++ pieces_left verb (end + 1) pieces x) more ∙ read_more verb (end + 1) pieces new next rest (subst (λ (n : ℕ). new ≡ pieces ++ pieces_more verb n pieces next) is added));
     }
 
@@ -158,7 +157,7 @@ pieces_left-nil (Some verb) number pieces = refl
 pub statement_read : (verb : Option Verb) (cards : List (List ℕ)) (place end number count : ℕ) (card text : List ℕ) (pieces : List Piece) (is_open : Bool) → CardsSoFar verb cards place end (second_word card) text pieces
     → texts_behind text (drop end cards) ≡ [] → verb ≡ verb_of (first_word card) → number ≡ place + 1 → count ≡ end - place → is_open ≡ goes_on text
     → record { number = number; verb = verb; pieces = pieces; cards = count; is_open = is_open } ≡ statement_at (place + 1) card (drop (place + 1) cards)
-unfolding statement_at last_text
+unfolding statement_at
 statement_read verb cards place end number count card text pieces is_open so_far done known is counted opens =
     let texts : List (List ℕ) = second_word card ∷ texts_behind (second_word card) (drop (place + 1) cards) in
     let all : pieces ≡ pieces_of (verb_of (first_word card)) (place + 1) texts =
@@ -167,6 +166,6 @@ statement_read verb cards place end number count card text pieces is_open so_far
     ∙ (ap (λ x. pieces ++ x) (pieces_left-nil verb (end + 1) pieces) ∙ append-nil pieces)))) in
     let long : count ≡ length texts =
     omega (arith, counted, so_far.count, ap length so_far.split, length-append so_far.passed (texts_behind text (drop end cards)), ap length done) in
-    let last : is_open ≡ goes_on (last_text (second_word card) (texts_behind (second_word card) (drop (place + 1) cards))) =
-    opens ∙ sym (ap goes_on (so_far.last ∙ ap (last_text text) done)) in
+    let last : is_open ≡ goes_on (unwrap_or (last_or None texts) []) =
+    opens ∙ sym (ap (λ (o : Option (List ℕ)). goes_on (unwrap_or o [])) (so_far.last ∙ ap (last_or (Some text)) done)) in
     λ i. record { number = is i; verb = known i; pieces = all i; cards = long i; is_open = last i }

@@ -1,5 +1,5 @@
 -- Lemmas on job streams.
-use Rattle.std.proofs.Common.{◌≡◌, ℕ, ◌+◌, ◌-◌, ◌<◌, ◌≤◌, List, [], ◌∷◌, ◌++◌, Bool, true, false, cond, refl, sym, ap, subst, inl, inr, arith, length, drop, zero, suc, lt-ltb, le-ltb, length-append}
+use Rattle.std.proofs.Common.{◌≡◌, ℕ, ◌+◌, ◌<◌, ◌≤◌, List, [], ◌∷◌, ◌++◌, Bool, true, false, cond, refl, sym, ap, subst, inl, inr, arith, length, drop, zero, suc, lt-ltb, le-ltb, length-append}
 use Rattle.std.proofs.lemmas.List.Sums.{sum_by-cons}
 use Rattle.std.specs.Prelude.{Option, Some, None, Result, slice_get}
 use Rattle.std.proofs.lemmas.Bool.{cases_lt}
@@ -10,19 +10,13 @@ use Rattle.s3_ocl.specs.Cards.{is_statement, is_job_end, is_separator, closes_jo
 use Rattle.s3_ocl.specs.Statements.{Statement, statement_at, statements_within, is_verb}
 use Rattle.s3_ocl.specs.Contents.{has}
 use Rattle.s3_ocl.specs.Faults.{first_fault, faults_behind}
-use Rattle.s3_ocl.specs.Jobs.{Job, job_at, job_end, job_or_fault, holds_at, heading_at, cards_of, stop_fault, stop_faults, faulty_end, behind, next_job, place_after}
+use Rattle.s3_ocl.specs.Jobs.{Job, job_at, job_end, job_or_fault, holds_at, heading_at, cards_of, stop_fault, stop_faults, faulty_end, next_job, place_after}
 use Rattle.s3_ocl.specs.Streams.{Stream, ends, next, jobs_within, jobs_from, OneStream}
 use Rattle.s3_ocl.proofs.BoundLemmas.{each-append, each_later}
 use Rattle.s3_ocl.proofs.JobLemmas.{On, first_on, each_stop, no_faults, statement_cards}
 
 after_faulty : (cards : List (List ℕ)) (place number : ℕ) → place < number → place < length cards → place < faulty_end cards number
-after_faulty cards place number low within = go (next_place is_job_end cards (number - 1)) (omega arith)
-  where
-    go : (end : ℕ) → number - 1 ≤ end → place < behind cards end
-    go end reached = elim (cases_lt end (length cards)) [
-      | inl less ↦ rw (lt-ltb _ _ less) (omega arith)
-      | inr past ↦ rw (le-ltb _ _ past) (omega arith)
-    ]
+after_faulty cards place number low within = omega (arith, low, within)
 
 after_job : (cards : List (List ℕ)) (place : ℕ) → place ≤ job_end cards place
 after_job cards place = go (next_place closes_job cards place) (holds_at is_job_end (slice_get cards (next_place closes_job cards place))) (omega arith)

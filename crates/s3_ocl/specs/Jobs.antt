@@ -1,5 +1,5 @@
 -- The jobs of a list of cards.
-use Rattle.std.specs.Prelude.{◌≡◌, ◌<◌, ◌≤◌, ℕ, ◌+◌, ◌-◌, List, [], ◌∷◌, ◌++◌, Bool, false, Option, Some, None, Result, Ok, Err, length, drop, replicate, sum_by, unwrap_or, slice_get, nat_lt, if◌then◌else◌}
+use Rattle.std.specs.Prelude.{◌≡◌, ◌<◌, ◌≤◌, ℕ, ◌+◌, ◌-◌, List, [], ◌∷◌, ◌++◌, Bool, false, Option, Some, None, Result, Ok, Err, length, min, drop, replicate, sum_by, unwrap_or, slice_get, nat_lt, if◌then◌else◌}
 use Rattle.s3_cards.specs.declared.name.Name.{Name}
 use Rattle.s3_ocl.specs.declared.values.Switch.{Switch}
 use Rattle.s3_ocl.specs.declared.values.Switch.TheVariants.{Leave}
@@ -51,13 +51,9 @@ stop_fault cards end (Some card) = record { card = end + 1; fault = if is_separa
 abbrev pub stop_faults : List (List ℕ) → List Statement → ℕ → List Mark
 stop_faults cards heading end = if has Run heading then [] else stop_fault cards end (slice_get cards end) ∷ []
 
--- the place behind a card, if there is one
-abbrev pub behind : List (List ℕ) → ℕ → ℕ
-behind cards place = if nat_lt place (length cards) then place + 1 else place
-
 -- the place behind a faulty job: behind the first `/&` from the card at fault on, or the deck's end
 abbrev pub faulty_end : List (List ℕ) → ℕ → ℕ
-faulty_end cards number = behind cards (next_place is_job_end cards (number - 1))
+faulty_end cards number = min (next_place is_job_end cards (number - 1) + 1) (length cards)
 
 -- the place behind a job whose data end at a place: behind its `/&`, or before a statement that follows its `/*`, or the
 -- deck's end

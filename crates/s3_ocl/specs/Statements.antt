@@ -1,5 +1,6 @@
 -- The statements on cards.
-use Rattle.std.specs.Prelude.{ℕ, zero, suc, ◌+◌, ◌&&◌, List, [], ◌∷◌, ◌++◌, Bool, true, false, Option, Some, None, length, drop, if◌then◌else◌}
+use Rattle.std.specs.Prelude.{ℕ, zero, suc, ◌+◌, ◌&&◌, List, [], ◌∷◌, ◌++◌, Bool, true, false, Option, Some, None, length, drop, unwrap_or, if◌then◌else◌}
+use Rattle.std.specs.List.{last_or}
 use Rattle.s3_ocl.specs.declared.parameters.Verb.{Verb}
 use Rattle.s3_ocl.specs.declared.parameters.Verb.TheVariants.{Load, File, Date, Switch, Run}
 use Rattle.s3_ocl.specs.declared.statements.Piece.{Piece}
@@ -24,11 +25,6 @@ texts_behind text (card ∷ cards) =
 -- the parameter texts of the statement that begins at a card
 abbrev pub texts_of : List ℕ → List (List ℕ) → List (List ℕ)
 texts_of card cards = second_word card ∷ texts_behind (second_word card) cards
-
--- the last text of a statement
-unfoldable pub last_text : List ℕ → List (List ℕ) → List ℕ
-last_text text [] = text
-last_text text (next ∷ texts) = last_text next texts
 
 -- a text as the parameter at a place of a statement
 abbrev pub piece_of : Verb → ℕ → ℕ → List ℕ → Piece
@@ -60,7 +56,7 @@ statement_at number card cards =
       verb = verb_of (first_word card);
       pieces = pieces_of (verb_of (first_word card)) number texts;
       cards = length texts;
-      is_open = goes_on (last_text (second_word card) (texts_behind (second_word card) cards));
+      is_open = goes_on (unwrap_or (last_or None texts) []);
     }
 
 abbrev pub is_verb : Verb → Option Verb → Bool

@@ -1,5 +1,5 @@
 -- What the text of a value says.
-use Rattle.std.specs.Prelude.{ℕ, ◌+◌, ◌-◌, ◌*◌, ◌==◌, ◌&&◌, ◌||◌, List, [], ◌∷◌, Bool, Option, Some, None, length, map, nat_le, slice_index, if◌then◌else◌}
+use Rattle.std.specs.Prelude.{ℕ, ◌+◌, ◌-◌, ◌*◌, ◌==◌, ◌&&◌, ◌||◌, List, [], ◌∷◌, ◌++◌, Bool, Option, Some, None, length, take, drop, map, nat_le, slice_index, if◌then◌else◌}
 use Rattle.std.specs.List.{list_all}
 use Rattle.std.specs.Int.Digits.{number_from_digits}
 use Rattle.s3_cards.specs.declared.ebcdic.TheConstants.{SLASH, LETTER_P, LETTER_S, LETTER_T, LETTER_X, DIGIT_0, DIGIT_1}
@@ -41,12 +41,6 @@ retention_value text =
     else if reads text (LETTER_P ∷ []) then Some (Kept Permanent)
     else None
 
--- the pairs of codes at three places
-abbrev pub pairs_at : List ℕ → ℕ → ℕ → ℕ → List ℕ
-pairs_at text a b c =
-    slice_index text a ∷ slice_index text (a + 1) ∷ slice_index text b ∷ slice_index text (b + 1)
-    ∷ slice_index text c ∷ slice_index text (c + 1) ∷ []
-
 -- the number of the two digits at a place
 abbrev pub two_digits : List ℕ → ℕ → ℕ
 two_digits digits place = 10 * (slice_index digits place - DIGIT_0) + (slice_index digits (place + 1) - DIGIT_0)
@@ -60,11 +54,15 @@ is_date digits =
 abbrev pub dated : List ℕ → Option Value
 dated digits = if is_date digits then Some (Dated digits) else None
 
+-- a text without its third and its sixth code
+abbrev pub without_slashes : List ℕ → List ℕ
+without_slashes text = take 2 text ++ (take 2 (drop 3 text) ++ drop 6 text)
+
 -- mmddyy or mm/dd/yy
 unfoldable pub date_value : List ℕ → Option Value
 date_value text =
-    if length text == 6 then dated (pairs_at text 0 2 4)
-    else if (length text == 8) && (slice_index text 2 == SLASH) && (slice_index text 5 == SLASH) then dated (pairs_at text 0 3 6)
+    if length text == 6 then dated text
+    else if (length text == 8) && (slice_index text 2 == SLASH) && (slice_index text 5 == SLASH) then dated (without_slashes text)
     else None
 
 -- 0, 1 or X

@@ -1,12 +1,12 @@
 //! What the statements of a job say together.
-ghost use Rattle.std.specs.Prelude.{◌≡◌, ◌==◌, ◌||◌, ◌++◌, [], OnOk, find};
+ghost use Rattle.std.specs.Prelude.{◌≡◌, ◌++◌, [], OnOk, find};
 ghost use Rattle.std.specs.Option.{option_copied, option_to_list};
-ghost use Rattle.s3_ocl.specs.Contents.{rank as rank_spec, is_parameter as is_parameter_spec, gives as gives_spec, is_given as is_given_spec, right_value as right_value_spec, value_in as value_in_spec, named as named_spec, count as count_spec, kept as kept_spec, dated as dated_spec, set as set_spec, name_in as name_in_spec, count_in as count_in_spec, retention_in, date_in as date_in_spec, switches_in as switches_in_spec, size_of as size_of_spec, file_with as file_with_spec, file_of as file_of_spec};
+ghost use Rattle.s3_ocl.specs.Contents.{stands_at as stands_at_spec, gives as gives_spec, is_given as is_given_spec, right_value as right_value_spec, value_in as value_in_spec, named as named_spec, count as count_spec, kept as kept_spec, dated as dated_spec, set as set_spec, name_in as name_in_spec, count_in as count_in_spec, retention_in, date_in as date_in_spec, switches_in as switches_in_spec, size_of as size_of_spec, file_with as file_with_spec, file_of as file_of_spec};
 ghost use Rattle.s3_ocl.specs.Steps.{contents_of, contents_with};
 
 use super::file_list::FileList;
 use super::parameters::{Entry, Parameter, Verb};
-use super::statements::{Piece, Statement, is_verb};
+use super::statements::{Piece, Statement};
 use super::values::{Retention, Switch, Value};
 use s3_cards::Name;
 use std::alloc::{AllocError, Global};
@@ -34,43 +34,23 @@ pub struct FileStatement {
     pub retention: Retention,
 }
 
-/// Each parameter's place among them.
-fn rank(parameter: Parameter) -> u8
-    ensures { result ≡ rank_spec parameter }
+/// The parameter that stands at an entry, if one does.
+fn stands_at(entry: Entry) -> Option<Parameter>
+    ensures { result ≡ stands_at_spec entry }
 {
-    match parameter {
-        Parameter::Program => 0,
-        Parameter::Unit => 1,
-        Parameter::FileName => 2,
-        Parameter::Pack => 3,
-        Parameter::Label => 4,
-        Parameter::Records => 5,
-        Parameter::Tracks => 6,
-        Parameter::Retain => 7,
-        Parameter::Date => 8,
-        Parameter::Switches => 9,
+    match entry {
+        Entry::Empty | Entry::Unknown | Entry::Surplus => None,
+        Entry::Missing(parameter) | Entry::Wrong(parameter) | Entry::Right(parameter, _) => Some(
+            parameter,
+        ),
     }
-}
-
-/// Whether two parameters are the same.
-pub fn is_parameter(parameter: Parameter, other: Parameter) -> bool
-    ensures { result ≡ (rank_spec other == rank_spec parameter) }
-{
-    rank(other) == rank(parameter)
 }
 
 /// Whether a piece gives this parameter.
 pub fn gives(parameter: Parameter, piece: &Piece) -> bool
     ensures { result ≡ gives_spec parameter piece.now }
 {
-    match piece.entry {
-        Entry::Empty => false,
-        Entry::Unknown => false,
-        Entry::Surplus => false,
-        Entry::Missing(other) => is_parameter(parameter, other),
-        Entry::Wrong(other) => is_parameter(parameter, other),
-        Entry::Right(other, _) => is_parameter(parameter, other),
-    }
+    stands_at(piece.entry) == Some(parameter)
 }
 
 /// Whether a parameter is given.
@@ -89,7 +69,8 @@ fn right_value(entry: Entry) -> Option<Value>
     }
 }
 
-fn first_giving(parameter: Parameter, pieces: &[Piece]) -> Option<&Piece>
+/// The first piece that gives a parameter.
+pub fn first_giving(parameter: Parameter, pieces: &[Piece]) -> Option<&Piece>
     ensures { option_copied result ≡ find (gives_spec parameter) pieces.now }
 {
     pieces.iter().find(|piece| gives(parameter, piece))
@@ -218,12 +199,19 @@ fn file_of(pieces: &[Piece]) -> Option<FileStatement>
 /// What the statements so far say, and which there were.
 #[derive(Drop)]
 pub struct Contents {
+    /// The program that LOAD names.
     pub program: Option<Name>,
+    /// The six digits mmddyy that DATE gives, in EBCDIC.
     pub date: Option<[u8; 6]>,
+    /// What SWITCH does with each of U1 to U8.
     pub switches: Option<[Switch; 8]>,
+    /// The files of the FILE statements.
     pub files: FileList,
+    /// Whether there was a LOAD.
     pub is_loaded: bool,
+    /// Whether there was a DATE.
     pub is_dated: bool,
+    /// Whether there was a SWITCH.
     pub is_switched: bool,
 }
 
@@ -272,9 +260,9 @@ impl Contents {
             .or(name_in(Parameter::Program, &statement.pieces));
         self.date = self.date.or(date_in(&statement.pieces));
         self.switches = self.switches.or(switches_in(&statement.pieces));
-        self.is_loaded = self.is_loaded || is_verb(Verb::Load, statement.verb);
-        self.is_dated = self.is_dated || is_verb(Verb::Date, statement.verb);
-        self.is_switched = self.is_switched || is_verb(Verb::Switch, statement.verb);
+        self.is_loaded = self.is_loaded || statement.does(Verb::Load);
+        self.is_dated = self.is_dated || statement.does(Verb::Date);
+        self.is_switched = self.is_switched || statement.does(Verb::Switch);
         Ok(())
     }
 }

@@ -1,12 +1,11 @@
 //! What is wrong with the statements of a job, and on which card.
-ghost use Rattle.std.specs.Prelude.{◌≡◌, ◌≤◌, Some, find, length};
+ghost use Rattle.std.specs.Prelude.{◌≡◌, ◌≤◌, Some, length};
 ghost use Rattle.std.specs.List.{after_first, flat_map, position_or_len};
-ghost use Rattle.std.specs.Option.{option_copied};
 ghost use Rattle.s3_ocl.specs.Contents.{gives as gives_spec, named as named_spec};
 ghost use Rattle.s3_ocl.specs.Faults.{fault_number, is_before as is_before_spec, earlier as earlier_spec, first_fault, fault_if as fault_if_spec, is_taken as is_taken_spec, piece_faults, twice_on, again_faults, file_parameters, lacks_needed as lacks_needed_spec, is_ill_formed as is_ill_formed_spec, is_again as is_again_spec, lacks_load as lacks_load_spec, verb_faults, has_two_sizes as has_two_sizes_spec, statement_faults};
 ghost use Rattle.s3_ocl.specs.Steps.{Behind};
 
-use super::contents::{Contents, gives, is_given, is_parameter, named};
+use super::contents::{Contents, first_giving, gives, is_given, named};
 use super::file_list::FileList;
 use super::parameters::{Entry, Parameter, Verb};
 use super::statements::{Piece, Statement};
@@ -51,10 +50,13 @@ impl JobFault {
 /// A fault on a card.
 #[derive(Clone, Copy)]
 pub struct Mark {
+    /// The number of the card, from 1 to 9,999.
     pub card: u16,
+    /// What is wrong there.
     pub fault: JobFault,
 }
 
+/// Whether a fault comes before another, by card and then by number.
 fn is_before(a: Mark, b: Mark) -> bool
     ensures { result ≡ is_before_spec a b }
 {
@@ -110,7 +112,7 @@ fn piece_fault(files: &FileList, number: u16, piece: &Piece) -> Option<Mark>
         Entry::Missing(_) => fault_if(true, number, JobFault::Value),
         Entry::Wrong(_) => fault_if(true, piece.card, JobFault::Value),
         Entry::Right(given, value) => fault_if(
-            is_parameter(Parameter::FileName, given) && is_taken(files, value),
+            given == Parameter::FileName && is_taken(files, value),
             piece.card,
             JobFault::Twice,
         ),
@@ -149,12 +151,6 @@ fn behind_first(parameter: Parameter, pieces: &[Piece]) -> &[Piece]
     } else {
         &pieces[place + 1..]
     }
-}
-
-fn first_giving(parameter: Parameter, pieces: &[Piece]) -> Option<&Piece>
-    ensures { option_copied result ≡ find (gives_spec parameter) pieces.now }
-{
-    pieces.iter().find(|piece| gives(parameter, piece))
 }
 
 /// The fault of a parameter that is given twice.
@@ -270,8 +266,9 @@ pub fn statement_fault(contents: &Contents, statement: &Statement) -> Option<Mar
 /// A job with a fault.
 #[derive(Clone, Copy, Debug, PartialEq, Eq)]
 pub struct FaultyJob {
+    /// What is wrong there.
     pub fault: JobFault,
-    /// The number of the card at fault, from 1.
+    /// The number of the card at fault, from 1 to 9,999.
     pub card: u16,
     /// The place behind the job.
     pub after: usize,

@@ -16,7 +16,7 @@ use super::cards::{
 use super::contents::{Contents, FileStatement};
 use super::faults::{FaultyJob, JobFault, Mark, earlier, statement_fault};
 use super::parameters::Verb;
-use super::statements::{Statement, is_verb, read_statement};
+use super::statements::{Statement, read_statement};
 use super::values::Switch;
 use s3_cards::ebcdic::{BLANK, DOLLAR, LETTER_G, LETTER_P, LETTER_R};
 use s3_cards::{Card, Deck, Name};
@@ -27,8 +27,10 @@ use thiserror::Error;
 /// Why the next job of a deck was not read.
 #[derive(Debug, Drop, Error)]
 pub enum OclFault {
+    /// There was no memory for the job.
     #[error("out of memory")]
     NoMemory,
+    /// The job has a fault.
     #[error("a faulty job")]
     Faulty(FaultyJob),
 }
@@ -190,7 +192,7 @@ fn faulty(cards: &[Card], mark: Mark) -> FaultyJob
     FaultyJob {
         fault: mark.fault,
         card: mark.card,
-        after: if end < cards.len() { end + 1 } else { end },
+        after: (end + 1).min(cards.len()),
     }
 }
 
@@ -244,7 +246,7 @@ fn last_fault(cards: &[Card], statement: &Statement, end: usize) -> Option<Mark>
     requires short { length cards.now ≤ 9_999 }
     ensures { result ≡ last_fault_spec cards.now statement.now.verb end }
 {
-    if is_verb(Verb::Run, statement.verb) || end < cards.len() {
+    if statement.does(Verb::Run) || end < cards.len() {
         None
     } else {
         Some(Mark {
@@ -293,7 +295,7 @@ fn read_job(alloc: Global, cards: &[Card], start: usize) -> Result<JobCards, Ocl
         }
         contents.add(&statement)?;
         place += statement.cards;
-        if is_verb(Verb::Run, statement.verb) {
+        if statement.does(Verb::Run) {
             return Ok(job_with(contents, cards, place));
         }
     }

@@ -14,27 +14,42 @@ use super::words::{
 use s3_cards::ebcdic::{COMMA, MINUS};
 
 /// What a statement does.
-#[derive(Clone, Copy)]
+#[derive(Clone, Copy, PartialEq, Eq)]
 pub enum Verb {
+    /// LOAD names the program.
     Load,
+    /// FILE describes a file.
     File,
+    /// DATE sets the date.
     Date,
+    /// SWITCH sets the switches.
     Switch,
+    /// RUN ends the statements.
     Run,
 }
 
 /// A parameter of a statement.
-#[derive(Clone, Copy)]
+#[derive(Clone, Copy, PartialEq, Eq)]
 pub enum Parameter {
+    /// The first one of LOAD.
     Program,
+    /// The second one of LOAD, and UNIT of FILE.
     Unit,
+    /// NAME of FILE.
     FileName,
+    /// PACK of FILE.
     Pack,
+    /// LABEL of FILE.
     Label,
+    /// RECORDS of FILE.
     Records,
+    /// TRACKS of FILE.
     Tracks,
+    /// RETAIN of FILE.
     Retain,
+    /// That of DATE.
     Date,
+    /// That of SWITCH.
     Switches,
 }
 
@@ -51,6 +66,7 @@ pub enum Entry {
     Missing(Parameter),
     /// A parameter with a value that it can't have.
     Wrong(Parameter),
+    /// A parameter and its value.
     Right(Parameter, Value),
 }
 

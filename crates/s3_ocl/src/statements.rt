@@ -1,7 +1,7 @@
 //! The statements on cards.
 ghost use Rattle.std.specs.Prelude.{◌≡◌, ◌+◌, ◌<◌, ◌≤◌, ◌∷◌, ◌++◌, OnOk, IfOk, IfSome, MatchOption, length, drop, slice_index_or, []};
 ghost use Rattle.s3_ocl.specs.Parameters.{parts_of};
-ghost use Rattle.s3_ocl.specs.Statements.{piece_of, pieces_in, texts_behind, is_verb as is_verb_spec, statement_at};
+ghost use Rattle.s3_ocl.specs.Statements.{piece_of, pieces_in, texts_behind, is_verb, statement_at};
 ghost use Rattle.s3_ocl.specs.Steps.{pieces_more};
 
 use super::cards::{card_at, first_word, is_continuation, second_word};
@@ -15,19 +15,22 @@ use std::marker::Model;
 /// A parameter, with the number of its card.
 #[derive(Clone, Copy)]
 pub struct Piece {
+    /// The number of the card, from 1 to 9,999.
     pub card: u16,
+    /// What stands there.
     pub entry: Entry,
 }
 
 /// A statement.
 #[derive(Drop)]
 pub struct Statement {
-    /// The number of its first card.
+    /// The number of its first card, from 1 to 9,999.
     pub number: u16,
     /// What it does, or none where its keyword is unknown.
     pub verb: Option<Verb>,
+    /// Its parameters in their order; none where its keyword is unknown.
     pub pieces: Vec<Piece>,
-    /// How many cards it has.
+    /// How many cards it has, at least 1.
     pub cards: usize,
     /// Whether it ends with a comma with nothing after it.
     pub is_open: bool,
@@ -39,6 +42,15 @@ impl Model for Statement {
     ghost Value = { Statement };
 
     ghost view = { λ s. record { number = s.number; verb = s.verb; pieces = s.pieces.items; cards = s.cards; is_open = s.is_open } };
+}
+
+impl Statement {
+    /// Whether its keyword names this.
+    pub fn does(&self, verb: Verb) -> bool
+        ensures { result ≡ is_verb verb self.now.verb }
+    {
+        self.verb == Some(verb)
+    }
 }
 
 /// Adds the parameter that a text is.
@@ -140,18 +152,4 @@ pub fn read_statement(alloc: Global, cards: &[Card], place: usize) -> Result<Sta
         cards: end - place,
         is_open: goes_on(text),
     })
-}
-
-/// Whether a keyword named this statement.
-pub fn is_verb(verb: Verb, named: Option<Verb>) -> bool
-    ensures { result ≡ is_verb_spec verb named }
-{
-    match (verb, named) {
-        (Verb::Load, Some(Verb::Load)) => true,
-        (Verb::File, Some(Verb::File)) => true,
-        (Verb::Date, Some(Verb::Date)) => true,
-        (Verb::Switch, Some(Verb::Switch)) => true,
-        (Verb::Run, Some(Verb::Run)) => true,
-        _ => false,
-    }
 }

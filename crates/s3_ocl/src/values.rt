@@ -2,17 +2,20 @@
 ghost use Rattle.std.specs.Prelude.{◌≡◌, ◌<◌, ◌≤◌, ◌+◌, ◌-◌, ◌^◌, IsTrue, length, map};
 ghost use Rattle.std.specs.List.{list_all};
 ghost use Rattle.s3_cards.specs.Names.{is_digit as digit_spec};
-ghost use Rattle.s3_ocl.specs.Values.{name_value as name_value_spec, unit_value as unit_value_spec, pack_value as pack_value_spec, number_of, count_value as count_value_spec, retention_value as retention_value_spec, pairs_at, two_digits as two_digits_spec, is_date as date_spec, dated as dated_spec, date_value as date_value_spec, is_switch as switch_spec, switch_of, switches_value as switches_value_spec};
+ghost use Rattle.s3_ocl.specs.Values.{name_value as name_value_spec, unit_value as unit_value_spec, pack_value as pack_value_spec, number_of, count_value as count_value_spec, retention_value as retention_value_spec, two_digits as two_digits_spec, is_date as date_spec, dated as dated_spec, date_value as date_value_spec, without_slashes as without_slashes_spec, is_switch as switch_spec, switch_of, switches_value as switches_value_spec};
 
 use super::words::{F1, F2, R1, R2};
-use s3_cards::ebcdic::{DIGIT_0, DIGIT_1, LETTER_P, LETTER_S, LETTER_T, LETTER_X, SLASH};
+use s3_cards::ebcdic::{BLANK, DIGIT_0, DIGIT_1, LETTER_P, LETTER_S, LETTER_T, LETTER_X, SLASH};
 use s3_cards::{Name, go_on_in_name, is_digit, is_word};
 
 /// What a SWITCH statement does with one switch.
 #[derive(Clone, Copy, Debug, PartialEq, Eq)]
 pub enum Switch {
+    /// 1: the switch goes on.
     On,
+    /// 0: it goes off.
     Off,
+    /// X: it stays as it is.
     Leave,
 }
 
@@ -30,11 +33,15 @@ pub enum Retention {
 /// The value of a parameter.
 #[derive(Clone, Copy)]
 pub enum Value {
+    /// A name of a program, a file or a label.
     Named(Name),
+    /// A number of records, 1 to 999,999, or of tracks, 1 to 999.
     Count(u32),
+    /// How long a file is kept.
     Kept(Retention),
     /// The digits mmddyy of a date, in EBCDIC.
     Dated([u8; 6]),
+    /// What is done with each of U1 to U8.
     Set([Switch; 8]),
     /// A unit or a pack, which are tested for their form and not used.
     Checked,
@@ -130,20 +137,23 @@ pub fn retention_value(text: &[u8]) -> Option<Value>
     }
 }
 
-/// The pairs of codes at three places.
-fn pairs(text: &[u8], first: usize, second: usize, third: usize) -> [u8; 6]
-    requires order { (first < second) × (second < third) }
-    requires within { third + 1 < length text.now }
-    ensures { result ≡ pairs_at text.now first second third }
+/// Six codes as an array.
+fn six_codes(text: &[u8]) -> [u8; 6]
+    requires { length text.now ≡ 6 }
+    ensures { result ≡ text.now }
 {
-    [
-        text[first],
-        text[first + 1],
-        text[second],
-        text[second + 1],
-        text[third],
-        text[third + 1],
-    ]
+    let mut codes = [BLANK; 6];
+    codes.copy_from_slice(text);
+    codes
+}
+
+/// Eight codes without the third and the sixth one.
+#[tactic(auto, using(crate::proofs::DateLemmas::six_of_eight))]
+fn without_slashes(text: &[u8]) -> [u8; 6]
+    requires { length text.now ≡ 8 }
+    ensures { result ≡ without_slashes_spec text.now }
+{
+    [text[0], text[1], text[3], text[4], text[6], text[7]]
 }
 
 /// The number of the two digits at a place.
@@ -167,6 +177,7 @@ fn is_date(digits: &[u8; 6]) -> bool
     1 <= month && month <= 12 && 1 <= day && day <= 31
 }
 
+/// The date that six codes are, if they are one.
 fn dated(digits: [u8; 6]) -> Option<Value>
     ensures { result ≡ dated_spec digits }
 {
@@ -183,9 +194,9 @@ pub fn date_value(text: &[u8]) -> Option<Value>
     ensures { result ≡ date_value_spec text.now }
 {
     if text.len() == 6 {
-        dated(pairs(text, 0, 2, 4))
+        dated(six_codes(text))
     } else if text.len() == 8 && text[2] == SLASH && text[5] == SLASH {
-        dated(pairs(text, 0, 3, 6))
+        dated(without_slashes(text))
     } else {
         None
     }

@@ -12,12 +12,11 @@ returns-in-Some-clause-value c =
     c.in_ok-statement.ensures.within.1
     (sym (c.in-Some.ensures.value c.loop-alloc.invariant.passed c.loop-alloc.invariant.kept c.loop-alloc.invariant.no_run)) c.faulty.ensures.value
 
-pub returns-then-is_verb-clause-value : goal.returns-then-is_verb-clause-value
-returns-then-is_verb-clause-value c =
+pub returns-then-does-clause-value : goal.returns-then-does-clause-value
+returns-then-does-clause-value c =
     let read = is_read c.args.cards.now c.loop-alloc.place c.in_ok-statement.statement (sym c.has_statement.ensures ∙ c.loop-alloc-test.true) c.in_ok-statement.ensures.value in
     let cards : c.statement.inside.cards ≡ c.in_ok-statement.statement.cards = ap (λ (s : Statement). s.cards) c.statement.view_is in
-    let run : is_verb Run c.in_ok-statement.statement.verb ≡ true =
-    ap (λ (s : Statement). is_verb Run s.verb) (sym c.statement.view_is) ∙ (sym c.is_verb.ensures ∙ c.if-is_verb.true) in
+    let run : is_verb Run c.in_ok-statement.statement.verb ≡ true = sym c.does.ensures ∙ c.if-does.true in
     job_run c.args.cards.now c.args.start c.loop-alloc.place c.loop-alloc.contents c.add.new.self c.in_ok-statement.statement _ _ c.loop-alloc.invariant read
     (sym (c.in_default.ensures.value c.loop-alloc.invariant.passed c.loop-alloc.invariant.kept c.loop-alloc.invariant.no_run)) c.in_ok-add.ensures run
     (λ heading kept. c.job_with.ensures.value heading kept ∙ ap (λ (n : ℕ). job_with c.args.cards.now heading (c.loop-alloc.place + n)) cards)
@@ -26,8 +25,7 @@ pub loop-alloc-preserved : goal.loop-alloc-preserved
 loop-alloc-preserved c =
     let read = is_read c.args.cards.now c.loop-alloc.place c.in_ok-statement.statement (sym c.has_statement.ensures ∙ c.loop-alloc-test.true) c.in_ok-statement.ensures.value in
     let cards : c.statement.inside.cards ≡ c.in_ok-statement.statement.cards = ap (λ (s : Statement). s.cards) c.statement.view_is in
-    let other : is_verb Run c.in_ok-statement.statement.verb ≡ false =
-    ap (λ (s : Statement). is_verb Run s.verb) (sym c.statement.view_is) ∙ (sym c.is_verb.ensures ∙ c.if-is_verb.false) in
+    let other : is_verb Run c.in_ok-statement.statement.verb ≡ false = sym c.does.ensures ∙ c.if-does.false in
     subst (λ (n : ℕ). JobSoFar c.args.cards.now c.args.start (c.loop-alloc.place + n) c.add.new.self) (sym cards)
     (one_more_statement c.args.cards.now c.args.start c.loop-alloc.place c.loop-alloc.contents c.add.new.self c.in_ok-statement.statement _ c.loop-alloc.invariant read
     c.in_ok-statement.ensures.within.1
