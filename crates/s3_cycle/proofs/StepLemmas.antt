@@ -12,7 +12,7 @@ use Rattle.s3_compile.specs.Stands.{Stands}
 use Rattle.s3_cycle.specs.declared.carriage.Carriage.{Carriage}
 use Rattle.s3_cycle.specs.declared.indicators.Indicators.{Indicators}
 use Rattle.s3_cycle.specs.declared.request.Request.TheVariants.{Print as PrintRequest}
-use Rattle.s3_cycle.specs.declared.stepper.Point.TheVariants.{Headings, End as EndPoint}
+use Rattle.s3_cycle.specs.declared.stepper.Point.TheVariants.{Headings}
 use Rattle.s3_cycle.specs.declared.stepper.Stepper.{Stepper}
 use Rattle.s3_cycle.specs.declared.request.Answer.{Answer}
 use Rattle.s3_cycle.specs.Requests.{request_of, answer_of}
@@ -22,7 +22,7 @@ use Rattle.s3_cycle.specs.Rest.{after_headings, headings_put, reading_of, answer
 use Rattle.s3_cycle.specs.Steps.{IsSound, GoesOn, SkipsTo, IsPrinted, is_due, text_of}
 use Rattle.s3_cycle.proofs.FitLemmas.{as-many}
 use Rattle.s3_cycle.proofs.LineLemmas.{IsNextLine, line-hit, lines-past}
-use Rattle.s3_cycle.proofs.TakeLemmas.{ended-at-once, moved_by, card-taken}
+use Rattle.s3_cycle.proofs.TakeLemmas.{moved_by, card-taken}
 
 -- the stepper waits where its run asks
 pub goes-wait : (old new : Stepper) (meaning : Source → Run) → new.program ≡ old.program → IsSound new → ((source : Source) → Stands old.program source → meaning source ≡ ask (request_of new.request) (answered source new new.point)) → GoesOn old new meaning
@@ -40,22 +40,6 @@ goes-mid old mid new meaning meaning' program same goes = record {
 -- the same step, of a stepper that is equal
 pub goes-along : (old new new' : Stepper) (meaning : Source → Run) → new ≡ new' → GoesOn old new' meaning → GoesOn old new meaning
 goes-along old new new' meaning same goes = let P : Stepper → Type 0 = λ c. GoesOn old c meaning in subst P (sym same) goes
-
--- at the end the request stays, whatever is answered
-pub stays-at_end : (c : Stepper) (answer : Meant.Answer) → IsSound c → c.point ≡ EndPoint → GoesOn c c (λ source. answered source c c.point answer)
-unfolding rest
-stays-at_end c answer sound at_end = record {
-  program = refl;
-  sound = sound;
-  runs = λ source stands.
-      ap (λ point. ask (request_of c.request) (answered source c point)) at_end
-      ∙ ended-at-once (request_of c.request)
-      ∙ sym (ap (λ point. answered source c point answer) at_end);
-}
-
--- the answer that the code has is the one that is meant
-pub at-answer : (c new : Stepper) (answer answer' : Answer) → answer ≡ answer' → GoesOn c new (λ source. card_answered source c (filter is_input source.files) (answer_of answer') (held source c)) → GoesOn c new (λ source. card_answered source c (filter is_input source.files) (answer_of answer) (held source c))
-at-answer c new answer answer' same goes = goes-mid c c new _ _ refl (λ source stands. ap (λ a. card_answered source c (filter is_input source.files) (answer_of a) (held source c)) (sym same)) goes
 
 -- a card is taken, and the next cycle begun
 pub takes : (old counted new : Stepper) (bytes : List ℕ) (number : ℕ) (indicators : Indicators) (texts : List (List ℕ)) (moves : List FieldMove) → IsSound old → is_used old.indicators.switches old.program.card_switch ≡ true → old.program.record_indicator ≡ Some number → counted ≡ record old { reads = min (old.reads + 1) 16776960 } → indicators ≡ record counted.indicators { general = slice_set counted.indicators.general number true } → number < length counted.indicators.general → moves ≡ counted.program.moves.items → texts ≡ texts_moved moves bytes counted.texts → GoesOn (record counted { indicators = indicators; current = Some counted.reads; texts = texts; totals_due = true }) new (λ source. headings_put source (reading_of source (record counted { indicators = indicators; current = Some counted.reads; texts = texts; totals_due = true })) source.outputs (held source (record counted { indicators = indicators; current = Some counted.reads; texts = texts; totals_due = true }))) → GoesOn old new (λ source. card_answered source old (filter is_input source.files) (Found bytes) (held source old))
@@ -77,7 +61,7 @@ takes old counted new bytes number indicators texts moves sound used typed_as is
 pub prints : (old : Stepper) (next : Carriage) (place : ℕ) (line : DetailLine) (printed : Printed) → IsSound old → IsPrinted old place → slice_get old.program.lines.items place ≡ Some line → printed ≡ record { page = old.carriage.page; line = old.carriage.line; text = text_of old line } → IsNextLine old.carriage next → GoesOn old (record old { carriage = next; request = PrintRequest printed; point = Headings (place + 1) }) (λ source. headings_put source (reading_of source old) (drop place source.outputs) (held source old))
 unfolding request_of held
 prints old next place line printed sound is_printed there is next_is =
-    goes-wait old _ _ refl (record { lengths = sound.lengths; point = tt; used = tt })
+    goes-wait old _ _ refl (record { lengths = sound.lengths; point = (printed, refl); used = tt })
     (λ source stands.
     line-hit source old (reading_of source old) next place line stands (as-many old.program.fields.items old.texts sound.lengths) there due next_is
     ∙ ap (λ (p : Printed). ask (Meant.Print p.page p.line p.text) (λ answer. headings_put source (reading_of source old) (drop (place + 1) source.outputs) (held source (record old { carriage = next })))) (sym is))

@@ -19,7 +19,7 @@ use Rattle.s3_meaning.specs.RecordTypes.{RecordType}
 use Rattle.s3_meaning.specs.Calculations.{is_detail, is_total}
 use Rattle.s3_meaning.specs.OutputLines.{Output}
 use Rattle.s3_meaning.specs.Source.{Source, is_input, is_designated, overflow_of, has_control_fields, has_levels, detail_calculations}
-use Rattle.s3_meaning.specs.Requests.{Request, Ask, End, Answer, Found, Nothing, Done, Reply, Current, NthRead}
+use Rattle.s3_meaning.specs.Requests.{Request, Ask, End, Answer, Found, Nothing, Current, NthRead}
 use Rattle.s3_meaning.specs.Environment.{Environment, turn, with_last_record}
 use Rattle.s3_meaning.specs.Selection.{Head, Unread, Stands as StandsHead, Ended, InputFile, Reading, Selected, least, primary_first, select, is_matched, taken, broken, break_level, levels, is_level_to, same_key, control_value, compared_field, match_key, code_holds, in_sequence}
 use Rattle.s3_meaning.specs.Runs.{Rest, Anew, ask, ended, halted}
@@ -320,14 +320,3 @@ pub card-taken : (c : Stepper) (source : Source) (bytes : List ℕ) (number : �
 card-taken c source bytes number used typed_as within long stands =
     let types : SameTypes c.program.fields.items c.program.moves.items stands.card (Some number) source.types = subst (λ number. SameTypes c.program.fields.items c.program.moves.items stands.card number source.types) typed_as stands.types in
     typed-one c source bytes number types.0 stands types.1 types.2 ∙ head-taken c source bytes number types.0 stands used types.1 types.2 within long
-
--- another answer is as none
-pub other-answer : (c : Stepper) (source : Source) (files : List FileLine) (e : Environment) → card_answered source c files Done e ≡ card_answered source c files Nothing e
-unfolding card_answered on_read
-other-answer c source [] e = refl
-other-answer c source (file ∷ files) e = refl
-
-pub other-reply : (c : Stepper) (source : Source) (digit : ℕ) (files : List FileLine) (e : Environment) → card_answered source c files (Reply digit) e ≡ card_answered source c files Nothing e
-unfolding card_answered on_read
-other-reply c source digit [] e = refl
-other-reply c source digit (file ∷ files) e = refl

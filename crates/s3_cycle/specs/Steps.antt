@@ -1,7 +1,8 @@
 -- Steps of a suspended run.
-use Rattle.std.specs.Prelude.{◌≡◌, ℕ, ◌<◌, Bool, true, ◌&&◌, List, map, drop, length, replicate, slice_get, slice_range, Some}
+use Rattle.std.specs.Prelude.{◌≡◌, ℕ, ◌<◌, Bool, true, false, ◌&&◌, List, map, drop, length, replicate, slice_get, slice_range, Some}
 use Rattle.std.specs.List.{list_all}
 use Rattle.s3_meaning.specs.declared.halt.HaltCode.TheVariants.{UnidentifiedRecord}
+use Rattle.s3_cards.specs.Printed.{Printed}
 use Rattle.s3_meaning.specs.Source.{Source}
 use Rattle.s3_meaning.specs.Runs.{Run}
 use Rattle.s3_meaning.specs.Cycle.{Req}
@@ -9,18 +10,20 @@ use Rattle.s3_compile.specs.declared.program.DetailLine.{DetailLine}
 use Rattle.s3_compile.specs.declared.program.Program.{Program}
 use Rattle.s3_compile.specs.Stands.{Stands}
 use Rattle.s3_cycle.specs.declared.request.Request.{Request}
-use Rattle.s3_cycle.specs.declared.request.Request.TheVariants.{Ask}
+use Rattle.s3_cycle.specs.declared.request.Request.TheVariants.{Card as CardRequest, Print, Ask, End as EndRequest}
 use Rattle.s3_cycle.specs.declared.stepper.Point.{Point}
-use Rattle.s3_cycle.specs.declared.stepper.Point.TheVariants.{Card, Unidentified}
+use Rattle.s3_cycle.specs.declared.stepper.Point.TheVariants.{Headings, Card, Unidentified, End}
 use Rattle.s3_cycle.specs.declared.stepper.Stepper.{Stepper}
 use Rattle.s3_cycle.specs.Held.{held, entry_holds, is_used}
 use Rattle.s3_cycle.specs.Printing.{pieces_put}
 use Rattle.s3_cycle.specs.Rest.{headings_put, reading_of, rest}
 
--- only a halt waits for a reply
+-- what each point waits for
 abbrev pub IsAskedAt : Request → Point → Type 0
+IsAskedAt request (Headings next) = (line : Printed) × (request ≡ Print line)
+IsAskedAt request Card = request ≡ CardRequest
 IsAskedAt request Unidentified = request ≡ Ask UnidentifiedRecord
-IsAskedAt request point = Unit {0}
+IsAskedAt request End = request ≡ EndRequest false
 
 -- a card is asked for where the card file is used
 abbrev pub IsUsedAt : Stepper → Point → Type 0

@@ -73,8 +73,9 @@ impl Stepper {
         let texts = Texts::blank(alloc, program.fields.as_slice())?;
         let mut stepper = Stepper {
             program,
-            request: Request::Card,
-            point: Point::Headings { next: 0 },
+            // nothing is asked for yet
+            request: Request::End { at_once: false },
+            point: Point::End,
             date,
             texts,
             indicators: Indicators::at_first(switches),
@@ -88,16 +89,18 @@ impl Stepper {
     }
 
     /// Goes on with the answer to the pending request, up to the next one.
+    #[tactic(auto, unfolding(crate::specs::Requests::answer_of))]
     pub fn go_on(&mut self, answer: &Answer)
         requires sound { IsSound self.old }
         requires fits { IsTrue (is_fit self.old.request answer.now) }
         ensures { GoesOn self.old self.new (λ source. answered source self.old self.old.point (answer_of answer.now)) }
     {
-        match self.point {
-            Point::Headings { next } => self.put_headings(next),
-            Point::Card => self.answer_card(answer),
-            Point::Unidentified => unreachable!(),
-            Point::End => {}
+        match (self.point, answer) {
+            (Point::Headings { next }, Answer::Done) => self.put_headings(next),
+            (Point::Card, Answer::Found(card)) => self.take_card(card),
+            (Point::Card, Answer::Nothing) => self.end_job(),
+            // `fits` refuses every other answer; neither a halt nor the end of a job has one yet
+            _ => unreachable!(),
         }
     }
 
@@ -204,19 +207,6 @@ impl Stepper {
     {
         self.indicators.clear(self.program.record_indicator);
         self.wait(Request::End { at_once: false }, Point::End);
-    }
-
-    fn answer_card(&mut self, answer: &Answer)
-        requires sound { IsSound self.old }
-        requires used { is_used self.old.indicators.switches self.old.program.card_switch ≡ true }
-        ensures { GoesOn self.old self.new (λ source. card_answered source self.old (filter is_input source.files) (answer_of answer.now) (held source self.old)) }
-    {
-        match answer {
-            Answer::Found(card) => self.take_card(card),
-            Answer::Nothing => self.end_job(),
-            Answer::Done => self.end_job(),
-            Answer::Reply(_) => self.end_job(),
-        }
     }
 
     /// Step 3: the card that was read is typed.

@@ -15,6 +15,6 @@ returns c = goes-along _ _ (reading c.args.self.now) _
     (c.wait.ensures ∙ ap (λ (i : Indicators). let new : Stepper = record c.args.self.now { indicators = i; request = Card; point = CardPoint } in new) c.clear.ensures)
     (goes-wait c.args.self.now (reading c.args.self.now) _ refl (record {
       lengths = c.requires.sound.lengths;
-      point = tt;
+      point = refl;
       used = ap (λ switches. is_used switches c.args.self.now.program.card_switch) (cleared-switches c.args.self.now.program.record_indicator (record c.args.self.now.indicators { first_page = false })) ∙ c.requires.used;
     }) (λ source stands. card-asked c.args.self.now source c.requires.used stands))

@@ -7,4 +7,4 @@ use Rattle.s3_cycle.proofs.stepper.Stepper.end_job.Goals as goal
 pub returns : goal.returns
 unfolding request_of
 returns c = goes-along _ _ _ _ c.wait.ensures
-    (goes-wait c.args.self.now _ _ refl (record { lengths = c.requires.sound.lengths; point = tt; used = tt }) (job-ended c.args.self.now))
+    (goes-wait c.args.self.now _ _ refl (record { lengths = c.requires.sound.lengths; point = refl; used = tt }) (job-ended c.args.self.now))

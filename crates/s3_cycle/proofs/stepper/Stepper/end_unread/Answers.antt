@@ -12,4 +12,4 @@ pub returns : goal.returns
 unfolding request_of
 returns c = goes-along _ _ (unread c.args.self.now) _
     (c.wait.ensures ∙ ap (λ (i : Indicators). let new : Stepper = record c.args.self.now { indicators = i; request = End false; point = EndPoint } in new) c.clear.ensures)
-    (goes-wait c.args.self.now (unread c.args.self.now) _ refl (record { lengths = c.requires.sound.lengths; point = tt; used = tt }) (λ source stands. unread-ended c.args.self.now source c.requires.unused stands))
+    (goes-wait c.args.self.now (unread c.args.self.now) _ refl (record { lengths = c.requires.sound.lengths; point = refl; used = tt }) (λ source stands. unread-ended c.args.self.now source c.requires.unused stands))

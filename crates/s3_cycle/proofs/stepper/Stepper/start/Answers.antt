@@ -8,7 +8,7 @@ pub put_headings-requires : goal.put_headings-requires
 put_headings-requires c = record {
   sound = record {
     lengths = ap (map (λ text. length text)) (c.in_ok-texts.ensures ∙ ap blank_texts c.as_slice.ensures.value) ∙ blank-lengths c.args.program.fields.items;
-    point = tt;
+    point = refl;
     used = tt;
   };
 }
