@@ -58,7 +58,8 @@ pub record ReadSoFar (cards all left : List (List ℕ)) : Type 0 where
   pub faultless : fault_from 1 passed ≡ None
   pub room : length cards ≤ 9999
 
-option_or_assoc : {X : Type 0} (a b c : Option X) → option_or (option_or a b) c ≡ option_or a (option_or b c)
+-- the first of three options
+pub option_or_assoc : {X : Type 0} (a b c : Option X) → option_or (option_or a b) c ≡ option_or a (option_or b c)
 option_or_assoc None b c = refl
 option_or_assoc (Some x) b c = refl
 

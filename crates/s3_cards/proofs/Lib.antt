@@ -1,3 +1,3 @@
 pub mod CodeLemmas
 pub mod DeckLemmas
-pub mod PrintLemmas
+pub mod NameLemmas

@@ -3,3 +3,4 @@ pub mod Deck
 pub mod Levels
 pub mod Printed
 pub mod Names
+pub mod NamedCodes

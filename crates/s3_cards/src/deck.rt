@@ -24,10 +24,13 @@ const MAX_CARDS: usize = 9_999;
 /// What is wrong with a card of a text.
 #[derive(Clone, Copy, Debug, PartialEq, Eq, Error)]
 pub enum CardFault {
+    /// Its line has over 96 bytes.
     #[error("wider than 96 columns")]
     TooWide,
+    /// Its line has a byte that is no card character.
     #[error("a character that no card can have")]
     BadCharacter,
+    /// It is the 9,999th card, and the text has more.
     #[error("more than 9,999 cards")]
     TooMany,
 }
@@ -48,6 +51,7 @@ impl CardFault {
 /// Why a text is no deck.
 #[derive(Debug, Drop, Error)]
 pub enum DeckFault {
+    /// There is no memory for the cards.
     #[error("out of memory")]
     NoMemory,
     /// The number of the first card at fault, from 1, and what is wrong with it; of too many cards, 9,999.
@@ -78,6 +82,7 @@ impl From<AllocFailed<Card>> for DeckFault {
     }
 }
 
+/// A deck: its cards in order, at most 9,999.
 #[derive(Drop)]
 pub struct Deck {
     cards: Vec<Card>,
@@ -195,7 +200,7 @@ fn newline(text: &[u8]) -> Option<usize>
 }
 
 /// A line less the carriage return at its end, if it has one.
-fn without_carriage_return(line: &[u8]) -> &[u8]
+pub fn without_carriage_return(line: &[u8]) -> &[u8]
     ensures { result.now ≡ strip_carriage_return line.now }
 {
     match line {

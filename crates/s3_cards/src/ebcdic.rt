@@ -1,4 +1,7 @@
 //! The EBCDIC codes of the card characters, by name.
+ghost use Rattle.std.specs.Prelude.{◌≡◌, map};
+ghost use Rattle.s3_cards.specs.Codes.{ebcdic};
+ghost use Rattle.s3_cards.specs.NamedCodes.{named_runs};
 
 /// The code of a blank.
 pub const BLANK: u8 = 0x40;
@@ -126,3 +129,9 @@ pub const DIGIT_7: u8 = 0xf7;
 pub const DIGIT_8: u8 = 0xf8;
 /// The code of `9`.
 pub const DIGIT_9: u8 = 0xf9;
+
+/// Each named code is that of the character that it is named for.
+#[tactic(auto, unfolding(crate::specs::Codes::ebcdic, crate::specs::Codes::code_page))]
+pub fn codes_as_named()
+    ensures { map (λ run. run.0) named_runs ≡ map (λ run. ebcdic run.1) named_runs }
+{}

@@ -1,7 +1,7 @@
 //! Printed lines.
-ghost use Rattle.std.specs.Prelude.{◌≡◌, ◌-◌, ◌<◌, ◌≤◌, ◌++◌, length, replicate};
+ghost use Rattle.std.specs.Prelude.{◌≡◌, ◌-◌, ◌<◌, ◌≤◌, length, take, drop, replicate};
+ghost use Rattle.s3_cards.specs.declared.ebcdic.TheConstants.{BLANK};
 
-use super::ebcdic::BLANK;
 use std::marker::Model;
 
 /// The most print positions of a line.
@@ -45,17 +45,18 @@ impl Model for PrintLine {
 impl PrintLine {
     ghost use Rattle.s3_cards.specs.Printed.{Printed};
 
-    /// The line of a page with a text of 1 to 132 EBCDIC bytes.
-    pub fn new(page: u16, line: u8, text: &[u8]) -> PrintLine
-        requires printed { 0 < length text.now }
-        requires fits { length text.now ≤ 132 }
-        ensures { result ≡ record { page = page; line = line; text = text.now } }
+    /// The line of a page. Its text is the first `width` of the positions, 1 to 132 of them; those behind it are blanks.
+    pub fn new(page: u16, line: u8, width: u8, positions: [u8; PRINT_POSITIONS]) -> PrintLine
+        requires printed { 0 < width }
+        requires fits { width ≤ 132 }
+        requires blanks { drop width positions ≡ replicate (132 - width) BLANK }
+        ensures { result ≡ record { page = page; line = line; text = take width positions } }
     {
         PrintLine {
             page,
             line,
-            width: text.len() as u8,
-            positions: padded(text),
+            width,
+            positions,
         }
     }
 
@@ -81,14 +82,4 @@ impl PrintLine {
     {
         &self.positions[..self.width as usize]
     }
-}
-
-/// The print positions with this text from the first one on, and blanks behind it.
-fn padded(text: &[u8]) -> [u8; PRINT_POSITIONS]
-    requires { length text.now ≤ 132 }
-    ensures { result ≡ text.now ++ replicate (132 - length text.now) 0x40 }
-{
-    let mut positions = [BLANK; PRINT_POSITIONS];
-    positions[..text.len()].copy_from_slice(text);
-    positions
 }

@@ -1,4 +1,3 @@
-pub mod Following
 pub mod ListLemmas
 pub mod TextLemmas
 pub mod FieldLemmas

@@ -22,7 +22,7 @@ use Rattle.s3_cycle.specs.Texts.{blank_texts}
 use Rattle.s3_cycle.specs.Held.{held, on_in, is_used, text_in, current_in}
 use Rattle.s3_cycle.specs.Rest.{rest, headings_put, standing_of, waiting_of, reading_of}
 use Rattle.s3_cycle.specs.Steps.{GoesOn, Starts}
-use Rattle.s3_cycle.proofs.FieldLemmas.{same_name-equal}
+use Rattle.s3_cards.proofs.NameLemmas.{same_name-equal}
 use Rattle.s3_cycle.proofs.TakeLemmas.{cycle-begun}
 
 abbrev blanks : ℕ → List ℕ

@@ -36,7 +36,7 @@ use Rattle.s3_cycle.specs.declared.stepper.Stepper.{Stepper}
 use Rattle.s3_cycle.specs.Held.{held, on_in, is_used, current_in}
 use Rattle.s3_cycle.specs.Rest.{input_of, standing_of, waiting_of, reading_of, after_headings, headings_put, heads_read, card_answered, reply_answered}
 use Rattle.s3_cycle.proofs.ListLemmas.{there-too}
-use Rattle.s3_cycle.proofs.FieldLemmas.{same_name-self}
+use Rattle.s3_cards.proofs.NameLemmas.{same_name-self}
 use Rattle.s3_cycle.specs.Texts.{texts_moved}
 use Rattle.s3_cycle.proofs.PlainLemmas.{ArePlain, plain-match_key, plain-control_field, plain-has_levels, moves-fields, same-moves, type-plain}
 

@@ -35,9 +35,6 @@ pub record MovesTo (moves : List FieldMove) (card : List ℕ) (old : List (List 
   pub value : texts_moved (drop at moves) card now ≡ texts_moved moves card old
   pub same : SameLengths old now
 
-pub moved_none : (moves : List FieldMove) (card : List ℕ) (old : List (List ℕ)) → MovesTo moves card old 0 old
-moved_none moves card old = record { value = refl; same = record { lengths = refl } }
-
 pub fits_at : (moves : List FieldMove) (card : List ℕ) (old now : List (List ℕ)) (at : ℕ) (d : FieldMove) → at < length moves → MovesTo moves card old at now → ((k : ℕ) (field_move : FieldMove) → slice_get moves k ≡ Some field_move → MoveFits old field_move) → MoveFits now (get_or moves at d)
 fits_at moves card old now at d within to fits = move_fits_along old now (get_or moves at d) to.same (fits at (get_or moves at d) (slice_get-get_or moves at d within))
 

@@ -1,10 +1,12 @@
 //! The carriage of the printer.
 ghost use Rattle.std.specs.Prelude.{◌≡◌, ◌≤◌};
 
-/// Where the carriage stands: the page, 0 to 9,999, and the line of it, up to 66.
+/// Where the carriage stands.
 #[derive(Clone, Copy)]
 pub struct Carriage {
+    /// The page, 0 to 9,999.
     pub page: u16,
+    /// The line of the page, up to 66.
     pub line: u8,
     pub ghost page_fits: { page ≤ 9999 },
     pub ghost line_fits: { line ≤ 66 },

@@ -2,13 +2,14 @@
 
 use s3_sheets::indicator::{Condition, Indicator};
 
-/// The indicators of a run: those that change, and the switches, U1 the highest bit.
+/// The indicators of a run: those that change, and the switches.
 #[derive(Clone, Copy)]
 pub struct Indicators {
-    /// 01 to 99, by number
+    /// 01 to 99, by number.
     pub general: [bool; 256],
-    /// 1P
+    /// 1P.
     pub first_page: bool,
+    /// U1 to U8, U1 the highest bit.
     pub switches: u8,
 }
 

@@ -1,4 +1,4 @@
-//! The cycle: a suspended run of a program.
+//! The cycle of a program: a run that is suspended at each request and goes on with its answer.
 
 #![tactic(auto)]
 

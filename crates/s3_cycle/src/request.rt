@@ -9,26 +9,29 @@ use s3_meaning::halt::HaltCode;
 /// What a run asks for.
 #[derive(Clone, Copy)]
 pub enum Request {
-    /// the next card
+    /// The next card.
     Card,
-    /// a line to be printed
+    /// A line to be printed.
     Print(PrintLine),
-    /// a reply to a halt
+    /// A reply to a halt.
     Ask(HaltCode),
-    /// nothing more: the job is over, `at_once` where a reply ends it
-    End { at_once: bool },
+    /// Nothing more: the job is over.
+    End {
+        /// Whether a reply ends it.
+        at_once: bool,
+    },
 }
 
 /// What a request is answered.
 #[derive(Clone, Copy)]
 pub enum Answer {
-    /// the card that was asked for
+    /// The card that was asked for.
     Found(Card),
-    /// there is no further card
+    /// There is no further card.
     Nothing,
-    /// the line is printed
+    /// The line is printed.
     Done,
-    /// the digit of a reply
+    /// The digit of a reply.
     Reply(u8),
 }
 

@@ -10,7 +10,7 @@ use crate::printing::put_pieces;
 use crate::request::{Answer, Request};
 use crate::texts::Texts;
 use s3_cards::ebcdic::BLANK;
-use s3_cards::{Card, PrintLine};
+use s3_cards::{Card, PRINT_POSITIONS, PrintLine};
 use s3_compile::program::{DetailLine, Program};
 use s3_meaning::halt::HaltCode;
 use std::alloc::{AllocError, Global};
@@ -21,31 +21,41 @@ const MOST_READS: u64 = 16_776_960;
 /// What goes on once the pending request is answered.
 #[derive(Clone, Copy)]
 pub enum Point {
-    /// step 1, from this line on
-    Headings { next: usize },
-    /// step 3, with a card
+    /// Step 1, when the line is printed.
+    Headings {
+        /// The place of the line that is looked at next.
+        next: usize,
+    },
+    /// Step 3, with a card or at the end of the card file.
     Card,
-    /// step 3, after the halt of a record without type
+    /// Step 3, after the halt of a record without type.
     Unidentified,
+    /// Nothing: the job is over.
     End,
 }
 
 /// A run that waits for the answer to its request.
 #[derive(Drop)]
 pub struct Stepper {
+    /// The program that runs.
     pub program: Program,
+    /// The request that waits for an answer.
     pub request: Request,
+    /// What goes on with the answer.
     pub point: Point,
-    /// the date of the job, mmddyy
+    /// The date of the job, mmddyy in EBCDIC.
     pub date: [u8; 6],
+    /// The texts of the fields.
     pub texts: Texts,
+    /// Which indicators are on.
     pub indicators: Indicators,
+    /// Where the next line is printed.
     pub carriage: Carriage,
-    /// whether total time is no longer passed over
+    /// Whether total time is no longer passed over.
     pub totals_due: bool,
-    /// how many cards were read
+    /// How many cards were read, at most 16,776,960.
     pub reads: u32,
-    /// the card that was moved last
+    /// The number of the card whose fields were moved last.
     pub current: Option<u32>,
 }
 
@@ -160,10 +170,10 @@ impl Stepper {
         requires line { IsTrue (nat_le line.now.first line.now.past && nat_le line.now.past (length self.now.program.pieces.items)) }
         ensures { result ≡ record { page = self.now.carriage.page; line = self.now.carriage.line; text = text_of self.now line.now } }
     {
-        let mut positions = [BLANK; 132];
-        let width = self.program.print_length as usize;
-        self.put_line(line, &mut positions[..width]);
-        PrintLine::new(self.carriage.page, self.carriage.line, &positions[..width])
+        let mut positions = [BLANK; PRINT_POSITIONS];
+        let width = self.program.print_length;
+        self.put_line(line, &mut positions[..width as usize]);
+        PrintLine::new(self.carriage.page, self.carriage.line, width, positions)
     }
 
     /// Lays what a line prints over blanks.
