@@ -1,4 +1,5 @@
 pub mod ConstantLemmas
+pub mod FaultLemmas
 pub mod NumberLemmas
 pub mod ProgressLemmas
 pub mod ReadingLemmas

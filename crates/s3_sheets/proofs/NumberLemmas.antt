@@ -41,6 +41,9 @@ number_more codes i n so_far in' good = record {
 pub fits : (codes : List ℕ) (i n : ℕ) → NumberSoFar codes i n → i < length codes → length codes ≤ 4 → n < 10 ^ 3
 fits codes i n so_far in' short = omega (arith, so_far.below, pow-le-pow_right {n = 10} (lit< tt) {i = i} {j = 3} (omega arith))
 
+pub below_all : (codes : List ℕ) (i n : ℕ) → NumberSoFar codes i n → i ≤ 4 → n < 10 ^ 4
+below_all codes i n so_far short = omega (arith, so_far.below, pow-le-pow_right {n = 10} (lit< tt) {i = i} {j = 4} short)
+
 pub digits_none : (codes : List ℕ) → length codes ≡ 0 → digits_number codes ≡ None
 unfolding digits_number
 digits_none codes e = rw e refl

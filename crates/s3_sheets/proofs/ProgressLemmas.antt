@@ -10,8 +10,8 @@ use Rattle.s3_sheets.specs.Columns.{columns, are_blank}
 use Rattle.s3_cards.specs.Names.{name_of}
 use Rattle.s3_sheets.specs.Kinds.{kind_of, sheet_of, is_record, is_output_line}
 use Rattle.s3_sheets.specs.Lines.{card_at}
-use Rattle.s3_sheets.specs.Sheets.{before, kind_at, is_behind, is_misplaced, is_further_record, lacks_file, is_at_fault, is_outside, is_too_many, new_file, new_field, file_of, field_of, record_length_of, named_length, input_length_behind, output_length_behind, files, fields, input_length, output_length, standing_at}
-use Rattle.s3_sheets.specs.Progress.{Kept, passes_limit, nothing_kept, is_misplaced_behind, is_further, lacks_its_file, is_outside_behind, is_at_fault_behind, files_with, fields_with, kept_behind, standing_behind}
+use Rattle.s3_sheets.specs.Sheets.{before, kind_at, is_behind, is_misplaced, is_further_record, lacks_file, faults_of, is_at_fault, is_outside, is_too_many, new_file, new_field, file_of, field_of, record_length_of, named_length, length_behind, line_length, files, fields, input_length, output_length, standing_at}
+use Rattle.s3_sheets.specs.Progress.{Kept, passes_limit, nothing_kept, is_misplaced_behind, is_further, lacks_its_file, length_named, is_outside_behind, is_at_fault_behind, files_with, fields_with, kept_behind, standing_behind}
 use Rattle.s3_sheets.specs.declared.kind.CardKind.{CardKind}
 use Rattle.s3_sheets.specs.declared.kind.CardKind.TheVariants.{Comment, Unknown, Header, File, Record, RecordGroup, Field, Calculation, OutputLine, OutputGroup, OutputField}
 
@@ -81,7 +81,7 @@ fault_same cards n kept so_far =
 outside_same : (cards : List (List ℕ)) (n : ℕ) (kept : Kept) → IsKept cards n kept
     → is_outside_behind kept (kind_at cards n) (card_at cards n) ≡ is_outside cards n
 unfolding is_outside_behind is_outside
-outside_same cards n kept so_far = rw (so_far.of_input, so_far.of_output) refl
+outside_same cards n kept so_far = rw (so_far.of_files, so_far.of_input, so_far.of_output) refl
 
 files_same : (cards : List (List ℕ)) (n : ℕ) (kept : Kept) → IsKept cards n kept → files_with kept (card_at cards n) ≡ files cards (suc n)
 unfolding files_with
@@ -99,26 +99,21 @@ fields_same cards n kept so_far =
     ∙ ap (λ b. fields cards n ++ option_to_list (new_field (fields cards n) (field_of (kind_at cards n) (is_at_fault cards n || b) (card_at cards n))))
     (outside_same cards n kept so_far))
 
-named_same : (cards : List (List ℕ)) (n : ℕ) (kept : Kept) → IsKept cards n kept
-    → record_length_of kept.files (name_of (columns (card_at cards n) 7 14)) ≡ named_length cards n
+named_same : (cards : List (List ℕ)) (n : ℕ) (kept : Kept) → IsKept cards n kept → length_named kept (card_at cards n) ≡ named_length cards n
 named_same cards n kept so_far = ap (λ known. record_length_of known (name_of (columns (card_at cards n) 7 14))) so_far.of_files
 
 input_same : (cards : List (List ℕ)) (n : ℕ) (kept : Kept) → IsKept cards n kept
-    → input_length_behind (kind_at cards n) (is_at_fault_behind kept (card_at cards n)) (record_length_of kept.files (name_of (columns (card_at cards n) 7 14))) kept.input_length
+    → length_behind (is_record (kind_at cards n)) (is_at_fault_behind kept (card_at cards n)) (length_named kept (card_at cards n)) kept.input_length
     ≡ input_length cards (suc n)
-input_same cards n kept so_far =
-    ap (λ b. input_length_behind (kind_at cards n) b (record_length_of kept.files (name_of (columns (card_at cards n) 7 14))) kept.input_length) (fault_same cards n kept so_far)
-    ∙ (ap (λ named. input_length_behind (kind_at cards n) (is_at_fault cards n) named kept.input_length) (named_same cards n kept so_far)
-    ∙ ap (λ last. input_length_behind (kind_at cards n) (is_at_fault cards n) (named_length cards n) last) so_far.of_input)
+input_same cards n kept so_far = λ i. length_behind (is_record (kind_at cards n)) (fault_same cards n kept so_far i) (named_same cards n kept so_far i) (so_far.of_input i)
 
 output_same : (cards : List (List ℕ)) (n : ℕ) (kept : Kept) → IsKept cards n kept
-    → output_length_behind (kind_at cards n) (is_at_fault_behind kept (card_at cards n)) (are_blank (columns (card_at cards n) 7 14)) (record_length_of kept.files (name_of (columns (card_at cards n) 7 14))) kept.output_length
+    → length_behind (is_output_line (kind_at cards n)) (is_at_fault_behind kept (card_at cards n))
+    (line_length (are_blank (columns (card_at cards n) 7 14)) (length_named kept (card_at cards n)) kept.output_length) kept.output_length
     ≡ output_length cards (suc n)
-output_same cards n kept so_far =
-    let blank : Bool = are_blank (columns (card_at cards n) 7 14) in
-    ap (λ b. output_length_behind (kind_at cards n) b blank (record_length_of kept.files (name_of (columns (card_at cards n) 7 14))) kept.output_length) (fault_same cards n kept so_far)
-    ∙ (ap (λ named. output_length_behind (kind_at cards n) (is_at_fault cards n) blank named kept.output_length) (named_same cards n kept so_far)
-    ∙ ap (λ last. output_length_behind (kind_at cards n) (is_at_fault cards n) blank (named_length cards n) last) so_far.of_output)
+output_same cards n kept so_far = λ i.
+    length_behind (is_output_line (kind_at cards n)) (fault_same cards n kept so_far i)
+    (line_length (are_blank (columns (card_at cards n) 7 14)) (named_same cards n kept so_far i) (so_far.of_output i)) (so_far.of_output i)
 
 behind_later : (sheet a b : ℕ) → (is_behind sheet a || is_behind sheet b) ≡ is_behind sheet (max a b)
 behind_later sheet a b = grind (arith, nat_tests)
@@ -145,6 +140,7 @@ pub standing_same : (cards : List (List ℕ)) (n : ℕ) (kept : Kept) → IsKept
     → standing_behind kept (card_at cards n) ≡ standing_at cards n
 unfolding standing_behind is_too_many
 standing_same cards n kept so_far = λ i. record {
+  faults = faults_of (card_at cards n);
   is_misplaced = misplaced_same (kind_at cards n) (before cards n) kept.latest_sheet so_far.latest i;
   is_further_record = further_same cards n kept so_far i;
   lacks_file = lacks_same cards n kept so_far i;

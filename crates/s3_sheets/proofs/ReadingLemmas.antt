@@ -35,27 +35,27 @@ map_of_map g f (x ∷ xs) = ap (λ ys. g (f x) ∷ ys) (map_of_map g f xs)
 
 -- the diagnostics of one more card
 diagnostics_next : (from : ℕ) (cards : List (List ℕ)) (n : ℕ) → map (diagnostic from) (filter (holds cards) (pairs (suc n)))
-    ≡ map (diagnostic from) (filter (holds cards) (pairs n)) ++ card_diagnostics (from + n + 1) (card_at cards n) (standing_at cards n)
+    ≡ map (diagnostic from) (filter (holds cards) (pairs n)) ++ card_diagnostics (from + n + 1) (standing_at cards n)
 diagnostics_next from cards n =
     let here : List (ℕ × ℕ) = map (λ number. (n, number)) numbers in
-    let one : filter (holds cards) here ≡ map (λ number. (n, number)) (filter (card_holds (card_at cards n) (standing_at cards n)) numbers) =
+    let one : filter (holds cards) here ≡ map (λ number. (n, number)) (filter (card_holds (standing_at cards n)) numbers) =
     filter_of_map (holds cards) (λ number. (n, number)) numbers in
     ap (map (diagnostic from)) (filter-append (holds cards) (pairs n) here)
     ∙ (map-append (diagnostic from) (filter (holds cards) (pairs n)) (filter (holds cards) here)
     ∙ ap (λ x. map (diagnostic from) (filter (holds cards) (pairs n)) ++ x)
     (ap (map (diagnostic from)) one
-    ∙ map_of_map (diagnostic from) (λ number. (n, number)) (filter (card_holds (card_at cards n) (standing_at cards n)) numbers)))
+    ∙ map_of_map (diagnostic from) (λ number. (n, number)) (filter (card_holds (standing_at cards n)) numbers)))
 
 -- one more card, where what is kept says its standing
 read_more : (from : ℕ) (cards : List (List ℕ)) (n : ℕ) (found found' : List Diagnostic) (lines lines' : List Line) (kept : Kept)
     → ReadSoFar from cards n found lines kept → n < length cards
-    → found' ≡ found ++ card_diagnostics (from + n + 1) (card_at cards n) (standing_behind kept (card_at cards n))
+    → found' ≡ found ++ card_diagnostics (from + n + 1) (standing_behind kept (card_at cards n))
     → lines' ≡ lines ++ option_to_list (line_of (from + n + 1) (card_at cards n))
     → ReadSoFar from cards (n + 1) found' lines' (kept_behind kept (card_at cards n))
 read_more from cards n found found' lines lines' kept so_far in' more one = record {
   found =
-      more ∙ (ap (λ x. x ++ card_diagnostics (from + n + 1) (card_at cards n) (standing_behind kept (card_at cards n))) so_far.found
-      ∙ (ap (λ s. map (diagnostic from) (filter (holds cards) (pairs n)) ++ card_diagnostics (from + n + 1) (card_at cards n) s)
+      more ∙ (ap (λ x. x ++ card_diagnostics (from + n + 1) (standing_behind kept (card_at cards n))) so_far.found
+      ∙ (ap (λ s. map (diagnostic from) (filter (holds cards) (pairs n)) ++ card_diagnostics (from + n + 1) s)
       (standing_same cards n kept so_far.progress)
       ∙ (sym (diagnostics_next from cards n) ∙ ap (λ m. map (diagnostic from) (filter (holds cards) (pairs m))) (sym (add-one n)))));
   lines =
@@ -67,14 +67,13 @@ read_more from cards n found found' lines lines' kept so_far in' more one = reco
 pub card_read : (from : ℕ) (cards : List (List ℕ)) (n : ℕ) (found found' : List Diagnostic) (lines lines' : List Line) (kept kept' : Kept) (standing : Standing)
     (d : List ℕ) → ReadSoFar from cards n found lines kept → n < length cards
     → standing ≡ standing_behind kept (get_or cards n d) → kept' ≡ kept_behind kept (get_or cards n d)
-    → found' ≡ found ++ card_diagnostics (from + n + 1) (get_or cards n d) standing
+    → found' ≡ found ++ card_diagnostics (from + n + 1) standing
     → lines' ≡ lines ++ option_to_list (line_of (from + n + 1) (get_or cards n d))
     → ReadSoFar from cards (n + 1) found' lines' kept'
 card_read from cards n found found' lines lines' kept kept' standing d so_far in' stands keeps more one =
     let card : get_or cards n d ≡ card_at cards n = get_or_default cards n d [] in' in
-    let more' : found' ≡ found ++ card_diagnostics (from + n + 1) (card_at cards n) (standing_behind kept (card_at cards n)) =
-    more ∙ (ap (λ s. found ++ card_diagnostics (from + n + 1) (get_or cards n d) s) stands
-    ∙ ap (λ c. found ++ card_diagnostics (from + n + 1) c (standing_behind kept c)) card) in
+    let more' : found' ≡ found ++ card_diagnostics (from + n + 1) (standing_behind kept (card_at cards n)) =
+    more ∙ ap (λ s. found ++ card_diagnostics (from + n + 1) s) (stands ∙ ap (standing_behind kept) card) in
     let one' : lines' ≡ lines ++ option_to_list (line_of (from + n + 1) (card_at cards n)) =
     one ∙ ap (λ c. lines ++ option_to_list (line_of (from + n + 1) c)) card in
     let keeps' : kept_behind kept (card_at cards n) ≡ kept' = sym (keeps ∙ ap (kept_behind kept) card) in

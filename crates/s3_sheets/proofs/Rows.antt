@@ -6,10 +6,11 @@ use Rattle.s3_sheets.specs.Columns.{digits_number}
 use Rattle.s3_cards.specs.Names.{is_word, name_of}
 use Rattle.s3_sheets.specs.Entries.{text_of, reserved_names, constant_text}
 use Rattle.s3_sheets.specs.Kinds.{goes_on, kind_of}
-use Rattle.s3_sheets.specs.Rules.{rule_fault, longest_record}
-use Rattle.s3_sheets.specs.Tables.{header_rules, file_rules, record_rules, group_rules, field_rules, calculation_rules, output_line_rules, output_field_rules}
+use Rattle.s3_sheets.specs.Rules.{rule_fault}
+use Rattle.s3_sheets.specs.Combinations.{longest_record}
+use Rattle.s3_sheets.specs.Tables.{header_rules, file_rules, record_rules, record_group_rules, output_group_rules, field_rules, calculation_rules, output_line_rules, output_field_rules}
 use Rattle.s3_sheets.specs.Lines.{line_of, device_of, lines_of, none_of_three, no_spacing}
-use Rattle.s3_sheets.specs.Sheets.{is_at_fault, breaks_some_rule, is_outside, is_too_many, card_holds, sheet_diagnostics}
+use Rattle.s3_sheets.specs.Sheets.{faults_of, is_at_fault, is_outside, is_too_many, card_holds, sheet_diagnostics}
 use Rattle.s3_cards.specs.declared.name.Name.{Name}
 use Rattle.s3_sheets.specs.declared.diagnostic.Diagnostic.{Diagnostic}
 use Rattle.s3_sheets.specs.declared.indicator.Indicator.TheVariants.{General}
@@ -63,35 +64,35 @@ found cards = map (λ (d : Diagnostic). (d.card, d.number)) (sheet_diagnostics 2
 
 -- the card lister
 accepted : found (card_lister) ≡ []
-unfolding code_page breaks_some_rule device_of ebcdic reserved_names longest_record digits_number is_word text_of constant_text goes_on kind_of rule_fault header_rules file_rules record_rules group_rules field_rules calculation_rules output_line_rules output_field_rules line_of lines_of is_at_fault is_outside is_too_many card_holds sheet_diagnostics
+unfolding code_page faults_of device_of ebcdic reserved_names longest_record digits_number is_word text_of constant_text goes_on kind_of rule_fault header_rules file_rules record_rules record_group_rules output_group_rules field_rules calculation_rules output_line_rules output_field_rules line_of lines_of is_at_fault is_outside is_too_many card_holds sheet_diagnostics
 accepted = refl
 
 comments_are_passed_over : found ((put 7 (codes "*") (put 6 (codes "X") (blank_card))) ∷ header ∷ cards_file ∷ print_file ∷ record_card ∷ text_field ∷ detail ∷ text_out ∷ []) ≡ []
-unfolding code_page breaks_some_rule device_of ebcdic reserved_names longest_record digits_number is_word text_of constant_text goes_on kind_of rule_fault header_rules file_rules record_rules group_rules field_rules calculation_rules output_line_rules output_field_rules line_of lines_of is_at_fault is_outside is_too_many card_holds sheet_diagnostics
+unfolding code_page faults_of device_of ebcdic reserved_names longest_record digits_number is_word text_of constant_text goes_on kind_of rule_fault header_rules file_rules record_rules record_group_rules output_group_rules field_rules calculation_rules output_line_rules output_field_rules line_of lines_of is_at_fault is_outside is_too_many card_holds sheet_diagnostics
 comments_are_passed_over = refl
 
 comment_behind : found (header ∷ cards_file ∷ print_file ∷ record_card ∷ text_field ∷ detail ∷ text_out ∷ (put 7 (codes "*") (put 6 (codes "F") (blank_card))) ∷ []) ≡ []
-unfolding code_page breaks_some_rule device_of ebcdic reserved_names longest_record digits_number is_word text_of constant_text goes_on kind_of rule_fault header_rules file_rules record_rules group_rules field_rules calculation_rules output_line_rules output_field_rules line_of lines_of is_at_fault is_outside is_too_many card_holds sheet_diagnostics
+unfolding code_page faults_of device_of ebcdic reserved_names longest_record digits_number is_word text_of constant_text goes_on kind_of rule_fault header_rules file_rules record_rules record_group_rules output_group_rules field_rules calculation_rules output_line_rules output_field_rules line_of lines_of is_at_fault is_outside is_too_many card_holds sheet_diagnostics
 comment_behind = refl
 
 no_sheet : found (header ∷ cards_file ∷ print_file ∷ (put 24 (codes "01") (put 6 (codes "X") (blank_card))) ∷ record_card ∷ text_field ∷ detail ∷ text_out ∷ []) ≡ (6, 1) ∷ []
-unfolding code_page breaks_some_rule device_of ebcdic reserved_names longest_record digits_number is_word text_of constant_text goes_on kind_of rule_fault header_rules file_rules record_rules group_rules field_rules calculation_rules output_line_rules output_field_rules line_of lines_of is_at_fault is_outside is_too_many card_holds sheet_diagnostics
+unfolding code_page faults_of device_of ebcdic reserved_names longest_record digits_number is_word text_of constant_text goes_on kind_of rule_fault header_rules file_rules record_rules record_group_rules output_group_rules field_rules calculation_rules output_line_rules output_field_rules line_of lines_of is_at_fault is_outside is_too_many card_holds sheet_diagnostics
 no_sheet = refl
 
 blank_card_is_no_sheet : found (header ∷ cards_file ∷ print_file ∷ blank_card ∷ record_card ∷ text_field ∷ detail ∷ text_out ∷ []) ≡ (6, 1) ∷ []
-unfolding code_page breaks_some_rule device_of ebcdic reserved_names longest_record digits_number is_word text_of constant_text goes_on kind_of rule_fault header_rules file_rules record_rules group_rules field_rules calculation_rules output_line_rules output_field_rules line_of lines_of is_at_fault is_outside is_too_many card_holds sheet_diagnostics
+unfolding code_page faults_of device_of ebcdic reserved_names longest_record digits_number is_word text_of constant_text goes_on kind_of rule_fault header_rules file_rules record_rules record_group_rules output_group_rules field_rules calculation_rules output_line_rules output_field_rules line_of lines_of is_at_fault is_outside is_too_many card_holds sheet_diagnostics
 blank_card_is_no_sheet = refl
 
 second_header : found (header ∷ (put 6 (codes "H") (blank_card)) ∷ cards_file ∷ print_file ∷ record_card ∷ text_field ∷ detail ∷ text_out ∷ []) ≡ (4, 1) ∷ []
-unfolding code_page breaks_some_rule device_of ebcdic reserved_names longest_record digits_number is_word text_of constant_text goes_on kind_of rule_fault header_rules file_rules record_rules group_rules field_rules calculation_rules output_line_rules output_field_rules line_of lines_of is_at_fault is_outside is_too_many card_holds sheet_diagnostics
+unfolding code_page faults_of device_of ebcdic reserved_names longest_record digits_number is_word text_of constant_text goes_on kind_of rule_fault header_rules file_rules record_rules record_group_rules output_group_rules field_rules calculation_rules output_line_rules output_field_rules line_of lines_of is_at_fault is_outside is_too_many card_holds sheet_diagnostics
 second_header = refl
 
 header_behind : found (header ∷ cards_file ∷ print_file ∷ (put 6 (codes "H") (blank_card)) ∷ record_card ∷ text_field ∷ detail ∷ text_out ∷ []) ≡ (6, 1) ∷ []
-unfolding code_page breaks_some_rule device_of ebcdic reserved_names longest_record digits_number is_word text_of constant_text goes_on kind_of rule_fault header_rules file_rules record_rules group_rules field_rules calculation_rules output_line_rules output_field_rules line_of lines_of is_at_fault is_outside is_too_many card_holds sheet_diagnostics
+unfolding code_page faults_of device_of ebcdic reserved_names longest_record digits_number is_word text_of constant_text goes_on kind_of rule_fault header_rules file_rules record_rules record_group_rules output_group_rules field_rules calculation_rules output_line_rules output_field_rules line_of lines_of is_at_fault is_outside is_too_many card_holds sheet_diagnostics
 header_behind = refl
 
 file_behind_output : found (header ∷ cards_file ∷ print_file ∷ record_card ∷ text_field ∷ detail ∷ text_out ∷ cards_file ∷ []) ≡ (10, 1) ∷ []
-unfolding code_page breaks_some_rule device_of ebcdic reserved_names longest_record digits_number is_word text_of constant_text goes_on kind_of rule_fault header_rules file_rules record_rules group_rules field_rules calculation_rules output_line_rules output_field_rules line_of lines_of is_at_fault is_outside is_too_many card_holds sheet_diagnostics
+unfolding code_page faults_of device_of ebcdic reserved_names longest_record digits_number is_word text_of constant_text goes_on kind_of rule_fault header_rules file_rules record_rules record_group_rules output_group_rules field_rules calculation_rules output_line_rules output_field_rules line_of lines_of is_at_fault is_outside is_too_many card_holds sheet_diagnostics
 file_behind_output = refl
 
 abbrev named : List ℕ → Name
@@ -112,7 +113,7 @@ lines_of_card_lister =
     ∷ []
 
 card_lister_read : lines_of 2 card_lister ≡ lines_of_card_lister
-unfolding code_page breaks_some_rule device_of ebcdic reserved_names longest_record digits_number is_word text_of constant_text goes_on kind_of rule_fault header_rules file_rules record_rules group_rules field_rules calculation_rules output_line_rules output_field_rules line_of lines_of is_at_fault is_outside is_too_many card_holds sheet_diagnostics
+unfolding code_page faults_of device_of ebcdic reserved_names longest_record digits_number is_word text_of constant_text goes_on kind_of rule_fault header_rules file_rules record_rules record_group_rules output_group_rules field_rules calculation_rules output_line_rules output_field_rules line_of lines_of is_at_fault is_outside is_too_many card_holds sheet_diagnostics
 card_lister_read = refl
 
 abbrev further_file : List ℕ → List ℕ
@@ -120,236 +121,236 @@ further_file name = put 7 name cards_file
 
 -- the twenty-first name is the one too many; a name that stands there already is not
 too_many_files : found (map further_file (codes "A" ∷ codes "B" ∷ codes "C" ∷ codes "D" ∷ codes "E" ∷ codes "F" ∷ codes "G" ∷ codes "H" ∷ codes "I" ∷ codes "J" ∷ codes "K" ∷ codes "L" ∷ codes "M" ∷ codes "N" ∷ codes "O" ∷ codes "P" ∷ codes "Q" ∷ codes "R" ∷ codes "S" ∷ codes "T" ∷ codes "A" ∷ codes "U" ∷ codes "V" ∷ [])) ≡ (24, 13) ∷ []
-unfolding code_page breaks_some_rule device_of ebcdic reserved_names longest_record digits_number is_word text_of constant_text goes_on kind_of rule_fault header_rules file_rules record_rules group_rules field_rules calculation_rules output_line_rules output_field_rules line_of lines_of is_at_fault is_outside is_too_many card_holds sheet_diagnostics
+unfolding code_page faults_of device_of ebcdic reserved_names longest_record digits_number is_word text_of constant_text goes_on kind_of rule_fault header_rules file_rules record_rules record_group_rules output_group_rules field_rules calculation_rules output_line_rules output_field_rules line_of lines_of is_at_fault is_outside is_too_many card_holds sheet_diagnostics
 too_many_files = refl
 
 -- an output line put first puts all of the other sheets behind it out of order
 output_first : found (detail ∷ header ∷ cards_file ∷ print_file ∷ record_card ∷ text_field ∷ detail ∷ text_out ∷ []) ≡ (4, 1) ∷ (5, 1) ∷ (6, 1) ∷ (7, 1) ∷ (8, 1) ∷ []
-unfolding code_page breaks_some_rule device_of ebcdic reserved_names longest_record digits_number is_word text_of constant_text goes_on kind_of rule_fault header_rules file_rules record_rules group_rules field_rules calculation_rules output_line_rules output_field_rules line_of lines_of is_at_fault is_outside is_too_many card_holds sheet_diagnostics
+unfolding code_page faults_of device_of ebcdic reserved_names longest_record digits_number is_word text_of constant_text goes_on kind_of rule_fault header_rules file_rules record_rules record_group_rules output_group_rules field_rules calculation_rules output_line_rules output_field_rules line_of lines_of is_at_fault is_outside is_too_many card_holds sheet_diagnostics
 output_first = refl
 
 header_name : found ((put 75 (codes "1X") (put 6 (codes "H") (blank_card))) ∷ cards_file ∷ print_file ∷ record_card ∷ text_field ∷ detail ∷ text_out ∷ []) ≡ (3, 3) ∷ []
-unfolding code_page breaks_some_rule device_of ebcdic reserved_names longest_record digits_number is_word text_of constant_text goes_on kind_of rule_fault header_rules file_rules record_rules group_rules field_rules calculation_rules output_line_rules output_field_rules line_of lines_of is_at_fault is_outside is_too_many card_holds sheet_diagnostics
+unfolding code_page faults_of device_of ebcdic reserved_names longest_record digits_number is_word text_of constant_text goes_on kind_of rule_fault header_rules file_rules record_rules record_group_rules output_group_rules field_rules calculation_rules output_line_rules output_field_rules line_of lines_of is_at_fault is_outside is_too_many card_holds sheet_diagnostics
 header_name = refl
 
 header_without_name : found ((put 20 (codes "ANY") (put 6 (codes "H") (blank_card))) ∷ cards_file ∷ print_file ∷ record_card ∷ text_field ∷ detail ∷ text_out ∷ []) ≡ []
-unfolding code_page breaks_some_rule device_of ebcdic reserved_names longest_record digits_number is_word text_of constant_text goes_on kind_of rule_fault header_rules file_rules record_rules group_rules field_rules calculation_rules output_line_rules output_field_rules line_of lines_of is_at_fault is_outside is_too_many card_holds sheet_diagnostics
+unfolding code_page faults_of device_of ebcdic reserved_names longest_record digits_number is_word text_of constant_text goes_on kind_of rule_fault header_rules file_rules record_rules record_group_rules output_group_rules field_rules calculation_rules output_line_rules output_field_rules line_of lines_of is_at_fault is_outside is_too_many card_holds sheet_diagnostics
 header_without_name = refl
 
 file_type : found (header ∷ (put 40 (codes "MFCU1") (put 26 (codes "96") (put 19 (codes "F") (put 15 (codes "UP") (put 7 (codes "CARDS") (put 6 (codes "F") (blank_card))))))) ∷ print_file ∷ record_card ∷ text_field ∷ detail ∷ text_out ∷ []) ≡ (4, 2) ∷ []
-unfolding code_page breaks_some_rule device_of ebcdic reserved_names longest_record digits_number is_word text_of constant_text goes_on kind_of rule_fault header_rules file_rules record_rules group_rules field_rules calculation_rules output_line_rules output_field_rules line_of lines_of is_at_fault is_outside is_too_many card_holds sheet_diagnostics
+unfolding code_page faults_of device_of ebcdic reserved_names longest_record digits_number is_word text_of constant_text goes_on kind_of rule_fault header_rules file_rules record_rules record_group_rules output_group_rules field_rules calculation_rules output_line_rules output_field_rules line_of lines_of is_at_fault is_outside is_too_many card_holds sheet_diagnostics
 file_type = refl
 
 file_name : found (header ∷ (put 40 (codes "MFCU1") (put 26 (codes "96") (put 19 (codes "F") (put 15 (codes "IP") (put 8 (codes "CARDS") (put 6 (codes "F") (blank_card))))))) ∷ print_file ∷ record_card ∷ text_field ∷ detail ∷ text_out ∷ []) ≡ (4, 3) ∷ []
-unfolding code_page breaks_some_rule device_of ebcdic reserved_names longest_record digits_number is_word text_of constant_text goes_on kind_of rule_fault header_rules file_rules record_rules group_rules field_rules calculation_rules output_line_rules output_field_rules line_of lines_of is_at_fault is_outside is_too_many card_holds sheet_diagnostics
+unfolding code_page faults_of device_of ebcdic reserved_names longest_record digits_number is_word text_of constant_text goes_on kind_of rule_fault header_rules file_rules record_rules record_group_rules output_group_rules field_rules calculation_rules output_line_rules output_field_rules line_of lines_of is_at_fault is_outside is_too_many card_holds sheet_diagnostics
 file_name = refl
 
 secondary : found (header ∷ (put 40 (codes "MFCU1") (put 26 (codes "96") (put 19 (codes "F") (put 15 (codes "IS") (put 7 (codes "CARDS") (put 6 (codes "F") (blank_card))))))) ∷ print_file ∷ record_card ∷ text_field ∷ detail ∷ text_out ∷ []) ≡ (4, 2) ∷ []
-unfolding code_page breaks_some_rule device_of ebcdic reserved_names longest_record digits_number is_word text_of constant_text goes_on kind_of rule_fault header_rules file_rules record_rules group_rules field_rules calculation_rules output_line_rules output_field_rules line_of lines_of is_at_fault is_outside is_too_many card_holds sheet_diagnostics
+unfolding code_page faults_of device_of ebcdic reserved_names longest_record digits_number is_word text_of constant_text goes_on kind_of rule_fault header_rules file_rules record_rules record_group_rules output_group_rules field_rules calculation_rules output_line_rules output_field_rules line_of lines_of is_at_fault is_outside is_too_many card_holds sheet_diagnostics
 secondary = refl
 
 end_with_primary : found (header ∷ (put 40 (codes "MFCU1") (put 26 (codes "96") (put 19 (codes "F") (put 15 (codes "IPE") (put 7 (codes "CARDS") (put 6 (codes "F") (blank_card))))))) ∷ print_file ∷ record_card ∷ text_field ∷ detail ∷ text_out ∷ []) ≡ []
-unfolding code_page breaks_some_rule device_of ebcdic reserved_names longest_record digits_number is_word text_of constant_text goes_on kind_of rule_fault header_rules file_rules record_rules group_rules field_rules calculation_rules output_line_rules output_field_rules line_of lines_of is_at_fault is_outside is_too_many card_holds sheet_diagnostics
+unfolding code_page faults_of device_of ebcdic reserved_names longest_record digits_number is_word text_of constant_text goes_on kind_of rule_fault header_rules file_rules record_rules record_group_rules output_group_rules field_rules calculation_rules output_line_rules output_field_rules line_of lines_of is_at_fault is_outside is_too_many card_holds sheet_diagnostics
 end_with_primary = refl
 
 end_without_primary : found (header ∷ cards_file ∷ (put 40 (codes "PRINTER") (put 25 (codes "132") (put 19 (codes "F") (put 17 (codes "E") (put 15 (codes "O") (put 7 (codes "PRINT") (put 6 (codes "F") (blank_card)))))))) ∷ record_card ∷ text_field ∷ detail ∷ text_out ∷ []) ≡ (5, 2) ∷ []
-unfolding code_page breaks_some_rule device_of ebcdic reserved_names longest_record digits_number is_word text_of constant_text goes_on kind_of rule_fault header_rules file_rules record_rules group_rules field_rules calculation_rules output_line_rules output_field_rules line_of lines_of is_at_fault is_outside is_too_many card_holds sheet_diagnostics
+unfolding code_page faults_of device_of ebcdic reserved_names longest_record digits_number is_word text_of constant_text goes_on kind_of rule_fault header_rules file_rules record_rules record_group_rules output_group_rules field_rules calculation_rules output_line_rules output_field_rules line_of lines_of is_at_fault is_outside is_too_many card_holds sheet_diagnostics
 end_without_primary = refl
 
 card_too_long : found (header ∷ (put 40 (codes "MFCU1") (put 26 (codes "97") (put 19 (codes "F") (put 15 (codes "IP") (put 7 (codes "CARDS") (put 6 (codes "F") (blank_card))))))) ∷ print_file ∷ record_card ∷ text_field ∷ detail ∷ text_out ∷ []) ≡ (4, 4) ∷ []
-unfolding code_page breaks_some_rule device_of ebcdic reserved_names longest_record digits_number is_word text_of constant_text goes_on kind_of rule_fault header_rules file_rules record_rules group_rules field_rules calculation_rules output_line_rules output_field_rules line_of lines_of is_at_fault is_outside is_too_many card_holds sheet_diagnostics
+unfolding code_page faults_of device_of ebcdic reserved_names longest_record digits_number is_word text_of constant_text goes_on kind_of rule_fault header_rules file_rules record_rules record_group_rules output_group_rules field_rules calculation_rules output_line_rules output_field_rules line_of lines_of is_at_fault is_outside is_too_many card_holds sheet_diagnostics
 card_too_long = refl
 
 print_too_long : found (header ∷ cards_file ∷ (put 40 (codes "PRINTER") (put 25 (codes "133") (put 19 (codes "F") (put 15 (codes "O") (put 7 (codes "PRINT") (put 6 (codes "F") (blank_card))))))) ∷ record_card ∷ text_field ∷ detail ∷ text_out ∷ []) ≡ (5, 4) ∷ []
-unfolding code_page breaks_some_rule device_of ebcdic reserved_names longest_record digits_number is_word text_of constant_text goes_on kind_of rule_fault header_rules file_rules record_rules group_rules field_rules calculation_rules output_line_rules output_field_rules line_of lines_of is_at_fault is_outside is_too_many card_holds sheet_diagnostics
+unfolding code_page faults_of device_of ebcdic reserved_names longest_record digits_number is_word text_of constant_text goes_on kind_of rule_fault header_rules file_rules record_rules record_group_rules output_group_rules field_rules calculation_rules output_line_rules output_field_rules line_of lines_of is_at_fault is_outside is_too_many card_holds sheet_diagnostics
 print_too_long = refl
 
 no_record_length : found (header ∷ cards_file ∷ (put 40 (codes "PRINTER") (put 19 (codes "F") (put 15 (codes "O") (put 7 (codes "PRINT") (put 6 (codes "F") (blank_card)))))) ∷ record_card ∷ text_field ∷ detail ∷ text_out ∷ []) ≡ (5, 4) ∷ []
-unfolding code_page breaks_some_rule device_of ebcdic reserved_names longest_record digits_number is_word text_of constant_text goes_on kind_of rule_fault header_rules file_rules record_rules group_rules field_rules calculation_rules output_line_rules output_field_rules line_of lines_of is_at_fault is_outside is_too_many card_holds sheet_diagnostics
+unfolding code_page faults_of device_of ebcdic reserved_names longest_record digits_number is_word text_of constant_text goes_on kind_of rule_fault header_rules file_rules record_rules record_group_rules output_group_rules field_rules calculation_rules output_line_rules output_field_rules line_of lines_of is_at_fault is_outside is_too_many card_holds sheet_diagnostics
 no_record_length = refl
 
 block_length : found (header ∷ cards_file ∷ (put 40 (codes "PRINTER") (put 25 (codes "132") (put 21 (codes "1X2") (put 19 (codes "F") (put 15 (codes "O") (put 7 (codes "PRINT") (put 6 (codes "F") (blank_card)))))))) ∷ record_card ∷ text_field ∷ detail ∷ text_out ∷ []) ≡ (5, 4) ∷ []
-unfolding code_page breaks_some_rule device_of ebcdic reserved_names longest_record digits_number is_word text_of constant_text goes_on kind_of rule_fault header_rules file_rules record_rules group_rules field_rules calculation_rules output_line_rules output_field_rules line_of lines_of is_at_fault is_outside is_too_many card_holds sheet_diagnostics
+unfolding code_page faults_of device_of ebcdic reserved_names longest_record digits_number is_word text_of constant_text goes_on kind_of rule_fault header_rules file_rules record_rules record_group_rules output_group_rules field_rules calculation_rules output_line_rules output_field_rules line_of lines_of is_at_fault is_outside is_too_many card_holds sheet_diagnostics
 block_length = refl
 
 disk : found (header ∷ (put 40 (codes "DISK") (put 26 (codes "96") (put 19 (codes "F") (put 15 (codes "IP") (put 7 (codes "CARDS") (put 6 (codes "F") (blank_card))))))) ∷ print_file ∷ record_card ∷ text_field ∷ detail ∷ text_out ∷ []) ≡ (4, 2) ∷ []
-unfolding code_page breaks_some_rule device_of ebcdic reserved_names longest_record digits_number is_word text_of constant_text goes_on kind_of rule_fault header_rules file_rules record_rules group_rules field_rules calculation_rules output_line_rules output_field_rules line_of lines_of is_at_fault is_outside is_too_many card_holds sheet_diagnostics
+unfolding code_page faults_of device_of ebcdic reserved_names longest_record digits_number is_word text_of constant_text goes_on kind_of rule_fault header_rules file_rules record_rules record_group_rules output_group_rules field_rules calculation_rules output_line_rules output_field_rules line_of lines_of is_at_fault is_outside is_too_many card_holds sheet_diagnostics
 disk = refl
 
 overflow_unbuilt : found (header ∷ cards_file ∷ (put 40 (codes "PRINTER") (put 33 (codes "OA") (put 25 (codes "132") (put 19 (codes "F") (put 15 (codes "O") (put 7 (codes "PRINT") (put 6 (codes "F") (blank_card)))))))) ∷ record_card ∷ text_field ∷ detail ∷ text_out ∷ []) ≡ (5, 2) ∷ []
-unfolding code_page breaks_some_rule device_of ebcdic reserved_names longest_record digits_number is_word text_of constant_text goes_on kind_of rule_fault header_rules file_rules record_rules group_rules field_rules calculation_rules output_line_rules output_field_rules line_of lines_of is_at_fault is_outside is_too_many card_holds sheet_diagnostics
+unfolding code_page faults_of device_of ebcdic reserved_names longest_record digits_number is_word text_of constant_text goes_on kind_of rule_fault header_rules file_rules record_rules record_group_rules output_group_rules field_rules calculation_rules output_line_rules output_field_rules line_of lines_of is_at_fault is_outside is_too_many card_holds sheet_diagnostics
 overflow_unbuilt = refl
 
 print_switched : found (header ∷ cards_file ∷ (put 40 (codes "PRINTER") (put 71 (codes "U8") (put 25 (codes "132") (put 19 (codes "F") (put 15 (codes "O") (put 7 (codes "PRINT") (put 6 (codes "F") (blank_card)))))))) ∷ record_card ∷ text_field ∷ detail ∷ text_out ∷ []) ≡ []
-unfolding code_page breaks_some_rule device_of ebcdic reserved_names longest_record digits_number is_word text_of constant_text goes_on kind_of rule_fault header_rules file_rules record_rules group_rules field_rules calculation_rules output_line_rules output_field_rules line_of lines_of is_at_fault is_outside is_too_many card_holds sheet_diagnostics
+unfolding code_page faults_of device_of ebcdic reserved_names longest_record digits_number is_word text_of constant_text goes_on kind_of rule_fault header_rules file_rules record_rules record_group_rules output_group_rules field_rules calculation_rules output_line_rules output_field_rules line_of lines_of is_at_fault is_outside is_too_many card_holds sheet_diagnostics
 print_switched = refl
 
 print_switch_past_last : found (header ∷ cards_file ∷ (put 40 (codes "PRINTER") (put 71 (codes "U9") (put 25 (codes "132") (put 19 (codes "F") (put 15 (codes "O") (put 7 (codes "PRINT") (put 6 (codes "F") (blank_card)))))))) ∷ record_card ∷ text_field ∷ detail ∷ text_out ∷ []) ≡ (5, 2) ∷ []
-unfolding code_page breaks_some_rule device_of ebcdic reserved_names longest_record digits_number is_word text_of constant_text goes_on kind_of rule_fault header_rules file_rules record_rules group_rules field_rules calculation_rules output_line_rules output_field_rules line_of lines_of is_at_fault is_outside is_too_many card_holds sheet_diagnostics
+unfolding code_page faults_of device_of ebcdic reserved_names longest_record digits_number is_word text_of constant_text goes_on kind_of rule_fault header_rules file_rules record_rules record_group_rules output_group_rules field_rules calculation_rules output_line_rules output_field_rules line_of lines_of is_at_fault is_outside is_too_many card_holds sheet_diagnostics
 print_switch_past_last = refl
 
 print_switch_signed : found (header ∷ cards_file ∷ (put 40 (codes "PRINTER") (put 71 (codes "NU") (put 25 (codes "132") (put 19 (codes "F") (put 15 (codes "O") (put 7 (codes "PRINT") (put 6 (codes "F") (blank_card)))))))) ∷ record_card ∷ text_field ∷ detail ∷ text_out ∷ []) ≡ (5, 2) ∷ []
-unfolding code_page breaks_some_rule device_of ebcdic reserved_names longest_record digits_number is_word text_of constant_text goes_on kind_of rule_fault header_rules file_rules record_rules group_rules field_rules calculation_rules output_line_rules output_field_rules line_of lines_of is_at_fault is_outside is_too_many card_holds sheet_diagnostics
+unfolding code_page faults_of device_of ebcdic reserved_names longest_record digits_number is_word text_of constant_text goes_on kind_of rule_fault header_rules file_rules record_rules record_group_rules output_group_rules field_rules calculation_rules output_line_rules output_field_rules line_of lines_of is_at_fault is_outside is_too_many card_holds sheet_diagnostics
 print_switch_signed = refl
 
 -- a file card that is a comment defines nothing
 file_commented_out : found (header ∷ (put 40 (codes "MFCU1") (put 26 (codes "XX") (put 15 (codes "IP") (put 7 (codes "*X") (put 6 (codes "F") (blank_card)))))) ∷ print_file ∷ record_card ∷ text_field ∷ detail ∷ text_out ∷ []) ≡ []
-unfolding code_page breaks_some_rule device_of ebcdic reserved_names longest_record digits_number is_word text_of constant_text goes_on kind_of rule_fault header_rules file_rules record_rules group_rules field_rules calculation_rules output_line_rules output_field_rules line_of lines_of is_at_fault is_outside is_too_many card_holds sheet_diagnostics
+unfolding code_page faults_of device_of ebcdic reserved_names longest_record digits_number is_word text_of constant_text goes_on kind_of rule_fault header_rules file_rules record_rules record_group_rules output_group_rules field_rules calculation_rules output_line_rules output_field_rules line_of lines_of is_at_fault is_outside is_too_many card_holds sheet_diagnostics
 file_commented_out = refl
 
 two_three_four_together : found (header ∷ (put 40 (codes "MFCU1") (put 26 (codes "XX") (put 15 (codes "IP") (put 7 (codes "1X") (put 6 (codes "F") (blank_card)))))) ∷ print_file ∷ record_card ∷ text_field ∷ detail ∷ text_out ∷ []) ≡ (4, 2) ∷ (4, 3) ∷ (4, 4) ∷ []
-unfolding code_page breaks_some_rule device_of ebcdic reserved_names longest_record digits_number is_word text_of constant_text goes_on kind_of rule_fault header_rules file_rules record_rules group_rules field_rules calculation_rules output_line_rules output_field_rules line_of lines_of is_at_fault is_outside is_too_many card_holds sheet_diagnostics
+unfolding code_page faults_of device_of ebcdic reserved_names longest_record digits_number is_word text_of constant_text goes_on kind_of rule_fault header_rules file_rules record_rules record_group_rules output_group_rules field_rules calculation_rules output_line_rules output_field_rules line_of lines_of is_at_fault is_outside is_too_many card_holds sheet_diagnostics
 two_three_four_together = refl
 
 second_record : found (header ∷ cards_file ∷ print_file ∷ record_card ∷ text_field ∷ (put 19 (codes "02") (put 15 (codes "AA") (put 7 (codes "CARDS") (put 6 (codes "I") (blank_card))))) ∷ detail ∷ text_out ∷ []) ≡ (8, 2) ∷ []
-unfolding code_page breaks_some_rule device_of ebcdic reserved_names longest_record digits_number is_word text_of constant_text goes_on kind_of rule_fault header_rules file_rules record_rules group_rules field_rules calculation_rules output_line_rules output_field_rules line_of lines_of is_at_fault is_outside is_too_many card_holds sheet_diagnostics
+unfolding code_page faults_of device_of ebcdic reserved_names longest_record digits_number is_word text_of constant_text goes_on kind_of rule_fault header_rules file_rules record_rules record_group_rules output_group_rules field_rules calculation_rules output_line_rules output_field_rules line_of lines_of is_at_fault is_outside is_too_many card_holds sheet_diagnostics
 second_record = refl
 
 sequence : found (header ∷ cards_file ∷ print_file ∷ (put 19 (codes "01") (put 15 (codes "01") (put 7 (codes "CARDS") (put 6 (codes "I") (blank_card))))) ∷ text_field ∷ detail ∷ text_out ∷ []) ≡ (6, 2) ∷ []
-unfolding code_page breaks_some_rule device_of ebcdic reserved_names longest_record digits_number is_word text_of constant_text goes_on kind_of rule_fault header_rules file_rules record_rules group_rules field_rules calculation_rules output_line_rules output_field_rules line_of lines_of is_at_fault is_outside is_too_many card_holds sheet_diagnostics
+unfolding code_page faults_of device_of ebcdic reserved_names longest_record digits_number is_word text_of constant_text goes_on kind_of rule_fault header_rules file_rules record_rules record_group_rules output_group_rules field_rules calculation_rules output_line_rules output_field_rules line_of lines_of is_at_fault is_outside is_too_many card_holds sheet_diagnostics
 sequence = refl
 
 indicator : found (header ∷ cards_file ∷ print_file ∷ (put 19 (codes "00") (put 15 (codes "AA") (put 7 (codes "CARDS") (put 6 (codes "I") (blank_card))))) ∷ text_field ∷ detail ∷ text_out ∷ []) ≡ (6, 2) ∷ []
-unfolding code_page breaks_some_rule device_of ebcdic reserved_names longest_record digits_number is_word text_of constant_text goes_on kind_of rule_fault header_rules file_rules record_rules group_rules field_rules calculation_rules output_line_rules output_field_rules line_of lines_of is_at_fault is_outside is_too_many card_holds sheet_diagnostics
+unfolding code_page faults_of device_of ebcdic reserved_names longest_record digits_number is_word text_of constant_text goes_on kind_of rule_fault header_rules file_rules record_rules record_group_rules output_group_rules field_rules calculation_rules output_line_rules output_field_rules line_of lines_of is_at_fault is_outside is_too_many card_holds sheet_diagnostics
 indicator = refl
 
 codes_unbuilt : found (header ∷ cards_file ∷ print_file ∷ (put 26 (codes "CA") (put 24 (codes "1") (put 19 (codes "01") (put 15 (codes "AA") (put 7 (codes "CARDS") (put 6 (codes "I") (blank_card))))))) ∷ text_field ∷ detail ∷ text_out ∷ []) ≡ (6, 2) ∷ []
-unfolding code_page breaks_some_rule device_of ebcdic reserved_names longest_record digits_number is_word text_of constant_text goes_on kind_of rule_fault header_rules file_rules record_rules group_rules field_rules calculation_rules output_line_rules output_field_rules line_of lines_of is_at_fault is_outside is_too_many card_holds sheet_diagnostics
+unfolding code_page faults_of device_of ebcdic reserved_names longest_record digits_number is_word text_of constant_text goes_on kind_of rule_fault header_rules file_rules record_rules record_group_rules output_group_rules field_rules calculation_rules output_line_rules output_field_rules line_of lines_of is_at_fault is_outside is_too_many card_holds sheet_diagnostics
 codes_unbuilt = refl
 
 and_line : found (header ∷ cards_file ∷ print_file ∷ record_card ∷ (put 26 (codes "CA") (put 24 (codes "1") (put 14 (codes "AND") (put 6 (codes "I") (blank_card))))) ∷ text_field ∷ detail ∷ text_out ∷ []) ≡ (7, 2) ∷ []
-unfolding code_page breaks_some_rule device_of ebcdic reserved_names longest_record digits_number is_word text_of constant_text goes_on kind_of rule_fault header_rules file_rules record_rules group_rules field_rules calculation_rules output_line_rules output_field_rules line_of lines_of is_at_fault is_outside is_too_many card_holds sheet_diagnostics
+unfolding code_page faults_of device_of ebcdic reserved_names longest_record digits_number is_word text_of constant_text goes_on kind_of rule_fault header_rules file_rules record_rules record_group_rules output_group_rules field_rules calculation_rules output_line_rules output_field_rules line_of lines_of is_at_fault is_outside is_too_many card_holds sheet_diagnostics
 and_line = refl
 
 shifted_name : found (header ∷ cards_file ∷ print_file ∷ (put 19 (codes "01") (put 15 (codes "AA") (put 14 (codes "X") (put 6 (codes "I") (blank_card))))) ∷ text_field ∷ detail ∷ text_out ∷ []) ≡ (6, 3) ∷ []
-unfolding code_page breaks_some_rule device_of ebcdic reserved_names longest_record digits_number is_word text_of constant_text goes_on kind_of rule_fault header_rules file_rules record_rules group_rules field_rules calculation_rules output_line_rules output_field_rules line_of lines_of is_at_fault is_outside is_too_many card_holds sheet_diagnostics
+unfolding code_page faults_of device_of ebcdic reserved_names longest_record digits_number is_word text_of constant_text goes_on kind_of rule_fault header_rules file_rules record_rules record_group_rules output_group_rules field_rules calculation_rules output_line_rules output_field_rules line_of lines_of is_at_fault is_outside is_too_many card_holds sheet_diagnostics
 shifted_name = refl
 
 field_past_record : found (header ∷ cards_file ∷ print_file ∷ record_card ∷ (put 53 (codes "TEXT") (put 50 (codes "97") (put 47 (codes "1") (put 6 (codes "I") (blank_card))))) ∷ detail ∷ text_out ∷ []) ≡ (7, 4) ∷ []
-unfolding code_page breaks_some_rule device_of ebcdic reserved_names longest_record digits_number is_word text_of constant_text goes_on kind_of rule_fault header_rules file_rules record_rules group_rules field_rules calculation_rules output_line_rules output_field_rules line_of lines_of is_at_fault is_outside is_too_many card_holds sheet_diagnostics
+unfolding code_page faults_of device_of ebcdic reserved_names longest_record digits_number is_word text_of constant_text goes_on kind_of rule_fault header_rules file_rules record_rules record_group_rules output_group_rules field_rules calculation_rules output_line_rules output_field_rules line_of lines_of is_at_fault is_outside is_too_many card_holds sheet_diagnostics
 field_past_record = refl
 
 field_to_the_end : found (header ∷ cards_file ∷ print_file ∷ record_card ∷ (put 53 (codes "TEXT") (put 50 (codes "96") (put 47 (codes "1") (put 6 (codes "I") (blank_card))))) ∷ detail ∷ text_out ∷ []) ≡ []
-unfolding code_page breaks_some_rule device_of ebcdic reserved_names longest_record digits_number is_word text_of constant_text goes_on kind_of rule_fault header_rules file_rules record_rules group_rules field_rules calculation_rules output_line_rules output_field_rules line_of lines_of is_at_fault is_outside is_too_many card_holds sheet_diagnostics
+unfolding code_page faults_of device_of ebcdic reserved_names longest_record digits_number is_word text_of constant_text goes_on kind_of rule_fault header_rules file_rules record_rules record_group_rules output_group_rules field_rules calculation_rules output_line_rules output_field_rules line_of lines_of is_at_fault is_outside is_too_many card_holds sheet_diagnostics
 field_to_the_end = refl
 
 field_reversed : found (header ∷ cards_file ∷ print_file ∷ record_card ∷ (put 53 (codes "TEXT") (put 51 (codes "3") (put 47 (codes "4") (put 6 (codes "I") (blank_card))))) ∷ detail ∷ text_out ∷ []) ≡ (7, 4) ∷ []
-unfolding code_page breaks_some_rule device_of ebcdic reserved_names longest_record digits_number is_word text_of constant_text goes_on kind_of rule_fault header_rules file_rules record_rules group_rules field_rules calculation_rules output_line_rules output_field_rules line_of lines_of is_at_fault is_outside is_too_many card_holds sheet_diagnostics
+unfolding code_page faults_of device_of ebcdic reserved_names longest_record digits_number is_word text_of constant_text goes_on kind_of rule_fault header_rules file_rules record_rules record_group_rules output_group_rules field_rules calculation_rules output_line_rules output_field_rules line_of lines_of is_at_fault is_outside is_too_many card_holds sheet_diagnostics
 field_reversed = refl
 
 -- behind a record line at fault the record's length isn't known
 field_behind_fault : found ((header) ∷ (cards_file) ∷ (print_file) ∷ (put 19 (codes "XX") (put 15 (codes "AA") (put 7 (codes "CARDS") (put 6 (codes "I") (blank_card))))) ∷ (put 53 (codes "TEXT") (put 49 (codes "100") (put 45 (codes "100") (put 6 (codes "I") (blank_card))))) ∷ (detail) ∷ (text_out) ∷ []) ≡ (6, 2) ∷ []
-unfolding code_page breaks_some_rule device_of ebcdic reserved_names longest_record digits_number is_word text_of constant_text goes_on kind_of rule_fault header_rules file_rules record_rules group_rules field_rules calculation_rules output_line_rules output_field_rules line_of lines_of is_at_fault is_outside is_too_many card_holds sheet_diagnostics
+unfolding code_page faults_of device_of ebcdic reserved_names longest_record digits_number is_word text_of constant_text goes_on kind_of rule_fault header_rules file_rules record_rules record_group_rules output_group_rules field_rules calculation_rules output_line_rules output_field_rules line_of lines_of is_at_fault is_outside is_too_many card_holds sheet_diagnostics
 field_behind_fault = refl
 
 field_too_long : found ((header) ∷ (put 19 (codes "01") (put 15 (codes "AA") (put 7 (codes "NOFILE") (put 6 (codes "I") (blank_card))))) ∷ (put 53 (codes "TEXT") (put 49 (codes "256") (put 47 (codes "1") (put 6 (codes "I") (blank_card))))) ∷ (put 53 (codes "TEXT") (put 49 (codes "257") (put 47 (codes "1") (put 6 (codes "I") (blank_card))))) ∷ []) ≡ (6, 4) ∷ []
-unfolding code_page breaks_some_rule device_of ebcdic reserved_names longest_record digits_number is_word text_of constant_text goes_on kind_of rule_fault header_rules file_rules record_rules group_rules field_rules calculation_rules output_line_rules output_field_rules line_of lines_of is_at_fault is_outside is_too_many card_holds sheet_diagnostics
+unfolding code_page faults_of device_of ebcdic reserved_names longest_record digits_number is_word text_of constant_text goes_on kind_of rule_fault header_rules file_rules record_rules record_group_rules output_group_rules field_rules calculation_rules output_line_rules output_field_rules line_of lines_of is_at_fault is_outside is_too_many card_holds sheet_diagnostics
 field_too_long = refl
 
 field_without_name : found (header ∷ cards_file ∷ print_file ∷ record_card ∷ (put 51 (codes "3") (put 47 (codes "1") (put 6 (codes "I") (blank_card)))) ∷ detail ∷ text_out ∷ []) ≡ (7, 3) ∷ []
-unfolding code_page breaks_some_rule device_of ebcdic reserved_names longest_record digits_number is_word text_of constant_text goes_on kind_of rule_fault header_rules file_rules record_rules group_rules field_rules calculation_rules output_line_rules output_field_rules line_of lines_of is_at_fault is_outside is_too_many card_holds sheet_diagnostics
+unfolding code_page faults_of device_of ebcdic reserved_names longest_record digits_number is_word text_of constant_text goes_on kind_of rule_fault header_rules file_rules record_rules record_group_rules output_group_rules field_rules calculation_rules output_line_rules output_field_rules line_of lines_of is_at_fault is_outside is_too_many card_holds sheet_diagnostics
 field_without_name = refl
 
 numeric_unbuilt : found (header ∷ cards_file ∷ print_file ∷ record_card ∷ (put 53 (codes "TEXT") (put 52 (codes "0") (put 51 (codes "3") (put 47 (codes "1") (put 6 (codes "I") (blank_card)))))) ∷ detail ∷ text_out ∷ []) ≡ (7, 2) ∷ []
-unfolding code_page breaks_some_rule device_of ebcdic reserved_names longest_record digits_number is_word text_of constant_text goes_on kind_of rule_fault header_rules file_rules record_rules group_rules field_rules calculation_rules output_line_rules output_field_rules line_of lines_of is_at_fault is_outside is_too_many card_holds sheet_diagnostics
+unfolding code_page faults_of device_of ebcdic reserved_names longest_record digits_number is_word text_of constant_text goes_on kind_of rule_fault header_rules file_rules record_rules record_group_rules output_group_rules field_rules calculation_rules output_line_rules output_field_rules line_of lines_of is_at_fault is_outside is_too_many card_holds sheet_diagnostics
 numeric_unbuilt = refl
 
 calculation_unbuilt : found (header ∷ cards_file ∷ print_file ∷ record_card ∷ text_field ∷ (put 28 (codes "EXCPT") (put 6 (codes "C") (blank_card))) ∷ detail ∷ text_out ∷ []) ≡ (8, 2) ∷ []
-unfolding code_page breaks_some_rule device_of ebcdic reserved_names longest_record digits_number is_word text_of constant_text goes_on kind_of rule_fault header_rules file_rules record_rules group_rules field_rules calculation_rules output_line_rules output_field_rules line_of lines_of is_at_fault is_outside is_too_many card_holds sheet_diagnostics
+unfolding code_page faults_of device_of ebcdic reserved_names longest_record digits_number is_word text_of constant_text goes_on kind_of rule_fault header_rules file_rules record_rules record_group_rules output_group_rules field_rules calculation_rules output_line_rules output_field_rules line_of lines_of is_at_fault is_outside is_too_many card_holds sheet_diagnostics
 calculation_unbuilt = refl
 
 line_without_file : found (header ∷ cards_file ∷ print_file ∷ record_card ∷ text_field ∷ (put 24 (codes "01") (put 15 (codes "D") (put 6 (codes "O") (blank_card)))) ∷ text_out ∷ []) ≡ (8, 3) ∷ []
-unfolding code_page breaks_some_rule device_of ebcdic reserved_names longest_record digits_number is_word text_of constant_text goes_on kind_of rule_fault header_rules file_rules record_rules group_rules field_rules calculation_rules output_line_rules output_field_rules line_of lines_of is_at_fault is_outside is_too_many card_holds sheet_diagnostics
+unfolding code_page faults_of device_of ebcdic reserved_names longest_record digits_number is_word text_of constant_text goes_on kind_of rule_fault header_rules file_rules record_rules record_group_rules output_group_rules field_rules calculation_rules output_line_rules output_field_rules line_of lines_of is_at_fault is_outside is_too_many card_holds sheet_diagnostics
 line_without_file = refl
 
 further_line_without_file : found (header ∷ cards_file ∷ print_file ∷ record_card ∷ text_field ∷ detail ∷ text_out ∷ (put 23 (codes "N02") (put 15 (codes "D") (put 6 (codes "O") (blank_card)))) ∷ []) ≡ []
-unfolding code_page breaks_some_rule device_of ebcdic reserved_names longest_record digits_number is_word text_of constant_text goes_on kind_of rule_fault header_rules file_rules record_rules group_rules field_rules calculation_rules output_line_rules output_field_rules line_of lines_of is_at_fault is_outside is_too_many card_holds sheet_diagnostics
+unfolding code_page faults_of device_of ebcdic reserved_names longest_record digits_number is_word text_of constant_text goes_on kind_of rule_fault header_rules file_rules record_rules record_group_rules output_group_rules field_rules calculation_rules output_line_rules output_field_rules line_of lines_of is_at_fault is_outside is_too_many card_holds sheet_diagnostics
 further_line_without_file = refl
 
 line_type : found (header ∷ cards_file ∷ print_file ∷ record_card ∷ text_field ∷ (put 24 (codes "01") (put 15 (codes "H") (put 7 (codes "PRINT") (put 6 (codes "O") (blank_card))))) ∷ text_out ∷ []) ≡ (8, 2) ∷ []
-unfolding code_page breaks_some_rule device_of ebcdic reserved_names longest_record digits_number is_word text_of constant_text goes_on kind_of rule_fault header_rules file_rules record_rules group_rules field_rules calculation_rules output_line_rules output_field_rules line_of lines_of is_at_fault is_outside is_too_many card_holds sheet_diagnostics
+unfolding code_page faults_of device_of ebcdic reserved_names longest_record digits_number is_word text_of constant_text goes_on kind_of rule_fault header_rules file_rules record_rules record_group_rules output_group_rules field_rules calculation_rules output_line_rules output_field_rules line_of lines_of is_at_fault is_outside is_too_many card_holds sheet_diagnostics
 line_type = refl
 
 space_unbuilt : found (header ∷ cards_file ∷ print_file ∷ record_card ∷ text_field ∷ (put 24 (codes "01") (put 18 (codes "1") (put 15 (codes "D") (put 7 (codes "PRINT") (put 6 (codes "O") (blank_card)))))) ∷ text_out ∷ []) ≡ (8, 2) ∷ []
-unfolding code_page breaks_some_rule device_of ebcdic reserved_names longest_record digits_number is_word text_of constant_text goes_on kind_of rule_fault header_rules file_rules record_rules group_rules field_rules calculation_rules output_line_rules output_field_rules line_of lines_of is_at_fault is_outside is_too_many card_holds sheet_diagnostics
+unfolding code_page faults_of device_of ebcdic reserved_names longest_record digits_number is_word text_of constant_text goes_on kind_of rule_fault header_rules file_rules record_rules record_group_rules output_group_rules field_rules calculation_rules output_line_rules output_field_rules line_of lines_of is_at_fault is_outside is_too_many card_holds sheet_diagnostics
 space_unbuilt = refl
 
 level_unbuilt : found (header ∷ cards_file ∷ print_file ∷ record_card ∷ text_field ∷ (put 24 (codes "L1") (put 15 (codes "D") (put 7 (codes "PRINT") (put 6 (codes "O") (blank_card))))) ∷ text_out ∷ []) ≡ (8, 2) ∷ []
-unfolding code_page breaks_some_rule device_of ebcdic reserved_names longest_record digits_number is_word text_of constant_text goes_on kind_of rule_fault header_rules file_rules record_rules group_rules field_rules calculation_rules output_line_rules output_field_rules line_of lines_of is_at_fault is_outside is_too_many card_holds sheet_diagnostics
+unfolding code_page faults_of device_of ebcdic reserved_names longest_record digits_number is_word text_of constant_text goes_on kind_of rule_fault header_rules file_rules record_rules record_group_rules output_group_rules field_rules calculation_rules output_line_rules output_field_rules line_of lines_of is_at_fault is_outside is_too_many card_holds sheet_diagnostics
 level_unbuilt = refl
 
 condition_unsigned : found (header ∷ cards_file ∷ print_file ∷ record_card ∷ text_field ∷ (put 23 (codes "X01") (put 15 (codes "D") (put 7 (codes "PRINT") (put 6 (codes "O") (blank_card))))) ∷ text_out ∷ []) ≡ (8, 2) ∷ []
-unfolding code_page breaks_some_rule device_of ebcdic reserved_names longest_record digits_number is_word text_of constant_text goes_on kind_of rule_fault header_rules file_rules record_rules group_rules field_rules calculation_rules output_line_rules output_field_rules line_of lines_of is_at_fault is_outside is_too_many card_holds sheet_diagnostics
+unfolding code_page faults_of device_of ebcdic reserved_names longest_record digits_number is_word text_of constant_text goes_on kind_of rule_fault header_rules file_rules record_rules record_group_rules output_group_rules field_rules calculation_rules output_line_rules output_field_rules line_of lines_of is_at_fault is_outside is_too_many card_holds sheet_diagnostics
 condition_unsigned = refl
 
 condition_in_third : found (header ∷ cards_file ∷ print_file ∷ record_card ∷ text_field ∷ (put 29 (codes "N99") (put 15 (codes "D") (put 7 (codes "PRINT") (put 6 (codes "O") (blank_card))))) ∷ text_out ∷ []) ≡ []
-unfolding code_page breaks_some_rule device_of ebcdic reserved_names longest_record digits_number is_word text_of constant_text goes_on kind_of rule_fault header_rules file_rules record_rules group_rules field_rules calculation_rules output_line_rules output_field_rules line_of lines_of is_at_fault is_outside is_too_many card_holds sheet_diagnostics
+unfolding code_page faults_of device_of ebcdic reserved_names longest_record digits_number is_word text_of constant_text goes_on kind_of rule_fault header_rules file_rules record_rules record_group_rules output_group_rules field_rules calculation_rules output_line_rules output_field_rules line_of lines_of is_at_fault is_outside is_too_many card_holds sheet_diagnostics
 condition_in_third = refl
 
 switch_first : found (header ∷ cards_file ∷ print_file ∷ record_card ∷ text_field ∷ (put 29 (codes "NU1") (put 15 (codes "D") (put 7 (codes "PRINT") (put 6 (codes "O") (blank_card))))) ∷ text_out ∷ []) ≡ []
-unfolding code_page breaks_some_rule device_of ebcdic reserved_names longest_record digits_number is_word text_of constant_text goes_on kind_of rule_fault header_rules file_rules record_rules group_rules field_rules calculation_rules output_line_rules output_field_rules line_of lines_of is_at_fault is_outside is_too_many card_holds sheet_diagnostics
+unfolding code_page faults_of device_of ebcdic reserved_names longest_record digits_number is_word text_of constant_text goes_on kind_of rule_fault header_rules file_rules record_rules record_group_rules output_group_rules field_rules calculation_rules output_line_rules output_field_rules line_of lines_of is_at_fault is_outside is_too_many card_holds sheet_diagnostics
 switch_first = refl
 
 switch_last : found (header ∷ cards_file ∷ print_file ∷ record_card ∷ text_field ∷ (put 29 (codes " U8") (put 15 (codes "D") (put 7 (codes "PRINT") (put 6 (codes "O") (blank_card))))) ∷ text_out ∷ []) ≡ []
-unfolding code_page breaks_some_rule device_of ebcdic reserved_names longest_record digits_number is_word text_of constant_text goes_on kind_of rule_fault header_rules file_rules record_rules group_rules field_rules calculation_rules output_line_rules output_field_rules line_of lines_of is_at_fault is_outside is_too_many card_holds sheet_diagnostics
+unfolding code_page faults_of device_of ebcdic reserved_names longest_record digits_number is_word text_of constant_text goes_on kind_of rule_fault header_rules file_rules record_rules record_group_rules output_group_rules field_rules calculation_rules output_line_rules output_field_rules line_of lines_of is_at_fault is_outside is_too_many card_holds sheet_diagnostics
 switch_last = refl
 
 switch_nought : found (header ∷ cards_file ∷ print_file ∷ record_card ∷ text_field ∷ (put 29 (codes " U0") (put 15 (codes "D") (put 7 (codes "PRINT") (put 6 (codes "O") (blank_card))))) ∷ text_out ∷ []) ≡ (8, 2) ∷ []
-unfolding code_page breaks_some_rule device_of ebcdic reserved_names longest_record digits_number is_word text_of constant_text goes_on kind_of rule_fault header_rules file_rules record_rules group_rules field_rules calculation_rules output_line_rules output_field_rules line_of lines_of is_at_fault is_outside is_too_many card_holds sheet_diagnostics
+unfolding code_page faults_of device_of ebcdic reserved_names longest_record digits_number is_word text_of constant_text goes_on kind_of rule_fault header_rules file_rules record_rules record_group_rules output_group_rules field_rules calculation_rules output_line_rules output_field_rules line_of lines_of is_at_fault is_outside is_too_many card_holds sheet_diagnostics
 switch_nought = refl
 
 switch_past_last : found (header ∷ cards_file ∷ print_file ∷ record_card ∷ text_field ∷ (put 29 (codes " U9") (put 15 (codes "D") (put 7 (codes "PRINT") (put 6 (codes "O") (blank_card))))) ∷ text_out ∷ []) ≡ (8, 2) ∷ []
-unfolding code_page breaks_some_rule device_of ebcdic reserved_names longest_record digits_number is_word text_of constant_text goes_on kind_of rule_fault header_rules file_rules record_rules group_rules field_rules calculation_rules output_line_rules output_field_rules line_of lines_of is_at_fault is_outside is_too_many card_holds sheet_diagnostics
+unfolding code_page faults_of device_of ebcdic reserved_names longest_record digits_number is_word text_of constant_text goes_on kind_of rule_fault header_rules file_rules record_rules record_group_rules output_group_rules field_rules calculation_rules output_line_rules output_field_rules line_of lines_of is_at_fault is_outside is_too_many card_holds sheet_diagnostics
 switch_past_last = refl
 
 constant_out : found (header ∷ cards_file ∷ print_file ∷ record_card ∷ text_field ∷ detail ∷ (put 45 (codes "'HEAD'") (put 43 (codes "4") (put 6 (codes "O") (blank_card)))) ∷ []) ≡ []
-unfolding code_page breaks_some_rule device_of ebcdic reserved_names longest_record digits_number is_word text_of constant_text goes_on kind_of rule_fault header_rules file_rules record_rules group_rules field_rules calculation_rules output_line_rules output_field_rules line_of lines_of is_at_fault is_outside is_too_many card_holds sheet_diagnostics
+unfolding code_page faults_of device_of ebcdic reserved_names longest_record digits_number is_word text_of constant_text goes_on kind_of rule_fault header_rules file_rules record_rules record_group_rules output_group_rules field_rules calculation_rules output_line_rules output_field_rules line_of lines_of is_at_fault is_outside is_too_many card_holds sheet_diagnostics
 constant_out = refl
 
 constant_too_early : found (header ∷ cards_file ∷ print_file ∷ record_card ∷ text_field ∷ detail ∷ (put 45 (codes "'HEAD'") (put 43 (codes "3") (put 6 (codes "O") (blank_card)))) ∷ []) ≡ (9, 4) ∷ []
-unfolding code_page breaks_some_rule device_of ebcdic reserved_names longest_record digits_number is_word text_of constant_text goes_on kind_of rule_fault header_rules file_rules record_rules group_rules field_rules calculation_rules output_line_rules output_field_rules line_of lines_of is_at_fault is_outside is_too_many card_holds sheet_diagnostics
+unfolding code_page faults_of device_of ebcdic reserved_names longest_record digits_number is_word text_of constant_text goes_on kind_of rule_fault header_rules file_rules record_rules record_group_rules output_group_rules field_rules calculation_rules output_line_rules output_field_rules line_of lines_of is_at_fault is_outside is_too_many card_holds sheet_diagnostics
 constant_too_early = refl
 
 apostrophe_twice : found (header ∷ cards_file ∷ print_file ∷ record_card ∷ text_field ∷ detail ∷ (put 45 (codes "'O''K'") (put 43 (codes "3") (put 6 (codes "O") (blank_card)))) ∷ []) ≡ []
-unfolding code_page breaks_some_rule device_of ebcdic reserved_names longest_record digits_number is_word text_of constant_text goes_on kind_of rule_fault header_rules file_rules record_rules group_rules field_rules calculation_rules output_line_rules output_field_rules line_of lines_of is_at_fault is_outside is_too_many card_holds sheet_diagnostics
+unfolding code_page faults_of device_of ebcdic reserved_names longest_record digits_number is_word text_of constant_text goes_on kind_of rule_fault header_rules file_rules record_rules record_group_rules output_group_rules field_rules calculation_rules output_line_rules output_field_rules line_of lines_of is_at_fault is_outside is_too_many card_holds sheet_diagnostics
 apostrophe_twice = refl
 
 constant_open : found (header ∷ cards_file ∷ print_file ∷ record_card ∷ text_field ∷ detail ∷ (put 45 (codes "'HEAD") (put 43 (codes "9") (put 6 (codes "O") (blank_card)))) ∷ []) ≡ (9, 3) ∷ []
-unfolding code_page breaks_some_rule device_of ebcdic reserved_names longest_record digits_number is_word text_of constant_text goes_on kind_of rule_fault header_rules file_rules record_rules group_rules field_rules calculation_rules output_line_rules output_field_rules line_of lines_of is_at_fault is_outside is_too_many card_holds sheet_diagnostics
+unfolding code_page faults_of device_of ebcdic reserved_names longest_record digits_number is_word text_of constant_text goes_on kind_of rule_fault header_rules file_rules record_rules record_group_rules output_group_rules field_rules calculation_rules output_line_rules output_field_rules line_of lines_of is_at_fault is_outside is_too_many card_holds sheet_diagnostics
 constant_open = refl
 
 constant_empty : found (header ∷ cards_file ∷ print_file ∷ record_card ∷ text_field ∷ detail ∷ (put 45 (codes "''") (put 43 (codes "9") (put 6 (codes "O") (blank_card)))) ∷ []) ≡ (9, 3) ∷ []
-unfolding code_page breaks_some_rule device_of ebcdic reserved_names longest_record digits_number is_word text_of constant_text goes_on kind_of rule_fault header_rules file_rules record_rules group_rules field_rules calculation_rules output_line_rules output_field_rules line_of lines_of is_at_fault is_outside is_too_many card_holds sheet_diagnostics
+unfolding code_page faults_of device_of ebcdic reserved_names longest_record digits_number is_word text_of constant_text goes_on kind_of rule_fault header_rules file_rules record_rules record_group_rules output_group_rules field_rules calculation_rules output_line_rules output_field_rules line_of lines_of is_at_fault is_outside is_too_many card_holds sheet_diagnostics
 constant_empty = refl
 
 constant_goes_on : found (header ∷ cards_file ∷ print_file ∷ record_card ∷ text_field ∷ detail ∷ (put 49 (codes "B") (put 45 (codes "'A'") (put 43 (codes "9") (put 6 (codes "O") (blank_card))))) ∷ []) ≡ (9, 3) ∷ []
-unfolding code_page breaks_some_rule device_of ebcdic reserved_names longest_record digits_number is_word text_of constant_text goes_on kind_of rule_fault header_rules file_rules record_rules group_rules field_rules calculation_rules output_line_rules output_field_rules line_of lines_of is_at_fault is_outside is_too_many card_holds sheet_diagnostics
+unfolding code_page faults_of device_of ebcdic reserved_names longest_record digits_number is_word text_of constant_text goes_on kind_of rule_fault header_rules file_rules record_rules record_group_rules output_group_rules field_rules calculation_rules output_line_rules output_field_rules line_of lines_of is_at_fault is_outside is_too_many card_holds sheet_diagnostics
 constant_goes_on = refl
 
 field_and_constant : found (header ∷ cards_file ∷ print_file ∷ record_card ∷ text_field ∷ detail ∷ (put 45 (codes "'A'") (put 43 (codes "9") (put 32 (codes "TEXT") (put 6 (codes "O") (blank_card))))) ∷ []) ≡ (9, 2) ∷ []
-unfolding code_page breaks_some_rule device_of ebcdic reserved_names longest_record digits_number is_word text_of constant_text goes_on kind_of rule_fault header_rules file_rules record_rules group_rules field_rules calculation_rules output_line_rules output_field_rules line_of lines_of is_at_fault is_outside is_too_many card_holds sheet_diagnostics
+unfolding code_page faults_of device_of ebcdic reserved_names longest_record digits_number is_word text_of constant_text goes_on kind_of rule_fault header_rules file_rules record_rules record_group_rules output_group_rules field_rules calculation_rules output_line_rules output_field_rules line_of lines_of is_at_fault is_outside is_too_many card_holds sheet_diagnostics
 field_and_constant = refl
 
 nothing_put_out : found (header ∷ cards_file ∷ print_file ∷ record_card ∷ text_field ∷ detail ∷ (put 43 (codes "9") (put 6 (codes "O") (blank_card))) ∷ []) ≡ (9, 3) ∷ []
-unfolding code_page breaks_some_rule device_of ebcdic reserved_names longest_record digits_number is_word text_of constant_text goes_on kind_of rule_fault header_rules file_rules record_rules group_rules field_rules calculation_rules output_line_rules output_field_rules line_of lines_of is_at_fault is_outside is_too_many card_holds sheet_diagnostics
+unfolding code_page faults_of device_of ebcdic reserved_names longest_record digits_number is_word text_of constant_text goes_on kind_of rule_fault header_rules file_rules record_rules record_group_rules output_group_rules field_rules calculation_rules output_line_rules output_field_rules line_of lines_of is_at_fault is_outside is_too_many card_holds sheet_diagnostics
 nothing_put_out = refl
 
 end_past_record : found (header ∷ cards_file ∷ print_file ∷ record_card ∷ text_field ∷ detail ∷ (put 41 (codes "133") (put 32 (codes "TEXT") (put 6 (codes "O") (blank_card)))) ∷ []) ≡ (9, 4) ∷ []
-unfolding code_page breaks_some_rule device_of ebcdic reserved_names longest_record digits_number is_word text_of constant_text goes_on kind_of rule_fault header_rules file_rules record_rules group_rules field_rules calculation_rules output_line_rules output_field_rules line_of lines_of is_at_fault is_outside is_too_many card_holds sheet_diagnostics
+unfolding code_page faults_of device_of ebcdic reserved_names longest_record digits_number is_word text_of constant_text goes_on kind_of rule_fault header_rules file_rules record_rules record_group_rules output_group_rules field_rules calculation_rules output_line_rules output_field_rules line_of lines_of is_at_fault is_outside is_too_many card_holds sheet_diagnostics
 end_past_record = refl
 
 end_missing : found (header ∷ cards_file ∷ print_file ∷ record_card ∷ text_field ∷ detail ∷ (put 32 (codes "TEXT") (put 6 (codes "O") (blank_card))) ∷ []) ≡ (9, 4) ∷ []
-unfolding code_page breaks_some_rule device_of ebcdic reserved_names longest_record digits_number is_word text_of constant_text goes_on kind_of rule_fault header_rules file_rules record_rules group_rules field_rules calculation_rules output_line_rules output_field_rules line_of lines_of is_at_fault is_outside is_too_many card_holds sheet_diagnostics
+unfolding code_page faults_of device_of ebcdic reserved_names longest_record digits_number is_word text_of constant_text goes_on kind_of rule_fault header_rules file_rules record_rules record_group_rules output_group_rules field_rules calculation_rules output_line_rules output_field_rules line_of lines_of is_at_fault is_outside is_too_many card_holds sheet_diagnostics
 end_missing = refl
 
 reserved : found (header ∷ cards_file ∷ print_file ∷ record_card ∷ text_field ∷ detail ∷ (put 42 (codes "10") (put 32 (codes "UDATE") (put 6 (codes "O") (blank_card)))) ∷ []) ≡ (9, 2) ∷ []
-unfolding code_page breaks_some_rule device_of ebcdic reserved_names longest_record digits_number is_word text_of constant_text goes_on kind_of rule_fault header_rules file_rules record_rules group_rules field_rules calculation_rules output_line_rules output_field_rules line_of lines_of is_at_fault is_outside is_too_many card_holds sheet_diagnostics
+unfolding code_page faults_of device_of ebcdic reserved_names longest_record digits_number is_word text_of constant_text goes_on kind_of rule_fault header_rules file_rules record_rules record_group_rules output_group_rules field_rules calculation_rules output_line_rules output_field_rules line_of lines_of is_at_fault is_outside is_too_many card_holds sheet_diagnostics
 reserved = refl
 
 edit_code_unbuilt : found (header ∷ cards_file ∷ print_file ∷ record_card ∷ text_field ∷ detail ∷ (put 42 (codes "10") (put 38 (codes "Z") (put 32 (codes "TEXT") (put 6 (codes "O") (blank_card))))) ∷ []) ≡ (9, 2) ∷ []
-unfolding code_page breaks_some_rule device_of ebcdic reserved_names longest_record digits_number is_word text_of constant_text goes_on kind_of rule_fault header_rules file_rules record_rules group_rules field_rules calculation_rules output_line_rules output_field_rules line_of lines_of is_at_fault is_outside is_too_many card_holds sheet_diagnostics
+unfolding code_page faults_of device_of ebcdic reserved_names longest_record digits_number is_word text_of constant_text goes_on kind_of rule_fault header_rules file_rules record_rules record_group_rules output_group_rules field_rules calculation_rules output_line_rules output_field_rules line_of lines_of is_at_fault is_outside is_too_many card_holds sheet_diagnostics
 edit_code_unbuilt = refl
 
 condition_of_field_unbuilt : found (header ∷ cards_file ∷ print_file ∷ record_card ∷ text_field ∷ detail ∷ (put 42 (codes "10") (put 32 (codes "TEXT") (put 24 (codes "01") (put 6 (codes "O") (blank_card))))) ∷ []) ≡ (9, 2) ∷ []
-unfolding code_page breaks_some_rule device_of ebcdic reserved_names longest_record digits_number is_word text_of constant_text goes_on kind_of rule_fault header_rules file_rules record_rules group_rules field_rules calculation_rules output_line_rules output_field_rules line_of lines_of is_at_fault is_outside is_too_many card_holds sheet_diagnostics
+unfolding code_page faults_of device_of ebcdic reserved_names longest_record digits_number is_word text_of constant_text goes_on kind_of rule_fault header_rules file_rules record_rules record_group_rules output_group_rules field_rules calculation_rules output_line_rules output_field_rules line_of lines_of is_at_fault is_outside is_too_many card_holds sheet_diagnostics
 condition_of_field_unbuilt = refl

@@ -1,10 +1,10 @@
 -- What the entries of the sheets spell.
-use Rattle.std.specs.Prelude.{ℕ, ◌+◌, ◌-◌, ◌*◌, nat_lt, nat_le, List, [], ◌∷◌, ◌++◌, Bool, true, false, not, ◌==◌, ◌&&◌, ◌||◌, Option, Some, None, is_some, option_map, length, replicate, if◌then◌else◌, codes}
-use Rattle.std.specs.List.{list_any}
+use Rattle.std.specs.Prelude.{ℕ, ◌+◌, ◌-◌, ◌*◌, nat_lt, nat_le, List, [], ◌∷◌, ◌++◌, Bool, true, false, not, ◌==◌, ◌&&◌, ◌||◌, Option, Some, None, is_some, option_map, length, take, drop, replicate, if◌then◌else◌, codes}
+use Rattle.std.specs.List.{list_any, prefix_len}
 use Rattle.std.specs.Option.{option_or, option_and_then}
-use Rattle.s3_cards.specs.declared.ebcdic.TheConstants.{BLANK, APOSTROPHE, LETTER_N, LETTER_U, DIGIT_0}
+use Rattle.s3_cards.specs.declared.ebcdic.TheConstants.{BLANK, APOSTROPHE, PERIOD, PLUS, MINUS, LETTER_N, LETTER_U, DIGIT_0}
 use Rattle.s3_cards.specs.Codes.{ebcdic}
-use Rattle.s3_cards.specs.Names.{is_digit, name_of, same_name}
+use Rattle.s3_cards.specs.Names.{is_digit, is_name, name_of, same_name}
 use Rattle.s3_sheets.specs.Columns.{are_blank}
 use Rattle.s3_cards.specs.declared.name.Name.{Name}
 use Rattle.s3_sheets.specs.declared.indicator.Indicator.{Indicator}
@@ -75,3 +75,29 @@ reserved_names =
 
 abbrev pub is_reserved : Name → Bool
 is_reserved name = list_any (λ other. same_name other name) reserved_names
+
+-- ---- factors
+abbrev pub without_sign : List ℕ → List ℕ
+without_sign [] = []
+without_sign (code ∷ codes) = if (code == PLUS) || (code == MINUS) then codes else code ∷ codes
+
+abbrev pub without_point : List ℕ → List ℕ
+without_point [] = []
+without_point (code ∷ codes) = if code == PERIOD then codes else code ∷ codes
+
+-- a literal number: a sign or none, digits with at most one point among or beside them, and blanks behind
+abbrev pub is_number_literal : List ℕ → Bool
+is_number_literal entry =
+    let unsigned : List ℕ = without_sign entry in
+    let whole : ℕ = prefix_len is_digit unsigned in
+    let fraction : List ℕ = without_point (drop whole unsigned) in
+    let decimals : ℕ = prefix_len is_digit fraction in
+    (nat_lt 0 whole || nat_lt 0 decimals) && are_blank (drop decimals fraction)
+
+-- a name of at most so many characters, with blanks behind it
+abbrev pub is_name_within : ℕ → List ℕ → Bool
+is_name_within longest entry = is_name (take longest entry) && are_blank (drop longest entry)
+
+-- a literal, or a name of at most so many characters; what ten columns hold has at most 8 characters and at most 10 digits
+abbrev pub is_factor : ℕ → List ℕ → Bool
+is_factor longest entry = is_some (constant_text entry) || is_number_literal entry || is_name_within longest entry

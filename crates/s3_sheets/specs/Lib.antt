@@ -4,6 +4,7 @@ pub mod Literals
 pub mod Kinds
 pub mod Rules
 pub mod RuleViews
+pub mod Combinations
 pub mod Tables
 pub mod Lines
 pub mod Sheets

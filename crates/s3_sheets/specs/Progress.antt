@@ -4,7 +4,7 @@ use Rattle.std.specs.Option.{option_to_list}
 use Rattle.s3_sheets.specs.Columns.{columns, are_blank}
 use Rattle.s3_cards.specs.Names.{name_of}
 use Rattle.s3_sheets.specs.Kinds.{kind_of, sheet_of, is_record, is_output_line}
-use Rattle.s3_sheets.specs.Sheets.{is_behind, breaks_some_rule, file_of, record_length_of, new_file, input_length_behind, output_length_behind, last_position, is_past, length_for, field_of, new_field}
+use Rattle.s3_sheets.specs.Sheets.{is_behind, faults_of, has_fault, file_of, record_length_of, new_file, length_behind, line_length, names_position_past, length_for, field_of, new_field}
 use Rattle.s3_cards.specs.declared.name.Name.{Name}
 use Rattle.s3_sheets.specs.declared.kind.CardKind.{CardKind}
 use Rattle.s3_sheets.specs.declared.kind.CardKind.TheVariants.{Comment, Unknown}
@@ -43,13 +43,17 @@ is_further kept kind = is_record kind && kept.has_record
 abbrev pub lacks_its_file : Kept → CardKind → List ℕ → Bool
 lacks_its_file kept kind card = is_output_line kind && are_blank (columns card 7 14) && not kept.has_output_line
 
+-- the record length of the file that a card names
+abbrev pub length_named : Kept → List ℕ → Option ℕ
+length_named kept card = record_length_of kept.files (name_of (columns card 7 14))
+
 unfoldable pub is_outside_behind : Kept → CardKind → List ℕ → Bool
-is_outside_behind kept kind card = is_past (last_position kind card) (length_for kind kept.input_length kept.output_length)
+is_outside_behind kept kind card = names_position_past kind card (length_for kind (length_named kept card) kept.input_length kept.output_length)
 
 unfoldable pub is_at_fault_behind : Kept → List ℕ → Bool
 is_at_fault_behind kept card =
     let kind : CardKind = kind_of card in
-    is_misplaced_behind kind kept.latest_sheet || is_further kept kind || lacks_its_file kept kind card || breaks_some_rule card
+    is_misplaced_behind kind kept.latest_sheet || is_further kept kind || lacks_its_file kept kind card || has_fault (faults_of card)
 
 -- one more element that makes a list longer than it may be
 abbrev pub passes_limit : ℕ → ℕ → ℕ → Bool
@@ -67,22 +71,24 @@ unfoldable pub kept_behind : Kept → List ℕ → Kept
 kept_behind kept card =
     let kind : CardKind = kind_of card in
     let is_at_fault : Bool = is_at_fault_behind kept card in
-    let named : Option ℕ = record_length_of kept.files (name_of (columns card 7 14)) in
+    let named : Option ℕ = length_named kept card in
     record {
       latest_sheet = max kept.latest_sheet (sheet_of kind);
       has_record = kept.has_record || is_record kind;
       has_output_line = kept.has_output_line || is_output_line kind;
       files = files_with kept card;
-      input_length = input_length_behind kind is_at_fault named kept.input_length;
-      output_length = output_length_behind kind is_at_fault (are_blank (columns card 7 14)) named kept.output_length;
+      input_length = length_behind (is_record kind) is_at_fault named kept.input_length;
+      output_length = length_behind (is_output_line kind) is_at_fault
+          (line_length (are_blank (columns card 7 14)) named kept.output_length) kept.output_length;
       fields = fields_with kept card;
     }
 
--- what it says of the next card
+-- what the next card's columns and it say of that card
 unfoldable pub standing_behind : Kept → List ℕ → Standing
 standing_behind kept card =
     let kind : CardKind = kind_of card in
     record {
+      faults = faults_of card;
       is_misplaced = is_misplaced_behind kind kept.latest_sheet;
       is_further_record = is_further kept kind;
       lacks_file = lacks_its_file kept kind card;

@@ -7,7 +7,6 @@ use Rattle.s3_sheets.specs.declared.rules.Entry.TheVariants as variant
 
 abbrev pub entry_view : Entry → spec.Entry
 entry_view variant.Blank = spec.Blank
-entry_view variant.Unbuilt = spec.Unbuilt
 entry_view (variant.OneOf texts) = spec.OneOf (map (λ text. text.now) texts.now)
 entry_view variant.Letters = spec.Letters
 entry_view variant.Name = spec.Name
@@ -19,10 +18,8 @@ entry_view variant.GeneralIndicator = spec.GeneralIndicator
 entry_view variant.MaybeCondition = spec.MaybeCondition
 entry_view variant.MaybeSwitch = spec.MaybeSwitch
 entry_view variant.MaybeConstant = spec.MaybeConstant
-entry_view variant.RecordLength = spec.RecordLength
-entry_view variant.Extent = spec.Extent
-entry_view variant.Content = spec.Content
-entry_view variant.ConstantPlace = spec.ConstantPlace
+entry_view variant.MaybeCode = spec.MaybeCode
+entry_view variant.MaybeFactor = spec.MaybeFactor
 
 abbrev pub rule_view : Rule → spec.Rule
-rule_view rule = record { from = rule.from; to = rule.to; entry = entry_view rule.entry }
+rule_view rule = record { from = rule.from; to = rule.to; entry = entry_view rule.entry; is_built = rule.is_built }

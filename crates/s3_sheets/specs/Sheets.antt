@@ -6,12 +6,14 @@ use Rattle.std.specs.declared.alloc.Global.{Global}
 use Rattle.s3_sheets.specs.Columns.{columns, are_blank, number_of}
 use Rattle.s3_cards.specs.Names.{name_of, same_name}
 use Rattle.s3_sheets.specs.Kinds.{kind_of, sheet_of, is_record, is_output_line}
-use Rattle.s3_sheets.specs.Rules.{breaks}
+use Rattle.s3_sheets.specs.Rules.{Rule, breaks, exceeds}
+use Rattle.s3_sheets.specs.Combinations.{combined_faults}
 use Rattle.s3_sheets.specs.Tables.{rules_of}
 use Rattle.s3_sheets.specs.Lines.{card_at, lines_of, number_or_zero}
 use Rattle.s3_cards.specs.declared.name.Name.{Name}
 use Rattle.s3_sheets.specs.declared.kind.CardKind.{CardKind}
-use Rattle.s3_sheets.specs.declared.kind.CardKind.TheVariants.{Comment, Unknown, File, Record, RecordGroup, Field, OutputLine, OutputGroup, OutputField}
+use Rattle.s3_sheets.specs.declared.kind.CardKind.TheVariants.{Comment, Unknown, File, Record, RecordGroup, Field, OutputField}
+use Rattle.s3_sheets.specs.declared.faults.Faults.{Faults}
 use Rattle.s3_sheets.specs.declared.progress.KnownFile.{KnownFile}
 use Rattle.s3_sheets.specs.declared.progress.Standing.{Standing}
 use Rattle.s3_sheets.specs.declared.diagnostic.Diagnostic.{Diagnostic}
@@ -45,19 +47,29 @@ is_further_record kind earlier = is_record kind && list_any is_record earlier
 abbrev pub lacks_file : CardKind → List CardKind → List ℕ → Bool
 lacks_file kind earlier card = is_output_line kind && are_blank (columns card 7 14) && not (list_any is_output_line earlier)
 
--- ---- faults that leave the positions in a record aside
-abbrev pub breaks_rule : ℕ → List ℕ → Bool
-breaks_rule number card = breaks (rules_of (kind_of card)) number card
+-- ---- 2 to 4: a card's own columns, which leave the positions in a record aside
+-- whether the columns of a card show a diagnostic, alone or together
+abbrev pub shows : List ℕ → ℕ → Bool
+shows card number =
+    let combined : ℕ × ℕ = combined_faults (kind_of card) card in
+    (breaks (rules_of (kind_of card)) number card || (combined.0 == number)) || (combined.1 == number)
 
-unfoldable pub breaks_some_rule : List ℕ → Bool
-breaks_some_rule card = breaks_rule 2 card || breaks_rule 3 card || breaks_rule 4 card
+-- the diagnostics of a card by some rules
+abbrev pub broken_by : List Rule → List ℕ → Faults
+broken_by rules card = record { entry = breaks rules 2 card; name = breaks rules 3 card; number = breaks rules 4 card }
+
+unfoldable pub faults_of : List ℕ → Faults
+faults_of card = record { entry = shows card 2; name = shows card 3; number = shows card 4 }
+
+abbrev pub has_fault : Faults → Bool
+has_fault faults = faults.entry || faults.name || faults.number
 
 -- whether a card is at fault by 1 to 4, positions in its record aside
 unfoldable pub is_at_fault : List (List ℕ) → ℕ → Bool
 is_at_fault cards i =
     let card : List ℕ = card_at cards i in
     let kind : CardKind = kind_of card in
-    is_misplaced kind (before cards i) || is_further_record kind (before cards i) || lacks_file kind (before cards i) card || breaks_some_rule card
+    is_misplaced kind (before cards i) || is_further_record kind (before cards i) || lacks_file kind (before cards i) card || has_fault (faults_of card)
 
 -- ---- the files
 -- the file that a card defines; a card at fault defines none
@@ -68,67 +80,67 @@ file_of _ _ card = None
 abbrev pub record_length_of : List KnownFile → Name → Option ℕ
 record_length_of files name = option_map (λ file. file.record_length) (find (λ file. same_name file.name name) files)
 
--- a file that isn't known yet, unless there are too many already
+-- a file that isn't known yet
 abbrev pub new_file : List KnownFile → Option KnownFile → Option KnownFile
 new_file files None = None
-new_file files (Some file) = if list_any (λ other. same_name other.name file.name) files || nat_lt 20 (length files) then None else Some file
+new_file files (Some file) = if list_any (λ other. same_name other.name file.name) files then None else Some file
 
--- the files that the first n cards define, each name once; of more than twenty-one the first ones
+-- the files that the first n cards define, each name once
 abbrev pub files : List (List ℕ) → ℕ → List KnownFile
 files cards zero = []
 files cards (suc n) = files cards n ++ option_to_list (new_file (files cards n) (file_of (kind_at cards n) (is_at_fault cards n) (card_at cards n)))
 
 -- ---- 4: positions outside their record
--- the record length that the field lines behind a card go by, where those before it went by another. It is that of the file which
--- the last record line names, and isn't known behind a card at fault.
-abbrev pub input_length_behind : CardKind → Bool → Option ℕ → Option ℕ → Option ℕ
-input_length_behind Record false named last = named
-input_length_behind Record true named last = None
-input_length_behind RecordGroup false named last = last
-input_length_behind RecordGroup true named last = None
-input_length_behind _ _ named last = last
-
--- the same for field cards: a line without a name takes the file of the line before
-abbrev pub output_length_behind : CardKind → Bool → Bool → Option ℕ → Option ℕ → Option ℕ
-output_length_behind OutputLine false false named last = named
-output_length_behind OutputLine false true named last = last
-output_length_behind OutputLine true _ named last = None
-output_length_behind OutputGroup false _ named last = last
-output_length_behind OutputGroup true _ named last = None
-output_length_behind _ _ _ named last = last
-
 -- the record length of the file that a card names
 abbrev pub named_length : List (List ℕ) → ℕ → Option ℕ
 named_length cards i = record_length_of (files cards i) (name_of (columns (card_at cards i) 7 14))
 
+-- a record or line card brings another record length, one that isn't known if the card is at fault; other cards leave it
+abbrev pub length_behind : Bool → Bool → Option ℕ → Option ℕ → Option ℕ
+length_behind false at_fault new last = last
+length_behind true false new last = new
+length_behind true true new last = None
+
+-- the record length of the file that the last record card names, by which AND, OR and field lines go
 abbrev pub input_length : List (List ℕ) → ℕ → Option ℕ
 input_length cards zero = None
-input_length cards (suc n) = input_length_behind (kind_at cards n) (is_at_fault cards n) (named_length cards n) (input_length cards n)
+input_length cards (suc n) = length_behind (is_record (kind_at cards n)) (is_at_fault cards n) (named_length cards n) (input_length cards n)
 
+-- a line card without a name takes the file of the line before
+abbrev pub line_length : Bool → Option ℕ → Option ℕ → Option ℕ
+line_length unnamed named last = if unnamed then last else named
+
+-- the record length of the last line card's file, by which field cards go
 abbrev pub output_length : List (List ℕ) → ℕ → Option ℕ
 output_length cards zero = None
 output_length cards (suc n) =
-    output_length_behind (kind_at cards n) (is_at_fault cards n) (are_blank (columns (card_at cards n) 7 14)) (named_length cards n)
-    (output_length cards n)
+    length_behind (is_output_line (kind_at cards n)) (is_at_fault cards n)
+    (line_length (are_blank (columns (card_at cards n) 7 14)) (named_length cards n) (output_length cards n)) (output_length cards n)
 
--- the last position that a card names
-abbrev pub last_position : CardKind → List ℕ → Option ℕ
-last_position Field card = number_of (columns card 48 51)
-last_position OutputField card = number_of (columns card 40 43)
-last_position _ card = None
+-- the record length that the positions on a card go by
+abbrev pub length_for : CardKind → Option ℕ → Option ℕ → Option ℕ → Option ℕ
+length_for Record named input output = named
+length_for RecordGroup named input output = input
+length_for Field named input output = input
+length_for _ named input output = output
 
-abbrev pub is_past : Option ℕ → Option ℕ → Bool
-is_past (Some position) (Some length) = nat_lt length position
-is_past _ _ = false
+-- whether the position of some code lies past a record
+abbrev pub has_code_past : List ℕ → Option ℕ → Bool
+has_code_past card length =
+    exceeds (number_of (columns card 21 24)) length || exceeds (number_of (columns card 28 31)) length || exceeds (number_of (columns card 35 38)) length
 
-abbrev pub length_for : CardKind → Option ℕ → Option ℕ → Option ℕ
-length_for Field input output = input
-length_for _ input output = output
+-- whether a position on a card lies past a record
+abbrev pub names_position_past : CardKind → List ℕ → Option ℕ → Bool
+names_position_past Record card length = has_code_past card length
+names_position_past RecordGroup card length = has_code_past card length
+names_position_past Field card length = exceeds (number_of (columns card 48 51)) length
+names_position_past OutputField card length = exceeds (number_of (columns card 40 43)) length
+names_position_past _ card length = false
 
 unfoldable pub is_outside : List (List ℕ) → ℕ → Bool
 is_outside cards i =
     let kind : CardKind = kind_at cards i in
-    is_past (last_position kind (card_at cards i)) (length_for kind (input_length cards i) (output_length cards i))
+    names_position_past kind (card_at cards i) (length_for kind (named_length cards i) (input_length cards i) (output_length cards i))
 
 -- ---- 13: too many files or fields
 -- the field that a card defines; a card at fault defines none
@@ -154,9 +166,10 @@ is_too_many cards i =
     || (length (fields cards i) == 999 && length (fields cards (suc i)) == 1000)
 
 -- ---- the diagnostics
--- what the cards before a card say of it
+-- what its columns and the cards before it say of a card
 abbrev pub standing_at : List (List ℕ) → ℕ → Standing
 standing_at cards i = record {
+  faults = faults_of (card_at cards i);
   is_misplaced = is_misplaced (kind_at cards i) (before cards i);
   is_further_record = is_further_record (kind_at cards i) (before cards i);
   lacks_file = lacks_file (kind_at cards i) (before cards i) (card_at cards i);
@@ -165,17 +178,17 @@ standing_at cards i = record {
 }
 
 -- whether a card with this standing has a diagnostic
-unfoldable pub card_holds : List ℕ → Standing → ℕ → Bool
-card_holds card standing number =
+unfoldable pub card_holds : Standing → ℕ → Bool
+card_holds standing number =
     if number == 1 then standing.is_misplaced
-    else if number == 2 then breaks_rule 2 card || standing.is_further_record
-    else if number == 3 then breaks_rule 3 card || standing.lacks_file
-    else if number == 4 then breaks_rule 4 card || standing.is_outside
+    else if number == 2 then standing.faults.entry || standing.is_further_record
+    else if number == 3 then standing.faults.name || standing.lacks_file
+    else if number == 4 then standing.faults.number || standing.is_outside
     else standing.is_too_many
 
 -- whether the condition of a diagnostic holds of a card of the source
 abbrev pub holds : List (List ℕ) → ℕ × ℕ → Bool
-holds cards pair = card_holds (card_at cards pair.0) (standing_at cards pair.0) pair.1
+holds cards pair = card_holds (standing_at cards pair.0) pair.1
 
 -- those of single cards
 abbrev pub numbers : List ℕ
@@ -190,8 +203,8 @@ abbrev pub diagnostic : ℕ → ℕ × ℕ → Diagnostic
 diagnostic from pair = record { card = from + pair.0 + 1; number = pair.1 }
 
 -- the diagnostics of the card with this number
-abbrev pub card_diagnostics : ℕ → List ℕ → Standing → List Diagnostic
-card_diagnostics number card standing = map (λ n. record { card = number; number = n }) (filter (card_holds card standing) numbers)
+abbrev pub card_diagnostics : ℕ → Standing → List Diagnostic
+card_diagnostics number standing = map (λ n. record { card = number; number = n }) (filter (card_holds standing) numbers)
 
 -- the diagnostics of cards that stand from a place of their deck on
 unfoldable pub sheet_diagnostics : ℕ → List (List ℕ) → List Diagnostic

@@ -35,10 +35,11 @@ fn blanks_in_front(columns: &[u8]) -> usize
 }
 
 /// The number that at most four digits spell.
-#[tactic(auto, using(crate::proofs::NumberLemmas::none_yet, crate::proofs::NumberLemmas::digits_none, crate::proofs::NumberLemmas::number_next, crate::proofs::NumberLemmas::fits, crate::proofs::NumberLemmas::digits_wrong, crate::proofs::NumberLemmas::digits_right))]
+#[tactic(auto, using(crate::proofs::NumberLemmas::none_yet, crate::proofs::NumberLemmas::digits_none, crate::proofs::NumberLemmas::number_next, crate::proofs::NumberLemmas::fits, crate::proofs::NumberLemmas::below_all, crate::proofs::NumberLemmas::digits_wrong, crate::proofs::NumberLemmas::digits_right))]
 fn number_of_digits(digits: &[u8]) -> Option<u16>
     requires { length digits.now ≤ 4 }
-    ensures { result ≡ digits_number digits.now }
+    ensures value { result ≡ digits_number digits.now }
+    ensures below { IfSome result (λ number. number < 10 ^ 4) }
 {
     if digits.is_empty() {
         return None;
@@ -55,7 +56,8 @@ fn number_of_digits(digits: &[u8]) -> Option<u16>
 
 /// The number in at most four columns, with blanks or zeros in front of it.
 pub fn number(columns: &[u8]) -> Option<u16>
-    ensures { result ≡ number_of columns.now }
+    ensures value { result ≡ number_of columns.now }
+    ensures below { IfSome result (λ number. number < 10 ^ 4) }
 {
     if columns.len() > 4 {
         return None;

@@ -1,18 +1,20 @@
 //! What the entries of the sheets spell.
 
 ghost use Rattle.std.specs.Prelude.{◌≡◌, ◌≤◌, ◌<◌, length, option_map, ◌↔◌, List, ℕ, Some, false, if◌then◌else◌};
+ghost use Rattle.std.specs.List.{prefix_len};
+ghost use Rattle.s3_cards.specs.Names.{is_digit as digit_spec};
 ghost use Rattle.s3_sheets.specs.Literals.{with_code, with_next_code, is_behind_end, IsConstant};
 ghost use Rattle.s3_sheets.specs.Columns.{are_blank as are_blank_spec};
-ghost use Rattle.s3_sheets.specs.Entries.{general_of, switch_of, indicator_of, is_condition as condition_spec, condition_of, constant_text, constant as constant_spec, text_of, is_reserved as reserved_spec, reserved_names as reserved_names_spec};
+ghost use Rattle.s3_sheets.specs.Entries.{general_of, switch_of, indicator_of, is_condition as condition_spec, condition_of, constant_text, constant as constant_spec, text_of, is_reserved as reserved_spec, reserved_names as reserved_names_spec, without_sign as without_sign_spec, without_point as without_point_spec, is_number_literal as number_literal_spec, is_factor as factor_spec};
 
 use crate::columns::are_blank;
 use crate::indicator::{Condition, Indicator};
 use crate::sheet::Constant;
 use s3_cards::ebcdic::{
     APOSTROPHE, BLANK, DIGIT_0, LETTER_A, LETTER_D, LETTER_E, LETTER_G, LETTER_H, LETTER_M,
-    LETTER_N, LETTER_O, LETTER_P, LETTER_R, LETTER_T, LETTER_U, LETTER_Y,
+    LETTER_N, LETTER_O, LETTER_P, LETTER_R, LETTER_T, LETTER_U, LETTER_Y, MINUS, PERIOD, PLUS,
 };
-use s3_cards::{Name, is_digit};
+use s3_cards::{Name, is_digit, is_name};
 
 /// The number of an indicator of two digits, 01 to 99.
 pub fn general(columns: &[u8]) -> Option<u8>
@@ -187,6 +189,54 @@ pub fn constant(columns: &[u8]) -> Option<Constant>
         [APOSTROPHE, codes @ ..] => text(codes).filter(|constant| constant.length > 0),
         _ => None,
     }
+}
+
+fn without_sign(columns: &[u8]) -> &[u8]
+    ensures { result.now ≡ without_sign_spec columns.now }
+{
+    match columns {
+        [PLUS | MINUS, rest @ ..] => rest,
+        _ => columns,
+    }
+}
+
+fn without_point(columns: &[u8]) -> &[u8]
+    ensures { result.now ≡ without_point_spec columns.now }
+{
+    match columns {
+        [PERIOD, rest @ ..] => rest,
+        _ => columns,
+    }
+}
+
+/// How many digits stand in front.
+fn digits_in_front(columns: &[u8]) -> usize
+    ensures within { result ≤ length columns.now }
+    ensures value { result ≡ prefix_len digit_spec columns.now }
+{
+    columns.iter().take_while(|code| is_digit(**code)).count()
+}
+
+/// Whether columns have a sign or none, digits with at most one point, and blanks behind.
+fn is_number_literal(columns: &[u8]) -> bool
+    ensures { result ≡ number_literal_spec columns.now }
+{
+    let unsigned = without_sign(columns);
+    let whole = digits_in_front(unsigned);
+    let fraction = without_point(&unsigned[whole..]);
+    let decimals = digits_in_front(fraction);
+    (whole > 0 || decimals > 0) && are_blank(&fraction[decimals..])
+}
+
+/// Whether columns have a literal, or a name of at most so many characters, with blanks behind.
+pub fn is_factor(longest: usize, columns: &[u8]) -> bool
+    requires enough { longest ≤ length columns.now }
+    requires few { length columns.now ≤ 26 }
+    ensures { result ≡ factor_spec longest columns.now }
+{
+    constant(columns).is_some()
+        || is_number_literal(columns)
+        || (is_name(&columns[..longest]) && are_blank(&columns[longest..]))
 }
 
 /// A constant is read as the text that was written, with its apostrophes twice and blanks behind it, and nothing else is a constant.

@@ -3,9 +3,11 @@
 #![tactic(auto)]
 
 mod columns;
+mod combinations;
 mod devices;
 pub mod diagnostic;
 mod entries;
+mod faults;
 pub mod indicator;
 mod kind;
 mod lines;

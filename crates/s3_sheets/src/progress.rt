@@ -4,13 +4,14 @@ ghost use Rattle.std.specs.Prelude.{◌≡◌, ◌<◌, ◌^◌, nat_lt, ◌&&�
 ghost use Rattle.std.specs.List.{list_any};
 ghost use Rattle.std.specs.Option.{option_to_list};
 ghost use Rattle.s3_cards.specs.Names.{same_name as same_name_spec};
-ghost use Rattle.s3_sheets.specs.Sheets.{breaks_rule as breaks_rule_spec, breaks_some_rule as breaks_some_rule_spec, file_of as file_of_spec, field_of as field_of_spec, record_length_of as record_length_of_spec, new_file as new_file_spec, new_field as new_field_spec, input_length_behind as input_length_spec, output_length_behind as output_length_spec, last_position as last_position_spec, is_past as is_past_spec};
-ghost use Rattle.s3_sheets.specs.Progress.{is_misplaced_behind, is_further, lacks_its_file, is_outside_behind, passes_limit as passes_limit_spec, files_with, fields_with};
+ghost use Rattle.s3_sheets.specs.Columns.{columns as columns_spec, are_blank as are_blank_spec};
+ghost use Rattle.s3_sheets.specs.Sheets.{file_of as file_of_spec, field_of as field_of_spec, record_length_of as record_length_of_spec, new_file as new_file_spec, new_field as new_field_spec, length_behind as length_behind_spec, line_length as line_length_spec, has_code_past as has_code_past_spec, names_position_past as position_past_spec};
+ghost use Rattle.s3_sheets.specs.Progress.{is_misplaced_behind, is_further, lacks_its_file, is_outside_behind, length_named, passes_limit as passes_limit_spec, files_with, fields_with};
 
 use crate::columns::{are_blank, columns, number};
+use crate::faults::{Faults, faults_of};
 use crate::kind::{CardKind, kind_of};
-use crate::rules::breaks;
-use crate::tables::rules_of;
+use crate::rules::exceeds;
 use s3_cards::{Card, Name};
 use std::alloc::{AllocError, Global};
 use std::marker::Model;
@@ -28,9 +29,11 @@ pub struct KnownFile {
     pub record_length: u16,
 }
 
-/// What the cards before a card say of it.
+/// What its columns and the cards before it say of a card.
 #[derive(Clone, Copy)]
 pub struct Standing {
+    /// What its own columns show.
+    pub faults: Faults,
     /// Its sheet is none, or out of order.
     pub is_misplaced: bool,
     /// It is a record line behind another one.
@@ -49,7 +52,7 @@ pub struct Progress {
     latest_sheet: u8,
     has_record: bool,
     has_output_line: bool,
-    /// Each name once, at most one more than a program may have.
+    /// Each name once.
     files: Vec<KnownFile>,
     /// The record length that field lines go by, where it is known.
     input_length: Option<u16>,
@@ -103,9 +106,10 @@ impl Progress {
         let is_misplaced = is_misplaced(kind, self.latest_sheet);
         let is_further_record = self.is_further_record(kind);
         let lacks_file = self.lacks_file(kind, card);
-        let is_outside = self.is_outside(kind, card);
-        let is_at_fault = is_misplaced || is_further_record || lacks_file || breaks_some_rule(card);
-        let named = record_length_of(&self.files, &Name::of(columns(card, 7, 14)));
+        let named = self.length_named(card);
+        let is_outside = self.is_outside(kind, card, named);
+        let faults = faults_of(card);
+        let is_at_fault = is_misplaced || is_further_record || lacks_file || faults.any();
         let known_files = self.files.len();
         add_file(&mut self.files, file_of(kind, is_at_fault, card))?;
         let known_fields = self.fields.len();
@@ -113,18 +117,18 @@ impl Progress {
             &mut self.fields,
             field_of(kind, is_at_fault || is_outside, card),
         )?;
-        self.input_length = input_length_behind(kind, is_at_fault, named, self.input_length);
-        self.output_length = output_length_behind(
-            kind,
+        self.input_length = length_behind(kind.is_record(), is_at_fault, named, self.input_length);
+        self.output_length = length_behind(
+            kind.is_output_line(),
             is_at_fault,
-            are_blank(columns(card, 7, 14)),
-            named,
+            line_length(card, named, self.output_length),
             self.output_length,
         );
         self.latest_sheet = self.latest_sheet.max(kind.sheet());
         self.has_record = self.has_record || kind.is_record();
         self.has_output_line = self.has_output_line || kind.is_output_line();
         Ok(Standing {
+            faults,
             is_misplaced,
             is_further_record,
             lacks_file,
@@ -146,15 +150,25 @@ impl Progress {
         kind.is_output_line() && are_blank(columns(card, 7, 14)) && !self.has_output_line
     }
 
+    /// The record length of the file that a card names.
+    fn length_named(&self, card: &Card) -> Option<u16>
+        ensures { result ≡ length_named self.now card.now }
+    {
+        record_length_of(&self.files, &Name::of(columns(card, 7, 14)))
+    }
+
+    /// Whether a position on a card lies outside its record; `named` is the record length of the file that the card names.
     #[tactic(auto, unfolding(crate::specs::Progress::is_outside_behind))]
-    fn is_outside(&self, kind: CardKind, card: &Card) -> bool
+    fn is_outside(&self, kind: CardKind, card: &Card, named: Option<u16>) -> bool
+        requires { named ≡ length_named self.now card.now }
         ensures { result ≡ is_outside_behind self.now kind card.now }
     {
         let length = match kind {
-            CardKind::Field => self.input_length,
+            CardKind::Record => named,
+            CardKind::RecordGroup | CardKind::Field => self.input_length,
             _ => self.output_length,
         };
-        is_past(last_position(kind, card), length)
+        names_position_past(kind, card, length)
     }
 }
 
@@ -168,37 +182,23 @@ fn is_misplaced(kind: CardKind, latest_sheet: u8) -> bool
     }
 }
 
-/// Whether a card breaks one of the rules of its kind.
-#[tactic(auto, unfolding(crate::specs::Sheets::breaks_some_rule))]
-fn breaks_some_rule(card: &Card) -> bool
-    ensures { result ≡ breaks_some_rule_spec card.now }
+/// Whether the position of some code lies past a record.
+fn has_code_past(card: &Card, length: Option<u16>) -> bool
+    ensures { result ≡ has_code_past_spec card.now length }
 {
-    breaks_rule(2, card) || breaks_rule(3, card) || breaks_rule(4, card)
+    exceeds(number(columns(card, 21, 24)), length)
+        || exceeds(number(columns(card, 28, 31)), length)
+        || exceeds(number(columns(card, 35, 38)), length)
 }
 
-/// Whether a card has this diagnostic by one of the rules of its kind.
-pub fn breaks_rule(number: u8, card: &Card) -> bool
-    ensures { result ≡ breaks_rule_spec number card.now }
-{
-    breaks(rules_of(kind_of(card)), number, card)
-}
-
-/// The last position that a card names.
-fn last_position(kind: CardKind, card: &Card) -> Option<u16>
-    ensures { result ≡ last_position_spec kind card.now }
+/// Whether a position on a card lies past a record.
+fn names_position_past(kind: CardKind, card: &Card, length: Option<u16>) -> bool
+    ensures { result ≡ position_past_spec kind card.now length }
 {
     match kind {
-        CardKind::Field => number(columns(card, 48, 51)),
-        CardKind::OutputField => number(columns(card, 40, 43)),
-        _ => None,
-    }
-}
-
-fn is_past(position: Option<u16>, length: Option<u16>) -> bool
-    ensures { result ≡ is_past_spec position length }
-{
-    match (position, length) {
-        (Some(position), Some(length)) => length < position,
+        CardKind::Record | CardKind::RecordGroup => has_code_past(card, length),
+        CardKind::Field => exceeds(number(columns(card, 48, 51)), length),
+        CardKind::OutputField => exceeds(number(columns(card, 40, 43)), length),
         _ => false,
     }
 }
@@ -235,36 +235,30 @@ fn record_length_of(files: &[KnownFile], name: &Name) -> Option<u16>
         .map(|file| file.record_length)
 }
 
-/// The record length that field lines behind a card go by.
-fn input_length_behind(
-    kind: CardKind,
+/// The record length behind a card: a record or line card brings a new one, which isn't known if the card is at fault.
+fn length_behind(
+    is_new: bool,
     is_at_fault: bool,
-    named: Option<u16>,
+    new: Option<u16>,
     last: Option<u16>,
 ) -> Option<u16>
-    ensures { result ≡ input_length_spec kind is_at_fault named last }
+    ensures { result ≡ length_behind_spec is_new is_at_fault new last }
 {
-    match (kind, is_at_fault) {
-        (CardKind::Record, false) => named,
-        (CardKind::Record | CardKind::RecordGroup, true) => None,
-        _ => last,
+    match (is_new, is_at_fault) {
+        (false, _) => last,
+        (true, false) => new,
+        (true, true) => None,
     }
 }
 
-/// The record length that field cards behind a card go by.
-fn output_length_behind(
-    kind: CardKind,
-    is_at_fault: bool,
-    is_unnamed: bool,
-    named: Option<u16>,
-    last: Option<u16>,
-) -> Option<u16>
-    ensures { result ≡ output_length_spec kind is_at_fault is_unnamed named last }
+/// The record length of a line card's file: one without a name takes the file of the line before.
+fn line_length(card: &Card, named: Option<u16>, last: Option<u16>) -> Option<u16>
+    ensures { result ≡ line_length_spec (are_blank_spec (columns_spec card.now 7 14)) named last }
 {
-    match (kind, is_at_fault) {
-        (CardKind::OutputLine, false) if !is_unnamed => named,
-        (CardKind::OutputLine | CardKind::OutputGroup, true) => None,
-        _ => last,
+    if are_blank(columns(card, 7, 14)) {
+        last
+    } else {
+        named
     }
 }
 
@@ -280,12 +274,12 @@ fn has_field(fields: &[Name], name: &Name) -> bool
     fields.iter().any(|other| other == name)
 }
 
-/// A file that isn't known yet, unless there are too many already.
+/// A file that isn't known yet.
 fn new_file(files: &[KnownFile], file: Option<KnownFile>) -> Option<KnownFile>
     ensures { result ≡ new_file_spec files.now file }
 {
     let file = file?;
-    if has_file(files, &file.name) || files.len() > MOST_FILES {
+    if has_file(files, &file.name) {
         None
     } else {
         Some(file)

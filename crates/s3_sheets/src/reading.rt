@@ -7,7 +7,7 @@ ghost use Rattle.s3_sheets.specs.Sheets.{card_holds, card_diagnostics, numbers a
 
 use crate::diagnostic::{Diagnostic, SheetFault};
 use crate::lines::line_of;
-use crate::progress::{Progress, Standing, breaks_rule};
+use crate::progress::{Progress, Standing};
 use crate::sheet::Line;
 use s3_cards::{Card, Deck};
 use std::alloc::{AllocError, Global};
@@ -17,29 +17,24 @@ const NUMBERS: [u8; 5] = [1, 2, 3, 4, 13];
 
 /// Whether a card with this standing has a diagnostic.
 #[tactic(auto, unfolding(crate::specs::Sheets::card_holds))]
-fn is_diagnosed(card: &Card, standing: Standing, number: u8) -> bool
-    ensures { result ≡ card_holds card.now standing number }
+fn is_diagnosed(standing: Standing, number: u8) -> bool
+    ensures { result ≡ card_holds standing number }
 {
     match number {
         1 => standing.is_misplaced,
-        2 => breaks_rule(2, card) || standing.is_further_record,
-        3 => breaks_rule(3, card) || standing.lacks_file,
-        4 => breaks_rule(4, card) || standing.is_outside,
+        2 => standing.faults.entry || standing.is_further_record,
+        3 => standing.faults.name || standing.lacks_file,
+        4 => standing.faults.number || standing.is_outside,
         _ => standing.is_too_many,
     }
 }
 
 /// Adds the diagnostics of the card with this number.
-fn diagnose(
-    found: &mut Vec<Diagnostic>,
-    number: u16,
-    card: &Card,
-    standing: Standing,
-) -> Result<(), AllocError>
-    ensures { OnOk result (found.new.items ≡ found.old.items ++ card_diagnostics number card.now standing) }
+fn diagnose(found: &mut Vec<Diagnostic>, number: u16, standing: Standing) -> Result<(), AllocError>
+    ensures { OnOk result (found.new.items ≡ found.old.items ++ card_diagnostics number standing) }
 {
     for diagnostic in NUMBERS {
-        if is_diagnosed(card, standing, diagnostic) {
+        if is_diagnosed(standing, diagnostic) {
             found.push(Diagnostic {
                 card: number,
                 number: diagnostic,
@@ -70,7 +65,7 @@ fn read_cards(alloc: Global, cards: &[Card], from: usize) -> Result<Vec<Line>, S
     for (place, card) in cards.iter().enumerate() {
         let number = (from + place + 1) as u16;
         let standing = progress.enter(card)?;
-        diagnose(&mut found, number, card, standing)?;
+        diagnose(&mut found, number, standing)?;
         add_line(&mut lines, number, card)?;
     }
     if found.is_empty() {

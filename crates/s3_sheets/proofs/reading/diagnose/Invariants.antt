@@ -5,4 +5,4 @@ use Rattle.s3_sheets.proofs.reading.diagnose.Given as goal
 
 abbrev pub invariant-loop-diagnostic : goal.invariant-loop-diagnostic
 invariant-loop-diagnostic l =
-    l.found.items ≡ l.fn.found.items ++ map (λ n. record { card = l.number; number = n }) (filter (card_holds l.card l.standing) (take l.diagnostic-index numbers))
+    l.found.items ≡ l.fn.found.items ++ map (λ n. record { card = l.number; number = n }) (filter (card_holds l.standing) (take l.diagnostic-index numbers))
