@@ -34,6 +34,11 @@ blank_card = replicate 96 0x40
 abbrev put : ℕ → List ℕ → List ℕ → List ℕ
 put column characters card = take (column - 1) card ++ ebcdic characters ++ drop (column - 1 + length characters) card
 
+-- a card of texts, each from its column on
+abbrev punched : List (ℕ × List ℕ) → List ℕ
+punched [] = blank_card
+punched (piece ∷ pieces) = put piece.0 piece.1 (punched pieces)
+
 abbrev header : List ℕ
 header = put 75 (codes "LIST") (put 6 (codes "H") (blank_card))
 
@@ -119,8 +124,8 @@ card_lister_read = refl
 abbrev further_file : List ℕ → List ℕ
 further_file name = put 7 name cards_file
 
--- the twenty-first name is the one too many; a name that stands there already is not
-too_many_files : found (map further_file (codes "A" ∷ codes "B" ∷ codes "C" ∷ codes "D" ∷ codes "E" ∷ codes "F" ∷ codes "G" ∷ codes "H" ∷ codes "I" ∷ codes "J" ∷ codes "K" ∷ codes "L" ∷ codes "M" ∷ codes "N" ∷ codes "O" ∷ codes "P" ∷ codes "Q" ∷ codes "R" ∷ codes "S" ∷ codes "T" ∷ codes "A" ∷ codes "U" ∷ codes "V" ∷ [])) ≡ (24, 13) ∷ []
+-- the twenty-first name is the one too many; a name that stands there already is not, and of those behind it the lengths are known
+too_many_files : found (map further_file (codes "A" ∷ codes "B" ∷ codes "C" ∷ codes "D" ∷ codes "E" ∷ codes "F" ∷ codes "G" ∷ codes "H" ∷ codes "I" ∷ codes "J" ∷ codes "K" ∷ codes "L" ∷ codes "M" ∷ codes "N" ∷ codes "O" ∷ codes "P" ∷ codes "Q" ∷ codes "R" ∷ codes "S" ∷ codes "T" ∷ codes "A" ∷ codes "U" ∷ codes "V" ∷ []) ++ put 7 (codes "VARDS") detail ∷ put 42 (codes "97") text_out ∷ []) ≡ (24, 13) ∷ (27, 4) ∷ []
 unfolding code_page faults_of device_of ebcdic reserved_names longest_record digits_number is_word text_of constant_text goes_on kind_of rule_fault header_rules file_rules record_rules record_group_rules output_group_rules field_rules calculation_rules output_line_rules output_field_rules line_of lines_of is_at_fault is_outside is_too_many card_holds sheet_diagnostics
 too_many_files = refl
 
@@ -354,3 +359,38 @@ edit_code_unbuilt = refl
 condition_of_field_unbuilt : found (header ∷ cards_file ∷ print_file ∷ record_card ∷ text_field ∷ detail ∷ (put 42 (codes "10") (put 32 (codes "TEXT") (put 24 (codes "01") (put 6 (codes "O") (blank_card))))) ∷ []) ≡ (9, 2) ∷ []
 unfolding code_page faults_of device_of ebcdic reserved_names longest_record digits_number is_word text_of constant_text goes_on kind_of rule_fault header_rules file_rules record_rules record_group_rules output_group_rules field_rules calculation_rules output_line_rules output_field_rules line_of lines_of is_at_fault is_outside is_too_many card_holds sheet_diagnostics
 condition_of_field_unbuilt = refl
+
+-- a key stands for indexed files alone, none of which is built
+keys : found (punched ((7, codes "A") ∷ (6, codes "F") ∷ (15, codes "O") ∷ (19, codes "F") ∷ (25, codes "132") ∷ (40, codes "PRINTER") ∷ (29, codes "XX") ∷ []) ∷ punched ((7, codes "B") ∷ (6, codes "F") ∷ (15, codes "O") ∷ (19, codes "F") ∷ (25, codes "132") ∷ (40, codes "PRINTER") ∷ (29, codes "30") ∷ []) ∷ punched ((7, codes "C") ∷ (6, codes "F") ∷ (15, codes "O") ∷ (19, codes "F") ∷ (25, codes "132") ∷ (40, codes "PRINTER") ∷ (30, codes "5") ∷ []) ∷ punched ((7, codes "D") ∷ (6, codes "F") ∷ (15, codes "O") ∷ (19, codes "F") ∷ (25, codes "132") ∷ (40, codes "PRINTER") ∷ (38, codes "0") ∷ []) ∷ punched ((7, codes "E") ∷ (6, codes "F") ∷ (15, codes "O") ∷ (19, codes "F") ∷ (25, codes "132") ∷ (40, codes "PRINTER") ∷ (38, codes "1") ∷ []) ∷ punched ((7, codes "F") ∷ (6, codes "F") ∷ (15, codes "O") ∷ (19, codes "F") ∷ (25, codes "132") ∷ (40, codes "PRINTER") ∷ (31, codes "AI") ∷ []) ∷ punched ((7, codes "G") ∷ (6, codes "F") ∷ (15, codes "O") ∷ (19, codes "F") ∷ (25, codes "132") ∷ (40, codes "PRINTER") ∷ (30, codes "5") ∷ (31, codes "AI") ∷ (36, codes "128") ∷ []) ∷ punched ((7, codes "H") ∷ (6, codes "F") ∷ (15, codes "O") ∷ (19, codes "F") ∷ (25, codes "132") ∷ (40, codes "PRINTER") ∷ (30, codes "5") ∷ (31, codes "AI") ∷ (36, codes "129") ∷ []) ∷ []) ≡ (3, 2) ∷ (3, 4) ∷ (4, 2) ∷ (4, 4) ∷ (5, 2) ∷ (6, 2) ∷ (6, 4) ∷ (7, 2) ∷ (8, 2) ∷ (8, 4) ∷ (9, 2) ∷ (10, 2) ∷ (10, 4) ∷ []
+unfolding code_page faults_of device_of ebcdic reserved_names longest_record digits_number is_word text_of constant_text goes_on kind_of rule_fault header_rules file_rules record_rules record_group_rules output_group_rules field_rules calculation_rules output_line_rules output_field_rules line_of lines_of is_at_fault is_outside is_too_many card_holds sheet_diagnostics
+keys = refl
+
+-- codes of a record, and of an AND line behind a record line at fault
+code_positions : found (cards_file ∷ punched ((6, codes "I") ∷ (7, codes "CARDS") ∷ (15, codes "AA") ∷ (19, codes "01") ∷ (24, codes "1") ∷ (26, codes "CA") ∷ []) ∷ punched ((6, codes "I") ∷ (7, codes "CARDS") ∷ (15, codes "AA") ∷ (19, codes "01") ∷ (23, codes "97") ∷ (26, codes "CA") ∷ []) ∷ punched ((6, codes "I") ∷ (7, codes "CARDS") ∷ (15, codes "AA") ∷ (19, codes "01") ∷ (26, codes "CA") ∷ []) ∷ punched ((6, codes "I") ∷ (7, codes "CARDS") ∷ (15, codes "AA") ∷ (19, codes "01") ∷ (31, codes "X") ∷ (33, codes "CA") ∷ []) ∷ punched ((6, codes "I") ∷ (7, codes "CARDS") ∷ (15, codes "AA") ∷ (19, codes "01") ∷ (37, codes "96") ∷ (40, codes "CA") ∷ []) ∷ punched ((6, codes "I") ∷ (14, codes "AND") ∷ (23, codes "97") ∷ (26, codes "CA") ∷ []) ∷ []) ≡ (4, 2) ∷ (5, 2) ∷ (5, 4) ∷ (6, 2) ∷ (6, 4) ∷ (7, 2) ∷ (7, 4) ∷ (8, 2) ∷ (9, 2) ∷ []
+unfolding code_page faults_of device_of ebcdic reserved_names longest_record digits_number is_word text_of constant_text goes_on kind_of rule_fault header_rules file_rules record_rules record_group_rules output_group_rules field_rules calculation_rules output_line_rules output_field_rules line_of lines_of is_at_fault is_outside is_too_many card_holds sheet_diagnostics
+code_positions = refl
+
+-- AND and OR lines leave the record length
+length_behind_groups : found (cards_file ∷ print_file ∷ record_card ∷ punched ((6, codes "I") ∷ (14, codes "AND") ∷ (24, codes "1") ∷ (26, codes "CA") ∷ []) ∷ punched ((6, codes "I") ∷ (14, codes "OR") ∷ (19, codes "02") ∷ (23, codes "97") ∷ (26, codes "CA") ∷ []) ∷ punched ((6, codes "I") ∷ (50, codes "97") ∷ (47, codes "1") ∷ (53, codes "TEXT") ∷ []) ∷ detail ∷ punched ((6, codes "O") ∷ (14, codes "OR") ∷ (17, codes "9") ∷ []) ∷ punched ((6, codes "O") ∷ (32, codes "TEXT") ∷ (41, codes "133") ∷ []) ∷ []) ≡ (6, 2) ∷ (7, 2) ∷ (7, 4) ∷ (8, 4) ∷ (10, 2) ∷ (11, 4) ∷ []
+unfolding code_page faults_of device_of ebcdic reserved_names longest_record digits_number is_word text_of constant_text goes_on kind_of rule_fault header_rules file_rules record_rules record_group_rules output_group_rules field_rules calculation_rules output_line_rules output_field_rules line_of lines_of is_at_fault is_outside is_too_many card_holds sheet_diagnostics
+length_behind_groups = refl
+
+-- decimals, and the digits of a zoned and of a packed field
+decimals : found (cards_file ∷ record_card ∷ punched ((6, codes "I") ∷ (47, codes "1") ∷ (53, codes "FLD") ∷ (51, codes "3") ∷ (52, codes "X") ∷ []) ∷ punched ((6, codes "I") ∷ (47, codes "1") ∷ (53, codes "FLD") ∷ (51, codes "3") ∷ (52, codes "3") ∷ []) ∷ punched ((6, codes "I") ∷ (47, codes "1") ∷ (53, codes "FLD") ∷ (51, codes "3") ∷ (52, codes "4") ∷ []) ∷ punched ((6, codes "I") ∷ (47, codes "1") ∷ (53, codes "FLD") ∷ (50, codes "15") ∷ (52, codes "9") ∷ []) ∷ punched ((6, codes "I") ∷ (47, codes "1") ∷ (53, codes "FLD") ∷ (50, codes "16") ∷ (52, codes "0") ∷ []) ∷ punched ((6, codes "I") ∷ (47, codes "1") ∷ (53, codes "FLD") ∷ (43, codes "P") ∷ (51, codes "8") ∷ (52, codes "0") ∷ []) ∷ punched ((6, codes "I") ∷ (47, codes "1") ∷ (53, codes "FLD") ∷ (43, codes "P") ∷ (51, codes "9") ∷ (52, codes "0") ∷ []) ∷ []) ≡ (5, 4) ∷ (6, 2) ∷ (7, 4) ∷ (8, 2) ∷ (9, 2) ∷ (9, 4) ∷ (10, 2) ∷ (11, 2) ∷ (11, 4) ∷ []
+unfolding code_page faults_of device_of ebcdic reserved_names longest_record digits_number is_word text_of constant_text goes_on kind_of rule_fault header_rules file_rules record_rules record_group_rules output_group_rules field_rules calculation_rules output_line_rules output_field_rules line_of lines_of is_at_fault is_outside is_too_many card_holds sheet_diagnostics
+decimals = refl
+
+-- spaces, skips and ADD
+spaces_and_skips : found (print_file ∷ punched ((6, codes "O") ∷ (7, codes "PRINT") ∷ (15, codes "D") ∷ (17, codes "4") ∷ []) ∷ punched ((6, codes "O") ∷ (7, codes "PRINT") ∷ (15, codes "D") ∷ (18, codes "1") ∷ (21, codes "67") ∷ []) ∷ punched ((6, codes "O") ∷ (7, codes "PRINT") ∷ (15, codes "D") ∷ (16, codes "ADX") ∷ []) ∷ punched ((6, codes "O") ∷ (7, codes "PRINT") ∷ (15, codes "D") ∷ (16, codes "ADD") ∷ []) ∷ punched ((6, codes "O") ∷ (7, codes "PRINT") ∷ (15, codes "D") ∷ (17, codes "3") ∷ []) ∷ punched ((6, codes "O") ∷ (7, codes "PRINT") ∷ (15, codes "D") ∷ (19, codes "00") ∷ []) ∷ punched ((6, codes "O") ∷ (7, codes "PRINT") ∷ (15, codes "D") ∷ (19, codes "1") ∷ []) ∷ punched ((6, codes "O") ∷ (7, codes "PRINT") ∷ (15, codes "D") ∷ (20, codes "1") ∷ []) ∷ punched ((6, codes "O") ∷ (7, codes "PRINT") ∷ (15, codes "D") ∷ (21, codes "66") ∷ []) ∷ []) ≡ (4, 4) ∷ (5, 2) ∷ (5, 4) ∷ (6, 2) ∷ (6, 4) ∷ (7, 2) ∷ (8, 2) ∷ (9, 4) ∷ (10, 4) ∷ (11, 2) ∷ (12, 2) ∷ []
+unfolding code_page faults_of device_of ebcdic reserved_names longest_record digits_number is_word text_of constant_text goes_on kind_of rule_fault header_rules file_rules record_rules record_group_rules output_group_rules field_rules calculation_rules output_line_rules output_field_rules line_of lines_of is_at_fault is_outside is_too_many card_holds sheet_diagnostics
+spaces_and_skips = refl
+
+-- factors and results
+factors : found (punched ((6, codes "C") ∷ (18, codes "TOOLONG") ∷ (28, codes "ADD") ∷ (33, codes "FLD") ∷ (43, codes "FLD") ∷ []) ∷ punched ((6, codes "C") ∷ (28, codes "CHAIN") ∷ (33, codes "DATAFILE") ∷ []) ∷ punched ((6, codes "C") ∷ (28, codes "GOTO") ∷ (33, codes "DATAFILE") ∷ []) ∷ punched ((6, codes "C") ∷ (18, codes "-12.5") ∷ (33, codes ".5") ∷ []) ∷ punched ((6, codes "C") ∷ (18, codes "5.") ∷ (33, codes "'O''K'") ∷ []) ∷ punched ((6, codes "C") ∷ (33, codes "1.2.") ∷ []) ∷ punched ((6, codes "C") ∷ (33, codes "+") ∷ []) ∷ punched ((6, codes "C") ∷ (33, codes "'") ∷ []) ∷ punched ((6, codes "C") ∷ (18, codes "1 2") ∷ []) ∷ punched ((6, codes "C") ∷ (43, codes "1A") ∷ []) ∷ []) ≡ (3, 2) ∷ (3, 3) ∷ (4, 2) ∷ (5, 2) ∷ (5, 3) ∷ (6, 2) ∷ (7, 2) ∷ (8, 2) ∷ (8, 3) ∷ (9, 2) ∷ (9, 3) ∷ (10, 2) ∷ (10, 3) ∷ (11, 2) ∷ (11, 3) ∷ (12, 2) ∷ (12, 3) ∷ []
+unfolding code_page faults_of device_of ebcdic reserved_names longest_record digits_number is_word text_of constant_text goes_on kind_of rule_fault header_rules file_rules record_rules record_group_rules output_group_rules field_rules calculation_rules output_line_rules output_field_rules line_of lines_of is_at_fault is_outside is_too_many card_holds sheet_diagnostics
+factors = refl
+
+-- the length and the decimals of a result
+result_shapes : found (punched ((6, codes "C") ∷ (28, codes "Z-ADD") ∷ (33, codes "1") ∷ (43, codes "A") ∷ (52, codes "0") ∷ []) ∷ punched ((6, codes "C") ∷ (51, codes "5") ∷ []) ∷ punched ((6, codes "C") ∷ (49, codes "257") ∷ []) ∷ punched ((6, codes "C") ∷ (50, codes "16") ∷ (52, codes "0") ∷ []) ∷ punched ((6, codes "C") ∷ (50, codes "15") ∷ (52, codes "9") ∷ []) ∷ punched ((6, codes "C") ∷ (51, codes "3") ∷ (52, codes "4") ∷ []) ∷ punched ((6, codes "C") ∷ (51, codes "3") ∷ (52, codes "X") ∷ []) ∷ []) ≡ (3, 2) ∷ (3, 4) ∷ (4, 2) ∷ (5, 2) ∷ (5, 4) ∷ (6, 2) ∷ (6, 4) ∷ (7, 2) ∷ (8, 2) ∷ (8, 4) ∷ (9, 2) ∷ (9, 4) ∷ []
+unfolding code_page faults_of device_of ebcdic reserved_names longest_record digits_number is_word text_of constant_text goes_on kind_of rule_fault header_rules file_rules record_rules record_group_rules output_group_rules field_rules calculation_rules output_line_rules output_field_rules line_of lines_of is_at_fault is_outside is_too_many card_holds sheet_diagnostics
+result_shapes = refl
