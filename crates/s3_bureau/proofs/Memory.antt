@@ -7,7 +7,7 @@ use Rattle.s3_ocl.specs.Jobs.{Job}
 use Rattle.s3_level.specs.declared.action.Action.TheVariants.{Turn}
 use Rattle.s3_level.specs.declared.action.Did.{Did}
 use Rattle.s3_level.specs.declared.action.Did.TheVariants.{Acted, Idle}
-use Rattle.s3_level.specs.declared.action.Stop.{Stop}
+use Rattle.std.specs.declared.alloc.AllocError.{AllocError}
 use Rattle.s3_level.specs.declared.level.Level.{Level}
 use Rattle.s3_level.specs.Parts.{has_room, is_waiting}
 use Rattle.s3_level.specs.World.{World, JobAtWork}
@@ -42,6 +42,6 @@ turn_acts w false (Some job) halted at_work not_idle =
     rw (halted, at_work) (served_acts (pending job working) job working (rw (halted, at_work) at not_idle))
 
 -- a turn that stops would have acted
-pub turn_that_acts : (old : Level) (result : Result Did Stop) → ((w : World) → Holds old w → (step_of w Turn).did ≡ Idle → result ≡ Ok Idle) → OnErr result ((w : World) → Holds old w → (step_of w Turn).did ≡ Acted)
+pub turn_that_acts : (old : Level) (result : Result Did AllocError) → ((w : World) → Holds old w → (step_of w Turn).did ≡ Idle → result ≡ Ok Idle) → OnErr result ((w : World) → Holds old w → (step_of w Turn).did ≡ Acted)
 turn_that_acts old (Ok did) idle_only = tt
-turn_that_acts old (Err stop) idle_only = λ w held. turn_acts w (is_waiting w.halts) w.job refl refl (λ rests. let same : Err stop ≡ Ok Idle = idle_only w held rests in cc)
+turn_that_acts old (Err refused) idle_only = λ w held. turn_acts w (is_waiting w.halts) w.job refl refl (λ rests. let same : Err refused ≡ Ok Idle = idle_only w held rests in cc)

@@ -7,8 +7,9 @@ ghost use Rattle.s3_level.specs.Solo.{step_of};
 ghost use Rattle.s3_level.specs.Holds.{Holds, Steps};
 
 use super::entry::Entry;
+use super::stop::Stop;
 use s3_cards::{Deck, LevelId, PrintLine};
-use s3_level::{Action, Did, Halt, Level, Stop};
+use s3_level::{Action, Did, Halt, Level};
 use std::alloc::{AllocError, Global};
 
 /// How far a bureau has come.
@@ -84,7 +85,7 @@ impl Bureau {
         }
         match self.enter(entry) {
             Ok(did) => Ok(did),
-            Err(_) => {
+            Err(AllocError) => {
                 self.phase = Phase::Stopped;
                 Err(Stop::NoMemory)
             }
@@ -92,7 +93,7 @@ impl Bureau {
     }
 
     /// Performs an entry in its level.
-    fn enter(&mut self, entry: Entry) -> Result<Did, Stop>
+    fn enter(&mut self, entry: Entry) -> Result<Did, AllocError>
         ensures step { IfOk result (λ did. Steps entry.action did (level_of entry.level self.old) (level_of entry.level self.new)) }
         ensures memory { OnErr result ((w : World) → Holds (level_of entry.level self.old) w → (step_of w entry.action).did ≡ Did.Acted) }
         ensures lines { OnErr result ((level : LevelId) → lines_at level self.new ≡ lines_at level self.old) }
@@ -152,7 +153,7 @@ impl Bureau {
 
 /// One entry of a level. It is proved once, for either level.
 #[tactic(auto, using(crate::proofs::Memory::turn_that_acts))]
-fn act(level: &mut Level, action: Action) -> Result<Did, Stop>
+fn act(level: &mut Level, action: Action) -> Result<Did, AllocError>
     ensures step { IfOk result (λ did. Steps action did level.old level.new) }
     ensures memory { OnErr result ((w : World) → Holds level.old w → (step_of w action).did ≡ Did.Acted) }
     ensures lines { OnErr result (drained_lines level.new.lines ≡ drained_lines level.old.lines) }

@@ -11,6 +11,7 @@ mod report;
 mod run_fault;
 mod runs;
 mod script;
+mod stop;
 
 pub use bureau::Bureau;
 pub use entry::Entry;
@@ -18,4 +19,5 @@ pub use laws::{halt_texts_are_written, reports_are_written, scripts_are_read};
 pub use outcome::{LevelTexts, Outcome};
 pub use run_fault::RunFault;
 pub use runs::run;
-pub use s3_level::{Action, Did, Halt, HaltCode, Stop};
+pub use s3_level::{Action, Did, Halt, HaltCode};
+pub use stop::Stop;

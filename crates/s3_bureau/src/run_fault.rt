@@ -1,7 +1,6 @@
 //! Why a run has no outcome.
 
 use super::script::ScriptFault;
-use s3_level::Stop;
 use std::alloc::AllocError;
 use thiserror::Error;
 
@@ -38,17 +37,5 @@ impl From<ScriptFault> for RunFault {
             ScriptFault::NoMemory => RunFault::NoMemory,
             ScriptFault::Line(line) => RunFault::Script { line },
         }
-    }
-}
-
-/// A run makes no call after a stop, so that only memory stops it.
-impl From<Stop> for RunFault {
-    ghost use Rattle.std.specs.Prelude.{◌≡◌};
-    ghost use Rattle.s3_bureau.specs.declared.run_fault.RunFault.TheVariants.{NoMemory};
-
-    ghost from_gives = { λ _ fault. fault ≡ NoMemory };
-
-    fn from(_: Stop) -> RunFault {
-        RunFault::NoMemory
     }
 }

@@ -1,8 +1,11 @@
 //! A run: two decks and a script, from bytes to texts.
-ghost use Rattle.std.specs.Prelude.{◌≡◌, IfOk, OnOk, replicate};
+ghost use Rattle.std.specs.Prelude.{◌≡◌, ◌≢◌, IfOk, OnOk, replicate, true};
 ghost use Rattle.std.specs.List.{flat_map};
+ghost use Rattle.s3_cards.specs.declared.levels.LevelId.{LevelId};
 ghost use Rattle.s3_level.specs.World.{World};
-ghost use Rattle.s3_bureau.specs.Held.{HoldsFor};
+ghost use Rattle.s3_level.specs.Solo.{closed};
+ghost use Rattle.s3_bureau.specs.Held.{HoldsFor, is_open};
+ghost use Rattle.s3_bureau.specs.declared.stop.Stop.TheVariants.{Stopped};
 ghost use Rattle.s3_bureau.specs.Performs.{Performs};
 ghost use Rattle.s3_bureau.specs.Script.{entries_by};
 ghost use Rattle.s3_bureau.specs.Runs.{Runs, ReadsDeck, drained_texts, entries_texts, outcome_texts, texts_in};
@@ -14,8 +17,8 @@ use super::outcome::{LevelTexts, Outcome};
 use super::report::report_text;
 use super::run_fault::RunFault;
 use super::script::{Command, read_script};
+use super::stop::Stop;
 use s3_cards::{Deck, DeckFault, LevelId};
-use s3_level::Stop;
 use std::alloc::{AllocError, Global};
 
 /// The texts of both levels after a script's entries, each level over its own deck, and the pack.
@@ -37,14 +40,19 @@ pub fn run(
 }
 
 /// The texts of both levels after the entries of all commands, and the pack.
-fn outcome(alloc: Global, pack: &[u8], deck1: &[u8], commands: &[Command]) -> Result<Outcome, Stop>
+fn outcome(
+    alloc: Global,
+    pack: &[u8],
+    deck1: &[u8],
+    commands: &[Command],
+) -> Result<Outcome, AllocError>
     ensures texts { IfOk result (λ outcome. outcome_texts outcome ≡ entries_texts deck1.now (flat_map entries_by commands.now)) }
     ensures pack { IfOk result (λ outcome. outcome.pack.items ≡ pack.now) }
 {
     let (cards, refusal) = read_deck(alloc, deck1)?;
     let mut bureau = Bureau::open(alloc, cards, Deck::empty(alloc))?;
     perform(&mut bureau, commands)?;
-    bureau.finish()?;
+    finish(&mut bureau)?;
     Ok(Outcome {
         one: level_texts(alloc, &bureau, LevelId::One, refusal)?,
         two: level_texts(alloc, &bureau, LevelId::Two, None)?,
@@ -66,8 +74,10 @@ fn read_deck(alloc: Global, text: &[u8]) -> Result<(Deck, Option<(u16, u8)>), Al
 }
 
 /// Performs the entries of all commands, in order.
-fn perform(bureau: &mut Bureau, commands: &[Command]) -> Result<(), Stop>
-    ensures { OnOk result (Performs (flat_map entries_by commands.now) bureau.old bureau.new) }
+fn perform(bureau: &mut Bureau, commands: &[Command]) -> Result<(), AllocError>
+    requires { is_open bureau.old ≡ true }
+    ensures worlds { OnOk result (Performs (flat_map entries_by commands.now) bureau.old bureau.new) }
+    ensures goes_on { OnOk result (is_open bureau.new ≡ true) }
 {
     for command in commands {
         repeat(bureau, command.entry, command.count)?;
@@ -76,13 +86,40 @@ fn perform(bureau: &mut Bureau, commands: &[Command]) -> Result<(), Stop>
 }
 
 /// Performs an entry so many times.
-fn repeat(bureau: &mut Bureau, entry: Entry, count: u16) -> Result<(), Stop>
-    ensures { OnOk result (Performs (replicate count entry) bureau.old bureau.new) }
+fn repeat(bureau: &mut Bureau, entry: Entry, count: u16) -> Result<(), AllocError>
+    requires { is_open bureau.old ≡ true }
+    ensures worlds { OnOk result (Performs (replicate count entry) bureau.old bureau.new) }
+    ensures goes_on { OnOk result (is_open bureau.new ≡ true) }
 {
     for _time in 0..count {
-        bureau.step(entry)?;
+        // What the entry did isn't told: a turn, a reply or a drain that was idle or refused leaves no mark in the texts.
+        match bureau.step(entry) {
+            Ok(_did) => {}
+            Err(stop) => return Err(refused(stop)),
+        }
     }
     Ok(())
+}
+
+/// Closes the levels of an open bureau.
+fn finish(bureau: &mut Bureau) -> Result<(), AllocError>
+    requires { is_open bureau.old ≡ true }
+    ensures { OnOk result ((level : LevelId) (w : World) → HoldsFor level bureau.old w → HoldsFor level bureau.new (closed w)) }
+{
+    match bureau.finish() {
+        Ok(()) => Ok(()),
+        Err(stop) => Err(refused(stop)),
+    }
+}
+
+/// Why an open bureau stops: a growth was refused.
+fn refused(stop: Stop) -> AllocError
+    requires { stop ≢ Stopped }
+{
+    match stop {
+        Stop::NoMemory => AllocError,
+        Stop::Stopped => unreachable!(),
+    }
 }
 
 /// A level's texts.

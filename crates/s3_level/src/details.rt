@@ -10,9 +10,7 @@ pub fn one_detail(alloc: Global, card: u16, number: u8) -> Result<Vec<(u16, u8)>
     ensures { IfOk result (λ details. details.items ≡ (card, number) ∷ []) }
 {
     let mut details = Vec::with_capacity(alloc, 1)?;
-    if details.push((card, number)).is_err() {
-        return Err(AllocError);
-    }
+    details.push((card, number))?;
     Ok(details)
 }
 
@@ -22,9 +20,7 @@ pub fn details_of(alloc: Global, diagnostics: &[Diagnostic]) -> Result<Vec<(u16,
 {
     let mut details = Vec::with_capacity(alloc, diagnostics.len())?;
     for diagnostic in diagnostics {
-        if details.push((diagnostic.card, diagnostic.number)).is_err() {
-            return Err(AllocError);
-        }
+        details.push((diagnostic.card, diagnostic.number))?;
     }
     Ok(details)
 }

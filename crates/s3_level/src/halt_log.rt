@@ -51,18 +51,12 @@ impl HaltLog {
     ) -> Result<(), AllocError>
         ensures { OnOk result (self.new ≡ with_halt job code details.items self.old) }
     {
-        if self
-            .halts
-            .push(Halt {
-                job,
-                code,
-                details,
-                reply: None,
-            })
-            .is_err()
-        {
-            return Err(AllocError);
-        }
+        self.halts.push(Halt {
+            job,
+            code,
+            details,
+            reply: None,
+        })?;
         Ok(())
     }
 

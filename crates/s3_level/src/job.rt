@@ -20,8 +20,8 @@ pub struct OpenJob {
 }
 
 impl OpenJob {
-    #[tactic(auto, using(crate::proofs::Cards::first_card, crate::proofs::Cards::no_card, crate::proofs::Cards::no_card_left), unfolding(s3_cycle::specs::Requests::answer_of))]
     /// Reads the next data card, if there is one.
+    #[tactic(auto, using(crate::proofs::Cards::first_card, crate::proofs::Cards::no_card, crate::proofs::Cards::no_card_left), unfolding(s3_cycle::specs::Requests::answer_of))]
     pub fn read_card(&mut self, deck: &Deck) -> Answer
         ensures answer { answer_of result ≡ card_answer (slice_range deck.now self.old.next self.old.end) }
         ensures fits { IsTrue (is_fit Card result) }

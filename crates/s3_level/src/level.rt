@@ -2,7 +2,7 @@
 
 ghost use Rattle.std.specs.Prelude.{◌≤◌};
 
-use crate::action::{Did, Stop};
+use crate::action::Did;
 use crate::details::{details_of, one_detail};
 use crate::halt::Halt;
 use crate::halt_code::HaltCode;
@@ -45,7 +45,7 @@ const NO_DATE: [u8; 6] = [DIGIT_0; 6];
 const LAST_NUMBER: u16 = 999;
 
 impl Level {
-    ghost use Rattle.std.specs.Prelude.{◌≡◌, ◌≢◌, ◌<◌, [], true, false, nat_lt, length, map, slice_range, unwrap_or, IfErr, IfOk, IsTrue, OnOk};
+    ghost use Rattle.std.specs.Prelude.{◌≡◌, ◌≢◌, ◌<◌, [], true, false, nat_lt, length, map, slice_range, unwrap_or, IfOk, IsTrue, OnOk};
     ghost use Rattle.s3_meaning.specs.Source.{Source};
     ghost use Rattle.s3_meaning.specs.Requests as Meant;
     ghost use Rattle.s3_cycle.specs.declared.request.Request.TheVariants.{Card, Print};
@@ -56,7 +56,6 @@ impl Level {
     ghost use Rattle.s3_level.specs.declared.action.Action.TheVariants.{Turn, Reply, Drain};
     ghost use Rattle.s3_level.specs.declared.action.Did.TheVariants.{Acted, Idle};
     ghost use Rattle.s3_level.specs.declared.halt_code.HaltCode.TheVariants.{FaultySource};
-    ghost use Rattle.s3_level.specs.declared.action.Stop.TheVariants.{NoMemory};
     ghost use Rattle.s3_level.specs.Parts.{drained_lines, halt_of, with_line};
     ghost use Rattle.s3_level.specs.World.{World, JobAtWork, at_start};
     ghost use Rattle.s3_level.specs.Serving.{answered, asking, card_answer, compiled_data, data_of, details_of, halting, job_ended, line_printed, pending, performed, run, served, started, stocked, switches_after, with_answer, with_card_read, with_jobs};
@@ -93,20 +92,20 @@ impl Level {
     /// Performs the pending request of the job at work, or begins the next job.
     ///
     /// It is idle, takes no memory and changes nothing where a halt waits, where no job is at work and none is left, and
-    /// where the job would print and 64 lines are queued. After `NoMemory` nothing is said of the worlds that are held.
-    pub fn turn(&mut self) -> Result<Did, Stop>
+    /// where the job would print and 64 lines are queued. After it ran out of memory nothing is said of the worlds that are
+    /// held.
+    pub fn turn(&mut self) -> Result<Did, AllocError>
         ensures step { IfOk result (λ did. Steps Turn did self.old self.new) }
         ensures idle { (w : World) → Holds self.old w → (step_of w Turn).did ≡ Idle → result ≡ Ok Idle }
-        ensures stop { IfErr result (λ stop. stop ≡ NoMemory) }
         ensures lines { drained_lines self.new.lines ≡ drained_lines self.old.lines }
         ensures id { self.new.id ≡ self.old.id }
     {
-        Ok(self.step()?)
+        self.step()
     }
 
     /// Answers the halt that waits with a digit: refused with 1 where no halt waits, and with 2 where it doesn't allow
     /// the digit, as no halt does yet.
-    pub fn answer(&mut self, digit: u8) -> Result<Did, Stop>
+    pub fn answer(&mut self, digit: u8) -> Result<Did, AllocError>
         ensures step { IfOk result (λ did. Steps (Reply digit) did self.old self.new) }
         ensures refused { (w : World) → Holds self.old w → result ≡ Ok (step_of w (Reply digit)).did }
         ensures unchanged { self.new ≡ self.old }
@@ -150,8 +149,8 @@ impl Level {
         self.halts.halts()
     }
 
-    #[tactic(auto, unfolding(s3_cycle::specs::Requests::request_of))]
     /// Performs the pending request of the job at work, or begins the next job.
+    #[tactic(auto, unfolding(s3_cycle::specs::Requests::request_of))]
     fn step(&mut self) -> Result<Did, AllocError>
         ensures world { Turns result self.old self.new }
         ensures stays { Stays self.old self.new }
@@ -214,8 +213,8 @@ impl Level {
         }
     }
 
-    #[tactic(auto, unfolding(s3_cycle::specs::Requests::answer_of))]
     /// Prints a line for the job at work, unless the queue is full.
+    #[tactic(auto, unfolding(s3_cycle::specs::Requests::answer_of))]
     fn print(&mut self, line: PrintLine) -> Result<Did, AllocError>
         requires { request_by self.old.job ≡ Some (Print line) }
         ensures served { Serves (line_printed line) result self.old self.new }
@@ -248,8 +247,8 @@ impl Level {
         self.show_asked()
     }
 
-    #[tactic(auto, using(crate::proofs::Running::resumed))]
     /// Gives the pending request of the job at work its answer.
+    #[tactic(auto, using(crate::proofs::Running::resumed))]
     fn take_answer(&mut self, answer: &Answer)
         requires { FitsJob self.old.job answer.now }
         ensures world { AtWorkBecomes (λ job w. record w { job = Some (with_answer (answer_of answer.now) job) }) self.old self.new }
@@ -273,8 +272,8 @@ impl Level {
         }
     }
 
-    #[tactic(auto, unfolding(s3_cycle::specs::Requests::request_of, s3_cycle::specs::Requests::answer_of))]
     /// The number of the job at work and what it halts for, where it asks for a reply.
+    #[tactic(auto, unfolding(s3_cycle::specs::Requests::request_of, s3_cycle::specs::Requests::answer_of))]
     fn asked(&self) -> Option<(u16, s3_meaning::halt::HaltCode)>
         ensures { (w : World) (job : JobAtWork) → w.job ≡ Some job → Holds self.now w → AsksFor result job w }
     {
@@ -317,8 +316,8 @@ impl Level {
         Ok(Did::Acted)
     }
 
-    #[tactic(auto, using(crate::proofs::Starting::no_job_left, crate::proofs::Starting::some_job_left))]
     /// Whether a job is left.
+    #[tactic(auto, using(crate::proofs::Starting::no_job_left, crate::proofs::Starting::some_job_left))]
     fn has_job(&self) -> bool
         ensures next { result ≡ nat_lt (next_job self.now.deck self.now.next) (length self.now.deck) }
         ensures none { result ≡ false → jobs_from self.now.deck self.now.next ≡ [] }
@@ -337,8 +336,8 @@ impl Level {
         self.next = self.deck.len();
     }
 
-    #[tactic(auto, using(crate::proofs::Starting::next_is))]
     /// The next job, or its fault.
+    #[tactic(auto, using(crate::proofs::Starting::next_is))]
     fn next_job(&self) -> Result<JobCards, OclFault>
         requires { next_job self.now.deck self.now.next < length self.now.deck }
         ensures job { NextIs self.now.deck self.now.next result }
@@ -452,9 +451,7 @@ impl Level {
         ensures world { OnOk result ((source : Source) → Stands program source → Becomes (stocked program.name source) self.old self.new) }
         ensures stays { Stays self.old self.new }
     {
-        if self.library.insert(program.name, program).is_err() {
-            return Err(AllocError);
-        }
+        self.library.insert(program.name, program)?;
         Ok(())
     }
 

@@ -13,7 +13,7 @@ mod level;
 mod printed_lines;
 mod switches;
 
-pub use action::{Action, Did, Stop};
+pub use action::{Action, Did};
 pub use halt::Halt;
 pub use halt_code::HaltCode;
 pub use laws::{card_lister_lists, each_switch_is_set, jobs_set_date_and_switches};

@@ -51,9 +51,7 @@ impl PrintedLines {
         ensures err { OnErr result (self.new ≡ self.old) }
         ensures drained { drained_lines self.new ≡ drained_lines self.old }
     {
-        if self.lines.push(line).is_err() {
-            return Err(AllocError);
-        }
+        self.lines.push(line)?;
         Ok(())
     }
 
