@@ -10,9 +10,9 @@ use Rattle.s3_bureau.specs.declared.entry.Entry.{Entry}
 use Rattle.s3_bureau.specs.declared.bureau.Bureau.{Bureau}
 use Rattle.s3_bureau.specs.Entries.{own}
 use Rattle.s3_bureau.specs.Held.{HoldsFor}
-use Rattle.s3_bureau.specs.Performs.{Performs}
 use Rattle.s3_bureau.specs.Script.{entries_of}
-use Rattle.s3_bureau.specs.Runs.{Texts, RunTexts, ReadsDeck, texts_of, drained_texts, run_alone, level_texts, entries_texts, texts_after}
+use Rattle.s3_bureau.specs.Runs.{Texts, RunTexts, texts_of, run_alone, level_texts, entries_texts, texts_after}
+use Rattle.s3_bureau.specs.Underway.{ReadsDeck, Performs, drained_texts}
 
 -- all lines of a closed world were drained
 drained_closed : (refusal : Option (ℕ × ℕ)) (w : World) → drained_texts refusal (closed w) ≡ texts_of refusal (closed w)

@@ -1,8 +1,8 @@
 pub mod Entries
 pub mod Faults
 pub mod Held
-pub mod Performs
 pub mod Runs
 pub mod Samples
 pub mod Script
 pub mod Texts
+pub mod Underway

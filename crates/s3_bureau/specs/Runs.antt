@@ -4,7 +4,6 @@ use Rattle.s3_cards.specs.declared.levels.LevelId.TheVariants.{One, Two}
 use Rattle.s3_cards.specs.declared.deck.DeckFault.{DeckFault}
 use Rattle.s3_cards.specs.Deck.{deck_of, detail_of}
 use Rattle.s3_level.specs.declared.action.Action.{Action}
-use Rattle.s3_level.specs.Parts.{drained_lines}
 use Rattle.s3_level.specs.World.{World, at_start}
 use Rattle.s3_level.specs.Solo.{solo, closed}
 use Rattle.s3_bureau.specs.declared.entry.Entry.{Entry}
@@ -36,18 +35,9 @@ abbrev pub refusal_of : Result (List (List ℕ)) DeckFault → Option (ℕ × �
 refusal_of (Ok cards) = None
 refusal_of (Err fault) = detail_of fault
 
--- what is read of a deck: its cards, or why it was refused
-pub record ReadsDeck (text : List ℕ) (cards : List (List ℕ)) (refusal : Option (ℕ × ℕ)) : Type 0 where
-  pub read : cards ≡ cards_of (deck_of text)
-  pub refused : refusal ≡ refusal_of (deck_of text)
-
 -- the texts of a world, beside a deck that was refused or not
 abbrev pub texts_of : Option (ℕ × ℕ) → World → Texts
 texts_of refusal w = record { report = report_of w.lines.printed; halts = halt_text_of refusal w.halts }
-
--- the texts of a world's drained lines and its halts
-abbrev pub drained_texts : Option (ℕ × ℕ) → World → Texts
-drained_texts refusal w = record { report = report_of (drained_lines w.lines); halts = halt_text_of refusal w.halts }
 
 -- the world of a level after its own entries over its own deck, closed
 abbrev pub run_alone : List (List ℕ) → List Action → World

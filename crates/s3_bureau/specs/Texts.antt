@@ -1,5 +1,5 @@
 -- Reports and halt texts as bytes.
-use Rattle.std.specs.Prelude.{◌≡◌, ◌<◌, ℕ, ◌-◌, ◌==◌, List, [], ◌∷◌, ◌++◌, Option, Some, None, codes, length, map, replicate, slice_index, unwrap_or, if◌then◌else◌}
+use Rattle.std.specs.Prelude.{ℕ, ◌-◌, ◌==◌, List, [], ◌∷◌, ◌++◌, Option, Some, None, codes, length, map, replicate, unwrap_or, if◌then◌else◌}
 use Rattle.std.specs.List.{flat_map}
 use Rattle.std.specs.Fmt.{decimal}
 use Rattle.s3_cards.specs.Codes.{host_of}
@@ -17,10 +17,6 @@ in_digits width number = replicate (width - length (decimal number)) 48 ++ decim
 -- the byte that shows an EBCDIC code: its character, or a question mark
 abbrev pub shown_byte : ℕ → ℕ
 shown_byte code = unwrap_or (host_of code) 0x3f
-
--- the table has the byte that shows each code
-abbrev pub ShowsCodes : List ℕ → Type 0
-ShowsCodes table = (code : ℕ) → code < 256 → slice_index table code ≡ shown_byte code
 
 -- a code before a text that ends in no blank
 abbrev pub before_trimmed : ℕ → List ℕ → List ℕ

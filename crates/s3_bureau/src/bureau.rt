@@ -42,7 +42,8 @@ impl Bureau {
     ghost use Rattle.s3_level.specs.Holds.{Holds, Steps};
     ghost use Rattle.s3_bureau.specs.Held.{HoldsFor, is_open, level_of, lines_at};
 
-    /// A bureau with a deck for each level. Level two isn't served yet: its deck counts as empty.
+    /// A bureau with a deck for each level, before its first entry. Level two isn't served yet: for now its deck counts as
+    /// empty.
     pub fn open(alloc: Global, deck1: Deck, deck2: Deck) -> Result<Bureau, AllocError>
         ensures one { IfOk result (λ bureau. HoldsFor LevelId.One bureau (at_start deck1)) }
         ensures two { IfOk result (λ bureau. HoldsFor LevelId.Two bureau (at_start [])) }
@@ -141,6 +142,7 @@ impl Bureau {
         self.level(level).halts()
     }
 
+    /// One of the two levels.
     fn level(&self, level: LevelId) -> &Level
         ensures { result.now ≡ level_of level self.now }
     {

@@ -1,6 +1,7 @@
 //! A level's report: its printed lines as a text.
 ghost use Rattle.std.specs.Prelude.{◌≡◌, ◌++◌, ◌≤◌, ◌+◌, length, map, OnOk, IfOk};
-ghost use Rattle.s3_bureau.specs.Texts.{shown_byte, trimmed, report_line, report_of, ShowsCodes};
+ghost use Rattle.s3_bureau.specs.Texts.{shown_byte, trimmed, report_line, report_of};
+ghost use Rattle.s3_bureau.specs.Underway.{ShowsCodes};
 
 use super::number::push_number;
 use s3_cards::ebcdic::BLANK;
@@ -37,7 +38,8 @@ fn push_line(report: &mut Vec<u8>, table: &[u8; 256], line: &PrintLine) -> Resul
     Ok(())
 }
 
-/// The byte that shows each code, in the order of the codes.
+/// The byte that shows each code, in the order of the codes: made once for a report, so that each of its codes costs one
+/// look-up.
 fn shown_bytes() -> [u8; 256]
     ensures { ShowsCodes result }
 {
@@ -72,7 +74,7 @@ fn trim_end(text: &[u8]) -> &[u8]
 /// Eight blanks.
 const EIGHT_BLANKS: [u8; 8] = [BLANK; 8];
 
-/// A text without those blanks at its end that stand by eights.
+/// A text without those blanks at its end that stand by eights, as in the 132 positions of a short line.
 fn trim_eights(text: &[u8]) -> &[u8]
     ensures value { trimmed result.now ≡ trimmed text.now }
     ensures shorter { length result.now ≤ length text.now }

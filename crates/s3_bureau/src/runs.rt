@@ -6,9 +6,9 @@ ghost use Rattle.s3_level.specs.World.{World};
 ghost use Rattle.s3_level.specs.Solo.{closed};
 ghost use Rattle.s3_bureau.specs.Held.{HoldsFor, is_open};
 ghost use Rattle.s3_bureau.specs.declared.stop.Stop.TheVariants.{Stopped};
-ghost use Rattle.s3_bureau.specs.Performs.{Performs};
 ghost use Rattle.s3_bureau.specs.Script.{entries_by};
-ghost use Rattle.s3_bureau.specs.Runs.{Runs, ReadsDeck, drained_texts, entries_texts, outcome_texts, texts_in};
+ghost use Rattle.s3_bureau.specs.Runs.{Runs, entries_texts, outcome_texts, texts_in};
+ghost use Rattle.s3_bureau.specs.Underway.{ReadsDeck, Performs, drained_texts};
 
 use super::bureau::Bureau;
 use super::entry::Entry;
@@ -24,8 +24,10 @@ use std::alloc::{AllocError, Global};
 /// The texts of both levels after a script's entries, each level over its own deck, and the pack.
 ///
 /// A script with an ill-formed line is refused before anything else. A deck that can't be read counts as empty, and its
-/// level's halt text begins with its fault, as of job 000. Level two isn't served yet: its deck counts as empty. No pack is
-/// read yet: it is handed back as it came.
+/// level's halt text begins with its fault, as of job 000.
+///
+/// Level two isn't served yet: for now its deck isn't read and counts as empty, whatever it is. Nor is a pack read yet: its
+/// bytes are handed back as they came, in a copy.
 pub fn run(
     alloc: Global,
     pack: &[u8],

@@ -16,7 +16,7 @@ use Rattle.s3_sheets.specs.Lines.{lines_of}
 use Rattle.s3_sheets.specs.Sheets.{sheet_diagnostics}
 use Rattle.s3_meaning.specs.Source.{Source, source_of}
 use Rattle.s3_compile.specs.declared.program.Program.{Program}
-use Rattle.s3_compile.specs.Diagnostics.{compile_diagnostics}
+use Rattle.s3_compile.specs.Diagnostics.{first_else, compile_diagnostics}
 use Rattle.s3_compile.specs.Stands.{Stands}
 use Rattle.s3_compile.specs.Compiles.{StandsFor, program_name}
 use Rattle.s3_ocl.specs.declared.faults.FaultyJob.{FaultyJob}
@@ -27,8 +27,9 @@ use Rattle.s3_ocl.specs.Streams.{jobs_from}
 use Rattle.s3_ocl.proofs.StreamLemmas.{jobs_from-none, jobs_from-next}
 use Rattle.s3_level.specs.declared.job.OpenJob.{OpenJob}
 use Rattle.s3_level.specs.declared.level.Level.{Level}
-use Rattle.s3_level.specs.Serving.{asking, pending, run, compiled, compiled_data, data_of, diagnostics_of, performed, started, stocked, unless_empty, switches_after, with_jobs, with_settings}
-use Rattle.s3_level.specs.Holds.{Holds, HoldsAtWork, Stocks, AtWorkBecomes, Becomes, NextIs, Starts}
+use Rattle.s3_level.specs.Serving.{asking, pending, run, compiled, compiled_data, data_of, diagnostics_of, performed, run_card_of, started, stocked, switches_after, with_jobs, with_settings}
+use Rattle.s3_level.specs.Holds.{Holds, HoldsAtWork, Stocks, Becomes}
+use Rattle.s3_level.specs.Turning.{AtWorkBecomes, NextIs, Starts}
 
 pub taken_then_started : {T E : Type 0} (result : Result T E) (old taken new : Level) (job : Result Job FaultyJob) (after number : ℕ)
     → number ≡ old.number
@@ -120,7 +121,7 @@ program_performed (Ok _) number job program from to old new runs is_program is_f
     λ w held.
     let over : List (List ℕ) = data_of old.deck job in
     let same : slice_range old.deck from to ≡ over = ap (λ n. slice_range old.deck n to) is_from ∙ ap (slice_range old.deck job.data_from) is_to in
-    subst (λ (compiles : Bool). Holds new (if compiles then compiled_data number job.data_from job.data_from over w else run number over (w.library job.program) w)) (sym runs)
+    subst (λ (compiles : Bool). Holds new (if compiles then compiled_data number (run_card_of job) job.data_from over w else run number over (w.library job.program) w)) (sym runs)
     (subst (λ cards. Holds new (run number cards (w.library job.program) w)) same
     (subst (λ (named : Name). Holds new (run number (slice_range old.deck from to) (w.library named) w)) is_program (performs w held)))
 program_performed (Err _) number job program from to old new runs is_program is_from is_to performs = tt
@@ -135,7 +136,7 @@ pub compiled_source : {T E : Type 0} (result : Result T E) (number run_card from
     → OnOk result (Becomes (compiled_data number run_card from cards) old new)
 compiled_source (Ok _) number run_card from cards lines program old new no_faults are_lines accepted stands stocks =
     let none : diagnostics_of run_card from cards ≡ [] =
-    ap (λ found. unless_empty found (compile_diagnostics run_card (lines_of from cards))) no_faults
+    ap (λ found. first_else found (compile_diagnostics run_card (lines_of from cards))) no_faults
     ∙ ap (compile_diagnostics run_card) (sym are_lines) ∙ accepted in
     λ w held.
     subst (λ found. Holds new (compiled number (lines_of from cards) found w)) (sym none)

@@ -1,32 +1,19 @@
 -- What it is that a level holds a world.
-use Rattle.std.specs.Prelude.{◌≡◌, ℕ, List, ◌∷◌, slice_range, IsTrue, Option, Some, None, Result, Ok, Err}
-use Rattle.std.specs.declared.alloc.AllocError.{AllocError}
+use Rattle.std.specs.Prelude.{◌≡◌, ℕ, List, slice_range, Option, Some, None}
 use Rattle.indexmap.specs.IndexMap.{get}
 use Rattle.s3_cards.specs.declared.name.Name.{Name}
 use Rattle.s3_cards.specs.Names.{same_name}
 use Rattle.s3_meaning.specs.Source.{Source}
-use Rattle.s3_meaning.specs.declared.halt.HaltCode.{HaltCode as ProgramHalt}
-use Rattle.s3_meaning.specs.Requests.{Ask}
 use Rattle.s3_compile.specs.declared.program.Program.{Program}
 use Rattle.s3_compile.specs.Stands.{Stands}
-use Rattle.s3_cycle.specs.Rest.{Follows, asked}
-use Rattle.s3_cycle.specs.declared.request.Request.{Request as ProgramRequest}
-use Rattle.s3_cycle.specs.declared.request.Answer.{Answer as ProgramAnswer}
-use Rattle.s3_cycle.specs.Requests.{request_of, is_fit}
-use Rattle.s3_ocl.specs.declared.faults.FaultyJob.{FaultyJob}
-use Rattle.s3_ocl.specs.declared.jobs.OclFault.{OclFault}
-use Rattle.s3_ocl.specs.declared.jobs.OclFault.TheVariants.{NoMemory, Faulty}
-use Rattle.s3_ocl.specs.Jobs.{Job}
+use Rattle.s3_cycle.specs.Rest.{Follows}
 use Rattle.s3_ocl.specs.Streams.{jobs_from}
 use Rattle.s3_level.specs.declared.action.Action.{Action}
-use Rattle.s3_level.specs.declared.action.Action.TheVariants.{Turn}
 use Rattle.s3_level.specs.declared.action.Did.{Did}
-use Rattle.s3_level.specs.declared.action.Did.TheVariants.{Acted}
 use Rattle.s3_level.specs.declared.job.OpenJob.{OpenJob}
 use Rattle.s3_level.specs.declared.level.Level.{Level}
 use Rattle.s3_level.specs.Parts.{drained_lines}
 use Rattle.s3_level.specs.World.{World, JobAtWork}
-use Rattle.s3_level.specs.Serving.{Outcome, asking, pending, started, with_jobs, begun}
 use Rattle.s3_level.specs.Solo.{step_of}
 
 -- a program stands for the world's source of its name, where there is one
@@ -72,59 +59,3 @@ pub record Stays (old new : Level) : Type 0 where
   pub id : new.id ≡ old.id
   pub deck : new.deck ≡ old.deck
   pub drained : drained_lines new.lines ≡ drained_lines old.lines
-
--- ---- a job at work
--- where a job is at work, the pending request of its program is that of the world's job
-abbrev pub Pends : Option ProgramRequest → World → Type 0
-Pends None w = w.job ≡ None
-Pends (Some request) w = (job : JobAtWork) × (w.job ≡ Some job) × (pending job w ≡ request_of request)
-
--- the pending request of an open job
-abbrev pub request_by : Option OpenJob → Option ProgramRequest
-request_by None = None
-request_by (Some job) = Some (asked job.cycle)
-
--- an answer that the pending request of an open job can have
-abbrev pub FitsJob : Option OpenJob → ProgramAnswer → Type 0
-FitsJob None answer = Unit {0}
-FitsJob (Some job) answer = IsTrue (is_fit (asked job.cycle) answer)
-
--- the halt that the world's job asks for, if it does, with the job's number
-abbrev pub AsksFor : Option (ℕ × ProgramHalt) → JobAtWork → World → Type 0
-AsksFor None job w = asking job.number (pending job w) w ≡ w
-AsksFor (Some (number, code)) job w = (number ≡ job.number) × (pending job w ≡ Ask code)
-
--- each world that was held with a job at work becomes this one
-abbrev pub AtWorkBecomes : (JobAtWork → World → World) → Level → Level → Type 0
-AtWorkBecomes change old new = (w : World) (job : JobAtWork) → w.job ≡ Some job → Holds old w → Holds new (change job w)
-
--- each world that was held with a job at work is served like this; memory runs out only where it acts
-abbrev pub Serves : (JobAtWork → World → Outcome) → Result Did AllocError → Level → Level → Type 0
-Serves serve (Ok did) old new = (w : World) (job : JobAtWork) → w.job ≡ Some job → Holds old w → (did ≡ (serve job w).did) × Holds new (serve job w).world
-Serves serve (Err _) old new = (w : World) (job : JobAtWork) → w.job ≡ Some job → Holds old w → (serve job w).did ≡ Acted
-
--- ---- the start of a job
--- the next job of a deck, or its fault, unless memory ran out
-abbrev pub NextIs : List (List ℕ) → ℕ → Result Job OclFault → Type 0
-NextIs deck from (Ok job) = jobs_from deck from ≡ Ok job ∷ jobs_from deck job.after
-NextIs deck from (Err (Faulty faulty)) = jobs_from deck from ≡ Err faulty ∷ jobs_from deck faulty.after
-NextIs deck from (Err NoMemory) = Unit {0}
-
--- each world that was held with no job at work begins its next job; memory runs out only where there is one
-abbrev pub Begins : Result Did AllocError → Level → Level → Type 0
-Begins (Ok did) old new = (w : World) → w.job ≡ None → Holds old w → (did ≡ (begun w.deck.jobs w).did) × Holds new (begun w.deck.jobs w).world
-Begins (Err _) old new = (w : World) → w.job ≡ None → Holds old w → (begun w.deck.jobs w).did ≡ Acted
-
--- each world that was held with no job at work becomes this one
-abbrev pub AtRestBecomes : (World → World) → Level → Level → Type 0
-AtRestBecomes change old new = (w : World) → w.job ≡ None → Holds old w → Holds new (change w)
-
--- each world that was held with no job at work starts this job, the one before that place
-abbrev pub Starts : Result Job FaultyJob → ℕ → Level → Level → Type 0
-Starts job after old new = AtRestBecomes (λ w. started w.deck.number job (with_jobs (jobs_from old.deck after) w)) old new
-
--- ---- a turn
--- each world that was held takes its turn; memory runs out only where it acts
-abbrev pub Turns : Result Did AllocError → Level → Level → Type 0
-Turns (Ok did) old new = Steps Turn did old new
-Turns (Err _) old new = (w : World) → Holds old w → (step_of w Turn).did ≡ Acted

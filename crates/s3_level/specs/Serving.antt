@@ -11,7 +11,7 @@ use Rattle.s3_meaning.specs.Source.{Source, source_of}
 use Rattle.s3_meaning.specs.Requests.{Request, Card, Print, Jump, Ask, End, Answer, Found, Nothing, Done}
 use Rattle.s3_meaning.specs.Environment.{switch_on}
 use Rattle.s3_meaning.specs.Cycle.{Req}
-use Rattle.s3_compile.specs.Diagnostics.{compile_diagnostics}
+use Rattle.s3_compile.specs.Diagnostics.{first_else, compile_diagnostics}
 use Rattle.s3_compile.specs.Compiles.{program_name}
 use Rattle.s3_ocl.specs.declared.values.Switch.{Switch}
 use Rattle.s3_ocl.specs.declared.values.Switch.TheVariants.{On, Off, Leave}
@@ -84,13 +84,9 @@ served (End at_once) job w = acted (job_ended w)
 served _ job w = idle w
 
 -- ---- the start of a job
-abbrev pub unless_empty : List Diagnostic → List Diagnostic → List Diagnostic
-unless_empty [] more = more
-unless_empty (first ∷ others) more = first ∷ others
-
 -- the diagnostics of a source: those of its cards, or, where there are none, those of the whole
 abbrev pub diagnostics_of : (run_card from : ℕ) → List (List ℕ) → List Diagnostic
-diagnostics_of run_card from cards = unless_empty (sheet_diagnostics from cards) (compile_diagnostics run_card (lines_of from cards))
+diagnostics_of run_card from cards = first_else (sheet_diagnostics from cards) (compile_diagnostics run_card (lines_of from cards))
 
 abbrev pub details_of : List Diagnostic → List (ℕ × ℕ)
 details_of diagnostics = map (λ diagnostic. (diagnostic.card, diagnostic.number)) diagnostics
@@ -117,11 +113,15 @@ data_of deck job = slice_range deck job.data_from job.data_to
 abbrev pub compiled_data : (number run_card from : ℕ) → List (List ℕ) → World → World
 compiled_data number run_card from cards w = compiled number (lines_of from cards) (diagnostics_of run_card from cards) w
 
--- a job compiles its data, or starts a program over them. The number of its RUN card is the place of the card behind it.
+-- the number of a job's RUN card, the last card before its data
+abbrev pub run_card_of : Job → ℕ
+run_card_of job = job.data_from
+
+-- a job compiles its data, or starts a program over them
 abbrev pub performed : ℕ → Job → List (List ℕ) → World → World
 performed number job cards w =
     if is_compile job
-    then compiled_data number job.data_from job.data_from cards w
+    then compiled_data number (run_card_of job) job.data_from cards w
     else run number cards (w.library job.program) w
 
 -- ---- date and switches

@@ -11,11 +11,13 @@ use s3_cycle::{Answer, Cycle};
 /// A job at work: its number, its program's cycle, and the places of its data cards that are not yet read.
 #[derive(Drop)]
 pub struct OpenJob {
+    /// Its number, 0 to 999.
     pub number: u16,
+    /// The cycle of its program.
     pub cycle: Cycle,
-    /// the place of the next data card in the deck
+    /// The place of the next data card in the deck.
     pub next: usize,
-    /// the place after the last one
+    /// The place after the last one.
     pub end: usize,
 }
 

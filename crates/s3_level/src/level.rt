@@ -46,6 +46,7 @@ const LAST_NUMBER: u16 = 999;
 
 impl Level {
     ghost use Rattle.std.specs.Prelude.{◌≡◌, ◌≢◌, ◌<◌, [], true, false, nat_lt, length, map, slice_range, unwrap_or, IfOk, IsTrue, OnOk};
+    ghost use Rattle.std.specs.Option.{option_copied};
     ghost use Rattle.s3_meaning.specs.Source.{Source};
     ghost use Rattle.s3_meaning.specs.Requests as Meant;
     ghost use Rattle.s3_cycle.specs.declared.request.Request.TheVariants.{Card, Print};
@@ -60,7 +61,8 @@ impl Level {
     ghost use Rattle.s3_level.specs.World.{World, JobAtWork, at_start};
     ghost use Rattle.s3_level.specs.Serving.{answered, asking, card_answer, compiled_data, data_of, details_of, halting, job_ended, line_printed, pending, performed, run, served, started, stocked, switches_after, with_answer, with_card_read, with_jobs};
     ghost use Rattle.s3_level.specs.Solo.{step_of, closed};
-    ghost use Rattle.s3_level.specs.Holds.{Holds, Becomes, Steps, Stays, Pends, request_by, FitsJob, AsksFor, AtWorkBecomes, Serves, NextIs, Begins, Starts, Turns};
+    ghost use Rattle.s3_level.specs.Holds.{Holds, Becomes, Steps, Stays};
+    ghost use Rattle.s3_level.specs.Turning.{Pends, request_by, FitsJob, AsksFor, AtWorkBecomes, Serves, NextIs, Begins, Starts, Turns};
 
     /// A level with this deck, before its first entry.
     pub fn new(alloc: Global, id: LevelId, deck: Deck) -> Result<Level, AllocError>
@@ -158,24 +160,27 @@ impl Level {
         if self.halts.is_waiting() {
             return Ok(Did::Idle);
         }
-        match &self.pending() {
+        match self.pending() {
             None => self.begin(),
             Some(Request::Card) => self.read_card(),
-            Some(Request::Print(line)) => self.print(*line),
+            Some(Request::Print(line)) => {
+                let line = *line;
+                self.print(line)
+            }
             Some(Request::Ask(_)) => Ok(Did::Idle),
             Some(Request::End { .. }) => Ok(self.end_job()),
         }
     }
 
     /// The pending request of the job at work.
-    fn pending(&self) -> Option<Request>
-        ensures request { result ≡ request_by self.now.job }
-        ensures world { (w : World) → Holds self.now w → Pends result w }
+    fn pending(&self) -> Option<&Request>
+        ensures request { option_copied result ≡ request_by self.now.job }
+        ensures world { (w : World) → Holds self.now w → Pends (option_copied result) w }
     {
         let Some(job) = &self.job else {
             return None;
         };
-        Some(*job.cycle.pending())
+        Some(job.cycle.pending())
     }
 
     /// Ends the job at work.
