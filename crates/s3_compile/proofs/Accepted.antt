@@ -20,7 +20,8 @@ use Rattle.s3_compile.specs.Before.{before_of, record_file, line_file, has_card_
 use Rattle.s3_compile.specs.Part.{is_built, is_built_file, is_built_input, is_built_output_line}
 use Rattle.s3_compile.specs.Conditions.{line_holds, has_undefined_input, has_undefined_output, is_field_otherwise, output_begins_early, is_field, is_field_card, is_record_of_output, is_line_for_input}
 use Rattle.s3_compile.specs.Diagnostics.{line_diagnostics, diagnostics_after, own_numbers, further_numbers, is_same, placed, precedes, has_one_primary, compile_diagnostics, first_else, diagnostics_with, further_diagnostics}
-use Rattle.s3_compile.specs.Translation.{file_on, inputs_of, outputs_of}
+use Rattle.s3_compile.specs.Compiles.{IsAccepted}
+use Rattle.s3_compile.specs.Translation.{files_of, inputs_of, outputs_of}
 use Rattle.s3_compile.proofs.DiagnosticLemmas.{last_of-append, any-append}
 
 -- ---- each sheet
@@ -64,9 +65,6 @@ line_named _ = None
 abbrev pub OutputsFine : Known → Option Name → List OutputLine → Type 0
 OutputsFine known last [] = Unit {0}
 OutputsFine known last (line ∷ lines) = FineOutput known last line × OutputsFine known (option_or (line_named line) last) lines
-
-abbrev pub files_of : List Line → List FileLine
-files_of lines = filter_map (λ line. file_on line.sheet) lines
 
 pub record AllFine (known : Known) (before : Before) (lines : List Line) : Type 0 where
   pub files : FilesFine before.has_card_file before.has_print_file (files_of lines)
@@ -230,9 +228,12 @@ one_primary false found diagnostic h =
     let place : ℕ = prefix_len (λ other. precedes other diagnostic) found in
     absurd (kept_or_inserted (is_same diagnostic (slice_get found place)) found place diagnostic (same_some found place diagnostic) h)
 
-pub accepted : (run_card : ℕ) (lines : List Line) → compile_diagnostics run_card lines ≡ [] → Accepted lines
+pub no_diagnostics : (run_card : ℕ) (lines : List Line) → compile_diagnostics run_card lines ≡ [] → IsAccepted lines
 unfolding compile_diagnostics
-accepted run_card lines none =
+no_diagnostics run_card lines none =
     let a = first_empty (diagnostics_with own_numbers lines) (further_diagnostics run_card lines) none in
     let b = one_primary (has_one_primary lines) (diagnostics_with further_numbers lines) (record { card = run_card; number = 12 }) a.1 in
-    record { fine = all_fine (known_of lines) [] lines a.0 b.1; one_primary = b.0 }
+    (a.0, b.1, b.0)
+
+pub accepted : (lines : List Line) → IsAccepted lines → Accepted lines
+accepted lines none = record { fine = all_fine (known_of lines) [] lines none.0 none.1; one_primary = none.2 }

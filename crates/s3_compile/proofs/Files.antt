@@ -1,9 +1,8 @@
 -- The files of an accepted source: one card file, at most one print file, and no others.
 use Rattle.std.proofs.Common.{◌≡◌, ℕ, ◌+◌, ◌<◌, ◌≤◌, List, [], ◌∷◌, Bool, true, false, cond, refl, sym, ◌∙◌, ap, arith, subst, inl, inr, length, suc, eqb-true, ltb-true, leb-true, lt-ltb, lit<, lit≤}
-use Rattle.std.specs.Prelude.{◌⊎◌, Option, Some, None, is_none, not, ◌&&◌, ◌||◌, filter, filter_map, find, nat_lt, nat_le, unwrap_or, option_map, if◌then◌else◌}
+use Rattle.std.specs.Prelude.{◌⊎◌, Option, Some, None, is_none, not, ◌&&◌, ◌||◌, filter, find, nat_lt, nat_le, option_map}
 use Rattle.std.specs.Option.{option_or}
 use Rattle.std.specs.List.{count_by}
-use Rattle.std.proofs.Math.Path.{fun_ext}
 use Rattle.std.proofs.lemmas.Bool.{cases_Bool}
 use Rattle.std.proofs.lemmas.List.Sums.{length-filter}
 use Rattle.s3_sheets.specs.declared.indicator.Indicator.{Indicator}
@@ -20,16 +19,18 @@ use Rattle.s3_sheets.specs.declared.sheet.SheetLine.{SheetLine}
 use Rattle.s3_sheets.specs.declared.sheet.SheetLine.TheVariants.{Header, File, Input, Calculation, Output}
 use Rattle.s3_sheets.specs.declared.sheet.Line.{Line}
 use Rattle.s3_cards.specs.Names.{same_name}
-use Rattle.s3_meaning.specs.Source.{file_line, is_designated, is_input, is_card_reader, is_printer, overflow_of}
+use Rattle.s3_cards.specs.Codes.{ebcdic, code_page}
+use Rattle.s3_sheets.specs.Rules.{longest_record}
+use Rattle.s3_meaning.specs.Source.{is_designated, is_input, is_card_reader, is_printer, overflow_of}
 use Rattle.s3_compile.specs.declared.definitions.DefinedFile.{DefinedFile}
 use Rattle.s3_compile.specs.Definitions.{file_from, file_of}
 use Rattle.s3_compile.specs.Before.{is_card_use, is_print_use, is_card_file, is_print_file}
-use Rattle.s3_compile.specs.Part.{is_built_file, is_built_use, is_built_designation, lies_within, longest_record, has_plain_entries, has_no_disk_entries, is_built_switch}
+use Rattle.s3_compile.specs.Part.{is_built_file, is_built_use, is_built_designation, lies_within, longest_built, has_plain_entries, has_no_disk_entries, is_built_switch}
 use Rattle.s3_compile.specs.Conditions.{is_output, is_primary, is_primary_line}
 use Rattle.s3_compile.specs.Diagnostics.{has_one_primary}
-use Rattle.s3_compile.specs.Translation.{file_on, first_of, print_length, print_length_of, byte_of, switch_of, switch_on, card_file, print_file, card_switch_of, print_switch_of}
+use Rattle.s3_compile.specs.Translation.{files_of, print_length_of, width_of, switch_of, switch_on, card_switch_of, print_switch_of}
 use Rattle.s3_compile.specs.Stands.{switched_by}
-use Rattle.s3_compile.proofs.Accepted.{FineFile, FilesFine, files_of}
+use Rattle.s3_compile.proofs.Accepted.{FineFile, FilesFine}
 use Rattle.s3_compile.proofs.Slots.{some_same}
 
 -- ---- tests
@@ -106,22 +107,31 @@ switched : (condition : Option Indicator) → is_built_switch condition ≡ true
 switched None h = refl
 switched (Some indicator) h = switch_is indicator h
 
+-- the longest records, as numbers
+reader_record : longest_built CardReader ≡ 96
+unfolding longest_record ebcdic code_page
+reader_record = refl
+
+printer_record : longest_built Printer ≡ 132
+unfolding longest_record ebcdic code_page
+printer_record = refl
+
 record Plain (file : FileLine) : Type 0 where
   condition : file.condition ≡ switched_by (switch_of file.condition)
   overflow : file.overflow ≡ None
   some : 0 < file.record_length
-  positions : file.record_length ≤ longest_record file.device
+  positions : file.record_length ≤ longest_built file.device
 
 plain : (file : FileLine) → is_built_file file ≡ true → Plain file
 plain file built =
     let used : Bool = is_built_use file.usage && is_built_designation file.designation in
-    let size : Bool = lies_within file.record_length file.record_length (longest_record file.device) in
+    let size : Bool = lies_within file.record_length file.record_length (longest_built file.device) in
     let all : Bool = used && size && has_plain_entries file in
     let most : (all && has_no_disk_entries file) ≡ true = and_left (all && has_no_disk_entries file) (is_built_switch file.condition) built in
     let a : all ≡ true = and_left all (has_no_disk_entries file) most in
     let b : has_no_disk_entries file ≡ true = and_right all (has_no_disk_entries file) most in
     let c : size ≡ true = and_right used size (and_left (used && size) (has_plain_entries file) a) in
-    let d = within file.record_length (longest_record file.device) c in
+    let d = within file.record_length (longest_built file.device) c in
     record {
       condition = switched file.condition (and_right (all && has_no_disk_entries file) (is_built_switch file.condition) built);
       overflow = none_is file.overflow (and_right (is_none file.key && not file.has_additions) (is_none file.overflow) b);
@@ -142,7 +152,7 @@ fine_card file is_card built =
       usage = ap is_output used.0;
       condition = entries.condition;
       overflow = entries.overflow;
-      positions = subst (λ (d : Device). file.record_length ≤ longest_record d) used.2 entries.positions;
+      positions = subst (λ (n : ℕ). file.record_length ≤ n) (ap longest_built used.2 ∙ reader_record) entries.positions;
     }
 
 fine_print : (file : FileLine) → is_print_file file ≡ true → is_built_file file ≡ true → FinePrint file
@@ -157,7 +167,7 @@ fine_print file is_print built =
       condition = entries.condition;
       overflow = entries.overflow;
       some = entries.some;
-      positions = subst (λ (d : Device). file.record_length ≤ longest_record d) used.2 entries.positions;
+      positions = subst (λ (n : ℕ). file.record_length ≤ n) (ap longest_built used.2 ∙ printer_record) entries.positions;
     }
 
 card_or_print : (c p card print : Bool) → cond c card (cond p print true) ≡ false → (c ≡ true) ⊎ (p ≡ true)
@@ -277,52 +287,32 @@ the_card files o file fine i usage =
     let input : is_input file ≡ true = elim c [ inl card ↦ card.input | inr print ↦ (let no : true ≡ false = sym print.usage ∙ usage in cc) ] in
     in_one file o.card (subst (λ (xs : List FileLine). In file xs) o.only (in_filter is_input files file input i))
 
--- ---- the switch of the card file
-file_here : (b : Bool) (f : FileLine) (rest : Option FileLine) → b ≡ true → option_or (cond b (Some f) None) rest ≡ Some f
+-- ---- the card file is found
+file_here : (b : Bool) (f : FileLine) (rest : Option FileLine) → b ≡ true → cond b (Some f) rest ≡ Some f
 file_here true f rest so = refl
 file_here false f rest so = cc
 
-file_later : (b : Bool) (f : FileLine) (rest : Option FileLine) (file : FileLine) → b ≡ false → rest ≡ Some file → option_or (cond b (Some f) None) rest ≡ Some file
+file_later : (b : Bool) (f : FileLine) (rest : Option FileLine) (file : FileLine) → b ≡ false → rest ≡ Some file → cond b (Some f) rest ≡ Some file
 file_later true f rest file other e = cc
 file_later false f rest file other e = e
-
-abbrev card_in : FileLine → Option FileLine
-card_in file = if is_card_file file then Some file else None
 
 behind : (file f : FileLine) (fs : List FileLine) → is_card_file file ≡ true → is_card_file f ≡ false → In file (f ∷ fs) → In file fs
 behind file f fs so other (inl e) = let no : true ≡ false = sym so ∙ ap is_card_file e ∙ other in cc
 behind file f fs so other (inr i) = i
 
 card_found : (files : List FileLine) (file : FileLine) → In file files → is_card_file file ≡ true → ((g : FileLine) → In g files → is_card_file g ≡ true → g ≡ file)
-    → first_of card_in files ≡ Some file
+    → find is_card_file files ≡ Some file
 card_found [] file i so only = absurd i
 card_found (f ∷ fs) file i so only = elim (cases_Bool (is_card_file f)) [
-  | inl is ↦ file_here (is_card_file f) f (first_of card_in fs) is ∙ ap (λ g. Some g) (only f (inl refl) is)
-  | inr other ↦ file_later (is_card_file f) f (first_of card_in fs) file other (card_found fs file (behind file f fs so other i) so (λ g j. only g (inr j)))
+  | inl is ↦ file_here (is_card_file f) f (find is_card_file fs) is ∙ ap (λ g. Some g) (only f (inl refl) is)
+  | inr other ↦ file_later (is_card_file f) f (find is_card_file fs) file other (card_found fs file (behind file f fs so other i) so (λ g j. only g (inr j)))
 ]
-
-first_card_line : (place : ℕ) (sheet : SheetLine) (lines : List Line) → first_of (λ (line : Line). card_file line.sheet) lines ≡ first_of card_in (files_of lines)
-    → first_of (λ (line : Line). card_file line.sheet) (one_line place sheet ∷ lines) ≡ first_of card_in (files_of (one_line place sheet ∷ lines))
-first_card_line place (Header name) lines later = later
-first_card_line place (File file) lines later = ap (option_or (card_in file)) later
-first_card_line place (Input input) lines later = later
-first_card_line place (Output output) lines later = later
-first_card_line place (Calculation calculation) lines later = later
-
-first_cards : (lines : List Line) → first_of (λ (line : Line). card_file line.sheet) lines ≡ first_of card_in (files_of lines)
-first_cards [] = refl
-first_cards (line ∷ lines) = first_card_line line.card line.sheet lines (first_cards lines)
 
 pub card_switch_is : (lines : List Line) (o : OneCard (files_of lines)) → FilesFine false false (files_of lines) → card_switch_of lines ≡ switch_of o.card.condition
 card_switch_is lines o fine =
     ap switch_on
-    (first_cards lines
-    ∙ card_found (files_of lines) o.card o.among o.fine.is_card
+    (card_found (files_of lines) o.card o.among o.fine.is_card
     (λ g i so. the_card (files_of lines) o g fine i (ap is_output (card_use g.usage g.designation g.device so).0)))
-
--- ---- at most one print file
-abbrev pub print_in : FileLine → Option ℕ
-print_in file = if is_print_file file then byte_of file.record_length else None
 
 -- ---- no overflow
 no_overflow_on : (card print : Bool) (file : FileLine) → FineFile card print file → file.overflow ≡ None
@@ -364,64 +354,14 @@ no_other_print card print (f ∷ fs) file fine (inl e) so = first_print card pri
 no_other_print card print (f ∷ fs) file fine (inr i) so =
     or_left print (is_print_file f) (no_other_print (card || is_card_file f) (print || is_print_file f) fs file fine.1 i so)
 
-byte_small : (n : ℕ) → n ≤ 132 → byte_of n ≡ Some n
-byte_small n small = rw (lt-ltb n 256 (omega arith)) refl
-
-print_here : (b : Bool) (n : Option ℕ) (rest : Option ℕ) (m : ℕ) → b ≡ true → n ≡ Some m → option_or (cond b n None) rest ≡ Some m
-print_here true n rest m so e = rw e refl
-print_here false n rest m so e = cc
-
-print_later : (b : Bool) (n : Option ℕ) (rest : Option ℕ) (m : ℕ) → b ≡ false → rest ≡ Some m → option_or (cond b n None) rest ≡ Some m
-print_later true n rest m other e = cc
-print_later false n rest m other e = e
-
-print_found : (card print : Bool) (files : List FileLine) (file : FileLine) → FilesFine card print files → In file files → is_print_file file ≡ true → file.record_length ≤ 132
-    → first_of print_in files ≡ Some file.record_length
-print_found card print [] file fine i so small = absurd i
-print_found card print (f ∷ fs) file fine (inl e) so small =
-    subst (λ (g : FileLine). first_of print_in (g ∷ fs) ≡ Some file.record_length) e
-    (print_here (is_print_file file) (byte_of file.record_length) (first_of print_in fs) file.record_length so (byte_small file.record_length small))
-print_found card print (f ∷ fs) file fine (inr i) so small =
-    print_later (is_print_file f) (byte_of f.record_length) (first_of print_in fs) file.record_length
-    (or_right print (is_print_file f) (no_other_print (card || is_card_file f) (print || is_print_file f) fs file fine.1 i so))
-    (print_found (card || is_card_file f) (print || is_print_file f) fs file fine.1 i so small)
-
-first_print_line : (place : ℕ) (sheet : SheetLine) (lines : List Line) → first_of (λ (line : Line). print_length line.sheet) lines ≡ first_of print_in (files_of lines)
-    → first_of (λ (line : Line). print_length line.sheet) (one_line place sheet ∷ lines) ≡ first_of print_in (files_of (one_line place sheet ∷ lines))
-first_print_line place (Header name) lines later = later
-first_print_line place (File file) lines later = ap (option_or (print_in file)) later
-first_print_line place (Input input) lines later = later
-first_print_line place (Output output) lines later = later
-first_print_line place (Calculation calculation) lines later = later
-
-first_prints : (lines : List Line) → first_of (λ (line : Line). print_length line.sheet) lines ≡ first_of print_in (files_of lines)
-first_prints [] = refl
-first_prints (line ∷ lines) = first_print_line line.card line.sheet lines (first_prints lines)
-
--- its switch
-abbrev print_file_in : FileLine → Option FileLine
-print_file_in file = if is_print_file file then Some file else None
-
-print_file_found : (card print : Bool) (files : List FileLine) (file : FileLine) → FilesFine card print files → In file files → is_print_file file ≡ true → first_of print_file_in files ≡ Some file
+print_file_found : (card print : Bool) (files : List FileLine) (file : FileLine) → FilesFine card print files → In file files → is_print_file file ≡ true → find is_print_file files ≡ Some file
 print_file_found card print [] file fine i so = absurd i
 print_file_found card print (f ∷ fs) file fine (inl e) so =
-    subst (λ (g : FileLine). first_of print_file_in (g ∷ fs) ≡ Some file) e (file_here (is_print_file file) file (first_of print_file_in fs) so)
+    subst (λ (g : FileLine). find is_print_file (g ∷ fs) ≡ Some file) e (file_here (is_print_file file) file (find is_print_file fs) so)
 print_file_found card print (f ∷ fs) file fine (inr i) so =
-    file_later (is_print_file f) f (first_of print_file_in fs) file
+    file_later (is_print_file f) f (find is_print_file fs) file
     (or_right print (is_print_file f) (no_other_print (card || is_card_file f) (print || is_print_file f) fs file fine.1 i so))
     (print_file_found (card || is_card_file f) (print || is_print_file f) fs file fine.1 i so)
-
-first_print_file_line : (place : ℕ) (sheet : SheetLine) (lines : List Line) → first_of (λ (line : Line). print_file line.sheet) lines ≡ first_of print_file_in (files_of lines)
-    → first_of (λ (line : Line). print_file line.sheet) (one_line place sheet ∷ lines) ≡ first_of print_file_in (files_of (one_line place sheet ∷ lines))
-first_print_file_line place (Header name) lines later = later
-first_print_file_line place (File file) lines later = ap (option_or (print_file_in file)) later
-first_print_file_line place (Input input) lines later = later
-first_print_file_line place (Output output) lines later = later
-first_print_file_line place (Calculation calculation) lines later = later
-
-first_print_files : (lines : List Line) → first_of (λ (line : Line). print_file line.sheet) lines ≡ first_of print_file_in (files_of lines)
-first_print_files [] = refl
-first_print_files (line ∷ lines) = first_print_file_line line.card line.sheet lines (first_print_files lines)
 
 no_reader : (device : Device) → is_card_reader device ≡ true → is_printer device ≡ true → ⊥
 no_reader CardReader reader printer = let no : false ≡ true = printer in cc
@@ -452,33 +392,34 @@ pub print_condition : (lines : List Line) (file : FileLine) → FilesFine false 
 print_condition lines file fine i printer =
     let p : FinePrint file = printer_is file printer (fine_in false false (files_of lines) file fine i) in
     p.condition
-    ∙ ap (λ o. switched_by (switch_on o)) (sym (first_print_files lines ∙ print_file_found false false (files_of lines) file fine i (print_use_of false false (files_of lines) file fine i p.usage)))
+    ∙ ap (λ o. switched_by (switch_on o)) (sym (print_file_found false false (files_of lines) file fine i (print_use_of false false (files_of lines) file fine i p.usage)))
 
 -- a file of type O is the print file, whose record length the program keeps
 pub record ThePrint (lines : List Line) (file : FileLine) : Type 0 where
   pub fine : FinePrint file
   pub length : print_length_of lines ≡ file.record_length
 
+narrow : (n : ℕ) → n ≤ 132 → cond (nat_lt n 256) n 132 ≡ n
+narrow n small = rw (lt-ltb n 256 (omega arith)) refl
+
 pub the_print : (lines : List Line) (file : FileLine) → FilesFine false false (files_of lines) → In file (files_of lines) → is_output file.usage ≡ true → ThePrint lines file
 the_print lines file fine i usage =
     let p : FinePrint file = is_print file usage (fine_in false false (files_of lines) file fine i) in
-    let found = print_found false false (files_of lines) file fine i (print_use_of false false (files_of lines) file fine i usage) p.positions in
-    record { fine = p; length = ap (λ o. unwrap_or o 132) (first_prints lines ∙ found) }
+    let found = print_file_found false false (files_of lines) file fine i (print_use_of false false (files_of lines) file fine i usage) in
+    record { fine = p; length = ap width_of found ∙ narrow file.record_length p.positions }
 
-print_in_range : (n : ℕ) (rest : Option ℕ) (b : Bool) → (b ≡ true → (0 < n) × (n ≤ 132)) → (0 < unwrap_or rest 132) × (unwrap_or rest 132 ≤ 132)
-    → (0 < unwrap_or (option_or (cond b (byte_of n) None) rest) 132) × (unwrap_or (option_or (cond b (byte_of n) None) rest) 132 ≤ 132)
-print_in_range n rest true size later = let s = size refl in rw (byte_small n s.1) s
-print_in_range n rest false size later = later
+range_of : (o : Option FileLine) → ((file : FileLine) → o ≡ Some file → FinePrint file) → (0 < width_of o) × (width_of o ≤ 132)
+range_of None each = (lit< tt, lit≤ tt)
+range_of (Some file) each = let p : FinePrint file = each file refl in rw (narrow file.record_length p.positions) (p.some, p.positions)
 
-print_size : (card print : Bool) (files : List FileLine) → FilesFine card print files
-    → (0 < unwrap_or (first_of print_in files) 132) × (unwrap_or (first_of print_in files) 132 ≤ 132)
-print_size card print [] fine = (lit< tt, lit≤ tt)
-print_size card print (f ∷ fs) fine =
-    print_in_range f.record_length (first_of print_in fs) (is_print_file f) (λ so. let p = fine_print f so fine.0.built in (p.some, p.positions))
-    (print_size (card || is_card_file f) (print || is_print_file f) fs fine.1)
+found_print : (lines : List Line) → FilesFine false false (files_of lines) → (file : FileLine) → find is_print_file (files_of lines) ≡ Some file → FinePrint file
+found_print lines fine file found =
+    let among = find_in is_print_file (files_of lines) file found in
+    let printer : is_printer file.device ≡ true = ap is_printer (print_use file.usage file.designation file.device among.1).2 in
+    printer_is file printer (fine_in false false (files_of lines) file fine among.0)
 
 pub print_length_range : (lines : List Line) → FilesFine false false (files_of lines) → (0 < print_length_of lines) × (print_length_of lines ≤ 132)
-print_length_range lines fine = rw (first_prints lines) (print_size false false (files_of lines) fine)
+print_length_range lines fine = range_of (find is_print_file (files_of lines)) (found_print lines fine)
 
 -- ---- files by name
 named_here : (b : Bool) (place : ℕ) (file : FileLine) (rest : Option DefinedFile) (other : Option FileLine) (g : DefinedFile) → (rest ≡ Some g → other ≡ Some g.line)
@@ -503,14 +444,3 @@ named_from place (line ∷ lines) name g h = named_in place line.card line.sheet
 
 pub file_found : (lines : List Line) (name : Name) (g : DefinedFile) → file_of lines name ≡ Some g → find (λ file. same_name file.name name) (files_of lines) ≡ Some g.line
 file_found lines name g h = named_from 0 lines name g h
-
--- the files of a source are those of its lines
-file_line_is : (card : ℕ) (sheet : SheetLine) → file_line (one_line card sheet) ≡ file_on sheet
-file_line_is card (Header name) = refl
-file_line_is card (File file) = refl
-file_line_is card (Input input) = refl
-file_line_is card (Output output) = refl
-file_line_is card (Calculation calculation) = refl
-
-pub source_files : (lines : List Line) → filter_map file_line lines ≡ files_of lines
-source_files lines = ap (λ (f : Line → Option FileLine). filter_map f lines) (fun_ext (λ line. file_line_is line.card line.sheet))

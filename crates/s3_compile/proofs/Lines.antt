@@ -29,13 +29,14 @@ use Rattle.s3_compile.specs.declared.program.Content.TheVariants.{Field as Field
 use Rattle.s3_compile.specs.declared.program.Piece.{Piece}
 use Rattle.s3_compile.specs.declared.program.DetailLine.{DetailLine}
 use Rattle.s3_compile.specs.Definitions.{Known, Lengths}
-use Rattle.s3_compile.specs.Names.{is_reserved}
+use Rattle.s3_sheets.specs.Entries.{is_reserved}
+use Rattle.s3_sheets.specs.Lines.{no_spacing}
 use Rattle.s3_compile.specs.Part.{is_detail, is_plain, is_built_content, are_built_conditions, lies_within, positions_of, positions_in}
 use Rattle.s3_compile.specs.Conditions.{is_output, is_undefined_file, is_input_name, is_input_file, has_undefined_field, is_longer_than, content_begins_early}
 use Rattle.s3_compile.specs.Translation.{fields_of, slot_of, content_of, piece_of, details_from}
-use Rattle.s3_compile.specs.Stands.{SameContent, SamePiece, SamePieces, IsPrintFile, blank_spacing}
+use Rattle.s3_compile.specs.Stands.{SameContent, SamePiece, SamePieces, IsPrintFile}
 use Rattle.s3_compile.specs.Valid.{content_fits, ArePieces, AreLines}
-use Rattle.s3_compile.proofs.Accepted.{FineOutput, OutputsFine, line_named}
+use Rattle.s3_compile.proofs.Accepted.{FineOutput, OutputsFine}
 use Rattle.s3_compile.proofs.Slots.{field_with, some_same}
 use Rattle.s3_compile.proofs.Files.{and_left, and_right, not_true}
 use Rattle.s3_compile.proofs.Moves.{zip_each, both, not_not, some_is, Slots}
@@ -55,12 +56,12 @@ detail_is Exception h = cc
 abbrev spacing_with : Option ℕ → Option ℕ → Option ℕ → Option ℕ → Spacing
 spacing_with a b c d = record { space_before = a; space_after = b; skip_before = c; skip_after = d }
 
-no_spacing : (a b c d : Option ℕ) → is_blank (spacing_with a b c d) ≡ true → spacing_with a b c d ≡ blank_spacing
-no_spacing None None None None h = refl
-no_spacing _ _ _ _ h = cc
+all_blank : (a b c d : Option ℕ) → is_blank (spacing_with a b c d) ≡ true → spacing_with a b c d ≡ no_spacing
+all_blank None None None None h = refl
+all_blank _ _ _ _ h = cc
 
-blank_is : (spacing : Spacing) → is_blank spacing ≡ true → spacing ≡ blank_spacing
-blank_is spacing h = no_spacing spacing.space_before spacing.space_after spacing.skip_before spacing.skip_after h
+blank_is : (spacing : Spacing) → is_blank spacing ≡ true → spacing ≡ no_spacing
+blank_is spacing h = all_blank spacing.space_before spacing.space_after spacing.skip_before spacing.skip_after h
 
 not_longer : (length end : ℕ) → nat_lt end length ≡ false → nat_le length end ≡ true
 not_longer length end h = grind (arith, nat_tests)
@@ -84,13 +85,6 @@ card_prints source known width last card the_print fine name there =
     let g = some_is (known.file name) (ap (is_undefined_file known) (sym there) ∙ fine.defined) in
     let input : is_input_file (known.file name) ≡ false = ap (is_input_name known) (sym there) ∙ fine.allowed in
     the_print name g.0 g.1 (not_not (is_output g.0.line.usage) (ap is_input_file (sym g.1) ∙ input))
-
-next_prints : (source : Source) (known : Known) (width : ℕ) (last : Option Name) (line : OutputLine) → IsThePrint source known width → LastPrints source known width last
-    → FineOutput known last line → LastPrints source known width (option_or (line_named line) last)
-next_prints source known width last (LineCard card) the_print prints fine = card_prints source known width last card the_print fine
-next_prints source known width last (FieldCard field) the_print prints fine = prints
-next_prints source known width last (AndCard conditions) the_print prints fine = prints
-next_prints source known width last (OrCard conditions) the_print prints fine = prints
 
 -- ---- a piece
 abbrev piece_on : Lengths → OutputField → Piece
@@ -226,7 +220,7 @@ are_lines lengths lines =
 pub record SameDetail (fields : List Field) (all : List Piece) (width : ℕ) (source : Source) (line : DetailLine) (output : Output) : Type 0 where
   pub file : IsPrintFile width (file_named source output.file)
   pub kind : output.kind ≡ Detail
-  pub spacing : output.spacing ≡ blank_spacing
+  pub spacing : output.spacing ≡ no_spacing
   pub group : output.groups ≡ entries line.conditions ∷ []
   pub pieces : SamePieces fields (slice_range all line.first line.past) output.fields
 

@@ -1,7 +1,7 @@
 -- The record type of an accepted source, and what is moved from its records.
 use Rattle.std.proofs.Common.{◌≡◌, ℕ, ◌-◌, ◌<◌, ◌≤◌, List, [], ◌∷◌, Bool, true, false, refl, sym, ◌∙◌, ap, arith, subst, zero, suc, eq-eqb, eqb-true, ltb-true, leb-true, lt-ltb, le-leb}
-use Rattle.std.specs.Prelude.{Option, Some, None, IsTrue, is_none, not, ◌&&◌, filter_map, slice_get, nat_lt, nat_le}
-use Rattle.std.specs.Option.{option_or, option_and_then}
+use Rattle.std.specs.Prelude.{Option, Some, None, IsTrue, is_none, not, ◌&&◌, filter_map, find, slice_get, nat_lt, nat_le}
+use Rattle.std.specs.Option.{option_and_then}
 use Rattle.std.specs.List.{AllZip, cons_option}
 use Rattle.std.proofs.lemmas.Slice.Zip.{AllZip-long}
 use Rattle.s3_sheets.specs.declared.indicator.Indicator.{Indicator}
@@ -23,8 +23,8 @@ use Rattle.s3_compile.specs.declared.program.FieldMove.{FieldMove}
 use Rattle.s3_compile.specs.Definitions.{Known, Lengths}
 use Rattle.s3_compile.specs.Part.{is_number, is_alphanumeric, has_no_codes, has_no_indicators, is_plain_field, is_placed_field, lies_within, positions_of, positions_in}
 use Rattle.s3_compile.specs.Conditions.{is_length, is_output, is_output_file}
-use Rattle.s3_compile.specs.Names.{is_reserved}
-use Rattle.s3_compile.specs.Translation.{fields_of, slot_of, record_indicator, move_of, first_of}
+use Rattle.s3_sheets.specs.Entries.{is_reserved}
+use Rattle.s3_compile.specs.Translation.{fields_of, slot_of, record_indicator, is_record, move_of}
 use Rattle.s3_compile.specs.Stands.{SameMove, SameTypes}
 use Rattle.s3_compile.specs.Valid.{move_fits, has_length, AreMoves}
 use Rattle.s3_compile.proofs.Accepted.{FineInput, InputsFine}
@@ -49,12 +49,6 @@ filter_map_twice f g [] = refl
 filter_map_twice f g (x ∷ xs) =
     elim (g x) as (λ o. cons_option (option_and_then f o) (filter_map (λ x. option_and_then f (g x)) xs) ≡ filter_map f (cons_option o (filter_map g xs)))
     [ None ↦ filter_map_twice f g xs | Some y ↦ ap (cons_option (f y)) (filter_map_twice f g xs) ]
-
-pub first_of_map : {X Y Z : Type 0} (f : Y → Option Z) (g : X → Option Y) (xs : List X) → first_of (λ x. option_and_then f (g x)) xs ≡ first_of f (filter_map g xs)
-first_of_map f g [] = refl
-first_of_map f g (x ∷ xs) =
-    elim (g x) as (λ o. option_or (option_and_then f o) (first_of (λ x. option_and_then f (g x)) xs) ≡ first_of f (cons_option o (filter_map g xs)))
-    [ None ↦ first_of_map f g xs | Some y ↦ ap (option_or (f y)) (first_of_map f g xs) ]
 
 -- ---- tests
 pub both : (a b : Bool) → a ≡ true → b ≡ true → (a && b) ≡ true
@@ -192,7 +186,7 @@ abbrev pub IsTheCard : Known → FileLine → Type 0
 IsTheCard known card = (name : Name) (g : DefinedFile) → known.file name ≡ Some g → is_output g.line.usage ≡ false → (same_name name card.name ≡ true) × (g.line.record_length ≤ 96)
 
 pub typed : (known : Known) (lengths : Lengths) (card : FileLine) (inputs : List InputLine) (last : Name) → Slots known lengths → IsTheCard known card → InputsFine known None inputs
-    → Typed lengths card (filter_map (move_of lengths) inputs) (first_of record_indicator inputs) (types_from last inputs)
+    → Typed lengths card (filter_map (move_of lengths) inputs) (option_and_then record_indicator (find is_record inputs)) (types_from last inputs)
 typed known lengths card [] last slots the_card fine = (refl, refl)
 typed known lengths card (Record file (General number) codes ∷ inputs) last slots the_card fine =
     let g = some_is (known.file file) fine.0.defined in

@@ -2,7 +2,7 @@
 use Rattle.std.proofs.Common.{◌≡◌, ℕ, List, [], ◌∷◌, ◌++◌, Bool, true, false, cond, refl, sym, ◌∙◌, ap, subst}
 use Rattle.std.specs.Prelude.{Option, Some, None, not, ◌&&◌, filter_map}
 use Rattle.std.specs.Option.{option_or}
-use Rattle.std.proofs.Math.Path.{fun_ext}
+use Rattle.std.specs.List.{list_any}
 use Rattle.indexmap.specs.IndexMap.{IsUnique, get}
 use Rattle.s3_cards.specs.declared.name.Name.{Name}
 use Rattle.s3_sheets.specs.declared.sheet.FieldLine.{FieldLine}
@@ -10,46 +10,25 @@ use Rattle.s3_sheets.specs.declared.sheet.Shape.{Shape}
 use Rattle.s3_sheets.specs.declared.sheet.Shape.TheVariants.{Alphanumeric}
 use Rattle.s3_sheets.specs.declared.sheet.InputLine.{InputLine}
 use Rattle.s3_sheets.specs.declared.sheet.InputLine.TheVariants.{Record, And, Or, Field as InputField}
-use Rattle.s3_sheets.specs.declared.sheet.OutputLine.{OutputLine}
 use Rattle.s3_sheets.specs.declared.sheet.SheetLine.{SheetLine}
 use Rattle.s3_sheets.specs.declared.sheet.SheetLine.TheVariants.{Header, File, Input, Calculation, Output}
 use Rattle.s3_sheets.specs.declared.sheet.Line.{Line}
 use Rattle.s3_meaning.specs.Names.{page, udate, umonth, uday, uyear}
 use Rattle.s3_cards.specs.Names.{same_name}
-use Rattle.s3_meaning.specs.Source.{Source, width, field_shape, input_line, output_line, input_shape, reserved_shapes, shape_in, shape_of}
+use Rattle.s3_meaning.specs.Source.{Source, width, field_shape, input_shape, reserved_shapes, shape_in, shape_of}
 use Rattle.s3_compile.specs.declared.program.Field.{Field}
 use Rattle.s3_compile.specs.Definitions.{Known, Lengths, length_by, length_of}
-use Rattle.s3_compile.specs.Names.{is_reserved}
+use Rattle.s3_cards.specs.Codes.{ebcdic, code_page}
+use Rattle.s3_sheets.specs.Entries.{is_reserved, reserved_names}
 use Rattle.s3_compile.specs.Part.{is_plain_field, is_placed_field, positions_in}
 use Rattle.s3_compile.specs.Conditions.{is_length}
-use Rattle.s3_compile.specs.Translation.{input_on, output_on, inputs_of, outputs_of, fields_of}
+use Rattle.s3_compile.specs.Translation.{inputs_of, fields_of}
 use Rattle.s3_compile.specs.Stands.{SameField, SameFields}
 use Rattle.s3_compile.proofs.Accepted.{FineInput, InputsFine}
 use Rattle.s3_compile.proofs.DefinitionLemmas.{is_same_name}
 use Rattle.s3_compile.proofs.Slots.{names_equal, some_same, field_known, once_each}
 use Rattle.s3_compile.proofs.Files.{and_left, or_left, or_right, one_line}
 use Rattle.s3_compile.proofs.Moves.{alphanumeric_is}
-
--- ---- the input lines and output lines of a source are those of its lines
-input_line_is : (card : ℕ) (sheet : SheetLine) → input_line (one_line card sheet) ≡ input_on sheet
-input_line_is card (Header name) = refl
-input_line_is card (File file) = refl
-input_line_is card (Input input) = refl
-input_line_is card (Output output) = refl
-input_line_is card (Calculation calculation) = refl
-
-output_line_is : (card : ℕ) (sheet : SheetLine) → output_line (one_line card sheet) ≡ output_on sheet
-output_line_is card (Header name) = refl
-output_line_is card (File file) = refl
-output_line_is card (Input input) = refl
-output_line_is card (Output output) = refl
-output_line_is card (Calculation calculation) = refl
-
-pub source_inputs : (lines : List Line) → filter_map input_line lines ≡ inputs_of lines
-source_inputs lines = ap (λ (f : Line → Option InputLine). filter_map f lines) (fun_ext (λ line. input_line_is line.card line.sheet))
-
-pub source_outputs : (lines : List Line) → filter_map output_line lines ≡ outputs_of lines
-source_outputs lines = ap (λ (f : Line → Option OutputLine). filter_map f lines) (fun_ext (λ line. output_line_is line.card line.sheet))
 
 -- ---- lengths by the input lines alone
 abbrev length_on : InputLine → Name → Option ℕ
@@ -116,14 +95,36 @@ shown known last (InputField field ∷ inputs) more name n fine h =
     (names_equal.symm name field.name) (is_same_name field.name name) (not_reserved known last field fine.0) (form_is known last field fine.0)
     (shown known last inputs more name n fine.1) h
 
-past_five : (name : Name) (shapes : Shapes) → is_reserved name ≡ false → shape_in (reserved_shapes ++ shapes) name ≡ shape_in shapes name
-past_five name shapes free =
-    let a = or_left (same_name name page) _ free in
-    let b = or_right (same_name name page) _ free in
-    let c = or_right (same_name name udate) _ b in
-    let d = or_right (same_name name umonth) _ c in
-    let e = or_right (same_name name uday) _ d in
-    rw (a, or_left (same_name name udate) _ b, or_left (same_name name umonth) _ c, or_left (same_name name uday) _ d, or_left (same_name name uyear) _ e) refl
+-- ---- the reserved names
+reserved_are : reserved_names ≡ udate ∷ umonth ∷ uday ∷ uyear ∷ page ∷ []
+unfolding reserved_names ebcdic code_page
+reserved_are = refl
+
+record Free (name : Name) : Type 0 where
+  no_date : same_name name udate ≡ false
+  no_month : same_name name umonth ≡ false
+  no_day : same_name name uday ≡ false
+  no_year : same_name name uyear ≡ false
+  no_page : same_name name page ≡ false
+
+free_of : (name : Name) → is_reserved name ≡ false → Free name
+free_of name free =
+    let a : list_any (λ (other : Name). same_name other name) (udate ∷ umonth ∷ uday ∷ uyear ∷ page ∷ []) ≡ false =
+    ap (list_any (λ (other : Name). same_name other name)) (sym reserved_are) ∙ free in
+    let b = or_right (same_name udate name) _ a in
+    let c = or_right (same_name umonth name) _ b in
+    let d = or_right (same_name uday name) _ c in
+    let e = or_right (same_name uyear name) _ d in
+    record {
+      no_date = names_equal.symm name udate ∙ or_left (same_name udate name) _ a;
+      no_month = names_equal.symm name umonth ∙ or_left (same_name umonth name) _ b;
+      no_day = names_equal.symm name uday ∙ or_left (same_name uday name) _ c;
+      no_year = names_equal.symm name uyear ∙ or_left (same_name uyear name) _ d;
+      no_page = names_equal.symm name page ∙ or_left (same_name page name) _ e;
+    }
+
+past_five : (name : Name) (shapes : Shapes) → Free name → shape_in (reserved_shapes ++ shapes) name ≡ shape_in shapes name
+past_five name shapes free = rw (free.no_page, free.no_date, free.no_month, free.no_day, free.no_year) refl
 
 -- a field that is known is alphanumeric, of the length that is known
 pub same_field : (known : Known) (source : Source) (lines : List Line) (more : Shapes) (field : Field) → InputsFine known None (inputs_of lines)
@@ -131,9 +132,10 @@ pub same_field : (known : Known) (source : Source) (lines : List Line) (more : S
 same_field known source lines more field fine shapes known_as =
     let s : Shown (filter_map input_shape (inputs_of lines) ++ more) field.name field.length =
     shown known None (inputs_of lines) more field.name field.length fine (sym (lengths_in lines field.name) ∙ known_as) in
+    let free : Free field.name = free_of field.name s.free in
     let shape : shape_of source field.name ≡ Alphanumeric field.length =
-    ap (λ shapes. shape_in shapes field.name) shapes ∙ (past_five field.name (filter_map input_shape (inputs_of lines) ++ more) s.free ∙ s.shape) in
-    record { alphanumeric = rw shape refl; bytes = rw shape refl; not_page = or_left (same_name field.name page) _ s.free }
+    ap (λ shapes. shape_in shapes field.name) shapes ∙ (past_five field.name (filter_map input_shape (inputs_of lines) ++ more) free ∙ s.shape) in
+    record { alphanumeric = rw shape refl; bytes = rw shape refl; not_page = free.no_page }
 
 pub same_fields : (known : Known) (source : Source) (lengths : Lengths) (lines : List Line) (more : Shapes) → InputsFine known None (inputs_of lines)
     → source.shapes ≡ reserved_shapes ++ filter_map input_shape (inputs_of lines) ++ more → IsUnique same_name lengths

@@ -1,18 +1,17 @@
 -- What the lines of an accepted source become stands for it.
-use Rattle.std.proofs.Common.{◌≡◌, ℕ, ◌≤◌, List, [], ◌++◌, true, false, refl, sym, ◌∙◌, ap, subst, length, lt-ltb, le-leb}
-use Rattle.std.specs.Prelude.{Option, Some, None, filter, filter_map, find, slice_get, nat_lt, nat_le}
+use Rattle.std.proofs.Common.{◌≡◌, ℕ, ◌≤◌, List, [], true, false, refl, sym, ◌∙◌, ap, subst, length, lt-ltb, le-leb}
+use Rattle.std.specs.Prelude.{Option, Some, None, filter_map, find, slice_get, nat_lt, nat_le}
 use Rattle.std.specs.List.{AllZip}
 use Rattle.std.proofs.lemmas.Slice.Zip.{AllZip-long}
 use Rattle.indexmap.specs.IndexMap.{IsUnique, get}
 use Rattle.s3_cards.specs.declared.name.Name.{Name}
 use Rattle.s3_sheets.specs.declared.sheet.FileLine.{FileLine}
-use Rattle.s3_sheets.specs.declared.sheet.InputLine.{InputLine}
 use Rattle.s3_sheets.specs.declared.sheet.Line.{Line}
 use Rattle.s3_cards.specs.Names.{no_name, same_name}
-use Rattle.s3_meaning.specs.RecordTypes.{RecordType, types_from}
+use Rattle.s3_meaning.specs.RecordTypes.{types_from}
 use Rattle.s3_meaning.specs.Calculations.{calculations_of}
 use Rattle.s3_meaning.specs.OutputLines.{Output}
-use Rattle.s3_meaning.specs.Source.{Source, source_of, is_input, overflow_of, file_named, calculation_line, input_shape, result_shape, reserved_shapes}
+use Rattle.s3_meaning.specs.Source.{Source, source_of, file_named, input_line, output_line, calculation_line, result_shape}
 use Rattle.s3_compile.specs.declared.definitions.Definitions.{Definitions}
 use Rattle.s3_compile.specs.declared.program.Field.{Field}
 use Rattle.s3_compile.specs.declared.program.FieldMove.{FieldMove}
@@ -22,15 +21,15 @@ use Rattle.s3_compile.specs.declared.program.Program.{Program}
 use Rattle.s3_compile.specs.Definitions.{Known, known_of, shown, Lengths, length_of}
 use Rattle.s3_compile.specs.Part.{positions_of}
 use Rattle.s3_compile.specs.Compiles.{IsAccepted}
-use Rattle.s3_compile.specs.Translation.{input_on, output_on, inputs_of, outputs_of, fields_of, move_of, piece_of, record_indicator, details_from, moves_of, pieces_of, record_indicator_of, print_length_of, card_switch_of, print_switch_of}
+use Rattle.s3_compile.specs.Translation.{files_of, inputs_of, outputs_of, fields_of, move_of, piece_of, details_from, moves_of, pieces_of, record_indicator_of, print_length_of, card_switch_of, print_switch_of}
 use Rattle.s3_compile.specs.Stands.{Stands, SameFields, SameTypes, SameLine, IsPrintFile, switched_by}
 use Rattle.s3_compile.specs.Valid.{AreMoves, ArePieces, AreLines, IsWidth}
-use Rattle.s3_compile.proofs.Accepted.{Accepted, accepted, files_of, FilesFine}
+use Rattle.s3_compile.proofs.Accepted.{Accepted, accepted, FilesFine}
 use Rattle.s3_compile.proofs.Slots.{names_equal, slot_found}
-use Rattle.s3_compile.proofs.Files.{find_in, OneCard, one_card, the_card, ThePrint, the_print, no_overflow, print_length_range, card_switch_is, print_condition, file_found, source_files}
-use Rattle.s3_compile.proofs.Moves.{zip_each, filter_map_twice, first_of_map, both, Slots, IsTheCard, Typed, typed, same_types, are_moves}
+use Rattle.s3_compile.proofs.Files.{find_in, OneCard, one_card, the_card, ThePrint, the_print, no_overflow, print_length_range, card_switch_is, print_condition, file_found}
+use Rattle.s3_compile.proofs.Moves.{zip_each, filter_map_twice, both, Slots, IsTheCard, Typed, typed, same_types, are_moves}
 use Rattle.s3_compile.proofs.Lines.{IsThePrint, SameDetail, are_pieces, are_lines, details}
-use Rattle.s3_compile.proofs.Shapes.{source_inputs, source_outputs, same_fields}
+use Rattle.s3_compile.proofs.Shapes.{same_fields}
 
 -- ---- what is known of an accepted source
 pub record Ready (definitions : Definitions) (lines : List Line) : Type 0 where
@@ -57,7 +56,7 @@ print_by_name lines fine name g there usage =
     record {
       file = record {
         line = g.line;
-        there = ap (find (λ (file : FileLine). same_name file.name name)) (source_files lines) ∙ found;
+        there = found;
         printer = print.fine.printer;
         length = sym print.length;
       };
@@ -66,7 +65,7 @@ print_by_name lines fine name g there usage =
 
 pub ready : (definitions : Definitions) (lines : List Line) → shown definitions ≡ known_of lines → IsUnique same_name definitions.lengths → IsAccepted lines → Ready definitions lines
 ready definitions lines shows unique none =
-    let whole : Accepted lines = accepted none.0 lines none.1 in
+    let whole : Accepted lines = accepted lines none in
     let lengths : (name : Name) → get same_name definitions.lengths name ≡ length_of lines name = λ name. ap (λ (k : Known). k.length name) shows in
     let card : OneCard (files_of lines) = one_card lines whole.fine.files whole.one_primary in
     record {
@@ -83,11 +82,11 @@ ready definitions lines shows unique none =
 of_type : (definitions : Definitions) (lines : List Line) (r : Ready definitions lines) → Typed definitions.lengths r.card.card (moves_of definitions.lengths lines) (record_indicator_of lines)
     (types_from no_name (inputs_of lines))
 of_type definitions lines r =
-    rw (filter_map_twice (move_of definitions.lengths) (λ (line : Line). input_on line.sheet) lines, first_of_map record_indicator (λ (line : Line). input_on line.sheet) lines)
+    rw (filter_map_twice (move_of definitions.lengths) input_line lines)
     (typed (known_of lines) definitions.lengths r.card.card (inputs_of lines) no_name r.slots r.is_card r.whole.fine.inputs)
 
 pieces_are : (lengths : Lengths) (lines : List Line) → pieces_of lengths lines ≡ filter_map (piece_of lengths) (outputs_of lines)
-pieces_are lengths lines = filter_map_twice (piece_of lengths) (λ (line : Line). output_on line.sheet) lines
+pieces_are lengths lines = filter_map_twice (piece_of lengths) output_line lines
 
 moves_fit : (definitions : Definitions) (lines : List Line) (r : Ready definitions lines) → AreMoves (fields_of definitions.lengths) (moves_of definitions.lengths lines)
 moves_fit definitions lines r = are_moves definitions.lengths r.card.card (moves_of definitions.lengths lines) (record_indicator_of lines) (types_from no_name (inputs_of lines)) (of_type definitions lines r)
@@ -128,9 +127,8 @@ keeps definitions lines fields moves details pieces width r same_fields same_mov
 detail_lines : (definitions : Definitions) (lines : List Line) (r : Ready definitions lines)
     → AllZip (SameDetail (fields_of definitions.lengths) (pieces_of definitions.lengths lines) (print_length_of lines) (source_of lines)) (details_from 0 (outputs_of lines)) (source_of lines).outputs
 detail_lines definitions lines r =
-    rw (source_outputs lines)
-    (details (source_of lines) (known_of lines) definitions.lengths (print_length_of lines) 0 [] (pieces_of definitions.lengths lines) None no_name (outputs_of lines) r.slots r.is_print
-    (λ name there. cc) r.whole.fine.outputs refl (pieces_are definitions.lengths lines))
+    details (source_of lines) (known_of lines) definitions.lengths (print_length_of lines) 0 [] (pieces_of definitions.lengths lines) None no_name (outputs_of lines) r.slots r.is_print
+    (λ name there. cc) r.whole.fine.outputs refl (pieces_are definitions.lengths lines)
 
 same_line : (program : Program) (source : Source) (line : DetailLine) (output : Output) (fields : List Field) (pieces : List Piece) (width : ℕ) → program.fields.items ≡ fields
     → program.pieces.items ≡ pieces → program.print_length ≡ width → SameDetail fields pieces width source line output → SameLine program source line output
@@ -153,24 +151,22 @@ stands program definitions lines r fields moves indicator details pieces width c
     same_types lengths r.card.card (moves_of lengths lines) (record_indicator_of lines) (types_from no_name (inputs_of lines)) (of_type definitions lines r) in
     record {
       card = r.card.card;
-      inputs = ap (filter is_input) (source_files lines) ∙ r.card.only;
+      inputs = r.card.only;
       primary = r.card.fine.primary;
       reader = r.card.fine.reader;
       condition = r.card.fine.condition ∙ ap switched_by (sym (card_switch ∙ card_switch_is lines r.card r.whole.fine.files));
       printed = λ name file there printer.
           print_condition lines file r.whole.fine.files
-          (find_in (λ (file : FileLine). same_name file.name name) (files_of lines) file (ap (find (λ (file : FileLine). same_name file.name name)) (sym (source_files lines)) ∙ there)).0 printer
+          (find_in (λ (file : FileLine). same_name file.name name) (files_of lines) file there).0 printer
           ∙ ap switched_by (sym print_switch);
-      no_overflow = ap overflow_of (source_files lines) ∙ no_overflow false false (files_of lines) r.whole.fine.files;
+      no_overflow = no_overflow false false (files_of lines) r.whole.fine.files;
       no_calculations = ap calculations_of r.whole.fine.calculations;
       fields = subst (λ (xs : List Field). SameFields (source_of lines) xs) (sym fields)
-          (same_fields (known_of lines) (source_of lines) lengths lines (filter_map result_shape (filter_map calculation_line lines)) r.whole.fine.inputs
-          (ap (λ (inputs : List InputLine). reserved_shapes ++ filter_map input_shape inputs ++ filter_map result_shape (filter_map calculation_line lines)) (source_inputs lines)) r.unique r.shows);
+          (same_fields (known_of lines) (source_of lines) lengths lines (filter_map result_shape (filter_map calculation_line lines)) r.whole.fine.inputs refl r.unique r.shows);
       types =
-          subst (λ (xs : List RecordType). SameTypes program.fields.items program.moves.items r.card.card program.record_indicator xs) (ap (types_from no_name) (sym (source_inputs lines)))
-          (subst (λ (o : Option ℕ). SameTypes program.fields.items program.moves.items r.card.card o (types_from no_name (inputs_of lines))) (sym indicator)
+          subst (λ (o : Option ℕ). SameTypes program.fields.items program.moves.items r.card.card o (types_from no_name (inputs_of lines))) (sym indicator)
           (subst (λ (xs : List FieldMove). SameTypes program.fields.items xs r.card.card (record_indicator_of lines) (types_from no_name (inputs_of lines))) (sym moves)
-          (subst (λ (xs : List Field). SameTypes xs (moves_of lengths lines) r.card.card (record_indicator_of lines) (types_from no_name (inputs_of lines))) (sym fields) types)));
+          (subst (λ (xs : List Field). SameTypes xs (moves_of lengths lines) r.card.card (record_indicator_of lines) (types_from no_name (inputs_of lines))) (sym fields) types));
       count = AllZip-long (SameDetail (fields_of lengths) (pieces_of lengths lines) (print_length_of lines) (source_of lines)) (details_from 0 (outputs_of lines)) (source_of lines).outputs zipped
           ∙ ap length (sym details);
       lines = λ k line output one two.

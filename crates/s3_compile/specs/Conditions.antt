@@ -18,15 +18,19 @@ use Rattle.s3_sheets.specs.declared.sheet.SheetLine.TheVariants.{File, Input, Ou
 use Rattle.s3_meaning.specs.Source.{width}
 use Rattle.s3_compile.specs.declared.before.Before.{Before}
 use Rattle.s3_compile.specs.declared.definitions.DefinedFile.{DefinedFile}
-use Rattle.s3_compile.specs.Names.{is_reserved}
+use Rattle.s3_sheets.specs.Entries.{is_reserved}
 use Rattle.s3_compile.specs.Definitions.{Known}
 use Rattle.s3_compile.specs.Before.{is_card_file, is_print_file}
 use Rattle.s3_compile.specs.Part.{is_built}
 
+-- whether there is one, and it meets the test
+abbrev pub is_some_and : {X : Type 0} → (X → Bool) → Option X → Bool
+is_some_and test None = false
+is_some_and test (Some x) = test x
+
 -- ---- 5: a file or field that isn't defined
 abbrev pub is_undefined_file : Known → Option Name → Bool
-is_undefined_file known None = false
-is_undefined_file known (Some name) = is_none (known.file name)
+is_undefined_file known file = is_some_and (λ name. is_none (known.file name)) file
 
 abbrev pub has_undefined_input : Known → InputLine → Bool
 has_undefined_input known (Record file indicator codes) = is_none (known.file file)
@@ -48,12 +52,10 @@ has_undefined_name known before _ = false
 
 -- ---- 6: a file that an earlier line defines, a field whose first definition has another length, a reserved name
 abbrev pub is_elsewhere : Option DefinedFile → ℕ → Bool
-is_elsewhere None place = false
-is_elsewhere (Some file) place = not (file.place == place)
+is_elsewhere file place = is_some_and (λ file. not (file.place == place)) file
 
 abbrev pub is_length : Option ℕ → ℕ → Bool
-is_length None length = false
-is_length (Some first) length = first == length
+is_length first length = is_some_and (λ n. n == length) first
 
 abbrev pub is_field_otherwise : Known → InputLine → Bool
 is_field_otherwise known (InputField field) =
@@ -67,8 +69,7 @@ is_defined_otherwise known place _ = false
 
 -- ---- 8: a field that would begin before position 1
 abbrev pub is_longer_than : Option ℕ → ℕ → Bool
-is_longer_than None end = false
-is_longer_than (Some length) end = nat_lt end length
+is_longer_than length end = is_some_and (nat_lt end) length
 
 abbrev pub content_begins_early : Known → OutputContent → ℕ → Bool
 content_begins_early known (Constant constant) end = false
@@ -110,16 +111,13 @@ is_output InputUse = false
 is_output Update = false
 
 abbrev pub is_output_file : Option DefinedFile → Bool
-is_output_file None = false
-is_output_file (Some file) = is_output file.line.usage
+is_output_file file = is_some_and (λ file. is_output file.line.usage) file
 
 abbrev pub is_input_file : Option DefinedFile → Bool
-is_input_file None = false
-is_input_file (Some file) = not (is_output file.line.usage)
+is_input_file file = is_some_and (λ file. not (is_output file.line.usage)) file
 
 abbrev pub is_input_name : Known → Option Name → Bool
-is_input_name known None = false
-is_input_name known (Some name) = is_input_file (known.file name)
+is_input_name known file = is_some_and (λ name. is_input_file (known.file name)) file
 
 abbrev pub is_record_of_output : Known → InputLine → Bool
 is_record_of_output known (Record file indicator codes) = is_output_file (known.file file)

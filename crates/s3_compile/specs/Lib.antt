@@ -1,4 +1,3 @@
-pub mod Names
 pub mod Definitions
 pub mod Before
 pub mod Part

@@ -1,6 +1,6 @@
 -- The part of the language that is built: a card file and a print file, each perhaps with a switch, a record line without codes, alphanumeric
 -- fields, and detail lines of fields and constants under conditions 01 to 99 and U1 to U8.
-use Rattle.std.specs.Prelude.{ℕ, nat_lt, nat_le, Bool, true, false, not, ◌&&◌, ◌||◌, List, [], ◌∷◌, Option, Some, None, is_some, is_none}
+use Rattle.std.specs.Prelude.{ℕ, nat_lt, nat_le, Bool, true, false, not, ◌&&◌, ◌||◌, List, [], ◌∷◌, Option, Some, None, is_some, is_none, codes}
 use Rattle.std.specs.List.{list_all}
 use Rattle.s3_sheets.specs.declared.indicator.Indicator.{Indicator}
 use Rattle.s3_sheets.specs.declared.indicator.Indicator.TheVariants.{General, Switch}
@@ -32,11 +32,13 @@ use Rattle.s3_sheets.specs.declared.sheet.OutputLine.{OutputLine}
 use Rattle.s3_sheets.specs.declared.sheet.OutputLine.TheVariants.{Line as LineCard, And as AndCard, Or as OrCard, Field as FieldCard}
 use Rattle.s3_sheets.specs.declared.sheet.SheetLine.{SheetLine}
 use Rattle.s3_sheets.specs.declared.sheet.SheetLine.TheVariants.{Header, File, Input, Calculation, Output}
+use Rattle.s3_cards.specs.Codes.{ebcdic}
+use Rattle.s3_sheets.specs.Rules.{longest_record}
 use Rattle.s3_meaning.specs.Source.{width}
 use Rattle.s3_meaning.specs.Carriage.{is_blank}
 use Rattle.s3_compile.specs.declared.before.Before.{Before}
 use Rattle.s3_compile.specs.declared.definitions.DefinedFile.{DefinedFile}
-use Rattle.s3_compile.specs.Names.{is_reserved}
+use Rattle.s3_sheets.specs.Entries.{is_reserved}
 use Rattle.s3_compile.specs.Definitions.{Known}
 
 -- a range of positions within so many
@@ -73,11 +75,11 @@ is_built_designation (Some Primary) = true
 is_built_designation (Some Secondary) = false
 is_built_designation (Some Chained) = false
 
--- the longest record of a device that is built
-abbrev pub longest_record : Device → ℕ
-longest_record CardReader = 96
-longest_record Printer = 132
-longest_record Disk = 0
+-- the longest record of a device that is built, as the sheets have it
+abbrev pub longest_built : Device → ℕ
+longest_built CardReader = longest_record (ebcdic (codes "MFCU1  "))
+longest_built Printer = longest_record (ebcdic (codes "PRINTER"))
+longest_built Disk = 0
 
 abbrev pub has_plain_entries : FileLine → Bool
 has_plain_entries file = not file.ends_job || is_some file.designation
@@ -94,7 +96,7 @@ is_built_switch _ = false
 abbrev pub is_built_file : FileLine → Bool
 is_built_file file =
     is_built_use file.usage && is_built_designation file.designation
-    && lies_within file.record_length file.record_length (longest_record file.device)
+    && lies_within file.record_length file.record_length (longest_built file.device)
     && has_plain_entries file && has_no_disk_entries file && is_built_switch file.condition
 
 -- ---- records and fields

@@ -7,7 +7,7 @@ use Rattle.s3_sheets.specs.declared.sheet.FileLine.{FileLine}
 use Rattle.s3_sheets.specs.declared.sheet.FieldLine.{FieldLine}
 use Rattle.s3_sheets.specs.declared.sheet.FieldForm.TheVariants.{Alphanumeric}
 use Rattle.s3_sheets.specs.declared.sheet.Designation.TheVariants.{Primary}
-use Rattle.s3_sheets.specs.declared.sheet.Spacing.{Spacing}
+use Rattle.s3_sheets.specs.Lines.{no_spacing}
 use Rattle.s3_sheets.specs.declared.sheet.OutputKind.TheVariants.{Detail}
 use Rattle.s3_sheets.specs.declared.sheet.OutputForm.TheVariants.{Plain}
 use Rattle.s3_sheets.specs.declared.sheet.OutputContent.{OutputContent}
@@ -83,10 +83,6 @@ pub record SamePieces (fields : List Field) (pieces : List Piece) (outputs : Lis
   pub count : length outputs ≡ length pieces
   pub each : (k : ℕ) (piece : Piece) (output : OutputField) → slice_get pieces k ≡ Some piece → slice_get outputs k ≡ Some output → SamePiece fields piece output
 
--- all six columns blank
-abbrev pub blank_spacing : Spacing
-blank_spacing = record { space_before = None; space_after = None; skip_before = None; skip_after = None }
-
 -- the condition of a file
 abbrev pub switched_by : Option ℕ → Option Indicator
 switched_by switch = option_map (λ n. Switch n) switch
@@ -102,7 +98,7 @@ pub record IsPrintFile (width : ℕ) (file : Option FileLine) : Type 0 where
 pub record SameLine (program : Program) (source : Source) (line : DetailLine) (output : Output) : Type 0 where
   pub file : IsPrintFile program.print_length (file_named source output.file)
   pub kind : output.kind ≡ Detail
-  pub spacing : output.spacing ≡ blank_spacing
+  pub spacing : output.spacing ≡ no_spacing
   pub group : output.groups ≡ entries line.conditions ∷ []
   pub pieces : SamePieces program.fields.items (slice_range program.pieces.items line.first line.past) output.fields
 

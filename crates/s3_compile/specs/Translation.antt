@@ -1,7 +1,8 @@
--- The parts of a program, line by line, with names as slots.
-use Rattle.std.specs.Prelude.{ℕ, ◌+◌, ◌-◌, nat_lt, Bool, true, false, List, [], ◌∷◌, map, Option, Some, None, unwrap_or, length, if◌then◌else◌}
-use Rattle.std.specs.List.{filter_map, cons_option}
-use Rattle.std.specs.Option.{option_or, option_and_then, option_to_list}
+-- The way of the code from lines to the parts of a program, with names as slots. What compiling answers is said without it: what a
+-- program stands for is in Stands.
+use Rattle.std.specs.Prelude.{ℕ, ◌+◌, ◌-◌, nat_lt, Bool, true, false, List, [], ◌∷◌, map, filter_map, find, Option, Some, None, unwrap_or, length, if◌then◌else◌}
+use Rattle.std.specs.List.{cons_option}
+use Rattle.std.specs.Option.{option_and_then, option_to_list}
 use Rattle.indexmap.specs.IndexMap.{index_of}
 use Rattle.s3_sheets.specs.declared.indicator.Indicator.{Indicator}
 use Rattle.s3_sheets.specs.declared.indicator.Indicator.TheVariants.{General, Switch}
@@ -13,11 +14,10 @@ use Rattle.s3_sheets.specs.declared.sheet.OutputContent.{OutputContent}
 use Rattle.s3_sheets.specs.declared.sheet.OutputContent.TheVariants.{Constant as ConstantOutput, Field as FieldOutput}
 use Rattle.s3_sheets.specs.declared.sheet.OutputLine.{OutputLine}
 use Rattle.s3_sheets.specs.declared.sheet.OutputLine.TheVariants.{Line as LineCard, Field as FieldCard}
-use Rattle.s3_sheets.specs.declared.sheet.SheetLine.{SheetLine}
-use Rattle.s3_sheets.specs.declared.sheet.SheetLine.TheVariants.{File, Input, Output}
 use Rattle.s3_sheets.specs.declared.sheet.Line.{Line}
 use Rattle.s3_cards.specs.Names.{same_name}
 use Rattle.s3_meaning.specs.OutputLines.{fields_from}
+use Rattle.s3_meaning.specs.Source.{file_line, input_line, output_line}
 use Rattle.s3_compile.specs.Definitions.{Lengths}
 use Rattle.s3_compile.specs.Before.{is_card_file, is_print_file}
 use Rattle.s3_compile.specs.declared.program.Field.{Field}
@@ -28,23 +28,14 @@ use Rattle.s3_compile.specs.declared.program.Piece.{Piece}
 use Rattle.s3_compile.specs.declared.program.DetailLine.{DetailLine}
 
 -- ---- the sheets
-abbrev pub file_on : SheetLine → Option FileLine
-file_on (File file) = Some file
-file_on _ = None
-
-abbrev pub input_on : SheetLine → Option InputLine
-input_on (Input line) = Some line
-input_on _ = None
-
-abbrev pub output_on : SheetLine → Option OutputLine
-output_on (Output line) = Some line
-output_on _ = None
+abbrev pub files_of : List Line → List FileLine
+files_of lines = filter_map file_line lines
 
 abbrev pub inputs_of : List Line → List InputLine
-inputs_of lines = filter_map (λ line. input_on line.sheet) lines
+inputs_of lines = filter_map input_line lines
 
 abbrev pub outputs_of : List Line → List OutputLine
-outputs_of lines = filter_map (λ line. output_on line.sheet) lines
+outputs_of lines = filter_map output_line lines
 
 -- ---- fields
 abbrev pub fields_of : Lengths → List Field
@@ -63,14 +54,13 @@ abbrev pub record_indicator : InputLine → Option ℕ
 record_indicator (Record file indicator codes) = number_of indicator
 record_indicator _ = None
 
+abbrev pub is_record : InputLine → Bool
+is_record (Record file indicator codes) = true
+is_record _ = false
+
 abbrev pub move_of : Lengths → InputLine → Option FieldMove
 move_of lengths (InputField field) = Some (record { start = field.from - 1; end = field.to; slot = slot_of lengths field.name })
 move_of lengths _ = None
-
--- the first that one of the lines gives
-abbrev pub first_of : {X Y : Type 0} → (X → Option Y) → List X → Option Y
-first_of f [] = None
-first_of f (x ∷ xs) = option_or (f x) (first_of f xs)
 
 -- ---- output lines
 abbrev pub content_of : Lengths → OutputContent → Content
@@ -105,26 +95,15 @@ abbrev pub details_from : ℕ → List OutputLine → List DetailLine
 details_from first [] = []
 details_from first (line ∷ lines) = cons_option (detail_of first line lines) (details_from (first + pieces_on line) lines)
 
--- ---- the print file
-abbrev pub byte_of : ℕ → Option ℕ
-byte_of n = if nat_lt n 256 then Some n else None
+-- ---- the files
+-- the record length of the print file; without one no line is put out
+abbrev pub width_of : Option FileLine → ℕ
+width_of None = 132
+width_of (Some file) = if nat_lt file.record_length 256 then file.record_length else 132
 
-abbrev pub print_length : SheetLine → Option ℕ
-print_length (File file) = if is_print_file file then byte_of file.record_length else None
-print_length _ = None
-
--- ---- the switches of the files
 abbrev pub switch_of : Option Indicator → Option ℕ
 switch_of (Some (Switch number)) = Some number
 switch_of _ = None
-
-abbrev pub card_file : SheetLine → Option FileLine
-card_file (File file) = if is_card_file file then Some file else None
-card_file _ = None
-
-abbrev pub print_file : SheetLine → Option FileLine
-print_file (File file) = if is_print_file file then Some file else None
-print_file _ = None
 
 abbrev pub switch_on : Option FileLine → Option ℕ
 switch_on None = None
@@ -132,19 +111,19 @@ switch_on (Some file) = switch_of file.condition
 
 -- ---- the lines of all sheets
 abbrev pub moves_of : Lengths → List Line → List FieldMove
-moves_of lengths lines = filter_map (λ line. option_and_then (move_of lengths) (input_on line.sheet)) lines
+moves_of lengths lines = filter_map (λ line. option_and_then (move_of lengths) (input_line line)) lines
 
 abbrev pub pieces_of : Lengths → List Line → List Piece
-pieces_of lengths lines = filter_map (λ line. option_and_then (piece_of lengths) (output_on line.sheet)) lines
+pieces_of lengths lines = filter_map (λ line. option_and_then (piece_of lengths) (output_line line)) lines
 
 abbrev pub record_indicator_of : List Line → Option ℕ
-record_indicator_of lines = first_of (λ line. option_and_then record_indicator (input_on line.sheet)) lines
+record_indicator_of lines = option_and_then record_indicator (find is_record (inputs_of lines))
 
 abbrev pub print_length_of : List Line → ℕ
-print_length_of lines = unwrap_or (first_of (λ line. print_length line.sheet) lines) 132
+print_length_of lines = width_of (find is_print_file (files_of lines))
 
 abbrev pub card_switch_of : List Line → Option ℕ
-card_switch_of lines = switch_on (first_of (λ line. card_file line.sheet) lines)
+card_switch_of lines = switch_on (find is_card_file (files_of lines))
 
 abbrev pub print_switch_of : List Line → Option ℕ
-print_switch_of lines = switch_on (first_of (λ line. print_file line.sheet) lines)
+print_switch_of lines = switch_on (find is_print_file (files_of lines))

@@ -12,15 +12,17 @@ use s3_sheets::sheet::{
 /// What the lines before a line make of it.
 #[derive(Clone, Copy)]
 pub struct Before {
-    /// the file of the last record line
+    /// The file of the last record line.
     pub record_file: Option<Name>,
-    /// the file of the last output line, which one without a name takes over
+    /// The file of the last output line, which one without a name takes over.
     pub line_file: Option<Name>,
+    /// Whether there is a card file.
     pub has_card_file: bool,
+    /// Whether there is a print file.
     pub has_print_file: bool,
 }
 
-/// Whether a file is the card file of the table of files.
+/// Whether a file may be the card file: of type I and designation P, on the card reader.
 pub fn is_card_file(file: &FileLine) -> bool
     ensures { result ≡ spec.is_card_file file.now }
 {
@@ -34,7 +36,7 @@ pub fn is_card_file(file: &FileLine) -> bool
     )
 }
 
-/// Whether a file is the print file of the table of files.
+/// Whether a file may be the print file: of type O without designation, on the printer.
 pub fn is_print_file(file: &FileLine) -> bool
     ensures { result ≡ spec.is_print_file file.now }
 {
@@ -93,7 +95,7 @@ impl Before {
         }
     }
 
-    /// What stands before the next line.
+    /// What stands before the line behind this one.
     pub fn passed(&self, line: &SheetLine) -> Self
         ensures record_file { result.record_file ≡ option_or (spec.record_file line.now) self.now.record_file }
         ensures line_file { result.line_file ≡ option_or (spec.line_file line.now) self.now.line_file }

@@ -11,21 +11,25 @@ use s3_cards::Name;
 use s3_sheets::sheet::{FieldLine, FileLine, InputLine, Line, SheetLine};
 use std::alloc::{AllocError, Global};
 
-/// A file as its first line defines it, with the place of that line among all.
+/// A file as its first line defines it.
 #[derive(Clone, Copy)]
 pub struct DefinedFile {
+    /// The place of that line among all lines, counted from 0.
     pub place: usize,
+    /// The line.
     pub line: FileLine,
 }
 
 /// The files and the lengths of the fields that lines define, each by its first definition.
 #[derive(Drop)]
 pub struct Definitions {
+    /// The files by their names.
     pub files: IndexMap<Name, DefinedFile>,
+    /// The lengths of the fields in characters, by their names; a field's place here is its slot.
     pub lengths: IndexMap<Name, usize>,
 }
 
-/// The number of characters of a field.
+/// The number of characters of a field; 0 where it ends before it begins.
 pub fn length_of_field(field: &FieldLine) -> usize
     ensures { result ≡ width field.now }
 {
@@ -64,7 +68,7 @@ fn define_field(lengths: &mut IndexMap<Name, usize>, line: &SheetLine) -> Result
     Ok(())
 }
 
-/// The files and fields that lines define.
+/// The files and fields that lines define; refused only where memory runs out.
 pub fn definitions_of(alloc: Global, lines: &[Line]) -> Result<Definitions, AllocError>
     ensures shows { IfOk result (λ found. shown found ≡ known_of lines.now) }
     ensures unique { IfOk result (λ found. IsUnique same_name found.lengths) }

@@ -10,6 +10,7 @@ mod definitions;
 mod diagnose;
 mod order;
 mod part;
+/// Compiled programs, and their parts.
 pub mod program;
 mod translate;
 
@@ -23,6 +24,7 @@ use thiserror::Error;
 /// Why lines don't become a program.
 #[derive(Debug, Drop, Error)]
 pub enum CompileFault {
+    /// Memory ran out; nothing is known of the source.
     #[error("out of memory")]
     NoMemory,
     /// By card and then number; at least one.
@@ -42,7 +44,8 @@ impl From<AllocError> for CompileFault {
 }
 
 /// The program that stands for the source of these lines, under the name of its H card or RPGOBJ; or its diagnostics,
-/// where one on the whole program bears the number of the RUN card.
+/// where one on the whole program bears the number of the RUN card. The diagnostics are 2, 5, 6, 8, 9 and 12; where a line
+/// has 2, only these are given. The lines may be any, in any order.
 pub fn compile(alloc: Global, lines: &[Line], run_card: u16) -> Result<Program, CompileFault>
     ensures { Compiles lines.now run_card result }
 {

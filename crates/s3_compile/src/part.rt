@@ -2,44 +2,80 @@
 
 ghost use Rattle.std.specs.Prelude.{◌≡◌, is_none};
 ghost use Rattle.std.specs.List.{list_all};
-ghost use Rattle.s3_compile.specs.Names.{is_reserved as is_reserved_lem};
-ghost use Rattle.s3_meaning.specs.Carriage.{is_blank as is_blank_lem};
+ghost use Rattle.s3_sheets.specs.Entries.{is_reserved as is_reserved_spec, reserved_names as reserved_names_spec};
+ghost use Rattle.s3_meaning.specs.Carriage.{is_blank as is_blank_spec};
 ghost use Rattle.s3_compile.specs.Definitions.{shown};
 ghost use Rattle.s3_compile.specs.Part as spec;
 
 use crate::before::Before;
 use crate::definitions::{Definitions, length_of_field};
 use s3_cards::Name;
+use s3_cards::ebcdic::{
+    BLANK, LETTER_A, LETTER_D, LETTER_E, LETTER_G, LETTER_H, LETTER_M, LETTER_N, LETTER_O,
+    LETTER_P, LETTER_R, LETTER_T, LETTER_U, LETTER_Y,
+};
 use s3_sheets::indicator::{Condition, Indicator};
 use s3_sheets::sheet::{
     Designation, Device, FieldForm, FieldLine, FieldOutput, FileLine, FileUse, InputLine,
     OutputCard, OutputContent, OutputField, OutputForm, OutputKind, OutputLine, SheetLine, Spacing,
 };
 
-/// PAGE, UDATE, UMONTH, UDAY and UYEAR in EBCDIC.
-const RESERVED: [Name; 5] = [
+/// The fields that no sheet defines: UDATE, UMONTH, UDAY, UYEAR and PAGE.
+static RESERVED_NAMES: [Name; 5] = [
     Name {
-        codes: [0xd7, 0xc1, 0xc7, 0xc5, 0x40, 0x40, 0x40, 0x40],
+        codes: [
+            LETTER_U, LETTER_D, LETTER_A, LETTER_T, LETTER_E, BLANK, BLANK, BLANK,
+        ],
     },
     Name {
-        codes: [0xe4, 0xc4, 0xc1, 0xe3, 0xc5, 0x40, 0x40, 0x40],
+        codes: [
+            LETTER_U, LETTER_M, LETTER_O, LETTER_N, LETTER_T, LETTER_H, BLANK, BLANK,
+        ],
     },
     Name {
-        codes: [0xe4, 0xd4, 0xd6, 0xd5, 0xe3, 0xc8, 0x40, 0x40],
+        codes: [
+            LETTER_U, LETTER_D, LETTER_A, LETTER_Y, BLANK, BLANK, BLANK, BLANK,
+        ],
     },
     Name {
-        codes: [0xe4, 0xc4, 0xc1, 0xe8, 0x40, 0x40, 0x40, 0x40],
+        codes: [
+            LETTER_U, LETTER_Y, LETTER_E, LETTER_A, LETTER_R, BLANK, BLANK, BLANK,
+        ],
     },
     Name {
-        codes: [0xe4, 0xe8, 0xc5, 0xc1, 0xd9, 0x40, 0x40, 0x40],
+        codes: [
+            LETTER_P, LETTER_A, LETTER_G, LETTER_E, BLANK, BLANK, BLANK, BLANK,
+        ],
     },
 ];
 
-/// Whether a name is reserved.
-pub fn is_reserved(name: &Name) -> bool
-    ensures { result ≡ is_reserved_lem name.now }
+/// The columns of a card.
+const CARD_COLUMNS: u16 = 96;
+
+/// The print positions of the longest line.
+const PRINT_POSITIONS: u16 = 132;
+
+/// The characters of the longest constant.
+const CONSTANT_CHARACTERS: u16 = 24;
+
+/// The characters of the longest alphanumeric field.
+const FIELD_CHARACTERS: usize = 256;
+
+/// The highest position that four digits name.
+const LAST_POSITION: u16 = 9999;
+
+#[tactic(auto, unfolding(s3_sheets::specs::Entries::reserved_names, s3_cards::specs::Codes::ebcdic, s3_cards::specs::Codes::code_page))]
+fn reserved_names() -> &'static [Name]
+    ensures { result.now ≡ reserved_names_spec }
 {
-    RESERVED.iter().any(|reserved| *name == *reserved)
+    &RESERVED_NAMES
+}
+
+/// Whether a name is that of a field that no sheet defines.
+pub fn is_reserved(name: &Name) -> bool
+    ensures { result ≡ is_reserved_spec name.now }
+{
+    reserved_names().iter().any(|other| other == name)
 }
 
 fn lies_within(from: u16, to: u16, positions: u16) -> bool
@@ -108,12 +144,13 @@ fn is_built_designation(designation: Option<Designation>) -> bool
     }
 }
 
+#[tactic(auto, unfolding(s3_sheets::specs::Rules::longest_record, s3_cards::specs::Codes::ebcdic, s3_cards::specs::Codes::code_page))]
 fn longest_record(device: Device) -> u16
-    ensures { result ≡ spec.longest_record device }
+    ensures { result ≡ spec.longest_built device }
 {
     match device {
-        Device::CardReader => 96,
-        Device::Printer => 132,
+        Device::CardReader => CARD_COLUMNS,
+        Device::Printer => PRINT_POSITIONS,
         Device::Disk => 0,
     }
 }
@@ -183,7 +220,7 @@ fn is_plain_field(field: &FieldLine) -> bool
 fn is_placed_field(field: &FieldLine, positions: u16) -> bool
     ensures { result ≡ spec.is_placed_field field.now positions }
 {
-    lies_within(field.from, field.to, positions) && length_of_field(field) <= 256
+    lies_within(field.from, field.to, positions) && length_of_field(field) <= FIELD_CHARACTERS
 }
 
 fn positions_in(known: &Definitions, file: Option<Name>) -> u16
@@ -192,9 +229,9 @@ fn positions_in(known: &Definitions, file: Option<Name>) -> u16
     match file {
         Some(name) => match known.files.get(&name) {
             Some(file) => file.line.record_length,
-            None => 9999,
+            None => LAST_POSITION,
         },
-        None => 9999,
+        None => LAST_POSITION,
     }
 }
 
@@ -208,7 +245,7 @@ fn is_detail(kind: OutputKind) -> bool
 }
 
 fn is_blank(spacing: &Spacing) -> bool
-    ensures { result ≡ is_blank_lem spacing.now }
+    ensures { result ≡ is_blank_spec spacing.now }
 {
     !(spacing.space_before.is_some()
         || spacing.space_after.is_some()
@@ -247,7 +284,7 @@ fn is_built_content(content: &OutputContent, end: u16) -> bool
     match content {
         OutputContent::Constant(constant) => {
             let length = u16::from(constant.length);
-            lies_within(length, length, 24) && length <= end
+            lies_within(length, length, CONSTANT_CHARACTERS) && length <= end
         }
         OutputContent::Field(field) => is_built_output(field),
     }

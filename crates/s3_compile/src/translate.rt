@@ -1,13 +1,13 @@
 //! Lines become a program: names become slots.
 
-ghost use Rattle.std.specs.Prelude.{◌≡◌, ◌+◌, ◌-◌, ◌^◌, ◌<◌, ◌≤◌, ◌++◌, List, length, IfOk, OnOk};
-ghost use Rattle.std.specs.Option.{option_and_then};
+ghost use Rattle.std.specs.Prelude.{◌≡◌, ◌+◌, ◌-◌, ◌^◌, ◌<◌, ◌≤◌, ◌++◌, find, is_some, List, length, IfOk, OnOk};
+ghost use Rattle.std.specs.Option.{option_and_then, option_copied};
 ghost use Rattle.s3_meaning.specs.OutputLines.{fields_from};
 ghost use Rattle.indexmap.specs.IndexMap.{IsUnique};
 ghost use Rattle.s3_cards.specs.Names.{same_name};
 ghost use Rattle.s3_compile.specs.Compiles.{IsAccepted, StandsFor};
-ghost use Rattle.s3_compile.specs.Compiles.{header_name as header_name_lem};
-ghost use Rattle.s3_compile.specs.Compiles.{program_name as program_name_lem};
+ghost use Rattle.s3_meaning.specs.Source.{file_line as file_line_spec, input_line as input_line_spec, output_line as output_line_spec, header_name as header_name_spec, program_name as program_name_spec};
+ghost use Rattle.s3_compile.specs.Before.{is_card_file as is_card_file_spec, is_print_file as is_print_file_spec};
 ghost use Rattle.s3_compile.specs.Definitions.{known_of, shown};
 ghost use Rattle.s3_compile.specs.Translation as spec;
 
@@ -16,14 +16,20 @@ use crate::definitions::Definitions;
 use crate::program::{Content, DetailLine, Field, FieldMove, Piece, Program};
 use indexmap::IndexMap;
 use s3_cards::Name;
+use s3_cards::ebcdic::{BLANK, LETTER_B, LETTER_G, LETTER_J, LETTER_O, LETTER_P, LETTER_R};
 use s3_sheets::indicator::Indicator;
 use s3_sheets::sheet::{FileLine, InputLine, Line, OutputContent, OutputLine, SheetLine};
 use std::alloc::{AllocError, Global};
 
-/// RPGOBJ in EBCDIC.
+/// RPGOBJ, the name of a program whose H card bears none.
 const RPGOBJ: Name = Name {
-    codes: [0xd9, 0xd7, 0xc7, 0xd6, 0xc2, 0xd1, 0x40, 0x40],
+    codes: [
+        LETTER_R, LETTER_P, LETTER_G, LETTER_O, LETTER_B, LETTER_J, BLANK, BLANK,
+    ],
 };
+
+/// The print positions of the longest line.
+const PRINT_POSITIONS: u8 = 132;
 
 /// The fields, by slot.
 fn fields(alloc: Global, lengths: &IndexMap<Name, usize>) -> Result<Vec<Field>, AllocError>
@@ -44,33 +50,64 @@ fn slot(lengths: &IndexMap<Name, usize>, name: &Name) -> usize
     lengths.get_index_of(name).unwrap_or(0)
 }
 
-/// The number of the record identifying indicator, if the line is the record line.
-fn record_indicator_on(line: &SheetLine) -> Option<u8>
-    ensures { result ≡ option_and_then spec.record_indicator (spec.input_on line.now) }
+fn file_line(line: &Line) -> Option<FileLine>
+    ensures { result ≡ file_line_spec line.now }
 {
-    match line {
-        SheetLine::Input(InputLine::Record(_, Indicator::General(number), _)) => Some(*number),
+    match line.sheet {
+        SheetLine::File(file) => Some(file),
         _ => None,
     }
 }
 
+fn input_line(line: &Line) -> Option<InputLine>
+    ensures { result ≡ input_line_spec line.now }
+{
+    match line.sheet {
+        SheetLine::Input(input) => Some(input),
+        _ => None,
+    }
+}
+
+fn is_record(line: &InputLine) -> bool
+    ensures { result ≡ spec.is_record line.now }
+{
+    matches!(line, InputLine::Record(_, _, _))
+}
+
+/// The number of the record identifying indicator of a record line.
+fn record_number(line: &InputLine) -> Option<u8>
+    ensures { result ≡ spec.record_indicator line.now }
+{
+    match line {
+        InputLine::Record(_, Indicator::General(number), _) => Some(*number),
+        _ => None,
+    }
+}
+
+fn record_line(lines: &[Line]) -> Option<InputLine>
+    ensures { result ≡ find spec.is_record (spec.inputs_of lines.now) }
+{
+    lines
+        .iter()
+        .filter_map(|line| input_line(line))
+        .find(|line| is_record(line))
+}
+
+/// The number of the record identifying indicator, if there is a record line.
 fn record_indicator(lines: &[Line]) -> Option<u8>
     ensures { result ≡ spec.record_indicator_of lines.now }
 {
-    for line in lines {
-        let found = record_indicator_on(&line.sheet);
-        if found.is_some() {
-            return found;
-        }
+    match record_line(lines) {
+        Some(line) => record_number(&line),
+        None => None,
     }
-    None
 }
 
 /// The move into a field, if the line is its card.
-fn move_on(lengths: &IndexMap<Name, usize>, line: &SheetLine) -> Option<FieldMove>
-    ensures { result ≡ option_and_then (spec.move_of lengths.now) (spec.input_on line.now) }
+fn move_on(lengths: &IndexMap<Name, usize>, line: &Line) -> Option<FieldMove>
+    ensures { result ≡ option_and_then (spec.move_of lengths.now) (input_line_spec line.now) }
 {
-    match line {
+    match &line.sheet {
         SheetLine::Input(InputLine::Field(field)) => Some(FieldMove {
             start: field.from.saturating_sub(1),
             end: field.to,
@@ -89,7 +126,7 @@ fn moves(
 {
     lines
         .iter()
-        .filter_map(|line| move_on(lengths, &line.sheet))
+        .filter_map(|line| move_on(lengths, line))
         .collect(alloc)
 }
 
@@ -103,10 +140,10 @@ fn content(lengths: &IndexMap<Name, usize>, content: &OutputContent) -> Content
 }
 
 /// The piece of an output line, if the line is its card.
-fn piece_on(lengths: &IndexMap<Name, usize>, line: &SheetLine) -> Option<Piece>
-    ensures { result ≡ option_and_then (spec.piece_of lengths.now) (spec.output_on line.now) }
+fn piece_on(lengths: &IndexMap<Name, usize>, line: &Line) -> Option<Piece>
+    ensures { result ≡ option_and_then (spec.piece_of lengths.now) (output_line_spec line.now) }
 {
-    match line {
+    match &line.sheet {
         SheetLine::Output(OutputLine::Field(field)) => Some(Piece {
             conditions: field.conditions,
             content: content(lengths, &field.content),
@@ -125,24 +162,21 @@ fn pieces(
 {
     lines
         .iter()
-        .filter_map(|line| piece_on(lengths, &line.sheet))
+        .filter_map(|line| piece_on(lengths, line))
         .collect(alloc)
 }
 
-fn begins_line(line: &SheetLine) -> bool
-    ensures { result ≡ spec.begins_line (spec.output_on line.now) }
+fn begins_line(line: &Line) -> bool
+    ensures { result ≡ spec.begins_line (output_line_spec line.now) }
 {
-    match line {
-        SheetLine::Output(OutputLine::Line(_)) => true,
-        _ => false,
-    }
+    matches!(line.sheet, SheetLine::Output(OutputLine::Line(_)))
 }
 
-fn pieces_on(line: &SheetLine) -> usize
-    ensures count { result ≡ spec.pieces_in (spec.output_on line.now) }
+fn pieces_on(line: &Line) -> usize
+    ensures count { result ≡ spec.pieces_in (output_line_spec line.now) }
     ensures within { result ≤ 1 }
 {
-    match line {
+    match line.sheet {
         SheetLine::Output(OutputLine::Field(_)) => 1,
         _ => 0,
     }
@@ -155,10 +189,10 @@ fn field_count(lines: &[Line]) -> usize
 {
     let mut count = 0;
     for line in lines {
-        if begins_line(&line.sheet) {
+        if begins_line(line) {
             return count;
         }
-        count += pieces_on(&line.sheet);
+        count += pieces_on(line);
     }
     count
 }
@@ -166,15 +200,15 @@ fn field_count(lines: &[Line]) -> usize
 /// Adds a detail line that begins at a piece, if the line is its card.
 fn add_detail(
     details: &mut Vec<DetailLine>,
-    line: &SheetLine,
+    line: &Line,
     first: usize,
     later: &[Line],
 ) -> Result<(), AllocError>
     requires { first + length later.now < 2 ^ 64 }
     ensures { OnOk result (details.new.items
-        ≡ details.old.items ++ spec.detail_on first (spec.output_on line.now) (spec.outputs_of later.now)) }
+        ≡ details.old.items ++ spec.detail_on first (output_line_spec line.now) (spec.outputs_of later.now)) }
 {
-    if let SheetLine::Output(OutputLine::Line(card)) = line {
+    if let SheetLine::Output(OutputLine::Line(card)) = &line.sheet {
         details.push(DetailLine {
             conditions: card.conditions,
             first,
@@ -190,31 +224,40 @@ fn details(alloc: Global, lines: &[Line]) -> Result<Vec<DetailLine>, AllocError>
     let mut details = Vec::new(alloc);
     let mut first = 0;
     for (place, line) in lines.iter().enumerate() {
-        add_detail(&mut details, &line.sheet, first, &lines[place + 1..])?;
-        first += pieces_on(&line.sheet);
+        add_detail(&mut details, line, first, &lines[place + 1..])?;
+        first += pieces_on(line);
     }
     Ok(details)
 }
 
-fn print_length_on(line: &SheetLine) -> Option<u8>
-    ensures { result ≡ spec.print_length line.now }
+fn card_file(lines: &[Line]) -> Option<FileLine>
+    ensures { result ≡ find is_card_file_spec (spec.files_of lines.now) }
 {
-    match line {
-        SheetLine::File(file) if is_print_file(file) => u8::try_from(file.record_length).ok(),
-        _ => None,
-    }
+    lines
+        .iter()
+        .filter_map(|line| file_line(line))
+        .find(|file| is_card_file(file))
 }
 
-/// The record length of the print file.
+fn print_file(lines: &[Line]) -> Option<FileLine>
+    ensures { result ≡ find is_print_file_spec (spec.files_of lines.now) }
+{
+    lines
+        .iter()
+        .filter_map(|line| file_line(line))
+        .find(|file| is_print_file(file))
+}
+
+/// The record length of the print file; without one, that of the longest line.
 fn print_length(lines: &[Line]) -> u8
     ensures { result ≡ spec.print_length_of lines.now }
 {
-    for line in lines {
-        if let Some(length) = print_length_on(&line.sheet) {
-            return length;
-        }
+    match print_file(lines) {
+        Some(file) => u8::try_from(file.record_length)
+            .ok()
+            .unwrap_or(PRINT_POSITIONS),
+        None => PRINT_POSITIONS,
     }
-    132
 }
 
 /// The number of the switch that is the condition of a file.
@@ -227,67 +270,44 @@ fn switch(condition: Option<Indicator>) -> Option<u8>
     }
 }
 
-fn card_file(line: &SheetLine) -> Option<FileLine>
-    ensures { result ≡ spec.card_file line.now }
-{
-    match line {
-        SheetLine::File(file) if is_card_file(file) => Some(*file),
-        _ => None,
-    }
-}
-
 /// The switch of the card file.
 fn card_switch(lines: &[Line]) -> Option<u8>
     ensures { result ≡ spec.card_switch_of lines.now }
 {
-    for line in lines {
-        if let Some(file) = card_file(&line.sheet) {
-            return switch(file.condition);
-        }
-    }
-    None
-}
-
-fn print_file(line: &SheetLine) -> Option<FileLine>
-    ensures { result ≡ spec.print_file line.now }
-{
-    match line {
-        SheetLine::File(file) if is_print_file(file) => Some(*file),
-        _ => None,
-    }
+    switch(card_file(lines)?.condition)
 }
 
 /// The switch of the print file.
 fn print_switch(lines: &[Line]) -> Option<u8>
     ensures { result ≡ spec.print_switch_of lines.now }
 {
-    for line in lines {
-        if let Some(file) = print_file(&line.sheet) {
-            return switch(file.condition);
-        }
-    }
-    None
+    switch(print_file(lines)?.condition)
 }
 
-fn header_name(line: &SheetLine) -> Option<Name>
-    ensures { result ≡ header_name_lem line.now }
+fn header_name(line: &Line) -> Option<Name>
+    ensures { result ≡ header_name_spec line.now }
 {
-    match line {
-        SheetLine::Header(name) => *name,
+    match line.sheet {
+        SheetLine::Header(name) => name,
         _ => None,
     }
 }
 
-/// The name of the H card, or RPGOBJ.
-fn program_name(lines: &[Line]) -> Name
-    ensures { result ≡ program_name_lem lines.now }
+/// The first H card that bears a name.
+fn named_header(lines: &[Line]) -> Option<&Line>
+    ensures { option_copied result ≡ find (λ line. is_some (header_name_spec line)) lines.now }
 {
-    for line in lines {
-        if let Some(name) = header_name(&line.sheet) {
-            return name;
-        }
+    lines.iter().find(|line| header_name(line).is_some())
+}
+
+/// The name of the first H card that bears one, or RPGOBJ.
+fn program_name(lines: &[Line]) -> Name
+    ensures { result ≡ program_name_spec lines.now }
+{
+    match named_header(lines) {
+        Some(line) => header_name(line).unwrap_or(RPGOBJ),
+        None => RPGOBJ,
     }
-    RPGOBJ
 }
 
 /// The program that stands for lines without diagnostics.

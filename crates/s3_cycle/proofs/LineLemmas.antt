@@ -24,7 +24,8 @@ use Rattle.s3_compile.specs.declared.program.Content.TheVariants.{Constant as Co
 use Rattle.s3_compile.specs.declared.program.Field.{Field}
 use Rattle.s3_compile.specs.declared.program.Piece.{Piece}
 use Rattle.s3_compile.specs.declared.program.DetailLine.{DetailLine}
-use Rattle.s3_compile.specs.Stands.{SameField, SameFields, SameContent, SamePiece, SamePieces, SameLine, Stands, blank_spacing, switched_by}
+use Rattle.s3_compile.specs.Stands.{SameField, SameFields, SameContent, SamePiece, SamePieces, SameLine, Stands, switched_by}
+use Rattle.s3_sheets.specs.Lines.{no_spacing as blank_spacing}
 use Rattle.s3_cycle.specs.declared.carriage.Carriage.{Carriage}
 use Rattle.s3_cycle.specs.declared.indicators.Indicators.{Indicators}
 use Rattle.s3_cycle.specs.declared.stepper.Stepper.{Stepper}

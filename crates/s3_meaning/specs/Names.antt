@@ -1,13 +1,9 @@
 -- Names and indicators.
 use Rattle.std.specs.Prelude.{◌==◌, Bool, true, false, List, [], ◌∷◌, Option, Some, None, filter_map}
-use Rattle.s3_cards.specs.Names.{same_name}
+use Rattle.s3_cards.specs.declared.ebcdic.TheConstants.{BLANK, LETTER_A, LETTER_B, LETTER_D, LETTER_E, LETTER_G, LETTER_H, LETTER_J, LETTER_M, LETTER_N, LETTER_O, LETTER_P, LETTER_R, LETTER_T, LETTER_U, LETTER_Y}
 use Rattle.s3_cards.specs.declared.name.Name.{Name}
 use Rattle.s3_sheets.specs.declared.indicator.Indicator.{Indicator}
 use Rattle.s3_sheets.specs.declared.indicator.Indicator.TheVariants.{General, Level, LastRecord, Matching, Halt, FirstPage, Overflow, Switch}
-
-abbrev pub is_named : Name → Option Name → Bool
-is_named a (Some b) = same_name a b
-is_named a None = false
 
 abbrev pub same_indicator : Indicator → Indicator → Bool
 same_indicator (General a) (General b) = a == b
@@ -28,22 +24,22 @@ is_indicator a None = false
 abbrev pub entries : {X : Type 0} → List (Option X) → List X
 entries xs = filter_map (λ x. x) xs
 
--- the reserved names, in EBCDIC
+-- the reserved names
 abbrev pub page : Name
-page = record { codes = 0xd7 ∷ 0xc1 ∷ 0xc7 ∷ 0xc5 ∷ 0x40 ∷ 0x40 ∷ 0x40 ∷ 0x40 ∷ [] }
+page = record { codes = LETTER_P ∷ LETTER_A ∷ LETTER_G ∷ LETTER_E ∷ BLANK ∷ BLANK ∷ BLANK ∷ BLANK ∷ [] }
 
 abbrev pub udate : Name
-udate = record { codes = 0xe4 ∷ 0xc4 ∷ 0xc1 ∷ 0xe3 ∷ 0xc5 ∷ 0x40 ∷ 0x40 ∷ 0x40 ∷ [] }
+udate = record { codes = LETTER_U ∷ LETTER_D ∷ LETTER_A ∷ LETTER_T ∷ LETTER_E ∷ BLANK ∷ BLANK ∷ BLANK ∷ [] }
 
 abbrev pub umonth : Name
-umonth = record { codes = 0xe4 ∷ 0xd4 ∷ 0xd6 ∷ 0xd5 ∷ 0xe3 ∷ 0xc8 ∷ 0x40 ∷ 0x40 ∷ [] }
+umonth = record { codes = LETTER_U ∷ LETTER_M ∷ LETTER_O ∷ LETTER_N ∷ LETTER_T ∷ LETTER_H ∷ BLANK ∷ BLANK ∷ [] }
 
 abbrev pub uday : Name
-uday = record { codes = 0xe4 ∷ 0xc4 ∷ 0xc1 ∷ 0xe8 ∷ 0x40 ∷ 0x40 ∷ 0x40 ∷ 0x40 ∷ [] }
+uday = record { codes = LETTER_U ∷ LETTER_D ∷ LETTER_A ∷ LETTER_Y ∷ BLANK ∷ BLANK ∷ BLANK ∷ BLANK ∷ [] }
 
 abbrev pub uyear : Name
-uyear = record { codes = 0xe4 ∷ 0xe8 ∷ 0xc5 ∷ 0xc1 ∷ 0xd9 ∷ 0x40 ∷ 0x40 ∷ 0x40 ∷ [] }
+uyear = record { codes = LETTER_U ∷ LETTER_Y ∷ LETTER_E ∷ LETTER_A ∷ LETTER_R ∷ BLANK ∷ BLANK ∷ BLANK ∷ [] }
 
 -- RPGOBJ, the name of a program whose H line bears none
 abbrev pub rpgobj : Name
-rpgobj = record { codes = 0xd9 ∷ 0xd7 ∷ 0xc7 ∷ 0xd6 ∷ 0xc2 ∷ 0xd1 ∷ 0x40 ∷ 0x40 ∷ [] }
+rpgobj = record { codes = LETTER_R ∷ LETTER_P ∷ LETTER_G ∷ LETTER_O ∷ LETTER_B ∷ LETTER_J ∷ BLANK ∷ BLANK ∷ [] }

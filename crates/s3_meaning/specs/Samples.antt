@@ -20,6 +20,7 @@ use Rattle.s3_sheets.specs.declared.sheet.OutputLine.TheVariants.{Line as LineCa
 use Rattle.s3_sheets.specs.declared.sheet.SheetLine.{SheetLine}
 use Rattle.s3_sheets.specs.declared.sheet.SheetLine.TheVariants.{File, Input, Calculation, Output}
 use Rattle.s3_sheets.specs.declared.sheet.Line.{Line}
+use Rattle.s3_sheets.specs.Lines.{none_of_three, no_spacing}
 
 abbrev pub padded_to : ℕ → List ℕ → List ℕ
 padded_to n codes = codes ++ replicate (n - length codes) 0x40
@@ -35,9 +36,6 @@ on_general n = Some (record { negated = false; indicator = General n }) ∷ None
 
 abbrev pub on_level : ℕ → List (Option Condition)
 on_level n = Some (record { negated = false; indicator = Level n }) ∷ None ∷ None ∷ []
-
-abbrev pub none_of_three : {X : Type 0} → List (Option X)
-none_of_three = None ∷ None ∷ None ∷ []
 
 -- CARDS, PRINT, TEXT, KEY, QTY, TOT
 abbrev pub cards : Name
@@ -70,7 +68,7 @@ card_lister =
     file_lines ++
     line_at 6 (Input (Record cards (General 1) none_of_three))
     ∷ line_at 7 (Input (Field (record { name = text; from = 1; to = 3; form = Alphanumeric; control_level = None; match_level = None; relation = None; indicators = none_of_three })))
-    ∷ line_at 8 (Output (LineCard (record { file = Some print; kind = Detail; is_addition = false; spacing = record { space_before = None; space_after = None; skip_before = None; skip_after = None }; conditions = on_general 1 })))
+    ∷ line_at 8 (Output (LineCard (record { file = Some print; kind = Detail; is_addition = false; spacing = no_spacing; conditions = on_general 1 })))
     ∷ line_at 9 (Output (FieldCard (record { conditions = none_of_three; content = FieldContent (record { name = text; form = Plain; blank_after = false }); end = 3 })))
     ∷ []
 
@@ -82,7 +80,7 @@ level_totals =
     ∷ line_at 7 (Input (Field (record { name = key; from = 1; to = 1; form = Alphanumeric; control_level = Some 1; match_level = None; relation = None; indicators = none_of_three })))
     ∷ line_at 8 (Input (Field (record { name = quantity; from = 2; to = 3; form = Zoned 0; control_level = None; match_level = None; relation = None; indicators = none_of_three })))
     ∷ line_at 9 (Calculation (record { time = DetailTime; conditions = none_of_three; factor1 = Some (Named total); operation = Some Add; factor2 = Some (Named quantity); result = Some total; definition = Some (Numeric 4 0); half_adjust = false; indicators = none_of_three }))
-    ∷ line_at 10 (Output (LineCard (record { file = Some print; kind = Total; is_addition = false; spacing = record { space_before = None; space_after = None; skip_before = None; skip_after = None }; conditions = on_level 1 })))
+    ∷ line_at 10 (Output (LineCard (record { file = Some print; kind = Total; is_addition = false; spacing = no_spacing; conditions = on_level 1 })))
     ∷ line_at 11 (Output (FieldCard (record { conditions = none_of_three; content = FieldContent (record { name = total; form = Edited Suppressed; blank_after = true }); end = 4 })))
     ∷ []
 

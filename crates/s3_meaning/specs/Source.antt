@@ -1,6 +1,6 @@
 -- A source: what its sheets say, put together.
 use Rattle.std.specs.Prelude.{ℕ, ◌+◌, ◌-◌, ◌*◌, Bool, true, false, not, ◌||◌, List, [], ◌∷◌, ◌++◌, Option, Some, None, is_some, unwrap_or, filter, filter_map, find, if◌then◌else◌}
-use Rattle.std.specs.Option.{option_or}
+use Rattle.std.specs.Option.{option_or, option_and_then}
 use Rattle.std.specs.List.{list_any}
 use Rattle.s3_cards.specs.declared.name.Name.{Name}
 use Rattle.s3_sheets.specs.declared.indicator.Indicator.{Indicator}
@@ -147,10 +147,9 @@ header_name line = on line.sheet
     on (Header name) = name
     on _ = None
 
--- the program's name: that of the first H line that bears one
+-- the program's name: that of the first H line that bears one, or RPGOBJ
 abbrev pub program_name : List Line → Name
-program_name [] = rpgobj
-program_name (line ∷ lines) = unwrap_or (header_name line) (program_name lines)
+program_name lines = unwrap_or (option_and_then header_name (find (λ line. is_some (header_name line)) lines)) rpgobj
 
 abbrev pub detail_calculations : Source → List Calculation
 detail_calculations source = filter is_detail source.calculations

@@ -1,26 +1,26 @@
-/// What a level halts for.
+/// What a level halts for, until an operator replies.
 #[derive(Clone, Copy)]
 pub enum HaltCode {
-    /// H1 to H9
+    /// H1 to H9: the program turned on the halt indicator of this number, 1 to 9.
     HaltIndicator(u8),
-    /// UR: a record of no type
+    /// UR: a record was read that is of none of its file's types.
     UnidentifiedRecord,
-    /// DZ
+    /// DZ: a number was to be divided by zero.
     ZeroDivisor,
-    /// DE: a bad digit in a field
+    /// DE: a field that was to be moved has a bad digit.
     BadDigit,
-    /// NF: no record for CHAIN
+    /// NF: CHAIN found no record of the key or number, and has no indicator for it.
     NoRecordFound,
-    /// DK
+    /// DK: a record was to be added under a key that its file has.
     DuplicateKey,
-    /// SQ: match fields out of sequence
+    /// SQ: the match fields of a file's record come before those of its last record.
     OutOfSequence,
-    /// KC: an update changes the key
+    /// KC: a record was to be updated with another key.
     KeyChanged,
-    /// NU: no current record to update
+    /// NU: a file without a current record was to be updated.
     NothingToUpdate,
-    /// EX
+    /// EX: a record was to be added to a file that has no room for it.
     FileFull,
-    /// KA: a load's keys do not ascend
+    /// KA: a load's record has a key that doesn't come behind that of the last one.
     KeyNotAscending,
 }

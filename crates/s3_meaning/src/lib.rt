@@ -2,6 +2,7 @@
 
 #![tactic(auto)]
 
+/// What a job halts for.
 pub mod halt;
 mod laws;
 
