@@ -1,11 +1,11 @@
 //! The parts of a session's input: two decks and a script, between markers.
 
 ghost use Rattle.std.specs.Prelude.{◌≡◌, ◌<◌, ◌≤◌, ◌+◌, ◌∷◌, ◌++◌, [], ◌^◌, ℕ, Some, None, length, take, drop, MatchOption, IfSome, option_map, is_some};
-ghost use Rattle.std.specs.Str.Lines.{strip_carriage_return};
 ghost use Rattle.s3_cli.specs.PartsView.{parts_view};
 ghost use Rattle.s3_cli.specs.Parts.{whole_lines, text_of, content_of, is_marker, has_marker, before_marker, after_marker, parts_of};
 
 use memchr::memchr;
+use s3_cards::without_carriage_return;
 
 /// The texts between the markers of an input, each of whole lines.
 #[derive(Clone, Copy)]
@@ -28,16 +28,6 @@ fn line_length(text: &[u8]) -> usize
     match memchr(b'\n', text) {
         Some(end) => end + 1,
         None => text.len(),
-    }
-}
-
-/// A line less the carriage return at its end, if it has one.
-fn without_carriage_return(line: &[u8]) -> &[u8]
-    ensures { result.now ≡ strip_carriage_return line.now }
-{
-    match line {
-        [front @ .., b'\r'] => front,
-        _ => line,
     }
 }
 

@@ -20,7 +20,7 @@ use Rattle.s3_sheets.specs.declared.sheet.SheetLine.TheVariants.{Header, File, I
 use Rattle.s3_sheets.specs.declared.sheet.Line.{Line}
 use Rattle.s3_cards.specs.Names.{same_name}
 use Rattle.s3_cards.specs.Codes.{ebcdic, code_page}
-use Rattle.s3_sheets.specs.Rules.{longest_record}
+use Rattle.s3_sheets.specs.Combinations.{longest_record}
 use Rattle.s3_meaning.specs.Source.{is_designated, is_input, is_card_reader, is_printer, overflow_of}
 use Rattle.s3_compile.specs.declared.definitions.DefinedFile.{DefinedFile}
 use Rattle.s3_compile.specs.Definitions.{file_from, file_of}

@@ -33,7 +33,7 @@ use Rattle.s3_sheets.specs.declared.sheet.OutputLine.TheVariants.{Line as LineCa
 use Rattle.s3_sheets.specs.declared.sheet.SheetLine.{SheetLine}
 use Rattle.s3_sheets.specs.declared.sheet.SheetLine.TheVariants.{Header, File, Input, Calculation, Output}
 use Rattle.s3_cards.specs.Codes.{ebcdic}
-use Rattle.s3_sheets.specs.Rules.{longest_record}
+use Rattle.s3_sheets.specs.Combinations.{longest_record}
 use Rattle.s3_meaning.specs.Source.{width}
 use Rattle.s3_meaning.specs.Carriage.{is_blank}
 use Rattle.s3_compile.specs.declared.before.Before.{Before}

@@ -144,7 +144,7 @@ fn is_built_designation(designation: Option<Designation>) -> bool
     }
 }
 
-#[tactic(auto, unfolding(s3_sheets::specs::Rules::longest_record, s3_cards::specs::Codes::ebcdic, s3_cards::specs::Codes::code_page))]
+#[tactic(auto, unfolding(s3_sheets::specs::Combinations::longest_record, s3_cards::specs::Codes::ebcdic, s3_cards::specs::Codes::code_page))]
 fn longest_record(device: Device) -> u16
     ensures { result ≡ spec.longest_built device }
 {
