@@ -1,5 +1,5 @@
 -- What each step of a pool keeps.
-use Rattle.std.proofs.Common.{◌≡◌, ◌≢◌, ℕ, zero, suc, ◌+◌, ◌-◌, ◌<◌, ◌≤◌, true, false, List, [], ◌∷◌, ◌++◌, length, take, slice_get, slice_set, Option, Result, Ok, Err, IsErrOf, ◌↔◌, Some, None, IsSome, IsSomeAnd, is_some, nat_eq, Contains, refl, sym, ap, ◌∙◌, subst, arith, length-set, take_all, ◌⊎◌, inl, inr}
+use Rattle.std.proofs.Common.{◌≡◌, ◌≢◌, ℕ, zero, suc, ◌+◌, ◌-◌, ◌<◌, ◌≤◌, true, false, List, [], ◌∷◌, ◌++◌, length, take, slice_get, slice_set, Option, Result, Ok, Err, OnOk, OnErr, IsErrOf, ◌↔◌, Some, None, IsSome, IsSomeAnd, is_some, nat_eq, Contains, refl, sym, ap, ◌∙◌, subst, arith, length-set, take_all, ◌⊎◌, inl, inr}
 use Rattle.std.proofs.lemmas.Bool.{eqb-true, eq-eqb}
 use Rattle.std.proofs.lemmas.Bool.Decides.{eqb_tells}
 use Rattle.std.proofs.lemmas.List.Elements.{Contains-append_right}
@@ -12,12 +12,12 @@ use Rattle.lru.proofs.CallerLemmas.{Contains-lookup_entry, Contains-promoted, Co
 use Rattle.s3_store.specs.declared.pool_fault.PoolFault.{PoolFault}
 use Rattle.s3_store.specs.declared.pool_fault.PoolFault.TheVariants.{NoSector}
 use Rattle.s3_store.specs.Failures.{failed_transfers}
-use Rattle.s3_store.specs.State.{KeepsContents}
-use Rattle.s3_store.proofs.Frames.{keeps_trans}
+use Rattle.s3_store.specs.State.{KeepsContents, ChangesWithin}
+use Rattle.s3_store.proofs.Frames.{keeps_trans, within_from_keeps}
 use Rattle.s3_store.proofs.SectorLists.{slice_get_set_same, slice_get_set_other, slice_set_known}
 use Rattle.s3_pool.specs.declared.buffers.Buffer.{Buffer}
 use Rattle.s3_pool.specs.declared.buffers.Buffers.{Buffers}
-use Rattle.s3_pool.specs.Buffers.{laid, IsSound, KeepsLaid, pool_state}
+use Rattle.s3_pool.specs.Buffers.{laid, IsSound, KeepsLaid, Overwrites, pool_state}
 use Rattle.s3_pool.specs.BufferLending.{dirty, with_buffer}
 use Rattle.s3_pool.specs.Lending.{ChangesSector, KeepsAll}
 use Rattle.s3_pool.proofs.Laid.{apart, length_laid, laid_promoted, laid_held, laid_missed, laid_append, laid_set_value}
@@ -230,6 +230,89 @@ written {b} {b'} {f} {f'} m m' n x w keeps same held = record {
   stored = keeps.stored;
   failures = same;
 }
+
+-- ---- a sector that is wholly overwritten
+
+-- a buffer that held it has the new bytes
+pub held_overwritten : {b b' : List (List ℕ)} {f f' : Buffers} (n : ℕ) (x : Buffer) (w : List ℕ) → KeepsLaid b f b' f' → IsSome (lookup (nat_eq n) f'.cache.entries) → Overwrites n w b f b' (with_buffer f' n (dirty x w))
+held_overwritten {b} {b'} {f} {f'} n x w keeps held = record {
+  sound = written_sound b' f' n x w keeps.sound;
+  contents = laid_set_value n f'.cache.entries b' (dirty x w) held ∙ ap (λ l. slice_set l n w) keeps.contents;
+  stored = keeps.stored;
+}
+
+chosen : (o : Option Buffer) (P : Buffer → Type 0) → IsSomeAnd o P → (x : Buffer) × P x
+chosen None P h = absurd h
+chosen (Some x) P h = (x, h)
+
+some_and : (o : Option Buffer) (P : Buffer → Type 0) → IsSomeAnd o P → IsSome o
+some_and None P h = absurd h
+some_and (Some x) P h = refl
+
+pub set_overwritten : {b b' : List (List ℕ)} {f f' : Buffers} (n : ℕ) (w : List ℕ) (later : Buffers) → KeepsLaid b f b' f' → IsSomeAnd (lookup (nat_eq n) f'.cache.entries) (λ x. later ≡ with_buffer f' n (dirty x w)) → Overwrites n w b f b' later
+set_overwritten {b} {b'} {f} {f'} n w later keeps h =
+    let o = lookup (nat_eq n) f'.cache.entries in
+    let x = chosen o (λ x. later ≡ with_buffer f' n (dirty x w)) h in
+    let is : later ≡ with_buffer f' n (dirty x.0 w) = x.1 in
+    rw is (held_overwritten n x.0 w keeps (some_and o (λ x. later ≡ with_buffer f' n (dirty x w)) h))
+
+-- a new buffer has them, which the store has not yet
+pub missed_overwritten : {b b' : List (List ℕ)} {f f' : Buffers} (n : ℕ) (x : Buffer) → KeepsLaid b f b' f' → lookup (nat_eq n) f'.cache.entries ≡ None → length f'.cache.entries < 16 → n < length b → x.is_dirty ≡ true → Overwrites n x.bytes.value b f b' (with_new f' n x)
+missed_overwritten {b} {b'} {f} {f'} n x keeps none short within is_dirty =
+    let es = f'.cache.entries in
+    let entries : (with_new f' n x).cache.entries ≡ (n, x) ∷ es = new_entries f' n x none short keeps.sound.room in
+    let either = λ (k : ℕ) (g : Buffer) (on : Contains (with_new f' n x).cache.entries (k, g)). Contains-cons (n, x) es (k, g) (subst (λ l. Contains l (k, g)) entries on) in
+    record {
+      sound = record {
+        room = keeps.sound.room;
+        in_range = λ k g on. elim (either k g on) [
+          | inl same ↦ let key : n ≡ k = ap (λ p. p.0) same in omega (arith, key, within, same_length keeps)
+          | inr old ↦ keeps.sound.in_range k g old
+        ];
+        clean = λ k g on c. elim (either k g on) [
+          | inl same ↦ let it : g.is_dirty ≡ true = ap (λ p. p.1.is_dirty) (sym same) ∙ is_dirty in absurd cc
+          | inr old ↦ keeps.sound.clean k g old c
+        ];
+      };
+      contents = ap (λ l. laid l b') entries ∙ ap (λ l. slice_set l n x.bytes.value) keeps.contents;
+      stored = keeps.stored;
+    }
+
+pub overwritten_after : {b b' b'' : List (List ℕ)} {f f' f'' : Buffers} (n : ℕ) (w : List ℕ) → KeepsLaid b f b' f' → Overwrites n w b' f' b'' f'' → Overwrites n w b f b'' f''
+overwritten_after {b} {b'} {b''} {f} {f'} {f''} n w keeps o = record {
+  sound = o.sound;
+  contents = o.contents ∙ ap (λ l. slice_set l n w) keeps.contents;
+  stored = record {
+    each = λ i. elim (o.stored.each i) [
+      | inl same ↦ elim (keeps.stored.each i) [
+        | inl first ↦ inl (same ∙ first)
+        | inr first ↦ inr (same ∙ first)
+      ]
+      | inr seen ↦ inr (seen ∙ ap (λ l. slice_get l i) keeps.contents)
+    ];
+  };
+}
+
+pub overwritten_within : {b b' : List (List ℕ)} {f f' : Buffers} (m m' : ℕ) (n : ℕ) (w : List ℕ) → Overwrites n w b f b' f' → ChangesWithin (λ i. i ≡ n) (pool_state b m f) (pool_state b' m' f')
+overwritten_within {b} {b'} {f} {f'} m m' n w o = record {
+  count = ap length o.contents ∙ length-set (laid f.cache.entries b) n w;
+  contents = λ i other. ap (λ l. slice_get l i) o.contents ∙ slice_get_set_other (laid f.cache.entries b) n i w other;
+  stored = λ i other. o.stored.each i;
+}
+
+-- ---- what an answer says of it
+
+pub ok_after : {b b' : List (List ℕ)} {f f' : Buffers} {T : Type 0} (b'' : List (List ℕ)) (f'' : Buffers) (n : ℕ) (w : List ℕ) (r : Result T PoolFault) → KeepsLaid b f b' f' → OnOk r (Overwrites n w b' f' b'' f'') → OnOk r (Overwrites n w b f b'' f'')
+ok_after b'' f'' n w (Ok x) keeps o = overwritten_after n w keeps o
+ok_after b'' f'' n w (Err fault) keeps o = tt
+
+pub err_after : {b b' : List (List ℕ)} {f f' : Buffers} {T : Type 0} (b'' : List (List ℕ)) (f'' : Buffers) (r : Result T PoolFault) → KeepsLaid b f b' f' → OnErr r (KeepsLaid b' f' b'' f'') → OnErr r (KeepsLaid b f b'' f'')
+err_after b'' f'' (Ok x) keeps k = tt
+err_after b'' f'' (Err fault) keeps k = laid_trans keeps k
+
+pub changes_one : {T : Type 0} (b b' : List (List ℕ)) (f f' : Buffers) (m m' : ℕ) (n : ℕ) (w : List ℕ) (r : Result T PoolFault) → OnOk r (Overwrites n w b f b' f') → OnErr r (KeepsLaid b f b' f') → ChangesWithin (λ i. i ≡ n) (pool_state b m f) (pool_state b' m' f')
+changes_one b b' f f' m m' n w (Ok x) o k = overwritten_within m m' n w o
+changes_one b b' f f' m m' n w (Err fault) o k = within_from_keeps _ _ _ (keeps_contents m m' k)
 
 held_buffer : (o : Option Buffer) (v : List ℕ) → IsSomeAnd o (λ f. v ≡ f.bytes.value) → (f : Buffer) × (o ≡ Some f) × (v ≡ f.bytes.value)
 held_buffer None v h = absurd h

@@ -22,6 +22,13 @@ pub record KeepsLaid (sectors : List (List ℕ)) (buffers : Buffers) (later : Li
   pub contents : laid later_buffers.cache.entries later ≡ laid buffers.cache.entries sectors
   pub stored : IsBetween sectors later (laid buffers.cache.entries sectors)
 
+-- From a store and its buffers to a later store and buffers: sector n has these bytes and what else is seen stays, and each
+-- sector of the store is as it was or what was seen before.
+pub record Overwrites (n : ℕ) (bytes : List ℕ) (sectors : List (List ℕ)) (buffers : Buffers) (later : List (List ℕ)) (later_buffers : Buffers) : Type 0 where
+  pub sound : IsSound later later_buffers
+  pub contents : laid later_buffers.cache.entries later ≡ slice_set (laid buffers.cache.entries sectors) n bytes
+  pub stored : IsBetween sectors later (laid buffers.cache.entries sectors)
+
 -- what a pool is, whose store has these sectors and failures
 abbrev pub pool_state : List (List ℕ) → ℕ → Buffers → PoolState
 pool_state sectors failures buffers = record { contents = laid buffers.cache.entries sectors; stored = sectors; failures = failures }

@@ -4,8 +4,8 @@ ghost use Rattle.std.specs.Map.{lookup};
 ghost use Rattle.std.specs.Borrow.{sem};
 ghost use Rattle.lru.specs.LruCache.{IsValid};
 ghost use Rattle.s3_store.specs.Failures.{failed_calls, failed_transfers};
-ghost use Rattle.s3_pool.specs.Buffers.{IsSound, KeepsLaid};
-ghost use Rattle.s3_pool.specs.BufferLending.{LendsBytes, LendsBuffer};
+ghost use Rattle.s3_pool.specs.Buffers.{IsSound, KeepsLaid, Overwrites};
+ghost use Rattle.s3_pool.specs.BufferLending.{LendsBytes, LendsBuffer, dirty, with_buffer};
 
 use lru::LruCache;
 use s3_store::{PackStore, PoolFault, StoreFault};
@@ -59,6 +59,14 @@ impl Buffers {
             Some(buffer) => &buffer.bytes,
             None => unreachable!(),
         }
+    }
+
+    /// Has the buffer of a sector that is held have these bytes, which the store has not yet.
+    fn set(&mut self, n: u16, bytes: &[u8; 256])
+        requires { IsSome (lookup (nat_eq n) self.old.cache.entries) }
+        ensures { IsSomeAnd (lookup (nat_eq n) self.old.cache.entries) (λ buffer. self.new ≡ with_buffer self.old n (dirty buffer bytes.now)) }
+    {
+        *self.buffer_mut(n).bytes_mut() = *bytes;
     }
 
     /// The buffer of a sector that is held.
@@ -160,6 +168,52 @@ pub(crate) fn load<S: PackStore>(
         return Ok(());
     }
     fetch(store, buffers, n)
+}
+
+/// Has a new buffer of sector `n`, which no buffer holds, have these bytes. The sector isn't read.
+fn cover<S: PackStore>(
+    store: &mut S,
+    buffers: &mut Buffers,
+    n: u16,
+    bytes: &[u8; 256],
+) -> Result<(), PoolFault>
+    requires sound { IsSound (S.contents store.old) buffers.old }
+    requires in_range { n < length (S.contents store.old) }
+    requires missed { lookup (nat_eq n) buffers.old.cache.entries ≡ None }
+    ensures ok { OnOk result (Overwrites n bytes.now (S.contents store.old) buffers.old (S.contents store.new) buffers.new) }
+    ensures err { OnErr result (KeepsLaid (S.contents store.old) buffers.old (S.contents store.new) buffers.new) }
+    ensures failures { S.failures store.new ≡ S.failures store.old + failed_transfers result }
+    ensures fault { IfErr result (λ fault. fault ≢ PoolFault.NoSector) }
+{
+    make_room(store, buffers)?;
+    let bytes = Box::new(*buffers.cache.allocator(), *bytes)?;
+    let new = Buffer {
+        bytes,
+        is_dirty: true,
+    };
+    buffers.cache.put(n, new)?;
+    Ok(())
+}
+
+/// Has a buffer of sector `n` have these bytes, as the most recently used one. The sector isn't read.
+pub(crate) fn overwrite<S: PackStore>(
+    store: &mut S,
+    buffers: &mut Buffers,
+    n: u16,
+    bytes: &[u8; 256],
+) -> Result<(), PoolFault>
+    requires sound { IsSound (S.contents store.old) buffers.old }
+    requires in_range { n < length (S.contents store.old) }
+    ensures ok { OnOk result (Overwrites n bytes.now (S.contents store.old) buffers.old (S.contents store.new) buffers.new) }
+    ensures err { OnErr result (KeepsLaid (S.contents store.old) buffers.old (S.contents store.new) buffers.new) }
+    ensures failures { S.failures store.new ≡ S.failures store.old + failed_transfers result }
+    ensures fault { IfErr result (λ fault. fault ≢ PoolFault.NoSector) }
+{
+    if buffers.cache.promote(&n) {
+        buffers.set(n, bytes);
+        return Ok(());
+    }
+    cover(store, buffers, n, bytes)
 }
 
 /// Gives up all buffers, once the store has them.

@@ -4,7 +4,7 @@ ghost use Rattle.std.specs.Borrow.{sem};
 ghost use Rattle.s3_store.specs.Failures.{failed_transfers};
 ghost use Rattle.s3_store.specs.State.{KeepsContents};
 
-use crate::buffers::{Buffers, give_up_all, load};
+use crate::buffers::{Buffers, give_up_all, load, overwrite};
 use s3_store::{PackStore, PoolFault, Sectors};
 use std::alloc::{AllocFailed, Global};
 use std::marker::Model;
@@ -100,8 +100,6 @@ impl<S: PackStore> Sectors for Pool<S> {
     }
 
     fn write_sector(&mut self, n: u16, bytes: &[u8; 256]) -> Result<(), PoolFault> {
-        let sector = self.sector_mut(n)?;
-        *sector = *bytes;
-        Ok(())
+        overwrite(&mut self.store, &mut self.buffers, n, bytes)
     }
 }
