@@ -1,7 +1,7 @@
 //! Rows of the pool: 17 sectors are written, read back and flushed, through 16 buffers.
 
 use s3_pool::Pool;
-use s3_store::{FuseStore, MemoryStore, PackStore, PoolFault};
+use s3_store::{FuseStore, MemoryStore, PackStore, PoolFault, Sectors};
 use std::alloc::{AllocError, Global};
 use std::test::Fail;
 
@@ -101,6 +101,30 @@ fn a_sector_past_the_last_is_refused(rt: HostRuntime) -> Result<(), Fail> {
     assert_eq!(rt; read, Err(PoolFault::NoSector));
     assert_eq!(rt; written, Err(PoolFault::NoSector));
     assert_eq!(rt; far, Err(PoolFault::NoSector));
+    Ok(())
+}
+
+/// A sector that is wholly overwritten is not read: the first transfer, which fails here, is that of the flush.
+#[test]
+fn a_whole_sector_is_written_without_a_read(rt: HostRuntime) -> Result<(), Fail> {
+    let store = FuseStore::new(blank_store(rt.alloc())?, 1);
+    let mut pool = Pool::new(rt.alloc(), store).map_err(|_| "memory")?;
+    let written = if FIRST < pool.sector_count() {
+        pool.write_sector(FIRST, &[7; 256])
+    } else {
+        Err(PoolFault::NoSector)
+    };
+    let first = first_byte(&mut pool, FIRST);
+    let refused = pool.flush();
+    let kept = first_byte(&mut pool, FIRST);
+    let flushed = pool.flush();
+    let bytes = pool.into_store().into_inner().into_bytes();
+    assert_eq!(rt; written, Ok(()));
+    assert_eq!(rt; first, Ok(7));
+    assert_eq!(rt; refused, Err(PoolFault::Device));
+    assert_eq!(rt; kept, Ok(7));
+    assert_eq!(rt; flushed, Ok(()));
+    assert_eq!(rt; first_bytes(&bytes)[0], 7);
     Ok(())
 }
 
