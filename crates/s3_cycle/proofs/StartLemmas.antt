@@ -18,15 +18,12 @@ use Rattle.s3_compile.specs.declared.program.Program.{Program}
 use Rattle.s3_compile.specs.Stands.{SameField, SameFields, Stands, switched_by}
 use Rattle.s3_cycle.specs.declared.indicators.Indicators.{Indicators}
 use Rattle.s3_cycle.specs.declared.stepper.Stepper.{Stepper}
-use Rattle.s3_cycle.specs.Texts.{blank_texts}
+use Rattle.s3_cycle.specs.Texts.{blanks, blank_texts}
 use Rattle.s3_cycle.specs.Held.{held, on_in, is_used, text_in, current_in}
 use Rattle.s3_cycle.specs.Rest.{rest, headings_put, standing_of, waiting_of, reading_of}
 use Rattle.s3_cycle.specs.Steps.{GoesOn, Starts}
 use Rattle.s3_cards.proofs.NameLemmas.{same_name-equal}
 use Rattle.s3_cycle.proofs.TakeLemmas.{cycle-begun}
-
-abbrev blanks : ℕ → List ℕ
-blanks n = replicate n 0x40
 
 -- blank texts are those of the first environment
 first-texts : (source : Source) (fields : List Field) → ((k : ℕ) (field : Field) → slice_get fields k ≡ Some field → SameField source field) → (name : Name) → text_in fields (blank_texts fields) (λ name. replicate (length_of source name) 0x40) name ≡ replicate (length_of source name) 0x40

@@ -1,5 +1,5 @@
 -- What a suspended run holds: its environment by names.
-use Rattle.std.specs.Prelude.{ℕ, Bool, true, false, List, ◌∷◌, filter, replicate, get_or, slice_set, not, Option, Some, None, option_map, if◌then◌else◌}
+use Rattle.std.specs.Prelude.{ℕ, Bool, true, false, List, ◌∷◌, filter, get_or, slice_set, not, Option, Some, None, option_map, if◌then◌else◌}
 use Rattle.std.specs.List.{list_any}
 use Rattle.s3_cards.specs.declared.name.Name.{Name}
 use Rattle.s3_sheets.specs.declared.indicator.Indicator.{Indicator}
@@ -12,6 +12,7 @@ use Rattle.s3_meaning.specs.Environment.{Environment, no_remainder, switch_on, o
 use Rattle.s3_compile.specs.declared.program.Field.{Field}
 use Rattle.s3_cycle.specs.declared.indicators.Indicators.{Indicators}
 use Rattle.s3_cycle.specs.declared.stepper.Stepper.{Stepper}
+use Rattle.s3_cycle.specs.Texts.{blanks}
 
 -- the text of a name: that of its slot, else as at first
 abbrev pub text_in : List Field → List (List ℕ) → (Name → List ℕ) → Name → List ℕ
@@ -49,7 +50,7 @@ current_in source number name = if list_any (λ file. same_name name file.name) 
 unfoldable pub held : Source → Stepper → Environment
 held source c = record {
   numbers = numbers_at_first c.date;
-  texts = text_in c.program.fields.items c.texts (λ name. replicate (length_of source name) 0x40);
+  texts = text_in c.program.fields.items c.texts (λ name. blanks (length_of source name));
   on = on_in c.indicators;
   remainder = no_remainder;
   current = current_in source c.current;

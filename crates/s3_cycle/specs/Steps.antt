@@ -1,5 +1,5 @@
 -- Steps of a suspended run.
-use Rattle.std.specs.Prelude.{◌≡◌, ℕ, ◌<◌, Bool, true, false, ◌&&◌, List, map, drop, length, replicate, slice_get, slice_range, Some}
+use Rattle.std.specs.Prelude.{◌≡◌, ℕ, ◌<◌, Bool, true, false, ◌&&◌, List, map, drop, length, slice_get, slice_range, Some}
 use Rattle.std.specs.List.{list_all}
 use Rattle.s3_meaning.specs.declared.halt.HaltCode.TheVariants.{UnidentifiedRecord}
 use Rattle.s3_cards.specs.Printed.{Printed}
@@ -14,6 +14,7 @@ use Rattle.s3_cycle.specs.declared.request.Request.TheVariants.{Card as CardRequ
 use Rattle.s3_cycle.specs.declared.stepper.Point.{Point}
 use Rattle.s3_cycle.specs.declared.stepper.Point.TheVariants.{Headings, Card, Unidentified, End}
 use Rattle.s3_cycle.specs.declared.stepper.Stepper.{Stepper}
+use Rattle.s3_cycle.specs.Texts.{blanks}
 use Rattle.s3_cycle.specs.Held.{held, entry_holds, is_used}
 use Rattle.s3_cycle.specs.Printing.{pieces_put}
 use Rattle.s3_cycle.specs.Rest.{headings_put, reading_of, rest}
@@ -66,4 +67,4 @@ pub record IsPrinted (c : Stepper) (place : ℕ) : Type 0 where
 
 -- the text that a line prints
 abbrev pub text_of : Stepper → DetailLine → List ℕ
-text_of c line = pieces_put c.texts c.indicators (slice_range c.program.pieces.items line.first line.past) (replicate c.program.print_length 0x40)
+text_of c line = pieces_put c.texts c.indicators (slice_range c.program.pieces.items line.first line.past) (blanks c.program.print_length)

@@ -1,11 +1,15 @@
 -- The texts of alphanumeric fields, by slot.
 use Rattle.std.specs.Prelude.{◌≡◌, ℕ, ◌-◌, ◌<◌, ◌≤◌, List, [], ◌∷◌, map, length, replicate, slice_get, slice_set, slice_range, Option, Some, None}
+use Rattle.s3_cards.specs.declared.ebcdic.TheConstants.{BLANK}
 use Rattle.s3_compile.specs.declared.program.Field.{Field}
 use Rattle.s3_compile.specs.declared.program.FieldMove.{FieldMove}
 
+abbrev pub blanks : (length : ℕ) → List ℕ
+blanks length = replicate length BLANK
+
 -- as many blanks as each field is long
 abbrev pub blank_texts : List Field → List (List ℕ)
-blank_texts fields = map (λ field. replicate field.length 0x40) fields
+blank_texts fields = map (λ field. blanks field.length) fields
 
 -- how long the text of a slot is
 abbrev pub length_at : List (List ℕ) → ℕ → ℕ

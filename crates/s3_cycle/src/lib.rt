@@ -2,14 +2,14 @@
 
 #![tactic(auto)]
 
-pub mod carriage;
+mod carriage;
 pub mod cycle;
-pub mod indicators;
+mod indicators;
 mod moving;
 mod printing;
 pub mod request;
 pub mod stepper;
-pub mod texts;
+mod texts;
 
 pub use cycle::Cycle;
 pub use request::{Answer, Request, fits};

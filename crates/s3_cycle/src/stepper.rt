@@ -60,13 +60,14 @@ pub struct Stepper {
 }
 
 impl Stepper {
-    ghost use Rattle.std.specs.Prelude.{◌≡◌, ◌<◌, ◌≤◌, ℕ, true, false, min, ◌+◌, IfSome, IfNone, IfOk, IsTrue, Some, None, ◌&&◌, nat_le, length, replicate, drop, filter, slice_get};
+    ghost use Rattle.std.specs.Prelude.{◌≡◌, ◌<◌, ◌≤◌, ℕ, true, false, min, ◌+◌, IfSome, IfNone, IfOk, IsTrue, Some, None, ◌&&◌, nat_le, length, drop, filter, slice_get};
     ghost use Rattle.std.specs.List.{list_all};
     ghost use Rattle.s3_meaning.specs.Source.{Source, is_input};
     ghost use Rattle.s3_meaning.specs.Requests.{Found, Nothing};
     ghost use Rattle.s3_compile.specs.Stands.{Stands};
     ghost use Rattle.s3_compile.specs.declared.program.DetailLine.{DetailLine};
     ghost use Rattle.s3_cycle.specs.Requests.{answer_of, is_fit};
+    ghost use Rattle.s3_cycle.specs.Texts.{blanks};
     ghost use Rattle.s3_cycle.specs.Held.{held, entry_holds, is_used};
     ghost use Rattle.s3_cycle.specs.Rest.{headings_put, after_headings, reading_of, card_answered, answered};
     ghost use Rattle.s3_cycle.specs.Steps.{IsSound, GoesOn, Starts, SkipsTo, IsPrinted, is_due, text_of};
@@ -180,7 +181,7 @@ impl Stepper {
     fn put_line(&self, line: &DetailLine, text: &mut [u8])
         requires sound { IsSound self.now }
         requires line { IsTrue (nat_le line.now.first line.now.past && nat_le line.now.past (length self.now.program.pieces.items)) }
-        requires blank { text.old ≡ replicate self.now.program.print_length 0x40 }
+        requires blank { text.old ≡ blanks self.now.program.print_length }
         ensures { text.new ≡ text_of self.now line.now }
     {
         let pieces = &self.program.pieces[line.first..line.past];
