@@ -8,7 +8,7 @@ mod indicators;
 mod moving;
 mod printing;
 pub mod request;
-pub mod stepper;
+mod stepper;
 mod texts;
 
 pub use cycle::Cycle;
