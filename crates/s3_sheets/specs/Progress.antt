@@ -83,7 +83,7 @@ kept_behind kept card =
       fields = fields_with kept card;
     }
 
--- what the next card's columns and it say of that card
+-- what it says of the next card, with what that card's own columns show
 unfoldable pub standing_behind : Kept → List ℕ → Standing
 standing_behind kept card =
     let kind : CardKind = kind_of card in

@@ -1,3 +1,5 @@
+//! What is wrong with a source, card by card.
+
 use std::alloc::AllocError;
 use thiserror::Error;
 
@@ -13,6 +15,7 @@ pub struct Diagnostic {
 /// Why the sheets of a source weren't read.
 #[derive(Debug, Drop, Error)]
 pub enum SheetFault {
+    /// Memory ran out.
     #[error("out of memory")]
     NoMemory,
     /// By card and then number; at least one.

@@ -26,5 +26,6 @@ pub enum Indicator {
 pub struct Condition {
     /// It must be off, else on.
     pub negated: bool,
+    /// Which indicator is looked at.
     pub indicator: Indicator,
 }

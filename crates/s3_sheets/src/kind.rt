@@ -17,7 +17,9 @@ pub enum CardKind {
     Comment,
     /// Column 6 is no sheet.
     Unknown,
+    /// An H card.
     Header,
+    /// An F card.
     File,
     /// A record line: an I card with a file name.
     Record,
@@ -25,6 +27,7 @@ pub enum CardKind {
     RecordGroup,
     /// A field line: any other I card.
     Field,
+    /// A C card.
     Calculation,
     /// A line card: an O card with a file name or a type.
     OutputLine,
@@ -69,6 +72,7 @@ fn output_kind(card: &Card) -> CardKind
     }
 }
 
+/// The kind of a card. A comment is one whatever its column 6 has.
 #[tactic(auto, unfolding(crate::specs::Kinds::kind_of))]
 pub fn kind_of(card: &Card) -> CardKind
     ensures { result ≡ kind_of_spec card.now }

@@ -25,7 +25,9 @@ const MOST_FIELDS: usize = 999;
 /// A file that a card defines, and the length of its records.
 #[derive(Clone, Copy)]
 pub struct KnownFile {
+    /// As its F card names it.
     pub name: Name,
+    /// In bytes, 1 to 1,024.
     pub record_length: u16,
 }
 
@@ -96,7 +98,7 @@ impl Progress {
         }
     }
 
-    /// Takes one more card, and answers what the cards before say of it.
+    /// Takes one more card, and answers what its columns and the cards before say of it.
     #[tactic(auto, unfolding(crate::specs::Progress::standing_behind, crate::specs::Progress::kept_behind, crate::specs::Progress::is_at_fault_behind, crate::specs::Progress::files_with, crate::specs::Progress::fields_with))]
     pub fn enter(&mut self, card: &Card) -> Result<Standing, AllocError>
         ensures standing { IfOk result (λ standing. standing ≡ standing_behind self.old card.now) }

@@ -18,19 +18,25 @@ pub enum Entry {
     Blank,
     /// One of these texts.
     OneOf(&'static [&'static [u8]]),
+    /// Letters alone.
     Letters,
+    /// A name of at most as many characters as there are columns.
     Name,
+    /// A name, or blank.
     MaybeName,
     /// A field that can be put out, or blank.
     MaybeField,
     /// A number in a range.
     Number(u16, u16),
+    /// A number in a range, or blank.
     MaybeNumber(u16, u16),
     /// 01 to 99.
     GeneralIndicator,
+    /// Blank or N and then 01 to 99 or U1 to U8, or all blank.
     MaybeCondition,
     /// U1 to U8, or blank.
     MaybeSwitch,
+    /// A text in apostrophes, or blank.
     MaybeConstant,
     /// A code of seven columns, its position first, or blank.
     MaybeCode,
@@ -41,8 +47,11 @@ pub enum Entry {
 /// The columns from one to another, counted from 1, and what may stand there.
 #[derive(Clone, Copy)]
 pub struct Rule {
+    /// The first column, from 1.
     pub from: usize,
+    /// The last column, at most 96.
     pub to: usize,
+    /// What may stand there.
     pub entry: Entry,
     /// More than a blank entry is taken.
     pub is_built: bool,

@@ -50,8 +50,11 @@ pub struct KeyField {
 /// An F line.
 #[derive(Clone, Copy)]
 pub struct FileLine {
+    /// The name that record and line cards use.
     pub name: Name,
+    /// What the program does with the file.
     pub usage: FileUse,
+    /// None for files that are only put out in order.
     pub designation: Option<Designation>,
     /// The end of this file counts for the end of the job.
     pub ends_job: bool,
@@ -61,7 +64,9 @@ pub struct FileLine {
     pub key: Option<KeyField>,
     /// That of a print file.
     pub overflow: Option<Indicator>,
+    /// Where the file is.
     pub device: Device,
+    /// Records are added to it.
     pub has_additions: bool,
     /// A switch, without which the file isn't used.
     pub condition: Option<Indicator>,
@@ -85,6 +90,7 @@ pub struct RecordCode {
     pub position: u16,
     /// The part must differ.
     pub negated: bool,
+    /// What is compared.
     pub part: CodePart,
     /// In EBCDIC.
     pub character: u8,
@@ -93,6 +99,7 @@ pub struct RecordCode {
 /// How a field lies in a record.
 #[derive(Clone, Copy)]
 pub enum FieldForm {
+    /// Characters, a byte each.
     Alphanumeric,
     /// A digit a byte, with its decimals, 0 to 9.
     Zoned(u8),
@@ -103,11 +110,13 @@ pub enum FieldForm {
 /// A field of a record.
 #[derive(Clone, Copy)]
 pub struct FieldLine {
+    /// 1 to 6 characters.
     pub name: Name,
     /// The first position, from 1.
     pub from: u16,
     /// The last position, within the record.
     pub to: u16,
+    /// How it lies in those positions.
     pub form: FieldForm,
     /// 1 to 9.
     pub control_level: Option<u8>,
@@ -157,40 +166,63 @@ pub struct TextLiteral {
 pub enum Factor {
     /// A field, file, tag or subroutine.
     Named(Name),
+    /// As many decimals as stand behind its point.
     Number(NumberLiteral),
+    /// In apostrophes.
     Text(TextLiteral),
 }
 
 /// What a C line does.
 #[derive(Clone, Copy)]
 pub enum Operation {
+    /// ADD: factor 1 and factor 2.
     Add,
+    /// SUB: factor 1 less factor 2.
     Subtract,
+    /// MULT: factor 1 times factor 2.
     Multiply,
+    /// DIV: factor 1 by factor 2.
     Divide,
+    /// Z-ADD: factor 2.
     ZeroAdd,
+    /// Z-SUB: the negative of factor 2.
     ZeroSubtract,
+    /// MVR: the remainder of the DIV before.
     MoveRemainder,
+    /// COMP: high, low or equal.
     Compare,
+    /// MOVE: from the right.
     Move,
+    /// MOVEL: from the left.
     MoveLeft,
+    /// SETON: its indicators on.
     SetOn,
+    /// SETOF: its indicators off.
     SetOff,
+    /// GOTO: on from a tag.
     GoTo,
+    /// TAG: where a GOTO goes on.
     Tag,
+    /// EXSR: a subroutine.
     ExecuteSubroutine,
+    /// BEGSR: where a subroutine begins.
     BeginSubroutine,
+    /// ENDSR: where it ends.
     EndSubroutine,
+    /// EXCPT: the exception lines.
     Except,
+    /// CHAIN: the record of a key or a number.
     Chain,
 }
 
 /// What columns 7 and 8 of a C line say.
 #[derive(Clone, Copy)]
 pub enum CalculationTime {
+    /// Once for each record, with its fields.
     Detail,
     /// L0 to L9 or LR.
     Total(Indicator),
+    /// When an EXSR names it.
     Subroutine,
     /// It goes on with the conditions of the line above.
     And,
@@ -210,14 +242,19 @@ pub enum Shape {
 /// A C line.
 #[derive(Clone, Copy)]
 pub struct CalculationLine {
+    /// When it is done.
     pub time: CalculationTime,
+    /// What must hold for it, none where blank.
     pub conditions: [Option<Condition>; 3],
     pub factor1: Option<Factor>,
+    /// None on a line whose group goes on.
     pub operation: Option<Operation>,
     pub factor2: Option<Factor>,
+    /// The field that it gives a value.
     pub result: Option<Name>,
     /// The shape that the line gives its result.
     pub definition: Option<Shape>,
+    /// 5 is added at the first digit dropped.
     pub half_adjust: bool,
     /// Columns 54-55, 56-57 and 58-59.
     pub indicators: [Option<Indicator>; 3],
@@ -226,9 +263,13 @@ pub struct CalculationLine {
 /// When an output line is put out.
 #[derive(Clone, Copy)]
 pub enum OutputKind {
+    /// At the start of a cycle, as a heading.
     Heading,
+    /// At the start of a cycle.
     Detail,
+    /// After total calculations.
     Total,
+    /// At an EXCPT.
     Exception,
 }
 
@@ -250,9 +291,13 @@ pub struct Spacing {
 pub struct OutputCard {
     /// Without one it takes that of the line before.
     pub file: Option<Name>,
+    /// When it is put out.
     pub kind: OutputKind,
+    /// It adds a record to a disk file.
     pub is_addition: bool,
+    /// How the carriage moves for it.
     pub spacing: Spacing,
+    /// What must hold for it, none where blank.
     pub conditions: [Option<Condition>; 3],
 }
 
@@ -272,13 +317,16 @@ pub enum OutputForm {
     Plain,
     /// Two digits a byte.
     Packed,
+    /// By an edit code.
     Edited(EditCode),
 }
 
 /// A field that is put out.
 #[derive(Clone, Copy)]
 pub struct FieldOutput {
+    /// The field.
     pub name: Name,
+    /// How it is put out.
     pub form: OutputForm,
     /// It becomes 0 or blanks afterwards.
     pub blank_after: bool,
@@ -287,14 +335,18 @@ pub struct FieldOutput {
 /// What a field card puts out.
 #[derive(Clone, Copy)]
 pub enum OutputContent {
+    /// The same text each time.
     Constant(Constant),
+    /// The value that a field has then.
     Field(FieldOutput),
 }
 
 /// A part of an output line.
 #[derive(Clone, Copy)]
 pub struct OutputField {
+    /// What must hold for it, none where blank.
     pub conditions: [Option<Condition>; 3],
+    /// What is put out.
     pub content: OutputContent,
     /// Its last position, from 1, within the record.
     pub end: u16,
@@ -303,6 +355,7 @@ pub struct OutputField {
 /// An O line.
 #[derive(Clone, Copy)]
 pub enum OutputLine {
+    /// The first card of an output line.
     Line(OutputCard),
     /// Further conditions of the line above.
     And([Option<Condition>; 3]),
@@ -317,9 +370,13 @@ pub enum OutputLine {
 pub enum SheetLine {
     /// With the program's name.
     Header(Option<Name>),
+    /// A card of the F sheet.
     File(FileLine),
+    /// A card of the I sheet.
     Input(InputLine),
+    /// A card of the C sheet.
     Calculation(CalculationLine),
+    /// A card of the O sheet.
     Output(OutputLine),
 }
 
@@ -328,5 +385,6 @@ pub enum SheetLine {
 pub struct Line {
     /// From 1 in the deck.
     pub card: u16,
+    /// What it says.
     pub sheet: SheetLine,
 }

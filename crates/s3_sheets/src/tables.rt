@@ -1,5 +1,6 @@
 //! The rules of each kind of card, each for some columns alone. Columns that nothing has built yet are `unbuilt`: what the
 //! language allows there is 2, and what it refuses keeps its own number. Where that is 2 as well, they are plainly blank.
+//! Columns that stand in no rule are read together with others, in `combinations`.
 
 ghost use Rattle.std.specs.Prelude.{◌≡◌, map, true};
 ghost use Rattle.std.specs.List.{list_all};
