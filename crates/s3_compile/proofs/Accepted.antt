@@ -1,8 +1,7 @@
 -- What lines without diagnostics meet, sheet by sheet.
-use Rattle.std.proofs.Common.{◌≡◌, ◌≢◌, ℕ, List, [], ◌∷◌, ◌++◌, Bool, true, false, cond, refl, ◌∙◌, ap, subst, length, take}
-use Rattle.std.specs.Prelude.{Option, Some, None, is_none, not, ◌&&◌, ◌||◌, map, filter, filter_map, slice_get, insert, if◌then◌else◌}
+use Rattle.std.proofs.Common.{◌≡◌, ◌≢◌, ℕ, List, [], ◌∷◌, ◌++◌, Bool, true, false, cond, refl, ◌∙◌, ap, subst, length}
+use Rattle.std.specs.Prelude.{Option, Some, None, is_none, not, ◌&&◌, ◌||◌, map, filter, filter_map, if◌then◌else◌}
 use Rattle.std.specs.Option.{option_or}
-use Rattle.std.specs.List.{prefix_len}
 use Rattle.s3_sheets.specs.declared.diagnostic.Diagnostic.{Diagnostic}
 use Rattle.s3_cards.specs.declared.name.Name.{Name}
 use Rattle.s3_sheets.specs.declared.sheet.FileLine.{FileLine}
@@ -19,9 +18,10 @@ use Rattle.s3_compile.specs.Definitions.{Known, known_of}
 use Rattle.s3_compile.specs.Before.{before_of, record_file, line_file, has_card_file, has_print_file, is_card_file, is_print_file}
 use Rattle.s3_compile.specs.Part.{is_built, is_built_file, is_built_input, is_built_output_line}
 use Rattle.s3_compile.specs.Conditions.{line_holds, has_undefined_input, has_undefined_output, is_field_otherwise, output_begins_early, is_field, is_field_card, is_record_of_output, is_line_for_input}
-use Rattle.s3_compile.specs.Diagnostics.{line_diagnostics, diagnostics_after, own_numbers, further_numbers, is_same, placed, precedes, has_one_primary, compile_diagnostics, first_else, diagnostics_with, further_diagnostics}
+use Rattle.s3_compile.specs.Diagnostics.{line_diagnostics, own_numbers, further_numbers, placed, precedes, has_one_primary, compile_diagnostics, first_else, diagnostics_with, further_diagnostics}
 use Rattle.s3_compile.specs.Compiles.{IsAccepted}
 use Rattle.s3_compile.specs.Translation.{files_of, inputs_of, outputs_of}
+use Rattle.s3_compile.proofs.Pairs.{diagnostics_after, all_pairs}
 use Rattle.s3_compile.proofs.DiagnosticLemmas.{last_of-append, any-append}
 
 -- ---- each sheet
@@ -214,19 +214,9 @@ something : {X : Type 0} (xs : List X) (y : X) (ys : List X) → (xs ++ y ∷ ys
 something [] y ys = λ h. cc
 something (x ∷ xs) y ys = λ h. cc
 
-kept_or_inserted : (b : Bool) (found : List Diagnostic) (place : ℕ) (diagnostic : Diagnostic) → (b ≡ true → found ≢ []) → cond b found (insert found place diagnostic) ≢ []
-kept_or_inserted true found place diagnostic some = some refl
-kept_or_inserted false found place diagnostic some = something (take place found) diagnostic _
-
-same_some : (found : List Diagnostic) (place : ℕ) (diagnostic : Diagnostic) → is_same diagnostic (slice_get found place) ≡ true → found ≢ []
-same_some [] place diagnostic h = let no : false ≡ true = h in cc
-same_some (x ∷ xs) place diagnostic h = λ e. cc
-
 one_primary : (b : Bool) (found : List Diagnostic) (diagnostic : Diagnostic) → cond b found (placed found diagnostic) ≡ [] → (b ≡ true) × (found ≡ [])
 one_primary true found diagnostic h = (refl, h)
-one_primary false found diagnostic h =
-    let place : ℕ = prefix_len (λ other. precedes other diagnostic) found in
-    absurd (kept_or_inserted (is_same diagnostic (slice_get found place)) found place diagnostic (same_some found place diagnostic) h)
+one_primary false found diagnostic h = absurd (something (filter (λ other. precedes other diagnostic) found) diagnostic _ h)
 
 pub no_diagnostics : (run_card : ℕ) (lines : List Line) → compile_diagnostics run_card lines ≡ [] → IsAccepted lines
 unfolding compile_diagnostics
@@ -236,4 +226,7 @@ no_diagnostics run_card lines none =
     (a.0, b.1, b.0)
 
 pub accepted : (lines : List Line) → IsAccepted lines → Accepted lines
-accepted lines none = record { fine = all_fine (known_of lines) [] lines none.0 none.1; one_primary = none.2 }
+accepted lines none = record {
+  fine = all_fine (known_of lines) [] lines (all_pairs own_numbers lines ∙ none.0) (all_pairs further_numbers lines ∙ none.1);
+  one_primary = none.2;
+}

@@ -1,9 +1,8 @@
 -- Lemmas on the tables of files and fields.
-use Rattle.std.proofs.Common.{◌≡◌, ℕ, ◌+◌, ◌<◌, List, [], ◌∷◌, ◌++◌, Bool, true, false, cond, refl, sym, ◌∙◌, ap, arith, subst, inl, inr, ◌≤◌, length, take, get_or, eqb-true, length-take}
+use Rattle.std.proofs.Common.{◌≡◌, ℕ, ◌+◌, ◌<◌, List, [], ◌∷◌, ◌++◌, Bool, true, false, refl, sym, ◌∙◌, ap, arith, ◌≤◌, length, take, get_or, eqb-true, length-take}
 use Rattle.std.specs.Prelude.{Option, Some, None, ◌&&◌, nat_eq}
 use Rattle.std.specs.Option.{option_or}
 use Rattle.std.specs.Cmp.Lexicographic.{pointwise}
-use Rattle.std.proofs.lemmas.Bool.{cases_Bool}
 use Rattle.std.proofs.lemmas.List.{take_more, take_all}
 use Rattle.std.proofs.Math.Path.{fun_ext}
 use Rattle.indexmap.specs.IndexMap.{get}
@@ -38,14 +37,6 @@ option_or_assoc (Some x) b c = refl
 option_or_none : {X : Type 0} (a : Option X) → option_or a None ≡ a
 option_or_none None = refl
 option_or_none (Some x) = refl
-
--- where a name is new, the entry that is put in is what its line gives
-pub put_in : {X : Type 0} (key q : Name) (value : X) (old : Name → Option X) → old key ≡ None
-    → cond (same_name key q) (Some value) (old q) ≡ option_or (old q) (cond (same_name key q) (Some value) None)
-put_in key q value old none = elim (cases_Bool (same_name key q)) [
-  | inl same ↦ (let e : key ≡ q = is_same_name key q same in let f : old q ≡ None = subst (λ (n : Name). old n ≡ None) e none in rw (same, f) refl)
-  | inr other ↦ rw other (sym (option_or_none (old q)))
-]
 
 -- ---- one more line
 file_from-append : (place : ℕ) (xs : List Line) (line : Line) (name : Name)

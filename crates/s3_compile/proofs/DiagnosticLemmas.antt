@@ -11,7 +11,8 @@ use Rattle.s3_sheets.specs.declared.sheet.Line.{Line}
 use Rattle.s3_compile.specs.declared.before.Before.{Before}
 use Rattle.s3_compile.specs.Definitions.{Known}
 use Rattle.s3_compile.specs.Before.{before_of, record_file, line_file, has_card_file, has_print_file}
-use Rattle.s3_compile.specs.Diagnostics.{line_diagnostics, diagnostics_after}
+use Rattle.s3_compile.specs.Diagnostics.{line_diagnostics}
+use Rattle.s3_compile.proofs.Pairs.{diagnostics_after}
 
 -- ---- what stands before the next line
 pub last_of-append : (f : Line → Option Name) (first : Option Name) (xs : List Line) (line : Line)

@@ -1,4 +1,5 @@
 pub mod DefinitionLemmas
+pub mod Pairs
 pub mod DiagnosticLemmas
 pub mod ProgramLemmas
 pub mod Accepted

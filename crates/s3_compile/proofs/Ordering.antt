@@ -1,15 +1,16 @@
 -- Diagnostics stand by card and then number.
-use Rattle.std.proofs.Common.{◌≡◌, ℕ, ◌+◌, ◌<◌, List, [], ◌∷◌, ◌++◌, Bool, true, false, cond, refl, sym, ◌∙◌, ap, arith, subst, length, take, drop, zero, suc, lt-ltb, lit<}
-use Rattle.std.specs.Prelude.{Some, IsTrue, ◌==◌, nat_lt, ◌&&◌, ◌||◌, map, filter, slice_get, insert}
-use Rattle.std.specs.List.{AllByRecursion, prefix_len}
+use Rattle.std.proofs.Common.{◌≡◌, ℕ, ◌<◌, List, [], ◌∷◌, ◌++◌, Bool, true, false, cond, refl, sym, arith, subst, length, lt-ltb, lit<}
+use Rattle.std.specs.Prelude.{IsTrue, ◌==◌, nat_lt, ◌&&◌, ◌||◌, map, filter}
+use Rattle.std.specs.List.{AllByRecursion}
 use Rattle.std.proofs.lemmas.Bool.Decides.{nat_tests}
 use Rattle.s3_sheets.specs.declared.diagnostic.Diagnostic.{Diagnostic}
 use Rattle.s3_sheets.specs.declared.sheet.Line.{Line}
 use Rattle.s3_compile.specs.Definitions.{Known, known_of}
 use Rattle.s3_compile.specs.Before.{before_of}
 use Rattle.s3_compile.specs.Conditions.{line_holds}
-use Rattle.s3_compile.specs.Diagnostics.{line_diagnostics, diagnostics_after, diagnostics_with, own_numbers, further_numbers, precedes, is_same, placed_at, placed, has_one_primary, further_diagnostics, first_else, compile_diagnostics}
+use Rattle.s3_compile.specs.Diagnostics.{line_diagnostics, diagnostics_with, own_numbers, further_numbers, precedes, placed, has_one_primary, further_diagnostics, first_else, compile_diagnostics}
 use Rattle.s3_compile.specs.Order.{AreInOrder, CardsAscend}
+use Rattle.s3_compile.proofs.Pairs.{diagnostics_after, all_pairs}
 
 -- ---- numbers
 later_card : (a b c d : ℕ) → a < b → IsTrue (nat_lt a b || ((a == b) && nat_lt c d))
@@ -17,9 +18,6 @@ later_card a b c d h = rw (lt-ltb a b h) refl
 
 later_number : (a c d : ℕ) → c < d → IsTrue (nat_lt a a || ((a == a) && nat_lt c d))
 later_number a c d h = grind (arith, nat_tests)
-
-one_way : (a b c d : ℕ) → (nat_lt a b || ((a == b) && nat_lt c d)) ≡ false → ((b == a) && (d == c)) ≡ false → IsTrue (nat_lt b a || ((b == a) && nat_lt d c))
-one_way a b c d before same = grind (arith, nat_tests)
 
 through : (a b c d e f : ℕ) → IsTrue (nat_lt a b || ((a == b) && nat_lt d e)) → IsTrue (nat_lt b c || ((b == c) && nat_lt e f)) → IsTrue (nat_lt a c || ((a == c) && nat_lt d f))
 through a b c d e f one two = grind (arith, nat_tests)
@@ -111,59 +109,37 @@ lines_in_order numbers known earlier (line ∷ lines) ascend cards =
     (lines_in_order numbers known (earlier ++ line ∷ []) lines ascend cards.1)
 
 -- ---- a diagnostic is put where it belongs
-abbrev place_in : List Diagnostic → Diagnostic → ℕ
-place_in found diagnostic = prefix_len (λ other. precedes other diagnostic) found
+all_filtered : (P : Diagnostic → Type 0) (p : Diagnostic → Bool) (xs : List Diagnostic) → AllByRecursion P xs → AllByRecursion P (filter p xs)
+all_filtered P p [] all = tt
+all_filtered P p (x ∷ xs) all = all_kept P (p x) x (filter p xs) all.0 (all_filtered P p xs all.1)
 
-next : {X : Type 0} (x : X) (xs : List X) (n : ℕ) → slice_get (x ∷ xs) (1 + n) ≡ slice_get xs n
-next x xs n = let e : 1 + n ≡ suc n = omega arith in ap (slice_get (x ∷ xs)) e
+order_filtered : (p : Diagnostic → Bool) (xs : List Diagnostic) → AreInOrder xs → AreInOrder (filter p xs)
+order_filtered p [] order = tt
+order_filtered p (x ∷ xs) order =
+    order_kept (p x) x (filter p xs) (all_filtered (λ other. IsTrue (precedes x other)) p xs order.0) (order_filtered p xs order.1)
 
-insert_next : (x d : Diagnostic) (xs : List Diagnostic) (n : ℕ) → insert (x ∷ xs) (1 + n) d ≡ x ∷ insert xs n d
-insert_next x d xs n = let e : 1 + n ≡ suc n = omega arith in ap (λ k. insert (x ∷ xs) k d) e
+passing_kept : (p : Diagnostic → Bool) (b : Bool) (x : Diagnostic) (xs : List Diagnostic) → p x ≡ b → AllByRecursion (λ d. IsTrue (p d)) xs → AllByRecursion (λ d. IsTrue (p d)) (cond b (x ∷ xs) xs)
+passing_kept p true x xs good all = (good, all)
+passing_kept p false x xs bad all = all
 
-cons_out : (b : Bool) (x : Diagnostic) (xs ys : List Diagnostic) → cond b (x ∷ xs) (x ∷ ys) ≡ x ∷ cond b xs ys
-cons_out true x xs ys = refl
-cons_out false x xs ys = refl
-
-placed_next : (x d : Diagnostic) (xs : List Diagnostic) (n : ℕ) → placed_at (x ∷ xs) (1 + n) d ≡ x ∷ placed_at xs n d
-placed_next x d xs n =
-    ap (λ o. cond (is_same d o) (x ∷ xs) (insert (x ∷ xs) (1 + n) d)) (next x xs n)
-    ∙ (ap (λ ys. cond (is_same d (slice_get xs n)) (x ∷ xs) ys) (insert_next x d xs n) ∙ cons_out (is_same d (slice_get xs n)) x xs (insert xs n d))
-
-all_taken : (P : Diagnostic → Type 0) (n : ℕ) (xs : List Diagnostic) → AllByRecursion P xs → AllByRecursion P (take n xs)
-all_taken P zero xs all = tt
-all_taken P (suc n) [] all = tt
-all_taken P (suc n) (x ∷ xs) all = (all.0, all_taken P n xs all.1)
-
-all_dropped : (P : Diagnostic → Type 0) (n : ℕ) (xs : List Diagnostic) → AllByRecursion P xs → AllByRecursion P (drop n xs)
-all_dropped P zero xs all = all
-all_dropped P (suc n) [] all = tt
-all_dropped P (suc n) (x ∷ xs) all = all_dropped P n xs all.1
-
-after_inserted : (b : Bool) (a d : Diagnostic) (xs : List Diagnostic) (n : ℕ) → IsTrue (precedes a d) → After a xs → After a (cond b xs (insert xs n d))
-after_inserted true a d xs n one all = all
-after_inserted false a d xs n one all =
-    all-append (λ other. IsTrue (precedes a other)) (take n xs) (d ∷ drop n xs) (all_taken (λ other. IsTrue (precedes a other)) n xs all)
-    (one, all_dropped (λ other. IsTrue (precedes a other)) n xs all)
-
-after_placed : (a d : Diagnostic) (xs : List Diagnostic) (n : ℕ) → IsTrue (precedes a d) → After a xs → After a (placed_at xs n d)
-after_placed a d xs n one all = after_inserted (is_same d (slice_get xs n)) a d xs n one all
+all_pass : (p : Diagnostic → Bool) (xs : List Diagnostic) → AllByRecursion (λ d. IsTrue (p d)) (filter p xs)
+all_pass p [] = tt
+all_pass p (x ∷ xs) = passing_kept p (p x) x (filter p xs) refl (all_pass p xs)
 
 after_through : (a b : Diagnostic) (xs : List Diagnostic) → IsTrue (precedes a b) → After b xs → After a xs
 after_through a b [] one all = tt
 after_through a b (x ∷ xs) one all = (precedes_through a b x one all.0, after_through a b xs one all.1)
 
-order_first : (b same : Bool) (x d : Diagnostic) (xs : List Diagnostic) → precedes x d ≡ b → is_same d (Some x) ≡ same
-    → After x xs → AreInOrder xs → AreInOrder (placed xs d) → AreInOrder (placed_at (x ∷ xs) (cond b (1 + place_in xs d) 0) d)
-order_first true same x d xs before is_there after order later =
-    subst AreInOrder (sym (placed_next x d xs (place_in xs d))) (after_placed x d xs (place_in xs d) before after, later)
-order_first false true x d xs before is_there after order later = rw is_there (after, order)
-order_first false false x d xs before is_there after order later =
-    let ahead : IsTrue (precedes d x) = one_way x.card d.card x.number d.number before is_there in
-    rw is_there ((ahead, after_through d x xs ahead after), (after, order))
+order_through : (xs : List Diagnostic) (d : Diagnostic) (ys : List Diagnostic) → AreInOrder xs → AllByRecursion (λ x. IsTrue (precedes x d)) xs → After d ys → AreInOrder ys
+    → AreInOrder (xs ++ d ∷ ys)
+order_through [] d ys order before after later = (after, later)
+order_through (x ∷ xs) d ys order before after later =
+    (all-append (λ other. IsTrue (precedes x other)) xs (d ∷ ys) order.0 (before.0, after_through x d ys before.0 after), order_through xs d ys order.1 before.1 after later)
 
 placed_in_order : (found : List Diagnostic) (d : Diagnostic) → AreInOrder found → AreInOrder (placed found d)
-placed_in_order [] d order = (tt, tt)
-placed_in_order (x ∷ xs) d order = order_first (precedes x d) (is_same d (Some x)) x d xs refl refl order.0 order.1 (placed_in_order xs d order.1)
+placed_in_order found d order =
+    order_through (filter (λ other. precedes other d) found) d (filter (λ other. precedes d other) found) (order_filtered (λ other. precedes other d) found order)
+    (all_pass (λ other. precedes other d) found) (all_pass (λ other. precedes d other) found) (order_filtered (λ other. precedes d other) found order)
 
 -- ---- the whole
 chosen : (b : Bool) (found others : List Diagnostic) → AreInOrder found → AreInOrder others → AreInOrder (cond b found others)
@@ -174,11 +150,14 @@ first_chosen : (found others : List Diagnostic) → AreInOrder found → AreInOr
 first_chosen [] others one two = two
 first_chosen (x ∷ xs) others one two = one
 
+with_in_order : (numbers : List ℕ) (lines : List Line) → NumbersAscend numbers → CardsAscend lines → AreInOrder (diagnostics_with numbers lines)
+with_in_order numbers lines ascend cards = subst AreInOrder (all_pairs numbers lines) (lines_in_order numbers (known_of lines) [] lines ascend cards)
+
 pub in_order : (run_card : ℕ) (lines : List Line) → CardsAscend lines → AreInOrder (compile_diagnostics run_card lines)
 unfolding compile_diagnostics
 in_order run_card lines cards =
-    let further : AreInOrder (diagnostics_with further_numbers lines) = lines_in_order further_numbers (known_of lines) [] lines
+    let further : AreInOrder (diagnostics_with further_numbers lines) = with_in_order further_numbers lines
     ((lit< tt, (lit< tt, (lit< tt, (lit< tt, tt)))), ((lit< tt, (lit< tt, (lit< tt, tt))), ((lit< tt, (lit< tt, tt)), ((lit< tt, tt), (tt, tt))))) cards in
-    first_chosen (diagnostics_with own_numbers lines) (further_diagnostics run_card lines) (lines_in_order own_numbers (known_of lines) [] lines (tt, tt) cards)
+    first_chosen (diagnostics_with own_numbers lines) (further_diagnostics run_card lines) (with_in_order own_numbers lines (tt, tt) cards)
     (chosen (has_one_primary lines) (diagnostics_with further_numbers lines) (placed (diagnostics_with further_numbers lines) (on_card run_card 12)) further
     (placed_in_order (diagnostics_with further_numbers lines) (on_card run_card 12) further))

@@ -1,6 +1,6 @@
 -- The diagnostics of lines: a filter of all pairs of a line and a number, in order.
-use Rattle.std.specs.Prelude.{ℕ, ◌==◌, nat_lt, Bool, false, ◌&&◌, ◌||◌, List, [], ◌∷◌, ◌++◌, length, map, filter, insert, Option, Some, None, slice_get, if◌then◌else◌}
-use Rattle.std.specs.List.{count_by, prefix_len}
+use Rattle.std.specs.Prelude.{ℕ, ◌+◌, ◌==◌, nat_lt, Bool, ◌&&◌, ◌||◌, List, [], ◌∷◌, ◌++◌, map, filter, take, if◌then◌else◌}
+use Rattle.std.specs.List.{count_by}
 use Rattle.s3_sheets.specs.declared.diagnostic.Diagnostic.{Diagnostic}
 use Rattle.s3_sheets.specs.declared.sheet.Line.{Line}
 use Rattle.s3_compile.specs.declared.before.Before.{Before}
@@ -13,15 +13,20 @@ abbrev pub line_diagnostics : List ℕ → Known → Before → ℕ → Line →
 line_diagnostics numbers known before place line =
     map (λ number. record { card = line.card; number = number }) (filter (line_holds known before place line.sheet) numbers)
 
--- the diagnostics of lines that stand behind others
-abbrev pub diagnostics_after : List ℕ → Known → List Line → List Line → List Diagnostic
-diagnostics_after numbers known earlier [] = []
-diagnostics_after numbers known earlier (line ∷ lines) =
-    line_diagnostics numbers known (before_of earlier) (length earlier) line
-    ++ diagnostics_after numbers known (earlier ++ line ∷ []) lines
+-- each number with each line at its place, in order
+abbrev pub pairs : List ℕ → ℕ → List Line → List (ℕ × Line × ℕ)
+pairs numbers place [] = []
+pairs numbers place (line ∷ lines) = map (λ number. (place, line, number)) numbers ++ pairs numbers (place + 1) lines
+
+-- whether the condition of a number holds of the line at a place, by what all lines define and by the lines before it
+abbrev pub holds : List Line → ℕ × Line × ℕ → Bool
+holds lines pair = line_holds (known_of lines) (before_of (take pair.0 lines)) pair.0 pair.1.sheet pair.2
+
+abbrev pub diagnostic : ℕ × Line × ℕ → Diagnostic
+diagnostic pair = record { card = pair.1.card; number = pair.2 }
 
 abbrev pub diagnostics_with : List ℕ → List Line → List Diagnostic
-diagnostics_with numbers lines = diagnostics_after numbers (known_of lines) [] lines
+diagnostics_with numbers lines = map diagnostic (filter (holds lines) (pairs numbers 0 lines))
 
 -- what a line shows by itself and its record, and what needs other lines
 abbrev pub own_numbers : List ℕ
@@ -34,17 +39,10 @@ further_numbers = 5 ∷ 6 ∷ 8 ∷ 9 ∷ 12 ∷ []
 abbrev pub precedes : Diagnostic → Diagnostic → Bool
 precedes a b = nat_lt a.card b.card || ((a.card == b.card) && nat_lt a.number b.number)
 
-abbrev pub is_same : Diagnostic → Option Diagnostic → Bool
-is_same a None = false
-is_same a (Some b) = (a.card == b.card) && (a.number == b.number)
-
--- a diagnostic put where it belongs, unless it is there
-abbrev pub placed_at : List Diagnostic → ℕ → Diagnostic → List Diagnostic
-placed_at found place diagnostic =
-    if is_same diagnostic (slice_get found place) then found else insert found place diagnostic
-
+-- a diagnostic between those that stand before it and those that stand behind it
 abbrev pub placed : List Diagnostic → Diagnostic → List Diagnostic
-placed found diagnostic = placed_at found (prefix_len (λ other. precedes other diagnostic) found) diagnostic
+placed found diagnostic =
+    filter (λ other. precedes other diagnostic) found ++ diagnostic ∷ filter (λ other. precedes diagnostic other) found
 
 abbrev pub has_one_primary : List Line → Bool
 has_one_primary lines = count_by (λ line. is_primary_line line.sheet) lines == 1

@@ -1,7 +1,6 @@
 //! The diagnostics of lines.
 
-ghost use Rattle.std.specs.Prelude.{◌≡◌, ◌≤◌, ◌++◌, List, length, IfOk, OnOk};
-ghost use Rattle.std.specs.List.{prefix_len};
+ghost use Rattle.std.specs.Prelude.{◌≡◌, ◌++◌, filter, IfOk, OnOk};
 ghost use Rattle.s3_sheets.specs.declared.sheet.Line.{Line as SourceLine};
 ghost use Rattle.s3_compile.specs.Definitions.{shown, known_of};
 ghost use Rattle.s3_compile.specs.Diagnostics as spec;
@@ -68,35 +67,50 @@ fn precedes(a: &Diagnostic, b: &Diagnostic) -> bool
     a.card < b.card || (a.card == b.card && a.number < b.number)
 }
 
-fn is_same(a: &Diagnostic, b: Option<Diagnostic>) -> bool
-    ensures { result ≡ spec.is_same a.now b }
-{
-    match b {
-        Some(b) => a.card == b.card && a.number == b.number,
-        None => false,
-    }
-}
-
-/// How many diagnostics stand before another.
-fn place_of(found: &[Diagnostic], diagnostic: &Diagnostic) -> usize
-    ensures place { result ≡ prefix_len (λ other. spec.precedes other diagnostic.now) found.now }
-    ensures within { result ≤ length found.now }
+/// Those of diagnostics that stand before another.
+fn those_before(
+    alloc: Global,
+    found: &[Diagnostic],
+    diagnostic: &Diagnostic,
+) -> Result<Vec<Diagnostic>, AllocError>
+    ensures { IfOk result (λ some. some.items ≡ filter (λ other. spec.precedes other diagnostic.now) found.now) }
 {
     found
         .iter()
-        .take_while(|other| precedes(other, diagnostic))
-        .count()
+        .copied()
+        .filter(|other| precedes(other, diagnostic))
+        .collect(alloc)
 }
 
-/// Puts a diagnostic where it belongs, unless it is there.
-fn add_in_order(found: &mut Vec<Diagnostic>, diagnostic: Diagnostic) -> Result<(), AllocError>
-    ensures { OnOk result (found.new.items ≡ spec.placed found.old.items diagnostic) }
+/// Those of diagnostics that stand behind another.
+fn those_behind(
+    alloc: Global,
+    found: &[Diagnostic],
+    diagnostic: &Diagnostic,
+) -> Result<Vec<Diagnostic>, AllocError>
+    ensures { IfOk result (λ some. some.items ≡ filter (λ other. spec.precedes diagnostic.now other) found.now) }
 {
-    let place = place_of(found, &diagnostic);
-    if !is_same(&diagnostic, found.get(place).copied()) {
-        found.insert(place, diagnostic)?;
-    }
-    Ok(())
+    found
+        .iter()
+        .copied()
+        .filter(|other| precedes(diagnostic, other))
+        .collect(alloc)
+}
+
+/// A diagnostic between those that stand before it and those that stand behind it.
+#[tactic(auto, using(crate::proofs::Pairs::put_round))]
+fn placed(
+    alloc: Global,
+    found: &[Diagnostic],
+    diagnostic: Diagnostic,
+) -> Result<Vec<Diagnostic>, AllocError>
+    ensures { IfOk result (λ all. all.items ≡ spec.placed found.now diagnostic) }
+{
+    let mut all = those_before(alloc, found, &diagnostic)?;
+    all.push(diagnostic)?;
+    let behind = those_behind(alloc, found, &diagnostic)?;
+    all.extend_from_slice(&behind)?;
+    Ok(all)
 }
 
 /// Whether the lines have exactly one file of designation P.
@@ -120,17 +134,19 @@ fn further_diagnostics(
     requires { shown known.now ≡ known_of lines.now }
     ensures { IfOk result (λ found. found.items ≡ spec.further_diagnostics run_card lines.now) }
 {
-    let mut found = diagnostics(alloc, &FURTHER_NUMBERS, known, lines)?;
-    if !has_one_primary(lines) {
-        add_in_order(
-            &mut found,
+    let found = diagnostics(alloc, &FURTHER_NUMBERS, known, lines)?;
+    if has_one_primary(lines) {
+        Ok(found)
+    } else {
+        placed(
+            alloc,
+            &found,
             Diagnostic {
                 card: run_card,
                 number: 12,
             },
-        )?;
+        )
     }
-    Ok(found)
 }
 
 /// The diagnostics of lines: of what isn't built these alone.
