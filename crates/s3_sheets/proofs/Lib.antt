@@ -1,5 +1,6 @@
 pub mod ConstantLemmas
 pub mod FaultLemmas
+pub mod KnownLemmas
 pub mod NumberLemmas
 pub mod ProgressLemmas
 pub mod ReadingLemmas

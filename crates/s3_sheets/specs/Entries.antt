@@ -98,6 +98,7 @@ is_number_literal entry =
 abbrev pub is_name_within : ℕ → List ℕ → Bool
 is_name_within longest entry = is_name (take longest entry) && are_blank (drop longest entry)
 
--- a literal, or a name of at most so many characters; what ten columns hold has at most 8 characters and at most 10 digits
+-- a literal, or a name of at most so many characters. Ten columns hold at most 8 characters in apostrophes, and 9 digits behind a
+-- point.
 abbrev pub is_factor : ℕ → List ℕ → Bool
 is_factor longest entry = is_some (constant_text entry) || is_number_literal entry || is_name_within longest entry

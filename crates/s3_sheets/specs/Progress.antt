@@ -8,7 +8,6 @@ use Rattle.s3_sheets.specs.Sheets.{is_behind, faults_of, has_fault, file_of, rec
 use Rattle.s3_cards.specs.declared.name.Name.{Name}
 use Rattle.s3_sheets.specs.declared.kind.CardKind.{CardKind}
 use Rattle.s3_sheets.specs.declared.kind.CardKind.TheVariants.{Comment, Unknown}
-use Rattle.s3_sheets.specs.declared.progress.KnownFile.{KnownFile}
 use Rattle.s3_sheets.specs.declared.progress.Standing.{Standing}
 
 -- what is kept of the cards before
@@ -16,7 +15,7 @@ pub record Kept : Type 0 where
   pub latest_sheet : ℕ
   pub has_record : Bool
   pub has_output_line : Bool
-  pub files : List KnownFile
+  pub files : List (Name × ℕ)
   pub input_length : Option ℕ
   pub output_length : Option ℕ
   pub fields : List Name
@@ -59,7 +58,7 @@ is_at_fault_behind kept card =
 abbrev pub passes_limit : ℕ → ℕ → ℕ → Bool
 passes_limit most old new = (old == most) && (new == most + 1)
 
-unfoldable pub files_with : Kept → List ℕ → List KnownFile
+unfoldable pub files_with : Kept → List ℕ → List (Name × ℕ)
 files_with kept card = kept.files ++ option_to_list (new_file kept.files (file_of (kind_of card) (is_at_fault_behind kept card) card))
 
 unfoldable pub fields_with : Kept → List ℕ → List Name

@@ -26,7 +26,7 @@ pub data Entry : Type 0 where
   -- U1 to U8, or blank
   MaybeSwitch : Entry
   MaybeConstant : Entry
-  -- a code of seven columns, its position first, or blank
+  -- the position in the first four columns of a code of seven, or blank; what else is in it has 2 in any case
   MaybeCode : Entry
   -- a literal or a name of at most six characters, or blank
   MaybeFactor : Entry

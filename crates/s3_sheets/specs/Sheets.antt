@@ -1,6 +1,7 @@
 -- The diagnostics of a source's single cards: each number is a condition on a card and the cards before it.
-use Rattle.std.specs.Prelude.{◌≡◌, ◌≢◌, ℕ, zero, suc, ◌+◌, List, [], ◌∷◌, ◌++◌, Bool, true, false, ◌==◌, ◌&&◌, ◌||◌, not, Option, Some, None, Result, Ok, Err, length, map, filter, find, take, nat_lt, Vec, option_map, if◌then◌else◌}
+use Rattle.std.specs.Prelude.{◌≡◌, ◌≢◌, ℕ, zero, suc, ◌+◌, List, [], ◌∷◌, ◌++◌, Bool, true, false, ◌==◌, ◌&&◌, ◌||◌, not, Option, Some, None, Result, Ok, Err, is_some, length, map, filter, take, nat_lt, Vec, if◌then◌else◌}
 use Rattle.std.specs.List.{list_any}
+use Rattle.std.specs.Map.{lookup}
 use Rattle.std.specs.Option.{option_to_list}
 use Rattle.std.specs.declared.alloc.Global.{Global}
 use Rattle.s3_sheets.specs.Columns.{columns, are_blank, number_of}
@@ -14,7 +15,6 @@ use Rattle.s3_cards.specs.declared.name.Name.{Name}
 use Rattle.s3_sheets.specs.declared.kind.CardKind.{CardKind}
 use Rattle.s3_sheets.specs.declared.kind.CardKind.TheVariants.{Comment, Unknown, File, Record, RecordGroup, Field, OutputField}
 use Rattle.s3_sheets.specs.declared.faults.Faults.{Faults}
-use Rattle.s3_sheets.specs.declared.progress.KnownFile.{KnownFile}
 use Rattle.s3_sheets.specs.declared.progress.Standing.{Standing}
 use Rattle.s3_sheets.specs.declared.diagnostic.Diagnostic.{Diagnostic}
 use Rattle.s3_sheets.specs.declared.diagnostic.SheetFault.{SheetFault}
@@ -64,7 +64,8 @@ faults_of card = record { entry = shows card 2; name = shows card 3; number = sh
 abbrev pub has_fault : Faults → Bool
 has_fault faults = faults.entry || faults.name || faults.number
 
--- whether a card is at fault by 1 to 4, positions in its record aside
+-- whether a card is at fault by 1 to 4, positions in its record aside: a record card with a code past its record has 2 as long as
+-- codes are unbuilt, and a field card says nothing of the cards behind it but its field, which `fields` leaves out
 unfoldable pub is_at_fault : List (List ℕ) → ℕ → Bool
 is_at_fault cards i =
     let card : List ℕ = card_at cards i in
@@ -72,21 +73,21 @@ is_at_fault cards i =
     is_misplaced kind (before cards i) || is_further_record kind (before cards i) || lacks_file kind (before cards i) card || has_fault (faults_of card)
 
 -- ---- the files
--- the file that a card defines; a card at fault defines none
-abbrev pub file_of : CardKind → Bool → List ℕ → Option KnownFile
-file_of File false card = Some (record { name = name_of (columns card 7 14); record_length = number_or_zero (columns card 24 27) })
+-- the file that a card defines, with its record length; a card at fault defines none
+abbrev pub file_of : CardKind → Bool → List ℕ → Option (Name × ℕ)
+file_of File false card = Some (name_of (columns card 7 14), number_or_zero (columns card 24 27))
 file_of _ _ card = None
 
-abbrev pub record_length_of : List KnownFile → Name → Option ℕ
-record_length_of files name = option_map (λ file. file.record_length) (find (λ file. same_name file.name name) files)
+abbrev pub record_length_of : List (Name × ℕ) → Name → Option ℕ
+record_length_of files name = lookup (same_name name) files
 
 -- a file that isn't known yet
-abbrev pub new_file : List KnownFile → Option KnownFile → Option KnownFile
+abbrev pub new_file : List (Name × ℕ) → Option (Name × ℕ) → Option (Name × ℕ)
 new_file files None = None
-new_file files (Some file) = if list_any (λ other. same_name other.name file.name) files then None else Some file
+new_file files (Some file) = if is_some (record_length_of files file.0) then None else Some file
 
 -- the files that the first n cards define, each name once
-abbrev pub files : List (List ℕ) → ℕ → List KnownFile
+abbrev pub files : List (List ℕ) → ℕ → List (Name × ℕ)
 files cards zero = []
 files cards (suc n) = files cards n ++ option_to_list (new_file (files cards n) (file_of (kind_at cards n) (is_at_fault cards n) (card_at cards n)))
 
@@ -117,7 +118,7 @@ output_length cards (suc n) =
     length_behind (is_output_line (kind_at cards n)) (is_at_fault cards n)
     (line_length (are_blank (columns (card_at cards n) 7 14)) (named_length cards n) (output_length cards n)) (output_length cards n)
 
--- the record length that the positions on a card go by
+-- the record length that the positions on a card go by; only these kinds and the output field have such positions
 abbrev pub length_for : CardKind → Option ℕ → Option ℕ → Option ℕ → Option ℕ
 length_for Record named input output = named
 length_for RecordGroup named input output = input
@@ -148,11 +149,12 @@ abbrev pub field_of : CardKind → Bool → List ℕ → Option Name
 field_of Field false card = Some (name_of (columns card 53 58))
 field_of _ _ card = None
 
+-- a field that isn't known yet
 abbrev pub new_field : List Name → Option Name → Option Name
 new_field fields None = None
-new_field fields (Some name) = if list_any (λ other. same_name other name) fields || nat_lt 999 (length fields) then None else Some name
+new_field fields (Some name) = if list_any (same_name name) fields then None else Some name
 
--- the fields that the first n cards define, each name once; of more than a thousand the first ones
+-- the fields that the first n cards define, each name once
 abbrev pub fields : List (List ℕ) → ℕ → List Name
 fields cards zero = []
 fields cards (suc n) =

@@ -1,6 +1,8 @@
 -- The rules of each kind of card, each for some columns alone. Columns that nothing has built yet are `unbuilt`: what the language
--- allows there is 2, and what it refuses keeps its own number. Where that is 2 as well, they are plainly blank.
--- Columns that stand in no rule are read together with others, in Combinations.
+-- allows there is 2, and what it refuses keeps its own number. Columns whose every entry is 2, unbuilt or refused, must be blank;
+-- and of the entries of one code the rules list those that are built, since any other is 2 as well.
+-- Columns that stand in no rule are read together with others, in Combinations: 24 to 27 of an F card, 52 of a field line, 33 to 42
+-- and 49 to 52 of a C card, 17 and 18 of an output line.
 use Rattle.std.specs.Prelude.{ℕ, List, [], ◌∷◌, true, false, codes}
 use Rattle.s3_cards.specs.Codes.{ebcdic}
 use Rattle.s3_sheets.specs.Rules.{Entry, Blank, OneOf, Letters, Name, MaybeName, MaybeField, Number, MaybeNumber, GeneralIndicator, MaybeCondition, MaybeSwitch, MaybeConstant, MaybeCode, MaybeFactor, Rule}

@@ -10,6 +10,7 @@ mod entries;
 mod faults;
 pub mod indicator;
 mod kind;
+mod known;
 mod lines;
 mod progress;
 mod reading;

@@ -1,16 +1,14 @@
 //! Reading card by card: what is kept of the cards before, and what it says of the next one.
 
-ghost use Rattle.std.specs.Prelude.{◌≡◌, ◌<◌, ◌^◌, nat_lt, ◌&&◌, ◌||◌, ◌==◌, ◌++◌, length, OnOk, IfOk};
-ghost use Rattle.std.specs.List.{list_any};
-ghost use Rattle.std.specs.Option.{option_to_list};
-ghost use Rattle.s3_cards.specs.Names.{same_name as same_name_spec};
+ghost use Rattle.std.specs.Prelude.{◌≡◌, ◌<◌, ◌^◌, nat_lt, ◌&&◌, ◌||◌, ◌==◌, length, OnOk, IfOk};
 ghost use Rattle.s3_sheets.specs.Columns.{columns as columns_spec, are_blank as are_blank_spec};
-ghost use Rattle.s3_sheets.specs.Sheets.{file_of as file_of_spec, field_of as field_of_spec, record_length_of as record_length_of_spec, new_file as new_file_spec, new_field as new_field_spec, length_behind as length_behind_spec, line_length as line_length_spec, has_code_past as has_code_past_spec, names_position_past as position_past_spec};
+ghost use Rattle.s3_sheets.specs.Sheets.{file_of as file_of_spec, field_of as field_of_spec, length_behind as length_behind_spec, line_length as line_length_spec, has_code_past as has_code_past_spec, names_position_past as position_past_spec};
 ghost use Rattle.s3_sheets.specs.Progress.{is_misplaced_behind, is_further, lacks_its_file, is_outside_behind, length_named, passes_limit as passes_limit_spec, files_with, fields_with};
 
 use crate::columns::{are_blank, columns, number};
 use crate::faults::{Faults, faults_of};
 use crate::kind::{CardKind, kind_of};
+use crate::known::{KnownFields, KnownFiles};
 use crate::rules::exceeds;
 use s3_cards::{Card, Name};
 use std::alloc::{AllocError, Global};
@@ -21,15 +19,6 @@ const MOST_FILES: usize = 20;
 
 /// The most fields of a program.
 const MOST_FIELDS: usize = 999;
-
-/// A file that a card defines, and the length of its records.
-#[derive(Clone, Copy)]
-pub struct KnownFile {
-    /// As its F card names it.
-    pub name: Name,
-    /// In bytes, 1 to 1,024.
-    pub record_length: u16,
-}
 
 /// What its columns and the cards before it say of a card.
 #[derive(Clone, Copy)]
@@ -54,14 +43,12 @@ pub struct Progress {
     latest_sheet: u8,
     has_record: bool,
     has_output_line: bool,
-    /// Each name once.
-    files: Vec<KnownFile>,
+    files: KnownFiles,
     /// The record length that field lines go by, where it is known.
     input_length: Option<u16>,
     /// The record length that field cards go by, where it is known.
     output_length: Option<u16>,
-    /// Each name once, at most one more than a program may have.
-    fields: Vec<Name>,
+    fields: KnownFields,
 }
 
 impl Model for Progress {
@@ -73,10 +60,10 @@ impl Model for Progress {
       latest_sheet = p.latest_sheet;
       has_record = p.has_record;
       has_output_line = p.has_output_line;
-      files = p.files.items;
+      files = p.files;
       input_length = p.input_length;
       output_length = p.output_length;
-      fields = p.fields.items;
+      fields = p.fields;
     } };
 }
 
@@ -91,10 +78,10 @@ impl Progress {
             latest_sheet: 0,
             has_record: false,
             has_output_line: false,
-            files: Vec::new(alloc),
+            files: KnownFiles::new(alloc),
             input_length: None,
             output_length: None,
-            fields: Vec::new(alloc),
+            fields: KnownFields::new(alloc),
         }
     }
 
@@ -113,12 +100,10 @@ impl Progress {
         let faults = faults_of(card);
         let is_at_fault = is_misplaced || is_further_record || lacks_file || faults.any();
         let known_files = self.files.len();
-        add_file(&mut self.files, file_of(kind, is_at_fault, card))?;
+        self.files.add(file_of(kind, is_at_fault, card))?;
         let known_fields = self.fields.len();
-        add_field(
-            &mut self.fields,
-            field_of(kind, is_at_fault || is_outside, card),
-        )?;
+        self.fields
+            .add(field_of(kind, is_at_fault || is_outside, card))?;
         self.input_length = length_behind(kind.is_record(), is_at_fault, named, self.input_length);
         self.output_length = length_behind(
             kind.is_output_line(),
@@ -156,7 +141,7 @@ impl Progress {
     fn length_named(&self, card: &Card) -> Option<u16>
         ensures { result ≡ length_named self.now card.now }
     {
-        record_length_of(&self.files, &Name::of(columns(card, 7, 14)))
+        self.files.record_length(&Name::of(columns(card, 7, 14)))
     }
 
     /// Whether a position on a card lies outside its record; `named` is the record length of the file that the card names.
@@ -205,15 +190,15 @@ fn names_position_past(kind: CardKind, card: &Card, length: Option<u16>) -> bool
     }
 }
 
-/// The file that a card defines; a card at fault defines none.
-fn file_of(kind: CardKind, is_at_fault: bool, card: &Card) -> Option<KnownFile>
+/// The file that a card defines, with its record length; a card at fault defines none.
+fn file_of(kind: CardKind, is_at_fault: bool, card: &Card) -> Option<(Name, u16)>
     ensures { result ≡ file_of_spec kind is_at_fault card.now }
 {
     match (kind, is_at_fault) {
-        (CardKind::File, false) => Some(KnownFile {
-            name: Name::of(columns(card, 7, 14)),
-            record_length: number(columns(card, 24, 27)).unwrap_or(0),
-        }),
+        (CardKind::File, false) => Some((
+            Name::of(columns(card, 7, 14)),
+            number(columns(card, 24, 27)).unwrap_or(0),
+        )),
         _ => None,
     }
 }
@@ -226,15 +211,6 @@ fn field_of(kind: CardKind, is_at_fault: bool, card: &Card) -> Option<Name>
         (CardKind::Field, false) => Some(Name::of(columns(card, 53, 58))),
         _ => None,
     }
-}
-
-fn record_length_of(files: &[KnownFile], name: &Name) -> Option<u16>
-    ensures { result ≡ record_length_of_spec files.now name.now }
-{
-    files
-        .iter()
-        .find(|file| file.name == *name)
-        .map(|file| file.record_length)
 }
 
 /// The record length behind a card: a record or line card brings a new one, which isn't known if the card is at fault.
@@ -262,60 +238,6 @@ fn line_length(card: &Card, named: Option<u16>, last: Option<u16>) -> Option<u16
     } else {
         named
     }
-}
-
-fn has_file(files: &[KnownFile], name: &Name) -> bool
-    ensures { result ≡ list_any (λ other. same_name_spec other.name name.now) files.now }
-{
-    files.iter().any(|other| other.name == *name)
-}
-
-fn has_field(fields: &[Name], name: &Name) -> bool
-    ensures { result ≡ list_any (λ other. same_name_spec other name.now) fields.now }
-{
-    fields.iter().any(|other| other == name)
-}
-
-/// A file that isn't known yet.
-fn new_file(files: &[KnownFile], file: Option<KnownFile>) -> Option<KnownFile>
-    ensures { result ≡ new_file_spec files.now file }
-{
-    let file = file?;
-    if has_file(files, &file.name) {
-        None
-    } else {
-        Some(file)
-    }
-}
-
-fn add_file(files: &mut Vec<KnownFile>, file: Option<KnownFile>) -> Result<(), AllocError>
-    ensures { OnOk result (files.new.items ≡ files.old.items ++ option_to_list (new_file_spec files.old.items file)) }
-{
-    if let Some(file) = new_file(files, file) {
-        files.push(file)?;
-    }
-    Ok(())
-}
-
-/// A field that isn't known yet, unless there are too many already.
-fn new_field(fields: &[Name], field: Option<Name>) -> Option<Name>
-    ensures { result ≡ new_field_spec fields.now field }
-{
-    let field = field?;
-    if has_field(fields, &field) || fields.len() > MOST_FIELDS {
-        None
-    } else {
-        Some(field)
-    }
-}
-
-fn add_field(fields: &mut Vec<Name>, field: Option<Name>) -> Result<(), AllocError>
-    ensures { OnOk result (fields.new.items ≡ fields.old.items ++ option_to_list (new_field_spec fields.old.items field)) }
-{
-    if let Some(field) = new_field(fields, field) {
-        fields.push(field)?;
-    }
-    Ok(())
 }
 
 /// Whether a list has become longer than it may be.
