@@ -5,11 +5,8 @@ ghost use Rattle.s3_bureau.specs.Underway.{ShowsCodes};
 
 use super::number::push_number;
 use s3_cards::ebcdic::BLANK;
-use s3_cards::{PrintLine, host_byte};
+use s3_cards::{PRINT_POSITIONS, PrintLine, host_byte};
 use std::alloc::{AllocError, Global};
-
-/// The most print positions of a line.
-const PRINT_POSITIONS: usize = 132;
 
 /// The report of the lines.
 pub fn report_text(alloc: Global, lines: &[PrintLine]) -> Result<Vec<u8>, AllocError>

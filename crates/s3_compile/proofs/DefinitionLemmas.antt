@@ -1,39 +1,18 @@
 -- Lemmas on the tables of files and fields.
-use Rattle.std.proofs.Common.{◌≡◌, ℕ, ◌+◌, ◌<◌, List, [], ◌∷◌, ◌++◌, Bool, true, false, refl, sym, ◌∙◌, ap, arith, ◌≤◌, length, take, get_or, eqb-true, length-take}
-use Rattle.std.specs.Prelude.{Option, Some, None, ◌&&◌, nat_eq}
+use Rattle.std.proofs.Common.{◌≡◌, ℕ, ◌+◌, ◌<◌, List, [], ◌∷◌, ◌++◌, refl, sym, ◌∙◌, ap, arith, ◌≤◌, length, take, get_or, length-take}
+use Rattle.std.specs.Prelude.{Option, Some, None}
 use Rattle.std.specs.Option.{option_or}
-use Rattle.std.specs.Cmp.Lexicographic.{pointwise}
 use Rattle.std.proofs.lemmas.List.{take_more, take_all}
 use Rattle.std.proofs.Math.Path.{fun_ext}
 use Rattle.indexmap.specs.IndexMap.{get}
 use Rattle.s3_cards.specs.declared.name.Name.{Name}
 use Rattle.s3_sheets.specs.declared.sheet.Line.{Line}
 use Rattle.s3_cards.specs.Names.{same_name}
+use Rattle.s3_cards.proofs.DeckLemmas.{option_or_assoc}
 use Rattle.s3_compile.specs.declared.definitions.Definitions.{Definitions}
 use Rattle.s3_compile.specs.Definitions.{file_by, file_from, file_of, length_by, length_of, known_of, shown, Files, Lengths, DefinesFile, DefinesField}
 
--- ---- names
-both : (a b : Bool) → (a && b) ≡ true → (a ≡ true) × (b ≡ true)
-both true b h = (refl, h)
-both false b h = cc
-
-same_codes : (xs ys : List ℕ) → pointwise nat_eq xs ys ≡ true → xs ≡ ys
-same_codes [] [] h = refl
-same_codes [] (y ∷ ys) h = cc
-same_codes (x ∷ xs) [] h = cc
-same_codes (x ∷ xs) (y ∷ ys) h =
-    let p = both (nat_eq x y) (pointwise nat_eq xs ys) h in
-    let e : x ≡ y = eqb-true x y p.0 in
-    let f : xs ≡ ys = same_codes xs ys p.1 in cc
-
-pub is_same_name : (a b : Name) → same_name a b ≡ true → a ≡ b
-is_same_name a b h = ap (λ (codes : List ℕ). let n : Name = record { codes = codes } in n) (same_codes a.codes b.codes h)
-
 -- ---- a choice of the first
-option_or_assoc : {X : Type 0} (a b c : Option X) → option_or (option_or a b) c ≡ option_or a (option_or b c)
-option_or_assoc None b c = refl
-option_or_assoc (Some x) b c = refl
-
 option_or_none : {X : Type 0} (a : Option X) → option_or a None ≡ a
 option_or_none None = refl
 option_or_none (Some x) = refl

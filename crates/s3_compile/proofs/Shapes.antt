@@ -25,7 +25,7 @@ use Rattle.s3_compile.specs.Conditions.{is_length}
 use Rattle.s3_compile.specs.Translation.{inputs_of, fields_of}
 use Rattle.s3_compile.specs.Stands.{SameField, SameFields}
 use Rattle.s3_compile.proofs.Accepted.{FineInput, InputsFine}
-use Rattle.s3_compile.proofs.DefinitionLemmas.{is_same_name}
+use Rattle.s3_cards.proofs.NameLemmas.{same_name-equal}
 use Rattle.s3_compile.proofs.Slots.{names_equal, some_same, field_known, once_each}
 use Rattle.s3_compile.proofs.Files.{and_left, or_left, or_right, one_line}
 use Rattle.s3_compile.proofs.Moves.{alphanumeric_is}
@@ -92,7 +92,7 @@ shown known last (And codes ∷ inputs) more name n fine h = shown known last in
 shown known last (Or indicator codes ∷ inputs) more name n fine h = shown known last inputs more name n fine.1 h
 shown known last (InputField field ∷ inputs) more name n fine h =
     shown_here (same_name field.name name) name field.name n (width field) (field_shape field.form (width field)) (length_in inputs name) (filter_map input_shape inputs ++ more)
-    (names_equal.symm name field.name) (is_same_name field.name name) (not_reserved known last field fine.0) (form_is known last field fine.0)
+    (names_equal.symm name field.name) (same_name-equal field.name name) (not_reserved known last field fine.0) (form_is known last field fine.0)
     (shown known last inputs more name n fine.1) h
 
 -- ---- the reserved names

@@ -16,7 +16,7 @@ use Rattle.s3_compile.specs.declared.program.Field.{Field}
 use Rattle.s3_compile.specs.Definitions.{Lengths}
 use Rattle.s3_compile.specs.Translation.{fields_of, slot_of}
 use Rattle.s3_compile.specs.Stands.{NoNameTwice}
-use Rattle.s3_compile.proofs.DefinitionLemmas.{is_same_name}
+use Rattle.s3_cards.proofs.NameLemmas.{same_name-equal}
 
 pub names_equal : IsEquivalence same_name
 names_equal = record {
@@ -54,7 +54,7 @@ found_at : (entries : Entries) (name : Name) (length : ℕ) → lookup (same_nam
     → slice_get (map field_at entries) (position_or_len (same_name name) (keys_of entries)) ≡ Some (field_with name length)
 found_at [] name length h = cc
 found_at (e ∷ es) name length h =
-    found_here (same_name name e.0) e es name length (position_or_len (same_name name) (keys_of es)) (is_same_name name e.0) (found_at es name length) h
+    found_here (same_name name e.0) e es name length (position_or_len (same_name name) (keys_of es)) (same_name-equal name e.0) (found_at es name length) h
 
 place_of : (n length : ℕ) → n < length → unwrap_or (cond (nat_lt n length) (Some n) None) 0 ≡ n
 place_of n length within = rw (lt-ltb n length within) refl

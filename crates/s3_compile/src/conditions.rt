@@ -8,8 +8,9 @@ ghost use Rattle.s3_compile.specs.Conditions as spec;
 
 use crate::before::{Before, is_card_file, is_print_file};
 use crate::definitions::{Definitions, length_of_field};
-use crate::part::{is_built, is_reserved};
+use crate::part::is_built;
 use s3_cards::Name;
+use s3_sheets::is_reserved;
 use s3_sheets::sheet::{
     Designation, FieldLine, FileLine, FileUse, InputLine, OutputContent, OutputLine, SheetLine,
 };

@@ -2,58 +2,19 @@
 
 ghost use Rattle.std.specs.Prelude.{◌≡◌, is_none};
 ghost use Rattle.std.specs.List.{list_all};
-ghost use Rattle.s3_sheets.specs.Entries.{is_reserved as is_reserved_spec, reserved_names as reserved_names_spec};
 ghost use Rattle.s3_meaning.specs.Carriage.{is_blank as is_blank_spec};
 ghost use Rattle.s3_compile.specs.Definitions.{shown};
 ghost use Rattle.s3_compile.specs.Part as spec;
 
 use crate::before::Before;
 use crate::definitions::{Definitions, length_of_field};
-use s3_cards::Name;
-use s3_cards::ebcdic::{
-    BLANK, LETTER_A, LETTER_D, LETTER_E, LETTER_G, LETTER_H, LETTER_M, LETTER_N, LETTER_O,
-    LETTER_P, LETTER_R, LETTER_T, LETTER_U, LETTER_Y,
-};
+use s3_cards::{COLUMNS, Name, PRINT_POSITIONS};
 use s3_sheets::indicator::{Condition, Indicator};
+use s3_sheets::is_reserved;
 use s3_sheets::sheet::{
     Designation, Device, FieldForm, FieldLine, FieldOutput, FileLine, FileUse, InputLine,
     OutputCard, OutputContent, OutputField, OutputForm, OutputKind, OutputLine, SheetLine, Spacing,
 };
-
-/// The fields that no sheet defines: UDATE, UMONTH, UDAY, UYEAR and PAGE.
-static RESERVED_NAMES: [Name; 5] = [
-    Name {
-        codes: [
-            LETTER_U, LETTER_D, LETTER_A, LETTER_T, LETTER_E, BLANK, BLANK, BLANK,
-        ],
-    },
-    Name {
-        codes: [
-            LETTER_U, LETTER_M, LETTER_O, LETTER_N, LETTER_T, LETTER_H, BLANK, BLANK,
-        ],
-    },
-    Name {
-        codes: [
-            LETTER_U, LETTER_D, LETTER_A, LETTER_Y, BLANK, BLANK, BLANK, BLANK,
-        ],
-    },
-    Name {
-        codes: [
-            LETTER_U, LETTER_Y, LETTER_E, LETTER_A, LETTER_R, BLANK, BLANK, BLANK,
-        ],
-    },
-    Name {
-        codes: [
-            LETTER_P, LETTER_A, LETTER_G, LETTER_E, BLANK, BLANK, BLANK, BLANK,
-        ],
-    },
-];
-
-/// The columns of a card.
-const CARD_COLUMNS: u16 = 96;
-
-/// The print positions of the longest line.
-const PRINT_POSITIONS: u16 = 132;
 
 /// The characters of the longest constant.
 const CONSTANT_CHARACTERS: u16 = 24;
@@ -63,20 +24,6 @@ const FIELD_CHARACTERS: usize = 256;
 
 /// The highest position that four digits name.
 const LAST_POSITION: u16 = 9999;
-
-#[tactic(auto, unfolding(s3_sheets::specs::Entries::reserved_names, s3_cards::specs::Codes::ebcdic, s3_cards::specs::Codes::code_page))]
-fn reserved_names() -> &'static [Name]
-    ensures { result.now ≡ reserved_names_spec }
-{
-    &RESERVED_NAMES
-}
-
-/// Whether a name is that of a field that no sheet defines.
-pub fn is_reserved(name: &Name) -> bool
-    ensures { result ≡ is_reserved_spec name.now }
-{
-    reserved_names().iter().any(|other| other == name)
-}
 
 fn lies_within(from: u16, to: u16, positions: u16) -> bool
     ensures { result ≡ spec.lies_within from to positions }
@@ -149,8 +96,8 @@ fn longest_record(device: Device) -> u16
     ensures { result ≡ spec.longest_built device }
 {
     match device {
-        Device::CardReader => CARD_COLUMNS,
-        Device::Printer => PRINT_POSITIONS,
+        Device::CardReader => COLUMNS as u16,
+        Device::Printer => PRINT_POSITIONS as u16,
         Device::Disk => 0,
     }
 }

@@ -15,8 +15,8 @@ use crate::before::{is_card_file, is_print_file};
 use crate::definitions::Definitions;
 use crate::program::{Content, DetailLine, Field, FieldMove, Piece, Program};
 use indexmap::IndexMap;
-use s3_cards::Name;
 use s3_cards::ebcdic::{BLANK, LETTER_B, LETTER_G, LETTER_J, LETTER_O, LETTER_P, LETTER_R};
+use s3_cards::{Name, PRINT_POSITIONS};
 use s3_sheets::indicator::Indicator;
 use s3_sheets::sheet::{FileLine, InputLine, Line, OutputContent, OutputLine, SheetLine};
 use std::alloc::{AllocError, Global};
@@ -27,9 +27,6 @@ const RPGOBJ: Name = Name {
         LETTER_R, LETTER_P, LETTER_G, LETTER_O, LETTER_B, LETTER_J, BLANK, BLANK,
     ],
 };
-
-/// The print positions of the longest line.
-const PRINT_POSITIONS: u8 = 132;
 
 /// The fields, by slot.
 fn fields(alloc: Global, lengths: &IndexMap<Name, usize>) -> Result<Vec<Field>, AllocError>
@@ -255,8 +252,8 @@ fn print_length(lines: &[Line]) -> u8
     match print_file(lines) {
         Some(file) => u8::try_from(file.record_length)
             .ok()
-            .unwrap_or(PRINT_POSITIONS),
-        None => PRINT_POSITIONS,
+            .unwrap_or(PRINT_POSITIONS as u8),
+        None => PRINT_POSITIONS as u8,
     }
 }
 

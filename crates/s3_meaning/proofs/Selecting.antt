@@ -1,9 +1,8 @@
 -- After a record was selected, its file is to be read.
-use Rattle.std.proofs.Common.{◌≡◌, ℕ, nat_eq, Bool, true, false, not, ◌&&◌, ◌||◌, if◌then◌else◌, cond, List, [], ◌∷◌, ◌++◌, map, filter, filter_map, find, Option, Some, None, is_some, option_map, refl, sym, subst, true≢false, arith}
+use Rattle.std.proofs.Common.{◌≡◌, ℕ, Bool, true, false, not, ◌||◌, if◌then◌else◌, cond, List, [], ◌∷◌, ◌++◌, map, filter, filter_map, find, Option, Some, None, is_some, option_map, refl, sym, subst, true≢false}
 use Rattle.std.specs.Option.{option_or}
 use Rattle.std.specs.List.{list_any, cons_option}
-use Rattle.std.specs.Cmp.Lexicographic.{pointwise}
-use Rattle.std.proofs.lemmas.Bool.Decides.{nat_tests}
+use Rattle.s3_cards.proofs.NameLemmas.{same_name-self}
 use Rattle.s3_cards.specs.declared.name.Name.{Name}
 use Rattle.s3_sheets.specs.declared.sheet.Designation.TheVariants.{Primary, Secondary}
 use Rattle.s3_cards.specs.Names.{same_name}
@@ -21,14 +20,6 @@ OfSome P (Some x) = P x
 or_right : (a b : Bool) → b ≡ true → (a || b) ≡ true
 or_right true b h = refl
 or_right false b h = h
-
-same_codes : (codes : List ℕ) → pointwise nat_eq codes codes ≡ true
-same_codes [] = refl
-same_codes (code ∷ codes) = both (nat_eq code code) (grind (arith, nat_tests)) (same_codes codes)
-  where
-    both : (a : Bool) {b : Bool} → a ≡ true → b ≡ true → (a && b) ≡ true
-    both true p q = q
-    both false p q = p
 
 module _ {A : Type 0} (P : A → Type 0) where
   every_filter : (p : A → Bool) (xs : List A) → Every P xs → Every P (filter p xs)
@@ -84,7 +75,7 @@ every_weaker input all (x ∷ xs) h = (or_right (same_name input.file.name x.fil
 every_in : (inputs : List InputFile) → Every (λ x. IsIn inputs x.file.name) inputs
 unfolding Every IsIn
 every_in [] = tt
-every_in (input ∷ inputs) = (or_left (same_name input.file.name input.file.name) _ (same_codes input.file.name.codes), every_weaker input inputs inputs (every_in inputs))
+every_in (input ∷ inputs) = (or_left (same_name input.file.name input.file.name) _ (same_name-self input.file.name), every_weaker input inputs inputs (every_in inputs))
   where
     or_left : (a b : Bool) → a ≡ true → (a || b) ≡ true
     or_left true b h = refl

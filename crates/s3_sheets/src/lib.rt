@@ -19,5 +19,5 @@ pub mod sheet;
 mod tables;
 
 pub use diagnostic::{Diagnostic, SheetFault};
-pub use entries::constants_as_written;
+pub use entries::{constants_as_written, is_reserved};
 pub use reading::read_sheets;
