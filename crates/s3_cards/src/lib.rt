@@ -8,6 +8,7 @@ pub mod ebcdic;
 mod levels;
 mod name;
 mod print_line;
+mod retention;
 
 pub use characters::{code_of_byte, codes_and_characters, host_byte, to_ebcdic, to_host};
 pub use deck::{COLUMNS, Card, CardFault, Deck, DeckFault, first_line, without_carriage_return};
@@ -16,3 +17,4 @@ pub use name::{
     Name, begins_name, go_on_in_name, goes_on_in_name, is_digit, is_letter, is_name, is_word,
 };
 pub use print_line::{PRINT_POSITIONS, PrintLine};
+pub use retention::Retention;

@@ -11,8 +11,8 @@ use Rattle.s3_ocl.specs.declared.parameters.Entry.{Entry}
 use Rattle.s3_ocl.specs.declared.parameters.Entry.TheVariants.{Empty, Unknown, Surplus, Missing, Wrong, Right}
 use Rattle.s3_ocl.specs.declared.values.Value.{Value}
 use Rattle.s3_ocl.specs.declared.values.Value.TheVariants.{Named, Count, Kept, Dated, Set}
-use Rattle.s3_ocl.specs.declared.values.Retention.{Retention}
-use Rattle.s3_ocl.specs.declared.values.Retention.TheVariants.{Temporary}
+use Rattle.s3_cards.specs.declared.retention.Retention.{Retention}
+use Rattle.s3_cards.specs.declared.retention.Retention.TheVariants.{Temporary}
 use Rattle.s3_ocl.specs.declared.values.Switch.{Switch}
 use Rattle.s3_ocl.specs.declared.statements.Piece.{Piece}
 use Rattle.s3_ocl.specs.declared.contents.FileSize.{FileSize}

@@ -7,7 +7,7 @@ use Rattle.s3_ocl.specs.declared.values.Value.{Value}
 use Rattle.s3_ocl.specs.declared.values.Value.TheVariants.{Named, Count, Kept, Dated, Set, Checked}
 use Rattle.s3_ocl.specs.declared.values.Switch.{Switch}
 use Rattle.s3_ocl.specs.declared.values.Switch.TheVariants.{On, Off, Leave}
-use Rattle.s3_ocl.specs.declared.values.Retention.TheVariants.{Temporary, Scratch, Permanent}
+use Rattle.s3_cards.specs.declared.retention.Retention.TheVariants.{Temporary, Scratch, Permanent}
 use Rattle.s3_cards.specs.Names.{is_digit, goes_on_in_name, is_word, name_of}
 use Rattle.s3_ocl.specs.Words.{reads, r1_unit, r2_unit, f1_unit, f2_unit}
 

@@ -7,8 +7,8 @@ ghost use Rattle.s3_ocl.specs.Steps.{contents_of, contents_with};
 use super::file_list::FileList;
 use super::parameters::{Entry, Parameter, Verb};
 use super::statements::{Piece, Statement};
-use super::values::{Retention, Switch, Value};
-use s3_cards::Name;
+use super::values::{Switch, Value};
+use s3_cards::{Name, Retention};
 use std::alloc::{AllocError, Global};
 use std::marker::Model;
 

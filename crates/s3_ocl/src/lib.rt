@@ -14,5 +14,5 @@ mod words;
 pub use contents::{FileSize, FileStatement};
 pub use faults::{FaultyJob, JobFault};
 pub use jobs::{JobCards, OclFault, job_at, split};
-pub use values::{Retention, Switch};
+pub use values::Switch;
 pub use words::words_as_punched;

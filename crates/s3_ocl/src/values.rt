@@ -6,7 +6,7 @@ ghost use Rattle.s3_ocl.specs.Values.{name_value as name_value_spec, unit_value 
 
 use super::words::{F1, F2, R1, R2};
 use s3_cards::ebcdic::{BLANK, DIGIT_0, DIGIT_1, LETTER_P, LETTER_S, LETTER_T, LETTER_X, SLASH};
-use s3_cards::{Name, go_on_in_name, is_digit, is_word};
+use s3_cards::{Name, Retention, go_on_in_name, is_digit, is_word};
 
 /// What a SWITCH statement does with one switch.
 #[derive(Clone, Copy, Debug, PartialEq, Eq)]
@@ -17,17 +17,6 @@ pub enum Switch {
     Off,
     /// X: it stays as it is.
     Leave,
-}
-
-/// How long a new file is kept.
-#[derive(Clone, Copy, Debug, PartialEq, Eq)]
-pub enum Retention {
-    /// T: until a job makes a file of its label again.
-    Temporary,
-    /// S: until the end of the job that makes it.
-    Scratch,
-    /// P: a job that would make a file of its label is refused.
-    Permanent,
 }
 
 /// The value of a parameter.
