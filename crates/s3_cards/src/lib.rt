@@ -8,9 +8,12 @@ pub mod ebcdic;
 mod levels;
 mod name;
 mod print_line;
+mod punched;
 mod retention;
 
-pub use characters::{code_of_byte, codes_and_characters, host_byte, to_ebcdic, to_host};
+pub use characters::{
+    CODES_OF_BYTES, code_of_byte, codes_and_characters, host_byte, to_ebcdic, to_host,
+};
 pub use deck::{COLUMNS, Card, CardFault, Deck, DeckFault, first_line, without_carriage_return};
 pub use levels::LevelId;
 pub use name::{

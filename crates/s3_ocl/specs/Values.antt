@@ -9,7 +9,8 @@ use Rattle.s3_ocl.specs.declared.values.Switch.{Switch}
 use Rattle.s3_ocl.specs.declared.values.Switch.TheVariants.{On, Off, Leave}
 use Rattle.s3_cards.specs.declared.retention.Retention.TheVariants.{Temporary, Scratch, Permanent}
 use Rattle.s3_cards.specs.Names.{is_digit, goes_on_in_name, is_word, name_of}
-use Rattle.s3_ocl.specs.Words.{reads, r1_unit, r2_unit, f1_unit, f2_unit}
+use Rattle.s3_ocl.specs.Words.{reads}
+use Rattle.s3_ocl.specs.declared.words.TheConstants.{R1, R2, F1, F2}
 
 -- a name of at most so many codes
 abbrev pub name_value : ℕ → List ℕ → Option Value
@@ -18,7 +19,7 @@ name_value limit text = if nat_le (length text) limit && is_word text then Some 
 -- R1, R2, F1 or F2
 abbrev pub unit_value : List ℕ → Option Value
 unit_value text =
-    if reads text r1_unit || reads text r2_unit || reads text f1_unit || reads text f2_unit then Some Checked else None
+    if reads text R1 || reads text R2 || reads text F1 || reads text F2 then Some Checked else None
 
 -- a pack: at most 6 letters, digits, $, # and @
 abbrev pub pack_value : List ℕ → Option Value

@@ -18,7 +18,8 @@ use super::faults::{FaultyJob, JobFault, Mark, earlier, statement_fault};
 use super::parameters::Verb;
 use super::statements::{Statement, read_statement};
 use super::values::Switch;
-use s3_cards::ebcdic::{BLANK, DOLLAR, LETTER_G, LETTER_P, LETTER_R};
+use super::words::COMPILER;
+use s3_cards::ebcdic::BLANK;
 use s3_cards::{Card, Deck, Name};
 use std::alloc::{AllocError, Global};
 use std::marker::Model;
@@ -45,13 +46,6 @@ impl From<AllocError> for OclFault {
         OclFault::NoMemory
     }
 }
-
-/// `$RPG`, the name of the compiler.
-const COMPILER_NAME: Name = Name {
-    codes: [
-        DOLLAR, LETTER_R, LETTER_P, LETTER_G, BLANK, BLANK, BLANK, BLANK,
-    ],
-};
 
 /// A job without faults.
 #[derive(Drop)]
@@ -88,7 +82,7 @@ impl JobCards {
     pub fn is_compile(&self) -> bool
         ensures { result ≡ is_compile_spec self.now }
     {
-        self.program == COMPILER_NAME
+        self.program == Name { codes: COMPILER }
     }
 
     /// What the FILE statements say, in their order. A name that stands twice among them is a fault of the job.
