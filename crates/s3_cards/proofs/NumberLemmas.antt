@@ -1,5 +1,5 @@
 -- Lemmas on numbers in digits.
-use Rattle.std.proofs.Common.{◌≡◌, ℕ, ◌+◌, ◌-◌, ◌*◌, ◌^◌, ◌<◌, ◌≤◌, List, Bool, true, false, refl, sym, ◌∙◌, ap, arith, subst, length, take, get_or, lit<, add-one, inl, inr, zero, suc}
+use Rattle.std.proofs.Common.{◌≡◌, ℕ, ◌+◌, ◌-◌, ◌*◌, ◌^◌, ◌<◌, ◌≤◌, List, true, false, refl, sym, ◌∙◌, ap, arith, subst, length, take, get_or, lit<, add-one, inl, inr, zero, suc}
 use Rattle.std.specs.Prelude.{Some, None, map, [], ◌∷◌}
 use Rattle.std.proofs.lemmas.Bool.Decides.{nat_tests}
 use Rattle.std.proofs.lemmas.Bool.{cases_Bool}
