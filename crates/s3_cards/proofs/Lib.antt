@@ -1,3 +1,4 @@
 pub mod CodeLemmas
 pub mod DeckLemmas
 pub mod NameLemmas
+pub mod NumberLemmas

@@ -8,6 +8,10 @@ use Rattle.s3_cards.specs.declared.name.Name.{Name}
 abbrev pub is_blank : ℕ → Bool
 is_blank code = code == BLANK
 
+-- a code that isn't blank
+abbrev pub is_mark : ℕ → Bool
+is_mark code = not (is_blank code)
+
 abbrev pub is_within : ℕ → ℕ → ℕ → Bool
 is_within low high code = nat_le low code && nat_le code high
 
@@ -35,7 +39,7 @@ is_word (code ∷ codes) = begins_name code && list_all goes_on_in_name codes
 -- a word on the left, with blanks behind it
 abbrev pub is_name : List ℕ → Bool
 is_name codes =
-    let end : ℕ = prefix_len (λ code. not (is_blank code)) codes in
+    let end : ℕ = prefix_len is_mark codes in
     is_word (take end codes) && list_all is_blank (drop end codes)
 
 -- at most eight codes as a name, with blanks behind them

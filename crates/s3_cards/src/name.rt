@@ -1,12 +1,13 @@
 //! Names, and the kinds of codes that they have.
-ghost use Rattle.std.specs.Prelude.{◌≡◌, ◌≤◌, length, not};
-ghost use Rattle.std.specs.List.{list_all, prefix_len};
-ghost use Rattle.s3_cards.specs.Names.{is_blank as blank_spec, is_digit as digit_spec, is_letter as letter_spec, begins_name as begins_spec, goes_on_in_name as goes_on_spec, is_word as word_spec, is_name as name_spec, name_of};
+ghost use Rattle.std.specs.Prelude.{◌≡◌, ◌≤◌, length};
+ghost use Rattle.std.specs.List.{list_all};
+ghost use Rattle.s3_cards.specs.Names.{is_digit as digit_spec, is_letter as letter_spec, begins_name as begins_spec, goes_on_in_name as goes_on_spec, is_word as word_spec, is_name as name_spec, name_of};
 
 use super::ebcdic::{
     AT_SIGN, BLANK, DIGIT_0, DIGIT_9, DOLLAR, LETTER_A, LETTER_I, LETTER_J, LETTER_R, LETTER_S,
     LETTER_Z, NUMBER_SIGN,
 };
+use super::texts::{are_blank, word_len};
 
 /// A name of a program, a file, a label or a field: a letter, `$`, `#` or `@`, then these or digits. A file and a label
 /// have at most 8 characters, the others at most 6.
@@ -72,20 +73,6 @@ pub fn is_word(text: &[u8]) -> bool
         None => false,
         Some((first, rest)) => begins_name(*first) && go_on_in_name(rest),
     }
-}
-
-/// How many codes stand before the first blank.
-fn word_len(codes: &[u8]) -> usize
-    ensures within { result ≤ length codes.now }
-    ensures value { result ≡ prefix_len (λ code. not (blank_spec code)) codes.now }
-{
-    codes.iter().take_while(|code| **code != BLANK).count()
-}
-
-fn are_blank(codes: &[u8]) -> bool
-    ensures { result ≡ list_all blank_spec codes.now }
-{
-    codes.iter().all(|code| *code == BLANK)
 }
 
 /// Whether the codes have a name on their left, and blanks behind it.

@@ -1,5 +1,6 @@
 -- The edit codes: what each character, in EBCDIC, stands for.
 use Rattle.std.specs.Prelude.{ℕ, Bool, true, false, ◌==◌, Option, List, [], ◌∷◌, find, option_map}
+use Rattle.s3_cards.specs.declared.ebcdic.TheConstants.{DIGIT_1, DIGIT_2, DIGIT_3, DIGIT_4, LETTER_A, LETTER_B, LETTER_C, LETTER_D, LETTER_J, LETTER_K, LETTER_L, LETTER_M, LETTER_X, LETTER_Y, LETTER_Z}
 use Rattle.s3_edit.specs.declared.code.Sign.{Sign}
 use Rattle.s3_edit.specs.declared.code.Sign.TheVariants.{Never, Credit, Minus}
 use Rattle.s3_edit.specs.declared.code.EditCode.{EditCode}
@@ -11,21 +12,21 @@ edited commas zero_printed sign = Edited (record { commas = commas; zero_printed
 -- 1 to 4, A to D, J to M, X, Y, Z
 abbrev pub edit_codes : List (ℕ × EditCode)
 edit_codes =
-    (0xf1, edited true true Never) ∷
-    (0xf2, edited true false Never) ∷
-    (0xf3, edited false true Never) ∷
-    (0xf4, edited false false Never) ∷
-    (0xc1, edited true true Credit) ∷
-    (0xc2, edited true false Credit) ∷
-    (0xc3, edited false true Credit) ∷
-    (0xc4, edited false false Credit) ∷
-    (0xd1, edited true true Minus) ∷
-    (0xd2, edited true false Minus) ∷
-    (0xd3, edited false true Minus) ∷
-    (0xd4, edited false false Minus) ∷
-    (0xe7, Zoned) ∷
-    (0xe8, Date) ∷
-    (0xe9, Suppressed) ∷
+    (DIGIT_1, edited true true Never) ∷
+    (DIGIT_2, edited true false Never) ∷
+    (DIGIT_3, edited false true Never) ∷
+    (DIGIT_4, edited false false Never) ∷
+    (LETTER_A, edited true true Credit) ∷
+    (LETTER_B, edited true false Credit) ∷
+    (LETTER_C, edited false true Credit) ∷
+    (LETTER_D, edited false false Credit) ∷
+    (LETTER_J, edited true true Minus) ∷
+    (LETTER_K, edited true false Minus) ∷
+    (LETTER_L, edited false true Minus) ∷
+    (LETTER_M, edited false false Minus) ∷
+    (LETTER_X, Zoned) ∷
+    (LETTER_Y, Date) ∷
+    (LETTER_Z, Suppressed) ∷
     []
 
 abbrev pub code_of : ℕ → Option EditCode

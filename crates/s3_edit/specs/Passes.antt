@@ -1,11 +1,12 @@
 -- What one pass from the right writes at each place, where `rest` is what is left of the number from there on.
 use Rattle.std.specs.Prelude.{ℕ, ◌+◌, ◌-◌, ◌/◌, ◌%◌, Bool, ◌&&◌, ◌==◌, if◌then◌else◌}
+use Rattle.s3_cards.specs.declared.ebcdic.TheConstants.{BLANK, SLASH}
 use Rattle.s3_decimal.specs.Records.{zone_at, zoned_byte}
 use Rattle.s3_edit.specs.declared.amount.Place.{Place}
 use Rattle.s3_edit.specs.declared.amount.Place.TheVariants.{Point, Comma, Digit}
 use Rattle.s3_edit.specs.declared.plain.Plain.{Plain}
 use Rattle.s3_edit.specs.declared.plain.Plain.TheVariants.{Zoned, Date, Suppressed}
-use Rattle.s3_edit.specs.Picture.{blank, date_at, digit_character, slash, suppressed_at}
+use Rattle.s3_edit.specs.Picture.{date_at, digit_character, suppressed_at}
 
 -- what is left of a number once a place is written
 abbrev pub after : Place → ℕ → ℕ
@@ -26,8 +27,8 @@ plain_digits_right _ place = place
 abbrev pub plain_character_of : Plain → Bool → ℕ → ℕ → ℕ
 plain_character_of Zoned negative place rest = zone_at negative place + rest % 10
 plain_character_of Date negative place rest =
-    if place % 3 == 2 then slash else (if place == 7 && rest == 0 then blank else digit_character (rest % 10))
-plain_character_of Suppressed negative place rest = if rest == 0 then blank else digit_character (rest % 10)
+    if place % 3 == 2 then SLASH else (if place == 7 && rest == 0 then BLANK else digit_character (rest % 10))
+plain_character_of Suppressed negative place rest = if rest == 0 then BLANK else digit_character (rest % 10)
 
 abbrev pub plain_rest_of : Plain → ℕ → ℕ → ℕ
 plain_rest_of Date place rest = if place % 3 == 2 then rest else rest / 10

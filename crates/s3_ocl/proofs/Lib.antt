@@ -3,7 +3,6 @@ pub mod DateLemmas
 pub mod FaultLemmas
 pub mod FileLemmas
 pub mod JobLemmas
-pub mod NumberLemmas
 pub mod PartLemmas
 pub mod PieceLemmas
 pub mod SoundLemmas

@@ -1,5 +1,5 @@
 -- What FILE statements say is in range.
-use Rattle.std.proofs.Common.{◌≡◌, ℕ, ◌+◌, ◌-◌, ◌*◌, ◌^◌, ◌<◌, ◌≤◌, List, [], ◌∷◌, ◌++◌, Bool, true, false, cond, refl, ◌∙◌, ap, subst, arith, length, take, drop, replicate, zero, suc, get_or, eqb-true, lit<, lit≤}
+use Rattle.std.proofs.Common.{◌≡◌, ℕ, ◌+◌, ◌-◌, ◌^◌, ◌<◌, ◌≤◌, List, [], ◌∷◌, ◌++◌, Bool, true, false, cond, refl, ◌∙◌, ap, subst, arith, length, take, drop, replicate, zero, suc, eqb-true, lit<, lit≤}
 use Rattle.std.specs.Prelude.{Option, Some, None, Result, Ok, Err, ◌==◌, ◌&&◌, not, find, nat_le, unwrap_or, option_and_then, IfOk, if◌then◌else◌}
 use Rattle.std.specs.List.{list_all, prefix_len, position_or_len, cons_option}
 use Rattle.std.proofs.lemmas.Bool.Decides.{nat_tests}
@@ -17,9 +17,9 @@ use Rattle.s3_ocl.specs.declared.parameters.Entry.TheVariants.{Empty, Unknown, S
 use Rattle.s3_ocl.specs.declared.parameters.Verb.{Verb}
 use Rattle.s3_ocl.specs.declared.parameters.Verb.TheVariants as verb
 use Rattle.s3_ocl.specs.declared.statements.Piece.{Piece}
-use Rattle.s3_ocl.specs.Signs.{is_mark, is_hyphen}
-use Rattle.s3_cards.specs.Names.{is_blank, is_digit, begins_name, goes_on_in_name, is_word, name_of}
-use Rattle.s3_ocl.specs.Values.{name_value, count_value, number_of}
+use Rattle.s3_ocl.specs.Signs.{is_hyphen}
+use Rattle.s3_cards.specs.Names.{is_blank, is_digit, begins_name, goes_on_in_name, is_word, name_of, is_mark}
+use Rattle.s3_ocl.specs.Values.{name_value, count_value}
 use Rattle.s3_ocl.specs.Parameters.{value_of, given_by, given, given_key, keyed, entry_at, entry_of, parameter_of, parts_of, verb_of}
 use Rattle.s3_ocl.specs.Cards.{first_word, is_statement}
 use Rattle.s3_ocl.specs.Statements.{pieces_in, pieces_from, pieces_of, texts_of, statement_at, statements_within, is_verb}
@@ -30,7 +30,8 @@ use Rattle.s3_ocl.specs.Jobs.{Job, Gives, job_at, job_or_fault, job_with, headin
 use Rattle.std.specs.Option.{option_map}
 use Rattle.s3_ocl.specs.Contents.{rank, is_parameter, stands_at, gives, right_value, value_in, named, count, name_in, count_in, size_of, file_with, files_of}
 use Rattle.s3_ocl.specs.Sound.{is_padded_name, is_between, is_size, is_sound_file}
-use Rattle.s3_ocl.proofs.NumberLemmas.{NumberSoFar, none_yet, number_next, digits_right}
+use Rattle.s3_cards.specs.Numbers.{number_of}
+use Rattle.s3_cards.proofs.NumberLemmas.{number_below}
 
 both_true : (a b : Bool) → (a && b) ≡ true → (a ≡ true) × (b ≡ true)
 both_true true b h = (refl, h)
@@ -84,20 +85,6 @@ padded text h =
     ap (λ (n : ℕ). is_word (take n (text ++ blanks)) && list_all is_blank (drop n (text ++ blanks))) end
     ∙ (rw (take-append_seam text blanks, drop-append_seam text blanks, h) (all_blanks (8 - length text)))
 
-so_far : (codes : List ℕ) (i : ℕ) → i ≤ length codes → list_all is_digit codes ≡ true → (n : ℕ) × NumberSoFar codes i n
-so_far codes zero within digits = (0, none_yet codes)
-so_far codes (suc i) within digits =
-    let before = so_far codes i (omega arith) digits in
-    let after = number_next codes i before.0 (get_or codes i 0 - 0xf0) before.1 (omega arith) digits refl in
-    let e : i + 1 ≡ suc i = omega arith in
-    (before.0 * 10 + (get_or codes i 0 - 0xf0), subst (λ (j : ℕ). NumberSoFar codes j (before.0 * 10 + (get_or codes i 0 - 0xf0))) e after)
-
-number_below : (codes : List ℕ) → list_all is_digit codes ≡ true → number_of codes < 10 ^ length codes
-number_below codes digits =
-    let all = so_far codes (length codes) (omega arith) digits in
-    let below = all.1.below in
-    subst (λ (n : ℕ). n < 10 ^ length codes) (digits_right codes all.0 all.1) below
-
 -- what a value of a parameter is known to be
 abbrev is_sound_name : Value → Bool
 is_sound_name (Named name) = is_padded_name name
@@ -133,12 +120,12 @@ at_most a b h = grind (arith, nat_tests)
 count_sound : (limit high : ℕ) (text : List ℕ) (value : Value) → 10 ^ limit ≤ high + 1 → count_value limit text ≡ Some value → is_sound_count high value ≡ true
 unfolding count_value
 count_sound limit high text value room h =
-    let both = cond_some (nat_le (length text) limit && list_all is_digit text && nat_le 1 (number_of text)) (Count (number_of text)) value h in
-    let outer = both_true (nat_le (length text) limit && list_all is_digit text) (nat_le 1 (number_of text)) both.0 in
+    let both = cond_some (nat_le (length text) limit && list_all is_digit text && nat_le 1 (number_of 0xf0 text)) (Count (number_of 0xf0 text)) value h in
+    let outer = both_true (nat_le (length text) limit && list_all is_digit text) (nat_le 1 (number_of 0xf0 text)) both.0 in
     let inner = both_true (nat_le (length text) limit) (list_all is_digit text) outer.0 in
     subst (λ (v : Value). is_sound_count high v ≡ true) both.1
-    (between 1 high (number_of text) (at_most 1 (number_of text) outer.1)
-    (below_limit (number_of text) 0 high (length text) limit (number_below text inner.1) (at_most (length text) limit inner.0) room))
+    (between 1 high (number_of 0xf0 text) (at_most 1 (number_of 0xf0 text) outer.1)
+    (below_limit (number_of 0xf0 text) 0 high (length text) limit (number_below 0xf0 text inner.1) (at_most (length text) limit inner.0) room))
 
 -- the same by a parameter's place among them: FileName, Label, Records and Tracks
 abbrev is_sound_ranked : ℕ → Value → Bool

@@ -11,8 +11,8 @@ use Rattle.s3_ocl.specs.declared.faults.FaultyJob.{FaultyJob}
 use Rattle.s3_ocl.specs.declared.jobs.OclFault.{OclFault}
 use Rattle.s3_ocl.specs.declared.jobs.OclFault.TheVariants.{NoMemory, Faulty}
 use Rattle.s3_ocl.specs.Cards.{is_separator, is_job_end, begins_job, closes_job, next_place}
-use Rattle.s3_cards.specs.Names.{same_name, name_of, no_name}
-use Rattle.s3_ocl.specs.Words.{compiler_word}
+use Rattle.s3_cards.specs.Names.{same_name, no_name}
+use Rattle.s3_ocl.specs.declared.words.TheConstants.{COMPILER}
 use Rattle.s3_ocl.specs.Statements.{Statement, statements}
 use Rattle.s3_ocl.specs.Contents.{date_of, files_of, has, program_of, switches_of}
 use Rattle.s3_ocl.specs.Faults.{faults_behind, first_fault}
@@ -31,7 +31,7 @@ pub record Job : Type 0 where
 
 -- a job for the compiler: its data are a source
 abbrev pub is_compile : Job → Bool
-is_compile job = same_name job.program (name_of compiler_word)
+is_compile job = same_name job.program (record { codes = COMPILER })
 
 -- how many cards statements have
 abbrev pub cards_of : List Statement → ℕ

@@ -10,28 +10,29 @@ use Rattle.s3_ocl.specs.declared.parameters.Entry.TheVariants.{Empty, Unknown, S
 use Rattle.s3_ocl.specs.declared.values.Value.{Value}
 use Rattle.s3_ocl.specs.Signs.{is_comma, is_hyphen}
 use Rattle.s3_ocl.specs.Values as value
-use Rattle.s3_ocl.specs.Words as word
+use Rattle.s3_ocl.specs.Words.{reads}
+use Rattle.s3_ocl.specs.declared.words.TheConstants.{LOAD, FILE, DATE, SWITCH, RUN, NAME, UNIT, PACK, LABEL, RECORDS, TRACKS, RETAIN}
 
 -- the statement that a keyword names
 abbrev pub verb_of : List ℕ → Option Verb
 verb_of keyword =
-    if word.reads keyword word.load_word then Some verb.Load
-    else if word.reads keyword word.file_word then Some verb.File
-    else if word.reads keyword word.date_word then Some verb.Date
-    else if word.reads keyword word.switch_word then Some verb.Switch
-    else if word.reads keyword word.run_word then Some verb.Run
+    if reads keyword LOAD then Some verb.Load
+    else if reads keyword FILE then Some verb.File
+    else if reads keyword DATE then Some verb.Date
+    else if reads keyword SWITCH then Some verb.Switch
+    else if reads keyword RUN then Some verb.Run
     else None
 
 -- the parameter of a FILE statement that a word names
 abbrev pub parameter_of : List ℕ → Option Parameter
 parameter_of key =
-    if word.reads key word.name_word then Some parameter.FileName
-    else if word.reads key word.unit_word then Some parameter.Unit
-    else if word.reads key word.pack_word then Some parameter.Pack
-    else if word.reads key word.label_word then Some parameter.Label
-    else if word.reads key word.records_word then Some parameter.Records
-    else if word.reads key word.tracks_word then Some parameter.Tracks
-    else if word.reads key word.retain_word then Some parameter.Retain
+    if reads key NAME then Some parameter.FileName
+    else if reads key UNIT then Some parameter.Unit
+    else if reads key PACK then Some parameter.Pack
+    else if reads key LABEL then Some parameter.Label
+    else if reads key RECORDS then Some parameter.Records
+    else if reads key TRACKS then Some parameter.Tracks
+    else if reads key RETAIN then Some parameter.Retain
     else None
 
 -- the value that a text gives a parameter, if it can have it

@@ -1,10 +1,6 @@
 -- Kinds of EBCDIC codes.
-use Rattle.std.specs.Prelude.{ℕ, Bool, ◌==◌, not}
-use Rattle.s3_cards.specs.declared.ebcdic.TheConstants.{BLANK, MINUS, COMMA}
-
--- a code that isn't blank
-abbrev pub is_mark : ℕ → Bool
-is_mark code = not (code == BLANK)
+use Rattle.std.specs.Prelude.{ℕ, Bool, ◌==◌}
+use Rattle.s3_cards.specs.declared.ebcdic.TheConstants.{MINUS, COMMA}
 
 abbrev pub is_comma : ℕ → Bool
 is_comma code = code == COMMA

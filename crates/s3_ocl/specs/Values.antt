@@ -1,15 +1,16 @@
 -- What the text of a value says.
 use Rattle.std.specs.Prelude.{ℕ, ◌+◌, ◌-◌, ◌*◌, ◌==◌, ◌&&◌, ◌||◌, List, [], ◌∷◌, ◌++◌, Bool, Option, Some, None, length, take, drop, map, nat_le, slice_index, if◌then◌else◌}
 use Rattle.std.specs.List.{list_all}
-use Rattle.std.specs.Int.Digits.{number_from_digits}
 use Rattle.s3_cards.specs.declared.ebcdic.TheConstants.{SLASH, LETTER_P, LETTER_S, LETTER_T, LETTER_X, DIGIT_0, DIGIT_1}
 use Rattle.s3_ocl.specs.declared.values.Value.{Value}
 use Rattle.s3_ocl.specs.declared.values.Value.TheVariants.{Named, Count, Kept, Dated, Set, Checked}
 use Rattle.s3_ocl.specs.declared.values.Switch.{Switch}
 use Rattle.s3_ocl.specs.declared.values.Switch.TheVariants.{On, Off, Leave}
 use Rattle.s3_cards.specs.declared.retention.Retention.TheVariants.{Temporary, Scratch, Permanent}
+use Rattle.s3_cards.specs.Numbers.{number_of}
 use Rattle.s3_cards.specs.Names.{is_digit, goes_on_in_name, is_word, name_of}
-use Rattle.s3_ocl.specs.Words.{reads, r1_unit, r2_unit, f1_unit, f2_unit}
+use Rattle.s3_ocl.specs.Words.{reads}
+use Rattle.s3_ocl.specs.declared.words.TheConstants.{R1, R2, F1, F2}
 
 -- a name of at most so many codes
 abbrev pub name_value : ℕ → List ℕ → Option Value
@@ -18,20 +19,16 @@ name_value limit text = if nat_le (length text) limit && is_word text then Some 
 -- R1, R2, F1 or F2
 abbrev pub unit_value : List ℕ → Option Value
 unit_value text =
-    if reads text r1_unit || reads text r2_unit || reads text f1_unit || reads text f2_unit then Some Checked else None
+    if reads text R1 || reads text R2 || reads text F1 || reads text F2 then Some Checked else None
 
 -- a pack: at most 6 letters, digits, $, # and @
 abbrev pub pack_value : List ℕ → Option Value
 pack_value text = if nat_le (length text) 6 && list_all goes_on_in_name text then Some Checked else None
 
--- the number of a run of digits
-abbrev pub number_of : List ℕ → ℕ
-number_of text = number_from_digits 10 (map (λ digit. digit - DIGIT_0) text)
-
 -- a number of at most so many digits that isn't 0
 unfoldable pub count_value : ℕ → List ℕ → Option Value
 count_value limit text =
-    if nat_le (length text) limit && list_all is_digit text && nat_le 1 (number_of text) then Some (Count (number_of text)) else None
+    if nat_le (length text) limit && list_all is_digit text && nat_le 1 (number_of DIGIT_0 text) then Some (Count (number_of DIGIT_0 text)) else None
 
 -- T, S or P
 abbrev pub retention_value : List ℕ → Option Value

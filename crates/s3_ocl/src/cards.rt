@@ -1,13 +1,11 @@
 //! What a card is in a job stream, and the words on it.
 ghost use Rattle.std.specs.Prelude.{◌≡◌, ◌<◌, ◌≤◌, IfSome, drop, length, slice_get};
 ghost use Rattle.std.specs.Option.{option_copied};
-ghost use Rattle.std.specs.List.{prefix_len, position_or_len};
-ghost use Rattle.s3_ocl.specs.Signs.{is_mark as mark_spec};
-ghost use Rattle.s3_cards.specs.Names.{is_blank as blank_spec};
-ghost use Rattle.s3_ocl.specs.Cards.{is_data_end as data_end_spec, is_job_end as job_end_spec, is_statement as statement_spec, is_separator as separator_spec, begins_job as begins_job_spec, closes_job as closes_job_spec, next_place, from_word as from_word_spec, word_of, behind_word, first_word as first_word_spec, second_word as second_word_spec, is_continuation as continuation_spec};
+ghost use Rattle.std.specs.List.{position_or_len};
+ghost use Rattle.s3_ocl.specs.Cards.{is_data_end as data_end_spec, is_job_end as job_end_spec, is_statement as statement_spec, is_separator as separator_spec, begins_job as begins_job_spec, closes_job as closes_job_spec, stops_at, next_place, from_word as from_word_spec, word_of, behind_word, first_word as first_word_spec, second_word as second_word_spec, is_continuation as continuation_spec};
 
-use s3_cards::Card;
 use s3_cards::ebcdic::{AMPERSAND, ASTERISK, BLANK, SLASH};
+use s3_cards::{Card, blanks_in_front, word_len};
 
 /// Whether a card begins `/*`.
 pub fn is_data_end(card: &Card) -> bool
@@ -51,84 +49,47 @@ pub fn closes_job(card: &Card) -> bool
     is_job_end(card) || is_statement(card)
 }
 
-/// The first place from a place on at which a job can begin, or the place behind the last card.
-pub fn next_beginning(cards: &[Card], from: usize) -> usize
-    requires { from ≤ length cards.now }
-    ensures value { result ≡ next_place begins_job_spec cards.now from }
+/// What a search among cards stops at.
+#[derive(Clone, Copy)]
+pub enum Stop {
+    /// A card at which a job can begin, which is any but a separator.
+    Beginning,
+    /// A separator, `/*` or `/&`.
+    Separator,
+    /// A `/&` card.
+    JobEnd,
+    /// A card that ends a job whose data have ended.
+    Close,
+}
+
+impl Stop {
+    fn is(self, card: &Card) -> bool
+        ensures { result ≡ stops_at self card.now }
+    {
+        match self {
+            Stop::Beginning => begins_job(card),
+            Stop::Separator => is_separator(card),
+            Stop::JobEnd => is_job_end(card),
+            Stop::Close => closes_job(card),
+        }
+    }
+
+    /// The first such card from a place on, or the place behind the last card.
+    pub fn next(self, cards: &[Card], from: usize) -> usize
+        requires { from ≤ length cards.now }
+        ensures value { result ≡ next_place (stops_at self) cards.now from }
+        ensures within { result ≤ length cards.now }
+    {
+        from + cards_before(self, &cards[from..])
+    }
+}
+
+/// How many cards stand before the first one that a search stops at.
+fn cards_before(stop: Stop, cards: &[Card]) -> usize
+    ensures value { result ≡ position_or_len (stops_at stop) cards.now }
     ensures within { result ≤ length cards.now }
 {
-    from + cards_before_beginning(&cards[from..])
-}
-
-/// The first separator from a place on, or the place behind the last card.
-pub fn next_separator(cards: &[Card], from: usize) -> usize
-    requires { from ≤ length cards.now }
-    ensures value { result ≡ next_place separator_spec cards.now from }
-    ensures within { result ≤ length cards.now }
-{
-    from + cards_before_separator(&cards[from..])
-}
-
-/// The first `/&` card from a place on, or the place behind the last card.
-pub fn next_job_end(cards: &[Card], from: usize) -> usize
-    requires { from ≤ length cards.now }
-    ensures value { result ≡ next_place job_end_spec cards.now from }
-    ensures within { result ≤ length cards.now }
-{
-    from + cards_before_job_end(&cards[from..])
-}
-
-/// The first card from a place on that ends a job whose data have ended, or the place behind the last card.
-pub fn next_close(cards: &[Card], from: usize) -> usize
-    requires { from ≤ length cards.now }
-    ensures value { result ≡ next_place closes_job_spec cards.now from }
-    ensures within { result ≤ length cards.now }
-{
-    from + cards_before_close(&cards[from..])
-}
-
-fn cards_before_beginning(cards: &[Card]) -> usize
-    ensures value { result ≡ position_or_len begins_job_spec cards.now }
-    ensures within { result ≤ length cards.now }
-{
-    cards.iter().take_while(|card| !begins_job(card)).count()
-}
-
-fn cards_before_separator(cards: &[Card]) -> usize
-    ensures value { result ≡ position_or_len separator_spec cards.now }
-    ensures within { result ≤ length cards.now }
-{
-    cards.iter().take_while(|card| !is_separator(card)).count()
-}
-
-fn cards_before_job_end(cards: &[Card]) -> usize
-    ensures value { result ≡ position_or_len job_end_spec cards.now }
-    ensures within { result ≤ length cards.now }
-{
-    cards.iter().take_while(|card| !is_job_end(card)).count()
-}
-
-fn cards_before_close(cards: &[Card]) -> usize
-    ensures value { result ≡ position_or_len closes_job_spec cards.now }
-    ensures within { result ≤ length cards.now }
-{
-    cards.iter().take_while(|card| !closes_job(card)).count()
-}
-
-/// How many blanks stand in front of a text.
-fn blanks_in_front(text: &[u8]) -> usize
-    ensures within { result ≤ length text.now }
-    ensures value { result ≡ prefix_len blank_spec text.now }
-{
-    text.iter().take_while(|code| **code == BLANK).count()
-}
-
-/// How many codes stand before the first blank of a text.
-fn word_len(text: &[u8]) -> usize
-    ensures within { result ≤ length text.now }
-    ensures value { result ≡ prefix_len mark_spec text.now }
-{
-    text.iter().take_while(|code| **code != BLANK).count()
+    cards.iter().take_while(|card| !stop.is(card)).count()
 }
 
 /// The first word of a text, and the text behind it.

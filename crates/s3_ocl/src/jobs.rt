@@ -9,16 +9,14 @@ ghost use Rattle.std.specs.List.{list_all};
 ghost use Rattle.s3_ocl.specs.Faults.{first_fault, statement_faults};
 ghost use Rattle.s3_ocl.specs.Statements.{statement_at};
 
-use super::cards::{
-    card_at, is_job_end, is_separator, is_statement, next_beginning, next_close, next_job_end,
-    next_separator,
-};
+use super::cards::{Stop, card_at, is_job_end, is_separator, is_statement};
 use super::contents::{Contents, FileStatement};
 use super::faults::{FaultyJob, JobFault, Mark, earlier, statement_fault};
 use super::parameters::Verb;
 use super::statements::{Statement, read_statement};
 use super::values::Switch;
-use s3_cards::ebcdic::{BLANK, DOLLAR, LETTER_G, LETTER_P, LETTER_R};
+use super::words::COMPILER;
+use s3_cards::ebcdic::BLANK;
 use s3_cards::{Card, Deck, Name};
 use std::alloc::{AllocError, Global};
 use std::marker::Model;
@@ -45,13 +43,6 @@ impl From<AllocError> for OclFault {
         OclFault::NoMemory
     }
 }
-
-/// `$RPG`, the name of the compiler.
-const COMPILER_NAME: Name = Name {
-    codes: [
-        DOLLAR, LETTER_R, LETTER_P, LETTER_G, BLANK, BLANK, BLANK, BLANK,
-    ],
-};
 
 /// A job without faults.
 #[derive(Drop)]
@@ -88,7 +79,7 @@ impl JobCards {
     pub fn is_compile(&self) -> bool
         ensures { result ≡ is_compile_spec self.now }
     {
-        self.program == COMPILER_NAME
+        self.program == Name { codes: COMPILER }
     }
 
     /// What the FILE statements say, in their order. A name that stands twice among them is a fault of the job.
@@ -172,7 +163,7 @@ fn job_end(cards: &[Card], place: usize) -> usize
     ensures value { result ≡ job_end_at cards.now place }
     ensures places { (place ≤ result) × (result ≤ length cards.now) }
 {
-    let close = next_close(cards, place);
+    let close = Stop::Close.next(cards, place);
     if has_job_end(cards, close) {
         close + 1
     } else {
@@ -188,7 +179,7 @@ fn faulty(cards: &[Card], mark: Mark) -> FaultyJob
     ensures value { result ≡ record { fault = mark.fault; card = mark.card; after = faulty_end cards.now mark.card } }
     ensures places { (mark.card ≤ result.after) × (result.after ≤ length cards.now) }
 {
-    let end = next_job_end(cards, mark.card as usize - 1);
+    let end = Stop::JobEnd.next(cards, mark.card as usize - 1);
     FaultyJob {
         fault: mark.fault,
         card: mark.card,
@@ -203,7 +194,7 @@ fn job_with(contents: Contents, cards: &[Card], end: usize) -> JobCards
     ensures value { KeptOf contents (λ heading. result ≡ job_with_spec cards.now heading end) }
     ensures places { (result.data_from ≡ end) × (end ≤ result.data_to) × (result.data_to ≤ result.after) × (result.after ≤ length cards.now) }
 {
-    let data_to = next_separator(cards, end);
+    let data_to = Stop::Separator.next(cards, end);
     JobCards {
         program: contents.program.unwrap_or(Name { codes: [BLANK; 8] }),
         files: contents.files.into_vec(),
@@ -310,7 +301,7 @@ pub fn job_at(deck: &Deck, from: usize) -> Option<usize>
     if from >= cards.len() {
         return None;
     }
-    let place = next_beginning(cards, from);
+    let place = Stop::Beginning.next(cards, from);
     if place < cards.len() {
         Some(place)
     } else {
@@ -327,7 +318,7 @@ pub fn split(alloc: Global, deck: &Deck, from: usize) -> Result<JobCards, OclFau
     ensures sound { IfOk result (λ job. IsTrue (list_all is_sound_file job.files)) }
 {
     let cards = deck.cards();
-    read_job(alloc, cards, next_beginning(cards, from))
+    read_job(alloc, cards, Stop::Beginning.next(cards, from))
 }
 
 /// From each place of each list of cards there is exactly one list of jobs.

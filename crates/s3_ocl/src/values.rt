@@ -2,11 +2,11 @@
 ghost use Rattle.std.specs.Prelude.{◌≡◌, ◌<◌, ◌≤◌, ◌+◌, ◌-◌, ◌^◌, IsTrue, length, map};
 ghost use Rattle.std.specs.List.{list_all};
 ghost use Rattle.s3_cards.specs.Names.{is_digit as digit_spec};
-ghost use Rattle.s3_ocl.specs.Values.{name_value as name_value_spec, unit_value as unit_value_spec, pack_value as pack_value_spec, number_of, count_value as count_value_spec, retention_value as retention_value_spec, two_digits as two_digits_spec, is_date as date_spec, dated as dated_spec, date_value as date_value_spec, without_slashes as without_slashes_spec, is_switch as switch_spec, switch_of, switches_value as switches_value_spec};
+ghost use Rattle.s3_ocl.specs.Values.{name_value as name_value_spec, unit_value as unit_value_spec, pack_value as pack_value_spec, count_value as count_value_spec, retention_value as retention_value_spec, two_digits as two_digits_spec, is_date as date_spec, dated as dated_spec, date_value as date_value_spec, without_slashes as without_slashes_spec, is_switch as switch_spec, switch_of, switches_value as switches_value_spec};
 
 use super::words::{F1, F2, R1, R2};
 use s3_cards::ebcdic::{BLANK, DIGIT_0, DIGIT_1, LETTER_P, LETTER_S, LETTER_T, LETTER_X, SLASH};
-use s3_cards::{Name, Retention, go_on_in_name, is_digit, is_word};
+use s3_cards::{Name, Retention, go_on_in_name, is_digit, is_word, number_spelled};
 
 /// What a SWITCH statement does with one switch.
 #[derive(Clone, Copy, Debug, PartialEq, Eq)]
@@ -80,34 +80,18 @@ fn are_digits(text: &[u8]) -> bool
     text.iter().all(|code| is_digit(*code))
 }
 
-/// The number of at most 6 digits.
-#[tactic(auto, using(crate::proofs::NumberLemmas::none_yet, crate::proofs::NumberLemmas::number_next, crate::proofs::NumberLemmas::fits, crate::proofs::NumberLemmas::is_digit_at, crate::proofs::NumberLemmas::digits_right))]
-fn number(digits: &[u8]) -> u32
-    requires short { length digits.now ≤ 6 }
-    requires digits { IsTrue (list_all digit_spec digits.now) }
-    ensures value { result ≡ number_of digits.now }
-{
-    let mut number = 0;
-    for code in digits {
-        number = number * 10 + u32::from(*code - DIGIT_0);
-    }
-    number
-}
-
 /// A number of at most so many digits that isn't 0.
 #[tactic(auto, unfolding(crate::specs::Values::count_value))]
 pub fn count_value(limit: usize, text: &[u8]) -> Option<Value>
     requires { limit ≤ 6 }
     ensures { result ≡ count_value_spec limit text.now }
 {
-    if text.len() > limit || !are_digits(text) {
+    if text.len() > limit {
         return None;
     }
-    let count = number(text);
-    if count == 0 {
-        None
-    } else {
-        Some(Value::Count(count))
+    match number_spelled(DIGIT_0, text)? {
+        0 => None,
+        count => Some(Value::Count(count)),
     }
 }
 

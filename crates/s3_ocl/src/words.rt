@@ -2,61 +2,58 @@
 ghost use Rattle.std.specs.Prelude.{◌≡◌};
 ghost use Rattle.s3_ocl.specs.Words.{words as words_spec, punched_words};
 
-use s3_cards::ebcdic::{
-    DIGIT_1, DIGIT_2, DOLLAR, LETTER_A, LETTER_B, LETTER_C, LETTER_D, LETTER_E, LETTER_F, LETTER_G,
-    LETTER_H, LETTER_I, LETTER_K, LETTER_L, LETTER_M, LETTER_N, LETTER_O, LETTER_P, LETTER_R,
-    LETTER_S, LETTER_T, LETTER_U, LETTER_W,
-};
+use s3_cards::punched;
 
 /// The keyword `LOAD`.
-pub const LOAD: [u8; 4] = [LETTER_L, LETTER_O, LETTER_A, LETTER_D];
+pub const LOAD: [u8; 4] = punched!(4, b"LOAD");
 
 /// The keyword `FILE`.
-pub const FILE: [u8; 4] = [LETTER_F, LETTER_I, LETTER_L, LETTER_E];
+pub const FILE: [u8; 4] = punched!(4, b"FILE");
 
 /// The keyword `DATE`.
-pub const DATE: [u8; 4] = [LETTER_D, LETTER_A, LETTER_T, LETTER_E];
+pub const DATE: [u8; 4] = punched!(4, b"DATE");
 
 /// The keyword `SWITCH`.
-pub const SWITCH: [u8; 6] = [LETTER_S, LETTER_W, LETTER_I, LETTER_T, LETTER_C, LETTER_H];
+pub const SWITCH: [u8; 6] = punched!(6, b"SWITCH");
 
 /// The keyword `RUN`.
-pub const RUN: [u8; 3] = [LETTER_R, LETTER_U, LETTER_N];
+pub const RUN: [u8; 3] = punched!(3, b"RUN");
 
 /// The parameter `NAME` of FILE.
-pub const NAME: [u8; 4] = [LETTER_N, LETTER_A, LETTER_M, LETTER_E];
+pub const NAME: [u8; 4] = punched!(4, b"NAME");
 
 /// The parameter `UNIT` of FILE.
-pub const UNIT: [u8; 4] = [LETTER_U, LETTER_N, LETTER_I, LETTER_T];
+pub const UNIT: [u8; 4] = punched!(4, b"UNIT");
 
 /// The parameter `PACK` of FILE.
-pub const PACK: [u8; 4] = [LETTER_P, LETTER_A, LETTER_C, LETTER_K];
+pub const PACK: [u8; 4] = punched!(4, b"PACK");
 
 /// The parameter `LABEL` of FILE.
-pub const LABEL: [u8; 5] = [LETTER_L, LETTER_A, LETTER_B, LETTER_E, LETTER_L];
+pub const LABEL: [u8; 5] = punched!(5, b"LABEL");
 
 /// The parameter `RECORDS` of FILE.
-pub const RECORDS: [u8; 7] = [
-    LETTER_R, LETTER_E, LETTER_C, LETTER_O, LETTER_R, LETTER_D, LETTER_S,
-];
+pub const RECORDS: [u8; 7] = punched!(7, b"RECORDS");
 
 /// The parameter `TRACKS` of FILE.
-pub const TRACKS: [u8; 6] = [LETTER_T, LETTER_R, LETTER_A, LETTER_C, LETTER_K, LETTER_S];
+pub const TRACKS: [u8; 6] = punched!(6, b"TRACKS");
 
 /// The parameter `RETAIN` of FILE.
-pub const RETAIN: [u8; 6] = [LETTER_R, LETTER_E, LETTER_T, LETTER_A, LETTER_I, LETTER_N];
+pub const RETAIN: [u8; 6] = punched!(6, b"RETAIN");
 
 /// The unit `R1`.
-pub const R1: [u8; 2] = [LETTER_R, DIGIT_1];
+pub const R1: [u8; 2] = punched!(2, b"R1");
 
 /// The unit `R2`.
-pub const R2: [u8; 2] = [LETTER_R, DIGIT_2];
+pub const R2: [u8; 2] = punched!(2, b"R2");
 
 /// The unit `F1`.
-pub const F1: [u8; 2] = [LETTER_F, DIGIT_1];
+pub const F1: [u8; 2] = punched!(2, b"F1");
 
 /// The unit `F2`.
-pub const F2: [u8; 2] = [LETTER_F, DIGIT_2];
+pub const F2: [u8; 2] = punched!(2, b"F2");
+
+/// `$RPG`, the name of the compiler.
+pub const COMPILER: [u8; 8] = punched!(8, b"$RPG    ");
 
 /// The definitions' words are these texts as they are punched.
 #[tactic(auto, unfolding(s3_cards::specs::Codes::ebcdic, s3_cards::specs::Codes::code_page))]

@@ -1,0 +1,31 @@
+//! Numbers as their digits spell them.
+ghost use Rattle.std.specs.Prelude.{◌≡◌, ◌<◌, ◌≤◌, ◌^◌, IfSome, length};
+ghost use Rattle.s3_cards.specs.Numbers.{is_digit_from, spelled_number};
+
+/// Whether a code is one of the ten from that of 0 on.
+fn is_one_of_ten(zero: u8, code: u8) -> bool
+    requires { zero ≤ 246 }
+    ensures { result ≡ is_digit_from zero code }
+{
+    zero <= code && code <= zero + 9
+}
+
+/// The number that at most nine digits spell; `None` where one of them is no digit. No digits spell 0.
+///
+/// `zero` is the code of 0, behind which those of 1 to 9 lie in order: `DIGIT_0` on cards, and `b'0'` in texts.
+#[tactic(auto, using(crate::proofs::NumberLemmas::none_yet, crate::proofs::NumberLemmas::number_next, crate::proofs::NumberLemmas::fits, crate::proofs::NumberLemmas::digits_wrong, crate::proofs::NumberLemmas::digits_right))]
+pub fn number_spelled(zero: u8, digits: &[u8]) -> Option<u32>
+    requires zero { zero ≤ 246 }
+    requires short { length digits.now ≤ 9 }
+    ensures value { result ≡ spelled_number zero digits.now }
+    ensures below { IfSome result (λ number. number < 10 ^ length digits.now) }
+{
+    let mut number = 0;
+    for code in digits {
+        if !is_one_of_ten(zero, *code) {
+            return None;
+        }
+        number = number * 10 + u32::from(*code - zero);
+    }
+    Some(number)
+}

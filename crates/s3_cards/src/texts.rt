@@ -1,0 +1,29 @@
+//! Blanks and words in texts of EBCDIC codes.
+ghost use Rattle.std.specs.Prelude.{◌≡◌, ◌≤◌, length};
+ghost use Rattle.std.specs.List.{list_all, prefix_len};
+ghost use Rattle.s3_cards.specs.Names.{is_blank as blank_spec, is_mark};
+
+use super::ebcdic::BLANK;
+
+/// How many blanks stand in front.
+pub fn blanks_in_front(text: &[u8]) -> usize
+    ensures within { result ≤ length text.now }
+    ensures value { result ≡ prefix_len blank_spec text.now }
+{
+    text.iter().take_while(|code| **code == BLANK).count()
+}
+
+/// How many codes stand before the first blank.
+pub fn word_len(text: &[u8]) -> usize
+    ensures within { result ≤ length text.now }
+    ensures value { result ≡ prefix_len is_mark text.now }
+{
+    text.iter().take_while(|code| **code != BLANK).count()
+}
+
+/// Whether all codes are blanks.
+pub fn are_blank(text: &[u8]) -> bool
+    ensures { result ≡ list_all blank_spec text.now }
+{
+    text.iter().all(|code| *code == BLANK)
+}
