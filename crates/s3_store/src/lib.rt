@@ -2,14 +2,18 @@
 
 #![tactic(auto)]
 
+mod extents;
 mod fuse;
 mod memory;
 mod pack_store;
 mod pool_fault;
 mod sectors;
+mod stretch;
 
+pub use extents::Extents;
 pub use fuse::FuseStore;
 pub use memory::MemoryStore;
 pub use pack_store::{PackStore, StoreFault};
 pub use pool_fault::PoolFault;
 pub use sectors::Sectors;
+pub use stretch::Stretch;

@@ -1,0 +1,10 @@
+pub mod Blanks
+pub mod Changes
+pub mod Copies
+pub mod Makes
+pub mod Migrated
+pub mod Mounts
+pub mod Outcomes
+pub mod Parts
+pub mod Regions
+pub mod Ways

@@ -1,0 +1,14 @@
+use Rattle.s3_labels.proofs.Regions.{ready_room}
+use Rattle.s3_labels.proofs.Changes.{drop_kept, label_dropped, ready_with}
+use Rattle.s3_labels.proofs.pack.Pack.drop_label.Goals as goal
+
+pub clear_slot-requires-clause-room : goal.clear_slot-requires-clause-room
+clear_slot-requires-clause-room g c = ready_room _ _ c.requires.ready
+
+pub returns-clause-ok : goal.returns-clause-ok
+returns-clause-ok g c = label_dropped _ _ _ _ _ c.in_ok-place.ensures.ok c.in_ok-place.ensures.place c.free.ensures
+
+pub returns-clause-ready : goal.returns-clause-ready
+returns-clause-ready g c =
+    ready_with _ _ _ _ _ _ _ c.free.ensures c.in_ok-clear_slot.ensures.within c.requires.ready
+    (drop_kept c.args.level c.args.name c.in_ok-place.place c.args.self.now.areas _ c.requires.ready c.in_ok-place.ensures.place)

@@ -1,0 +1,60 @@
+use Rattle.std.proofs.Common.{refl, arith}
+use Rattle.s3_labels.specs.Areas.{area_of, region_at}
+use Rattle.s3_labels.proofs.Regions.{region_fits, region_whole, ready_room}
+use Rattle.s3_labels.proofs.Changes.{made_ready}
+use Rattle.s3_labels.proofs.Makes.{there_for, make_within, blanks_stay}
+use Rattle.s3_labels.proofs.pack.Pack.make.Goals as goal
+
+pub make-requires-clause-fits : goal.make-requires-clause-fits
+make-requires-clause-fits g c = region_fits c.args.level c.args.self.now.areas _ (region_at c.args.level c.args.self.now.areas) c.requires.ready refl
+
+pub make-requires-clause-whole : goal.make-requires-clause-whole
+make-requires-clause-whole g c = region_whole c.args.level c.args.self.now.areas _ (region_at c.args.level c.args.self.now.areas) c.requires.ready refl
+
+pub write_records-requires-clause-there : goal.write_records-requires-clause-there
+write_records-requires-clause-there g c = (there_for c.args.level c.args.self.now.areas _ c.in_ok-made.made.label c.requires.ready c.in_ok-made.ensures.placed).stored
+
+pub write_records-requires-clause-few : goal.write_records-requires-clause-few
+write_records-requires-clause-few g c = (there_for c.args.level c.args.self.now.areas _ c.in_ok-made.made.label c.requires.ready c.in_ok-made.ensures.placed).few
+
+pub write_made-requires-clause-room : goal.write_made-requires-clause-room
+write_made-requires-clause-room g c = let r = ready_room c.args.self.now.areas _ c.requires.ready in omega (arith, r, c.in_ok-write_records.ensures.within.count)
+
+pub returns-in_err-write_made-clause-within : goal.returns-in_err-write_made-clause-within
+returns-in_err-write_made-clause-within g c =
+    make_within (area_of c.args.level) c.args.new.now.name _ c.in_ok-made.made.label _ _ _
+    (record { slots = _; at = c.in_ok-made.made.at; is = c.in_ok-made.ensures.ok; there = c.in_ok-made.ensures.there; named = c.in_ok-made.ensures.named })
+    c.in_ok-write_records.ensures.within (rw c.area_of.ensures.value at c.in_err-write_made.ensures.within)
+
+pub returns-clause-blank : goal.returns-clause-blank
+returns-clause-blank g c = λ direct.
+    blanks_stay c.args.level c.args.self.now.areas _ c.area_of.result _ c.in_ok-made.made.label (g.P.Sectors.state c.write_records.new.pool) (g.P.Sectors.state c.write_made.new.pool) c.area_of.ensures.few c.requires.ready
+    c.in_ok-made.ensures.placed c.in_ok-write_made.ensures.within (c.in_ok-write_records.ensures.blank direct)
+
+pub returns-in_err-write_records-clause-ready : goal.returns-in_err-write_records-clause-ready
+returns-in_err-write_records-clause-ready g c =
+    made_ready c.args.level c.args.new.now c.args.self.now.areas c.make.new.self _ (g.P.Sectors.state c.args.self.now.pool) (g.P.Sectors.state c.write_records.new.pool) c.requires.ready c.requires.proper
+    c.in_ok-made.ensures.ok c.in_ok-made.ensures.alone c.in_err-write_records.ensures.within
+
+pub returns-in_err-write_made-clause-ready : goal.returns-in_err-write_made-clause-ready
+returns-in_err-write_made-clause-ready g c =
+    made_ready c.args.level c.args.new.now c.args.self.now.areas c.make.new.self _ (g.P.Sectors.state c.args.self.now.pool) (g.P.Sectors.state c.write_made.new.pool) c.requires.ready c.requires.proper
+    c.in_ok-made.ensures.ok c.in_ok-made.ensures.alone
+    (make_within c.area_of.result c.args.new.now.name _ c.in_ok-made.made.label _ _ _
+    (record { slots = _; at = c.in_ok-made.made.at; is = c.in_ok-made.ensures.ok; there = c.in_ok-made.ensures.there; named = c.in_ok-made.ensures.named })
+    c.in_ok-write_records.ensures.within c.in_err-write_made.ensures.within)
+
+pub returns-clause-ready : goal.returns-clause-ready
+returns-clause-ready g c =
+    made_ready c.args.level c.args.new.now c.args.self.now.areas c.make.new.self _ (g.P.Sectors.state c.args.self.now.pool) (g.P.Sectors.state c.write_made.new.pool) c.requires.ready c.requires.proper
+    c.in_ok-made.ensures.ok c.in_ok-made.ensures.alone
+    (make_within c.area_of.result c.args.new.now.name _ c.in_ok-made.made.label _ _ _
+    (record { slots = _; at = c.in_ok-made.made.at; is = c.in_ok-made.ensures.ok; there = c.in_ok-made.ensures.there; named = c.in_ok-made.ensures.named })
+    c.in_ok-write_records.ensures.within c.in_ok-write_made.ensures.within)
+
+pub returns-clause-written : goal.returns-clause-written
+returns-clause-written g c = record {
+  slot = c.in_ok-made.made.at;
+  there = c.in_ok-made.ensures.there;
+  bytes = rw c.area_of.ensures.value at c.in_ok-write_made.ensures.written;
+}

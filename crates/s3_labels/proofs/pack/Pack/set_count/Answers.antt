@@ -1,0 +1,14 @@
+use Rattle.s3_labels.proofs.Regions.{ready_room}
+use Rattle.s3_labels.proofs.Changes.{count_set, count_kept, ready_with}
+use Rattle.s3_labels.proofs.pack.Pack.set_count.Goals as goal
+
+pub write_count-requires-clause-room : goal.write_count-requires-clause-room
+write_count-requires-clause-room g c = ready_room _ _ c.requires.ready
+
+pub returns-clause-ok : goal.returns-clause-ok
+returns-clause-ok g c = count_set _ _ _ _ _ _ c.in_ok-place.ensures.ok c.in_ok-place.ensures.place c.recount.ensures
+
+pub returns-clause-ready : goal.returns-clause-ready
+returns-clause-ready g c =
+    ready_with _ _ _ _ _ _ _ c.recount.ensures c.in_ok-write_count.ensures.within c.requires.ready
+    (count_kept c.args.level c.args.name c.args.count c.in_ok-place.place c.args.self.now.areas _ c.requires.ready c.in_ok-place.ensures.place c.requires.room)

@@ -1,0 +1,4 @@
+pub mod Areas
+pub mod Images
+pub mod Samples
+pub mod Written

@@ -1,0 +1,135 @@
+//! Why calls on a pack are refused.
+use s3_slots::{LabelFault, MountFault};
+use s3_store::PoolFault;
+use std::alloc::{AllocError, AllocFailed};
+use thiserror::Error;
+
+/// Why a pack isn't mounted.
+#[derive(Clone, Copy, Debug, PartialEq, Eq, Error)]
+pub enum Refusal {
+    /// Its header isn't accepted.
+    #[error("not a pack")]
+    BadPack(MountFault),
+    /// Its sectors couldn't be read.
+    #[error("its sectors can't be read")]
+    Sectors(PoolFault),
+}
+
+impl From<PoolFault> for Refusal {
+    ghost use Rattle.std.specs.Prelude.{◌≡◌};
+    ghost use Rattle.s3_labels.specs.declared.fault.Refusal.TheVariants.{Sectors as SectorsVariant};
+
+    ghost from_gives = { λ fault refusal. refusal ≡ SectorsVariant fault };
+
+    fn from(fault: PoolFault) -> Self {
+        Refusal::Sectors(fault)
+    }
+}
+
+/// Why a label isn't changed.
+#[derive(Clone, Copy, Debug, PartialEq, Eq, Error)]
+pub enum ChangeFault {
+    /// The slots don't allow it.
+    #[error("the labels don't allow it")]
+    Label(LabelFault),
+    /// The sectors failed.
+    #[error("its sectors can't be read or written")]
+    Sectors(PoolFault),
+}
+
+impl From<LabelFault> for ChangeFault {
+    ghost use Rattle.std.specs.Prelude.{◌≡◌};
+    ghost use Rattle.s3_labels.specs.declared.fault.ChangeFault.TheVariants.{Label as LabelVariant};
+
+    ghost from_gives = { λ fault refusal. refusal ≡ LabelVariant fault };
+
+    fn from(fault: LabelFault) -> Self {
+        ChangeFault::Label(fault)
+    }
+}
+
+impl From<PoolFault> for ChangeFault {
+    ghost use Rattle.std.specs.Prelude.{◌≡◌};
+    ghost use Rattle.s3_labels.specs.declared.fault.ChangeFault.TheVariants.{Sectors as SectorsVariant};
+
+    ghost from_gives = { λ fault refusal. refusal ≡ SectorsVariant fault };
+
+    fn from(fault: PoolFault) -> Self {
+        ChangeFault::Sectors(fault)
+    }
+}
+
+/// Why a list of files couldn't be made.
+#[derive(Clone, Copy, Debug, PartialEq, Eq, Error)]
+pub enum PlanFault {
+    /// The first file that would be refused, by its place in the list from 0, and why.
+    #[error("file {0} would be refused")]
+    File(usize, LabelFault),
+    /// A growth was refused.
+    #[error("out of memory")]
+    NoMemory,
+}
+
+impl From<AllocError> for PlanFault {
+    ghost use Rattle.std.specs.Prelude.{◌≡◌};
+    ghost use Rattle.s3_labels.specs.declared.fault.PlanFault.TheVariants.{NoMemory as NoMemoryVariant};
+
+    ghost from_gives = { λ _ fault. fault ≡ NoMemoryVariant };
+
+    fn from(_: AllocError) -> Self {
+        PlanFault::NoMemory
+    }
+}
+
+/// Why a new pack isn't written.
+#[derive(Clone, Copy, Debug, PartialEq, Eq, Error)]
+pub enum ImageFault {
+    /// The old pack isn't mounted.
+    #[error("the old pack can't be mounted")]
+    Mount(MountFault),
+    /// There are more than 2,723 tracks.
+    #[error("too many tracks")]
+    TooLarge,
+    /// A growth was refused.
+    #[error("out of memory")]
+    NoMemory,
+    /// The quotas aren't 1 to 127, together at most 128.
+    #[error("no such quotas")]
+    BadQuota,
+}
+
+impl From<AllocError> for ImageFault {
+    ghost use Rattle.std.specs.Prelude.{◌≡◌};
+    ghost use Rattle.s3_labels.specs.declared.fault.ImageFault.TheVariants.{NoMemory as NoMemoryVariant};
+
+    ghost from_gives = { λ _ fault. fault ≡ NoMemoryVariant };
+
+    fn from(_: AllocError) -> Self {
+        ImageFault::NoMemory
+    }
+}
+
+/// Why a pack isn't brought into the second format.
+#[derive(Clone, Copy, Debug, PartialEq, Eq, Error)]
+pub enum MigrateFault {
+    /// It isn't mounted.
+    #[error("the pack can't be mounted")]
+    Mount(MountFault),
+    /// It is in the second format.
+    #[error("the pack is in the second format")]
+    AlreadyNew,
+    /// A growth was refused.
+    #[error("out of memory")]
+    NoMemory,
+}
+
+impl From<AllocError> for MigrateFault {
+    ghost use Rattle.std.specs.Prelude.{◌≡◌};
+    ghost use Rattle.s3_labels.specs.declared.fault.MigrateFault.TheVariants.{NoMemory as NoMemoryVariant};
+
+    ghost from_gives = { λ _ fault. fault ≡ NoMemoryVariant };
+
+    fn from(_: AllocError) -> Self {
+        MigrateFault::NoMemory
+    }
+}

@@ -1,0 +1,66 @@
+//! The labels of a pack, read.
+ghost use Rattle.std.specs.Prelude.{◌≡◌, ◌≢◌, ◌≤◌, ◌<◌, ◌+◌, length, IfOk, IfErr};
+ghost use Rattle.s3_store.specs.State.{KeepsContents};
+ghost use Rattle.s3_store.specs.Failures.{failed_transfers};
+ghost use Rattle.s3_store.specs.Bytes.{sector_bytes};
+ghost use Rattle.s3_slots.specs.Slots.{slot_bytes, slots_of};
+
+use s3_slots::{Format, Slot, judge};
+use s3_store::{PoolFault, Sectors, Stretch};
+use std::alloc::Global;
+
+/// The bytes of a sector.
+#[tactic(auto, using(crate::proofs::Ways::sector_read))]
+pub fn read_at<P: Sectors>(pool: &mut P, n: u16) -> Result<[u8; 256], PoolFault>
+    requires { n < length (P.state pool.old).contents }
+    ensures ok { IfOk result (λ bytes. bytes ≡ sector_bytes (P.state pool.old).contents n) }
+    ensures keeps { KeepsContents (P.state pool.old) (P.state pool.new) }
+    ensures failures { (P.state pool.new).failures ≡ (P.state pool.old).failures + failed_transfers result }
+    ensures fault { IfErr result (λ fault. fault ≢ PoolFault.NoSector) }
+{
+    let mut bytes = [0; 256];
+    pool.read_sector(n, &mut bytes)?;
+    Ok(bytes)
+}
+
+/// The bytes of a slot.
+pub fn read_slot<P: Sectors>(pool: &mut P, area: u16, i: u16) -> Result<[u8; 64], PoolFault>
+    requires area { area < 3 }
+    requires slot { i < 32 }
+    requires room { 25 ≤ length (P.state pool.old).contents }
+    ensures ok { IfOk result (λ bytes. bytes ≡ slot_bytes area (P.state pool.old).contents i) }
+    ensures keeps { KeepsContents (P.state pool.old) (P.state pool.new) }
+    ensures failures { (P.state pool.new).failures ≡ (P.state pool.old).failures + failed_transfers result }
+    ensures fault { IfErr result (λ fault. fault ≢ PoolFault.NoSector) }
+{
+    let sector = read_at(pool, 1 + 8 * area + i / 4)?;
+    let at = usize::from(i % 4) * 64;
+    let mut bytes = [0; 64];
+    bytes.copy_from_slice(&sector[at..at + 64]);
+    Ok(bytes)
+}
+
+/// The slots of an area, judged in their order.
+pub fn read_slots<P: Sectors>(
+    alloc: Global,
+    pool: &mut P,
+    format: Format,
+    region: Stretch,
+    area: u16,
+) -> Result<Vec<Slot>, PoolFault>
+    requires area { area < 3 }
+    requires room { 25 ≤ length (P.state pool.old).contents }
+    ensures slots { IfOk result (λ slots. slots.items ≡ slots_of format region area (P.state pool.old).contents) }
+    ensures count { IfOk result (λ slots. length slots.items ≡ 32) }
+    ensures keeps { KeepsContents (P.state pool.old) (P.state pool.new) }
+    ensures failures { (P.state pool.new).failures ≡ (P.state pool.old).failures + failed_transfers result }
+    ensures fault { IfErr result (λ fault. fault ≢ PoolFault.NoSector) }
+{
+    let mut slots = Vec::new(alloc);
+    for i in 0..32u16 {
+        let bytes = read_slot(pool, area, i)?;
+        let slot = judge(format, region, &slots, &bytes);
+        slots.push(slot)?;
+    }
+    Ok(slots)
+}

@@ -1,0 +1,10 @@
+pub mod Capacities
+pub mod Keeping
+pub mod Makes
+pub mod Places
+pub mod Ranges
+pub mod Rooms
+pub mod Runs
+pub mod NewFiles
+pub mod SlotLemmas
+pub mod Judging

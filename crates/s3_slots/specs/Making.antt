@@ -1,0 +1,171 @@
+-- Making files, setting counts and dropping labels: what becomes of the slots of an area.
+use Rattle.std.specs.Prelude.{◌≡◌, ◌≤◌, ℕ, zero, suc, ◌+◌, ◌*◌, ◌/◌, Bool, true, false, nat_le, List, [], ◌∷◌, slice_get, slice_set, Option, Some, None, Result, Ok, Err, if◌then◌else◌}
+use Rattle.std.specs.List.{list_any, position_from}
+use Rattle.s3_cards.specs.declared.name.Name.{Name}
+use Rattle.s3_cards.specs.Names.{is_name}
+use Rattle.s3_slots.specs.Stretches.{sectors_of_tracks, tracks_for}
+use Rattle.s3_slots.specs.Slots.{standing, bears, sectors_needed, is_key_of}
+use Rattle.s3_slots.specs.Placement.{free_slot, placed}
+use Rattle.s3_slots.specs.declared.header.Format.{Format}
+use Rattle.s3_slots.specs.declared.label.FileLabel.{FileLabel}
+use Rattle.s3_slots.specs.declared.label.Organization.{Organization}
+use Rattle.s3_slots.specs.declared.label.Organization.TheVariants.{Direct}
+use Rattle.s3_cards.specs.declared.retention.Retention.{Retention}
+use Rattle.s3_cards.specs.declared.retention.Retention.TheVariants.{Permanent}
+use Rattle.s3_slots.specs.declared.making.LabelFault.{LabelFault}
+use Rattle.s3_slots.specs.declared.making.LabelFault.TheVariants.{DamagedLabel, Master, NoSlot, NoSpace, NotFound, Retained}
+use Rattle.s3_slots.specs.declared.making.NewFile.{NewFile}
+use Rattle.s3_slots.specs.declared.making.Size.{Size}
+use Rattle.s3_slots.specs.declared.making.Size.TheVariants.{Records, Tracks}
+use Rattle.s3_slots.specs.declared.slot.Slot.{Slot}
+use Rattle.s3_slots.specs.declared.slot.Slot.TheVariants.{Free, Sound}
+use Rattle.s3_slots.specs.declared.slot.Standing.{Standing}
+use Rattle.s3_slots.specs.declared.slot.Standing.TheVariants.{Absent, Blocked, Present}
+use Rattle.s3_store.specs.declared.stretch.Stretch.{Stretch}
+
+-- ---- what may be asked for
+-- so many records or tracks
+abbrev pub IsSize : Size → Type 0
+IsSize (Records n) = (1 ≤ n) × (n ≤ 999999)
+IsSize (Tracks n) = (1 ≤ n) × (n ≤ 999)
+
+-- a file that may be made, where there is room
+pub record IsNewFile (new : NewFile) : Type 0 where
+  pub named : is_name new.name.codes ≡ true
+  pub length : (1 ≤ new.record_length) × (new.record_length ≤ 1024)
+  pub key : is_key_of new.organization new.record_length new.key_length new.key_start ≡ true
+  pub size : IsSize new.size
+
+-- ---- its size
+-- the greatest number up to n that passes a test, or 0
+abbrev pub greatest : (ℕ → Bool) → ℕ → ℕ
+greatest test zero = 0
+greatest test (suc n) = elim (test (suc n)) as (λ is_so. ℕ) [ true ↦ suc n | false ↦ greatest test n ]
+
+-- the greatest capacity that fits so many sectors
+unfoldable pub greatest_capacity : NewFile → ℕ → ℕ
+greatest_capacity new sectors =
+    greatest (λ capacity. nat_le (sectors_needed new.organization new.record_length new.key_length capacity) sectors) (sectors * 256 / new.record_length)
+
+abbrev pub tracks_of_size : NewFile → Size → ℕ
+tracks_of_size new (Records n) = tracks_for (sectors_needed new.organization new.record_length new.key_length n)
+tracks_of_size new (Tracks n) = n
+
+abbrev pub tracks_of : NewFile → ℕ
+tracks_of new = tracks_of_size new new.size
+
+abbrev pub capacity_of_size : NewFile → Size → ℕ
+capacity_of_size new (Records n) = n
+capacity_of_size new (Tracks n) = greatest_capacity new (sectors_of_tracks n)
+
+abbrev pub capacity_of : NewFile → ℕ
+capacity_of new = capacity_of_size new new.size
+
+-- a direct file is full of blank records from the start
+abbrev pub first_count : Organization → ℕ → ℕ
+first_count Direct capacity = capacity
+first_count _ capacity = 0
+
+unfoldable pub new_label : NewFile → List Stretch → FileLabel
+new_label new extents =
+    record {
+      name = new.name;
+      organization = new.organization;
+      retention = new.retention;
+      record_length = new.record_length;
+      key_length = new.key_length;
+      key_start = new.key_start;
+      extents = extents;
+      capacity = capacity_of new;
+      count = first_count new.organization (capacity_of new);
+      date = new.date;
+    }
+
+-- ---- what is done to the slots
+-- the slots with what a label becomes in the slot at this place
+abbrev pub changed_at : (FileLabel → Slot) → List Slot → ℕ → Option Slot → List Slot
+changed_at change slots i (Some (Sound label)) = slice_set slots i (change label)
+changed_at change slots i _ = slots
+
+abbrev pub changed_in : (FileLabel → Slot) → List Slot → Option ℕ → List Slot
+changed_in change slots None = slots
+changed_in change slots (Some i) = changed_at change slots i (slice_get slots i)
+
+-- without the file of that label
+unfoldable pub dropped : Name → List Slot → List Slot
+dropped name slots = changed_in (λ label. Free) slots (position_from (bears name) 0 slots)
+
+-- the count of that label's file is n
+unfoldable pub counted : Name → ℕ → List Slot → List Slot
+counted name n slots = changed_in (λ label. Sound (record label { count = n })) slots (position_from (bears name) 0 slots)
+
+-- a new file in a slot, with its extents
+abbrev pub put_in : NewFile → List Slot → ℕ → Option (List Stretch) → Result (List Slot) LabelFault
+put_in new slots at None = Err NoSpace
+put_in new slots at (Some extents) = Ok (slice_set slots at (Sound (new_label new extents)))
+
+abbrev pub put_at : Format → Stretch → NewFile → List Slot → Option ℕ → Result (List Slot) LabelFault
+put_at format region new slots None = Err NoSlot
+put_at format region new slots (Some at) = put_in new slots at (placed format region slots (tracks_of new))
+
+abbrev pub put : Format → Stretch → NewFile → List Slot → Result (List Slot) LabelFault
+put format region new slots = put_at format region new slots (free_slot slots)
+
+abbrev pub is_permanent : Retention → Bool
+is_permanent Permanent = true
+is_permanent _ = false
+
+-- in place of what stands under its label
+abbrev pub put_over : Format → Stretch → NewFile → List Slot → Standing → Result (List Slot) LabelFault
+put_over format region new slots Absent = put format region new slots
+put_over format region new slots Blocked = Err DamagedLabel
+put_over format region new slots (Present old) = if is_permanent old.retention then Err Retained else put format region new (dropped new.name slots)
+
+-- the slots of an area after a make, beside those of the masters
+unfoldable pub made : Format → Stretch → (masters : List Slot) → NewFile → List Slot → Result (List Slot) LabelFault
+made format region masters new slots =
+    if list_any (bears new.name) masters then Err Master else put_over format region new slots (standing new.name slots)
+
+-- what follows a make, or its refusal with the place of the file
+abbrev pub and_then : ℕ → Result (List Slot) LabelFault → (List Slot → Result (List Slot) (ℕ × LabelFault)) → Result (List Slot) (ℕ × LabelFault)
+and_then at (Ok slots) go = go slots
+and_then at (Err fault) go = Err (at, fault)
+
+-- the slots after these makes, or the first refusal with its place
+abbrev pub planned : ℕ → Format → Stretch → (masters : List Slot) → List NewFile → List Slot → Result (List Slot) (ℕ × LabelFault)
+planned at format region masters [] slots = Ok slots
+planned at format region masters (new ∷ news) slots =
+    and_then at (made format region masters new slots) (planned (at + 1) format region masters news)
+
+-- ---- labels of the own area alone
+abbrev pub refusal : Standing → Option LabelFault
+refusal Absent = Some NotFound
+refusal Blocked = Some DamagedLabel
+refusal (Present label) = None
+
+abbrev pub unless_refused : Option LabelFault → List Slot → Result (List Slot) LabelFault
+unless_refused None slots = Ok slots
+unless_refused (Some fault) slots = Err fault
+
+-- the slots after the count of a file was set
+abbrev pub with_count : Name → ℕ → List Slot → Result (List Slot) LabelFault
+with_count name n slots = unless_refused (refusal (standing name slots)) (counted name n slots)
+
+-- the slots after a label was dropped, whatever its retention
+abbrev pub without_label : Name → List Slot → Result (List Slot) LabelFault
+without_label name slots = unless_refused (refusal (standing name slots)) (dropped name slots)
+
+-- ---- a label for a level: its own area, then the masters
+abbrev pub file_in_masters : Standing → Result (FileLabel × Bool) LabelFault
+file_in_masters Absent = Err NotFound
+file_in_masters Blocked = Err DamagedLabel
+file_in_masters (Present label) = Ok (label, true)
+
+abbrev pub file_in : Standing → (masters : Standing) → Result (FileLabel × Bool) LabelFault
+file_in Absent masters = file_in_masters masters
+file_in Blocked masters = Err DamagedLabel
+file_in (Present label) masters = Ok (label, false)
+
+-- the file of that label, and whether it is a master's
+unfoldable pub found : Name → (own masters : List Slot) → Result (FileLabel × Bool) LabelFault
+found name own masters = file_in (standing name own) (standing name masters)

@@ -1,0 +1,295 @@
+//! The making of files.
+
+ghost use Rattle.std.specs.Prelude.{◌≡◌, ◌≤◌, ◌<◌, ◌+◌, Ok, Err, OnOk, OnErr, IfOk, IfErr, IfSome, length, slice_get, slice_set, Some, None, true};
+ghost use Rattle.std.specs.List.{list_any};
+ghost use Rattle.s3_slots.specs.Slots.{standing as standing_spec, are_extents};
+ghost use Rattle.s3_slots.specs.Stretches.{IsWhole};
+ghost use Rattle.s3_slots.specs.declared.slot.Standing.TheVariants.{Present};
+ghost use Rattle.s3_slots.specs.declared.slot.Slot.TheVariants.{Sound};
+ghost use Rattle.s3_slots.specs.Making.{greatest_capacity as greatest_capacity_spec, tracks_of as tracks_of_spec, capacity_of as capacity_of_spec, first_count as first_count_spec, new_label as new_label_spec, put as put_spec, dropped, put_over as put_over_spec, made as made_spec};
+
+use crate::header::Format;
+use crate::label::{FileLabel, Organization};
+use crate::placement::{free_slot, placed};
+use crate::slot::{Slot, Standing, any_bears, place_of, sectors_needed, standing_of};
+use s3_cards::{Name, Retention};
+use s3_store::{Extents, Stretch};
+
+/// Why a call on labels is refused.
+#[derive(Clone, Copy, Debug, PartialEq, Eq)]
+pub enum LabelFault {
+    /// No file has that label.
+    NotFound,
+    /// A damaged slot has that label.
+    DamagedLabel,
+    /// A master has that label.
+    Master,
+    /// There is no room.
+    NoSpace,
+    /// The file there is permanent.
+    Retained,
+    /// No slot is free.
+    NoSlot,
+}
+
+/// How large a new file is to be.
+#[derive(Clone, Copy, Debug, PartialEq, Eq)]
+pub enum Size {
+    /// For so many records.
+    Records(u32),
+    /// Of so many tracks.
+    Tracks(u16),
+}
+
+/// A file to be made.
+#[derive(Clone, Copy, Debug, PartialEq, Eq)]
+pub struct NewFile {
+    /// Its name.
+    pub name: Name,
+    /// How its records are found.
+    pub organization: Organization,
+    /// How long it is kept.
+    pub retention: Retention,
+    /// The length of each record.
+    pub record_length: u16,
+    /// The length of a key, or 0.
+    pub key_length: u8,
+    /// The first byte of a key, from 1, or 0.
+    pub key_start: u16,
+    /// How large it is to be.
+    pub size: Size,
+    /// The date of its making.
+    pub date: [u8; 6],
+}
+
+/// Which slots a make has changed.
+#[derive(Drop)]
+pub struct Made {
+    /// That of the old file, if there was one.
+    pub freed: Option<usize>,
+    /// That of the new file.
+    pub at: usize,
+    /// The new file's label.
+    pub label: FileLabel,
+}
+
+/// The greatest capacity that fits so many sectors.
+fn greatest_capacity(new: &NewFile, sectors: u32) -> u32
+    requires key { new.now.key_length ≤ 29 }
+    requires length { 1 ≤ new.now.record_length }
+    requires few { sectors ≤ 1572840 }
+    ensures { result ≡ greatest_capacity_spec new.now sectors }
+{
+    let mut capacity = sectors * 256 / u32::from(new.record_length);
+    while capacity > 0
+        && sectors_needed(
+            new.organization,
+            new.record_length,
+            new.key_length,
+            capacity,
+        ) > u64::from(sectors)
+    {
+        capacity -= 1;
+    }
+    capacity
+}
+
+/// How many tracks a new file takes.
+fn tracks_of(new: &NewFile) -> u64
+    requires key { new.now.key_length ≤ 29 }
+    ensures value { result ≡ tracks_of_spec new.now }
+    ensures few { result ≤ 2199023255552 }
+{
+    match new.size {
+        Size::Records(n) => {
+            (sectors_needed(new.organization, new.record_length, new.key_length, n) + 23) / 24
+        }
+        Size::Tracks(n) => u64::from(n),
+    }
+}
+
+/// For how many records a new file has room.
+fn capacity_of(new: &NewFile) -> u32
+    requires key { new.now.key_length ≤ 29 }
+    requires length { 1 ≤ new.now.record_length }
+    ensures { result ≡ capacity_of_spec new.now }
+{
+    match new.size {
+        Size::Records(n) => n,
+        Size::Tracks(n) => greatest_capacity(new, 24 * u32::from(n)),
+    }
+}
+
+/// The count of a new file's records.
+fn first_count(organization: Organization, capacity: u32) -> u32
+    ensures { result ≡ first_count_spec organization capacity }
+{
+    match organization {
+        Organization::Direct => capacity,
+        Organization::Sequential | Organization::Indexed => 0,
+    }
+}
+
+/// The label of a new file.
+#[tactic(auto, unfolding(crate::specs::Making::new_label))]
+fn new_label(new: &NewFile, extents: Extents) -> FileLabel
+    requires key { new.now.key_length ≤ 29 }
+    requires length { 1 ≤ new.now.record_length }
+    ensures { result ≡ new_label_spec new.now extents }
+{
+    let capacity = capacity_of(new);
+    FileLabel {
+        name: new.name,
+        organization: new.organization,
+        retention: new.retention,
+        record_length: new.record_length,
+        key_length: new.key_length,
+        key_start: new.key_start,
+        extents,
+        capacity,
+        count: first_count(new.organization, capacity),
+        date: new.date,
+    }
+}
+
+/// Puts a new file into the lowest free slot, which it answers.
+#[tactic(auto, using(crate::proofs::Rooms::placed_extents), unfolding(crate::specs::Making::new_label))]
+fn put(
+    format: Format,
+    region: Stretch,
+    new: &NewFile,
+    slots: &mut [Slot],
+) -> Result<Made, LabelFault>
+    requires fits { region.start + region.sectors ≤ 65535 }
+    requires key { new.now.key_length ≤ 29 }
+    requires length { 1 ≤ new.now.record_length }
+    requires whole { IsWhole region }
+    requires tracks { 1 ≤ tracks_of_spec new.now }
+    ensures ok { OnOk result (put_spec format region new.now slots.old ≡ Ok slots.new) }
+    ensures err { IfErr result (λ fault. put_spec format region new.now slots.old ≡ Err fault) }
+    ensures same { OnErr result (slots.new ≡ slots.old) }
+    ensures within { IfOk result (λ made. made.at < length slots.old) }
+    ensures placed { IfOk result (λ made. are_extents region made.label.extents ≡ true) }
+    ensures named { IfOk result (λ made. made.label.name ≡ new.now.name) }
+    ensures there { IfOk result (λ made. slice_get slots.new made.at ≡ Some (Sound made.label)) }
+    ensures freed { IfOk result (λ made. made.freed ≡ None) }
+{
+    let at = match free_slot(slots) {
+        Some(at) => at,
+        None => return Err(LabelFault::NoSlot),
+    };
+    let extents = match placed(format, region, slots, tracks_of(new)) {
+        Some(extents) => extents,
+        None => return Err(LabelFault::NoSpace),
+    };
+    let label = new_label(new, extents);
+    slots[at] = Slot::Sound(label.copied());
+    Ok(Made {
+        freed: None,
+        at,
+        label,
+    })
+}
+
+/// Puts a new file in place of what stands under its name.
+fn put_over(
+    format: Format,
+    region: Stretch,
+    new: &NewFile,
+    slots: &mut [Slot],
+) -> Result<Made, LabelFault>
+    requires fits { region.start + region.sectors ≤ 65535 }
+    requires key { new.now.key_length ≤ 29 }
+    requires length { 1 ≤ new.now.record_length }
+    requires whole { IsWhole region }
+    requires tracks { 1 ≤ tracks_of_spec new.now }
+    ensures ok { OnOk result (put_over_spec format region new.now slots.old (standing_spec new.now.name slots.old) ≡ Ok slots.new) }
+    ensures err { IfErr result (λ fault. put_over_spec format region new.now slots.old (standing_spec new.now.name slots.old) ≡ Err fault) }
+    ensures same { OnErr result (slots.new ≡ slots.old) }
+    ensures within { IfOk result (λ made. made.at < length slots.old) }
+    ensures placed { IfOk result (λ made. are_extents region made.label.extents ≡ true) }
+    ensures named { IfOk result (λ made. made.label.name ≡ new.now.name) }
+    ensures there { IfOk result (λ made. slice_get slots.new made.at ≡ Some (Sound made.label)) }
+    ensures freed { IfOk result (λ made. IfSome made.freed (λ i. i < length slots.old)) }
+{
+    match standing_of(new.name, slots) {
+        Standing::Blocked => Err(LabelFault::DamagedLabel),
+        Standing::Absent => put(format, region, new, slots),
+        Standing::Present(old) => {
+            if old.retention == Retention::Permanent {
+                return Err(LabelFault::Retained);
+            }
+            put_instead(format, region, new, old, slots)
+        }
+    }
+}
+
+/// Puts a new file in place of the old one of its name.
+fn put_instead(
+    format: Format,
+    region: Stretch,
+    new: &NewFile,
+    old: FileLabel,
+    slots: &mut [Slot],
+) -> Result<Made, LabelFault>
+    requires fits { region.start + region.sectors ≤ 65535 }
+    requires key { new.now.key_length ≤ 29 }
+    requires length { 1 ≤ new.now.record_length }
+    requires whole { IsWhole region }
+    requires tracks { 1 ≤ tracks_of_spec new.now }
+    requires old { standing_spec new.now.name slots.old ≡ Present old }
+    ensures ok { OnOk result (put_spec format region new.now (dropped new.now.name slots.old) ≡ Ok slots.new) }
+    ensures err { IfErr result (λ fault. put_spec format region new.now (dropped new.now.name slots.old) ≡ Err fault) }
+    ensures same { OnErr result (slots.new ≡ slots.old) }
+    ensures within { IfOk result (λ made. made.at < length slots.old) }
+    ensures placed { IfOk result (λ made. are_extents region made.label.extents ≡ true) }
+    ensures named { IfOk result (λ made. made.label.name ≡ new.now.name) }
+    ensures there { IfOk result (λ made. slice_get slots.new made.at ≡ Some (Sound made.label)) }
+    ensures freed { IfOk result (λ made. IfSome made.freed (λ i. i < length slots.old)) }
+{
+    let place = match place_of(new.name, slots) {
+        Some(place) => place,
+        None => return Err(LabelFault::NotFound),
+    };
+    slots[place] = Slot::Free;
+    match put(format, region, new, slots) {
+        Ok(made) => Ok(Made {
+            freed: Some(place),
+            at: made.at,
+            label: made.label,
+        }),
+        Err(fault) => {
+            slots[place] = Slot::Sound(old);
+            Err(fault)
+        }
+    }
+}
+
+/// Makes a file: what becomes of the slots of an area beside those of the masters.
+#[tactic(auto, unfolding(crate::specs::Making::made))]
+pub fn make_in(
+    format: Format,
+    region: Stretch,
+    masters: &[Slot],
+    new: &NewFile,
+    slots: &mut [Slot],
+) -> Result<Made, LabelFault>
+    requires fits { region.start + region.sectors ≤ 65535 }
+    requires key { new.now.key_length ≤ 29 }
+    requires length { 1 ≤ new.now.record_length }
+    requires whole { IsWhole region }
+    requires tracks { 1 ≤ tracks_of_spec new.now }
+    ensures ok { OnOk result (made_spec format region masters.now new.now slots.old ≡ Ok slots.new) }
+    ensures err { IfErr result (λ fault. made_spec format region masters.now new.now slots.old ≡ Err fault) }
+    ensures same { OnErr result (slots.new ≡ slots.old) }
+    ensures within { IfOk result (λ made. made.at < length slots.old) }
+    ensures placed { IfOk result (λ made. are_extents region made.label.extents ≡ true) }
+    ensures named { IfOk result (λ made. made.label.name ≡ new.now.name) }
+    ensures there { IfOk result (λ made. slice_get slots.new made.at ≡ Some (Sound made.label)) }
+    ensures freed { IfOk result (λ made. IfSome made.freed (λ i. i < length slots.old)) }
+{
+    if any_bears(new.name, masters) {
+        return Err(LabelFault::Master);
+    }
+    put_over(format, region, new, slots)
+}
