@@ -1,0 +1,6 @@
+pub mod FileFrames
+pub mod PartLemmas
+pub mod RecordLemmas
+pub mod Rooms
+mod SectorLemmas
+mod Stretched

@@ -1,0 +1,4 @@
+pub mod FileFault
+pub mod Files
+pub mod Records
+pub mod Samples

@@ -1,0 +1,131 @@
+//! Bytes of a file, across the borders of its sectors.
+ghost use Rattle.std.specs.Prelude.{◌≡◌, ◌≢◌, ◌≤◌, ◌<◌, ◌+◌, ◌-◌, ◌*◌, ◌/◌, ◌%◌, ℕ, List, length, min, slice_get, Some, OnOk, OnErr, IfErr};
+ghost use Rattle.std.specs.List.{Contains};
+ghost use Rattle.s3_store.specs.State.{KeepsContents};
+ghost use Rattle.s3_store.specs.State.{ChangesWithin};
+ghost use Rattle.s3_store.specs.Failures.{failed_transfers};
+ghost use Rattle.s3_store.specs.Bytes.{bytes_at, part, SameOutside};
+ghost use Rattle.s3_files.specs.Files.{AreStored};
+
+use crate::file_sectors::FileSectors;
+use s3_store::{PoolFault, Sectors};
+
+/// Copies the part of these bytes that begins at a place.
+fn copy_part(bytes: &[u8], at: usize, piece: &mut [u8])
+    requires { at + length piece.old ≤ length bytes.now }
+    ensures { piece.new ≡ part bytes.now at (length piece.old) }
+{
+    piece.copy_from_slice(&bytes[at..at + piece.len()]);
+}
+
+/// Writes over the part of these bytes that begins at a place.
+fn overwrite(bytes: &mut [u8], at: usize, piece: &[u8])
+    requires { at + length piece.now ≤ length bytes.old }
+    ensures piece { part bytes.new at (length piece.now) ≡ piece.now }
+    ensures outside { SameOutside at (length piece.now) bytes.old bytes.new }
+{
+    bytes[at..at + piece.len()].copy_from_slice(piece);
+}
+
+/// Reads bytes that lie in one sector.
+fn read_piece<P: Sectors>(
+    pool: &mut P,
+    sectors: &FileSectors,
+    at: usize,
+    piece: &mut [u8],
+) -> Result<(), PoolFault>
+    requires stored { AreStored sectors.now (P.state pool.old).contents }
+    requires within { at < 256 * length sectors.now }
+    requires one { at % 256 + length piece.old ≤ 256 }
+    ensures ok { OnOk result (piece.new ≡ part (bytes_at sectors.now (P.state pool.old).contents) at (length piece.old)) }
+    ensures keeps { KeepsContents (P.state pool.old) (P.state pool.new) }
+    ensures failures { (P.state pool.new).failures ≡ (P.state pool.old).failures + failed_transfers result }
+    ensures fault { IfErr result (λ e. e ≢ PoolFault.NoSector) }
+{
+    let mut sector = [0; 256];
+    pool.read_sector(sectors.sector_at(at / 256), &mut sector)?;
+    copy_part(&sector, at % 256, piece);
+    Ok(())
+}
+
+/// Writes bytes that lie in one sector.
+fn write_piece<P: Sectors>(
+    pool: &mut P,
+    sectors: &FileSectors,
+    at: usize,
+    piece: &[u8],
+) -> Result<(), PoolFault>
+    requires stored { AreStored sectors.now (P.state pool.old).contents }
+    requires within { at < 256 * length sectors.now }
+    requires one { at % 256 + length piece.now ≤ 256 }
+    ensures ok { OnOk result (part (bytes_at sectors.now (P.state pool.new).contents) at (length piece.now) ≡ piece.now) }
+    ensures outside { SameOutside at (length piece.now) (bytes_at sectors.now (P.state pool.old).contents) (bytes_at sectors.now (P.state pool.new).contents) }
+    ensures within { ChangesWithin (Contains sectors.now) (P.state pool.old) (P.state pool.new) }
+    ensures failures { (P.state pool.new).failures ≡ (P.state pool.old).failures + failed_transfers result }
+    ensures fault { IfErr result (λ e. e ≢ PoolFault.NoSector) }
+{
+    let n = sectors.sector_at(at / 256);
+    let mut sector = [0; 256];
+    pool.read_sector(n, &mut sector)?;
+    overwrite(&mut sector, at % 256, piece);
+    pool.write_sector(n, &sector)?;
+    Ok(())
+}
+
+/// How many of these bytes lie in the sector of the first.
+fn in_one_sector(at: usize, left: usize) -> usize
+    ensures sector { at % 256 + result ≤ 256 }
+    ensures left { result ≤ left }
+    ensures some { 0 < left → 0 < result }
+{
+    left.min(256 - at % 256)
+}
+
+/// Reads bytes of a file.
+pub fn read_bytes<P: Sectors>(
+    pool: &mut P,
+    sectors: &FileSectors,
+    at: u32,
+    bytes: &mut [u8],
+) -> Result<(), PoolFault>
+    requires stored { AreStored sectors.now (P.state pool.old).contents }
+    requires within { at + length bytes.old ≤ 256 * length sectors.now }
+    ensures ok { OnOk result (bytes.new ≡ part (bytes_at sectors.now (P.state pool.old).contents) at (length bytes.old)) }
+    ensures keeps { KeepsContents (P.state pool.old) (P.state pool.new) }
+    ensures failures { (P.state pool.new).failures ≡ (P.state pool.old).failures + failed_transfers result }
+    ensures fault { IfErr result (λ e. e ≢ PoolFault.NoSector) }
+{
+    let at = at as usize;
+    let mut done = 0;
+    while done < bytes.len() {
+        let count = in_one_sector(at + done, bytes.len() - done);
+        read_piece(pool, sectors, at + done, &mut bytes[done..done + count])?;
+        done += count;
+    }
+    Ok(())
+}
+
+/// Writes bytes of a file. A refused call may have written some of them.
+pub fn write_bytes<P: Sectors>(
+    pool: &mut P,
+    sectors: &FileSectors,
+    at: u32,
+    bytes: &[u8],
+) -> Result<(), PoolFault>
+    requires stored { AreStored sectors.now (P.state pool.old).contents }
+    requires within { at + length bytes.now ≤ 256 * length sectors.now }
+    ensures ok { OnOk result (part (bytes_at sectors.now (P.state pool.new).contents) at (length bytes.now) ≡ bytes.now) }
+    ensures outside { SameOutside at (length bytes.now) (bytes_at sectors.now (P.state pool.old).contents) (bytes_at sectors.now (P.state pool.new).contents) }
+    ensures within { ChangesWithin (Contains sectors.now) (P.state pool.old) (P.state pool.new) }
+    ensures failures { (P.state pool.new).failures ≡ (P.state pool.old).failures + failed_transfers result }
+    ensures fault { IfErr result (λ e. e ≢ PoolFault.NoSector) }
+{
+    let at = at as usize;
+    let mut done = 0;
+    while done < bytes.len() {
+        let count = in_one_sector(at + done, bytes.len() - done);
+        write_piece(pool, sectors, at + done, &bytes[done..done + count])?;
+        done += count;
+    }
+    Ok(())
+}

@@ -1,0 +1,28 @@
+//! Why a file of records refuses.
+ghost use Rattle.std.specs.Prelude.{◌≡◌};
+ghost use Rattle.s3_files.specs.declared.fault.FileFault.TheVariants.{Pool};
+
+use s3_store::PoolFault;
+use thiserror::Error;
+
+/// Why a call on a file of records is refused.
+#[derive(Clone, Copy, Debug, PartialEq, Eq, Error)]
+pub enum FileFault {
+    /// There is no record of that number.
+    #[error("no such record")]
+    NoRecord,
+    /// The file has as many records as it has room for.
+    #[error("the file is full")]
+    Full,
+    /// The sectors refused.
+    #[error("{0}")]
+    Pool(PoolFault),
+}
+
+impl From<PoolFault> for FileFault {
+    ghost from_gives = { λ fault refusal. refusal ≡ Pool fault };
+
+    fn from(fault: PoolFault) -> Self {
+        FileFault::Pool(fault)
+    }
+}

@@ -1,0 +1,33 @@
+//! What the definitions say of themselves: worked rows.
+
+ghost use Rattle.std.specs.Prelude.{◌≡◌, ◌-◌, ◌*◌, ◌/◌, ◌++◌, [], ◌∷◌, slice_get, replicate, Some, None, Ok, Err};
+ghost use Rattle.s3_store.specs.Bytes.{bytes_at};
+ghost use Rattle.s3_store.specs.Stretches.{sectors_in};
+ghost use Rattle.s3_files.specs.Records.{records_in, record_at, with_record, with_last};
+ghost use Rattle.s3_files.specs.Samples.{two_pieces, two_sectors, split_contents, a, b, c};
+ghost use Rattle.s3_files.specs.declared.fault.FileFault.TheVariants.{NoRecord, Full};
+
+/// Of records of 96 bytes over 72 sectors from 456 on and 48 from 576 on, the last one in the first piece is number 192, and
+/// number 193 is the first one in the second.
+pub fn records_run_on_from_piece_to_piece()
+    ensures last_of_first { slice_get (sectors_in two_pieces) ((192 * 96 - 1) / 256) ≡ Some 527 }
+    ensures first_of_second { slice_get (sectors_in two_pieces) (192 * 96 / 256) ≡ Some 576 }
+    ensures last_of_second { slice_get (sectors_in two_pieces) 119 ≡ Some 623 }
+    ensures no_more { slice_get (sectors_in two_pieces) 120 ≡ None }
+{}
+
+/// A record may lie across two pieces: of records of 100 bytes over the sectors 2 and 4, the third has 56 bytes of the one and 44
+/// of the other.
+pub fn a_record_lies_across_two_pieces()
+    ensures { slice_get (records_in 100 5 (bytes_at (sectors_in two_sectors) split_contents)) 2 ≡ Some (replicate 56 1 ++ replicate 44 2) }
+{}
+
+/// A record past the last isn't there, and one more goes in only below the capacity.
+pub fn a_list_of_records_refuses()
+    ensures read { record_at 1 (a ∷ b ∷ []) ≡ Ok b }
+    ensures not_there { record_at 2 (a ∷ b ∷ []) ≡ Err NoRecord }
+    ensures written { with_record 0 c (a ∷ b ∷ []) ≡ Ok (c ∷ b ∷ []) }
+    ensures not_written { with_record 2 c (a ∷ b ∷ []) ≡ Err NoRecord }
+    ensures one_more { with_last 3 c (a ∷ b ∷ []) ≡ Ok (a ∷ b ∷ c ∷ []) }
+    ensures full { with_last 2 c (a ∷ b ∷ []) ≡ Err Full }
+{}

@@ -1,0 +1,133 @@
+-- Keys compared as bytes and as numbers.
+use Rattle.std.proofs.Common.{◌≡◌, ◌-◌, append-nil, ℕ, zero, suc, ◌+◌, ◌*◌, ◌^◌, ◌<◌, ◌≤◌, ◌⊎◌, inl, inr, List, [], ◌∷◌, ◌++◌, length, take, drop, replicate, slice_index, refl, sym, ap, subst, ◌∙◌, arith}
+use Rattle.std.proofs.Math.Nat.{mul-le-mul_left}
+use Rattle.std.proofs.lemmas.Bool.Decides.{nat_tests}
+use Rattle.std.proofs.lemmas.List.{take_all, drop_all, take-replicate, length-replicate}
+use Rattle.std.proofs.lemmas.Slice.{put_mid-paste}
+use borrow.Rule.Slice.PartMut.{put_mid}
+use native.Mathlib.Numerals.{unary_clauses}
+use Rattle.std.specs.declared.cmp.Ordering.TheVariants.{Less, Equal, Greater}
+use Rattle.std.specs.Ordering.{nat_cmp, ordering_then}
+use Rattle.std.specs.Cmp.Lexicographic.{slice_cmp}
+use Rattle.s3_keyed.specs.KeyOrder.{number_of}
+
+unfoldable pub AreBytes : List ℕ → Type 0
+AreBytes [] = Unit {0}
+AreBytes (b ∷ bs) = (b < 256) × AreBytes bs
+
+pub bytes_from_index : (xs : List ℕ) → ((i : ℕ) → slice_index xs i < 256) → AreBytes xs
+unfolding AreBytes
+bytes_from_index [] h = tt
+bytes_from_index (x ∷ xs) h = (h zero, bytes_from_index xs (λ i. h (suc i)))
+
+pub number_of-fits : (xs : List ℕ) → AreBytes xs → number_of xs < 256 ^ length xs
+unfolding number_of AreBytes
+number_of-fits [] h = omega arith
+number_of-fits (x ∷ xs) h =
+    let rest = number_of-fits xs h.1 in
+    let p = 256 ^ length xs in
+    let byte : x + 1 ≤ 256 = omega (arith, h.0) in
+    let top = mul-le-mul_left p byte in
+    let whole : 256 ^ suc (length xs) ≡ p * 256 = simp unary_clauses (omega arith) in
+    omega (arith, top, whole, rest)
+
+cmp-less : (a b : ℕ) → a < b → nat_cmp a b ≡ Less
+cmp-less a b h = grind (arith, nat_tests)
+
+cmp-greater : (a b : ℕ) → b < a → nat_cmp a b ≡ Greater
+cmp-greater a b h = grind (arith, nat_tests)
+
+cmp-equal : (a b : ℕ) → a ≡ b → nat_cmp a b ≡ Equal
+cmp-equal a b h = grind (arith, nat_tests)
+
+split : (a b : ℕ) → (a < b) ⊎ ((a ≡ b) ⊎ (b < a))
+split zero zero = inr (inl refl)
+split zero (suc b) = inl (omega arith)
+split (suc a) zero = inr (inr (omega arith))
+split (suc a) (suc b) = elim (split a b) [ inl l ↦ inl (omega arith) | inr r ↦ elim r [ inl e ↦ inr (inl (ap suc e)) | inr g ↦ inr (inr (omega arith)) ] ]
+
+leads : (x y p u v : ℕ) → x < y → u < p → x * p + u < y * p + v
+leads x y p u v h fits = let up : x + 1 ≤ y = omega arith in omega (arith, mul-le-mul_left p up)
+
+digit_cmp : (x y p u v : ℕ) → u < p → v < p → ordering_then (nat_cmp x y) (nat_cmp u v) ≡ nat_cmp (x * p + u) (y * p + v)
+digit_cmp x y p u v fu fv = elim (split x y) [
+  | inl lt ↦ let a = cmp-less x y lt in let b = cmp-less (x * p + u) (y * p + v) (leads x y p u v lt fu) in rw (a, b) refl
+  | inr rest ↦ elim rest [
+    | inl e ↦ let a = cmp-equal x y e in rw (a, e) (elim (split u v) [
+      | inl lt ↦ cmp-less u v lt ∙ sym (cmp-less (y * p + u) (y * p + v) (omega arith))
+      | inr r ↦ elim r [
+        | inl same ↦ cmp-equal u v same ∙ sym (cmp-equal (y * p + u) (y * p + v) (omega arith))
+        | inr gt ↦ cmp-greater u v gt ∙ sym (cmp-greater (y * p + u) (y * p + v) (omega arith))
+      ]
+    ])
+    | inr gt ↦ let a = cmp-greater x y gt in let b = cmp-greater (x * p + u) (y * p + v) (leads y x p v u gt fv) in rw (a, b) refl
+  ]
+]
+
+-- bytes of one length compare as their numbers do
+pub compared : (xs ys : List ℕ) → length xs ≡ length ys → AreBytes xs → AreBytes ys → slice_cmp nat_cmp xs ys ≡ nat_cmp (number_of xs) (number_of ys)
+unfolding number_of AreBytes
+compared [] [] len h k = refl
+compared [] (y ∷ ys) len h k = absurd (omega arith)
+compared (x ∷ xs) [] len h k = absurd (omega arith)
+compared (x ∷ xs) (y ∷ ys) len h k =
+    let same : length xs ≡ length ys = omega arith in
+    let fits = number_of-fits xs h.1 in
+    let fits_too : number_of ys < 256 ^ length xs = subst (λ n. number_of ys < 256 ^ n) (sym same) (number_of-fits ys k.1) in
+    ap (ordering_then (nat_cmp x y)) (compared xs ys same h.1 k.1)
+    ∙ digit_cmp x y (256 ^ length xs) (number_of xs) (number_of ys) fits fits_too
+    ∙ ap (λ n. nat_cmp (x * 256 ^ length xs + number_of xs) (y * 256 ^ n + number_of ys)) same
+
+-- leading zeros
+pub number_of-padded : (n : ℕ) (xs : List ℕ) → number_of (replicate n 0 ++ xs) ≡ number_of xs
+unfolding number_of
+number_of-padded zero xs = refl
+number_of-padded (suc n) xs = let rest = number_of-padded n xs in omega arith
+
+-- a key written over the end of zeros
+pub zeros-over : (n k : ℕ) (key : List ℕ) → length key ≡ k → k ≤ n → put_mid (n - k) (n - (n - k)) (replicate n 0) key ≡ replicate (n - k) 0 ++ key
+zeros-over n k key len fits =
+    put_mid-paste (n - k) (n - (n - k)) (replicate n 0) key key k refl (omega arith) (sym len)
+    ∙ ap (λ l. (l ++ take k key) ++ drop (n - k + k) (replicate n 0)) (take-replicate (n - k) n 0 (omega arith))
+    ∙ ap (λ l. (replicate (n - k) 0 ++ l) ++ drop (n - k + k) (replicate n 0)) (take_all k key (omega arith))
+    ∙ ap (λ l. (replicate (n - k) 0 ++ key) ++ l) (let zeros : List ℕ = replicate n 0 in drop_all (n - k + k) zeros (omega (arith, length-replicate {A = ℕ} n 0)))
+    ∙ append-nil (replicate (n - k) 0 ++ key)
+
+pub number_of-over : (n k : ℕ) (key v : List ℕ) → v ≡ key → length key ≡ k → k ≤ n → number_of (put_mid (n - k) (n - (n - k)) (replicate n 0) v) ≡ number_of key
+number_of-over n k key v is len fits = ap (λ l. number_of (put_mid (n - k) (n - (n - k)) (replicate n 0) l)) is ∙ ap number_of (zeros-over n k key len fits) ∙ number_of-padded (n - k) key
+
+fits-append : (xs ys : List ℕ) → ((i : ℕ) → slice_index xs i < 256) → ((i : ℕ) → slice_index ys i < 256) → (i : ℕ) → slice_index (xs ++ ys) i < 256
+fits-append [] ys h k i = k i
+fits-append (x ∷ xs) ys h k zero = h zero
+fits-append (x ∷ xs) ys h k (suc i) = fits-append xs ys (λ j. h (suc j)) k i
+
+fits-zeros : (n i : ℕ) → slice_index (replicate n 0) i < 256
+fits-zeros zero i = omega arith
+fits-zeros (suc n) zero = omega arith
+fits-zeros (suc n) (suc i) = fits-zeros n i
+
+pub fits-over : (n k : ℕ) (key v : List ℕ) → v ≡ key → length key ≡ k → k ≤ n → ((i : ℕ) → slice_index key i < 256) → (i : ℕ) → slice_index (put_mid (n - k) (n - (n - k)) (replicate n 0) v) i < 256
+fits-over n k key v is len fits h i = subst (λ l. slice_index l i < 256) (sym (ap (λ l. put_mid (n - k) (n - (n - k)) (replicate n 0) l) is ∙ zeros-over n k key len fits)) (fits-append (replicate (n - k) 0) key (fits-zeros (n - k)) h i)
+
+-- a key of so many bytes has zeros before them
+pub short_drop : (n k : ℕ) (xs : List ℕ) → length xs ≡ n + k → number_of xs < 256 ^ k → number_of (drop n xs) ≡ number_of xs
+unfolding number_of
+short_drop zero k xs len short = refl
+short_drop (suc n) k [] len short = absurd (omega arith)
+short_drop (suc n) k (x ∷ xs) len short =
+    let long : length xs ≡ n + k = omega arith in
+    let none : x ≡ 0 = none_of x (number_of xs) n k (subst (λ m. x * 256 ^ m + number_of xs < 256 ^ k) long short) in
+    let head : x * 256 ^ length xs + number_of xs ≡ number_of xs = ap (λ y. y * 256 ^ length xs + number_of xs) none ∙ omega arith in
+    short_drop n k xs long (subst (λ m. m < 256 ^ k) head short) ∙ sym head
+  where
+    powers : (n k : ℕ) → 256 ^ k ≤ 256 ^ (n + k)
+    powers zero k = let z : zero + k ≡ k = omega arith in rw z (omega arith)
+    powers (suc n) k =
+        let z : suc n + k ≡ suc (n + k) = omega arith in
+        let whole : 256 ^ suc (n + k) ≡ 256 ^ (n + k) * 256 = simp unary_clauses (omega arith) in
+        let rest = powers n k in
+        rw z (omega (arith, whole, rest))
+
+    none_of : (x m n k : ℕ) → x * 256 ^ (n + k) + m < 256 ^ k → x ≡ 0
+    none_of zero m n k h = refl
+    none_of (suc x) m n k h = let p = powers n k in let up : 1 ≤ suc x = omega arith in let least = mul-le-mul_left (256 ^ (n + k)) up in absurd (omega (arith, p, least))

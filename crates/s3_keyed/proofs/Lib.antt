@@ -1,0 +1,12 @@
+mod Appending
+mod CallLemmas
+mod Checked
+mod Goodness
+mod Highest
+mod InMemory
+mod KeyNumbers
+mod MergeSteps
+mod Merging
+mod Order
+mod Ordered
+mod Places

@@ -1,0 +1,112 @@
+use Rattle.std.proofs.Common.{◌≡◌, ◌≢◌, ◌==◌, ◌+◌, ◌-◌, ◌^◌, ℕ, length, map, ap, ◌∙◌, arith}
+use Rattle.std.specs.List.{Contains, range_with_len}
+use Rattle.s3_store.proofs.Frames.{keeps_within, within_trans}
+use Rattle.s3_files.specs.Records.{records_in}
+use Rattle.s3_keyed.specs.KeyOrder.{insert_entries}
+use Rattle.s3_keyed.specs.Index.{entry_at, index_in}
+use Rattle.s3_keyed.specs.Shape.{layout_in, bytes_in, entry_of}
+use Rattle.s3_keyed.proofs.InMemory.{key_at, index_got}
+use Rattle.s3_keyed.proofs.MergeSteps.{some_items, no_items, last_hit, last_miss, step_moved, step_placed, merge_ends, ascends_take, short_take, short_at}
+use Rattle.s3_keyed.proofs.Places.{same_records}
+use Rattle.s3_keyed.proofs.close.merge.Goals as goal
+
+pub returns-in_err-write_entry-clause-records : goal.returns-in_err-write_entry-clause-records
+returns-in_err-write_entry-clause-records g c =
+    let f = c.args.file.now in
+    λ count few.
+    same_records (layout_in f) (bytes_in f (g.P.Sectors.state c.last_above.new.pool).contents) (bytes_in f (g.P.Sectors.state c.write_entry.new.pool).contents) count (c.highest.left + (c.len-above.result - 1)) few c.write_entry.ensures.outside
+    ∙ ap (λ l. records_in f.file.record_length count (bytes_in f l)) c.last_above.ensures.keeps.contents
+    ∙ c.highest.invariant.records count few
+
+pub returns-in_err-write_entry-clause-within : goal.returns-in_err-write_entry-clause-within
+returns-in_err-write_entry-clause-within g c =
+    let region = Contains c.args.file.now.file.sectors in
+    within_trans region _ _ _ c.highest.invariant.within (keeps_within region _ _ _ c.last_above.ensures.keeps c.write_entry.ensures.within)
+
+pub returns-in_err-write_entry-2-clause-records : goal.returns-in_err-write_entry-2-clause-records
+returns-in_err-write_entry-2-clause-records g c =
+    let f = c.args.file.now in
+    λ count few.
+    same_records (layout_in f) (bytes_in f (g.P.Sectors.state c.last_above.new.pool).contents) (bytes_in f (g.P.Sectors.state c.write_entry-in_default.new.pool).contents) count (c.highest.left + (c.len-above.result - 1)) few c.write_entry-in_default.ensures.outside
+    ∙ ap (λ l. records_in f.file.record_length count (bytes_in f l)) c.last_above.ensures.keeps.contents
+    ∙ c.highest.invariant.records count few
+
+pub returns-in_err-write_entry-2-clause-within : goal.returns-in_err-write_entry-2-clause-within
+returns-in_err-write_entry-2-clause-within g c =
+    let region = Contains c.args.file.now.file.sectors in
+    within_trans region _ _ _ c.highest.invariant.within (keeps_within region _ _ _ c.last_above.ensures.keeps c.write_entry-in_default.ensures.within)
+
+pub write_entry-requires-in_default-clause-short : goal.write_entry-requires-in_default-clause-short
+write_entry-requires-in_default-clause-short g c =
+    let items = c.highest.added.items in
+    let above = c.len-above.result - 1 in
+    let long = some_items items c.len-above.result (c.len-above.ensures ∙ c.highest.added.ok.0) (c.highest-test.ensures ∙ ap (λ n. n == 0) c.highest.added.ok.0) in
+    short_at (256 ^ c.args.file.now.key_length) above c.index.result.now items c.highest.invariant.short (index_got items above c.index.result.now c.index.ensures (omega arith))
+
+pub highest-preserved-in-Some : goal.highest-preserved-in-Some
+highest-preserved-in-Some g c =
+    let f = c.args.file.now in
+    let old = entry_at (layout_in f) (bytes_in f (g.P.Sectors.state c.args.pool.now).contents) in
+    let now = entry_at (layout_in f) (bytes_in f (g.P.Sectors.state c.highest.pool).contents) in
+    let new = entry_at (layout_in f) (bytes_in f (g.P.Sectors.state c.write_entry.new.pool).contents) in
+    let left = c.highest.left in
+    let above = c.len-above.result - 1 in
+    let items = c.highest.added.items in
+    let top = c.index.result.now in
+    let total = c.args.indexed + length c.args.added.now.items in
+    let whole = insert_entries (map old (range_with_len 0 c.args.indexed)) (map entry_of c.args.added.now.items) in
+    let long = some_items items c.len-above.result (c.len-above.ensures ∙ c.highest.added.ok.0) (c.highest-test.ensures ∙ ap (λ n. n == 0) c.highest.added.ok.0) in
+    let got = index_got items above top c.index.ensures (omega arith) in
+    let others : (i : ℕ) → i ≢ left + above → new i ≡ now i = λ i other. c.write_entry.ensures.others i other ∙ ap (λ l. entry_at (layout_in f) (bytes_in f l) i) c.last_above.ensures.keeps.contents in
+    let region = Contains f.file.sectors in
+    let hit = last_hit (now (left - 1)) left (key_at top) (256 ^ f.key_length) c.in_ok-last.field-0 c.in-Some.last c.in-Some.is c.in_ok-last.ensures.last in
+    record {
+      upto = omega (arith, c.highest.invariant.upto);
+      merging = step_moved old now new left above total items top (entry_of c.in-Some.last) whole c.highest.invariant.merging c.highest.invariant.added_ascends long got hit.0 hit.1 hit.2 c.in_ok-write_entry.ensures.ok others;
+      added_ascends = c.highest.invariant.added_ascends;
+      short = c.highest.invariant.short;
+      records = λ count few.
+          same_records (layout_in f) (bytes_in f (g.P.Sectors.state c.last_above.new.pool).contents) (bytes_in f (g.P.Sectors.state c.write_entry.new.pool).contents) count (left + above) few c.write_entry.ensures.outside
+          ∙ ap (λ l. records_in f.file.record_length count (bytes_in f l)) c.last_above.ensures.keeps.contents
+          ∙ c.highest.invariant.records count few;
+      within = within_trans region _ _ _ c.highest.invariant.within (keeps_within region _ _ _ c.last_above.ensures.keeps c.write_entry.ensures.within);
+      failures = omega (arith, c.in_ok-write_entry.ensures.failures, c.in_ok-last.ensures.failures, c.highest.invariant.failures);
+    }
+
+pub highest-preserved : goal.highest-preserved
+highest-preserved g c =
+    let f = c.args.file.now in
+    let old = entry_at (layout_in f) (bytes_in f (g.P.Sectors.state c.args.pool.now).contents) in
+    let now = entry_at (layout_in f) (bytes_in f (g.P.Sectors.state c.highest.pool).contents) in
+    let new = entry_at (layout_in f) (bytes_in f (g.P.Sectors.state c.write_entry-in_default.new.pool).contents) in
+    let left = c.highest.left in
+    let above = c.len-above.result - 1 in
+    let items = c.highest.added.items in
+    let top = c.index.result.now in
+    let total = c.args.indexed + length c.args.added.now.items in
+    let whole = insert_entries (map old (range_with_len 0 c.args.indexed)) (map entry_of c.args.added.now.items) in
+    let long = some_items items c.len-above.result (c.len-above.ensures ∙ c.highest.added.ok.0) (c.highest-test.ensures ∙ ap (λ n. n == 0) c.highest.added.ok.0) in
+    let got = index_got items above top c.index.ensures (omega arith) in
+    let others : (i : ℕ) → i ≢ left + above → new i ≡ now i = λ i other. c.write_entry-in_default.ensures.others i other ∙ ap (λ l. entry_at (layout_in f) (bytes_in f l) i) c.last_above.ensures.keeps.contents in
+    let region = Contains f.file.sectors in
+    let miss = last_miss (now (left - 1)) left (key_at top) (256 ^ f.key_length) c.in_ok-last.field-0 c.in_default.is c.in_ok-last.ensures.last in
+    rw c.truncate.ensures.items (record {
+      upto = c.highest.invariant.upto;
+      merging = step_placed old now new left above c.args.indexed total items top whole c.highest.invariant.merging c.highest.invariant.added_ascends c.requires.ascending c.highest.invariant.upto long got miss c.in_ok-write_entry-2.ensures.ok others;
+      added_ascends = ascends_take above items c.highest.invariant.added_ascends;
+      short = short_take (256 ^ f.key_length) above items c.highest.invariant.short;
+      records = λ count few.
+          same_records (layout_in f) (bytes_in f (g.P.Sectors.state c.last_above.new.pool).contents) (bytes_in f (g.P.Sectors.state c.write_entry-in_default.new.pool).contents) count (left + above) few c.write_entry-in_default.ensures.outside
+          ∙ ap (λ l. records_in f.file.record_length count (bytes_in f l)) c.last_above.ensures.keeps.contents
+          ∙ c.highest.invariant.records count few;
+      within = within_trans region _ _ _ c.highest.invariant.within (keeps_within region _ _ _ c.last_above.ensures.keeps c.write_entry-in_default.ensures.within);
+      failures = omega (arith, c.in_ok-write_entry-2.ensures.failures, c.in_ok-last.ensures.failures, c.highest.invariant.failures);
+    })
+
+pub returns-clause-merged : goal.returns-clause-merged
+unfolding index_in
+returns-clause-merged g c =
+    let f = c.args.file.now in
+    let old = entry_at (layout_in f) (bytes_in f (g.P.Sectors.state c.args.pool.now).contents) in
+    let now = entry_at (layout_in f) (bytes_in f (g.P.Sectors.state c.highest.pool).contents) in
+    merge_ends old now c.highest.left (c.args.indexed + length c.args.added.now.items) c.highest.added.items (insert_entries (map old (range_with_len 0 c.args.indexed)) (map entry_of c.args.added.now.items)) c.highest.invariant.merging (no_items c.highest.added.items (c.highest-test.ensures ∙ ap (λ n. n == 0) c.highest.added.ok.0))

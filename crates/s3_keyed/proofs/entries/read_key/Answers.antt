@@ -1,0 +1,13 @@
+use Rattle.std.proofs.Common.{◌+◌, ◌*◌, sym, ap, ◌∙◌, refl, arith}
+use Rattle.s3_store.specs.Bytes.{part}
+use Rattle.s3_keyed.specs.KeyOrder.{number_of}
+use Rattle.s3_keyed.specs.Shape.{layout_in, bytes_in}
+use Rattle.s3_keyed.proofs.Places.{key_there, length_buffer}
+use Rattle.s3_keyed.proofs.entries.read_key.Goals as goal
+
+pub returns-clause-ok : goal.returns-clause-ok
+returns-clause-ok g c =
+    let f = c.args.file.now in
+    let file = bytes_in f (g.P.Sectors.state c.args.pool.now).contents in
+    c.of.ensures.number ∙ ap number_of (c.in_ok-read_bytes.ensures.ok ∙ ap (part file (c.args.i * c.from-2.result + c.from-3.result)) (length_buffer 29 c.from.result (let e = c.from.ensures in let s = f.short_key in omega arith)) ∙ rw (c.from.ensures, c.from-2.ensures, c.from-3.ensures) refl)
+    ∙ sym (key_there (layout_in f) c.args.i file f.some_start f.key_inside)

@@ -1,0 +1,18 @@
+use Rattle.std.proofs.Common.{Ok, sym, ap, ◌∙◌}
+use Rattle.s3_files.specs.Records.{got}
+use Rattle.s3_files.proofs.RecordLemmas.{get_record}
+use Rattle.s3_keyed.specs.Calls.{keyed_result}
+use Rattle.s3_keyed.specs.Shape.{bytes_in}
+use Rattle.s3_keyed.proofs.CallLemmas.{no_record}
+use Rattle.s3_keyed.proofs.keyed.Keyed.get.Goals as goal
+
+pub returns-then-i-self-clause-got : goal.returns-then-i-self-clause-got
+returns-then-i-self-clause-got g c =
+    let self = c.args.self.now in
+    ap (λ o. keyed_result (got o)) (no_record self.file.file.record_length self.count c.args.i (bytes_in self.file (g.P.Sectors.state c.args.pool.now).contents) c.if-i-self.true)
+
+pub returns-clause-got : goal.returns-clause-got
+returns-clause-got g c =
+    let self = c.args.self.now in
+    ap (λ o. keyed_result (got o)) (get_record self.file.file.record_length self.count c.args.i (bytes_in self.file (g.P.Sectors.state c.args.pool.now).contents) c.if-i-self.false)
+    ∙ ap Ok (sym c.in_ok-read_record.ensures.ok)

@@ -1,0 +1,47 @@
+use Rattle.std.proofs.Common.{◌++◌, ◌∷◌, [], Ok, sym, ap, ◌∙◌, arith}
+use Rattle.s3_files.proofs.RecordLemmas.{length_records}
+use Rattle.s3_keyed.specs.KeyOrder.{number_of}
+use Rattle.s3_keyed.specs.Calls.{place_of_key}
+use Rattle.s3_keyed.specs.Shape.{layout_in, bytes_in}
+use Rattle.s3_keyed.specs.Keyed.{shown, records_now, keys_now}
+use Rattle.s3_keyed.proofs.Appending.{loaded_not_ascending, loaded_full, loaded_made, above_is_new}
+use Rattle.s3_keyed.proofs.keyed.Keyed.load.Goals as goal
+
+pub returns-then-not-branch-clause-loaded : goal.returns-then-not-branch-clause-loaded
+returns-then-not-branch-clause-loaded g c =
+    let self = c.args.self.now in
+    loaded_not_ascending (layout_in self.file).key self.file.file.capacity c.args.bytes.now (records_now (shown self) (g.P.Sectors.state c.args.pool.now).contents) (number_of c.key_in-key.result.bytes) c.key_in-key.ensures.key (c.in_ok-is_above_all.ensures.above ∙ c.if-not-branch.true)
+
+pub returns-then-self-clause-loaded : goal.returns-then-self-clause-loaded
+returns-then-self-clause-loaded g c =
+    let self = c.args.self.now in
+    let contents = (g.P.Sectors.state c.args.pool.now).contents in
+    loaded_full (layout_in self.file).key self.file.file.capacity c.args.bytes.now (records_now (shown self) contents) (number_of c.key_in-key.result.bytes) c.key_in-key.ensures.key (c.in_ok-is_above_all.ensures.above ∙ c.if-not-branch.false)
+    (length_records self.file.file.record_length self.count (bytes_in self.file contents) ∙ c.if-self.true)
+
+pub returns-then-is_empty-clause-loaded : goal.returns-then-is_empty-clause-loaded
+returns-then-is_empty-clause-loaded g c =
+    let self = c.args.self.now in
+    let contents = (g.P.Sectors.state c.args.pool.now).contents in
+    let differs = c.if-self.false in
+    let counted = self.counted in
+    loaded_made (layout_in self.file).key self.file.file.capacity c.args.bytes.now (records_now (shown self) contents) (number_of c.key_in-key.result.bytes) c.key_in-key.ensures.key (c.in_ok-is_above_all.ensures.above ∙ c.if-not-branch.false)
+    (omega (arith, length_records self.file.file.record_length self.count (bytes_in self.file contents), differs, counted))
+    ∙ ap Ok (sym (c.in_ok-append_indexed.ensures.ok ∙ ap (λ l. records_now (shown self) l ++ c.args.bytes.now ∷ []) c.is_above_all.ensures.keeps.contents))
+
+pub append_added-requires-clause-is_new : goal.append_added-requires-clause-is_new
+append_added-requires-clause-is_new g c =
+    let self = c.args.self.now in
+    let k = number_of c.key_in-key.result.bytes in
+    ap (λ l. place_of_key k (keys_now (shown self) l)) c.is_above_all.ensures.keeps.contents
+    ∙ above_is_new k 0 (keys_now (shown self) (g.P.Sectors.state c.args.pool.now).contents) (c.in_ok-is_above_all.ensures.above ∙ c.if-not-branch.false)
+
+pub returns-clause-loaded : goal.returns-clause-loaded
+returns-clause-loaded g c =
+    let self = c.args.self.now in
+    let contents = (g.P.Sectors.state c.args.pool.now).contents in
+    let differs = c.if-self.false in
+    let counted = self.counted in
+    loaded_made (layout_in self.file).key self.file.file.capacity c.args.bytes.now (records_now (shown self) contents) (number_of c.key_in-key.result.bytes) c.key_in-key.ensures.key (c.in_ok-is_above_all.ensures.above ∙ c.if-not-branch.false)
+    (omega (arith, length_records self.file.file.record_length self.count (bytes_in self.file contents), differs, counted))
+    ∙ ap Ok (sym (c.in_ok-append_added.ensures.ok ∙ ap (λ l. records_now (shown self) l ++ c.args.bytes.now ∷ []) c.is_above_all.ensures.keeps.contents))

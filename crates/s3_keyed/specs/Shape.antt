@@ -1,0 +1,25 @@
+-- What the definitions see of an indexed file and of an entry in memory.
+use Rattle.std.specs.Prelude.{ℕ, List}
+use Rattle.s3_store.specs.Bytes.{bytes_at}
+use Rattle.s3_keyed.specs.declared.indexed.IndexedFile.{IndexedFile}
+use Rattle.s3_keyed.specs.declared.indexed.IndexEntry.{IndexEntry}
+use Rattle.s3_keyed.specs.KeyOrder.{number_of, Entry}
+use Rattle.s3_keyed.specs.Index.{Layout, keys_at}
+
+abbrev pub layout_in : IndexedFile → Layout
+layout_in f = record {
+  record_length = f.file.record_length;
+  capacity = f.file.capacity;
+  key = record { length = f.key_length; start = f.key_start };
+}
+
+-- the bytes of the file, over these sectors
+abbrev pub bytes_in : IndexedFile → List (List ℕ) → List ℕ
+bytes_in f contents = bytes_at f.file.sectors contents
+
+-- the keys of its records, in file order
+abbrev pub keys_on : IndexedFile → List (List ℕ) → List ℕ
+keys_on f contents = keys_at (layout_in f) f.file.count (bytes_in f contents)
+
+abbrev pub entry_of : IndexEntry → Entry
+entry_of e = record { key = number_of e.key.bytes; number = e.number }

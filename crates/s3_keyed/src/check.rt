@@ -1,0 +1,50 @@
+//! Whether an index is that of the records.
+ghost use Rattle.std.specs.Prelude.{◌≡◌, ◌≢◌, ◌≤◌, ◌<◌, ◌+◌, ℕ, IfOk, IfErr, MatchBool};
+ghost use Rattle.s3_store.specs.State.{KeepsContents};
+ghost use Rattle.s3_store.specs.Failures.{failed_transfers};
+ghost use Rattle.s3_files.specs.Files.{AreStored};
+ghost use Rattle.s3_keyed.specs.KeyOrder.{number_of, is_good_index};
+ghost use Rattle.s3_keyed.specs.Index.{index_in};
+ghost use Rattle.s3_keyed.specs.Shape.{layout_in, bytes_in, keys_on};
+
+use crate::entries::{read_entry, read_key};
+use crate::indexed::IndexedFile;
+use crate::keys::Key;
+use s3_store::{PoolFault, Sectors};
+
+/// Whether the key of entry `i` is above the one before it.
+fn follows(i: u32, last: &Key, key: &Key) -> bool
+    ensures { MatchBool result (0 < i → number_of last.now.bytes < number_of key.now.bytes) ((0 < i) × (number_of key.now.bytes ≤ number_of last.now.bytes)) }
+{
+    i == 0 || key.is_above(last)
+}
+
+/// Whether the index is good for the records, in one pass over its entries.
+pub fn is_good<P: Sectors>(file: &IndexedFile, pool: &mut P) -> Result<bool, PoolFault>
+    requires stored { AreStored file.now.file.sectors (P.state pool.old).contents }
+    ensures good { IfOk result (λ good. is_good_index (index_in (layout_in file.now) file.now.file.count (bytes_in file.now (P.state pool.old).contents)) (keys_on file.now (P.state pool.old).contents) ≡ good) }
+    ensures keeps { KeepsContents (P.state pool.old) (P.state pool.new) }
+    ensures failures { (P.state pool.new).failures ≡ (P.state pool.old).failures + failed_transfers result }
+    ensures fault { IfErr result (λ fault. fault ≢ PoolFault.NoSector) }
+{
+    let count = file.file.count;
+    let mut last = Key::of(&[]);
+    for i in 0..count {
+        let entry = read_entry(file, pool, i)?;
+        if !follows(i, &last, &entry.key) {
+            return Ok(false);
+        }
+        if entry.number == 0 {
+            return Ok(false);
+        }
+        if entry.number > count {
+            return Ok(false);
+        }
+        let key = read_key(file, pool, entry.number - 1)?;
+        if !key.is_same(&entry.key) {
+            return Ok(false);
+        }
+        last = entry.key;
+    }
+    Ok(true)
+}

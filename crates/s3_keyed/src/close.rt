@@ -1,0 +1,76 @@
+//! The added entries merged into the index.
+ghost use Rattle.std.specs.Prelude.{◌≡◌, ◌≢◌, ◌≤◌, ◌<◌, ◌+◌, ◌-◌, ◌^◌, ℕ, true, length, map, OnOk, IfOk, IfErr, MatchOption};
+ghost use Rattle.std.specs.List.{All, Contains};
+ghost use Rattle.s3_store.specs.State.{KeepsContents, ChangesWithin};
+ghost use Rattle.s3_store.specs.Failures.{failed_transfers};
+ghost use Rattle.s3_files.specs.Files.{AreStored};
+ghost use Rattle.s3_files.specs.Records.{records_in};
+ghost use Rattle.s3_keyed.specs.KeyOrder.{number_of, insert_entries, ascends, keys_in, IsAscending};
+ghost use Rattle.s3_keyed.specs.Index.{entry_at, index_in};
+ghost use Rattle.s3_keyed.specs.Shape.{layout_in, bytes_in, entry_of};
+
+use crate::entries::read_entry;
+use crate::indexed::{IndexEntry, IndexedFile};
+use crate::keys::Key;
+use crate::write::write_entry;
+use s3_store::{PoolFault, Sectors};
+
+/// The last of the first so many entries of the index, where its key is above this one.
+fn last_above<P: Sectors>(
+    file: &IndexedFile,
+    pool: &mut P,
+    entries: u32,
+    key: &Key,
+) -> Result<Option<IndexEntry>, PoolFault>
+    requires stored { AreStored file.now.file.sectors (P.state pool.old).contents }
+    requires few { entries ≤ file.now.file.capacity }
+    ensures last { IfOk result (λ last. MatchOption last
+        (0 < entries → (entry_at (layout_in file.now) (bytes_in file.now (P.state pool.old).contents) (entries - 1)).key ≤ number_of key.now.bytes)
+        (λ entry. (0 < entries) × (entry_of entry ≡ entry_at (layout_in file.now) (bytes_in file.now (P.state pool.old).contents) (entries - 1)) × (number_of key.now.bytes < number_of entry.key.bytes) × (number_of entry.key.bytes < 256 ^ file.now.key_length))) }
+    ensures keeps { KeepsContents (P.state pool.old) (P.state pool.new) }
+    ensures failures { (P.state pool.new).failures ≡ (P.state pool.old).failures + failed_transfers result }
+    ensures fault { IfErr result (λ fault. fault ≢ PoolFault.NoSector) }
+{
+    if entries == 0 {
+        return Ok(None);
+    }
+    let last = read_entry(file, pool, entries - 1)?;
+    if last.key.is_above(key) {
+        return Ok(Some(last));
+    }
+    Ok(None)
+}
+
+/// Merges entries, in the order of their keys, into the first so many entries of the index, from the highest down and in place.
+/// The records stay, also where the call is refused.
+pub fn merge<P: Sectors>(
+    file: &IndexedFile,
+    pool: &mut P,
+    indexed: u32,
+    added: &mut Vec<IndexEntry>,
+) -> Result<(), PoolFault>
+    requires stored { AreStored file.now.file.sectors (P.state pool.old).contents }
+    requires room { indexed + length added.old.items ≤ file.now.file.capacity }
+    requires ascending { IsAscending (entry_at (layout_in file.now) (bytes_in file.now (P.state pool.old).contents)) indexed }
+    requires added_ascends { ascends (keys_in (map entry_of added.old.items)) ≡ true }
+    requires short { All (λ entry. entry.key < 256 ^ file.now.key_length) (map entry_of added.old.items) }
+    ensures merged { OnOk result (index_in (layout_in file.now) (indexed + length added.old.items) (bytes_in file.now (P.state pool.new).contents) ≡ insert_entries (index_in (layout_in file.now) indexed (bytes_in file.now (P.state pool.old).contents)) (map entry_of added.old.items)) }
+    ensures records { (count : ℕ) → count ≤ file.now.file.capacity → records_in file.now.file.record_length count (bytes_in file.now (P.state pool.new).contents) ≡ records_in file.now.file.record_length count (bytes_in file.now (P.state pool.old).contents) }
+    ensures within { ChangesWithin (Contains file.now.file.sectors) (P.state pool.old) (P.state pool.new) }
+    ensures failures { (P.state pool.new).failures ≡ (P.state pool.old).failures + failed_transfers result }
+    ensures fault { IfErr result (λ fault. fault ≢ PoolFault.NoSector) }
+{
+    let mut left = indexed;
+    'highest: while !added.is_empty() {
+        let above = added.len() - 1;
+        let top = added[above];
+        if let Some(last) = last_above(file, pool, left, &top.key)? {
+            write_entry(file, pool, left + above as u32, &last)?;
+            left -= 1;
+        } else {
+            write_entry(file, pool, left + above as u32, &top)?;
+            added.truncate(above);
+        }
+    }
+    Ok(())
+}

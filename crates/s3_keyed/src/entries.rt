@@ -1,0 +1,66 @@
+//! The entries of an index, and the keys of records.
+ghost use Rattle.std.specs.Prelude.{◌≡◌, ◌≢◌, ◌≤◌, ◌<◌, ◌+◌, ◌*◌, ◌^◌, ℕ, length, IfOk, IfErr};
+ghost use Rattle.s3_store.specs.State.{KeepsContents};
+ghost use Rattle.s3_store.specs.Failures.{failed_transfers};
+ghost use Rattle.s3_store.specs.Bytes.{part};
+ghost use Rattle.s3_files.specs.Files.{AreStored};
+ghost use Rattle.s3_keyed.specs.KeyOrder.{number_of};
+ghost use Rattle.s3_keyed.specs.Index.{entry_place, entry_at, key_of};
+ghost use Rattle.s3_keyed.specs.Shape.{layout_in, bytes_in, entry_of};
+
+use crate::indexed::{IndexEntry, IndexedFile};
+use crate::keys::Key;
+use byteorder::{BigEndian, ByteOrder};
+use s3_files::read_bytes;
+use s3_store::{PoolFault, Sectors};
+
+/// Where an entry of the index begins in the bytes of the file.
+pub fn place_of(file: &IndexedFile, i: u32) -> u32
+    requires { i < file.now.file.capacity }
+    ensures place { result ≡ entry_place (layout_in file.now) i }
+    ensures within { result + (file.now.key_length + 4) ≤ 256 * length file.now.file.sectors }
+{
+    let width = u32::from(file.key_length) + 4;
+    let per_sector = 256 / width;
+    let records = file.file.capacity * u32::from(file.file.record_length);
+    256 * ((records + 255) / 256 + i / per_sector) + i % per_sector * width
+}
+
+/// Reads an entry of the index.
+pub fn read_entry<P: Sectors>(
+    file: &IndexedFile,
+    pool: &mut P,
+    i: u32,
+) -> Result<IndexEntry, PoolFault>
+    requires stored { AreStored file.now.file.sectors (P.state pool.old).contents }
+    requires within { i < file.now.file.capacity }
+    ensures ok { IfOk result (λ entry. entry_of entry ≡ entry_at (layout_in file.now) (bytes_in file.now (P.state pool.old).contents) i) }
+    ensures short { IfOk result (λ entry. number_of entry.key.bytes < 256 ^ file.now.key_length) }
+    ensures keeps { KeepsContents (P.state pool.old) (P.state pool.new) }
+    ensures failures { (P.state pool.new).failures ≡ (P.state pool.old).failures + failed_transfers result }
+    ensures fault { IfErr result (λ fault. fault ≢ PoolFault.NoSector) }
+{
+    let key_length = usize::from(file.key_length);
+    let mut buffer = [0; 33];
+    let bytes = &mut buffer[..key_length + 4];
+    read_bytes(pool, &file.file.sectors, place_of(file, i), bytes)?;
+    let key = Key::of(&bytes[..key_length]);
+    let number = BigEndian::read_u32(&bytes[key_length..]);
+    Ok(IndexEntry { key, number })
+}
+
+/// Reads the key of a record.
+pub fn read_key<P: Sectors>(file: &IndexedFile, pool: &mut P, i: u32) -> Result<Key, PoolFault>
+    requires stored { AreStored file.now.file.sectors (P.state pool.old).contents }
+    requires within { i < file.now.file.capacity }
+    ensures ok { IfOk result (λ key. number_of key.bytes ≡ key_of (layout_in file.now).key (part (bytes_in file.now (P.state pool.old).contents) (i * file.now.file.record_length) file.now.file.record_length)) }
+    ensures keeps { KeepsContents (P.state pool.old) (P.state pool.new) }
+    ensures failures { (P.state pool.new).failures ≡ (P.state pool.old).failures + failed_transfers result }
+    ensures fault { IfErr result (λ fault. fault ≢ PoolFault.NoSector) }
+{
+    let mut buffer = [0; 29];
+    let bytes = &mut buffer[..usize::from(file.key_length)];
+    let at = i * u32::from(file.file.record_length) + u32::from(file.key_start - 1);
+    read_bytes(pool, &file.file.sectors, at, bytes)?;
+    Ok(Key::of(bytes))
+}

@@ -1,0 +1,40 @@
+//! Why a file with keys refuses.
+ghost use Rattle.std.specs.Prelude.{◌≡◌};
+ghost use Rattle.s3_keyed.specs.declared.fault.KeyedFault.TheVariants.{Pool};
+
+use s3_store::PoolFault;
+use thiserror::Error;
+
+/// Why a call on a file with keys is refused.
+#[derive(Clone, Copy, Debug, PartialEq, Eq, Error)]
+pub enum KeyedFault {
+    /// No record has that key, or there is none at that place.
+    #[error("no such record")]
+    NoKey,
+    /// A record has that key already.
+    #[error("the key is there already")]
+    Duplicate,
+    /// The file has as many records as it has room for.
+    #[error("the file is full")]
+    Full,
+    /// The new record has another key than the old one.
+    #[error("the key would change")]
+    KeyChanged,
+    /// The index isn't that of the records.
+    #[error("the index is not that of the records")]
+    BadIndex,
+    /// A loaded key isn't above all others.
+    #[error("the keys do not ascend")]
+    NotAscending,
+    /// The sectors refused.
+    #[error("{0}")]
+    Pool(PoolFault),
+}
+
+impl From<PoolFault> for KeyedFault {
+    ghost from_gives = { λ fault refusal. refusal ≡ Pool fault };
+
+    fn from(fault: PoolFault) -> Self {
+        KeyedFault::Pool(fault)
+    }
+}

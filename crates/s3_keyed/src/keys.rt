@@ -1,0 +1,48 @@
+//! Keys of records.
+ghost use Rattle.std.specs.Prelude.{◌≡◌, ◌≤◌, ◌<◌, ◌^◌, ℕ, length, slice_index, nat_lt, ◌==◌};
+ghost use Rattle.std.specs.Ordering.{nat_cmp};
+ghost use Rattle.s3_keyed.specs.KeyOrder.{number_of};
+
+use std::cmp::Ordering;
+
+/// A key of at most 29 bytes, with zeros before it.
+#[derive(Clone, Copy)]
+pub struct Key {
+    /// Its bytes, behind zeros.
+    pub bytes: [u8; 29],
+    ghost in_range: { (i : ℕ) → slice_index bytes i < 256 },
+}
+
+impl Key {
+    /// The key in these bytes.
+    pub fn of(key: &[u8]) -> Self
+        requires { length key.now ≤ 29 }
+        ensures number { number_of result.bytes ≡ number_of key.now }
+        ensures short { number_of result.bytes < 256 ^ length key.now }
+    {
+        let mut bytes = [0; 29];
+        bytes[29 - key.len()..].copy_from_slice(key);
+        Key { bytes }
+    }
+
+    /// How it stands to another key of the same length.
+    pub fn compare(&self, other: &Key) -> Ordering
+        ensures { result ≡ nat_cmp (number_of self.now.bytes) (number_of other.now.bytes) }
+    {
+        self.bytes.cmp(&other.bytes)
+    }
+
+    /// Whether another key is below this one.
+    pub fn is_above(&self, other: &Key) -> bool
+        ensures { result ≡ nat_lt (number_of other.now.bytes) (number_of self.now.bytes) }
+    {
+        other.compare(self) == Ordering::Less
+    }
+
+    /// Whether both are the same.
+    pub fn is_same(&self, other: &Key) -> bool
+        ensures { result ≡ (number_of self.now.bytes == number_of other.now.bytes) }
+    {
+        self.compare(other) == Ordering::Equal
+    }
+}
