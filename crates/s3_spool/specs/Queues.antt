@@ -1,0 +1,95 @@
+-- Queues of printed lines, and the spool blocks of a pack in which they stand.
+use Rattle.std.specs.Prelude.{◌≡◌, ◌<◌, ◌≤◌, ℕ, ◌+◌, ◌-◌, ◌==◌, ◌&&◌, nat_le, List, [], ◌∷◌, ◌++◌, length, map, drop, replicate, slice_index, Result, Ok, Err, if◌then◌else◌}
+use Rattle.byteorder.specs.Endian.{big_number, big_bytes}
+use Rattle.s3_cards.specs.Printed.{Printed}
+use Rattle.s3_cards.specs.declared.levels.LevelId.{LevelId}
+use Rattle.s3_cards.specs.declared.levels.LevelId.TheVariants.{One, Two}
+use Rattle.s3_store.specs.Bytes.{sector_bytes, part}
+use Rattle.s3_store.specs.declared.pool_fault.PoolFault.TheVariants.{Device, NoMemory, NoSector}
+use Rattle.s3_spool.specs.declared.fault.SpoolFault.{SpoolFault}
+use Rattle.s3_spool.specs.declared.fault.SpoolFault.TheVariants.{QuotaFull, Empty, Sectors}
+
+-- ---- a line in its block
+-- the sector of a block, 0 to 127
+abbrev pub block_sector : ℕ → ℕ
+block_sector block = 25 + block
+
+-- page, line, length, the text as printed, and zeros
+abbrev pub block_bytes : Printed → List ℕ
+block_bytes line =
+    (big_bytes 2 line.page ++ line.line ∷ length line.text ∷ []) ++ (line.text ++ replicate (252 - length line.text) 0)
+
+-- a block that no line was put into may have any length: it counts as 132
+abbrev pub text_length : ℕ → ℕ
+text_length n = if nat_le 1 n && nat_le n 132 then n else 132
+
+-- the line that the bytes of a block say
+abbrev pub line_of_block : List ℕ → Printed
+line_of_block bytes =
+    record { page = big_number 2 bytes; line = slice_index bytes 2; text = part bytes 4 (text_length (slice_index bytes 3)) }
+
+-- ---- the blocks
+-- the blocks that hold no line, and those of each level, the oldest line's first; with the lines that each level may have queued
+pub record Blocks : Type 0 where
+  pub free : List ℕ
+  pub one : List ℕ
+  pub two : List ℕ
+  pub quota_one : ℕ
+  pub quota_two : ℕ
+
+abbrev pub blocks_of : LevelId → Blocks → List ℕ
+blocks_of One blocks = blocks.one
+blocks_of Two blocks = blocks.two
+
+abbrev pub quota_of : LevelId → Blocks → ℕ
+quota_of One blocks = blocks.quota_one
+quota_of Two blocks = blocks.quota_two
+
+-- how often a block stands among some
+abbrev pub times : ℕ → List ℕ → ℕ
+times block [] = 0
+times block (other ∷ blocks) = (if block == other then 1 else 0) + times block blocks
+
+-- the free blocks and those of both levels are 0 to 127, each once
+pub record AreBlocks (free one two : List ℕ) : Type 0 where
+  pub count : length free + length one + length two ≡ 128
+  pub each : (block : ℕ) → block < 128 → times block free + times block one + times block two ≡ 1
+  pub no_other : (block : ℕ) → 128 ≤ block → times block free + times block one + times block two ≡ 0
+
+-- ---- the queues
+-- the lines in these blocks, in their order
+unfoldable pub lines_in : List ℕ → List (List ℕ) → List Printed
+lines_in blocks contents = map (λ block. line_of_block (sector_bytes contents (block_sector block))) blocks
+
+-- the queue of a level, the oldest line first
+abbrev pub queue_of : LevelId → Blocks → (contents : List (List ℕ)) → List Printed
+queue_of level blocks contents = lines_in (blocks_of level blocks) contents
+
+abbrev pub other_level : LevelId → LevelId
+other_level One = Two
+other_level Two = One
+
+-- the first free block becomes a level's last
+abbrev pub with_queued : LevelId → ℕ → Blocks → Blocks
+with_queued One block blocks = record blocks { free = drop 1 blocks.free; one = blocks.one ++ block ∷ [] }
+with_queued Two block blocks = record blocks { free = drop 1 blocks.free; two = blocks.two ++ block ∷ [] }
+
+-- a level's first block becomes the last free one
+abbrev pub with_taken : LevelId → ℕ → Blocks → Blocks
+with_taken One block blocks = record blocks { free = blocks.free ++ block ∷ []; one = drop 1 blocks.one }
+with_taken Two block blocks = record blocks { free = blocks.free ++ block ∷ []; two = drop 1 blocks.two }
+
+-- a sector of a block that holds no line
+pub record IsFreeSector (blocks : Blocks) (n : ℕ) : Type 0 where
+  pub block : ℕ
+  pub place : n ≡ block_sector block
+  pub free : times block blocks.one + times block blocks.two ≡ 0
+
+-- how many transfers a call's answer says to have failed
+abbrev pub failed_by : {T : Type 0} → Result T SpoolFault → ℕ
+failed_by (Ok _) = 0
+failed_by (Err QuotaFull) = 0
+failed_by (Err Empty) = 0
+failed_by (Err (Sectors Device)) = 1
+failed_by (Err (Sectors NoMemory)) = 0
+failed_by (Err (Sectors NoSector)) = 0

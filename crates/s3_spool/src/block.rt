@@ -1,0 +1,84 @@
+//! A printed line in a spool block.
+ghost use Rattle.std.specs.Prelude.{◌≡◌, ◌<◌, ◌≤◌, ◌+◌, ◌-◌, ◌++◌, [], ◌∷◌, length, take, drop, replicate};
+ghost use Rattle.byteorder.specs.Endian.{big_bytes};
+ghost use Rattle.s3_spool.specs.Queues.{block_bytes as block_bytes_spec, text_length as text_length_spec, line_of_block as line_of_block_spec};
+
+use byteorder::{BigEndian, ByteOrder};
+use s3_cards::ebcdic::BLANK;
+use s3_cards::{PRINT_POSITIONS, PrintLine};
+
+/// Where the text of a line begins in its block.
+const TEXT: usize = 4;
+
+/// These bytes from a place of the block on.
+fn put(bytes: &mut [u8; 256], place: usize, part: &[u8])
+    requires { place + length part.now ≤ 256 }
+    ensures { bytes.new ≡ (take place bytes.old ++ part.now) ++ drop (place + length part.now) bytes.old }
+{
+    bytes[place..place + part.len()].copy_from_slice(part);
+}
+
+/// What stands before the text of a line.
+fn head_of(page: u16, line: u8, length: u8) -> [u8; 4]
+    ensures { result ≡ big_bytes 2 page ++ line ∷ «length» ∷ [] }
+{
+    let mut bytes = [0, 0, line, length];
+    BigEndian::write_u16(&mut bytes, page);
+    bytes
+}
+
+/// The bytes of a block with this line.
+#[tactic(auto, using(crate::proofs::BlockLemmas::block_put_together, crate::proofs::BlockLemmas::block_reads_back, crate::proofs::BlockLemmas::block_is_whole))]
+pub fn block_bytes(line: &PrintLine) -> [u8; 256]
+    ensures value { result ≡ block_bytes_spec line.now }
+    ensures reads { line_of_block_spec (block_bytes_spec line.now) ≡ line.now }
+    ensures whole { length (block_bytes_spec line.now) ≡ 256 }
+{
+    let text = line.text();
+    let mut bytes = [0; 256];
+    put(
+        &mut bytes,
+        0,
+        &head_of(line.page(), line.line(), text.len() as u8),
+    );
+    put(&mut bytes, TEXT, text);
+    bytes
+}
+
+/// A length that a block says; one that no line has counts as 132.
+fn text_length(length: u8) -> usize
+    ensures value { result ≡ text_length_spec length }
+    ensures low { 1 ≤ result }
+    ensures high { result ≤ 132 }
+{
+    match length {
+        1..=132 => length as usize,
+        _ => PRINT_POSITIONS,
+    }
+}
+
+/// A text with blanks behind it.
+#[tactic(auto, using(crate::proofs::BlockLemmas::blanks_left))]
+fn padded(text: &[u8]) -> [u8; PRINT_POSITIONS]
+    requires { length text.now ≤ 132 }
+    ensures { result ≡ text.now ++ replicate (132 - length text.now) BLANK }
+{
+    let mut positions = [BLANK; PRINT_POSITIONS];
+    positions[..text.len()].copy_from_slice(text);
+    positions
+}
+
+/// The line that the bytes of a block say.
+#[tactic(auto, using(crate::proofs::BlockLemmas::take_padded, crate::proofs::BlockLemmas::drop_padded))]
+pub fn line_of_block(bytes: &[u8; 256]) -> PrintLine
+    ensures { result ≡ line_of_block_spec bytes.now }
+{
+    let width = text_length(bytes[3]);
+    let positions = padded(&bytes[TEXT..TEXT + width]);
+    PrintLine::new(
+        BigEndian::read_u16(&bytes[..2]),
+        bytes[2],
+        width as u8,
+        positions,
+    )
+}

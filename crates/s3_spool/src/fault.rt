@@ -1,0 +1,28 @@
+//! Why a queue refuses a call.
+ghost use Rattle.std.specs.Prelude.{◌≡◌};
+ghost use Rattle.s3_spool.specs.declared.fault.SpoolFault.TheVariants.{Sectors as SectorsFault};
+
+use s3_store::PoolFault;
+use thiserror::Error;
+
+/// Why a queue of printed lines refuses a call.
+#[derive(Clone, Copy, Debug, PartialEq, Eq, Error)]
+pub enum SpoolFault {
+    /// The level has as many lines queued as its quota allows.
+    #[error("the level's quota of queued lines is used up")]
+    QuotaFull,
+    /// The level has no line queued.
+    #[error("no line is queued")]
+    Empty,
+    /// A transfer failed, or memory was refused.
+    #[error("{0}")]
+    Sectors(PoolFault),
+}
+
+impl From<PoolFault> for SpoolFault {
+    ghost from_gives = { λ fault e. e ≡ SectorsFault fault };
+
+    fn from(fault: PoolFault) -> Self {
+        SpoolFault::Sectors(fault)
+    }
+}
