@@ -1,10 +1,13 @@
 //! The command's words, and what they ask for.
 ghost use Rattle.std.specs.Prelude.{◌≤◌, ◌≡◌};
 
+use crate::files::{read_pack, save_pack};
+use crate::words::command;
 use clap::error::ErrorKind;
-use clap::{ArgMatches, Command, Error};
-use s3_cli::{CliFault, RunFault, SessionFault, session, tell};
-use std::alloc::{AllocError, Global};
+use clap::{ArgMatches, Error};
+use s3_cli::{
+    CliFault, RunFault, SessionFault, image_with, list, migrate, session, tell, write_table,
+};
 use std::io::Write;
 use std::{env, io};
 
@@ -75,20 +78,15 @@ fn explain(rt: &HostRuntime, error: &Error) -> u8
     }
 }
 
-fn command<'a>(alloc: Global) -> Result<Command<'a>, AllocError> {
-    let run = Command::new(alloc, "run").about("Runs the decks and the script of standard input");
-    Command::new(alloc, "bureau")
-        .about("A dual-program RPG II job shop")
-        .subcommand_required(true)
-        .subcommand(run)
-}
-
 /// Does what the command asks, and gives the exit status.
 fn perform(rt: &HostRuntime, matches: &ArgMatches<'_>) -> u8
     ensures { result ≤ 3 }
 {
     let done = match matches.subcommand() {
         Some(("run", _)) => run(rt),
+        Some(("init", matches)) => init(rt, matches),
+        Some(("list", matches)) => list_files(rt, matches),
+        Some(("migrate", matches)) => migrate_pack(rt, matches),
         // a command that is offered above has a line here
         _ => return misuse(rt, "the command isn't built"),
     };
@@ -104,4 +102,73 @@ fn run(rt: &HostRuntime) -> Result<(), CliFault> {
         CliFault::Session,
     )?;
     Ok(())
+}
+
+/// `bureau init`.
+fn init(rt: &HostRuntime, matches: &ArgMatches<'_>) -> Result<(), CliFault> {
+    let old = match matches.get_str("from") {
+        Some(path) => Some(read(rt, path)?),
+        None => None,
+    };
+    let pack = image_with(
+        rt.alloc(),
+        old.as_ref().map(|old| old.as_slice()),
+        tracks(matches, "masters"),
+        tracks(matches, "level1"),
+        tracks(matches, "level2"),
+        quota(matches, "quota1"),
+        quota(matches, "quota2"),
+    )
+    .map_err(CliFault::Image)?;
+    save(rt, matches, &pack)
+}
+
+/// `bureau list`.
+fn list_files(rt: &HostRuntime, matches: &ArgMatches<'_>) -> Result<(), CliFault> {
+    let pack = read(rt, file(matches, "pack"))?;
+    let listed = if matches.get_flag("table") {
+        write_table(rt.alloc(), &pack, &mut rt.stdout())
+    } else {
+        list(rt.alloc(), &pack, &mut rt.stdout())
+    };
+    listed.map_err(CliFault::Session)
+}
+
+/// `bureau migrate`.
+fn migrate_pack(rt: &HostRuntime, matches: &ArgMatches<'_>) -> Result<(), CliFault> {
+    let old = read(rt, file(matches, "pack"))?;
+    let pack = migrate(rt.alloc(), &old).map_err(CliFault::Migrate)?;
+    save(rt, matches, &pack)
+}
+
+/// The path that a needed word gives.
+fn file<'a>(matches: &ArgMatches<'a>, name: &str) -> &'a str {
+    matches.get_str(name).unwrap_or("")
+}
+
+/// The number of tracks that a word gives; it has one by default.
+fn tracks(matches: &ArgMatches<'_>, name: &str) -> u16 {
+    matches.get_one::<u16>(name).unwrap_or(0)
+}
+
+/// The number of lines that a word gives; it has one by default.
+fn quota(matches: &ArgMatches<'_>, name: &str) -> u8 {
+    matches.get_one::<u8>(name).unwrap_or(0)
+}
+
+fn read(rt: &HostRuntime, path: &str) -> Result<Vec<u8>, CliFault> {
+    read_pack(rt, path).map_err(|error| fault_of(&error))
+}
+
+fn save(rt: &HostRuntime, matches: &ArgMatches<'_>, pack: &[u8]) -> Result<(), CliFault> {
+    save_pack(rt, file(matches, "save"), pack).map_err(|error| fault_of(&error))
+}
+
+/// What a failed call on a file is to a command.
+fn fault_of(error: &io::Error) -> CliFault {
+    if error.kind() == io::ErrorKind::OutOfMemory {
+        OUT_OF_MEMORY
+    } else {
+        FILE
+    }
 }

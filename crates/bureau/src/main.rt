@@ -1,8 +1,10 @@
-//! The program `bureau`: its command line, over standard input and output.
+//! The program `bureau`: its command line, over standard input and output and files.
 
 #![tactic(auto)]
 
 mod command;
+mod files;
+mod words;
 
 use std::process::ExitCode;
 

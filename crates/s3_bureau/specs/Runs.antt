@@ -10,7 +10,7 @@ use Rattle.s3_bureau.specs.declared.entry.Entry.{Entry}
 use Rattle.s3_bureau.specs.declared.outcome.LevelTexts.{LevelTexts}
 use Rattle.s3_bureau.specs.declared.outcome.Outcome.{Outcome}
 use Rattle.s3_bureau.specs.declared.run_fault.RunFault.{RunFault}
-use Rattle.s3_bureau.specs.declared.run_fault.RunFault.TheVariants.{Script, NoMemory}
+use Rattle.s3_bureau.specs.declared.run_fault.RunFault.TheVariants.{Script, Mount, NoMemory}
 use Rattle.s3_bureau.specs.Texts.{report_of, halt_text_of}
 use Rattle.s3_bureau.specs.Script.{entries_of}
 use Rattle.s3_bureau.specs.Entries.{own}
@@ -66,8 +66,10 @@ texts_in texts = record { report = texts.report.items; halts = texts.halts.items
 abbrev pub outcome_texts : Outcome → RunTexts
 outcome_texts outcome = record { one = texts_in outcome.one; two = texts_in outcome.two }
 
--- The answer of a run is what its decks and its script give, unless memory ran out. The pack is handed back as it came.
+-- The answer of a run is what its decks and its script give, unless memory ran out. The pack is handed back as it came: it
+-- isn't mounted yet.
 abbrev pub Runs : (pack deck1 deck2 script : List ℕ) → Result Outcome RunFault → Type 0
 Runs pack deck1 deck2 script (Ok outcome) = (run_texts deck1 deck2 script ≡ Ok (outcome_texts outcome)) × (outcome.pack.items ≡ pack)
 Runs pack deck1 deck2 script (Err NoMemory) = Unit {0}
 Runs pack deck1 deck2 script (Err (Script line)) = run_texts deck1 deck2 script ≡ Err (Script line)
+Runs pack deck1 deck2 script (Err (Mount fault)) = ⊥

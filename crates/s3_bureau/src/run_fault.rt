@@ -1,6 +1,10 @@
 //! Why a run has no outcome.
 
+ghost use Rattle.std.specs.Prelude.{◌≡◌};
+ghost use Rattle.s3_bureau.specs.Faults.{mount_number as mount_number_spec};
+
 use super::script::ScriptFault;
+use s3_slots::MountFault;
 use std::alloc::AllocError;
 use thiserror::Error;
 
@@ -10,9 +14,23 @@ pub enum RunFault {
     /// The script has an ill-formed line; the first one's number, from 1.
     #[error("script {line}")]
     Script { line: usize },
+    /// The pack isn't mounted.
+    #[error("mount {}", mount_number(*.0))]
+    Mount(MountFault),
     /// A growth was refused.
     #[error("memory")]
     NoMemory,
+}
+
+/// The number of a mount's refusal, from 1.
+pub fn mount_number(fault: MountFault) -> u8
+    ensures { result ≡ mount_number_spec fault }
+{
+    match fault {
+        MountFault::BadHeader => 1,
+        MountFault::BadRegions => 2,
+        MountFault::Short => 3,
+    }
 }
 
 impl From<AllocError> for RunFault {

@@ -1,7 +1,7 @@
 -- Which exit status stands for a refusal.
 use Rattle.std.specs.Prelude.{ℕ}
 use Rattle.s3_cli.specs.declared.fault.CliFault.{CliFault}
-use Rattle.s3_cli.specs.declared.fault.CliFault.TheVariants.{Session}
+use Rattle.s3_cli.specs.declared.fault.CliFault.TheVariants.{Session, Image, Migrate}
 use Rattle.s3_cli.specs.declared.fault.SessionFault.{SessionFault}
 use Rattle.s3_cli.specs.declared.fault.SessionFault.TheVariants.{Run, Input, File}
 
@@ -13,3 +13,5 @@ session_status File = 3
 
 abbrev pub status_of : CliFault → ℕ
 status_of (Session fault) = session_status fault
+status_of (Image fault) = 1
+status_of (Migrate fault) = 1

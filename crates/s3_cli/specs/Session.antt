@@ -2,7 +2,7 @@
 use Rattle.std.specs.Prelude.{◌≡◌, ◌⊎◌, ℕ, ◌<◌, ◌≤◌, List, [], ◌∷◌, ◌++◌, length, Option, Some, None, Result, Ok, Err, codes}
 use Rattle.std.specs.Io.KnownBytes.{Appends}
 use Rattle.s3_bureau.specs.declared.run_fault.RunFault.{RunFault}
-use Rattle.s3_bureau.specs.declared.run_fault.RunFault.TheVariants.{Script, NoMemory}
+use Rattle.s3_bureau.specs.declared.run_fault.RunFault.TheVariants.{Script, Mount, NoMemory}
 use Rattle.s3_bureau.specs.Runs.{RunTexts, run_texts}
 use Rattle.s3_cli.specs.Parts.{Parts, parts_of}
 use Rattle.s3_cli.specs.declared.fault.SessionFault.{SessionFault}
@@ -50,6 +50,7 @@ HasBadLine fault None = ⊥
 -- when each refusal comes: nothing is said of memory and of files
 abbrev pub Refuses : SessionFault → List ℕ → Type 0
 Refuses (Run (Script number)) input = IsShort input × HasBadLine (Script number) (parts_of input)
+Refuses (Run (Mount fault)) input = ⊥
 Refuses (Run NoMemory) input = Unit {0}
 Refuses Input input = (4194304 < length input) ⊎ (parts_of input ≡ None)
 Refuses File input = Unit {0}

@@ -2,10 +2,13 @@
 
 ghost use Rattle.std.specs.Prelude.{◌≡◌};
 ghost use Rattle.s3_cli.specs.Faults.{status_of};
+ghost use Rattle.s3_cli.specs.Packs.{fault_of_list};
 ghost use Rattle.s3_bureau.specs.declared.run_fault.RunFault.TheVariants.{NoMemory as RunNoMemory};
 ghost use Rattle.s3_cli.specs.declared.fault.SessionFault.TheVariants.{Run};
 
-use s3_bureau::RunFault;
+use s3_bureau::{RunFault, mount_number};
+use s3_labels::{ImageFault, MigrateFault};
+use s3_listing::ListFault;
 use std::alloc::AllocError;
 use std::io;
 use std::io::Write;
@@ -41,13 +44,62 @@ impl From<RunFault> for SessionFault {
     }
 }
 
-/// Why the program ended without its work done: a variant for each command. `run` is the only command yet; those that make
-/// a pack and bring one to a newer form get theirs with them.
+impl From<ListFault> for SessionFault {
+    ghost from_gives = { λ reason fault. fault ≡ fault_of_list reason };
+
+    fn from(reason: ListFault) -> SessionFault {
+        match reason {
+            ListFault::Mount(fault) => SessionFault::Run(RunFault::Mount(fault)),
+            ListFault::NoMemory => SessionFault::Run(RunFault::NoMemory),
+            ListFault::File => SessionFault::File,
+        }
+    }
+}
+
+/// Why the program ended without its work done.
 #[derive(Clone, Copy, Debug, Error)]
 pub enum CliFault {
-    /// `run` was refused.
+    /// `run` or `list` was refused, or a file failed.
     #[error(transparent)]
     Session(SessionFault),
+    /// `init` was refused.
+    #[error("{}", image_words(*.0))]
+    Image(ImageFault),
+    /// `migrate` was refused.
+    #[error("{}", migrate_words(*.0))]
+    Migrate(MigrateFault),
+}
+
+/// What a refused pack's line says.
+#[derive(Clone, Copy, Debug, Error)]
+enum PackWords {
+    #[error("mount {0}")]
+    Mount(u8),
+    #[error("size")]
+    Size,
+    #[error("quota")]
+    Quota,
+    #[error("format")]
+    Format,
+    #[error("memory")]
+    Memory,
+}
+
+fn image_words(fault: ImageFault) -> PackWords {
+    match fault {
+        ImageFault::Mount(fault) => PackWords::Mount(mount_number(fault)),
+        ImageFault::TooLarge => PackWords::Size,
+        ImageFault::BadQuota => PackWords::Quota,
+        ImageFault::NoMemory => PackWords::Memory,
+    }
+}
+
+fn migrate_words(fault: MigrateFault) -> PackWords {
+    match fault {
+        MigrateFault::Mount(fault) => PackWords::Mount(mount_number(fault)),
+        MigrateFault::AlreadyNew => PackWords::Format,
+        MigrateFault::NoMemory => PackWords::Memory,
+    }
 }
 
 impl CliFault {
@@ -57,7 +109,7 @@ impl CliFault {
     {
         match self {
             CliFault::Session(SessionFault::File) => 3,
-            CliFault::Session(_) => 1,
+            CliFault::Session(_) | CliFault::Image(_) | CliFault::Migrate(_) => 1,
         }
     }
 }

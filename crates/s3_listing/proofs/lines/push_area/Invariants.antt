@@ -1,0 +1,7 @@
+-- The lines of the slots so far.
+use Rattle.std.proofs.Common.{◌≡◌, ◌++◌, take, vec_items}
+use Rattle.s3_listing.specs.Listing.{area_text}
+use Rattle.s3_listing.proofs.lines.push_area.Given as goal
+
+abbrev pub invariant-loop-slot : goal.invariant-loop-slot
+invariant-loop-slot l = vec_items l.text ≡ vec_items l.initial.text ++ area_text l.area (take l.slot-index l.slots)

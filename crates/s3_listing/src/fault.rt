@@ -1,0 +1,29 @@
+//! Why nothing, or not all, is listed.
+use s3_labels::MountFault;
+use std::alloc::AllocError;
+use thiserror::Error;
+
+/// Why the files of a pack aren't listed.
+#[derive(Clone, Copy, Debug, PartialEq, Eq, Error)]
+pub enum ListFault {
+    /// The pack isn't mounted.
+    #[error("the pack can't be mounted")]
+    Mount(MountFault),
+    /// A growth was refused.
+    #[error("out of memory")]
+    NoMemory,
+    /// The write failed.
+    #[error("the list can't be written")]
+    File,
+}
+
+impl From<AllocError> for ListFault {
+    ghost use Rattle.std.specs.Prelude.{◌≡◌};
+    ghost use Rattle.s3_listing.specs.declared.fault.ListFault.TheVariants.{NoMemory as NoMemoryVariant};
+
+    ghost from_gives = { λ _ fault. fault ≡ NoMemoryVariant };
+
+    fn from(_: AllocError) -> Self {
+        ListFault::NoMemory
+    }
+}

@@ -1,0 +1,126 @@
+//! The line of each used slot.
+ghost use Rattle.std.specs.Prelude.{◌≡◌, ◌<◌, ◌++◌, OnOk, map};
+ghost use Rattle.s3_listing.specs.Lines.{shown_byte, name_text, label_text, organization_letter, retention_letter, fields_text, slot_line};
+ghost use Rattle.s3_listing.specs.Listing.{area_text};
+
+use crate::number::push_number;
+use s3_cards::{Name, Retention, host_byte};
+use s3_labels::{FileLabel, Organization, Slot};
+use std::alloc::AllocError;
+
+/// Appends the lines of an area's used slots.
+pub fn push_area(text: &mut Vec<u8>, area: u8, slots: &[Slot]) -> Result<(), AllocError>
+    requires { area < 3 }
+    ensures { OnOk result (text.new.items ≡ text.old.items ++ area_text area slots.now) }
+{
+    for slot in slots {
+        push_slot(text, area, slot)?;
+    }
+    Ok(())
+}
+
+/// Appends the line of a slot; a free one has none.
+#[tactic(auto, unfolding(crate::specs::Lines::slot_line))]
+fn push_slot(text: &mut Vec<u8>, area: u8, slot: &Slot) -> Result<(), AllocError>
+    requires { area < 3 }
+    ensures { OnOk result (text.new.items ≡ text.old.items ++ slot_line area slot.now) }
+{
+    match slot {
+        Slot::Free => Ok(()),
+        Slot::Sound(label) => push_file(text, area, label),
+        Slot::Damaged(name) => push_damage(text, area, *name),
+    }
+}
+
+/// Appends the line of a file.
+#[tactic(auto, unfolding(crate::specs::Lines::slot_line))]
+fn push_file(text: &mut Vec<u8>, area: u8, label: &FileLabel) -> Result<(), AllocError>
+    requires { area < 3 }
+    ensures { OnOk result (text.new.items ≡ text.old.items ++ slot_line area (Slot.Sound label.now)) }
+{
+    text.extend_from_slice(&[b'0' + area, b' '])?;
+    push_name(text, label.name)?;
+    text.push(b' ')?;
+    push_fields(text, label)?;
+    text.push(b'\n')?;
+    Ok(())
+}
+
+/// Appends the line of a damaged slot.
+#[tactic(auto, unfolding(crate::specs::Lines::slot_line))]
+fn push_damage(text: &mut Vec<u8>, area: u8, name: Option<Name>) -> Result<(), AllocError>
+    requires { area < 3 }
+    ensures { OnOk result (text.new.items ≡ text.old.items ++ slot_line area (Slot.Damaged name)) }
+{
+    text.extend_from_slice(&[b'0' + area, b' '])?;
+    push_label(text, name)?;
+    text.push(b' ')?;
+    text.extend_from_slice(b"DAMAGED")?;
+    text.push(b'\n')?;
+    Ok(())
+}
+
+/// Appends a label, or what stands for one that isn't a name.
+fn push_label(text: &mut Vec<u8>, name: Option<Name>) -> Result<(), AllocError>
+    ensures { OnOk result (text.new.items ≡ text.old.items ++ label_text name) }
+{
+    match name {
+        Some(name) => push_name(text, name),
+        None => text.extend_from_slice(b"????????"),
+    }
+}
+
+/// Appends the characters of a label.
+fn push_name(text: &mut Vec<u8>, name: Name) -> Result<(), AllocError>
+    ensures { OnOk result (text.new.items ≡ text.old.items ++ name_text name) }
+{
+    push_shown(text, &name.codes)
+}
+
+/// Appends the characters of EBCDIC codes.
+fn push_shown(text: &mut Vec<u8>, codes: &[u8]) -> Result<(), AllocError>
+    ensures { OnOk result (text.new.items ≡ text.old.items ++ map shown_byte codes.now) }
+{
+    for code in codes {
+        text.push(host_byte(*code))?;
+    }
+    Ok(())
+}
+
+/// Appends what a label says of its file, but for its name.
+#[tactic(auto, unfolding(crate::specs::Lines::fields_text))]
+fn push_fields(text: &mut Vec<u8>, label: &FileLabel) -> Result<(), AllocError>
+    ensures { OnOk result (text.new.items ≡ text.old.items ++ fields_text label.now) }
+{
+    let organization = letter_of_organization(label.organization);
+    let retention = letter_of_retention(label.retention);
+    text.extend_from_slice(&[organization, b' ', retention, b' '])?;
+    push_number(text, u32::from(label.record_length), 4)?;
+    text.push(b' ')?;
+    push_number(text, label.capacity, 8)?;
+    text.push(b' ')?;
+    push_number(text, label.count, 8)?;
+    Ok(())
+}
+
+/// The letter of an organization.
+pub fn letter_of_organization(organization: Organization) -> u8
+    ensures { result ≡ organization_letter organization }
+{
+    match organization {
+        Organization::Sequential => b'S',
+        Organization::Indexed => b'I',
+        Organization::Direct => b'D',
+    }
+}
+
+/// The letter of a retention.
+pub fn letter_of_retention(retention: Retention) -> u8
+    ensures { result ≡ retention_letter retention }
+{
+    match retention {
+        Retention::Temporary => b'T',
+        Retention::Scratch => b'S',
+        Retention::Permanent => b'P',
+    }
+}

@@ -1,0 +1,176 @@
+//! A table of a pack's regions and files, for people.
+
+use crate::fault::ListFault;
+use crate::lines::{letter_of_organization, letter_of_retention};
+use crate::written::mount_slots;
+use s3_cards::{LevelId, Name, host_byte};
+use s3_labels::{AreaSlots, FileLabel, Format, Slot};
+use s3_store::Stretch;
+use std::alloc::{AllocError, Global};
+use std::io::Write;
+
+/// The sectors of a track.
+const TRACK: u32 = 24;
+
+/// Writes a table of a pack: for the masters and each level the size of the region, how much of it is free, and the used
+/// slots with the extents, the dates and how full each file is.
+///
+/// It refuses as the list does.
+pub fn write_table<W: Write>(alloc: Global, pack: &[u8], writer: &mut W) -> Result<(), ListFault> {
+    let slots = mount_slots(alloc, pack)?;
+    let text = table_text(alloc, &slots)?;
+    match writer.write_all(text.as_str().as_bytes()) {
+        Ok(()) => Ok(()),
+        Err(_) => Err(ListFault::File),
+    }
+}
+
+fn table_text(alloc: Global, slots: &AreaSlots) -> Result<String, AllocError> {
+    let header = slots.header();
+    let mut text = String::new(alloc);
+    let format = number_of(header.format);
+    let total = header.total;
+    let quota_one = header.quota_one;
+    let quota_two = header.quota_two;
+    writeln!(
+        text,
+        "Pack of format {format}: {total} sectors, quotas {quota_one} and {quota_two}"
+    )?;
+    push_area(&mut text, "Masters", header.masters, slots.masters())?;
+    push_area(
+        &mut text,
+        "Level 1",
+        header.level_one,
+        slots.slots(LevelId::One),
+    )?;
+    push_area(
+        &mut text,
+        "Level 2",
+        header.level_two,
+        slots.slots(LevelId::Two),
+    )?;
+    Ok(text)
+}
+
+fn number_of(format: Format) -> u8 {
+    match format {
+        Format::First => 1,
+        Format::Second => 2,
+    }
+}
+
+/// Appends an area: its region, and a line for each used slot.
+fn push_area(
+    text: &mut String,
+    title: &str,
+    region: Stretch,
+    slots: &[Slot],
+) -> Result<(), AllocError> {
+    let sectors = u32::from(region.sectors);
+    let tracks = sectors / TRACK;
+    let free = sectors.saturating_sub(taken_sectors(slots)) / TRACK;
+    let free_slots = slots.iter().filter(|slot| is_free(slot)).count();
+    writeln!(text)?;
+    writeln!(
+        text,
+        "{title}: {tracks} tracks, {free} free; {free_slots} of 32 slots free"
+    )?;
+    if free_slots < slots.len() {
+        writeln!(
+            text,
+            "Label    Kind Kept Length Capacity    Count Full Date     Sectors"
+        )?;
+    }
+    for slot in slots {
+        push_slot(text, slot)?;
+    }
+    Ok(())
+}
+
+fn is_free(slot: &Slot) -> bool {
+    match slot {
+        Slot::Free => true,
+        Slot::Sound(_) | Slot::Damaged(_) => false,
+    }
+}
+
+/// The sectors of all sound extents.
+fn taken_sectors(slots: &[Slot]) -> u32 {
+    let mut taken = 0u32;
+    for slot in slots {
+        if let Slot::Sound(label) = slot {
+            taken = taken.saturating_add(sectors_of(label));
+        }
+    }
+    taken
+}
+
+fn sectors_of(label: &FileLabel) -> u32 {
+    let mut sectors = 0u32;
+    for extent in label.extents.as_slice() {
+        sectors = sectors.saturating_add(u32::from(extent.sectors));
+    }
+    sectors
+}
+
+fn push_slot(text: &mut String, slot: &Slot) -> Result<(), AllocError> {
+    match slot {
+        Slot::Free => Ok(()),
+        Slot::Damaged(Some(name)) => {
+            push_name(text, *name)?;
+            writeln!(text, " damaged")
+        }
+        Slot::Damaged(None) => writeln!(text, "???????? damaged"),
+        Slot::Sound(label) => push_file(text, label),
+    }
+}
+
+fn push_file(text: &mut String, label: &FileLabel) -> Result<(), AllocError> {
+    let kind = char::from(letter_of_organization(label.organization));
+    let kept = char::from(letter_of_retention(label.retention));
+    let length = label.record_length;
+    let capacity = label.capacity;
+    let count = label.count;
+    let full = percent(count, capacity);
+    push_name(text, label.name)?;
+    write!(
+        text,
+        " {kind}    {kept}    {length:>6} {capacity:>8} {count:>8} {full:>3}% "
+    )?;
+    push_date(text, &label.date)?;
+    for extent in label.extents.as_slice() {
+        let first = u32::from(extent.start);
+        let last = (first + u32::from(extent.sectors)).saturating_sub(1);
+        write!(text, " {first}-{last}")?;
+    }
+    writeln!(text)
+}
+
+/// How full a file is, in hundredths.
+fn percent(count: u32, capacity: u32) -> u64 {
+    if capacity == 0 {
+        return 0;
+    }
+    u64::from(count) * 100 / u64::from(capacity)
+}
+
+/// Appends month, day and year.
+fn push_date(text: &mut String, date: &[u8; 6]) -> Result<(), AllocError> {
+    push_codes(text, &date[..2])?;
+    text.push('/')?;
+    push_codes(text, &date[2..4])?;
+    text.push('/')?;
+    push_codes(text, &date[4..])
+}
+
+fn push_name(text: &mut String, name: Name) -> Result<(), AllocError> {
+    push_codes(text, &name.codes)
+}
+
+/// Appends the characters of EBCDIC codes.
+fn push_codes(text: &mut String, codes: &[u8]) -> Result<(), AllocError> {
+    for code in codes {
+        text.push(char::from(host_byte(*code)))?;
+    }
+    Ok(())
+}
