@@ -7,6 +7,8 @@ mod decimal_rows;
 #[cfg(test)]
 mod edit_rows;
 #[cfg(test)]
+mod pack_rows;
+#[cfg(test)]
 mod pool_rows;
 #[cfg(test)]
 mod store_rows;
