@@ -3,18 +3,18 @@ use Rattle.std.proofs.Common.{◌≡◌, ℕ, zero, suc, ◌==◌, ◌<◌, ◌�
 use Rattle.std.specs.List.{list_any}
 use Rattle.s3_meaning.proofs.Selecting.{taken_unread}
 use Rattle.s3_cards.specs.declared.name.Name.{Name}
-use Rattle.s3_sheets.specs.declared.indicator.Indicator.{Indicator}
-use Rattle.s3_sheets.specs.declared.indicator.Indicator.TheVariants.{LastRecord, Halt}
+use Rattle.s3_lines.specs.declared.indicator.Indicator.{Indicator}
+use Rattle.s3_lines.specs.declared.indicator.Indicator.TheVariants.{LastRecord, Halt}
 use Rattle.s3_meaning.specs.declared.halt.HaltCode.{HaltCode}
 use Rattle.s3_meaning.specs.declared.halt.HaltCode.TheVariants.{HaltIndicator, BadDigit, ZeroDivisor, NoRecordFound, UnidentifiedRecord, OutOfSequence}
-use Rattle.s3_sheets.specs.declared.sheet.FieldLine.{FieldLine}
-use Rattle.s3_sheets.specs.declared.sheet.FieldForm.{FieldForm}
-use Rattle.s3_sheets.specs.declared.sheet.FieldForm.TheVariants.{Alphanumeric, Zoned, Packed}
-use Rattle.s3_sheets.specs.declared.sheet.FileLine.{FileLine}
-use Rattle.s3_sheets.specs.declared.sheet.OutputKind.{OutputKind}
-use Rattle.s3_sheets.specs.declared.sheet.Operation.{Operation}
-use Rattle.s3_sheets.specs.declared.sheet.Operation.TheVariants.{Divide, GoTo, ExecuteSubroutine, Except, Chain}
-use Rattle.s3_sheets.specs.declared.sheet.CalculationLine.{CalculationLine}
+use Rattle.s3_lines.specs.declared.sheet.FieldLine.{FieldLine}
+use Rattle.s3_lines.specs.declared.sheet.FieldForm.{FieldForm}
+use Rattle.s3_lines.specs.declared.sheet.FieldForm.TheVariants.{Alphanumeric, Zoned, Packed, PackedText}
+use Rattle.s3_lines.specs.declared.sheet.FileLine.{FileLine}
+use Rattle.s3_lines.specs.declared.sheet.OutputKind.{OutputKind}
+use Rattle.s3_lines.specs.declared.sheet.Operation.{Operation}
+use Rattle.s3_lines.specs.declared.sheet.Operation.TheVariants.{Divide, GoTo, ExecuteSubroutine, Except, Chain}
+use Rattle.s3_lines.specs.declared.sheet.CalculationLine.{CalculationLine}
 use Rattle.s3_meaning.specs.Requests.{Request, Answer, Found, Nothing, Done, Refused, Reply}
 use Rattle.s3_meaning.specs.RecordTypes.{RecordType}
 use Rattle.s3_meaning.specs.Calculations.{Calculation, name_in, is_tag}
@@ -22,7 +22,7 @@ use Rattle.s3_meaning.specs.OutputLines.{Output}
 use Rattle.s3_meaning.specs.Source.{Source, file_named, is_printer}
 use Rattle.s3_meaning.specs.Environment.{Environment}
 use Rattle.s3_meaning.specs.Selection.{Head, InputFile, Reading, Selected, head_key, in_sequence, is_unread, select, taken, is_matched, type_of}
-use Rattle.s3_meaning.specs.Runs.{Run, Rest, Anew, ask, ended, to_totals, replied, halted}
+use Rattle.s3_meaning.specs.Runs.{goes_to_totals, Run, Rest, Anew, ask, ended, to_totals, replied, halted}
 use Rattle.s3_meaning.specs.Moving.{counts, number_moved, field_moved, fields_moved}
 use Rattle.s3_meaning.specs.Output.{is_exception, is_heading_or_detail, is_total_line, is_served, line_holds, printed, stored_or_halted, file_line_put, line_put, lines_put}
 use Rattle.s3_meaning.specs.Calculating.{has_tag, number_in, first_indicator, calculation_holds, divided, not_found, chained_to, on_chain, chained, performed, calculated}
@@ -69,7 +69,7 @@ module _ (most : ℕ) (a a' : Anew) (same : AgreeAnew most a a') where
   unfolding replied
   replied-agree go go' (Reply digit) e answers few agree =
       choice-agree (digit == 0) _ _ _ _ e answers agree
-      (choice-agree (digit == 2) _ _ _ _ e answers (to_totals-agree e answers few) refl)
+      (choice-agree (goes_to_totals digit) _ _ _ _ e answers (to_totals-agree e answers few) refl)
   replied-agree go go' (Found bytes) e answers few agree = refl
   replied-agree go go' Nothing e answers few agree = refl
   replied-agree go go' Done e answers few agree = refl
@@ -86,7 +86,7 @@ module _ (most : ℕ) (a a' : Anew) (same : AgreeAnew most a a') where
   halted-agree code go go' agree = halted-later code go go' (λ e answers few. agree.at e answers (omega arith))
 
   -- ---- fields moved
-  number_moved-agree : (field : FieldLine) (bad : Bool) (value : ℤ) (go go' : Rest) → Agree most go go' → Agree most (number_moved a field bad value go) (number_moved a' field bad value go')
+  number_moved-agree : (field : FieldLine Name) (bad : Bool) (value : ℤ) (go go' : Rest) → Agree most go go' → Agree most (number_moved a field bad value go) (number_moved a' field bad value go')
   unfolding number_moved
   number_moved-agree field bad value go go' agree = record {
     at = λ e answers few. choice-agree bad _ _ _ _ e answers
@@ -94,13 +94,14 @@ module _ (most : ℕ) (a a' : Anew) (same : AgreeAnew most a a') where
         (agree.at _ answers few);
   }
 
-  field_moved-agree : (field : FieldLine) (form : FieldForm) (bytes : List ℕ) (go go' : Rest) → Agree most go go' → Agree most (field_moved a field form bytes go) (field_moved a' field form bytes go')
+  field_moved-agree : (field : FieldLine Name) (form : FieldForm) (bytes : List ℕ) (go go' : Rest) → Agree most go go' → Agree most (field_moved a field form bytes go) (field_moved a' field form bytes go')
   unfolding field_moved
   field_moved-agree field Alphanumeric bytes go go' agree = record { at = λ e answers few. agree.at _ answers few }
   field_moved-agree field (Zoned decimals) bytes go go' agree = record { at = λ e answers few. (number_moved-agree field _ _ go go' agree).at e answers few }
   field_moved-agree field (Packed decimals) bytes go go' agree = record { at = λ e answers few. (number_moved-agree field _ _ go go' agree).at e answers few }
+  field_moved-agree field PackedText bytes go go' agree = record { at = λ e answers few. agree.at _ answers few }
 
-  fields_moved-agree : (fields : List FieldLine) (bytes : List ℕ) (go go' : Rest) → Agree most go go' → Agree most (fields_moved a fields bytes go) (fields_moved a' fields bytes go')
+  fields_moved-agree : (fields : List (FieldLine Name)) (bytes : List ℕ) (go go' : Rest) → Agree most go go' → Agree most (fields_moved a fields bytes go) (fields_moved a' fields bytes go')
   unfolding fields_moved
   fields_moved-agree [] bytes go go' agree = record { at = λ e answers few. agree.at e answers few }
   fields_moved-agree (field ∷ fields) bytes go go' agree =
@@ -152,7 +153,7 @@ module _ (most : ℕ) (a a' : Anew) (same : AgreeAnew most a a') where
       }
 
   -- ---- calculations
-  divided-agree : (source : Source) (line : CalculationLine) (go go' : Rest) → Agree most go go' → Agree most (divided source a line go) (divided source a' line go')
+  divided-agree : (source : Source) (line : CalculationLine Name) (go go' : Rest) → Agree most go go' → Agree most (divided source a line go) (divided source a' line go')
   unfolding divided
   divided-agree source line go go' agree = record {
     at = λ e answers few. choice-agree (unsigned_abs ((number_in source e line.factor2).numerator) == 0) _ _ _ _ e answers
@@ -170,7 +171,7 @@ module _ (most : ℕ) (a a' : Anew) (same : AgreeAnew most a a') where
   chained_to-agree file bytes None go go' agree = record { at = λ e answers few. (halted-agree UnidentifiedRecord go go' agree).at e answers few }
   chained_to-agree file bytes (Some kind) go go' agree = record { at = λ e answers few. (fields_moved-agree kind.fields bytes go go' agree).at _ answers few }
 
-  on_chain-agree : (source : Source) (line : CalculationLine) (file : Name) (go go' : Rest) → Agree most go go' → (answer : Answer) → Agree most (on_chain source a line file go answer) (on_chain source a' line file go' answer)
+  on_chain-agree : (source : Source) (line : CalculationLine Name) (file : Name) (go go' : Rest) → Agree most go go' → (answer : Answer) → Agree most (on_chain source a line file go answer) (on_chain source a' line file go' answer)
   unfolding on_chain
   on_chain-agree source line file go go' agree (Found bytes) = record { at = λ e answers few. (chained_to-agree file bytes (type_of source file bytes) go go' agree).at _ answers few }
   on_chain-agree source line file go go' agree Nothing = record { at = λ e answers few. (not_found-agree (first_indicator line.indicators) go go' agree).at e answers few }
@@ -178,7 +179,7 @@ module _ (most : ℕ) (a a' : Anew) (same : AgreeAnew most a a') where
   on_chain-agree source line file go go' agree (Refused code) = record { at = λ e answers few. (not_found-agree (first_indicator line.indicators) go go' agree).at e answers few }
   on_chain-agree source line file go go' agree (Reply digit) = record { at = λ e answers few. (not_found-agree (first_indicator line.indicators) go go' agree).at e answers few }
 
-  chained-agree : (source : Source) (line : CalculationLine) (file : Option FileLine) (go go' : Rest) → Agree most go go' → Agree most (chained source a line file go) (chained source a' line file go')
+  chained-agree : (source : Source) (line : CalculationLine Name) (file : Option FileLine) (go go' : Rest) → Agree most go go' → Agree most (chained source a line file go) (chained source a' line file go')
   unfolding chained
   chained-agree source line None go go' agree = record { at = λ e answers few. agree.at e answers few }
   chained-agree source line (Some file) go go' agree = record {
@@ -187,7 +188,7 @@ module _ (most : ℕ) (a a' : Anew) (same : AgreeAnew most a a') where
         ((not_found-agree (first_indicator line.indicators) go go' agree).at _ answers few);
   }
 
-  performed-agree : (source : Source) (section lines : List Calculation) (below below' : Option Name → Rest) → ((sought : Option Name) → Agree most (below sought) (below' sought)) → (go go' : Rest) → Agree most go go' → (line : CalculationLine) (operation : Option Operation) → Agree most (performed source a section lines below go line operation) (performed source a' section lines below' go' line operation)
+  performed-agree : (source : Source) (section lines : List Calculation) (below below' : Option Name → Rest) → ((sought : Option Name) → Agree most (below sought) (below' sought)) → (go go' : Rest) → Agree most go go' → (line : CalculationLine Name) (operation : Option Operation) → Agree most (performed source a section lines below go line operation) (performed source a' section lines below' go' line operation)
   unfolding performed
   performed-agree source section lines below below' agree go go' after line (Some Divide) = record { at = λ e answers few. (divided-agree source line _ _ (agree None)).at e answers few }
   performed-agree source section lines below below' agree go go' after line (Some GoTo) = record {

@@ -4,7 +4,7 @@ use Rattle.std.specs.Option.{option_or}
 use Rattle.std.specs.List.{list_any, cons_option}
 use Rattle.s3_cards.proofs.NameLemmas.{same_name-self}
 use Rattle.s3_cards.specs.declared.name.Name.{Name}
-use Rattle.s3_sheets.specs.declared.sheet.Designation.TheVariants.{Primary, Secondary}
+use Rattle.s3_lines.specs.declared.sheet.Designation.TheVariants.{Primary, Secondary}
 use Rattle.s3_cards.specs.Names.{same_name}
 use Rattle.s3_meaning.specs.Source.{is_designated}
 use Rattle.s3_meaning.specs.Selection.{Head, Unread, InputFile, Reading, Selected, head_of, is_unread, selectable, key_of, is_less, lesser, least, primary_first, has_met_end, select_at_end, select, same_key, vacated, taken}

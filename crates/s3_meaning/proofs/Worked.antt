@@ -1,23 +1,23 @@
 -- Worked rows, as a run's requests after each answer.
 use Rattle.std.proofs.Common.{◌≡◌, pos, negsuc, List, [], ◌∷◌, Some, None, true, false, refl}
 use Rattle.s3_decimal.specs.Exact.{stored}
-use Rattle.s3_sheets.specs.declared.indicator.Indicator.TheVariants.{General, Matching, FirstPage, Overflow}
+use Rattle.s3_lines.specs.declared.indicator.Indicator.TheVariants.{General, Matching, FirstPage, Overflow}
 use Rattle.s3_meaning.specs.declared.halt.HaltCode.TheVariants.{ZeroDivisor}
-use Rattle.s3_sheets.specs.declared.sheet.FileUse.TheVariants.{Input as InputUse, Output as OutputUse}
-use Rattle.s3_sheets.specs.declared.sheet.Designation.TheVariants.{Primary, Secondary}
-use Rattle.s3_sheets.specs.declared.sheet.Device.TheVariants.{CardReader, Printer, Disk}
-use Rattle.s3_sheets.specs.declared.sheet.FieldForm.TheVariants.{Alphanumeric}
-use Rattle.s3_sheets.specs.declared.sheet.InputLine.TheVariants.{Record, Field as InputField}
-use Rattle.s3_sheets.specs.declared.sheet.Factor.TheVariants.{Number}
-use Rattle.s3_sheets.specs.declared.sheet.Operation.TheVariants.{Add, Divide, ZeroAdd, MoveRemainder}
-use Rattle.s3_sheets.specs.declared.sheet.CalculationTime.TheVariants.{Detail as DetailTime}
-use Rattle.s3_sheets.specs.declared.sheet.Shape.TheVariants.{Numeric as NumericShape}
-use Rattle.s3_sheets.specs.declared.sheet.OutputKind.TheVariants.{Heading as HeadingLine, Detail as DetailLine}
-use Rattle.s3_sheets.specs.declared.sheet.OutputForm.TheVariants.{Plain as PlainOutput}
-use Rattle.s3_sheets.specs.declared.sheet.OutputContent.TheVariants.{Constant as ConstantContent, Field as FieldContent}
-use Rattle.s3_sheets.specs.declared.sheet.OutputLine.TheVariants.{Line as LineCard, Or as OutputOr, Field as OutputField}
-use Rattle.s3_sheets.specs.declared.sheet.SheetLine.TheVariants.{Header, File, Input, Calculation as CalculationSheet, Output as OutputSheet}
-use Rattle.s3_sheets.specs.declared.sheet.Line.{Line}
+use Rattle.s3_lines.specs.declared.sheet.FileUse.TheVariants.{Input as InputUse, Output as OutputUse}
+use Rattle.s3_lines.specs.declared.sheet.Designation.TheVariants.{Primary, Secondary}
+use Rattle.s3_lines.specs.declared.sheet.Device.TheVariants.{CardReader, Printer, Disk}
+use Rattle.s3_lines.specs.declared.sheet.FieldForm.TheVariants.{Alphanumeric}
+use Rattle.s3_lines.specs.declared.sheet.InputLine.TheVariants.{Record, Field as InputField}
+use Rattle.s3_lines.specs.declared.sheet.Factor.TheVariants.{Number}
+use Rattle.s3_lines.specs.declared.sheet.Operation.TheVariants.{Add, Divide, ZeroAdd, MoveRemainder}
+use Rattle.s3_lines.specs.declared.sheet.CalculationTime.TheVariants.{Detail as DetailTime}
+use Rattle.s3_lines.specs.declared.sheet.Shape.TheVariants.{Numeric as NumericShape}
+use Rattle.s3_lines.specs.declared.sheet.OutputKind.TheVariants.{Heading as HeadingLine, Detail as DetailLine}
+use Rattle.s3_lines.specs.declared.sheet.OutputForm.TheVariants.{Plain as PlainOutput}
+use Rattle.s3_lines.specs.declared.sheet.OutputContent.TheVariants.{Constant as ConstantContent, Field as FieldContent}
+use Rattle.s3_lines.specs.declared.sheet.OutputLine.TheVariants.{Line as LineCard, Or as OutputOr, Field as OutputField}
+use Rattle.s3_lines.specs.declared.sheet.SheetLine.TheVariants.{Header, File, Input, Calculation as CalculationSheet, Output as OutputSheet}
+use Rattle.s3_lines.specs.declared.sheet.Line.{Line}
 use Rattle.s3_meaning.specs.Requests.{Request, Card, Read, Print, Ask, End, Answer, Found, Nothing, Done, Reply}
 use Rattle.s3_meaning.specs.Runs.{Run, ask, ended, to_totals, replied, halted}
 use Rattle.s3_meaning.specs.Moving.{number_moved, field_moved, fields_moved}
@@ -36,8 +36,8 @@ asked run (answer ∷ answers) = run [] ∷ asked (λ later. run (answer ∷ lat
 lines_overflow : List Line
 lines_overflow =
     (record { card = 1; sheet = (Header (Some (named (211 ∷ 201 ∷ 226 ∷ 227 ∷ [])))) })
-    ∷ (record { card = 2; sheet = (File (record { name = (named (195 ∷ 193 ∷ 217 ∷ 196 ∷ 226 ∷ [])); usage = InputUse; designation = (Some Primary); ends_job = false; record_length = 96; key = None; overflow = None; device = CardReader; has_additions = false; condition = None })) })
-    ∷ (record { card = 3; sheet = (File (record { name = (named (215 ∷ 217 ∷ 201 ∷ 213 ∷ 227 ∷ [])); usage = OutputUse; designation = None; ends_job = false; record_length = 132; key = None; overflow = (Some (Overflow 1)); device = Printer; has_additions = false; condition = None })) })
+    ∷ (record { card = 2; sheet = (File (record { name = (named (195 ∷ 193 ∷ 217 ∷ 196 ∷ 226 ∷ [])); usage = InputUse; designation = (Some Primary); ends_job = false; record_length = 96; is_random = false; is_keyed = false; is_indexed = false; key = None; overflow = None; device = CardReader; has_additions = false; condition = None })) })
+    ∷ (record { card = 3; sheet = (File (record { name = (named (215 ∷ 217 ∷ 201 ∷ 213 ∷ 227 ∷ [])); usage = OutputUse; designation = None; ends_job = false; record_length = 132; is_random = false; is_keyed = false; is_indexed = false; key = None; overflow = (Some (Overflow 1)); device = Printer; has_additions = false; condition = None })) })
     ∷ (record { card = 4; sheet = (Input (Record (named (195 ∷ 193 ∷ 217 ∷ 196 ∷ 226 ∷ [])) (General 1) (None ∷ None ∷ None ∷ []))) })
     ∷ (record { card = 5; sheet = (Input (InputField (record { name = (named (227 ∷ 197 ∷ 231 ∷ 227 ∷ [])); from = 1; to = 3; form = Alphanumeric; control_level = None; match_level = None; relation = None; indicators = (None ∷ None ∷ None ∷ []) }))) })
     ∷ (record { card = 6; sheet = (OutputSheet (LineCard (record { file = (Some (named (215 ∷ 217 ∷ 201 ∷ 213 ∷ 227 ∷ []))); kind = HeadingLine; is_addition = false; spacing = record { space_before = None; space_after = (Some 1); skip_before = (Some 1); skip_after = None }; conditions = ((Some (record { negated = false; indicator = FirstPage })) ∷ None ∷ None ∷ []) }))) })
@@ -56,9 +56,9 @@ row_overflow = refl
 lines_matching : List Line
 lines_matching =
     (record { card = 1; sheet = (Header (Some (named (212 ∷ 193 ∷ 227 ∷ 195 ∷ 200 ∷ [])))) })
-    ∷ (record { card = 2; sheet = (File (record { name = (named (215 ∷ 217 ∷ 201 ∷ 212 ∷ [])); usage = InputUse; designation = (Some Primary); ends_job = false; record_length = 10; key = None; overflow = None; device = Disk; has_additions = false; condition = None })) })
-    ∷ (record { card = 3; sheet = (File (record { name = (named (226 ∷ 197 ∷ 195 ∷ [])); usage = InputUse; designation = (Some Secondary); ends_job = false; record_length = 10; key = None; overflow = None; device = Disk; has_additions = false; condition = None })) })
-    ∷ (record { card = 4; sheet = (File (record { name = (named (215 ∷ 217 ∷ 201 ∷ 213 ∷ 227 ∷ [])); usage = OutputUse; designation = None; ends_job = false; record_length = 132; key = None; overflow = None; device = Printer; has_additions = false; condition = None })) })
+    ∷ (record { card = 2; sheet = (File (record { name = (named (215 ∷ 217 ∷ 201 ∷ 212 ∷ [])); usage = InputUse; designation = (Some Primary); ends_job = false; record_length = 10; is_random = false; is_keyed = false; is_indexed = false; key = None; overflow = None; device = Disk; has_additions = false; condition = None })) })
+    ∷ (record { card = 3; sheet = (File (record { name = (named (226 ∷ 197 ∷ 195 ∷ [])); usage = InputUse; designation = (Some Secondary); ends_job = false; record_length = 10; is_random = false; is_keyed = false; is_indexed = false; key = None; overflow = None; device = Disk; has_additions = false; condition = None })) })
+    ∷ (record { card = 4; sheet = (File (record { name = (named (215 ∷ 217 ∷ 201 ∷ 213 ∷ 227 ∷ [])); usage = OutputUse; designation = None; ends_job = false; record_length = 132; is_random = false; is_keyed = false; is_indexed = false; key = None; overflow = None; device = Printer; has_additions = false; condition = None })) })
     ∷ (record { card = 5; sheet = (Input (Record (named (215 ∷ 217 ∷ 201 ∷ 212 ∷ [])) (General 1) (None ∷ None ∷ None ∷ []))) })
     ∷ (record { card = 6; sheet = (Input (InputField (record { name = (named (210 ∷ 197 ∷ 232 ∷ [])); from = 1; to = 2; form = Alphanumeric; control_level = None; match_level = (Some 1); relation = None; indicators = (None ∷ None ∷ None ∷ []) }))) })
     ∷ (record { card = 7; sheet = (Input (Record (named (226 ∷ 197 ∷ 195 ∷ [])) (General 2) (None ∷ None ∷ None ∷ []))) })
@@ -80,8 +80,8 @@ row_matching = refl
 lines_numbers : List Line
 lines_numbers =
     (record { card = 1; sheet = (Header (Some (named (213 ∷ 228 ∷ 212 ∷ [])))) })
-    ∷ (record { card = 2; sheet = (File (record { name = (named (195 ∷ 193 ∷ 217 ∷ 196 ∷ 226 ∷ [])); usage = InputUse; designation = (Some Primary); ends_job = false; record_length = 96; key = None; overflow = None; device = CardReader; has_additions = false; condition = None })) })
-    ∷ (record { card = 3; sheet = (File (record { name = (named (215 ∷ 217 ∷ 201 ∷ 213 ∷ 227 ∷ [])); usage = OutputUse; designation = None; ends_job = false; record_length = 132; key = None; overflow = None; device = Printer; has_additions = false; condition = None })) })
+    ∷ (record { card = 2; sheet = (File (record { name = (named (195 ∷ 193 ∷ 217 ∷ 196 ∷ 226 ∷ [])); usage = InputUse; designation = (Some Primary); ends_job = false; record_length = 96; is_random = false; is_keyed = false; is_indexed = false; key = None; overflow = None; device = CardReader; has_additions = false; condition = None })) })
+    ∷ (record { card = 3; sheet = (File (record { name = (named (215 ∷ 217 ∷ 201 ∷ 213 ∷ 227 ∷ [])); usage = OutputUse; designation = None; ends_job = false; record_length = 132; is_random = false; is_keyed = false; is_indexed = false; key = None; overflow = None; device = Printer; has_additions = false; condition = None })) })
     ∷ (record { card = 4; sheet = (Input (Record (named (195 ∷ 193 ∷ 217 ∷ 196 ∷ 226 ∷ [])) (General 1) (None ∷ None ∷ None ∷ []))) })
     ∷ (record { card = 5; sheet = (Input (InputField (record { name = (named (231 ∷ [])); from = 1; to = 1; form = Alphanumeric; control_level = None; match_level = None; relation = None; indicators = (None ∷ None ∷ None ∷ []) }))) })
     ∷ (record { card = 6; sheet = (CalculationSheet (record { time = DetailTime; conditions = (None ∷ None ∷ None ∷ []); factor1 = (Some (Number (record { value = (pos 99999); digits = 5; decimals = 0 }))); operation = (Some Add); factor2 = (Some (Number (record { value = (pos 1); digits = 1; decimals = 0 }))); result = (Some (named (193 ∷ []))); definition = (Some (NumericShape 5 0)); half_adjust = false; indicators = (None ∷ None ∷ (Some (General 30)) ∷ []) })) })

@@ -1,6 +1,6 @@
 -- The carriage: 66 lines on a page, and overflow past line 60.
 use Rattle.std.specs.Prelude.{ℕ, ◌+◌, ◌-◌, ◌==◌, nat_lt, Bool, not, ◌&&◌, ◌||◌, Option, Some, None, unwrap_or, is_some, if◌then◌else◌}
-use Rattle.s3_sheets.specs.declared.sheet.Spacing.{Spacing}
+use Rattle.s3_lines.specs.declared.sheet.Spacing.{Spacing}
 
 -- where the carriage stands, and whether overflow goes on
 pub record Carriage : Type 0 where

@@ -2,10 +2,10 @@
 use Rattle.std.specs.Prelude.{ℕ, zero, suc, ◌+◌, min, Bool, true, false, not, ◌&&◌, ◌||◌, List, [], ◌∷◌, length, map, filter, Option, Some, None, if◌then◌else◌}
 use Rattle.std.specs.Option.{option_or}
 use Rattle.std.specs.List.{list_any}
-use Rattle.s3_sheets.specs.declared.indicator.Indicator.{Indicator}
-use Rattle.s3_sheets.specs.declared.indicator.Indicator.TheVariants.{LastRecord, Matching, Halt, FirstPage}
+use Rattle.s3_lines.specs.declared.indicator.Indicator.{Indicator}
+use Rattle.s3_lines.specs.declared.indicator.Indicator.TheVariants.{LastRecord, Matching, Halt, FirstPage}
 use Rattle.s3_meaning.specs.declared.halt.HaltCode.TheVariants.{HaltIndicator, UnidentifiedRecord, OutOfSequence}
-use Rattle.s3_sheets.specs.declared.sheet.FileLine.{FileLine}
+use Rattle.s3_lines.specs.declared.sheet.FileLine.{FileLine}
 use Rattle.s3_meaning.specs.Names.{same_indicator}
 use Rattle.s3_meaning.specs.RecordTypes.{RecordType}
 use Rattle.s3_meaning.specs.Source.{Source, detail_calculations, total_calculations, is_input, is_card_reader, overflow_of, has_control_fields, has_levels}

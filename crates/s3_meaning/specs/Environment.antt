@@ -3,9 +3,9 @@ use Rattle.std.specs.Prelude.{ℕ, zero, suc, ◌+◌, ◌*◌, ◌-◌, ◌/◌
 use Rattle.std.specs.List.{list_any, list_all}
 use Rattle.s3_decimal.specs.Exact.{Fraction, exact}
 use Rattle.s3_cards.specs.declared.name.Name.{Name}
-use Rattle.s3_sheets.specs.declared.indicator.Indicator.{Indicator}
-use Rattle.s3_sheets.specs.declared.indicator.Indicator.TheVariants.{Level, LastRecord, FirstPage, Switch}
-use Rattle.s3_sheets.specs.declared.indicator.Condition.{Condition}
+use Rattle.s3_lines.specs.declared.indicator.Indicator.{Indicator}
+use Rattle.s3_lines.specs.declared.indicator.Indicator.TheVariants.{Level, LastRecord, FirstPage, Switch}
+use Rattle.s3_lines.specs.declared.indicator.Condition.{Condition}
 use Rattle.s3_meaning.specs.Names.{same_indicator, is_indicator, udate, umonth, uday, uyear}
 use Rattle.s3_cards.specs.Names.{same_name}
 use Rattle.s3_meaning.specs.Source.{Source, length_of}

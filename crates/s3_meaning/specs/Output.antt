@@ -7,17 +7,17 @@ use Rattle.s3_edit.specs.declared.code.EditCode.{EditCode}
 use Rattle.s3_edit.specs.declared.code.EditCode.TheVariants.{Suppressed}
 use Rattle.s3_edit.specs.Picture.{width_of, pictured}
 use Rattle.s3_cards.specs.declared.name.Name.{Name}
-use Rattle.s3_sheets.specs.declared.indicator.Indicator.{Indicator}
-use Rattle.s3_sheets.specs.declared.indicator.Condition.{Condition}
-use Rattle.s3_sheets.specs.declared.sheet.OutputKind.{OutputKind}
-use Rattle.s3_sheets.specs.declared.sheet.OutputKind.TheVariants.{Heading, Detail, Total, Exception}
-use Rattle.s3_sheets.specs.declared.sheet.OutputForm.{OutputForm}
-use Rattle.s3_sheets.specs.declared.sheet.OutputForm.TheVariants.{Plain, Packed, Edited}
-use Rattle.s3_sheets.specs.declared.sheet.OutputContent.{OutputContent}
-use Rattle.s3_sheets.specs.declared.sheet.OutputContent.TheVariants.{Constant, Field}
-use Rattle.s3_sheets.specs.declared.sheet.FieldOutput.{FieldOutput}
-use Rattle.s3_sheets.specs.declared.sheet.OutputField.{OutputField}
-use Rattle.s3_sheets.specs.declared.sheet.FileLine.{FileLine}
+use Rattle.s3_lines.specs.declared.indicator.Indicator.{Indicator}
+use Rattle.s3_lines.specs.declared.indicator.Condition.{Condition}
+use Rattle.s3_lines.specs.declared.sheet.OutputKind.{OutputKind}
+use Rattle.s3_lines.specs.declared.sheet.OutputKind.TheVariants.{Heading, Detail, Total, Exception}
+use Rattle.s3_lines.specs.declared.sheet.OutputForm.{OutputForm}
+use Rattle.s3_lines.specs.declared.sheet.OutputForm.TheVariants.{Plain, Packed, Edited}
+use Rattle.s3_lines.specs.declared.sheet.OutputContent.{OutputContent}
+use Rattle.s3_lines.specs.declared.sheet.OutputContent.TheVariants.{Constant, Field}
+use Rattle.s3_lines.specs.declared.sheet.FieldOutput.{FieldOutput}
+use Rattle.s3_lines.specs.declared.sheet.OutputField.{OutputField}
+use Rattle.s3_lines.specs.declared.sheet.FileLine.{FileLine}
 use Rattle.s3_meaning.specs.Names.{same_indicator, page, entries}
 use Rattle.s3_cards.specs.Names.{same_name}
 use Rattle.s3_meaning.specs.Requests.{Request, Append, Add, Update, Print, Answer, Refused}
@@ -77,7 +77,7 @@ number_bytes source name Plain value =
     if same_name name page then edited Suppressed 4 0 value
     else zoned_bytes (is_negative value) (digits_of source name) (unsigned_abs value)
 
-abbrev pub field_content : Source → FieldOutput → Environment → List ℕ
+abbrev pub field_content : Source → FieldOutput Name → Environment → List ℕ
 field_content source field e =
     if is_numeric source field.name then number_bytes source field.name field.form (e.numbers field.name) else e.texts field.name
 
@@ -88,7 +88,7 @@ counted name e =
     if same_name name page then put_number page (if unsigned_abs number == 9999 && not (is_negative number) then pos 0 else number +ℤ pos 1) e else e
 
 -- blank after: the field becomes 0 or blanks
-abbrev pub blanked : Source → FieldOutput → Environment → Environment
+abbrev pub blanked : Source → FieldOutput Name → Environment → Environment
 blanked source field e =
     if not field.blank_after then e
     else (if is_numeric source field.name then put_number field.name (pos 0) e else put_text field.name (replicate (length_of source field.name) 0x40) e)
@@ -104,14 +104,14 @@ abbrev pub laid : (end : ℕ) → List ℕ → List (Option ℕ) → List (Optio
 laid end content positions =
     take (end - length content) positions ++ map (λ code. Some code) content ++ drop end positions
 
-abbrev pub put_out : Source → OutputContent → ℕ → Composed → Composed
+abbrev pub put_out : Source → OutputContent Name → ℕ → Composed → Composed
 put_out source (Constant constant) end c = record c { positions = laid end (take constant.length constant.codes) c.positions }
 put_out source (Field field) end c =
     let before : Environment = counted field.name c.after in
     record { positions = laid end (field_content source field before) c.positions; after = blanked source field before }
 
 -- later fields lie over earlier ones
-abbrev pub composed : Source → List OutputField → Composed → Composed
+abbrev pub composed : Source → List (OutputField Name) → Composed → Composed
 composed source [] c = c
 composed source (field ∷ fields) c =
     composed source fields (if all_hold c.after (entries field.conditions) then put_out source field.content field.end c else c)

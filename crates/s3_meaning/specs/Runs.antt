@@ -1,7 +1,7 @@
 -- Runs: what a job asks for, given the answers so far. Nothing here suspends: a run takes all its answers,
 -- and gives the request that stands when they are used up.
-use Rattle.std.specs.Prelude.{◌==◌, Bool, true, false, List, [], ◌∷◌, if◌then◌else◌}
-use Rattle.s3_sheets.specs.declared.indicator.Indicator.TheVariants.{LastRecord, FirstPage}
+use Rattle.std.specs.Prelude.{ℕ, ◌==◌, Bool, true, false, List, [], ◌∷◌, if◌then◌else◌}
+use Rattle.s3_lines.specs.declared.indicator.Indicator.TheVariants.{LastRecord, FirstPage}
 use Rattle.s3_meaning.specs.declared.halt.HaltCode.{HaltCode}
 use Rattle.s3_meaning.specs.Requests.{Request, Ask, End, Answer, Reply}
 use Rattle.s3_meaning.specs.Calculations.{Calculation}
@@ -36,9 +36,13 @@ pub record Anew : Type 0 where
 unfoldable pub to_totals : Anew → Rest
 to_totals anew e = (if e.on LastRecord then ended true else anew.last) (turn FirstPage false (with_last_record e))
 
+-- reply 2
+abbrev pub goes_to_totals : ℕ → Bool
+goes_to_totals digit = digit == 2
+
 -- reply 0 goes on, reply 3 ends the job
 unfoldable pub replied : Anew → Rest → Answer → Rest
-replied anew go (Reply digit) e = (if digit == 0 then go else (if digit == 2 then to_totals anew else ended true)) e
+replied anew go (Reply digit) e = (if digit == 0 then go else (if goes_to_totals digit then to_totals anew else ended true)) e
 replied anew go _ e = ended true e
 
 unfoldable pub halted : Anew → HaltCode → Rest → Rest

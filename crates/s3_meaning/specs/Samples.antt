@@ -2,25 +2,25 @@
 use Rattle.std.specs.Prelude.{ℕ, ◌-◌, ◌++◌, true, false, List, [], ◌∷◌, length, replicate, Option, Some, None}
 use Rattle.s3_edit.specs.declared.code.EditCode.TheVariants.{Suppressed}
 use Rattle.s3_cards.specs.declared.name.Name.{Name}
-use Rattle.s3_sheets.specs.declared.indicator.Indicator.TheVariants.{General, Level}
-use Rattle.s3_sheets.specs.declared.indicator.Condition.{Condition}
-use Rattle.s3_sheets.specs.declared.sheet.FileUse.TheVariants.{Input as InputUse, Output as OutputUse}
-use Rattle.s3_sheets.specs.declared.sheet.Designation.TheVariants.{Primary}
-use Rattle.s3_sheets.specs.declared.sheet.Device.TheVariants.{CardReader, Printer}
-use Rattle.s3_sheets.specs.declared.sheet.FieldForm.TheVariants.{Alphanumeric, Zoned}
-use Rattle.s3_sheets.specs.declared.sheet.InputLine.TheVariants.{Record, Field}
-use Rattle.s3_sheets.specs.declared.sheet.Factor.TheVariants.{Named}
-use Rattle.s3_sheets.specs.declared.sheet.Operation.TheVariants.{Add}
-use Rattle.s3_sheets.specs.declared.sheet.CalculationTime.TheVariants.{Detail as DetailTime}
-use Rattle.s3_sheets.specs.declared.sheet.Shape.TheVariants.{Numeric}
-use Rattle.s3_sheets.specs.declared.sheet.OutputKind.TheVariants.{Detail, Total}
-use Rattle.s3_sheets.specs.declared.sheet.OutputForm.TheVariants.{Plain, Edited}
-use Rattle.s3_sheets.specs.declared.sheet.OutputContent.TheVariants.{Field as FieldContent}
-use Rattle.s3_sheets.specs.declared.sheet.OutputLine.TheVariants.{Line as LineCard, Field as FieldCard}
-use Rattle.s3_sheets.specs.declared.sheet.SheetLine.{SheetLine}
-use Rattle.s3_sheets.specs.declared.sheet.SheetLine.TheVariants.{File, Input, Calculation, Output}
-use Rattle.s3_sheets.specs.declared.sheet.Line.{Line}
-use Rattle.s3_sheets.specs.Lines.{none_of_three, no_spacing}
+use Rattle.s3_lines.specs.declared.indicator.Indicator.TheVariants.{General, Level}
+use Rattle.s3_lines.specs.declared.indicator.Condition.{Condition}
+use Rattle.s3_lines.specs.declared.sheet.FileUse.TheVariants.{Input as InputUse, Output as OutputUse}
+use Rattle.s3_lines.specs.declared.sheet.Designation.TheVariants.{Primary}
+use Rattle.s3_lines.specs.declared.sheet.Device.TheVariants.{CardReader, Printer}
+use Rattle.s3_lines.specs.declared.sheet.FieldForm.TheVariants.{Alphanumeric, Zoned}
+use Rattle.s3_lines.specs.declared.sheet.InputLine.TheVariants.{Record, Field}
+use Rattle.s3_lines.specs.declared.sheet.Factor.TheVariants.{Named}
+use Rattle.s3_lines.specs.declared.sheet.Operation.TheVariants.{Add}
+use Rattle.s3_lines.specs.declared.sheet.CalculationTime.TheVariants.{Detail as DetailTime}
+use Rattle.s3_lines.specs.declared.sheet.Shape.TheVariants.{Numeric}
+use Rattle.s3_lines.specs.declared.sheet.OutputKind.TheVariants.{Detail, Total}
+use Rattle.s3_lines.specs.declared.sheet.OutputForm.TheVariants.{Plain, Edited}
+use Rattle.s3_lines.specs.declared.sheet.OutputContent.TheVariants.{Field as FieldContent}
+use Rattle.s3_lines.specs.declared.sheet.OutputLine.TheVariants.{Line as LineCard, Field as FieldCard}
+use Rattle.s3_lines.specs.declared.sheet.SheetLine.{SheetLine}
+use Rattle.s3_lines.specs.declared.sheet.SheetLine.TheVariants.{File, Input, Calculation, Output}
+use Rattle.s3_lines.specs.declared.sheet.Line.{Line}
+use Rattle.s3_lines.specs.Blanks.{none_of_three, no_spacing}
 
 abbrev pub padded_to : ℕ → List ℕ → List ℕ
 padded_to n codes = codes ++ replicate (n - length codes) 0x40
@@ -58,8 +58,8 @@ total = named (0xe3 ∷ 0xd6 ∷ 0xe3 ∷ [])
 
 abbrev pub file_lines : List Line
 file_lines =
-    line_at 4 (File (record { name = cards; usage = InputUse; designation = Some Primary; ends_job = false; record_length = 96; key = None; overflow = None; device = CardReader; has_additions = false; condition = None }))
-    ∷ line_at 5 (File (record { name = print; usage = OutputUse; designation = None; ends_job = false; record_length = 132; key = None; overflow = None; device = Printer; has_additions = false; condition = None }))
+    line_at 4 (File (record { name = cards; usage = InputUse; designation = Some Primary; ends_job = false; record_length = 96; is_random = false; is_keyed = false; is_indexed = false; key = None; overflow = None; device = CardReader; has_additions = false; condition = None }))
+    ∷ line_at 5 (File (record { name = print; usage = OutputUse; designation = None; ends_job = false; record_length = 132; is_random = false; is_keyed = false; is_indexed = false; key = None; overflow = None; device = Printer; has_additions = false; condition = None }))
     ∷ []
 
 -- `6:I 7:CARDS 15:AA 19:01`, `6:I 47:1 51:3 53:TEXT`, `6:O 7:PRINT 15:D 24:01`, `6:O 32:TEXT 43:3`

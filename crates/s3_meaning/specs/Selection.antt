@@ -5,16 +5,16 @@ use Rattle.std.specs.List.{list_any, list_all}
 use Rattle.std.specs.Cmp.Lexicographic.{pointwise}
 use Rattle.s3_decimal.specs.Records.{zoned_digits, packed_digits}
 use Rattle.s3_cards.specs.declared.name.Name.{Name}
-use Rattle.s3_sheets.specs.declared.indicator.Indicator.{Indicator}
-use Rattle.s3_sheets.specs.declared.indicator.Indicator.TheVariants.{Level}
-use Rattle.s3_sheets.specs.declared.sheet.Designation.TheVariants.{Primary, Secondary}
-use Rattle.s3_sheets.specs.declared.sheet.CodePart.{CodePart}
-use Rattle.s3_sheets.specs.declared.sheet.CodePart.TheVariants.{Character, Zone, Digit}
-use Rattle.s3_sheets.specs.declared.sheet.RecordCode.{RecordCode}
-use Rattle.s3_sheets.specs.declared.sheet.FieldForm.{FieldForm}
-use Rattle.s3_sheets.specs.declared.sheet.FieldForm.TheVariants.{Alphanumeric, Zoned, Packed}
-use Rattle.s3_sheets.specs.declared.sheet.FieldLine.{FieldLine}
-use Rattle.s3_sheets.specs.declared.sheet.FileLine.{FileLine}
+use Rattle.s3_lines.specs.declared.indicator.Indicator.{Indicator}
+use Rattle.s3_lines.specs.declared.indicator.Indicator.TheVariants.{Level}
+use Rattle.s3_lines.specs.declared.sheet.Designation.TheVariants.{Primary, Secondary}
+use Rattle.s3_lines.specs.declared.sheet.CodePart.{CodePart}
+use Rattle.s3_lines.specs.declared.sheet.CodePart.TheVariants.{Character, Zone, Digit}
+use Rattle.s3_lines.specs.declared.sheet.RecordCode.{RecordCode}
+use Rattle.s3_lines.specs.declared.sheet.FieldForm.{FieldForm}
+use Rattle.s3_lines.specs.declared.sheet.FieldForm.TheVariants.{Alphanumeric, Zoned, Packed, PackedText}
+use Rattle.s3_lines.specs.declared.sheet.FieldLine.{FieldLine}
+use Rattle.s3_lines.specs.declared.sheet.FileLine.{FileLine}
 use Rattle.s3_cards.specs.Names.{same_name}
 use Rattle.s3_meaning.specs.RecordTypes.{RecordType}
 use Rattle.s3_meaning.specs.Source.{Source, is_designated, own_fields}
@@ -45,7 +45,7 @@ type_of source file bytes = find (λ kind. same_name kind.file file && list_all 
 
 -- ---- what match and control fields compare
 -- the bytes of a field
-abbrev pub field_bytes : FieldLine → List ℕ → List ℕ
+abbrev pub field_bytes : FieldLine Name → List ℕ → List ℕ
 field_bytes field bytes = slice_range bytes (field.from - 1) field.to
 
 -- by bytes if alphanumeric, by digits without sign if numeric
@@ -53,8 +53,9 @@ abbrev pub compared : FieldForm → List ℕ → List ℕ
 compared Alphanumeric bytes = bytes
 compared (Zoned decimals) bytes = zoned_digits bytes
 compared (Packed decimals) bytes = packed_digits bytes
+compared PackedText bytes = bytes
 
-abbrev pub compared_field : List ℕ → FieldLine → List ℕ
+abbrev pub compared_field : List ℕ → FieldLine Name → List ℕ
 compared_field bytes field = compared field.form (field_bytes field bytes)
 
 abbrev pub is_at : ℕ → Option ℕ → Bool
@@ -65,7 +66,7 @@ is_at n None = false
 abbrev pub levels : List ℕ
 levels = 9 ∷ 8 ∷ 7 ∷ 6 ∷ 5 ∷ 4 ∷ 3 ∷ 2 ∷ 1 ∷ []
 
-abbrev pub match_field : RecordType → ℕ → Option FieldLine
+abbrev pub match_field : RecordType → ℕ → Option (FieldLine Name)
 match_field kind n = find (λ field. is_at n field.match_level) (own_fields kind)
 
 -- the key of a record: its match fields, M9 first; none without match fields
@@ -199,7 +200,7 @@ abbrev pub in_sequence : Option (List ℕ) → Option (List ℕ) → Bool
 in_sequence key last = not (is_less key last)
 
 -- ---- control breaks
-abbrev pub control_field : RecordType → ℕ → Option FieldLine
+abbrev pub control_field : RecordType → ℕ → Option (FieldLine Name)
 control_field kind n = find (λ field. is_at n field.control_level) (own_fields kind)
 
 -- the control field of a level, if the type names the level

@@ -1,28 +1,28 @@
 -- A source: what its sheets say, put together.
-use Rattle.std.specs.Prelude.{ℕ, ◌+◌, ◌-◌, ◌*◌, Bool, true, false, not, ◌||◌, List, [], ◌∷◌, ◌++◌, Option, Some, None, is_some, unwrap_or, filter, filter_map, find, if◌then◌else◌}
+use Rattle.std.specs.Prelude.{ℕ, ◌+◌, ◌-◌, Bool, true, false, not, ◌||◌, List, [], ◌∷◌, ◌++◌, Option, Some, None, is_some, unwrap_or, filter, filter_map, find, if◌then◌else◌}
 use Rattle.std.specs.Option.{option_or, option_and_then}
 use Rattle.std.specs.List.{list_any}
 use Rattle.s3_cards.specs.declared.name.Name.{Name}
-use Rattle.s3_sheets.specs.declared.indicator.Indicator.{Indicator}
-use Rattle.s3_sheets.specs.declared.sheet.FileUse.{FileUse}
-use Rattle.s3_sheets.specs.declared.sheet.FileUse.TheVariants.{Output as OutputUse, Input as InputUse, Update}
-use Rattle.s3_sheets.specs.declared.sheet.Designation.{Designation}
-use Rattle.s3_sheets.specs.declared.sheet.Designation.TheVariants.{Primary, Secondary, Chained}
-use Rattle.s3_sheets.specs.declared.sheet.Device.{Device}
-use Rattle.s3_sheets.specs.declared.sheet.Device.TheVariants.{CardReader, Printer}
-use Rattle.s3_sheets.specs.declared.sheet.FileLine.{FileLine}
-use Rattle.s3_sheets.specs.declared.sheet.FieldForm.{FieldForm}
-use Rattle.s3_sheets.specs.declared.sheet.FieldForm.TheVariants.{Alphanumeric as AlphanumericForm, Zoned, Packed}
-use Rattle.s3_sheets.specs.declared.sheet.FieldLine.{FieldLine}
-use Rattle.s3_sheets.specs.declared.sheet.Shape.{Shape}
-use Rattle.s3_sheets.specs.declared.sheet.Shape.TheVariants.{Alphanumeric, Numeric}
-use Rattle.s3_sheets.specs.declared.sheet.InputLine.{InputLine}
-use Rattle.s3_sheets.specs.declared.sheet.InputLine.TheVariants.{Field}
-use Rattle.s3_sheets.specs.declared.sheet.CalculationLine.{CalculationLine}
-use Rattle.s3_sheets.specs.declared.sheet.OutputLine.{OutputLine}
-use Rattle.s3_sheets.specs.declared.sheet.SheetLine.{SheetLine}
-use Rattle.s3_sheets.specs.declared.sheet.SheetLine.TheVariants.{Header, File, Input, Calculation as CalculationSheet, Output as OutputSheet}
-use Rattle.s3_sheets.specs.declared.sheet.Line.{Line}
+use Rattle.s3_lines.specs.declared.indicator.Indicator.{Indicator}
+use Rattle.s3_lines.specs.declared.sheet.FileUse.{FileUse}
+use Rattle.s3_lines.specs.declared.sheet.FileUse.TheVariants.{Output as OutputUse, Input as InputUse, Update}
+use Rattle.s3_lines.specs.declared.sheet.Designation.{Designation}
+use Rattle.s3_lines.specs.declared.sheet.Designation.TheVariants.{Primary, Secondary, Chained}
+use Rattle.s3_lines.specs.declared.sheet.Device.{Device}
+use Rattle.s3_lines.specs.declared.sheet.Device.TheVariants.{CardReader, Printer}
+use Rattle.s3_lines.specs.declared.sheet.FileLine.{FileLine}
+use Rattle.s3_lines.specs.declared.sheet.FieldForm.{FieldForm}
+use Rattle.s3_lines.specs.declared.sheet.FieldLine.{FieldLine}
+use Rattle.s3_lines.specs.declared.sheet.Shape.{Shape}
+use Rattle.s3_lines.specs.declared.sheet.Shape.TheVariants.{Alphanumeric, Numeric}
+use Rattle.s3_lines.specs.declared.sheet.InputLine.{InputLine}
+use Rattle.s3_lines.specs.declared.sheet.InputLine.TheVariants.{Field}
+use Rattle.s3_lines.specs.declared.sheet.CalculationLine.{CalculationLine}
+use Rattle.s3_lines.specs.declared.sheet.OutputLine.{OutputLine}
+use Rattle.s3_lines.specs.declared.sheet.SheetLine.{SheetLine}
+use Rattle.s3_lines.specs.declared.sheet.SheetLine.TheVariants.{Header, File, Input, Calculation as CalculationSheet, Output as OutputSheet}
+use Rattle.s3_lines.specs.declared.sheet.Line.{Line}
+use Rattle.s3_lines.specs.Ranges.{shape_of_positions}
 use Rattle.s3_meaning.specs.Names.{is_indicator, page, udate, umonth, uday, uyear, rpgobj}
 use Rattle.s3_cards.specs.Names.{same_name}
 use Rattle.s3_meaning.specs.RecordTypes.{RecordType, types_of}
@@ -45,42 +45,40 @@ file_line line = on line.sheet
     on (File file) = Some file
     on _ = None
 
-abbrev pub input_line : Line → Option InputLine
+abbrev pub input_line : Line → Option (InputLine Name)
 input_line line = on line.sheet
   where
-    on : SheetLine → Option InputLine
+    on : SheetLine → Option (InputLine Name)
     on (Input input) = Some input
     on _ = None
 
-abbrev pub calculation_line : Line → Option CalculationLine
+abbrev pub calculation_line : Line → Option (CalculationLine Name)
 calculation_line line = on line.sheet
   where
-    on : SheetLine → Option CalculationLine
+    on : SheetLine → Option (CalculationLine Name)
     on (CalculationSheet calculation) = Some calculation
     on _ = None
 
-abbrev pub output_line : Line → Option OutputLine
+abbrev pub output_line : Line → Option (OutputLine Name)
 output_line line = on line.sheet
   where
-    on : SheetLine → Option OutputLine
+    on : SheetLine → Option (OutputLine Name)
     on (OutputSheet output) = Some output
     on _ = None
 
 -- ---- the shapes of fields
-abbrev pub width : FieldLine → ℕ
+abbrev pub width : FieldLine Name → ℕ
 width field = field.to + 1 - field.from
 
 -- what the form and the width of a field in a record make of it
 abbrev pub field_shape : FieldForm → ℕ → Shape
-field_shape AlphanumericForm bytes = Alphanumeric bytes
-field_shape (Zoned decimals) bytes = Numeric bytes decimals
-field_shape (Packed decimals) bytes = Numeric (2 * bytes - 1) decimals
+field_shape form bytes = shape_of_positions form bytes
 
-abbrev pub input_shape : InputLine → Option (Name × Shape)
+abbrev pub input_shape : InputLine Name → Option (Name × Shape)
 input_shape (Field field) = Some (field.name, field_shape field.form (width field))
 input_shape _ = None
 
-abbrev pub result_shape : CalculationLine → Option (Name × Shape)
+abbrev pub result_shape : CalculationLine Name → Option (Name × Shape)
 result_shape line = on line.result line.definition
   where
     on : Option Name → Option Shape → Option (Name × Shape)
@@ -127,17 +125,18 @@ is_numeric source name = on (shape_of source name)
     on (Numeric digits decimals) = true
 
 -- ---- the whole
+abbrev pub source_from : List FileLine → List (InputLine Name) → List (CalculationLine Name) → List (OutputLine Name) → Source
+source_from files inputs calculations outputs = record {
+  files = files;
+  types = types_of inputs;
+  calculations = calculations_of calculations;
+  outputs = outputs_of outputs;
+  shapes = reserved_shapes ++ filter_map input_shape inputs ++ filter_map result_shape calculations;
+}
+
 abbrev pub source_of : List Line → Source
 source_of lines =
-    let inputs : List InputLine = filter_map input_line lines in
-    let calculations : List CalculationLine = filter_map calculation_line lines in
-    record {
-      files = filter_map file_line lines;
-      types = types_of inputs;
-      calculations = calculations_of calculations;
-      outputs = outputs_of (filter_map output_line lines);
-      shapes = reserved_shapes ++ filter_map input_shape inputs ++ filter_map result_shape calculations;
-    }
+    source_from (filter_map file_line lines) (filter_map input_line lines) (filter_map calculation_line lines) (filter_map output_line lines)
 
 -- the name in an H line
 abbrev pub header_name : Line → Option Name
@@ -218,10 +217,10 @@ overflow_of (file ∷ files) = option_or file.overflow (overflow_of files)
 
 -- ---- record types
 -- an entry in 63-64 makes a field one of the types with that indicator alone
-abbrev pub is_field_of : RecordType → FieldLine → Bool
+abbrev pub is_field_of : RecordType → FieldLine Name → Bool
 is_field_of kind field = not (is_some field.relation) || is_indicator kind.indicator field.relation
 
-abbrev pub own_fields : RecordType → List FieldLine
+abbrev pub own_fields : RecordType → List (FieldLine Name)
 own_fields kind = filter (is_field_of kind) kind.fields
 
 abbrev pub has_control_fields : RecordType → Bool

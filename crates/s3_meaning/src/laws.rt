@@ -1,10 +1,12 @@
 //! What the definitions say of themselves: laws, and worked rows.
 
-ghost use Rattle.std.specs.Prelude.{◌≡◌, ◌+◌, ◌*◌, ◌<◌, ◌≤◌, ◌↔◌, ℕ, List, [], ◌∷◌, true, false, All, IsTrue, IsSome, Some};
+ghost use Rattle.std.specs.Prelude.{◌≡◌, ◌+◌, ◌*◌, ◌<◌, ◌≤◌, ◌↔◌, ℕ, List, [], ◌∷◌, true, false, All, IsTrue, IsSome, Some, codes};
 ghost use Rattle.s3_meaning.specs.Carriage.{Carriage, spaced, skipped};
 ghost use Rattle.s3_meaning.specs.Selection.{Selected, key_of, is_less, least};
 ghost use Rattle.s3_meaning.specs.Source.{Source, source_of};
-ghost use Rattle.s3_meaning.specs.Requests.{Card, Found, Nothing, Done, Print, End};
+ghost use Rattle.s3_meaning.specs.Requests.{Card, Found, Nothing, Done, Print, End, Ask, Reply};
+ghost use Rattle.s3_meaning.specs.declared.halt.HaltCode.TheVariants.{OutOfSequence};
+ghost use Rattle.s3_meaning.specs.Corners.{ComesOut, AsksOver, no_card, last_set_on, first_totals, last_in_totals, halts_in_order, reply_two, reply_three, reply_two_twice, unknown_card, bad_digits, remainders, zero_divisor, minus_zero, blank_after, pages, jumps, card_of, printed_at, overflow_set_on, overflow_at, two_cards, skipped_over, matching, matching_two, record_of, read_primary, read_secondary};
 ghost use Rattle.s3_meaning.specs.Cycle.{again, renewed, Req};
 ghost use Rattle.s3_meaning.specs.Samples.{card_lister, level_totals, card, print_line, no_date};
 
@@ -42,4 +44,53 @@ pub fn totals_are_printed()
         ≡ Print 1 1 (print_line (0x40 ∷ 0x40 ∷ 0x40 ∷ 0xf3 ∷ [])) }
     ensures end { Req (source_of level_totals) 0 no_date (Found (card (0xc1 ∷ 0xf0 ∷ 0xf1 ∷ [])) ∷ Found (card (0xc1 ∷ 0xf0 ∷ 0xf2 ∷ [])) ∷ Found (card (0xc2 ∷ 0xf0 ∷ 0xf5 ∷ [])) ∷ Done ∷ Nothing ∷ Done ∷ [])
         ≡ End false }
+{}
+
+/// Corners of the cycle: the end without a card and after SETON LR, the first totals, halts in their order, replies, remainders,
+/// zeros, blank after, PAGE and jumps.
+pub fn corners_come_out()
+    ensures no_card { ComesOut no_card }
+    ensures last_set_on { ComesOut last_set_on }
+    ensures first_totals { ComesOut first_totals }
+    ensures last_in_totals { ComesOut last_in_totals }
+    ensures halts_in_order { ComesOut halts_in_order }
+    ensures reply_two { ComesOut reply_two }
+    ensures reply_three { ComesOut reply_three }
+    ensures reply_two_twice { ComesOut reply_two_twice }
+    ensures unknown_card { ComesOut unknown_card }
+    ensures bad_digits { ComesOut bad_digits }
+    ensures remainders { ComesOut remainders }
+    ensures zero_divisor { ComesOut zero_divisor }
+    ensures minus_zero { ComesOut minus_zero }
+    ensures blank_after { ComesOut blank_after }
+    ensures pages { ComesOut pages }
+    ensures jumps { ComesOut jumps }
+{}
+
+/// A line that names the overflow indicator comes at overflow time alone, and once; printing at line 60 and passing it set the
+/// indicator, a space up to it and a skip to the next page don't.
+pub fn overflow_comes_past_60()
+    ensures once { AsksOver overflow_set_on (card_of (codes "A") ∷ card_of (codes "B") ∷ Done ∷ card_of (codes "C") ∷ Nothing ∷ [])
+        (Card ∷ Card ∷ printed_at 1 1 (codes "H") ∷ Card ∷ Card ∷ End false ∷ []) }
+    ensures at_59 { AsksOver (overflow_at 59) two_cards (Card ∷ printed_at 1 59 (codes "D") ∷ Card ∷ printed_at 2 59 (codes "D") ∷ Card ∷ []) }
+    ensures at_60 { AsksOver (overflow_at 60) (card_of (codes "A") ∷ Done ∷ card_of (codes "B") ∷ Done ∷ [])
+        (Card ∷ printed_at 1 60 (codes "D") ∷ Card ∷ printed_at 2 1 (codes "H") ∷ printed_at 2 60 (codes "D") ∷ []) }
+    ensures at_61 { AsksOver (overflow_at 61) (card_of (codes "A") ∷ Done ∷ card_of (codes "B") ∷ Done ∷ [])
+        (Card ∷ printed_at 1 61 (codes "D") ∷ Card ∷ printed_at 2 1 (codes "H") ∷ printed_at 2 61 (codes "D") ∷ []) }
+    ensures next_page { AsksOver skipped_over (card_of (codes "A") ∷ Done ∷ Done ∷ card_of (codes "B") ∷ Done ∷ [])
+        (Card ∷ printed_at 1 59 (codes "D") ∷ printed_at 2 3 (codes "E") ∷ Card ∷ printed_at 2 59 (codes "D") ∷ printed_at 3 3 (codes "E") ∷ []) }
+{}
+
+/// Matching records: the end by E and without it, a record without match fields, a record out of sequence, and two match fields.
+pub fn matching_comes_out()
+    ensures with_end { AsksOver (matching true) (record_of (codes "10") ∷ record_of (codes "20") ∷ Done ∷ record_of (codes "20") ∷ Done ∷ Nothing ∷ Done ∷ record_of (codes "30") ∷ [])
+        (read_primary ∷ read_secondary ∷ printed_at 1 1 (codes "P10") ∷ read_primary ∷ printed_at 1 2 (codes "P20M") ∷ read_primary ∷ printed_at 1 3 (codes "S20M") ∷ read_secondary ∷ End false ∷ []) }
+    ensures without_end { AsksOver (matching false) (record_of (codes "10") ∷ record_of (codes "20") ∷ Done ∷ record_of (codes "20") ∷ Done ∷ Nothing ∷ Done ∷ record_of (codes "30") ∷ Done ∷ Nothing ∷ [])
+        (read_primary ∷ read_secondary ∷ printed_at 1 1 (codes "P10") ∷ read_primary ∷ printed_at 1 2 (codes "P20M") ∷ read_primary ∷ printed_at 1 3 (codes "S20M") ∷ read_secondary ∷ printed_at 1 4 (codes "S30") ∷ read_secondary ∷ End false ∷ []) }
+    ensures without_key { AsksOver (matching false) (record_of (codes "10") ∷ record_of (codes "05") ∷ Done ∷ Nothing ∷ Done ∷ record_of (codes "X") ∷ Done ∷ record_of (codes "20") ∷ Done ∷ Nothing ∷ [])
+        (read_primary ∷ read_secondary ∷ printed_at 1 1 (codes "S05") ∷ read_secondary ∷ printed_at 1 2 (codes "P10") ∷ read_primary ∷ printed_at 1 3 (codes "PX") ∷ read_primary ∷ printed_at 1 4 (codes "P20") ∷ read_primary ∷ End false ∷ []) }
+    ensures out_of_sequence { AsksOver (matching false) (record_of (codes "20") ∷ Nothing ∷ Done ∷ record_of (codes "10") ∷ Reply 0 ∷ Nothing ∷ [])
+        (read_primary ∷ read_secondary ∷ printed_at 1 1 (codes "P20") ∷ read_primary ∷ Ask OutOfSequence ∷ read_primary ∷ End false ∷ []) }
+    ensures highest_first { AsksOver matching_two (record_of (codes "102") ∷ record_of (codes "201") ∷ [])
+        (read_primary ∷ read_secondary ∷ printed_at 1 1 (codes "S20") ∷ []) }
 {}

@@ -6,7 +6,7 @@ use Rattle.std.proofs.lemmas.Bool.{cases_Bool, eqb-true}
 use Rattle.s3_sheets.proofs.TextLemmas.{twice, may_end, other}
 use Rattle.s3_sheets.specs.Columns.{are_blank}
 use Rattle.s3_sheets.specs.Entries.{text_of, constant_text, unless_empty}
-use Rattle.s3_sheets.specs.Literals.{doubled, written, IsConstant}
+use Rattle.s3_sheets.specs.Inner.Literals.{doubled, written, IsConstant}
 
 blanks_are_blank : (n : ℕ) → are_blank (replicate n 0x40) ≡ true
 blanks_are_blank zero = refl
@@ -61,7 +61,7 @@ inverted f (Some more) text e = (more, refl, same_some (f more) text e)
     same_some : (x y : List ℕ) → Some x ≡ Some y → x ≡ y
     same_some x y e = ap (value_or x) e
 
-all_blank : (codes : List ℕ) → are_blank codes ≡ true → codes ≡ replicate (length codes) 0x40
+pub all_blank : (codes : List ℕ) → are_blank codes ≡ true → codes ≡ replicate (length codes) 0x40
 all_blank [] e = refl
 all_blank (code ∷ codes) e = elim (cases_Bool (code == 0x40)) [
   | inl is ↦ (let more : are_blank codes ≡ true = rw is at e in rw (eqb-true code 0x40 is) (ap (λ xs. 0x40 ∷ xs) (all_blank codes more)))
@@ -139,7 +139,7 @@ not_empty None text e = absurd cc
 not_empty (Some []) text e = absurd cc
 not_empty (Some (code ∷ more)) text e = (e, λ none. absurd (let f : Some (code ∷ more) ≡ Some [] = e ∙ ap Some none in cc))
 
-written_constant : (codes text : List ℕ) → constant_text codes ≡ Some text → IsConstant codes text
+pub written_constant : (codes text : List ℕ) → constant_text codes ≡ Some text → IsConstant codes text
 unfolding constant_text
 written_constant [] text e = absurd cc
 written_constant (first ∷ codes) text e = elim (cases_Bool (first == 0x7d)) [

@@ -1,8 +1,16 @@
 pub mod ConstantLemmas
+pub mod EntryLemmas
+pub mod FactorLemmas
 pub mod FaultLemmas
+pub mod HeldLemmas
+pub mod InsideLemmas
 pub mod KnownLemmas
+pub mod LineLemmas
 pub mod NumberLemmas
+pub mod OperationLemmas
+pub mod PositionLemmas
 pub mod ProgressLemmas
+pub mod RangeLemmas
 pub mod ReadingLemmas
 pub mod Rows
 pub mod RuleLemmas

@@ -10,15 +10,14 @@ use Rattle.s3_sheets.specs.Columns.{columns, are_blank}
 use Rattle.s3_cards.specs.Names.{name_of}
 use Rattle.s3_sheets.specs.Kinds.{kind_of, sheet_of, is_record, is_output_line}
 use Rattle.s3_sheets.specs.Lines.{card_at}
-use Rattle.s3_sheets.specs.Sheets.{before, kind_at, is_behind, is_misplaced, is_further_record, lacks_file, faults_of, is_at_fault, is_outside, is_too_many, new_file, new_field, file_of, field_of, record_length_of, named_length, length_behind, line_length, files, fields, input_length, output_length, standing_at}
-use Rattle.s3_sheets.specs.Progress.{Kept, passes_limit, nothing_kept, is_misplaced_behind, is_further, lacks_its_file, length_named, is_outside_behind, is_at_fault_behind, files_with, fields_with, kept_behind, standing_behind}
+use Rattle.s3_sheets.specs.Sheets.{before, kind_at, is_behind, is_misplaced, lacks_file, faults_of, is_at_fault, is_outside, is_too_many, new_file, new_field, file_of, field_of, record_length_of, named_length, has_code_past, length_behind, line_length, files, fields, input_length, output_length, standing_at}
+use Rattle.s3_sheets.specs.Inner.Progress.{Kept, passes_limit, nothing_kept, is_misplaced_behind, lacks_its_file, length_named, is_outside_behind, is_at_fault_behind, files_with, fields_with, kept_behind, standing_behind}
 use Rattle.s3_sheets.specs.declared.kind.CardKind.{CardKind}
-use Rattle.s3_sheets.specs.declared.kind.CardKind.TheVariants.{Comment, Unknown, Header, File, Record, RecordGroup, Field, Calculation, OutputLine, OutputGroup, OutputField}
+use Rattle.s3_sheets.specs.declared.kind.CardKind.TheVariants.{Comment, Unknown, Header, File, Record, RecordAnd, RecordOr, Field, Calculation, OutputLine, OutputAnd, OutputOr, OutputField}
 
 -- what is kept is what the first n cards say
 pub record IsKept (cards : List (List ℕ)) (n : ℕ) (kept : Kept) : Type 0 where
   pub latest : (sheet : ℕ) → list_any (λ other. is_behind sheet (sheet_of other)) (before cards n) ≡ is_behind sheet kept.latest_sheet
-  pub of_records : list_any is_record (before cards n) ≡ kept.has_record
   pub of_lines : list_any is_output_line (before cards n) ≡ kept.has_output_line
   pub of_files : kept.files ≡ files cards n
   pub of_input : kept.input_length ≡ input_length cards n
@@ -28,7 +27,6 @@ pub record IsKept (cards : List (List ℕ)) (n : ℕ) (kept : Kept) : Type 0 whe
 pub none_kept : (cards : List (List ℕ)) → IsKept cards 0 nothing_kept
 none_kept cards = record {
   latest = λ sheet. grind (arith, nat_tests);
-  of_records = refl;
   of_lines = refl;
   of_files = refl;
   of_input = refl;
@@ -49,7 +47,7 @@ before_more p cards n in' =
     ∙ (ap (list_any p) (map-append kind_of (take n cards) (card_at cards n ∷ []))
     ∙ (list_any-append p (before cards n) (kind_at cards n ∷ []) ∙ or_false (list_any p (before cards n)) (p (kind_at cards n))))
 
-misplaced_same : (kind : CardKind) (earlier : List CardKind) (latest : ℕ)
+pub misplaced_same : (kind : CardKind) (earlier : List CardKind) (latest : ℕ)
     → ((sheet : ℕ) → list_any (λ other. is_behind sheet (sheet_of other)) earlier ≡ is_behind sheet latest)
     → is_misplaced_behind kind latest ≡ is_misplaced kind earlier
 misplaced_same Comment earlier latest h = refl
@@ -57,28 +55,26 @@ misplaced_same Unknown earlier latest h = refl
 misplaced_same Header earlier latest h = sym (h 1)
 misplaced_same File earlier latest h = sym (h 2)
 misplaced_same Record earlier latest h = sym (h 3)
-misplaced_same RecordGroup earlier latest h = sym (h 3)
+misplaced_same RecordAnd earlier latest h = sym (h 3)
+misplaced_same RecordOr earlier latest h = sym (h 3)
 misplaced_same Field earlier latest h = sym (h 3)
 misplaced_same Calculation earlier latest h = sym (h 4)
 misplaced_same OutputLine earlier latest h = sym (h 5)
-misplaced_same OutputGroup earlier latest h = sym (h 5)
+misplaced_same OutputAnd earlier latest h = sym (h 5)
+misplaced_same OutputOr earlier latest h = sym (h 5)
 misplaced_same OutputField earlier latest h = sym (h 5)
-
-further_same : (cards : List (List ℕ)) (n : ℕ) (kept : Kept) → IsKept cards n kept
-    → is_further kept (kind_at cards n) ≡ is_further_record (kind_at cards n) (before cards n)
-further_same cards n kept so_far = ap (λ b. is_record (kind_at cards n) && b) (sym so_far.of_records)
 
 lacks_same : (cards : List (List ℕ)) (n : ℕ) (kept : Kept) → IsKept cards n kept
     → lacks_its_file kept (kind_at cards n) (card_at cards n) ≡ lacks_file (kind_at cards n) (before cards n) (card_at cards n)
 lacks_same cards n kept so_far =
     ap (λ b. is_output_line (kind_at cards n) && are_blank (columns (card_at cards n) 7 14) && not b) (sym so_far.of_lines)
 
-fault_same : (cards : List (List ℕ)) (n : ℕ) (kept : Kept) → IsKept cards n kept → is_at_fault_behind kept (card_at cards n) ≡ is_at_fault cards n
+pub fault_same : (cards : List (List ℕ)) (n : ℕ) (kept : Kept) → IsKept cards n kept → is_at_fault_behind kept (card_at cards n) ≡ is_at_fault cards n
 unfolding is_at_fault_behind is_at_fault
 fault_same cards n kept so_far =
-    rw (misplaced_same (kind_at cards n) (before cards n) kept.latest_sheet so_far.latest, further_same cards n kept so_far, lacks_same cards n kept so_far) refl
+    rw (misplaced_same (kind_at cards n) (before cards n) kept.latest_sheet so_far.latest, lacks_same cards n kept so_far) refl
 
-outside_same : (cards : List (List ℕ)) (n : ℕ) (kept : Kept) → IsKept cards n kept
+pub outside_same : (cards : List (List ℕ)) (n : ℕ) (kept : Kept) → IsKept cards n kept
     → is_outside_behind kept (kind_at cards n) (card_at cards n) ≡ is_outside cards n
 unfolding is_outside_behind is_outside
 outside_same cards n kept so_far = rw (so_far.of_files, so_far.of_input, so_far.of_output) refl
@@ -103,9 +99,12 @@ named_same : (cards : List (List ℕ)) (n : ℕ) (kept : Kept) → IsKept cards 
 named_same cards n kept so_far = ap (λ known. record_length_of known (name_of (columns (card_at cards n) 7 14))) so_far.of_files
 
 input_same : (cards : List (List ℕ)) (n : ℕ) (kept : Kept) → IsKept cards n kept
-    → length_behind (is_record (kind_at cards n)) (is_at_fault_behind kept (card_at cards n)) (length_named kept (card_at cards n)) kept.input_length
+    → length_behind (is_record (kind_at cards n)) (is_at_fault_behind kept (card_at cards n) || has_code_past (card_at cards n) (length_named kept (card_at cards n)))
+    (length_named kept (card_at cards n)) kept.input_length
     ≡ input_length cards (suc n)
-input_same cards n kept so_far = λ i. length_behind (is_record (kind_at cards n)) (fault_same cards n kept so_far i) (named_same cards n kept so_far i) (so_far.of_input i)
+input_same cards n kept so_far = λ i.
+    length_behind (is_record (kind_at cards n)) (fault_same cards n kept so_far i || has_code_past (card_at cards n) (named_same cards n kept so_far i))
+    (named_same cards n kept so_far i) (so_far.of_input i)
 
 output_same : (cards : List (List ℕ)) (n : ℕ) (kept : Kept) → IsKept cards n kept
     → length_behind (is_output_line (kind_at cards n)) (is_at_fault_behind kept (card_at cards n))
@@ -127,7 +126,6 @@ kept_next cards n kept so_far in' = record {
       before_more (λ other. is_behind sheet (sheet_of other)) cards n in'
       ∙ (ap (λ b. b || is_behind sheet (sheet_of (kind_at cards n))) (so_far.latest sheet)
       ∙ behind_later sheet kept.latest_sheet (sheet_of (kind_at cards n)));
-  of_records = before_more is_record cards n in' ∙ ap (λ b. b || is_record (kind_at cards n)) so_far.of_records;
   of_lines = before_more is_output_line cards n in' ∙ ap (λ b. b || is_output_line (kind_at cards n)) so_far.of_lines;
   of_files = rw add-one (files_same cards n kept so_far);
   of_input = rw add-one (input_same cards n kept so_far);
@@ -142,7 +140,6 @@ unfolding standing_behind is_too_many
 standing_same cards n kept so_far = λ i. record {
   faults = faults_of (card_at cards n);
   is_misplaced = misplaced_same (kind_at cards n) (before cards n) kept.latest_sheet so_far.latest i;
-  is_further_record = further_same cards n kept so_far i;
   lacks_file = lacks_same cards n kept so_far i;
   is_outside = outside_same cards n kept so_far i;
   is_too_many = passes_limit 20 (length (so_far.of_files i)) (length (files_same cards n kept so_far i))

@@ -1,5 +1,5 @@
 -- Lemmas on reading the sheets.
-use Rattle.std.proofs.Common.{◌≡◌, ℕ, ◌+◌, ◌<◌, List, [], ◌∷◌, ◌++◌, refl, sym, ◌∙◌, ap, arith, subst, inl, inr, length, get_or, suc, add-one, Bool}
+use Rattle.std.proofs.Common.{◌≡◌, ℕ, ◌+◌, ◌<◌, List, [], ◌∷◌, ◌++◌, refl, sym, ◌∙◌, ap, arith, subst, inl, inr, length, get_or, suc, add-one, Bool, true}
 use Rattle.std.specs.Prelude.{map, filter}
 use Rattle.std.specs.Option.{option_to_list}
 use Rattle.std.proofs.lemmas.Bool.{cases_Bool}
@@ -7,11 +7,15 @@ use Rattle.std.proofs.lemmas.List.{map-append, get_or_default}
 use Rattle.std.proofs.lemmas.List.Elements.{filter-append}
 use Rattle.s3_sheets.specs.Lines.{card_at, line_of, lines_below, lines_of}
 use Rattle.s3_sheets.specs.Sheets.{standing_at, card_holds, holds, numbers, pairs, diagnostic, sheet_diagnostics, card_diagnostics}
-use Rattle.s3_sheets.specs.Progress.{Kept, nothing_kept, kept_behind, standing_behind}
+use Rattle.s3_sheets.specs.Inner.Progress.{Kept, nothing_kept, kept_behind, standing_behind}
+use Rattle.s3_lines.specs.Ascending.{cards_ascend}
+use Rattle.s3_lines.specs.Ranges.{are_read}
+use Rattle.s3_sheets.proofs.HeldLemmas.{IsHeld, all_held, kept_at}
+use Rattle.s3_sheets.proofs.InsideLemmas.{all_read}
 use Rattle.s3_sheets.proofs.ProgressLemmas.{IsKept, none_kept, kept_next, standing_same}
-use Rattle.s3_sheets.specs.declared.diagnostic.Diagnostic.{Diagnostic}
+use Rattle.s3_lines.specs.declared.diagnostic.Diagnostic.{Diagnostic}
 use Rattle.s3_sheets.specs.declared.progress.Standing.{Standing}
-use Rattle.s3_sheets.specs.declared.sheet.Line.{Line}
+use Rattle.s3_lines.specs.declared.sheet.Line.{Line}
 
 -- what has been read of a source's first n cards
 pub record ReadSoFar (from : ℕ) (cards : List (List ℕ)) (n : ℕ) (diagnostics : List Diagnostic) (typed : List Line) (kept : Kept) : Type 0 where
@@ -83,12 +87,21 @@ empty_list : {X : Type 0} (xs : List X) → length xs ≡ 0 → xs ≡ []
 empty_list [] e = refl
 empty_list (x ∷ xs) e = absurd (omega arith)
 
+unmapped : {X Y : Type 0} (f : X → Y) (xs : List X) → map f xs ≡ [] → xs ≡ []
+unmapped f [] e = refl
+unmapped f (x ∷ xs) e = absurd cc
+
 pub no_diagnostics : (from : ℕ) (cards : List (List ℕ)) (n : ℕ) (found : List Diagnostic) (lines : List Line) (kept : Kept)
-    → ReadSoFar from cards n found lines kept → n ≡ length cards → length found ≡ 0 → (sheet_diagnostics from cards ≡ []) × (lines ≡ lines_of from cards)
+    → ReadSoFar from cards n found lines kept → n ≡ length cards → length found ≡ 0
+    → (sheet_diagnostics from cards ≡ []) × (lines ≡ lines_of from cards) × (are_read lines ≡ true) × (cards_ascend from lines ≡ true)
 unfolding sheet_diagnostics lines_of
 no_diagnostics from cards n found lines kept so_far e none =
     let here : ReadSoFar from cards (length cards) found lines kept = subst (λ (m : ℕ). ReadSoFar from cards m found lines kept) e so_far in
-    (sym here.found ∙ empty_list found none, here.lines)
+    let empty : map (diagnostic from) (filter (holds cards) (pairs (length cards))) ≡ [] = sym here.found ∙ empty_list found none in
+    let none : filter (holds cards) (pairs (length cards)) ≡ [] = unmapped (diagnostic from) (filter (holds cards) (pairs (length cards))) empty in
+    let held : IsHeld from (length cards) (lines_below from cards (length cards)) (kept_at cards (length cards)) =
+    all_held from cards (length cards) (omega arith) none in
+    (empty, here.lines, ap are_read here.lines ∙ all_read from cards (length cards) (omega arith) none, ap (cards_ascend from) here.lines ∙ held.ascending)
 
 pub some_diagnostics : (from : ℕ) (cards : List (List ℕ)) (n : ℕ) (found : List Diagnostic) (lines : List Line) (kept : Kept)
     → ReadSoFar from cards n found lines kept → n ≡ length cards → 0 < length found → (found ≡ [] → ⊥) × (found ≡ sheet_diagnostics from cards)

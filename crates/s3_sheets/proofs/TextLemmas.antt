@@ -7,8 +7,8 @@ use Rattle.std.proofs.lemmas.List.{drop_all, take_all}
 use Rattle.std.proofs.lemmas.Bool.Decides.{nat_tests}
 use Rattle.s3_sheets.specs.Columns.{are_blank}
 use Rattle.s3_sheets.specs.Entries.{text_of, constant}
-use Rattle.s3_sheets.specs.Literals.{with_code, with_next_code, unended, is_behind_end}
-use Rattle.s3_sheets.specs.declared.sheet.Constant.{Constant}
+use Rattle.s3_sheets.specs.Inner.Literals.{with_code, with_next_code, unended, is_behind_end}
+use Rattle.s3_lines.specs.declared.sheet.Constant.{Constant}
 
 -- what has been read of the codes at a place: a text, and whether an apostrophe ends it
 pub record TextSoFar (codes : List ℕ) (place : ℕ) (text : Constant) (ended : Bool) : Type 0 where

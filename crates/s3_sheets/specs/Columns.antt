@@ -1,9 +1,11 @@
 -- What columns of a card spell.
-use Rattle.std.specs.Prelude.{ℕ, ◌-◌, List, Bool, ◌==◌, Option, Some, None, length, drop, map, nat_lt, slice_range, slice_index, if◌then◌else◌}
+use Rattle.std.specs.Prelude.{ℕ, ◌-◌, List, Bool, ◌==◌, Option, Some, None, length, drop, map, nat_eq, nat_lt, slice_range, slice_index, if◌then◌else◌}
 use Rattle.std.specs.List.{list_all, prefix_len}
+use Rattle.std.specs.Cmp.Lexicographic.{pointwise}
 use Rattle.std.specs.Int.Digits.{number_from_digits}
 use Rattle.s3_cards.specs.declared.ebcdic.TheConstants.{DIGIT_0}
 use Rattle.s3_cards.specs.Names.{is_blank, is_digit}
+use Rattle.s3_lines.specs.Ranges.{is_between}
 
 -- the columns from one to another, both counted from 1
 abbrev pub columns : List ℕ → ℕ → ℕ → List ℕ
@@ -13,16 +15,32 @@ columns card from to = slice_range card (from - 1) to
 abbrev pub column : List ℕ → ℕ → ℕ
 column card number = slice_index card (number - 1)
 
+abbrev pub same_codes : List ℕ → List ℕ → Bool
+same_codes a b = pointwise nat_eq a b
+
 abbrev pub are_blank : List ℕ → Bool
 are_blank codes = list_all is_blank codes
+
+-- the digit of a code
+abbrev pub digit : ℕ → ℕ
+digit code = code - DIGIT_0
+
+-- what passes a test
+abbrev pub only : {X : Type 0} → (X → Bool) → Option X → Option X
+only test None = None
+only test (Some x) = if test x then Some x else None
 
 -- the number that digits spell
 unfoldable pub digits_number : List ℕ → Option ℕ
 digits_number codes =
     if length codes == 0 then None
-    else if list_all is_digit codes then Some (number_from_digits 10 (map (λ code. code - DIGIT_0) codes))
+    else if list_all is_digit codes then Some (number_from_digits 10 (map digit codes))
     else None
 
 -- the number in at most four columns: its digits stand on the right, blanks or zeros in front
 abbrev pub number_of : List ℕ → Option ℕ
 number_of codes = if nat_lt 4 (length codes) then None else digits_number (drop (prefix_len is_blank codes) codes)
+
+-- the same, if it is in a range
+unfoldable pub number_between : ℕ → ℕ → List ℕ → Option ℕ
+number_between low high codes = only (is_between low high) (number_of codes)

@@ -1,47 +1,29 @@
 -- What the entries of the sheets spell.
-use Rattle.std.specs.Prelude.{ℕ, ◌+◌, ◌-◌, ◌*◌, nat_lt, nat_le, List, [], ◌∷◌, ◌++◌, Bool, true, false, not, ◌==◌, ◌&&◌, ◌||◌, Option, Some, None, is_some, option_map, length, take, drop, replicate, if◌then◌else◌, codes}
-use Rattle.std.specs.List.{list_any, prefix_len}
+use Rattle.std.specs.Prelude.{ℕ, ℤ, pos, neg_ℤ, ◌+◌, ◌-◌, nat_lt, List, [], ◌∷◌, ◌++◌, Bool, true, false, ◌==◌, ◌&&◌, ◌||◌, Option, Some, None, option_map, length, take, drop, map, replicate, slice_index, if◌then◌else◌, codes}
+use Rattle.std.specs.List.{prefix_len}
 use Rattle.std.specs.Option.{option_or, option_and_then}
-use Rattle.s3_cards.specs.declared.ebcdic.TheConstants.{BLANK, APOSTROPHE, PERIOD, PLUS, MINUS, LETTER_N, LETTER_U, DIGIT_0}
+use Rattle.std.specs.Int.Digits.{number_from_digits}
+use Rattle.s3_cards.specs.declared.ebcdic.TheConstants.{BLANK, APOSTROPHE, PERIOD, PLUS, MINUS, LETTER_C, LETTER_D, LETTER_N, LETTER_Z}
 use Rattle.s3_cards.specs.Codes.{ebcdic}
-use Rattle.s3_cards.specs.Names.{is_digit, is_name, name_of, same_name}
-use Rattle.s3_sheets.specs.Columns.{are_blank}
+use Rattle.s3_cards.specs.Names.{is_digit, is_name, name_of}
 use Rattle.s3_cards.specs.declared.name.Name.{Name}
-use Rattle.s3_sheets.specs.declared.indicator.Indicator.{Indicator}
-use Rattle.s3_sheets.specs.declared.indicator.Indicator.TheVariants.{General, Switch}
-use Rattle.s3_sheets.specs.declared.indicator.Condition.{Condition}
-use Rattle.s3_sheets.specs.declared.sheet.Constant.{Constant}
+use Rattle.s3_sheets.specs.Columns.{are_blank, same_codes, digit, number_between}
+use Rattle.s3_sheets.specs.Indicators.{listed}
+use Rattle.s3_sheets.specs.declared.indicators.IndicatorList.TheVariants.{Total as TotalList}
+use Rattle.s3_lines.specs.declared.sheet.Constant.{Constant}
+use Rattle.s3_lines.specs.declared.sheet.NumberLiteral.{NumberLiteral}
+use Rattle.s3_lines.specs.declared.sheet.TextLiteral.{TextLiteral}
+use Rattle.s3_lines.specs.declared.sheet.Factor.{Factor}
+use Rattle.s3_lines.specs.declared.sheet.Factor.TheVariants.{Named, Number, Text}
+use Rattle.s3_lines.specs.declared.sheet.CodePart.{CodePart}
+use Rattle.s3_lines.specs.declared.sheet.CodePart.TheVariants.{Character, Zone, Digit}
+use Rattle.s3_lines.specs.declared.sheet.RecordCode.{RecordCode}
+use Rattle.s3_lines.specs.declared.sheet.CalculationTime.{CalculationTime}
+use Rattle.s3_lines.specs.declared.sheet.CalculationTime.TheVariants.{Detail, Total, Subroutine, And, Or}
+use Rattle.s3_lines.specs.declared.sheet.Operation.{Operation}
+use Rattle.s3_lines.specs.declared.sheet.Operation.TheVariants.{Add, Subtract, Multiply, Divide, ZeroAdd, ZeroSubtract, MoveRemainder, Compare, Move, MoveLeft, SetOn, SetOff, GoTo, Tag, ExecuteSubroutine, BeginSubroutine, EndSubroutine, Except, Chain, Unknown}
 
--- the number of an indicator of two digits, 01 to 99
-abbrev pub general_of : List ℕ → Option ℕ
-general_of (tens ∷ units ∷ []) =
-    if is_digit tens && is_digit units && not (tens == DIGIT_0 && units == DIGIT_0)
-    then Some ((tens - DIGIT_0) * 10 + (units - DIGIT_0))
-    else None
-general_of _ = None
-
--- the number of a switch, U1 to U8
-abbrev pub switch_of : List ℕ → Option ℕ
-switch_of (letter ∷ digit ∷ []) =
-    if letter == LETTER_U && nat_lt DIGIT_0 digit && nat_le digit (DIGIT_0 + 8) then Some (digit - DIGIT_0) else None
-switch_of _ = None
-
--- an indicator of a condition: 01 to 99, U1 to U8
-abbrev pub indicator_of : List ℕ → Option Indicator
-indicator_of columns = option_or (option_map (λ n. General n) (general_of columns)) (option_map (λ n. Switch n) (switch_of columns))
-
--- all blank, or blank or N and then an indicator
-abbrev pub is_condition : List ℕ → Bool
-is_condition [] = false
-is_condition (sign ∷ indicator) = are_blank (sign ∷ indicator) || ((sign == BLANK || sign == LETTER_N) && is_some (indicator_of indicator))
-
--- the condition in three columns, none where they are blank
-abbrev pub condition_of : List ℕ → Option Condition
-condition_of [] = None
-condition_of (sign ∷ columns) =
-    if are_blank (sign ∷ columns) then None
-    else option_map (λ indicator. record { negated = sign == LETTER_N; indicator = indicator }) (indicator_of columns)
-
+-- ---- constants
 -- the text up to the apostrophe that ends it, behind which all is blank; an apostrophe of the text is written twice. `ended`
 -- says that an apostrophe stands before these codes, which ends the text unless another one follows.
 unfoldable pub text_of : Bool → List ℕ → Option (List ℕ)
@@ -67,38 +49,111 @@ constant_text (first ∷ codes) = if first == APOSTROPHE then option_and_then un
 abbrev pub constant : List ℕ → Constant
 constant text = record { codes = text ++ replicate (24 - length text) BLANK; length = length text }
 
--- the fields that no sheet defines
-unfoldable pub reserved_names : List Name
-reserved_names =
-    name_of (ebcdic (codes "UDATE")) ∷ name_of (ebcdic (codes "UMONTH")) ∷ name_of (ebcdic (codes "UDAY"))
-    ∷ name_of (ebcdic (codes "UYEAR")) ∷ name_of (ebcdic (codes "PAGE")) ∷ []
-
-abbrev pub is_reserved : Name → Bool
-is_reserved name = list_any (λ other. same_name other name) reserved_names
-
 -- ---- factors
 abbrev pub without_sign : List ℕ → List ℕ
 without_sign [] = []
 without_sign (code ∷ codes) = if (code == PLUS) || (code == MINUS) then codes else code ∷ codes
 
+abbrev pub is_negative : List ℕ → Bool
+is_negative [] = false
+is_negative (code ∷ codes) = code == MINUS
+
 abbrev pub without_point : List ℕ → List ℕ
 without_point [] = []
 without_point (code ∷ codes) = if code == PERIOD then codes else code ∷ codes
 
--- a literal number: a sign or none, digits with at most one point among or beside them, and blanks behind
-abbrev pub is_number_literal : List ℕ → Bool
-is_number_literal entry =
+abbrev pub signed : Bool → ℕ → ℤ
+signed true number = neg_ℤ (pos number)
+signed false number = pos number
+
+-- a literal number: a sign or none, digits with at most one point among or beside them, and blanks behind. Ten columns hold at most
+-- nine digits behind a point.
+unfoldable pub number_literal_of : List ℕ → Option NumberLiteral
+number_literal_of entry =
     let unsigned : List ℕ = without_sign entry in
     let whole : ℕ = prefix_len is_digit unsigned in
     let fraction : List ℕ = without_point (drop whole unsigned) in
     let decimals : ℕ = prefix_len is_digit fraction in
-    (nat_lt 0 whole || nat_lt 0 decimals) && are_blank (drop decimals fraction)
+    if nat_lt 0 (whole + decimals) && are_blank (drop decimals fraction)
+    then Some (record {
+      value = signed (is_negative entry) (number_from_digits 10 (map digit (take whole unsigned) ++ map digit (take decimals fraction)));
+      digits = whole + decimals;
+      decimals = decimals;
+    })
+    else None
+
+-- a literal text, of which ten columns hold at most eight characters
+abbrev pub text_literal : List ℕ → TextLiteral
+text_literal text = record { codes = text ++ replicate (8 - length text) BLANK; length = length text }
 
 -- a name of at most so many characters, with blanks behind it
-abbrev pub is_name_within : ℕ → List ℕ → Bool
-is_name_within longest entry = is_name (take longest entry) && are_blank (drop longest entry)
+abbrev pub name_within : ℕ → List ℕ → Option Name
+name_within longest entry = if is_name (take longest entry) && are_blank (drop longest entry) then Some (name_of (take longest entry)) else None
 
--- a literal, or a name of at most so many characters. Ten columns hold at most 8 characters in apostrophes, and 9 digits behind a
--- point.
-abbrev pub is_factor : ℕ → List ℕ → Bool
-is_factor longest entry = is_some (constant_text entry) || is_number_literal entry || is_name_within longest entry
+-- a literal, or a name of at most so many characters; none where the columns are blank
+unfoldable pub factor_of : ℕ → List ℕ → Option (Factor Name)
+factor_of longest entry =
+    option_or (option_map (λ text. Text (text_literal text)) (constant_text entry))
+    (option_or (option_map (λ literal. Number literal) (number_literal_of entry)) (option_map (λ name. Named name) (name_within longest entry)))
+
+-- ---- record identification codes
+-- C, Z or D
+abbrev pub part_of : ℕ → Option CodePart
+part_of code =
+    if code == LETTER_C then Some Character
+    else if code == LETTER_Z then Some Zone
+    else if code == LETTER_D then Some Digit
+    else None
+
+abbrev pub code_with : Option ℕ → Option CodePart → Bool → ℕ → Option RecordCode
+code_with (Some position) (Some part) negated character =
+    Some (record { position = position; negated = negated; part = part; character = character })
+code_with _ _ negated character = None
+
+-- the code in seven columns: a position, blank or N, what is compared, a character; none where they are blank
+unfoldable pub code_of : List ℕ → Option RecordCode
+code_of entry =
+    code_with (number_between 1 9999 (take 4 entry)) (part_of (slice_index entry 5)) (slice_index entry 4 == LETTER_N) (slice_index entry 6)
+
+-- ---- calculations
+-- when a C line is done
+unfoldable pub time_of : List ℕ → Option CalculationTime
+time_of entry =
+    if are_blank entry then Some Detail
+    else if same_codes entry (ebcdic (codes "SR")) then Some Subroutine
+    else if same_codes entry (ebcdic (codes "AN")) then Some And
+    else if same_codes entry (ebcdic (codes "OR")) then Some Or
+    else option_map (λ indicator. Total indicator) (listed TotalList entry)
+
+-- the operations by their words
+unfoldable pub operations : List (List ℕ × Operation)
+operations =
+    (ebcdic (codes "ADD  "), Add)
+    ∷ (ebcdic (codes "SUB  "), Subtract)
+    ∷ (ebcdic (codes "MULT "), Multiply)
+    ∷ (ebcdic (codes "DIV  "), Divide)
+    ∷ (ebcdic (codes "Z-ADD"), ZeroAdd)
+    ∷ (ebcdic (codes "Z-SUB"), ZeroSubtract)
+    ∷ (ebcdic (codes "MVR  "), MoveRemainder)
+    ∷ (ebcdic (codes "COMP "), Compare)
+    ∷ (ebcdic (codes "MOVE "), Move)
+    ∷ (ebcdic (codes "MOVEL"), MoveLeft)
+    ∷ (ebcdic (codes "SETON"), SetOn)
+    ∷ (ebcdic (codes "SETOF"), SetOff)
+    ∷ (ebcdic (codes "GOTO "), GoTo)
+    ∷ (ebcdic (codes "TAG  "), Tag)
+    ∷ (ebcdic (codes "EXSR "), ExecuteSubroutine)
+    ∷ (ebcdic (codes "BEGSR"), BeginSubroutine)
+    ∷ (ebcdic (codes "ENDSR"), EndSubroutine)
+    ∷ (ebcdic (codes "EXCPT"), Except)
+    ∷ (ebcdic (codes "CHAIN"), Chain)
+    ∷ []
+
+-- the operation of a word in a table
+abbrev pub operation_in : List (List ℕ × Operation) → List ℕ → Operation
+operation_in [] word = Unknown
+operation_in (row ∷ rows) word = if same_codes word row.0 then row.1 else operation_in rows word
+
+-- none where the columns are blank
+abbrev pub operation_of : List ℕ → Option Operation
+operation_of entry = if are_blank entry then None else Some (operation_in operations entry)

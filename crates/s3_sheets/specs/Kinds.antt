@@ -1,23 +1,32 @@
 -- What kind of card of a source each card is.
-use Rattle.std.specs.Prelude.{ℕ, List, Bool, true, false, ◌==◌, ◌&&◌, ◌||◌, if◌then◌else◌, nat_eq, codes}
-use Rattle.std.specs.Cmp.Lexicographic.{pointwise}
+use Rattle.std.specs.Prelude.{ℕ, List, Bool, true, false, ◌==◌, ◌&&◌, if◌then◌else◌, codes}
 use Rattle.s3_cards.specs.declared.ebcdic.TheConstants.{ASTERISK, LETTER_C, LETTER_F, LETTER_H, LETTER_I, LETTER_O}
 use Rattle.s3_cards.specs.Codes.{ebcdic}
-use Rattle.s3_sheets.specs.Columns.{column, columns, are_blank}
+use Rattle.s3_sheets.specs.Columns.{column, columns, are_blank, same_codes}
 use Rattle.s3_sheets.specs.declared.kind.CardKind.{CardKind}
-use Rattle.s3_sheets.specs.declared.kind.CardKind.TheVariants.{Comment, Unknown, Header, File, Record, RecordGroup, Field, Calculation, OutputLine, OutputGroup, OutputField}
+use Rattle.s3_sheets.specs.declared.kind.CardKind.TheVariants.{Comment, Unknown, Header, File, Record, RecordAnd, RecordOr, Field, Calculation, OutputLine, OutputAnd, OutputOr, OutputField}
 
--- AND or OR in 14-16, with the name columns before it blank
-unfoldable pub goes_on : List ℕ → Bool
-goes_on card =
-    are_blank (columns card 7 13)
-    && (pointwise nat_eq (columns card 14 16) (ebcdic (codes "AND")) || pointwise nat_eq (columns card 14 16) (ebcdic (codes "OR ")))
+-- AND in 14-16, with the name columns before it blank
+unfoldable pub says_and : List ℕ → Bool
+says_and card = are_blank (columns card 7 13) && same_codes (columns card 14 16) (ebcdic (codes "AND"))
+
+-- OR in 14-16, with the name columns before it blank
+unfoldable pub says_or : List ℕ → Bool
+says_or card = are_blank (columns card 7 13) && same_codes (columns card 14 16) (ebcdic (codes "OR "))
 
 abbrev pub input_kind : List ℕ → CardKind
-input_kind card = if goes_on card then RecordGroup else if are_blank (columns card 7 14) then Field else Record
+input_kind card =
+    if says_and card then RecordAnd
+    else if says_or card then RecordOr
+    else if are_blank (columns card 7 14) then Field
+    else Record
 
 abbrev pub output_kind : List ℕ → CardKind
-output_kind card = if goes_on card then OutputGroup else if are_blank (columns card 7 15) then OutputField else OutputLine
+output_kind card =
+    if says_and card then OutputAnd
+    else if says_or card then OutputOr
+    else if are_blank (columns card 7 15) then OutputField
+    else OutputLine
 
 unfoldable pub kind_of : List ℕ → CardKind
 kind_of card =
@@ -37,11 +46,13 @@ sheet_of Unknown = 0
 sheet_of Header = 1
 sheet_of File = 2
 sheet_of Record = 3
-sheet_of RecordGroup = 3
+sheet_of RecordAnd = 3
+sheet_of RecordOr = 3
 sheet_of Field = 3
 sheet_of Calculation = 4
 sheet_of OutputLine = 5
-sheet_of OutputGroup = 5
+sheet_of OutputAnd = 5
+sheet_of OutputOr = 5
 sheet_of OutputField = 5
 
 abbrev pub is_record : CardKind → Bool

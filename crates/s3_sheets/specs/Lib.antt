@@ -1,11 +1,11 @@
 pub mod Columns
+pub mod Indicators
 pub mod Entries
-pub mod Literals
 pub mod Kinds
 pub mod Rules
-pub mod RuleViews
-pub mod Combinations
 pub mod Tables
 pub mod Lines
+pub mod Combinations
 pub mod Sheets
-pub mod Progress
+pub mod Samples
+pub mod Inner

@@ -1,41 +1,52 @@
--- The typed line of a card. It is defined for every card; of a source without diagnostics it is what the card says.
-use Rattle.std.specs.Prelude.{ℕ, ◌+◌, List, [], ◌∷◌, ◌++◌, false, ◌==◌, zero, suc, Option, Some, None, unwrap_or, option_map, length, slice_index_or, if◌then◌else◌, codes}
+-- The typed line of a card. It is defined for every card; of a card without a fault it is what the card says.
+use Rattle.std.specs.Prelude.{ℕ, Bool, true, false, ◌+◌, List, [], ◌∷◌, ◌++◌, ◌==◌, ◌&&◌, zero, suc, Option, Some, None, unwrap_or, length, slice_index_or, if◌then◌else◌, codes}
 use Rattle.std.specs.Option.{option_to_list}
-use Rattle.s3_cards.specs.declared.ebcdic.TheConstants.{LETTER_E, LETTER_O, LETTER_P}
+use Rattle.s3_cards.specs.declared.ebcdic.TheConstants.{LETTER_A, LETTER_B, LETTER_C, LETTER_E, LETTER_H, LETTER_I, LETTER_L, LETTER_M, LETTER_O, LETTER_P, LETTER_R, LETTER_S, LETTER_T, LETTER_U}
 use Rattle.s3_cards.specs.Codes.{ebcdic}
-use Rattle.s3_sheets.specs.Columns.{column, columns, are_blank, number_of}
 use Rattle.s3_cards.specs.Names.{name_of}
-use Rattle.s3_sheets.specs.Entries.{general_of, switch_of, condition_of, constant_text, constant}
+use Rattle.s3_cards.specs.declared.name.Name.{Name}
+use Rattle.s3_edit.specs.Codes.{code_of as edit_code_of}
+use Rattle.s3_edit.specs.declared.code.EditCode.{EditCode}
+use Rattle.s3_sheets.specs.Columns.{column, columns, are_blank, same_codes, number_of, number_between}
+use Rattle.s3_sheets.specs.Indicators.{listed, level_behind, condition_of}
+use Rattle.s3_sheets.specs.Entries.{constant, constant_text, factor_of, code_of, time_of, operation_of}
 use Rattle.s3_sheets.specs.Kinds.{kind_of}
-use Rattle.s3_sheets.specs.Rules.{same_codes}
+use Rattle.s3_sheets.specs.declared.indicators.IndicatorList.TheVariants.{Record as RecordList, Overflow as OverflowList, Switch as SwitchList, Resulting as ResultingList}
 use Rattle.s3_sheets.specs.declared.kind.CardKind.{CardKind}
 use Rattle.s3_sheets.specs.declared.kind.CardKind.TheVariants as kind
-use Rattle.s3_cards.specs.declared.name.Name.{Name}
-use Rattle.s3_sheets.specs.declared.indicator.Condition.{Condition}
-use Rattle.s3_sheets.specs.declared.indicator.Indicator.{Indicator}
-use Rattle.s3_sheets.specs.declared.indicator.Indicator.TheVariants.{General, Switch}
-use Rattle.s3_sheets.specs.declared.sheet.FileUse.{FileUse}
-use Rattle.s3_sheets.specs.declared.sheet.FileUse.TheVariants.{Input as InputUse, Output as OutputUse}
-use Rattle.s3_sheets.specs.declared.sheet.Designation.{Designation}
-use Rattle.s3_sheets.specs.declared.sheet.Designation.TheVariants.{Primary}
-use Rattle.s3_sheets.specs.declared.sheet.Device.{Device}
-use Rattle.s3_sheets.specs.declared.sheet.Device.TheVariants.{CardReader, Printer}
-use Rattle.s3_sheets.specs.declared.sheet.FileLine.{FileLine}
-use Rattle.s3_sheets.specs.declared.sheet.FieldForm.TheVariants.{Alphanumeric}
-use Rattle.s3_sheets.specs.declared.sheet.FieldLine.{FieldLine}
-use Rattle.s3_sheets.specs.declared.sheet.InputLine.{InputLine}
-use Rattle.s3_sheets.specs.declared.sheet.InputLine.TheVariants.{Record as RecordLine, Field as FieldCard}
-use Rattle.s3_sheets.specs.declared.sheet.OutputKind.TheVariants.{Detail}
-use Rattle.s3_sheets.specs.declared.sheet.Spacing.{Spacing}
-use Rattle.s3_sheets.specs.declared.sheet.OutputCard.{OutputCard}
-use Rattle.s3_sheets.specs.declared.sheet.OutputForm.TheVariants.{Plain}
-use Rattle.s3_sheets.specs.declared.sheet.OutputContent.{OutputContent}
-use Rattle.s3_sheets.specs.declared.sheet.OutputContent.TheVariants.{Constant as ConstantContent, Field as FieldContent}
-use Rattle.s3_sheets.specs.declared.sheet.OutputField.{OutputField}
-use Rattle.s3_sheets.specs.declared.sheet.OutputLine.TheVariants.{Line as LineCard, Field as OutputFieldCard}
-use Rattle.s3_sheets.specs.declared.sheet.SheetLine.{SheetLine}
-use Rattle.s3_sheets.specs.declared.sheet.SheetLine.TheVariants.{Header, File, Input, Output}
-use Rattle.s3_sheets.specs.declared.sheet.Line.{Line}
+use Rattle.s3_lines.specs.declared.indicator.Indicator.{Indicator}
+use Rattle.s3_lines.specs.declared.indicator.Indicator.TheVariants.{General}
+use Rattle.s3_lines.specs.declared.indicator.Condition.{Condition}
+use Rattle.s3_lines.specs.declared.sheet.FileUse.{FileUse}
+use Rattle.s3_lines.specs.declared.sheet.FileUse.TheVariants.{Input as InputUse, Output as OutputUse, Update as UpdateUse}
+use Rattle.s3_lines.specs.declared.sheet.Designation.{Designation}
+use Rattle.s3_lines.specs.declared.sheet.Designation.TheVariants.{Primary, Secondary, Chained}
+use Rattle.s3_lines.specs.declared.sheet.Device.{Device}
+use Rattle.s3_lines.specs.declared.sheet.Device.TheVariants.{CardReader, Printer, Disk}
+use Rattle.s3_lines.specs.declared.sheet.KeyField.{KeyField}
+use Rattle.s3_lines.specs.declared.sheet.FileLine.{FileLine}
+use Rattle.s3_lines.specs.declared.sheet.RecordCode.{RecordCode}
+use Rattle.s3_lines.specs.declared.sheet.FieldForm.{FieldForm}
+use Rattle.s3_lines.specs.declared.sheet.FieldForm.TheVariants.{Alphanumeric as AlphanumericForm, Zoned, Packed as PackedForm, PackedText}
+use Rattle.s3_lines.specs.declared.sheet.FieldLine.{FieldLine}
+use Rattle.s3_lines.specs.declared.sheet.InputLine.TheVariants.{Record as RecordLine, And as RecordAnd, Or as RecordOr, Field as FieldCard}
+use Rattle.s3_lines.specs.declared.sheet.Shape.{Shape}
+use Rattle.s3_lines.specs.declared.sheet.Shape.TheVariants.{Alphanumeric, Numeric}
+use Rattle.s3_lines.specs.declared.sheet.CalculationTime.TheVariants.{Detail as DetailTime}
+use Rattle.s3_lines.specs.declared.sheet.CalculationLine.{CalculationLine}
+use Rattle.s3_lines.specs.declared.sheet.OutputKind.{OutputKind}
+use Rattle.s3_lines.specs.declared.sheet.OutputKind.TheVariants.{Heading, Detail, Total, Exception}
+use Rattle.s3_lines.specs.declared.sheet.Spacing.{Spacing}
+use Rattle.s3_lines.specs.declared.sheet.OutputCard.{OutputCard}
+use Rattle.s3_lines.specs.declared.sheet.OutputForm.{OutputForm}
+use Rattle.s3_lines.specs.declared.sheet.OutputForm.TheVariants.{Plain, Packed, Edited}
+use Rattle.s3_lines.specs.declared.sheet.OutputContent.{OutputContent}
+use Rattle.s3_lines.specs.declared.sheet.OutputContent.TheVariants.{Constant as ConstantContent, Field as FieldContent}
+use Rattle.s3_lines.specs.declared.sheet.OutputField.{OutputField}
+use Rattle.s3_lines.specs.declared.sheet.OutputLine.TheVariants.{Line as LineCard, And as OutputAnd, Or as OutputOr, Field as OutputFieldCard}
+use Rattle.s3_lines.specs.declared.sheet.SheetLine.{SheetLine}
+use Rattle.s3_lines.specs.declared.sheet.SheetLine.TheVariants.{Header, File, Input, Calculation, Output}
+use Rattle.s3_lines.specs.declared.sheet.Line.{Line}
 
 abbrev pub number_or_zero : List ℕ → ℕ
 number_or_zero entry = unwrap_or (number_of entry) 0
@@ -43,51 +54,99 @@ number_or_zero entry = unwrap_or (number_of entry) 0
 abbrev pub maybe_name : List ℕ → Option Name
 maybe_name entry = if are_blank entry then None else Some (name_of entry)
 
-abbrev pub none_of_three : {X : Type 0} → List (Option X)
-none_of_three = None ∷ None ∷ None ∷ []
-
 -- ---- the F sheet
 abbrev pub use_of : ℕ → FileUse
-use_of code = if code == LETTER_O then OutputUse else InputUse
+use_of code = if code == LETTER_O then OutputUse else if code == LETTER_U then UpdateUse else InputUse
 
 abbrev pub designation_of : ℕ → Option Designation
-designation_of code = if code == LETTER_P then Some Primary else None
+designation_of code =
+    if code == LETTER_P then Some Primary
+    else if code == LETTER_S then Some Secondary
+    else if code == LETTER_C then Some Chained
+    else None
 
 unfoldable pub device_of : List ℕ → Device
-device_of entry = if same_codes entry (ebcdic (codes "PRINTER")) then Printer else CardReader
+device_of entry =
+    if same_codes entry (ebcdic (codes "MFCU1  ")) then CardReader
+    else if same_codes entry (ebcdic (codes "MFCU2  ")) then CardReader
+    else if same_codes entry (ebcdic (codes "PRINTER")) then Printer
+    else Disk
 
--- the switch without which a file isn't used
-abbrev pub file_condition : List ℕ → Option Indicator
-file_condition entry = option_map (λ n. Switch n) (switch_of entry)
+-- A in 31 and I in 32
+abbrev pub has_index : List ℕ → Bool
+has_index card = (column card 31 == LETTER_A) && (column card 32 == LETTER_I)
 
-abbrev pub file_line : List ℕ → FileLine
+abbrev pub key_field : Option ℕ → Option ℕ → Option KeyField
+key_field (Some length) (Some start) = Some (record { length = length; start = start })
+key_field _ _ = None
+
+abbrev pub key_of : List ℕ → Option KeyField
+key_of card = if has_index card then key_field (number_between 1 29 (columns card 29 30)) (number_between 1 9999 (columns card 35 38)) else None
+
+unfoldable pub file_line : List ℕ → FileLine
 file_line card = record {
   name = name_of (columns card 7 14);
   usage = use_of (column card 15);
   designation = designation_of (column card 16);
   ends_job = column card 17 == LETTER_E;
   record_length = number_or_zero (columns card 24 27);
-  key = None;
-  overflow = None;
+  is_random = column card 28 == LETTER_R;
+  is_keyed = column card 31 == LETTER_A;
+  is_indexed = column card 32 == LETTER_I;
+  key = key_of card;
+  overflow = listed OverflowList (columns card 33 34);
   device = device_of (columns card 40 46);
-  has_additions = false;
-  condition = file_condition (columns card 71 72);
+  has_additions = column card 66 == LETTER_A;
+  condition = listed SwitchList (columns card 71 72);
 }
 
 -- ---- the I sheet
-abbrev pub record_line : List ℕ → InputLine
-record_line card = RecordLine (name_of (columns card 7 14)) (General (unwrap_or (general_of (columns card 19 20)) 0)) none_of_three
+abbrev pub record_indicator : List ℕ → Indicator
+record_indicator entry = unwrap_or (listed RecordList entry) (General 1)
 
-abbrev pub field_line : List ℕ → FieldLine
+abbrev pub three_codes : List ℕ → List (Option RecordCode)
+three_codes card = code_of (columns card 21 27) ∷ code_of (columns card 28 34) ∷ code_of (columns card 35 41) ∷ []
+
+-- with decimals a number, else characters
+abbrev pub form_of : Bool → List ℕ → FieldForm
+form_of packed decimals =
+    if are_blank decimals then (if packed then PackedText else AlphanumericForm)
+    else (if packed then PackedForm (unwrap_or (number_between 0 9 decimals) 0) else Zoned (unwrap_or (number_between 0 9 decimals) 0))
+
+unfoldable pub field_line : List ℕ → FieldLine Name
 field_line card = record {
   name = name_of (columns card 53 58);
-  from = number_or_zero (columns card 44 47);
-  to = number_or_zero (columns card 48 51);
-  form = Alphanumeric;
-  control_level = None;
-  match_level = None;
-  relation = None;
-  indicators = none_of_three;
+  from = unwrap_or (number_between 1 9999 (columns card 44 47)) 1;
+  to = unwrap_or (number_between 1 9999 (columns card 48 51)) 1;
+  form = form_of (column card 43 == LETTER_P) (columns card 52 52);
+  control_level = level_behind LETTER_L (columns card 59 60);
+  match_level = level_behind LETTER_M (columns card 61 62);
+  relation = listed RecordList (columns card 63 64);
+  indicators = listed RecordList (columns card 65 66) ∷ listed RecordList (columns card 67 68) ∷ listed RecordList (columns card 69 70) ∷ [];
+}
+
+-- ---- the C sheet
+-- how long a name in factor 2 may be: CHAIN has a file there
+abbrev pub longest_name : List ℕ → ℕ
+longest_name card = if same_codes (columns card 28 32) (ebcdic (codes "CHAIN")) then 8 else 6
+
+-- the shape that a length and decimals give; a length without decimals is one of characters
+abbrev pub definition_of : List ℕ → List ℕ → Option Shape
+definition_of size decimals =
+    if are_blank decimals then (if are_blank size then None else Some (Alphanumeric (unwrap_or (number_between 1 256 size) 0)))
+    else Some (Numeric (unwrap_or (number_between 1 15 size) 0) (unwrap_or (number_between 0 9 decimals) 0))
+
+unfoldable pub calculation_line : List ℕ → CalculationLine Name
+calculation_line card = record {
+  time = unwrap_or (time_of (columns card 7 8)) DetailTime;
+  conditions = condition_of (columns card 9 11) ∷ condition_of (columns card 12 14) ∷ condition_of (columns card 15 17) ∷ [];
+  factor1 = factor_of 6 (columns card 18 27);
+  operation = operation_of (columns card 28 32);
+  factor2 = factor_of (longest_name card) (columns card 33 42);
+  result = maybe_name (columns card 43 48);
+  definition = definition_of (columns card 49 51) (columns card 52 52);
+  half_adjust = column card 53 == LETTER_H;
+  indicators = listed ResultingList (columns card 54 55) ∷ listed ResultingList (columns card 56 57) ∷ listed ResultingList (columns card 58 59) ∷ [];
 }
 
 -- ---- the O sheet
@@ -95,44 +154,76 @@ abbrev pub three_conditions : List ℕ → List (Option Condition)
 three_conditions card =
     condition_of (columns card 23 25) ∷ condition_of (columns card 26 28) ∷ condition_of (columns card 29 31) ∷ []
 
-abbrev pub no_spacing : Spacing
-no_spacing = record { space_before = None; space_after = None; skip_before = None; skip_after = None }
+abbrev pub output_kind_of : ℕ → OutputKind
+output_kind_of code =
+    if code == LETTER_H then Heading
+    else if code == LETTER_T then Total
+    else if code == LETTER_E then Exception
+    else Detail
 
-abbrev pub output_card : List ℕ → OutputCard
+-- ADD in 16 to 18
+unfoldable pub is_addition : List ℕ → Bool
+is_addition card = same_codes (columns card 16 18) (ebcdic (codes "ADD"))
+
+-- with ADD the columns of the spaces have letters of that word
+abbrev pub space_of : Bool → List ℕ → Option ℕ
+space_of addition entry = if addition then None else number_between 0 3 entry
+
+unfoldable pub spacing_of : List ℕ → Spacing
+spacing_of card = record {
+  space_before = space_of (is_addition card) (columns card 17 17);
+  space_after = space_of (is_addition card) (columns card 18 18);
+  skip_before = number_between 1 66 (columns card 19 20);
+  skip_after = number_between 1 66 (columns card 21 22);
+}
+
+unfoldable pub output_card : List ℕ → OutputCard Name
 output_card card = record {
   file = maybe_name (columns card 7 14);
-  kind = Detail;
-  is_addition = false;
-  spacing = no_spacing;
+  kind = output_kind_of (column card 15);
+  is_addition = is_addition card;
+  spacing = spacing_of card;
   conditions = three_conditions card;
 }
 
+-- packed, or by an edit code if there is one
+abbrev pub output_form : Bool → Option EditCode → OutputForm
+output_form true code = Packed
+output_form false (Some code) = Edited code
+output_form false None = Plain
+
 -- a field, or where its columns are blank the constant
-abbrev pub content_of : List ℕ → OutputContent
+abbrev pub content_of : List ℕ → OutputContent Name
 content_of card =
     if are_blank (columns card 32 37) then ConstantContent (constant (unwrap_or (constant_text (columns card 45 70)) []))
-    else FieldContent (record { name = name_of (columns card 32 37); form = Plain; blank_after = false })
+    else FieldContent (record {
+      name = name_of (columns card 32 37);
+      form = output_form (column card 44 == LETTER_P) (edit_code_of (column card 38));
+      blank_after = column card 39 == LETTER_B;
+    })
 
-abbrev pub output_field : List ℕ → OutputField
+unfoldable pub output_field : List ℕ → OutputField Name
 output_field card = record {
-  conditions = none_of_three;
+  conditions = three_conditions card;
   content = content_of card;
-  «end» = number_or_zero (columns card 40 43);
+  «end» = unwrap_or (number_between 1 9999 (columns card 40 43)) 1;
 }
 
 -- ---- all sheets
--- What a card of some kind says. A comment says nothing; no line is made yet of a C card, and of AND and OR lines.
+-- What a card of some kind says. A comment says nothing.
 abbrev pub sheet_line : CardKind → List ℕ → Option SheetLine
 sheet_line kind.Comment card = None
 sheet_line kind.Unknown card = None
 sheet_line kind.Header card = Some (Header (maybe_name (columns card 75 80)))
 sheet_line kind.File card = Some (File (file_line card))
-sheet_line kind.Record card = Some (Input (record_line card))
-sheet_line kind.RecordGroup card = None
+sheet_line kind.Record card = Some (Input (RecordLine (name_of (columns card 7 14)) (record_indicator (columns card 19 20)) (three_codes card)))
+sheet_line kind.RecordAnd card = Some (Input (RecordAnd (three_codes card)))
+sheet_line kind.RecordOr card = Some (Input (RecordOr (record_indicator (columns card 19 20)) (three_codes card)))
 sheet_line kind.Field card = Some (Input (FieldCard (field_line card)))
-sheet_line kind.Calculation card = None
+sheet_line kind.Calculation card = Some (Calculation (calculation_line card))
 sheet_line kind.OutputLine card = Some (Output (LineCard (output_card card)))
-sheet_line kind.OutputGroup card = None
+sheet_line kind.OutputAnd card = Some (Output (OutputAnd (three_conditions card)))
+sheet_line kind.OutputOr card = Some (Output (OutputOr (three_conditions card)))
 sheet_line kind.OutputField card = Some (Output (OutputFieldCard (output_field card)))
 
 abbrev pub line_at : ℕ → Option SheetLine → Option Line

@@ -1,10 +1,16 @@
--- What may stand in the columns of a card, and the diagnostic of what may not.
-use Rattle.std.specs.Prelude.{ℕ, ◌+◌, ◌-◌, List, Bool, true, false, ◌==◌, ◌&&◌, ◌||◌, not, Option, Some, None, is_some, take, nat_eq, nat_le, nat_lt, if◌then◌else◌}
+-- What may stand in the columns of a card, and what is wrong where something else does.
+use Rattle.std.specs.Prelude.{ℕ, ◌+◌, ◌-◌, List, Bool, true, false, ◌==◌, ◌&&◌, ◌||◌, Option, is_some, take, slice_index, nat_le, nat_lt, if◌then◌else◌}
 use Rattle.std.specs.List.{list_all, list_any}
-use Rattle.std.specs.Cmp.Lexicographic.{pointwise}
-use Rattle.s3_cards.specs.Names.{is_letter, is_name, name_of}
-use Rattle.s3_sheets.specs.Columns.{columns, are_blank, number_of}
-use Rattle.s3_sheets.specs.Entries.{general_of, switch_of, is_condition, constant_text, is_reserved, is_factor}
+use Rattle.s3_cards.specs.declared.ebcdic.TheConstants.{BLANK, LETTER_N}
+use Rattle.s3_cards.specs.Names.{is_letter, is_name}
+use Rattle.s3_edit.specs.Codes.{code_of as edit_code_of}
+use Rattle.s3_sheets.specs.Columns.{columns, are_blank, same_codes, number_between}
+use Rattle.s3_sheets.specs.Entries.{constant_text, factor_of, part_of, time_of}
+use Rattle.s3_sheets.specs.Indicators.{listed, level_behind, condition_of}
+use Rattle.s3_sheets.specs.declared.indicators.IndicatorList.{IndicatorList}
+use Rattle.s3_sheets.specs.declared.faults.Fault.{Fault}
+use Rattle.s3_sheets.specs.declared.faults.Fault.TheVariants.{WrongEntry, WrongName, WrongNumber}
+use Rattle.s3_sheets.specs.declared.faults.Faults.{Faults}
 
 -- what may stand in some columns
 pub data Entry : Type 0 where
@@ -13,87 +19,110 @@ pub data Entry : Type 0 where
   -- one of these texts
   OneOf : List (List ℕ) → Entry
   Letters : Entry
+  -- an indicator of a list
+  Listed : IndicatorList → Entry
+  MaybeListed : IndicatorList → Entry
+  -- a letter and then 1 to 9, or blank
+  MaybeLevel : ℕ → Entry
+  MaybeCondition : Entry
+  -- when a C line is done
+  Time : Entry
+  -- blank or N, then C, Z or D, behind the position in the first four columns of a code of seven, or a blank code
+  CodeTest : Entry
+  MaybeEditCode : Entry
   Name : Entry
   MaybeName : Entry
-  -- a field that can be put out, or blank
-  MaybeField : Entry
+  MaybeConstant : Entry
+  -- a literal, or a name of at most so many characters, or blank
+  MaybeFactor : ℕ → Entry
   -- a number in a range
   Number : ℕ → ℕ → Entry
   MaybeNumber : ℕ → ℕ → Entry
-  -- 01 to 99
-  GeneralIndicator : Entry
-  MaybeCondition : Entry
-  -- U1 to U8, or blank
-  MaybeSwitch : Entry
-  MaybeConstant : Entry
-  -- the position in the first four columns of a code of seven, or blank; what else is in it has 2 in any case
-  MaybeCode : Entry
-  -- a literal or a name of at most six characters, or blank
-  MaybeFactor : Entry
+  -- the position in the first four columns of a code of seven, or a blank code
+  CodePosition : Entry
 
 -- the columns from one to another, counted from 1, and what may stand there
 pub record Rule : Type 0 where
   pub from : ℕ
   pub to : ℕ
   pub entry : Entry
-  -- whether more than a blank entry is taken
-  pub is_built : Bool
 
-abbrev pub when : Bool → ℕ → ℕ
-when true number = number
-when false number = 0
+-- blank, or something that is read
+abbrev pub is_blank_or : {X : Type 0} → (List ℕ → Option X) → List ℕ → Bool
+is_blank_or read entry = are_blank entry || is_some (read entry)
 
-abbrev pub same_codes : List ℕ → List ℕ → Bool
-same_codes a b = pointwise nat_eq a b
+abbrev pub allows : Entry → List ℕ → Bool
+allows Blank entry = are_blank entry
+allows (OneOf allowed) entry = list_any (same_codes entry) allowed
+allows Letters entry = list_all is_letter entry
+allows (Listed list) entry = is_some (listed list entry)
+allows (MaybeListed list) entry = is_blank_or (listed list) entry
+allows (MaybeLevel letter) entry = is_blank_or (level_behind letter) entry
+allows MaybeCondition entry = is_blank_or condition_of entry
+allows Time entry = is_some (time_of entry)
+allows CodeTest entry =
+    are_blank entry || (((slice_index entry 4 == BLANK) || (slice_index entry 4 == LETTER_N)) && is_some (part_of (slice_index entry 5)))
+allows MaybeEditCode entry = is_blank_or (λ entry. edit_code_of (slice_index entry 0)) entry
+allows Name entry = is_name entry
+allows MaybeName entry = are_blank entry || is_name entry
+allows MaybeConstant entry = is_blank_or constant_text entry
+allows (MaybeFactor longest) entry = is_blank_or (factor_of longest) entry
+allows (Number low high) entry = is_some (number_between low high entry)
+allows (MaybeNumber low high) entry = is_blank_or (number_between low high) entry
+allows CodePosition entry = is_blank_or (λ entry. number_between 1 9999 (take 4 entry)) entry
 
-abbrev pub out_of_range : Option ℕ → ℕ → ℕ → Bool
-out_of_range None low high = true
-out_of_range (Some number) low high = nat_lt number low || nat_lt high number
+-- what is wrong where something else stands
+abbrev pub fault_of : Entry → Fault
+fault_of Blank = WrongEntry
+fault_of (OneOf allowed) = WrongEntry
+fault_of Letters = WrongEntry
+fault_of (Listed list) = WrongEntry
+fault_of (MaybeListed list) = WrongEntry
+fault_of (MaybeLevel letter) = WrongEntry
+fault_of MaybeCondition = WrongEntry
+fault_of Time = WrongEntry
+fault_of CodeTest = WrongEntry
+fault_of MaybeEditCode = WrongEntry
+fault_of Name = WrongName
+fault_of MaybeName = WrongName
+fault_of MaybeConstant = WrongName
+fault_of (MaybeFactor longest) = WrongName
+fault_of (Number low high) = WrongNumber
+fault_of (MaybeNumber low high) = WrongNumber
+fault_of CodePosition = WrongNumber
 
--- whether a number is known to be more than another one
-abbrev pub exceeds : Option ℕ → Option ℕ → Bool
-exceeds (Some number) (Some most) = nat_lt most number
-exceeds _ _ = false
+-- ---- what is wrong with a card: 2, 3 and 4
+abbrev pub no_faults : Faults
+no_faults = record { entry = false; name = false; number = false }
 
--- the diagnostic of an entry, or 0
-abbrev pub entry_fault : Entry → List ℕ → ℕ
-entry_fault Blank entry = when (not (are_blank entry)) 2
-entry_fault (OneOf allowed) entry = when (not (list_any (same_codes entry) allowed)) 2
-entry_fault Letters entry = when (not (list_all is_letter entry)) 2
-entry_fault Name entry = when (not (is_name entry)) 3
-entry_fault MaybeName entry = when (not (are_blank entry || is_name entry)) 3
-entry_fault MaybeField entry =
-    if not (are_blank entry || is_name entry) then 3 else when (is_reserved (name_of entry)) 2
-entry_fault (Number low high) entry = when (out_of_range (number_of entry) low high) 4
-entry_fault (MaybeNumber low high) entry = when (not (are_blank entry) && out_of_range (number_of entry) low high) 4
-entry_fault GeneralIndicator entry = when (not (is_some (general_of entry))) 2
-entry_fault MaybeCondition entry = when (not (is_condition entry)) 2
-entry_fault MaybeSwitch entry = when (not (are_blank entry || is_some (switch_of entry))) 2
-entry_fault MaybeConstant entry = when (not (are_blank entry || is_some (constant_text entry))) 3
-entry_fault MaybeCode entry = when (not (are_blank entry) && out_of_range (number_of (take 4 entry)) 1 9999) 4
-entry_fault MaybeFactor entry = when (not (are_blank entry || is_factor 6 entry)) 3
+abbrev pub one_fault : Fault → Faults
+one_fault WrongEntry = record { entry = true; name = false; number = false }
+one_fault WrongName = record { entry = false; name = true; number = false }
+one_fault WrongNumber = record { entry = false; name = false; number = true }
 
--- the diagnostic of an entry that isn't built, by the one that it would have: 2 if the language allows it, unless it is blank
-abbrev pub unbuilt_fault : List ℕ → ℕ → ℕ
-unbuilt_fault entry fault = if are_blank entry then 0 else if fault == 0 then 2 else fault
+abbrev pub both_faults : Faults → Faults → Faults
+both_faults a b = record { entry = a.entry || b.entry; name = a.name || b.name; number = a.number || b.number }
 
--- the diagnostic of a card by one rule, or 0
-unfoldable pub rule_fault : List ℕ → Rule → ℕ
-rule_fault card rule =
-    let entry : List ℕ = columns card rule.from rule.to in
-    let fault : ℕ = entry_fault rule.entry entry in
-    if rule.is_built then fault else unbuilt_fault entry fault
+-- what is wrong by one rule
+unfoldable pub rule_faults : List ℕ → Rule → Faults
+rule_faults card rule = if allows rule.entry (columns card rule.from rule.to) then no_faults else one_fault (fault_of rule.entry)
 
--- whether a card has this diagnostic by one of the rules
-abbrev pub breaks : List Rule → ℕ → List ℕ → Bool
-breaks rules number card = list_any (λ rule. rule_fault card rule == number) rules
+-- what is wrong by some rules
+abbrev pub broken_by : List Rule → List ℕ → Faults
+broken_by rules card = record {
+  entry = list_any (λ rule. (rule_faults card rule).entry) rules;
+  name = list_any (λ rule. (rule_faults card rule).name) rules;
+  number = list_any (λ rule. (rule_faults card rule).number) rules;
+}
 
+-- ---- where an entry can stand
 -- whether an entry can stand in so many columns
 abbrev pub fits : Entry → ℕ → Bool
-fits MaybeField width = nat_le width 8
 fits MaybeConstant width = nat_le width 26
-fits MaybeCode width = nat_le 4 width
-fits MaybeFactor width = nat_le 6 width && nat_le width 26
+fits (MaybeFactor longest) width = nat_le longest 8 && nat_le longest width && nat_le width 10
+fits CodeTest width = width == 7
+fits CodePosition width = width == 7
+fits MaybeEditCode width = nat_lt 0 width
 fits _ width = true
 
 -- whether the columns of a rule are on a card, and so many as its entry needs

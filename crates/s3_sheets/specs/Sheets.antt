@@ -7,19 +7,21 @@ use Rattle.std.specs.declared.alloc.Global.{Global}
 use Rattle.s3_sheets.specs.Columns.{columns, are_blank, number_of}
 use Rattle.s3_cards.specs.Names.{name_of, same_name}
 use Rattle.s3_sheets.specs.Kinds.{kind_of, sheet_of, is_record, is_output_line}
-use Rattle.s3_sheets.specs.Rules.{Rule, breaks, exceeds}
+use Rattle.s3_sheets.specs.Rules.{both_faults, broken_by}
 use Rattle.s3_sheets.specs.Combinations.{combined_faults}
 use Rattle.s3_sheets.specs.Tables.{rules_of}
-use Rattle.s3_sheets.specs.Lines.{card_at, lines_of, number_or_zero}
+use Rattle.s3_sheets.specs.Lines.{card_at, lines_of, number_or_zero, maybe_name}
 use Rattle.s3_cards.specs.declared.name.Name.{Name}
 use Rattle.s3_sheets.specs.declared.kind.CardKind.{CardKind}
-use Rattle.s3_sheets.specs.declared.kind.CardKind.TheVariants.{Comment, Unknown, File, Record, RecordGroup, Field, OutputField}
+use Rattle.s3_sheets.specs.declared.kind.CardKind.TheVariants.{Comment, Unknown, File, Record, RecordAnd, RecordOr, Field, Calculation, OutputField}
 use Rattle.s3_sheets.specs.declared.faults.Faults.{Faults}
 use Rattle.s3_sheets.specs.declared.progress.Standing.{Standing}
-use Rattle.s3_sheets.specs.declared.diagnostic.Diagnostic.{Diagnostic}
-use Rattle.s3_sheets.specs.declared.diagnostic.SheetFault.{SheetFault}
-use Rattle.s3_sheets.specs.declared.diagnostic.SheetFault.TheVariants.{NoMemory, Diagnostics}
-use Rattle.s3_sheets.specs.declared.sheet.Line.{Line}
+use Rattle.s3_lines.specs.Ascending.{cards_ascend}
+use Rattle.s3_lines.specs.Ranges.{are_read}
+use Rattle.s3_lines.specs.declared.diagnostic.Diagnostic.{Diagnostic}
+use Rattle.s3_sheets.specs.declared.fault.SheetFault.{SheetFault}
+use Rattle.s3_sheets.specs.declared.fault.SheetFault.TheVariants.{NoMemory, Diagnostics}
+use Rattle.s3_lines.specs.declared.sheet.Line.{Line}
 
 abbrev pub kind_at : List (List ℕ) → ℕ → CardKind
 kind_at cards i = kind_of (card_at cards i)
@@ -38,39 +40,24 @@ is_misplaced Comment earlier = false
 is_misplaced Unknown earlier = true
 is_misplaced kind earlier = list_any (λ other. is_behind (sheet_of kind) (sheet_of other)) earlier
 
--- ---- 2 and 3: lines in the wrong place
--- a source has one record line until several types of records are built
-abbrev pub is_further_record : CardKind → List CardKind → Bool
-is_further_record kind earlier = is_record kind && list_any is_record earlier
-
+-- ---- 3: a line card without a file
 -- an output line takes the file of the line before, so the first one names its own
 abbrev pub lacks_file : CardKind → List CardKind → List ℕ → Bool
 lacks_file kind earlier card = is_output_line kind && are_blank (columns card 7 14) && not (list_any is_output_line earlier)
 
 -- ---- 2 to 4: a card's own columns, which leave the positions in a record aside
--- whether the columns of a card show a diagnostic, alone or together
-abbrev pub shows : List ℕ → ℕ → Bool
-shows card number =
-    let combined : ℕ × ℕ = combined_faults (kind_of card) card in
-    (breaks (rules_of (kind_of card)) number card || (combined.0 == number)) || (combined.1 == number)
-
--- the diagnostics of a card by some rules
-abbrev pub broken_by : List Rule → List ℕ → Faults
-broken_by rules card = record { entry = breaks rules 2 card; name = breaks rules 3 card; number = breaks rules 4 card }
-
 unfoldable pub faults_of : List ℕ → Faults
-faults_of card = record { entry = shows card 2; name = shows card 3; number = shows card 4 }
+faults_of card = both_faults (broken_by (rules_of (kind_of card)) card) (combined_faults (kind_of card) card)
 
 abbrev pub has_fault : Faults → Bool
 has_fault faults = faults.entry || faults.name || faults.number
 
--- whether a card is at fault by 1 to 4, positions in its record aside: a record card with a code past its record has 2 as long as
--- codes are unbuilt, and a field card says nothing of the cards behind it but its field, which `fields` leaves out
+-- whether a card is at fault by 1 to 4, positions in its record aside
 unfoldable pub is_at_fault : List (List ℕ) → ℕ → Bool
 is_at_fault cards i =
     let card : List ℕ = card_at cards i in
     let kind : CardKind = kind_of card in
-    is_misplaced kind (before cards i) || is_further_record kind (before cards i) || lacks_file kind (before cards i) card || has_fault (faults_of card)
+    is_misplaced kind (before cards i) || lacks_file kind (before cards i) card || has_fault (faults_of card)
 
 -- ---- the files
 -- the file that a card defines, with its record length; a card at fault defines none
@@ -92,9 +79,19 @@ files cards zero = []
 files cards (suc n) = files cards n ++ option_to_list (new_file (files cards n) (file_of (kind_at cards n) (is_at_fault cards n) (card_at cards n)))
 
 -- ---- 4: positions outside their record
+-- whether a number is known to be more than another one
+abbrev pub exceeds : Option ℕ → Option ℕ → Bool
+exceeds (Some number) (Some most) = nat_lt most number
+exceeds _ _ = false
+
 -- the record length of the file that a card names
 abbrev pub named_length : List (List ℕ) → ℕ → Option ℕ
 named_length cards i = record_length_of (files cards i) (name_of (columns (card_at cards i) 7 14))
+
+-- whether the position of some code lies past a record
+abbrev pub has_code_past : List ℕ → Option ℕ → Bool
+has_code_past card length =
+    exceeds (number_of (columns card 21 24)) length || exceeds (number_of (columns card 28 31)) length || exceeds (number_of (columns card 35 38)) length
 
 -- a record or line card brings another record length, one that isn't known if the card is at fault; other cards leave it
 abbrev pub length_behind : Bool → Bool → Option ℕ → Option ℕ → Option ℕ
@@ -102,10 +99,14 @@ length_behind false at_fault new last = last
 length_behind true false new last = new
 length_behind true true new last = None
 
+-- whether a record card is at fault, its codes included
+abbrev pub has_wrong_codes : List (List ℕ) → ℕ → Bool
+has_wrong_codes cards i = is_at_fault cards i || has_code_past (card_at cards i) (named_length cards i)
+
 -- the record length of the file that the last record card names, by which AND, OR and field lines go
 abbrev pub input_length : List (List ℕ) → ℕ → Option ℕ
 input_length cards zero = None
-input_length cards (suc n) = length_behind (is_record (kind_at cards n)) (is_at_fault cards n) (named_length cards n) (input_length cards n)
+input_length cards (suc n) = length_behind (is_record (kind_at cards n)) (has_wrong_codes cards n) (named_length cards n) (input_length cards n)
 
 -- a line card without a name takes the file of the line before
 abbrev pub line_length : Bool → Option ℕ → Option ℕ → Option ℕ
@@ -121,19 +122,16 @@ output_length cards (suc n) =
 -- the record length that the positions on a card go by; only these kinds and the output field have such positions
 abbrev pub length_for : CardKind → Option ℕ → Option ℕ → Option ℕ → Option ℕ
 length_for Record named input output = named
-length_for RecordGroup named input output = input
+length_for RecordAnd named input output = input
+length_for RecordOr named input output = input
 length_for Field named input output = input
 length_for _ named input output = output
-
--- whether the position of some code lies past a record
-abbrev pub has_code_past : List ℕ → Option ℕ → Bool
-has_code_past card length =
-    exceeds (number_of (columns card 21 24)) length || exceeds (number_of (columns card 28 31)) length || exceeds (number_of (columns card 35 38)) length
 
 -- whether a position on a card lies past a record
 abbrev pub names_position_past : CardKind → List ℕ → Option ℕ → Bool
 names_position_past Record card length = has_code_past card length
-names_position_past RecordGroup card length = has_code_past card length
+names_position_past RecordAnd card length = has_code_past card length
+names_position_past RecordOr card length = has_code_past card length
 names_position_past Field card length = exceeds (number_of (columns card 48 51)) length
 names_position_past OutputField card length = exceeds (number_of (columns card 40 43)) length
 names_position_past _ card length = false
@@ -144,9 +142,15 @@ is_outside cards i =
     names_position_past kind (card_at cards i) (length_for kind (named_length cards i) (input_length cards i) (output_length cards i))
 
 -- ---- 13: too many files or fields
+-- the field that the result of a C card is, if the card has an operation and gives it a length
+abbrev pub result_defined : List ℕ → Option Name
+result_defined card =
+    if are_blank (columns card 28 32) || are_blank (columns card 49 51) then None else maybe_name (columns card 43 48)
+
 -- the field that a card defines; a card at fault defines none
 abbrev pub field_of : CardKind → Bool → List ℕ → Option Name
 field_of Field false card = Some (name_of (columns card 53 58))
+field_of Calculation false card = result_defined card
 field_of _ _ card = None
 
 -- a field that isn't known yet
@@ -173,7 +177,6 @@ abbrev pub standing_at : List (List ℕ) → ℕ → Standing
 standing_at cards i = record {
   faults = faults_of (card_at cards i);
   is_misplaced = is_misplaced (kind_at cards i) (before cards i);
-  is_further_record = is_further_record (kind_at cards i) (before cards i);
   lacks_file = lacks_file (kind_at cards i) (before cards i) (card_at cards i);
   is_outside = is_outside cards i;
   is_too_many = is_too_many cards i;
@@ -183,7 +186,7 @@ standing_at cards i = record {
 unfoldable pub card_holds : Standing → ℕ → Bool
 card_holds standing number =
     if number == 1 then standing.is_misplaced
-    else if number == 2 then standing.faults.entry || standing.is_further_record
+    else if number == 2 then standing.faults.entry
     else if number == 3 then standing.faults.name || standing.lacks_file
     else if number == 4 then standing.faults.number || standing.is_outside
     else standing.is_too_many
@@ -212,8 +215,10 @@ card_diagnostics number standing = map (λ n. record { card = number; number = n
 unfoldable pub sheet_diagnostics : ℕ → List (List ℕ) → List Diagnostic
 sheet_diagnostics from cards = map (diagnostic from) (filter (holds cards) (pairs (length cards)))
 
--- what a reading of cards answers: the lines of cards without diagnostics, or the diagnostics, unless memory ran out
+-- what a reading of cards answers: the lines of cards without diagnostics, which are those of cards without a fault of their own, with
+-- ascending cards; or the diagnostics, unless memory ran out
 abbrev pub Reads : ℕ → List (List ℕ) → Result (Vec Line Global) SheetFault → Type 0
-Reads from cards (Ok lines) = (sheet_diagnostics from cards ≡ []) × (lines.items ≡ lines_of from cards)
+Reads from cards (Ok lines) =
+    (sheet_diagnostics from cards ≡ []) × (lines.items ≡ lines_of from cards) × (are_read lines.items ≡ true) × (cards_ascend from lines.items ≡ true)
 Reads from cards (Err NoMemory) = Unit {0}
 Reads from cards (Err (Diagnostics found)) = (found.items ≢ []) × (found.items ≡ sheet_diagnostics from cards)

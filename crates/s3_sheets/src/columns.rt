@@ -1,9 +1,10 @@
 //! What columns of a card spell.
 
-ghost use Rattle.std.specs.Prelude.{◌≡◌, ◌<◌, ◌≤◌, ◌+◌, ◌-◌, ◌^◌, length, not, IfSome};
+ghost use Rattle.std.specs.Prelude.{◌≡◌, ◌<◌, ◌≤◌, ◌+◌, ◌-◌, ◌*◌, ◌^◌, length, map, true, IfSome};
 ghost use Rattle.std.specs.List.{prefix_len, list_all};
-ghost use Rattle.s3_cards.specs.Names.{is_blank as blank_spec, goes_on_in_name as goes_on_spec, is_name as name_spec, is_word as word_spec, name_of, same_name as same_name_spec};
-ghost use Rattle.s3_sheets.specs.Columns.{columns as columns_spec, are_blank as are_blank_spec, number_of, digits_number};
+ghost use Rattle.std.specs.Int.Digits.{number_from_digits_after};
+ghost use Rattle.s3_cards.specs.Names.{is_blank as blank_spec, is_digit as digit_spec};
+ghost use Rattle.s3_sheets.specs.Columns.{columns as columns_spec, are_blank as are_blank_spec, digit, number_of, number_between as number_between_spec};
 
 use s3_cards::ebcdic::{BLANK, DIGIT_0};
 use s3_cards::{Card, is_digit};
@@ -26,6 +27,13 @@ pub fn are_blank(columns: &[u8]) -> bool
     columns.iter().all(|code| *code == BLANK)
 }
 
+/// Whether all columns are digits.
+fn are_digits(columns: &[u8]) -> bool
+    ensures { result ≡ list_all digit_spec columns.now }
+{
+    columns.iter().all(|code| is_digit(*code))
+}
+
 /// How many blanks stand in front.
 fn blanks_in_front(columns: &[u8]) -> usize
     ensures within { result ≤ length columns.now }
@@ -34,27 +42,22 @@ fn blanks_in_front(columns: &[u8]) -> usize
     columns.iter().take_while(|code| **code == BLANK).count()
 }
 
-/// The number that at most four digits spell.
-#[tactic(auto, using(crate::proofs::NumberLemmas::none_yet, crate::proofs::NumberLemmas::digits_none, crate::proofs::NumberLemmas::number_next, crate::proofs::NumberLemmas::fits, crate::proofs::NumberLemmas::below_all, crate::proofs::NumberLemmas::digits_wrong, crate::proofs::NumberLemmas::digits_right))]
-fn number_of_digits(digits: &[u8]) -> Option<u16>
-    requires { length digits.now ≤ 4 }
-    ensures value { result ≡ digits_number digits.now }
-    ensures below { IfSome result (λ number. number < 10 ^ 4) }
+/// The number that digits spell behind another one.
+pub fn number_onto(start: u64, digits: &[u8]) -> u64
+    requires all { list_all digit_spec digits.now ≡ true }
+    requires fits { (start + 1) * 10 ^ length digits.now ≤ 10 ^ 10 }
+    ensures value { result ≡ number_from_digits_after 10 start (map digit digits.now) }
+    ensures below { result < (start + 1) * 10 ^ length digits.now }
 {
-    if digits.is_empty() {
-        return None;
-    }
-    let mut number = 0;
+    let mut number = start;
     for code in digits {
-        if !is_digit(*code) {
-            return None;
-        }
-        number = number * 10 + u16::from(*code - DIGIT_0);
+        number = number * 10 + u64::from(*code - DIGIT_0);
     }
-    Some(number)
+    number
 }
 
 /// The number in at most four columns, with blanks or zeros in front of it.
+#[tactic(auto, unfolding(crate::specs::Columns::digits_number))]
 pub fn number(columns: &[u8]) -> Option<u16>
     ensures value { result ≡ number_of columns.now }
     ensures below { IfSome result (λ number. number < 10 ^ 4) }
@@ -62,5 +65,28 @@ pub fn number(columns: &[u8]) -> Option<u16>
     if columns.len() > 4 {
         return None;
     }
-    number_of_digits(&columns[blanks_in_front(columns)..])
+    let digits = &columns[blanks_in_front(columns)..];
+    if digits.is_empty() || !are_digits(digits) {
+        return None;
+    }
+    Some(number_onto(0, digits) as u16)
+}
+
+/// The same, if it is in a range.
+#[tactic(auto, unfolding(crate::specs::Columns::number_between))]
+pub fn number_between(columns: &[u8], low: u16, high: u16) -> Option<u16>
+    ensures value { result ≡ number_between_spec low high columns.now }
+    ensures within { IfSome result (λ number. number ≤ high) }
+{
+    match number(columns) {
+        Some(number) if low <= number && number <= high => Some(number),
+        _ => None,
+    }
+}
+
+/// The same for ranges that a byte has.
+pub fn small_between(columns: &[u8], low: u8, high: u8) -> Option<u8>
+    ensures { result ≡ number_between_spec low high columns.now }
+{
+    Some(number_between(columns, u16::from(low), u16::from(high))? as u8)
 }

@@ -1,214 +1,200 @@
 //! What several columns of a card show together.
 
-ghost use Rattle.std.specs.Prelude.{◌≡◌, ◌≤◌, ◌<◌, ◌^◌, length, IfSome};
-ghost use Rattle.s3_sheets.specs.Combinations.{longest_record as longest_record_spec, has_bad_record_length as bad_record_length_spec, is_indexed as indexed_spec, ends_past as ends_past_spec, has_bad_key as bad_key_spec, width_of as width_of_spec, field_width as field_width_spec, digits_in as digits_in_spec, field_digits as field_digits_spec, has_bad_width as bad_width_spec, are_bad_decimals as bad_decimals_spec, decimals_fault as decimals_fault_spec, is_chain as chain_spec, longest_name as longest_name_spec, has_bad_factor as bad_factor_spec, has_bad_shape as bad_shape_spec, is_addition as addition_spec, space_fault as space_fault_spec, content_fault as content_fault_spec, begins_too_early as too_early_spec, combined_faults as combined_faults_spec};
+ghost use Rattle.std.specs.Prelude.{◌≡◌, ◌≤◌, ◌<◌, ◌+◌, ◌^◌, length, IfSome};
+ghost use Rattle.s3_lines.specs.Ranges.{longest_record as longest_record_spec, is_printer as printer_spec, is_selected as selected_spec, is_between, if_given, shape_in_range, shape_of_positions};
+ghost use Rattle.s3_sheets.specs.Combinations.{are_filled as are_filled_spec, is_with_index as with_index_spec, has_stray_entry as stray_spec, is_key_within as key_within_spec, has_bad_extent as bad_extent_spec, has_bad_positions as bad_positions_spec, has_bad_factor as bad_factor_spec, has_bad_definition as bad_definition_spec, has_bad_addition as bad_addition_spec, has_bad_space as bad_space_spec, is_of_date as of_date_spec, has_bad_content as bad_content_spec, has_no_content as no_content_spec, begins_too_early as too_early_spec, has_early_constant as early_constant_spec, combined_faults as combined_faults_spec};
 ghost use Rattle.s3_sheets.specs.Entries.{constant_text};
-ghost use Rattle.s3_sheets.specs.Rules.{when};
 
-use crate::columns::{are_blank, columns, number};
-use crate::devices::{MFCU1, MFCU2, PRINTER};
-use crate::entries::{constant, is_factor};
+use crate::columns::{are_blank, columns, number, small_between};
+use crate::entries::{constant, factor};
+use crate::faults::Faults;
 use crate::kind::CardKind;
-use crate::rules::{Entry, entry_fault, exceeds, is_out_of_range, unbuilt_fault};
-use s3_cards::Card;
-use s3_cards::ebcdic::{LETTER_A, LETTER_C, LETTER_D, LETTER_H, LETTER_I, LETTER_N, LETTER_P};
+use crate::lines::{definition, field_line, file_line, is_addition, longest_name};
+use s3_cards::{Card, Name};
+use s3_lines::is_reserved;
+use s3_lines::reserved::PAGE;
+use s3_lines::sheet::{Designation, Device, FieldForm, FileLine, KeyField, Shape};
+
+/// Whether some of the columns from one to another are filled.
+fn are_filled(card: &Card, from: usize, to: usize) -> bool
+    requires start { 0 < from }
+    requires order { from ≤ to }
+    requires end { to ≤ 96 }
+    ensures { result ≡ are_filled_spec card.now from to }
+{
+    !are_blank(columns(card, from, to))
+}
+
+fn is_printer(device: Device) -> bool
+    ensures { result ≡ printer_spec device }
+{
+    matches!(device, Device::Printer)
+}
+
+/// Whether the cycle reads a file.
+fn is_selected(designation: Option<Designation>) -> bool
+    ensures { result ≡ selected_spec designation }
+{
+    matches!(
+        designation,
+        Some(Designation::Primary) | Some(Designation::Secondary)
+    )
+}
+
+fn is_with_index(file: &FileLine) -> bool
+    ensures { result ≡ with_index_spec file.now }
+{
+    file.is_keyed && file.is_indexed
+}
+
+/// Whether an F card has an entry that stands for other files alone.
+#[tactic(auto, unfolding(crate::specs::Combinations::has_stray_entry))]
+fn has_stray_entry(card: &Card) -> bool
+    ensures { result ≡ stray_spec card.now }
+{
+    let file = file_line(card);
+    (file.ends_job && !is_selected(file.designation))
+        || (!is_with_index(&file) && (are_filled(card, 29, 30) || are_filled(card, 35, 38)))
+        || (are_filled(card, 33, 34) && !is_printer(file.device))
+}
 
 /// The longest record of a device.
-#[tactic(auto, unfolding(crate::specs::Combinations::longest_record, s3_cards::specs::Codes::ebcdic, s3_cards::specs::Codes::code_page))]
-fn longest_record(device: &[u8]) -> u16
-    ensures { result ≡ longest_record_spec device.now }
+fn longest_record(device: Device) -> u16
+    ensures { result ≡ longest_record_spec device }
 {
-    if device == MFCU1.as_slice() || device == MFCU2.as_slice() {
-        96
-    } else if device == PRINTER.as_slice() {
-        132
-    } else {
-        1_024
+    match device {
+        Device::CardReader => 96,
+        Device::Printer => 132,
+        Device::Disk => 1_024,
     }
 }
 
-/// Whether the record length of an F card isn't within 1 and the longest of its device.
-fn has_bad_record_length(card: &Card) -> bool
-    ensures { result ≡ bad_record_length_spec card.now }
+/// Whether there is a key and it lies in a record.
+fn is_key_within(record_length: u16, key: Option<KeyField>) -> bool
+    ensures { result ≡ key_within_spec record_length key }
 {
-    is_out_of_range(
-        number(columns(card, 24, 27)),
-        1,
-        longest_record(columns(card, 40, 46)),
-    )
-}
-
-#[tactic(auto, unfolding(s3_cards::specs::Codes::ebcdic, s3_cards::specs::Codes::code_page))]
-fn is_indexed(card: &Card) -> bool
-    ensures { result ≡ indexed_spec card.now }
-{
-    columns(card, 31, 32) == [LETTER_A, LETTER_I].as_slice()
-}
-
-/// Whether a key is known to end past its record.
-fn ends_past(key_length: Option<u16>, start: Option<u16>, record_length: Option<u16>) -> bool
-    ensures { result ≡ ends_past_spec key_length start record_length }
-{
-    match (key_length, start, record_length) {
-        (Some(key_length), Some(start), Some(record_length)) => u32::from(record_length) + 1
-            < u32::from(start) + u32::from(key_length),
-        _ => false,
+    match key {
+        Some(key) => u32::from(key.start) + u32::from(key.length) <= u32::from(record_length) + 1,
+        None => false,
     }
 }
 
-/// Whether the key of an indexed file is missing, or ends past its record.
-fn has_bad_key(card: &Card) -> bool
-    ensures { result ≡ bad_key_spec card.now }
+/// Whether a record length isn't within that of its device, or an indexed file has no key in its record.
+#[tactic(auto, unfolding(crate::specs::Combinations::has_bad_extent))]
+fn has_bad_extent(card: &Card) -> bool
+    ensures { result ≡ bad_extent_spec card.now }
 {
-    let key_length = columns(card, 29, 30);
-    let start = columns(card, 35, 38);
-    is_indexed(card)
-        && (are_blank(key_length)
-            || are_blank(start)
-            || ends_past(
-                number(key_length),
-                number(start),
-                number(columns(card, 24, 27)),
-            ))
+    let file = file_line(card);
+    file.record_length < 1
+        || longest_record(file.device) < file.record_length
+        || (is_with_index(&file) && !is_key_within(file.record_length, file.key))
 }
 
-/// How many positions a field has, where its first and last one are known and in order.
-fn width_of(from: Option<u16>, to: Option<u16>) -> Option<u16>
-    requires { IfSome to (λ number. number < 10 ^ 4) }
-    ensures value { result ≡ width_of_spec from to }
-    ensures below { IfSome result (λ width. width ≤ 10 ^ 4) }
+/// Whether decimals are at most 9, and of 1 to 15 digits.
+fn are_digits_in_range(digits: u16, decimals: u8) -> bool
+    ensures { result ≡ shape_in_range (Shape.Numeric digits decimals) }
 {
-    match (from, to) {
-        (Some(from), Some(to)) if from <= to => Some(to - from + 1),
-        _ => None,
+    1 <= digits && digits <= 15 && decimals <= 9 && u16::from(decimals) <= digits
+}
+
+fn is_text_in_range(length: u16) -> bool
+    ensures { result ≡ shape_in_range (Shape.Alphanumeric length) }
+{
+    1 <= length && length <= 256
+}
+
+/// Whether so many positions hold 1 to 256 characters, or 1 to 15 digits, of which the decimals are some.
+fn holds_field(form: FieldForm, width: u16) -> bool
+    requires { width ≤ 10 ^ 4 }
+    ensures { result ≡ shape_in_range (shape_of_positions form width) }
+{
+    match form {
+        FieldForm::Alphanumeric | FieldForm::PackedText => is_text_in_range(width),
+        FieldForm::Zoned(decimals) => are_digits_in_range(width, decimals),
+        FieldForm::Packed(decimals) => {
+            are_digits_in_range((2 * width).saturating_sub(1), decimals)
+        }
     }
 }
 
-/// The digits in so many positions: one in each, or two and a sign where they are packed.
-fn digits_in(packed: bool, width: Option<u16>) -> Option<u16>
-    requires { IfSome width (λ width. width ≤ 10 ^ 4) }
-    ensures { result ≡ digits_in_spec packed width }
+/// Whether the positions of a field are out of order, or don't hold such a field.
+#[tactic(auto, unfolding(crate::specs::Combinations::has_bad_positions))]
+fn has_bad_positions(card: &Card) -> bool
+    ensures { result ≡ bad_positions_spec card.now }
 {
-    match width {
-        Some(width) if packed => Some((2 * width).saturating_sub(1)),
-        _ => width,
-    }
-}
-
-/// How many positions the field of a field line has.
-fn field_width(card: &Card) -> Option<u16>
-    ensures value { result ≡ field_width_spec card.now }
-    ensures below { IfSome result (λ width. width ≤ 10 ^ 4) }
-{
-    width_of(number(columns(card, 44, 47)), number(columns(card, 48, 51)))
-}
-
-/// How many digits the field of a field line has if it has decimals.
-fn field_digits(card: &Card) -> Option<u16>
-    ensures { result ≡ field_digits_spec card.now }
-{
-    digits_in(card[42] == LETTER_P, field_width(card))
-}
-
-/// Whether a field has not 1 to 256 characters, or with decimals not 1 to 15 digits.
-fn has_bad_width(card: &Card) -> bool
-    ensures { result ≡ bad_width_spec card.now }
-{
-    if are_blank(columns(card, 52, 52)) {
-        is_out_of_range(field_width(card), 1, 256)
-    } else {
-        is_out_of_range(field_digits(card), 1, 15)
-    }
-}
-
-/// Whether decimals are not 0 to 9, or more than the digits.
-fn are_bad_decimals(decimals: Option<u16>, digits: Option<u16>) -> bool
-    ensures { result ≡ bad_decimals_spec decimals digits }
-{
-    is_out_of_range(decimals, 0, 9) || exceeds(decimals, digits)
-}
-
-/// 4, or 0.
-fn four_if(holds: bool) -> u8
-    ensures { result ≡ when holds 4 }
-{
-    if holds { 4 } else { 0 }
-}
-
-/// The diagnostic of the decimals of a field line, or 0.
-fn decimals_fault(card: &Card) -> u8
-    ensures { result ≡ decimals_fault_spec card.now }
-{
-    let decimals = columns(card, 52, 52);
-    unbuilt_fault(
-        decimals,
-        four_if(are_bad_decimals(number(decimals), field_digits(card))),
-    )
-}
-
-#[tactic(auto, unfolding(s3_cards::specs::Codes::ebcdic, s3_cards::specs::Codes::code_page))]
-fn is_chain(card: &Card) -> bool
-    ensures { result ≡ chain_spec card.now }
-{
-    columns(card, 28, 32) == [LETTER_C, LETTER_H, LETTER_A, LETTER_I, LETTER_N].as_slice()
-}
-
-/// How long a name in factor 2 may be: CHAIN has a file there.
-fn longest_name(card: &Card) -> usize
-    ensures value { result ≡ longest_name_spec card.now }
-    ensures few { result ≤ 8 }
-{
-    if is_chain(card) { 8 } else { 6 }
+    let field = field_line(card);
+    field.to < field.from || !holds_field(field.form, field.to - field.from + 1)
 }
 
 /// Whether factor 2 of a C card is ill formed.
+#[tactic(auto, unfolding(crate::specs::Combinations::has_bad_factor))]
 fn has_bad_factor(card: &Card) -> bool
     ensures { result ≡ bad_factor_spec card.now }
 {
-    let factor = columns(card, 33, 42);
-    !(are_blank(factor) || is_factor(longest_name(card), factor))
+    let entry = columns(card, 33, 42);
+    !(are_blank(entry) || factor(longest_name(card), entry).is_some())
 }
 
 /// Whether length and decimals of a C card's result are out of their ranges.
-fn has_bad_shape(card: &Card) -> bool
-    ensures { result ≡ bad_shape_spec card.now }
+#[tactic(auto, unfolding(crate::specs::Combinations::has_bad_definition))]
+fn has_bad_definition(card: &Card) -> bool
+    ensures { result ≡ bad_definition_spec card.now }
 {
-    let digits = columns(card, 49, 51);
-    let decimals = columns(card, 52, 52);
-    if are_blank(decimals) {
-        !are_blank(digits) && is_out_of_range(number(digits), 1, 256)
-    } else {
-        is_out_of_range(number(digits), 1, 15) || are_bad_decimals(number(decimals), number(digits))
+    match definition(columns(card, 49, 51), columns(card, 52, 52)) {
+        None => false,
+        Some(Shape::Alphanumeric(length)) => !is_text_in_range(length),
+        Some(Shape::Numeric(digits, decimals)) => {
+            !are_digits_in_range(u16::from(digits), decimals)
+        }
     }
 }
 
-#[tactic(auto, unfolding(s3_cards::specs::Codes::ebcdic, s3_cards::specs::Codes::code_page))]
-fn is_addition(card: &Card) -> bool
-    ensures { result ≡ addition_spec card.now }
+/// Whether column 16 of a line card has something else than the word ADD.
+#[tactic(auto, unfolding(crate::specs::Combinations::has_bad_addition))]
+fn has_bad_addition(card: &Card) -> bool
+    ensures { result ≡ bad_addition_spec card.now }
 {
-    columns(card, 16, 18) == [LETTER_A, LETTER_D, LETTER_D].as_slice()
+    !is_addition(card) && are_filled(card, 16, 16)
 }
 
-/// The diagnostic of a space before or after on a line card, or 0. With ADD their columns have letters of that word.
-fn space_fault(card: &Card, space: &[u8]) -> u8
-    ensures { result ≡ space_fault_spec card.now space.now }
+/// Whether a space of a line card is out of its range. With ADD the columns have letters of that word.
+#[tactic(auto, unfolding(crate::specs::Combinations::has_bad_space))]
+fn has_bad_space(card: &Card) -> bool
+    ensures { result ≡ bad_space_spec card.now }
 {
-    if is_addition(card) {
-        0
-    } else {
-        unbuilt_fault(space, entry_fault(&Entry::MaybeNumber(0, 3), space))
-    }
+    let before = columns(card, 17, 17);
+    let after = columns(card, 18, 18);
+    !is_addition(card)
+        && (!(are_blank(before) || small_between(before, 0, 3).is_some())
+            || !(are_blank(after) || small_between(after, 0, 3).is_some()))
 }
 
-/// The diagnostic of a field card that puts out both a field and a constant, or neither; else 0.
-fn content_fault(no_field: bool, no_constant: bool) -> u8
-    ensures { result ≡ content_fault_spec no_field no_constant }
+/// Whether a name is UDATE, UMONTH, UDAY or UYEAR.
+fn is_of_date(name: Name) -> bool
+    ensures { result ≡ of_date_spec name }
 {
-    match (no_field, no_constant) {
-        (true, true) => 3,
-        (false, false) => 2,
-        _ => 0,
-    }
+    is_reserved(&name) && name != PAGE
+}
+
+/// Whether a field card has a field and a constant, or an entry that what it puts out can't have.
+#[tactic(auto, unfolding(crate::specs::Combinations::has_bad_content))]
+fn has_bad_content(card: &Card) -> bool
+    ensures { result ≡ bad_content_spec card.now }
+{
+    let is_edited = are_filled(card, 38, 38);
+    let is_blanked = are_filled(card, 39, 39);
+    let is_packed = are_filled(card, 44, 44);
+    let is_field = are_filled(card, 32, 37);
+    (are_filled(card, 45, 70) && (is_field || is_edited || is_blanked || is_packed))
+        || (is_edited && is_packed)
+        || (is_blanked && is_of_date(Name::of(columns(card, 32, 37))))
+}
+
+/// Whether a field card has neither a field nor a constant.
+fn has_no_content(card: &Card) -> bool
+    ensures { result ≡ no_content_spec card.now }
+{
+    are_blank(columns(card, 32, 37)) && are_blank(columns(card, 45, 70))
 }
 
 /// Whether a constant would begin before position 1.
@@ -218,35 +204,55 @@ fn begins_too_early(end: Option<u16>, columns: &[u8]) -> bool
 {
     match (end, constant(columns)) {
         (Some(end), Some(constant)) => end < u16::from(constant.length),
-        _ => false,
+        (None, _) | (_, None) => false,
     }
 }
 
-/// The diagnostics that columns of a card show together, at most two, with 0 for none.
-pub fn combined_faults(kind: CardKind, card: &Card) -> (u8, u8)
+/// Whether the constant of a field card would begin before position 1.
+#[tactic(auto, unfolding(crate::specs::Combinations::has_early_constant))]
+fn has_early_constant(card: &Card) -> bool
+    ensures { result ≡ early_constant_spec card.now }
+{
+    begins_too_early(number(columns(card, 40, 43)), columns(card, 45, 70))
+}
+
+/// What is wrong with columns of a card together.
+pub fn combined_faults(kind: CardKind, card: &Card) -> Faults
     ensures { result ≡ combined_faults_spec kind card.now }
 {
     match kind {
-        CardKind::File => (
-            four_if(has_bad_record_length(card)),
-            four_if(has_bad_key(card)),
-        ),
-        CardKind::Field => (four_if(has_bad_width(card)), decimals_fault(card)),
-        CardKind::Calculation => (
-            if has_bad_factor(card) { 3 } else { 0 },
-            four_if(has_bad_shape(card)),
-        ),
-        CardKind::OutputLine => (
-            space_fault(card, columns(card, 17, 17)),
-            space_fault(card, columns(card, 18, 18)),
-        ),
-        CardKind::OutputField => (
-            content_fault(
-                are_blank(columns(card, 32, 37)),
-                are_blank(columns(card, 45, 70)),
-            ),
-            four_if(begins_too_early(number(columns(card, 40, 43)), columns(card, 45, 70))),
-        ),
-        _ => (0, 0),
+        CardKind::File => Faults {
+            entry: has_stray_entry(card),
+            name: false,
+            number: has_bad_extent(card),
+        },
+        CardKind::Field => Faults {
+            entry: false,
+            name: false,
+            number: has_bad_positions(card),
+        },
+        CardKind::Calculation => Faults {
+            entry: false,
+            name: has_bad_factor(card),
+            number: has_bad_definition(card),
+        },
+        CardKind::OutputLine => Faults {
+            entry: has_bad_addition(card),
+            name: false,
+            number: has_bad_space(card),
+        },
+        CardKind::OutputField => Faults {
+            entry: has_bad_content(card),
+            name: has_no_content(card),
+            number: has_early_constant(card),
+        },
+        CardKind::Comment
+        | CardKind::Unknown
+        | CardKind::Header
+        | CardKind::Record
+        | CardKind::RecordAnd
+        | CardKind::RecordOr
+        | CardKind::OutputAnd
+        | CardKind::OutputOr => Faults::NONE,
     }
 }

@@ -1,141 +1,41 @@
 //! What the entries of the sheets spell.
 
-ghost use Rattle.std.specs.Prelude.{◌≡◌, ◌≤◌, ◌<◌, length, option_map, ◌↔◌, List, ℕ, Some, false, if◌then◌else◌};
+ghost use Rattle.std.specs.Prelude.{◌≡◌, ◌≤◌, ◌<◌, ◌+◌, ◌*◌, ◌^◌, length, map, option_map, ◌↔◌, List, ℕ, Some, IfSome, false, if◌then◌else◌};
 ghost use Rattle.std.specs.List.{prefix_len};
+ghost use Rattle.std.specs.Int.Digits.{number_from_digits_after};
 ghost use Rattle.s3_cards.specs.Names.{is_digit as digit_spec};
-ghost use Rattle.s3_sheets.specs.Literals.{with_code, with_next_code, is_behind_end, IsConstant};
-ghost use Rattle.s3_sheets.specs.Columns.{are_blank as are_blank_spec};
-ghost use Rattle.s3_sheets.specs.Entries.{general_of, switch_of, indicator_of, is_condition as condition_spec, condition_of, constant_text, constant as constant_spec, text_of, is_reserved as reserved_spec, reserved_names as reserved_names_spec, without_sign as without_sign_spec, without_point as without_point_spec, is_number_literal as number_literal_spec, is_factor as factor_spec};
+ghost use Rattle.s3_sheets.specs.Inner.Literals.{with_code, with_next_code, is_behind_end, IsConstant};
+ghost use Rattle.s3_sheets.specs.Columns.{are_blank as are_blank_spec, digit};
+ghost use Rattle.s3_sheets.specs.Entries.{constant_text, constant as constant_spec, text_of, without_sign as without_sign_spec, is_negative as negative_spec, without_point as without_point_spec, signed as signed_spec, number_literal_of, text_literal as text_literal_spec, name_within as name_within_spec, factor_of, part_of as part_of_spec, code_of, time_of};
 
-use crate::columns::are_blank;
-use crate::indicator::{Condition, Indicator};
-use crate::sheet::Constant;
+use crate::columns::{are_blank, number_between, number_onto};
+use crate::indicators::{IndicatorList, listed};
+use crate::words::{AN, OR_IN_LEVEL, SR};
 use s3_cards::ebcdic::{
-    APOSTROPHE, BLANK, DIGIT_0, LETTER_A, LETTER_D, LETTER_E, LETTER_G, LETTER_H, LETTER_M,
-    LETTER_N, LETTER_O, LETTER_P, LETTER_R, LETTER_T, LETTER_U, LETTER_Y, MINUS, PERIOD, PLUS,
+    APOSTROPHE, BLANK, LETTER_C, LETTER_D, LETTER_N, LETTER_Z, MINUS, PERIOD, PLUS,
 };
 use s3_cards::{Name, is_digit, is_name};
+use s3_lines::sheet::{
+    CalculationTime, CodePart, Constant, Factor, NumberLiteral, RecordCode, TextLiteral,
+};
 
-/// The number of an indicator of two digits, 01 to 99.
-pub fn general(columns: &[u8]) -> Option<u8>
-    ensures { result ≡ general_of columns.now }
-{
-    match columns {
-        [DIGIT_0, DIGIT_0] => None,
-        [tens, units] if is_digit(*tens) && is_digit(*units) => Some(
-            (*tens - DIGIT_0) * 10 + (*units - DIGIT_0),
-        ),
-        _ => None,
-    }
-}
+/// The constant without characters.
+pub const EMPTY: Constant = Constant {
+    codes: [BLANK; 24],
+    length: 0,
+};
 
-/// The number of a switch, U1 to U8.
-pub fn switch(columns: &[u8]) -> Option<u8>
-    ensures { result ≡ switch_of columns.now }
+/// A constant with one more character, if it has room.
+fn with(constant: Constant, code: u8) -> Option<Constant>
+    ensures { result ≡ with_code constant code }
 {
-    match columns {
-        [LETTER_U, digit] if DIGIT_0 < *digit && *digit <= DIGIT_0 + 8 => Some(*digit - DIGIT_0),
-        _ => None,
-    }
-}
-
-/// The indicator of a condition: 01 to 99, U1 to U8.
-fn indicator(columns: &[u8]) -> Option<Indicator>
-    ensures { result ≡ indicator_of columns.now }
-{
-    match general(columns) {
-        Some(number) => Some(Indicator::General(number)),
-        None => Some(Indicator::Switch(switch(columns)?)),
-    }
-}
-
-/// Whether three columns are all blank, or have blank or N and then an indicator.
-pub fn is_condition(columns: &[u8]) -> bool
-    ensures { result ≡ condition_spec columns.now }
-{
-    match columns.split_first() {
-        None => false,
-        Some((sign, rest)) => are_blank(columns)
-            || (matches!(*sign, BLANK | LETTER_N) && indicator(rest).is_some()),
-    }
-}
-
-/// The condition in three columns, none where they are blank.
-pub fn condition(columns: &[u8]) -> Option<Condition>
-    ensures { result ≡ condition_of columns.now }
-{
-    if are_blank(columns) {
+    if constant.length >= 24 {
         return None;
     }
-    let (sign, rest) = columns.split_first()?;
-    Some(Condition {
-        negated: *sign == LETTER_N,
-        indicator: indicator(rest)?,
-    })
-}
-
-/// The fields that no sheet defines: UDATE, UMONTH, UDAY, UYEAR and PAGE.
-static RESERVED_NAMES: [Name; 5] = [
-    Name {
-        codes: [
-            LETTER_U, LETTER_D, LETTER_A, LETTER_T, LETTER_E, BLANK, BLANK, BLANK,
-        ],
-    },
-    Name {
-        codes: [
-            LETTER_U, LETTER_M, LETTER_O, LETTER_N, LETTER_T, LETTER_H, BLANK, BLANK,
-        ],
-    },
-    Name {
-        codes: [
-            LETTER_U, LETTER_D, LETTER_A, LETTER_Y, BLANK, BLANK, BLANK, BLANK,
-        ],
-    },
-    Name {
-        codes: [
-            LETTER_U, LETTER_Y, LETTER_E, LETTER_A, LETTER_R, BLANK, BLANK, BLANK,
-        ],
-    },
-    Name {
-        codes: [
-            LETTER_P, LETTER_A, LETTER_G, LETTER_E, BLANK, BLANK, BLANK, BLANK,
-        ],
-    },
-];
-
-#[tactic(auto, unfolding(crate::specs::Entries::reserved_names, s3_cards::specs::Codes::ebcdic, s3_cards::specs::Codes::code_page))]
-fn reserved_names() -> &'static [Name]
-    ensures { result.now ≡ reserved_names_spec }
-{
-    &RESERVED_NAMES
-}
-
-/// Whether a name is that of a field that no sheet defines.
-pub fn is_reserved(name: &Name) -> bool
-    ensures { result ≡ reserved_spec name.now }
-{
-    reserved_names().iter().any(|other| other == name)
-}
-
-impl Constant {
-    /// The constant without characters.
-    pub(crate) const EMPTY: Constant = Constant {
-        codes: [BLANK; 24],
-        length: 0,
-    };
-
-    /// The constant with one more character, if it has room.
-    fn with(self, code: u8) -> Option<Constant>
-        ensures { result ≡ with_code self code }
-    {
-        if self.length >= 24 {
-            return None;
-        }
-        let mut longer = self;
-        longer.codes[self.length as usize] = code;
-        longer.length += 1;
-        Some(longer)
-    }
+    let mut longer = constant;
+    longer.codes[constant.length as usize] = code;
+    longer.length += 1;
+    Some(longer)
 }
 
 /// A text and whether an apostrophe ends it, as far as one more code makes them.
@@ -145,7 +45,7 @@ fn with_next(text: Constant, ended: bool, code: u8) -> Option<(Constant, bool)>
     if code == APOSTROPHE && !ended {
         Some((text, true))
     } else {
-        Some((text.with(code)?, false))
+        Some((with(text, code)?, false))
     }
 }
 
@@ -168,7 +68,7 @@ fn text(codes: &[u8]) -> Option<Constant>
     requires { length codes.now ≤ 25 }
     ensures { result ≡ option_map constant_spec (text_of false codes.now) }
 {
-    let mut text = Constant::EMPTY;
+    let mut text = EMPTY;
     let mut ended = false;
     for (place, code) in codes.iter().enumerate() {
         if is_behind(ended, *code) {
@@ -192,7 +92,8 @@ pub fn constant(columns: &[u8]) -> Option<Constant>
 }
 
 fn without_sign(columns: &[u8]) -> &[u8]
-    ensures { result.now ≡ without_sign_spec columns.now }
+    ensures value { result.now ≡ without_sign_spec columns.now }
+    ensures shorter { length result.now ≤ length columns.now }
 {
     match columns {
         [PLUS | MINUS, rest @ ..] => rest,
@@ -201,11 +102,21 @@ fn without_sign(columns: &[u8]) -> &[u8]
 }
 
 fn without_point(columns: &[u8]) -> &[u8]
-    ensures { result.now ≡ without_point_spec columns.now }
+    ensures value { result.now ≡ without_point_spec columns.now }
+    ensures shorter { length result.now ≤ length columns.now }
 {
     match columns {
         [PERIOD, rest @ ..] => rest,
         _ => columns,
+    }
+}
+
+fn is_negative(columns: &[u8]) -> bool
+    ensures { result ≡ negative_spec columns.now }
+{
+    match columns {
+        [first, ..] => *first == MINUS,
+        [] => false,
     }
 }
 
@@ -217,26 +128,121 @@ fn digits_in_front(columns: &[u8]) -> usize
     columns.iter().take_while(|code| is_digit(**code)).count()
 }
 
-/// Whether columns have a sign or none, digits with at most one point, and blanks behind.
-fn is_number_literal(columns: &[u8]) -> bool
-    ensures { result ≡ number_literal_spec columns.now }
+/// A number with its sign.
+fn signed(is_negative: bool, number: u64) -> i64
+    requires { number < 10 ^ 18 }
+    ensures { result ≡ signed_spec is_negative number }
+{
+    let number = number as i64;
+    if is_negative { -number } else { number }
+}
+
+/// The literal number in columns: a sign or none, digits with at most one point, and blanks behind.
+#[tactic(auto, unfolding(crate::specs::Entries::number_literal_of))]
+fn number_literal(columns: &[u8]) -> Option<NumberLiteral>
+    requires { length columns.now ≤ 10 }
+    ensures { result ≡ number_literal_of columns.now }
 {
     let unsigned = without_sign(columns);
     let whole = digits_in_front(unsigned);
     let fraction = without_point(&unsigned[whole..]);
     let decimals = digits_in_front(fraction);
-    (whole > 0 || decimals > 0) && are_blank(&fraction[decimals..])
+    if whole + decimals == 0 || !are_blank(&fraction[decimals..]) {
+        return None;
+    }
+    let number = number_onto(number_onto(0, &unsigned[..whole]), &fraction[..decimals]);
+    Some(NumberLiteral {
+        value: signed(is_negative(columns), number),
+        digits: (whole + decimals) as u8,
+        decimals: decimals as u8,
+    })
 }
 
-/// Whether columns have a literal, or a name of at most so many characters, with blanks behind.
-pub fn is_factor(longest: usize, columns: &[u8]) -> bool
-    requires enough { longest ≤ length columns.now }
-    requires few { length columns.now ≤ 26 }
-    ensures { result ≡ factor_spec longest columns.now }
+/// A text of at most eight characters as a literal.
+fn text_literal(text: Constant) -> TextLiteral
+    ensures { (codes : List ℕ) → text ≡ constant_spec codes → length codes ≤ 8 → result ≡ text_literal_spec codes }
 {
-    constant(columns).is_some()
-        || is_number_literal(columns)
-        || (is_name(&columns[..longest]) && are_blank(&columns[longest..]))
+    let mut codes = [BLANK; 8];
+    codes.copy_from_slice(&text.codes[..8]);
+    TextLiteral {
+        codes,
+        length: text.length,
+    }
+}
+
+/// The name of at most so many characters in columns that have blanks behind it.
+fn name_within(longest: usize, columns: &[u8]) -> Option<Name>
+    requires few { longest ≤ 8 }
+    requires enough { longest ≤ length columns.now }
+    ensures { result ≡ name_within_spec longest columns.now }
+{
+    let name = &columns[..longest];
+    if is_name(name) && are_blank(&columns[longest..]) {
+        Some(Name::of(name))
+    } else {
+        None
+    }
+}
+
+/// The literal in columns, or the name of at most so many characters; none where they are blank.
+#[tactic(auto, unfolding(crate::specs::Entries::factor_of))]
+pub fn factor(longest: usize, columns: &[u8]) -> Option<Factor>
+    requires short { longest ≤ 8 }
+    requires enough { longest ≤ length columns.now }
+    requires few { length columns.now ≤ 10 }
+    ensures { result ≡ factor_of longest columns.now }
+{
+    if let Some(text) = constant(columns) {
+        return Some(Factor::Text(text_literal(text)));
+    }
+    if let Some(number) = number_literal(columns) {
+        return Some(Factor::Number(number));
+    }
+    Some(Factor::Named(name_within(longest, columns)?))
+}
+
+/// What C, Z or D compares.
+pub fn part_of(code: u8) -> Option<CodePart>
+    ensures { result ≡ part_of_spec code }
+{
+    match code {
+        LETTER_C => Some(CodePart::Character),
+        LETTER_Z => Some(CodePart::Zone),
+        LETTER_D => Some(CodePart::Digit),
+        _ => None,
+    }
+}
+
+/// The record identification code in seven columns, none where they are blank.
+#[tactic(auto, unfolding(crate::specs::Entries::code_of))]
+pub fn record_code(columns: &[u8]) -> Option<RecordCode>
+    requires { length columns.now ≡ 7 }
+    ensures { result ≡ code_of columns.now }
+{
+    Some(RecordCode {
+        position: number_between(&columns[..4], 1, 9_999)?,
+        part: part_of(columns[5])?,
+        negated: columns[4] == LETTER_N,
+        character: columns[6],
+    })
+}
+
+/// When a C line is done, by its columns 7 and 8.
+#[tactic(auto, unfolding(crate::specs::Entries::time_of, s3_cards::specs::Codes::ebcdic, s3_cards::specs::Codes::code_page))]
+pub fn time(columns: &[u8]) -> Option<CalculationTime>
+    ensures { result ≡ time_of columns.now }
+{
+    if are_blank(columns) {
+        Some(CalculationTime::Detail)
+    } else if columns == SR.as_slice() {
+        Some(CalculationTime::Subroutine)
+    } else if columns == AN.as_slice() {
+        Some(CalculationTime::And)
+    } else if columns == OR_IN_LEVEL.as_slice() {
+        Some(CalculationTime::Or)
+    } else {
+        Some(CalculationTime::Total(listed(IndicatorList::Total, columns)?))
+    }
 }
 
 /// A constant is read as the text that was written, with its apostrophes twice and blanks behind it, and nothing else is a constant.

@@ -1,51 +1,82 @@
-//! The diagnostics that a card's own columns show.
+//! What is wrong with a card by its own columns.
 
-ghost use Rattle.std.specs.Prelude.{◌≡◌, ◌==◌, ◌||◌, map, true};
+ghost use Rattle.std.specs.Prelude.{◌≡◌, map, true};
 ghost use Rattle.std.specs.List.{list_all};
-ghost use Rattle.s3_sheets.specs.Rules.{is_on_card};
-ghost use Rattle.s3_sheets.specs.RuleViews.{rule_view};
-ghost use Rattle.s3_sheets.specs.Sheets.{broken_by, has_fault as has_fault_spec, faults_of as faults_of_spec};
+ghost use Rattle.s3_sheets.specs.Rules.{is_on_card, broken_by, no_faults, one_fault, both_faults};
+ghost use Rattle.s3_sheets.specs.Inner.RuleViews.{rule_view};
+ghost use Rattle.s3_sheets.specs.Sheets.{has_fault as has_fault_spec, faults_of as faults_of_spec};
 
 use crate::combinations::combined_faults;
 use crate::kind::kind_of;
-use crate::rules::{Rule, rule_fault};
+use crate::rules::{Rule, rule_faults};
 use crate::tables::rules_of;
 use s3_cards::Card;
+
+/// What is wrong with an entry.
+#[derive(Clone, Copy)]
+pub enum Fault {
+    /// 2: it isn't allowed.
+    WrongEntry,
+    /// 3: a name or literal is missing or ill formed.
+    WrongName,
+    /// 4: a number is missing, ill formed or out of its range.
+    WrongNumber,
+}
 
 /// Which of the diagnostics 2 to 4 a card's own columns show.
 #[derive(Clone, Copy)]
 pub struct Faults {
-    /// 2: an entry that isn't allowed, or isn't built yet.
+    /// 2: an entry that isn't allowed.
     pub entry: bool,
-    /// 3: a name or literal that is ill formed.
+    /// 3: a name or literal that is missing or ill formed.
     pub name: bool,
-    /// 4: a number that is ill formed or out of its range.
+    /// 4: a number that is missing, ill formed or out of its range.
     pub number: bool,
 }
 
 impl Faults {
-    const NONE: Faults = Faults {
+    /// Nothing is wrong.
+    pub const NONE: Faults = Faults {
         entry: false,
         name: false,
         number: false,
     };
 
-    /// With one more diagnostic, if it is 2 to 4.
-    fn with(self, diagnostic: u8) -> Faults
-        ensures { result ≡ record {
-          entry = self.entry || (diagnostic == 2);
-          name = self.name || (diagnostic == 3);
-          number = self.number || (diagnostic == 4);
-        } }
+    /// This alone is wrong.
+    pub fn of(fault: Fault) -> Faults
+        ensures { result ≡ one_fault fault }
     {
-        Faults {
-            entry: self.entry || diagnostic == 2,
-            name: self.name || diagnostic == 3,
-            number: self.number || diagnostic == 4,
+        match fault {
+            Fault::WrongEntry => Faults {
+                entry: true,
+                name: false,
+                number: false,
+            },
+            Fault::WrongName => Faults {
+                entry: false,
+                name: true,
+                number: false,
+            },
+            Fault::WrongNumber => Faults {
+                entry: false,
+                name: false,
+                number: true,
+            },
         }
     }
 
-    /// Whether there is one.
+    /// What is wrong in one way or another.
+    fn and(self, other: Faults) -> Faults
+        ensures { result ≡ both_faults self other }
+    {
+        Faults {
+            entry: self.entry || other.entry,
+            name: self.name || other.name,
+            number: self.number || other.number,
+        }
+    }
+
+    /// Whether something is wrong.
     pub fn any(self) -> bool
         ensures { result ≡ has_fault_spec self }
     {
@@ -53,24 +84,23 @@ impl Faults {
     }
 }
 
-/// The diagnostics of a card by the rules for its columns.
+/// What is wrong with a card by the rules for its columns.
 fn broken(rules: &[Rule], card: &Card) -> Faults
     requires { list_all is_on_card (map rule_view rules.now) ≡ true }
     ensures { result ≡ broken_by (map rule_view rules.now) card.now }
 {
     let mut faults = Faults::NONE;
     for rule in rules {
-        faults = faults.with(rule_fault(rule, card));
+        faults = faults.and(rule_faults(rule, card));
     }
     faults
 }
 
-/// The diagnostics that a card's own columns show, positions in its record aside.
+/// What is wrong with a card by its own columns, positions in its record aside.
 #[tactic(auto, unfolding(crate::specs::Sheets::faults_of))]
 pub fn faults_of(card: &Card) -> Faults
     ensures { result ≡ faults_of_spec card.now }
 {
     let kind = kind_of(card);
-    let (first, second) = combined_faults(kind, card);
-    broken(rules_of(kind), card).with(first).with(second)
+    broken(rules_of(kind), card).and(combined_faults(kind, card))
 }

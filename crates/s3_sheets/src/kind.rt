@@ -1,14 +1,12 @@
 //! What kind of card of a source each card is.
 
 ghost use Rattle.std.specs.Prelude.{◌≡◌};
-ghost use Rattle.s3_sheets.specs.Kinds.{goes_on as goes_on_spec, input_kind as input_kind_spec, output_kind as output_kind_spec, kind_of as kind_of_spec, sheet_of as sheet_of_spec, is_record as is_record_spec, is_output_line as is_output_line_spec};
+ghost use Rattle.s3_sheets.specs.Kinds.{says_and as says_and_spec, says_or as says_or_spec, input_kind as input_kind_spec, output_kind as output_kind_spec, kind_of as kind_of_spec, sheet_of as sheet_of_spec, is_record as is_record_spec, is_output_line as is_output_line_spec};
 
 use crate::columns::{are_blank, columns};
+use crate::words::{AND, OR};
 use s3_cards::Card;
-use s3_cards::ebcdic::{
-    ASTERISK, BLANK, LETTER_A, LETTER_C, LETTER_D, LETTER_F, LETTER_H, LETTER_I, LETTER_N,
-    LETTER_O, LETTER_R,
-};
+use s3_cards::ebcdic::{ASTERISK, LETTER_C, LETTER_F, LETTER_H, LETTER_I, LETTER_O};
 
 /// What a card of a source is, by its columns 6 to 16.
 #[derive(Clone, Copy)]
@@ -23,36 +21,47 @@ pub enum CardKind {
     File,
     /// A record line: an I card with a file name.
     Record,
-    /// An AND or OR line of the I sheet.
-    RecordGroup,
+    /// An AND line of the I sheet.
+    RecordAnd,
+    /// An OR line of the I sheet.
+    RecordOr,
     /// A field line: any other I card.
     Field,
     /// A C card.
     Calculation,
     /// A line card: an O card with a file name or a type.
     OutputLine,
-    /// An AND or OR line of the O sheet.
-    OutputGroup,
+    /// An AND line of the O sheet.
+    OutputAnd,
+    /// An OR line of the O sheet.
+    OutputOr,
     /// A field card: any other O card.
     OutputField,
 }
 
-/// Whether columns 14 to 16 say AND or OR, and the name columns before them are blank.
-#[tactic(auto, unfolding(crate::specs::Kinds::goes_on, s3_cards::specs::Codes::ebcdic, s3_cards::specs::Codes::code_page))]
-fn goes_on(card: &Card) -> bool
-    ensures { result ≡ goes_on_spec card.now }
+/// Whether columns 14 to 16 say AND, and the name columns before them are blank.
+#[tactic(auto, unfolding(crate::specs::Kinds::says_and, s3_cards::specs::Codes::ebcdic, s3_cards::specs::Codes::code_page))]
+fn says_and(card: &Card) -> bool
+    ensures { result ≡ says_and_spec card.now }
 {
-    let word = columns(card, 14, 16);
-    are_blank(columns(card, 7, 13))
-        && (word == [LETTER_A, LETTER_N, LETTER_D].as_slice()
-            || word == [LETTER_O, LETTER_R, BLANK].as_slice())
+    are_blank(columns(card, 7, 13)) && columns(card, 14, 16) == AND.as_slice()
+}
+
+/// Whether columns 14 to 16 say OR, and the name columns before them are blank.
+#[tactic(auto, unfolding(crate::specs::Kinds::says_or, s3_cards::specs::Codes::ebcdic, s3_cards::specs::Codes::code_page))]
+fn says_or(card: &Card) -> bool
+    ensures { result ≡ says_or_spec card.now }
+{
+    are_blank(columns(card, 7, 13)) && columns(card, 14, 16) == OR.as_slice()
 }
 
 fn input_kind(card: &Card) -> CardKind
     ensures { result ≡ input_kind_spec card.now }
 {
-    if goes_on(card) {
-        CardKind::RecordGroup
+    if says_and(card) {
+        CardKind::RecordAnd
+    } else if says_or(card) {
+        CardKind::RecordOr
     } else if are_blank(columns(card, 7, 14)) {
         CardKind::Field
     } else {
@@ -63,8 +72,10 @@ fn input_kind(card: &Card) -> CardKind
 fn output_kind(card: &Card) -> CardKind
     ensures { result ≡ output_kind_spec card.now }
 {
-    if goes_on(card) {
-        CardKind::OutputGroup
+    if says_and(card) {
+        CardKind::OutputAnd
+    } else if says_or(card) {
+        CardKind::OutputOr
     } else if are_blank(columns(card, 7, 15)) {
         CardKind::OutputField
     } else {
@@ -99,9 +110,12 @@ impl CardKind {
             CardKind::Comment | CardKind::Unknown => 0,
             CardKind::Header => 1,
             CardKind::File => 2,
-            CardKind::Record | CardKind::RecordGroup | CardKind::Field => 3,
+            CardKind::Record | CardKind::RecordAnd | CardKind::RecordOr | CardKind::Field => 3,
             CardKind::Calculation => 4,
-            CardKind::OutputLine | CardKind::OutputGroup | CardKind::OutputField => 5,
+            CardKind::OutputLine
+            | CardKind::OutputAnd
+            | CardKind::OutputOr
+            | CardKind::OutputField => 5,
         }
     }
 

@@ -4,20 +4,24 @@
 
 mod columns;
 mod combinations;
-mod devices;
-pub mod diagnostic;
 mod entries;
+mod fault;
 mod faults;
-pub mod indicator;
+mod indicators;
 mod kind;
 mod known;
+mod laws;
 mod lines;
+mod operations;
 mod progress;
 mod reading;
 mod rules;
-pub mod sheet;
 mod tables;
+mod words;
 
-pub use diagnostic::{Diagnostic, SheetFault};
-pub use entries::{constants_as_written, is_reserved};
+pub use entries::constants_as_written;
+pub use fault::SheetFault;
+pub use laws::{cards_get_their_numbers, every_entry_is_read, sources_get_their_pairs};
 pub use reading::read_sheets;
+pub use s3_lines::Diagnostic;
+pub use s3_lines::sheet::Line;

@@ -1,20 +1,26 @@
-//! The typed line of a card. It is made of every card; of a source without diagnostics it is what the card says.
+//! The typed line of a card. It is made of every card; of a card without a fault it is what the card says.
 
-ghost use Rattle.std.specs.Prelude.{◌≡◌, ◌≤◌, length};
-ghost use Rattle.s3_sheets.specs.Lines.{number_or_zero as number_or_zero_spec, maybe_name as maybe_name_spec, use_of as use_of_spec, designation_of as designation_of_spec, file_condition as file_condition_spec, device_of as device_of_spec, file_line as file_line_spec, record_line as record_line_spec, field_line as field_line_spec, three_conditions as three_conditions_spec, output_card as output_card_spec, content_of as content_of_spec, output_field as output_field_spec, sheet_line as sheet_line_spec, line_of as line_of_spec};
+ghost use Rattle.std.specs.Prelude.{◌≡◌, ◌≤◌, ◌<◌, ◌^◌, length};
+ghost use Rattle.s3_sheets.specs.Lines.{number_or_zero as number_or_zero_spec, maybe_name as maybe_name_spec, use_of as use_of_spec, designation_of as designation_of_spec, device_of as device_of_spec, key_of as key_of_spec, file_line as file_line_spec, record_indicator as record_indicator_spec, three_codes as three_codes_spec, form_of as form_of_spec, field_line as field_line_spec, longest_name as longest_name_spec, definition_of as definition_of_spec, calculation_line as calculation_line_spec, three_conditions as three_conditions_spec, output_kind_of as output_kind_of_spec, is_addition as is_addition_spec, space_of as space_of_spec, spacing_of as spacing_of_spec, output_card as output_card_spec, output_form as output_form_spec, content_of as content_of_spec, output_field as output_field_spec, sheet_line as sheet_line_spec, line_of as line_of_spec};
 
-use crate::columns::{are_blank, columns, number};
-use crate::devices::PRINTER;
-use crate::entries::{condition, constant, general, switch};
-use crate::indicator::{Condition, Indicator};
+use crate::columns::{are_blank, columns, number, number_between, small_between};
+use crate::entries::{EMPTY, constant, factor, record_code, time};
+use crate::indicators::{IndicatorList, condition, level_behind, listed};
 use crate::kind::{CardKind, kind_of};
-use crate::sheet::{
-    Constant, Designation, Device, FieldForm, FieldLine, FieldOutput, FileLine, FileUse, InputLine,
-    Line, OutputCard, OutputContent, OutputField, OutputForm, OutputKind, OutputLine, SheetLine,
-    Spacing,
+use crate::operations::operation;
+use crate::words::{ADD, CHAIN, MFCU1, MFCU2, PRINTER};
+use s3_cards::ebcdic::{
+    LETTER_A, LETTER_B, LETTER_C, LETTER_E, LETTER_H, LETTER_I, LETTER_L, LETTER_M, LETTER_O,
+    LETTER_P, LETTER_R, LETTER_S, LETTER_T, LETTER_U,
 };
-use s3_cards::ebcdic::{LETTER_E, LETTER_O, LETTER_P};
 use s3_cards::{Card, Name};
+use s3_edit::EditCode;
+use s3_lines::indicator::{Condition, Indicator};
+use s3_lines::sheet::{
+    CalculationLine, CalculationTime, Designation, Device, FieldForm, FieldLine, FieldOutput,
+    FileLine, FileUse, InputLine, KeyField, Line, OutputCard, OutputContent, OutputField,
+    OutputForm, OutputKind, OutputLine, RecordCode, Shape, SheetLine, Spacing,
+};
 
 fn number_or_zero(columns: &[u8]) -> u16
     ensures { result ≡ number_or_zero_spec columns.now }
@@ -23,7 +29,7 @@ fn number_or_zero(columns: &[u8]) -> u16
 }
 
 /// The name in at most eight columns, none where they are blank.
-fn maybe_name(columns: &[u8]) -> Option<Name>
+pub fn maybe_name(columns: &[u8]) -> Option<Name>
     requires { length columns.now ≤ 8 }
     ensures { result ≡ maybe_name_spec columns.now }
 {
@@ -37,20 +43,21 @@ fn maybe_name(columns: &[u8]) -> Option<Name>
 fn use_of(code: u8) -> FileUse
     ensures { result ≡ use_of_spec code }
 {
-    if code == LETTER_O {
-        FileUse::Output
-    } else {
-        FileUse::Input
+    match code {
+        LETTER_O => FileUse::Output,
+        LETTER_U => FileUse::Update,
+        _ => FileUse::Input,
     }
 }
 
 fn designation_of(code: u8) -> Option<Designation>
     ensures { result ≡ designation_of_spec code }
 {
-    if code == LETTER_P {
-        Some(Designation::Primary)
-    } else {
-        None
+    match code {
+        LETTER_P => Some(Designation::Primary),
+        LETTER_S => Some(Designation::Secondary),
+        LETTER_C => Some(Designation::Chained),
+        _ => None,
     }
 }
 
@@ -58,21 +65,32 @@ fn designation_of(code: u8) -> Option<Designation>
 fn device_of(device: &[u8]) -> Device
     ensures { result ≡ device_of_spec device.now }
 {
-    if device == PRINTER.as_slice() {
+    if device == MFCU1.as_slice() || device == MFCU2.as_slice() {
+        Device::CardReader
+    } else if device == PRINTER.as_slice() {
         Device::Printer
     } else {
-        Device::CardReader
+        Device::Disk
     }
 }
 
-/// The switch without which a file isn't used.
-fn file_condition(columns: &[u8]) -> Option<Indicator>
-    ensures { result ≡ file_condition_spec columns.now }
+/// The key of an indexed file, none where an entry of it is missing or out of its range.
+fn key_of(card: &Card) -> Option<KeyField>
+    ensures { result ≡ key_of_spec card.now }
 {
-    Some(Indicator::Switch(switch(columns)?))
+    if card[30] == LETTER_A && card[31] == LETTER_I {
+        Some(KeyField {
+            length: small_between(columns(card, 29, 30), 1, 29)?,
+            start: number_between(columns(card, 35, 38), 1, 9_999)?,
+        })
+    } else {
+        None
+    }
 }
 
-fn file_line(card: &Card) -> FileLine
+/// What an F card says.
+#[tactic(auto, unfolding(crate::specs::Lines::file_line))]
+pub fn file_line(card: &Card) -> FileLine
     ensures { result ≡ file_line_spec card.now }
 {
     FileLine {
@@ -81,36 +99,127 @@ fn file_line(card: &Card) -> FileLine
         designation: designation_of(card[15]),
         ends_job: card[16] == LETTER_E,
         record_length: number_or_zero(columns(card, 24, 27)),
-        key: None,
-        overflow: None,
+        is_random: card[27] == LETTER_R,
+        is_keyed: card[30] == LETTER_A,
+        is_indexed: card[31] == LETTER_I,
+        key: key_of(card),
+        overflow: listed(IndicatorList::Overflow, columns(card, 33, 34)),
         device: device_of(columns(card, 40, 46)),
-        has_additions: false,
-        condition: file_condition(columns(card, 71, 72)),
+        has_additions: card[65] == LETTER_A,
+        condition: listed(IndicatorList::Switch, columns(card, 71, 72)),
     }
 }
 
-fn record_line(card: &Card) -> InputLine
-    ensures { result ≡ record_line_spec card.now }
+fn record_indicator(columns: &[u8]) -> Indicator
+    ensures { result ≡ record_indicator_spec columns.now }
 {
-    InputLine::Record(
-        Name::of(columns(card, 7, 14)),
-        Indicator::General(general(columns(card, 19, 20)).unwrap_or(0)),
-        [None; 3],
-    )
+    listed(IndicatorList::Record, columns).unwrap_or(Indicator::General(1))
 }
 
-fn field_line(card: &Card) -> FieldLine
-    ensures { result ≡ field_line_spec card.now }
+fn three_codes(card: &Card) -> [Option<RecordCode>; 3]
+    ensures { result ≡ three_codes_spec card.now }
+{
+    [
+        record_code(columns(card, 21, 27)),
+        record_code(columns(card, 28, 34)),
+        record_code(columns(card, 35, 41)),
+    ]
+}
+
+/// How a field lies in its record: with decimals a number, else characters.
+fn form_of(is_packed: bool, decimals: &[u8]) -> FieldForm
+    ensures { result ≡ form_of_spec is_packed decimals.now }
+{
+    if are_blank(decimals) {
+        if is_packed {
+            FieldForm::PackedText
+        } else {
+            FieldForm::Alphanumeric
+        }
+    } else {
+        let decimals = small_between(decimals, 0, 9).unwrap_or(0);
+        if is_packed {
+            FieldForm::Packed(decimals)
+        } else {
+            FieldForm::Zoned(decimals)
+        }
+    }
+}
+
+/// What a field line of the I sheet says.
+#[tactic(auto, unfolding(crate::specs::Lines::field_line))]
+pub fn field_line(card: &Card) -> FieldLine
+    ensures value { result ≡ field_line_spec card.now }
+    ensures small { result.to ≤ 9999 }
 {
     FieldLine {
         name: Name::of(columns(card, 53, 58)),
-        from: number_or_zero(columns(card, 44, 47)),
-        to: number_or_zero(columns(card, 48, 51)),
-        form: FieldForm::Alphanumeric,
-        control_level: None,
-        match_level: None,
-        relation: None,
-        indicators: [None; 3],
+        from: number_between(columns(card, 44, 47), 1, 9_999).unwrap_or(1),
+        to: number_between(columns(card, 48, 51), 1, 9_999).unwrap_or(1),
+        form: form_of(card[42] == LETTER_P, columns(card, 52, 52)),
+        control_level: level_behind(LETTER_L, columns(card, 59, 60)),
+        match_level: level_behind(LETTER_M, columns(card, 61, 62)),
+        relation: listed(IndicatorList::Record, columns(card, 63, 64)),
+        indicators: [
+            listed(IndicatorList::Record, columns(card, 65, 66)),
+            listed(IndicatorList::Record, columns(card, 67, 68)),
+            listed(IndicatorList::Record, columns(card, 69, 70)),
+        ],
+    }
+}
+
+/// How long a name in factor 2 may be: CHAIN has a file there.
+#[tactic(auto, unfolding(s3_cards::specs::Codes::ebcdic, s3_cards::specs::Codes::code_page))]
+pub fn longest_name(card: &Card) -> usize
+    ensures value { result ≡ longest_name_spec card.now }
+    ensures few { result ≤ 8 }
+{
+    if columns(card, 28, 32) == CHAIN.as_slice() {
+        8
+    } else {
+        6
+    }
+}
+
+/// The shape that a length and decimals give, none where both are blank; a length without decimals is one of characters.
+pub fn definition(length: &[u8], decimals: &[u8]) -> Option<Shape>
+    ensures { result ≡ definition_of_spec length.now decimals.now }
+{
+    if !are_blank(decimals) {
+        Some(Shape::Numeric(
+            small_between(length, 1, 15).unwrap_or(0),
+            small_between(decimals, 0, 9).unwrap_or(0),
+        ))
+    } else if are_blank(length) {
+        None
+    } else {
+        Some(Shape::Alphanumeric(number_between(length, 1, 256).unwrap_or(0)))
+    }
+}
+
+/// What a C card says.
+#[tactic(auto, unfolding(crate::specs::Lines::calculation_line))]
+fn calculation_line(card: &Card) -> CalculationLine
+    ensures { result ≡ calculation_line_spec card.now }
+{
+    CalculationLine {
+        time: time(columns(card, 7, 8)).unwrap_or(CalculationTime::Detail),
+        conditions: [
+            condition(columns(card, 9, 11)),
+            condition(columns(card, 12, 14)),
+            condition(columns(card, 15, 17)),
+        ],
+        factor1: factor(6, columns(card, 18, 27)),
+        operation: operation(columns(card, 28, 32)),
+        factor2: factor(longest_name(card), columns(card, 33, 42)),
+        result: maybe_name(columns(card, 43, 48)),
+        definition: definition(columns(card, 49, 51), columns(card, 52, 52)),
+        half_adjust: card[52] == LETTER_H,
+        indicators: [
+            listed(IndicatorList::Resulting, columns(card, 54, 55)),
+            listed(IndicatorList::Resulting, columns(card, 56, 57)),
+            listed(IndicatorList::Resulting, columns(card, 58, 59)),
+        ],
     }
 }
 
@@ -124,20 +233,71 @@ fn three_conditions(card: &Card) -> [Option<Condition>; 3]
     ]
 }
 
+fn output_kind_of(code: u8) -> OutputKind
+    ensures { result ≡ output_kind_of_spec code }
+{
+    match code {
+        LETTER_H => OutputKind::Heading,
+        LETTER_T => OutputKind::Total,
+        LETTER_E => OutputKind::Exception,
+        _ => OutputKind::Detail,
+    }
+}
+
+/// Whether a line card adds a record.
+#[tactic(auto, unfolding(crate::specs::Lines::is_addition, s3_cards::specs::Codes::ebcdic, s3_cards::specs::Codes::code_page))]
+pub fn is_addition(card: &Card) -> bool
+    ensures { result ≡ is_addition_spec card.now }
+{
+    columns(card, 16, 18) == ADD.as_slice()
+}
+
+/// A space; with ADD its column has a letter of that word.
+fn space_of(is_addition: bool, columns: &[u8]) -> Option<u8>
+    ensures { result ≡ space_of_spec is_addition columns.now }
+{
+    if is_addition {
+        None
+    } else {
+        small_between(columns, 0, 3)
+    }
+}
+
+#[tactic(auto, unfolding(crate::specs::Lines::spacing_of))]
+fn spacing_of(card: &Card) -> Spacing
+    ensures { result ≡ spacing_of_spec card.now }
+{
+    let is_addition = is_addition(card);
+    Spacing {
+        space_before: space_of(is_addition, columns(card, 17, 17)),
+        space_after: space_of(is_addition, columns(card, 18, 18)),
+        skip_before: small_between(columns(card, 19, 20), 1, 66),
+        skip_after: small_between(columns(card, 21, 22), 1, 66),
+    }
+}
+
+/// What a line card of the O sheet says.
+#[tactic(auto, unfolding(crate::specs::Lines::output_card))]
 fn output_card(card: &Card) -> OutputCard
     ensures { result ≡ output_card_spec card.now }
 {
     OutputCard {
         file: maybe_name(columns(card, 7, 14)),
-        kind: OutputKind::Detail,
-        is_addition: false,
-        spacing: Spacing {
-            space_before: None,
-            space_after: None,
-            skip_before: None,
-            skip_after: None,
-        },
+        kind: output_kind_of(card[14]),
+        is_addition: is_addition(card),
+        spacing: spacing_of(card),
         conditions: three_conditions(card),
+    }
+}
+
+/// How a field is put out: packed, or by an edit code if there is one.
+fn output_form(is_packed: bool, code: Option<EditCode>) -> OutputForm
+    ensures { result ≡ output_form_spec is_packed code }
+{
+    match code {
+        _ if is_packed => OutputForm::Packed,
+        Some(code) => OutputForm::Edited(code),
+        None => OutputForm::Plain,
     }
 }
 
@@ -147,43 +307,54 @@ fn content_of(card: &Card) -> OutputContent
 {
     let field = columns(card, 32, 37);
     if are_blank(field) {
-        OutputContent::Constant(constant(columns(card, 45, 70)).unwrap_or(Constant::EMPTY))
+        OutputContent::Constant(constant(columns(card, 45, 70)).unwrap_or(EMPTY))
     } else {
         OutputContent::Field(FieldOutput {
             name: Name::of(field),
-            form: OutputForm::Plain,
-            blank_after: false,
+            form: output_form(card[43] == LETTER_P, EditCode::of(card[37])),
+            blank_after: card[38] == LETTER_B,
         })
     }
 }
 
+/// What a field card of the O sheet says.
+#[tactic(auto, unfolding(crate::specs::Lines::output_field))]
 fn output_field(card: &Card) -> OutputField
     ensures { result ≡ output_field_spec card.now }
 {
     OutputField {
-        conditions: [None; 3],
+        conditions: three_conditions(card),
         content: content_of(card),
-        end: number_or_zero(columns(card, 40, 43)),
+        end: number_between(columns(card, 40, 43), 1, 9_999).unwrap_or(1),
     }
 }
 
-/// What a card of some kind says. A comment says nothing; no line is made yet of a C card, and of AND and OR lines.
+/// What a card of some kind says. A comment says nothing.
 fn sheet_line(kind: CardKind, card: &Card) -> Option<SheetLine>
     ensures { result ≡ sheet_line_spec kind card.now }
 {
-    match kind {
-        CardKind::Header => Some(SheetLine::Header(maybe_name(columns(card, 75, 80)))),
-        CardKind::File => Some(SheetLine::File(file_line(card))),
-        CardKind::Record => Some(SheetLine::Input(record_line(card))),
-        CardKind::Field => Some(SheetLine::Input(InputLine::Field(field_line(card)))),
-        CardKind::OutputLine => Some(SheetLine::Output(OutputLine::Line(output_card(card)))),
-        CardKind::OutputField => Some(SheetLine::Output(OutputLine::Field(output_field(card)))),
-        CardKind::Comment
-        | CardKind::Unknown
-        | CardKind::RecordGroup
-        | CardKind::Calculation
-        | CardKind::OutputGroup => None,
-    }
+    let line = match kind {
+        CardKind::Comment | CardKind::Unknown => return None,
+        CardKind::Header => SheetLine::Header(maybe_name(columns(card, 75, 80))),
+        CardKind::File => SheetLine::File(file_line(card)),
+        CardKind::Record => SheetLine::Input(InputLine::Record(
+            Name::of(columns(card, 7, 14)),
+            record_indicator(columns(card, 19, 20)),
+            three_codes(card),
+        )),
+        CardKind::RecordAnd => SheetLine::Input(InputLine::And(three_codes(card))),
+        CardKind::RecordOr => SheetLine::Input(InputLine::Or(
+            record_indicator(columns(card, 19, 20)),
+            three_codes(card),
+        )),
+        CardKind::Field => SheetLine::Input(InputLine::Field(field_line(card))),
+        CardKind::Calculation => SheetLine::Calculation(calculation_line(card)),
+        CardKind::OutputLine => SheetLine::Output(OutputLine::Line(output_card(card))),
+        CardKind::OutputAnd => SheetLine::Output(OutputLine::And(three_conditions(card))),
+        CardKind::OutputOr => SheetLine::Output(OutputLine::Or(three_conditions(card))),
+        CardKind::OutputField => SheetLine::Output(OutputLine::Field(output_field(card))),
+    };
+    Some(line)
 }
 
 /// The line of the card with this number.

@@ -2,14 +2,14 @@
 
 ghost use Rattle.std.specs.Prelude.{◌≡◌, ◌<◌, ◌^◌, nat_lt, ◌&&◌, ◌||◌, ◌==◌, length, OnOk, IfOk};
 ghost use Rattle.s3_sheets.specs.Columns.{columns as columns_spec, are_blank as are_blank_spec};
-ghost use Rattle.s3_sheets.specs.Sheets.{file_of as file_of_spec, field_of as field_of_spec, length_behind as length_behind_spec, line_length as line_length_spec, has_code_past as has_code_past_spec, names_position_past as position_past_spec};
-ghost use Rattle.s3_sheets.specs.Progress.{is_misplaced_behind, is_further, lacks_its_file, is_outside_behind, length_named, passes_limit as passes_limit_spec, files_with, fields_with};
+ghost use Rattle.s3_sheets.specs.Sheets.{file_of as file_of_spec, field_of as field_of_spec, result_defined as result_defined_spec, exceeds as exceeds_spec, length_behind as length_behind_spec, line_length as line_length_spec, has_code_past as has_code_past_spec, names_position_past as position_past_spec};
+ghost use Rattle.s3_sheets.specs.Inner.Progress.{is_misplaced_behind, lacks_its_file, is_outside_behind, length_named, passes_limit as passes_limit_spec, files_with, fields_with};
 
 use crate::columns::{are_blank, columns, number};
 use crate::faults::{Faults, faults_of};
 use crate::kind::{CardKind, kind_of};
 use crate::known::{KnownFields, KnownFiles};
-use crate::rules::exceeds;
+use crate::lines::maybe_name;
 use s3_cards::{Card, Name};
 use std::alloc::{AllocError, Global};
 use std::marker::Model;
@@ -27,8 +27,6 @@ pub struct Standing {
     pub faults: Faults,
     /// Its sheet is none, or out of order.
     pub is_misplaced: bool,
-    /// It is a record line behind another one.
-    pub is_further_record: bool,
     /// It is an output line without a file, and none stands before it.
     pub lacks_file: bool,
     /// A position on it lies outside its record.
@@ -41,7 +39,6 @@ pub struct Standing {
 #[derive(Drop)]
 pub struct Progress {
     latest_sheet: u8,
-    has_record: bool,
     has_output_line: bool,
     files: KnownFiles,
     /// The record length that field lines go by, where it is known.
@@ -52,13 +49,12 @@ pub struct Progress {
 }
 
 impl Model for Progress {
-    ghost use Rattle.s3_sheets.specs.Progress.{Kept};
+    ghost use Rattle.s3_sheets.specs.Inner.Progress.{Kept};
 
     ghost Value = { Kept };
 
     ghost view = { λ p. record {
       latest_sheet = p.latest_sheet;
-      has_record = p.has_record;
       has_output_line = p.has_output_line;
       files = p.files;
       input_length = p.input_length;
@@ -68,7 +64,7 @@ impl Model for Progress {
 }
 
 impl Progress {
-    ghost use Rattle.s3_sheets.specs.Progress.{nothing_kept, standing_behind, kept_behind};
+    ghost use Rattle.s3_sheets.specs.Inner.Progress.{nothing_kept, standing_behind, kept_behind};
 
     /// Before the first card.
     pub fn new(alloc: Global) -> Progress
@@ -76,7 +72,6 @@ impl Progress {
     {
         Progress {
             latest_sheet: 0,
-            has_record: false,
             has_output_line: false,
             files: KnownFiles::new(alloc),
             input_length: None,
@@ -86,25 +81,29 @@ impl Progress {
     }
 
     /// Takes one more card, and answers what its columns and the cards before say of it.
-    #[tactic(auto, unfolding(crate::specs::Progress::standing_behind, crate::specs::Progress::kept_behind, crate::specs::Progress::is_at_fault_behind, crate::specs::Progress::files_with, crate::specs::Progress::fields_with))]
+    #[tactic(auto, unfolding(crate::specs::Inner::Progress::standing_behind, crate::specs::Inner::Progress::kept_behind, crate::specs::Inner::Progress::is_at_fault_behind, crate::specs::Inner::Progress::files_with, crate::specs::Inner::Progress::fields_with))]
     pub fn enter(&mut self, card: &Card) -> Result<Standing, AllocError>
         ensures standing { IfOk result (λ standing. standing ≡ standing_behind self.old card.now) }
         ensures kept { OnOk result (self.new ≡ kept_behind self.old card.now) }
     {
         let kind = kind_of(card);
         let is_misplaced = is_misplaced(kind, self.latest_sheet);
-        let is_further_record = self.is_further_record(kind);
         let lacks_file = self.lacks_file(kind, card);
         let named = self.length_named(card);
         let is_outside = self.is_outside(kind, card, named);
         let faults = faults_of(card);
-        let is_at_fault = is_misplaced || is_further_record || lacks_file || faults.any();
+        let is_at_fault = is_misplaced || lacks_file || faults.any();
         let known_files = self.files.len();
         self.files.add(file_of(kind, is_at_fault, card))?;
         let known_fields = self.fields.len();
         self.fields
             .add(field_of(kind, is_at_fault || is_outside, card))?;
-        self.input_length = length_behind(kind.is_record(), is_at_fault, named, self.input_length);
+        self.input_length = length_behind(
+            kind.is_record(),
+            is_at_fault || has_code_past(card, named),
+            named,
+            self.input_length,
+        );
         self.output_length = length_behind(
             kind.is_output_line(),
             is_at_fault,
@@ -112,23 +111,15 @@ impl Progress {
             self.output_length,
         );
         self.latest_sheet = self.latest_sheet.max(kind.sheet());
-        self.has_record = self.has_record || kind.is_record();
         self.has_output_line = self.has_output_line || kind.is_output_line();
         Ok(Standing {
             faults,
             is_misplaced,
-            is_further_record,
             lacks_file,
             is_outside,
             is_too_many: passes_limit(MOST_FILES, known_files, self.files.len())
                 || passes_limit(MOST_FIELDS, known_fields, self.fields.len()),
         })
-    }
-
-    fn is_further_record(&self, kind: CardKind) -> bool
-        ensures { result ≡ is_further self.now kind }
-    {
-        kind.is_record() && self.has_record
     }
 
     fn lacks_file(&self, kind: CardKind, card: &Card) -> bool
@@ -145,14 +136,14 @@ impl Progress {
     }
 
     /// Whether a position on a card lies outside its record; `named` is the record length of the file that the card names.
-    #[tactic(auto, unfolding(crate::specs::Progress::is_outside_behind))]
+    #[tactic(auto, unfolding(crate::specs::Inner::Progress::is_outside_behind))]
     fn is_outside(&self, kind: CardKind, card: &Card, named: Option<u16>) -> bool
         requires { named ≡ length_named self.now card.now }
         ensures { result ≡ is_outside_behind self.now kind card.now }
     {
         let length = match kind {
             CardKind::Record => named,
-            CardKind::RecordGroup | CardKind::Field => self.input_length,
+            CardKind::RecordAnd | CardKind::RecordOr | CardKind::Field => self.input_length,
             _ => self.output_length,
         };
         names_position_past(kind, card, length)
@@ -166,6 +157,16 @@ fn is_misplaced(kind: CardKind, latest_sheet: u8) -> bool
         CardKind::Comment => false,
         CardKind::Unknown => true,
         _ => kind.sheet() < latest_sheet || (kind.sheet() == 1 && latest_sheet == 1),
+    }
+}
+
+/// Whether a number is known to be more than another one.
+fn exceeds(number: Option<u16>, most: Option<u16>) -> bool
+    ensures { result ≡ exceeds_spec number most }
+{
+    match (number, most) {
+        (Some(number), Some(most)) => most < number,
+        _ => false,
     }
 }
 
@@ -183,7 +184,7 @@ fn names_position_past(kind: CardKind, card: &Card, length: Option<u16>) -> bool
     ensures { result ≡ position_past_spec kind card.now length }
 {
     match kind {
-        CardKind::Record | CardKind::RecordGroup => has_code_past(card, length),
+        CardKind::Record | CardKind::RecordAnd | CardKind::RecordOr => has_code_past(card, length),
         CardKind::Field => exceeds(number(columns(card, 48, 51)), length),
         CardKind::OutputField => exceeds(number(columns(card, 40, 43)), length),
         _ => false,
@@ -203,12 +204,24 @@ fn file_of(kind: CardKind, is_at_fault: bool, card: &Card) -> Option<(Name, u16)
     }
 }
 
+/// The field that the result of a C card is, if the card has an operation and gives it a length.
+fn result_defined(card: &Card) -> Option<Name>
+    ensures { result ≡ result_defined_spec card.now }
+{
+    if are_blank(columns(card, 28, 32)) || are_blank(columns(card, 49, 51)) {
+        None
+    } else {
+        maybe_name(columns(card, 43, 48))
+    }
+}
+
 /// The field that a card defines; a card at fault defines none.
 fn field_of(kind: CardKind, is_at_fault: bool, card: &Card) -> Option<Name>
     ensures { result ≡ field_of_spec kind is_at_fault card.now }
 {
     match (kind, is_at_fault) {
         (CardKind::Field, false) => Some(Name::of(columns(card, 53, 58))),
+        (CardKind::Calculation, false) => result_defined(card),
         _ => None,
     }
 }

@@ -5,11 +5,12 @@ ghost use Rattle.std.specs.Option.{option_to_list};
 ghost use Rattle.s3_sheets.specs.Lines.{line_of as line_of_spec};
 ghost use Rattle.s3_sheets.specs.Sheets.{card_holds, card_diagnostics, numbers as numbers_spec, Reads};
 
-use crate::diagnostic::{Diagnostic, SheetFault};
+use crate::fault::SheetFault;
 use crate::lines::line_of;
 use crate::progress::{Progress, Standing};
-use crate::sheet::Line;
 use s3_cards::{Card, Deck};
+use s3_lines::Diagnostic;
+use s3_lines::sheet::Line;
 use std::alloc::{AllocError, Global};
 
 /// The diagnostics of single cards.
@@ -22,7 +23,7 @@ fn is_diagnosed(standing: Standing, number: u8) -> bool
 {
     match number {
         1 => standing.is_misplaced,
-        2 => standing.faults.entry || standing.is_further_record,
+        2 => standing.faults.entry,
         3 => standing.faults.name || standing.lacks_file,
         4 => standing.faults.number || standing.is_outside,
         _ => standing.is_too_many,
@@ -78,8 +79,10 @@ fn read_cards(alloc: Global, cards: &[Card], from: usize) -> Result<Vec<Line>, S
 /// The typed lines of the cards of a deck from place `from` up to but without place `to`, or their diagnostics.
 ///
 /// A diagnostic names its card by its number in the deck, from 1. They are those that show on single cards: 1 no sheet, or out of
-/// order; 2 an entry that isn't allowed, or isn't built yet; 3 a name or constant that is ill formed; 4 a number that is ill formed
-/// or out of its range, or a position outside its record; 13 more than 20 files or 999 fields.
+/// order; 2 an entry that isn't allowed; 3 a name or literal that is missing or ill formed; 4 a number that is missing, ill formed or
+/// out of its range, or a position outside its record; 13 more than 20 files or 999 fields.
+///
+/// The lines are in the order of the sheets and of their cards, each entry is in its range, and each position within its record.
 pub fn read_sheets(
     alloc: Global,
     deck: &Deck,

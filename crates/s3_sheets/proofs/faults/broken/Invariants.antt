@@ -1,6 +1,6 @@
 use Rattle.std.specs.Prelude.{◌≡◌, take, map}
-use Rattle.s3_sheets.specs.RuleViews.{rule_view}
-use Rattle.s3_sheets.specs.Sheets.{broken_by}
+use Rattle.s3_sheets.specs.Inner.RuleViews.{rule_view}
+use Rattle.s3_sheets.specs.Rules.{broken_by}
 use Rattle.s3_sheets.proofs.faults.broken.Given as goal
 
 abbrev pub invariant-loop-rule : goal.invariant-loop-rule

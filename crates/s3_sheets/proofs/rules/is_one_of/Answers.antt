@@ -1,6 +1,6 @@
 use Rattle.std.proofs.Common.{◌≡◌, ◌∙◌, ℕ, List, false, length, take, sym, arith, subst, Bor}
 use Rattle.std.specs.List.{list_any}
-use Rattle.s3_sheets.specs.Rules.{same_codes}
+use Rattle.s3_sheets.specs.Columns.{same_codes}
 use Rattle.s3_sheets.proofs.RuleLemmas.{found_at, none_found}
 use Rattle.s3_sheets.proofs.rules.is_one_of.Goals as goal
 

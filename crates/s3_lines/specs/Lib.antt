@@ -1,0 +1,5 @@
+pub mod Ascending
+pub mod Blanks
+pub mod Indicators
+pub mod Ranges
+pub mod Reserved

@@ -1,5 +1,0 @@
-use Rattle.s3_sheets.proofs.NumberLemmas.{NumberSoFar}
-use Rattle.s3_sheets.proofs.columns.number_of_digits.Given as goal
-
-abbrev pub invariant-loop-code : goal.invariant-loop-code
-invariant-loop-code l = NumberSoFar l.digits l.code-index l.number

@@ -1,0 +1,27 @@
+//! Why the sheets of a source weren't read.
+
+use s3_lines::Diagnostic;
+use std::alloc::AllocError;
+use thiserror::Error;
+
+/// Why the sheets of a source weren't read.
+#[derive(Debug, Drop, Error)]
+pub enum SheetFault {
+    /// Memory ran out.
+    #[error("out of memory")]
+    NoMemory,
+    /// By card and then number; at least one.
+    #[error("a source with diagnostics")]
+    Diagnostics(Vec<Diagnostic>),
+}
+
+impl From<AllocError> for SheetFault {
+    ghost use Rattle.std.specs.Prelude.{◌≡◌};
+    ghost use Rattle.s3_sheets.specs.declared.fault.SheetFault.TheVariants.{NoMemory};
+
+    ghost from_gives = { λ _ e. e ≡ NoMemory };
+
+    fn from(_: AllocError) -> Self {
+        SheetFault::NoMemory
+    }
+}
