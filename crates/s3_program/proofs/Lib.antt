@@ -1,0 +1,11 @@
+pub mod PartsLemmas
+pub mod TableLemmas
+pub mod LineLemmas
+pub mod Translated
+pub mod SlotLemmas
+pub mod StartLemmas
+pub mod SoundLemmas
+pub mod Worked
+pub mod StartedLemmas
+pub mod GivenLemmas
+pub mod CallLemmas

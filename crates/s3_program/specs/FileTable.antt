@@ -1,0 +1,132 @@
+-- The table of files: what a program may do with a file on a device.
+use Rattle.std.specs.Prelude.{Bool, true, false, not, ◌==◌, ◌&&◌, ◌||◌, Option, Some, None, is_some, if◌then◌else◌}
+use Rattle.s3_lines.specs.declared.sheet.FileUse.{FileUse}
+use Rattle.s3_lines.specs.declared.sheet.FileUse.TheVariants.{Input, Output, Update}
+use Rattle.s3_lines.specs.declared.sheet.Designation.{Designation}
+use Rattle.s3_lines.specs.declared.sheet.Designation.TheVariants.{Primary, Secondary, Chained}
+use Rattle.s3_lines.specs.declared.sheet.Device.{Device}
+use Rattle.s3_lines.specs.declared.sheet.Device.TheVariants.{CardReader, Printer, Disk}
+use Rattle.s3_lines.specs.declared.sheet.FileLine.{FileLine}
+use Rattle.s3_lines.specs.declared.sheet.Spacing.{Spacing}
+
+abbrev pub is_input_use : FileUse → Bool
+is_input_use Input = true
+is_input_use Output = false
+is_input_use Update = false
+
+abbrev pub is_output_use : FileUse → Bool
+is_output_use Output = true
+is_output_use Input = false
+is_output_use Update = false
+
+abbrev pub is_primary : Option Designation → Bool
+is_primary (Some Primary) = true
+is_primary (Some Secondary) = false
+is_primary (Some Chained) = false
+is_primary None = false
+
+-- P or S
+abbrev pub is_by_cycle : Option Designation → Bool
+is_by_cycle (Some Primary) = true
+is_by_cycle (Some Secondary) = true
+is_by_cycle (Some Chained) = false
+is_by_cycle None = false
+
+-- C
+abbrev pub is_chained : Option Designation → Bool
+is_chained (Some Chained) = true
+is_chained (Some Primary) = false
+is_chained (Some Secondary) = false
+is_chained None = false
+
+abbrev pub is_disk : Device → Bool
+is_disk Disk = true
+is_disk CardReader = false
+is_disk Printer = false
+
+abbrev pub is_printer : Device → Bool
+is_printer Printer = true
+is_printer CardReader = false
+is_printer Disk = false
+
+-- columns 28, 31, 32 and 66 blank
+abbrev pub is_plain : FileLine → Bool
+is_plain file = not file.is_random && not file.is_keyed && not file.is_indexed && not file.has_additions
+
+-- ---- the lines of the table
+-- type I, P or S
+abbrev pub is_read_from_cards : FileLine → Bool
+is_read_from_cards file = is_input_use file.usage && is_by_cycle file.designation && is_plain file
+
+-- type O, no designation
+abbrev pub is_printed : FileLine → Bool
+is_printed file = is_output_use file.usage && not (is_some file.designation) && is_plain file
+
+-- type I or U, P or S, in order or by key order; additions or none
+abbrev pub is_read_in_order : FileLine → Bool
+is_read_in_order file = not (is_output_use file.usage) && is_by_cycle file.designation && not file.is_random
+
+-- type I or U, C, R; additions to an indexed file alone
+abbrev pub is_read_by_chain : FileLine → Bool
+is_read_by_chain file =
+    not (is_output_use file.usage) && is_chained file.designation && file.is_random && (file.is_indexed || not file.has_additions)
+
+-- type O, no designation: loaded, or added to
+abbrev pub is_loaded : FileLine → Bool
+is_loaded file = is_output_use file.usage && not (is_some file.designation) && not file.is_random
+
+-- type O, C, R, without an index and additions
+abbrev pub is_direct_load : FileLine → Bool
+is_direct_load file =
+    is_output_use file.usage && is_chained file.designation && file.is_random && not file.is_keyed && not file.is_indexed && not file.has_additions
+
+-- A and I stand together in columns 31 and 32
+abbrev pub is_indexed_as_keyed : FileLine → Bool
+is_indexed_as_keyed file = if file.is_keyed then file.is_indexed else not file.is_indexed
+
+-- on disk
+abbrev pub is_disk_file : FileLine → Bool
+is_disk_file file =
+    is_indexed_as_keyed file
+    && (is_read_in_order file || is_read_by_chain file || is_loaded file || is_direct_load file)
+
+abbrev pub is_in_table_on : Device → FileLine → Bool
+is_in_table_on CardReader file = is_read_from_cards file
+is_in_table_on Printer file = is_printed file
+is_in_table_on Disk file = is_disk_file file
+
+-- a combination of the table
+abbrev pub is_in_table : FileLine → Bool
+is_in_table file = is_in_table_on file.device file
+
+abbrev pub is_card_file_on : Device → FileLine → Bool
+is_card_file_on CardReader file = is_read_from_cards file
+is_card_file_on Printer file = false
+is_card_file_on Disk file = false
+
+abbrev pub is_card_file : FileLine → Bool
+is_card_file file = is_card_file_on file.device file
+
+abbrev pub is_print_file : FileLine → Bool
+is_print_file file = is_printer file.device && is_printed file
+
+-- ---- what the table makes of the lines of a file
+-- a record line: not for output, but for a direct load
+abbrev pub allows_records : FileLine → Bool
+allows_records file = not (is_output_use file.usage) || (is_disk file.device && is_direct_load file)
+
+-- ADD is needed for type O with A, allowed for I and U with A, and refused elsewhere; without ADD nothing is put out to type I
+abbrev pub is_addition_allowed : FileUse → (has_additions is_addition : Bool) → Bool
+is_addition_allowed Output has_additions is_addition = if has_additions then is_addition else not is_addition
+is_addition_allowed Input has_additions is_addition = has_additions && is_addition
+is_addition_allowed Update has_additions is_addition = has_additions || not is_addition
+
+-- of a file that isn't in the table only type I is judged
+abbrev pub allows_output : FileLine → (is_addition : Bool) → Bool
+allows_output file is_addition =
+    if is_in_table file then is_addition_allowed file.usage file.has_additions is_addition else not (is_input_use file.usage)
+
+-- spaces and skips, on the print file alone
+abbrev pub has_spacing : Spacing → Bool
+has_spacing spacing =
+    is_some spacing.space_before || is_some spacing.space_after || is_some spacing.skip_before || is_some spacing.skip_after

@@ -1,0 +1,10 @@
+//! Calls among subroutines.
+
+/// A call of a subroutine, where a subroutine is known by the place of its BEGSR.
+#[derive(Clone, Copy, PartialEq, Eq, Hash)]
+pub struct Call {
+    /// The subroutine in which its EXSR is, none outside of all.
+    pub caller: Option<usize>,
+    /// The subroutine that it calls.
+    pub callee: usize,
+}

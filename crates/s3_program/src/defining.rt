@@ -1,0 +1,47 @@
+//! Finds what lines define.
+
+ghost use Rattle.std.specs.Prelude.{◌≡◌, IfOk, OnOk};
+ghost use Rattle.std.specs.Option.{option_to_list};
+ghost use Rattle.s3_meaning.specs.Source.{field_shape, width};
+ghost use Rattle.s3_program.specs.Given as spec;
+
+use indexmap::IndexMap;
+use s3_cards::Name;
+use s3_lines::sheet::{FileLine, Line, SheetLine};
+use std::alloc::{AllocError, Global};
+
+/// Adds what a name is given to, if the name is new.
+pub fn note<T: Copy>(
+    table: &mut IndexMap<Name, T>,
+    name: Name,
+    meaning: T,
+) -> Result<(), AllocError>
+    ensures { OnOk result (table.new.entries ≡ spec.noted table.old.entries (name, meaning)) }
+{
+    if !table.contains_key(&name) {
+        table.insert(name, meaning)?;
+    }
+    Ok(())
+}
+
+/// Adds the file of a line.
+#[tactic(auto, unfolding(crate::specs::Given::all_noted))]
+fn note_file(table: &mut IndexMap<Name, FileLine>, line: &Line) -> Result<(), AllocError>
+    ensures { OnOk result (table.new.entries ≡ spec.all_noted table.old.entries (option_to_list (spec.file_given line.now))) }
+{
+    if let SheetLine::File(file) = line.sheet {
+        note(table, file.name, file)?;
+    }
+    Ok(())
+}
+
+/// The files that lines define, each by its first line.
+pub fn files_defined(alloc: Global, lines: &[Line]) -> Result<IndexMap<Name, FileLine>, AllocError>
+    ensures { IfOk result (λ table. table.entries ≡ spec.firsts (spec.files_given lines.now)) }
+{
+    let mut table = IndexMap::new(alloc);
+    for line in lines {
+        note_file(&mut table, line)?;
+    }
+    Ok(table)
+}

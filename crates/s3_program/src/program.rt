@@ -1,0 +1,133 @@
+//! A compiled program: the lines of its source, with slots for names.
+ghost use Rattle.std.specs.Prelude.{IsTrue};
+ghost use Rattle.s3_program.specs.Starts.{AreStarts};
+ghost use Rattle.s3_program.specs.Valid.{is_valid};
+
+use crate::copied::copied;
+use crate::starts::Starts;
+use s3_cards::Name;
+use s3_lines::sheet::{CalculationLine, FileLine, InputLine, OutputLine, Shape};
+use std::alloc::{AllocError, Global};
+
+/// What a name is given to.
+#[derive(Clone, Copy)]
+pub enum Kind {
+    /// A file.
+    File,
+    /// A field.
+    Field,
+    /// A tag.
+    Tag,
+    /// A subroutine.
+    Subroutine,
+}
+
+/// What a line names, by its slot among all of its kind.
+#[derive(Clone, Copy)]
+pub enum Reference {
+    /// A file.
+    File(usize),
+    /// A field.
+    Field(usize),
+    /// A tag.
+    Tag(usize),
+    /// A subroutine.
+    Subroutine(usize),
+}
+
+/// Where a tag is.
+#[derive(Clone, Copy)]
+pub struct TagPlace {
+    /// The place of its TAG among the calculation lines.
+    pub place: usize,
+    /// Its section: 0 is detail, 1 total, and a subroutine has 2 more than its slot.
+    pub section: usize,
+}
+
+/// Where a subroutine is.
+#[derive(Clone, Copy)]
+pub struct SubroutinePlace {
+    /// The place of its BEGSR among the calculation lines.
+    pub place: usize,
+}
+
+/// What a name is given to, with its name.
+#[derive(Clone, Copy)]
+pub struct Defined<T> {
+    /// No other one of its kind has it.
+    pub name: Name,
+    /// What bears it.
+    pub meaning: T,
+}
+
+/// What is known of a name.
+#[derive(Clone, Copy)]
+pub enum Meaning {
+    /// Nothing bears it.
+    Undefined,
+    /// It is that of a file.
+    File(FileLine),
+    /// It is that of a field, with its name.
+    Field(Defined<Shape>),
+    /// It is that of a tag.
+    Tag(TagPlace),
+    /// It is that of a subroutine.
+    Subroutine(SubroutinePlace),
+}
+
+/// A program: the lines of a source, with slots in place of names.
+#[derive(Drop)]
+pub struct Program {
+    /// The name under which it goes to the library.
+    pub name: Name,
+    /// The files, by slot.
+    pub files: Vec<FileLine>,
+    /// The fields, by slot.
+    pub fields: Vec<Defined<Shape>>,
+    /// The tags, by slot.
+    pub tags: Vec<Defined<TagPlace>>,
+    /// The subroutines, by slot.
+    pub subroutines: Vec<Defined<SubroutinePlace>>,
+    /// The lines of the I sheet.
+    pub inputs: Vec<InputLine<Reference>>,
+    /// The lines of the C sheet.
+    pub calculations: Vec<CalculationLine<Reference>>,
+    /// The lines of the O sheet.
+    pub outputs: Vec<OutputLine<Reference>>,
+    /// Where its record types, output lines and sections start.
+    pub starts: Starts,
+    pub ghost starting: { AreStarts starts files.items inputs.items calculations.items outputs.items },
+    pub ghost valid: { IsTrue (is_valid (record {
+      files = files.items;
+      fields = fields.items;
+      tags = tags.items;
+      subroutines = subroutines.items;
+      inputs = inputs.items;
+      calculations = calculations.items;
+      outputs = outputs.items;
+    })) },
+}
+
+impl Program {
+    ghost use Rattle.std.specs.Prelude.{◌≡◌, IfOk};
+    ghost use Rattle.s3_program.specs.Stands.{parts_of};
+
+    /// The same program; refused only where memory runs out.
+    #[tactic(auto, using(crate::proofs::PartsLemmas::same_parts, crate::proofs::PartsLemmas::still_valid))]
+    pub fn copy(&self, alloc: Global) -> Result<Program, AllocError>
+        ensures parts { IfOk result (λ copy. parts_of copy ≡ parts_of self.now) }
+        ensures name { IfOk result (λ copy. copy.name ≡ self.now.name) }
+    {
+        Ok(Program {
+            name: self.name,
+            files: copied(alloc, &self.files)?,
+            fields: copied(alloc, &self.fields)?,
+            tags: copied(alloc, &self.tags)?,
+            subroutines: copied(alloc, &self.subroutines)?,
+            inputs: copied(alloc, &self.inputs)?,
+            calculations: copied(alloc, &self.calculations)?,
+            outputs: copied(alloc, &self.outputs)?,
+            starts: self.starts.copy(alloc)?,
+        })
+    }
+}

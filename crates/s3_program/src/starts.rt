@@ -1,0 +1,85 @@
+//! Where things start among the lines of a program, so that a run looks for none of them.
+
+use crate::copied::{copied, copied_all};
+use s3_lines::sheet::OutputKind;
+use std::alloc::{AllocError, Global};
+
+/// Where a record type stands among the I lines: at a record line, or at an OR line that goes on with one.
+#[derive(Clone, Copy)]
+pub struct TypeStart {
+    /// The slot of its file.
+    pub file: usize,
+    /// The place of its line, behind which its AND lines stand.
+    pub place: usize,
+    /// The place behind the AND and OR lines of its group, where the fields begin.
+    pub fields: usize,
+}
+
+/// Where an output line stands among the O lines.
+#[derive(Clone, Copy)]
+pub struct OutputStart {
+    /// The slot of its file, which a line without a name has from the line before.
+    pub file: usize,
+    /// When it is put out.
+    pub kind: OutputKind,
+    /// The place of its card, behind which its AND and OR cards and its fields stand.
+    pub place: usize,
+}
+
+/// Output lines that are put out together.
+#[derive(Clone, Copy)]
+pub enum Walk {
+    /// Headings and details.
+    Beginning,
+    /// Totals.
+    Totals,
+    /// What an EXCPT puts out.
+    Exceptions,
+    /// Headings, details and totals, at overflow.
+    Overflow,
+}
+
+/// Where the sections of the C lines begin: detail lines at 0.
+#[derive(Clone, Copy)]
+pub struct Sections {
+    /// The place of the first total line, or that of the first subroutine.
+    pub totals: usize,
+    /// The place of the first subroutine, or the count of lines.
+    pub subroutines: usize,
+}
+
+/// Where record types, output lines and sections start.
+#[derive(Drop)]
+pub struct Starts {
+    /// The record types of each file, by its slot, in order of the I sheet.
+    pub types: Vec<Vec<TypeStart>>,
+    /// Headings and details, in order of the O sheet.
+    pub beginning: Vec<OutputStart>,
+    /// Totals, in that order.
+    pub totals: Vec<OutputStart>,
+    /// What an EXCPT puts out, in that order.
+    pub exceptions: Vec<OutputStart>,
+    /// Headings, details and totals, in that order.
+    pub overflow: Vec<OutputStart>,
+    /// The sections of the C lines.
+    pub sections: Sections,
+}
+
+impl Starts {
+    ghost use Rattle.std.specs.Prelude.{IfOk};
+    ghost use Rattle.s3_program.specs.Starts.{SameStarts};
+
+    /// The same starts; refused only where memory runs out.
+    pub fn copy(&self, alloc: Global) -> Result<Starts, AllocError>
+        ensures { IfOk result (λ copy. SameStarts copy self.now) }
+    {
+        Ok(Starts {
+            types: copied_all(alloc, &self.types)?,
+            beginning: copied(alloc, &self.beginning)?,
+            totals: copied(alloc, &self.totals)?,
+            exceptions: copied(alloc, &self.exceptions)?,
+            overflow: copied(alloc, &self.overflow)?,
+            sections: self.sections,
+        })
+    }
+}
