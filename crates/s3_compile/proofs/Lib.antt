@@ -1,12 +1,11 @@
-pub mod DefinitionLemmas
-pub mod Pairs
-pub mod DiagnosticLemmas
-pub mod ProgramLemmas
-pub mod Accepted
-pub mod Slots
-pub mod Files
-pub mod Moves
-pub mod Lines
-pub mod Shapes
-pub mod Translated
-pub mod Ordering
+mod NoteLemmas
+mod NameLemmas
+mod Labelling
+mod Righting
+mod Meanings
+mod Ranging
+mod CallWalks
+mod Knowing
+mod Clearing
+mod Defining
+mod Accepting

@@ -1,10 +1,2 @@
-pub mod Definitions
-pub mod Before
-pub mod Part
-pub mod Conditions
-pub mod Diagnostics
-pub mod Valid
-pub mod Stands
-pub mod Order
-pub mod Translation
 pub mod Compiles
+pub mod Inner

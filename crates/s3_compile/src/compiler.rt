@@ -1,0 +1,71 @@
+//! Lines of sheets become a program, or show their diagnostics.
+
+ghost use Rattle.std.specs.Prelude.{◌≡◌, IsTrue};
+ghost use Rattle.s3_lines.specs.Ranges.{are_read};
+ghost use Rattle.s3_diagnose.specs.Lookups.{known_of};
+ghost use Rattle.s3_diagnose.specs.Inner.Shown.{known_shown};
+ghost use Rattle.s3_compile.specs.Compiles.{Compiles};
+ghost use Rattle.s3_compile.specs.Inner.Defines.{Defines};
+
+use crate::known::known_tables;
+use s3_diagnose::compile_diagnostics;
+use s3_diagnose::tables::KnownTables;
+use s3_lines::Diagnostic;
+use s3_lines::sheet::Line;
+use s3_program::program::Program;
+use s3_program::translate;
+use std::alloc::{AllocError, Global};
+use thiserror::Error;
+
+/// Why lines don't become a program.
+#[derive(Debug, Drop, Error)]
+pub enum CompileFault {
+    /// Memory ran out; nothing is known of the source.
+    #[error("out of memory")]
+    NoMemory,
+    /// By card and then number; at least one.
+    #[error("a source with diagnostics")]
+    Diagnostics(Vec<Diagnostic>),
+}
+
+impl From<AllocError> for CompileFault {
+    ghost use Rattle.std.specs.Prelude.{◌≡◌};
+    ghost use Rattle.s3_compile.specs.declared.compiler.CompileFault.TheVariants.{NoMemory};
+
+    ghost from_gives = { λ _ e. e ≡ NoMemory };
+
+    fn from(_: AllocError) -> Self {
+        CompileFault::NoMemory
+    }
+}
+
+/// The program of lines whose definitions are known, or their diagnostics.
+fn compile_known(
+    alloc: Global,
+    known: &KnownTables,
+    lines: &[Line],
+    run_card: u16,
+) -> Result<Program, CompileFault>
+    requires shown { known_shown known.now ≡ known_of lines.now }
+    requires defines { Defines known.now.definitions lines.now }
+    requires read { IsTrue (are_read lines.now) }
+    ensures { Compiles lines.now run_card result }
+{
+    let found = compile_diagnostics(alloc, known, lines, run_card)?;
+    if found.is_empty() {
+        Ok(translate(alloc, &known.definitions, lines)?)
+    } else {
+        Err(CompileFault::Diagnostics(found))
+    }
+}
+
+/// The program that stands for the source of these lines, under the name of its H card or RPGOBJ; or its diagnostics 5 to
+/// 12, by card and then number, where one on the whole program bears the number of the RUN card. The lines are those of
+/// cards without a fault of their own, as `read_sheets` gives them.
+pub fn compile(alloc: Global, lines: &[Line], run_card: u16) -> Result<Program, CompileFault>
+    requires read { IsTrue (are_read lines.now) }
+    ensures { Compiles lines.now run_card result }
+{
+    let known = known_tables(alloc, lines)?;
+    compile_known(alloc, &known, lines, run_card)
+}

@@ -1,0 +1,4 @@
+mod Placed
+pub mod Walks
+mod Sampled
+mod Ordering
