@@ -15,7 +15,7 @@ use Rattle.s3_bureau.specs.declared.bureau.Bureau.{Bureau}
 use Rattle.s3_bureau.specs.Entries.{with_action, own}
 use Rattle.s3_bureau.specs.Held.{HoldsFor}
 use Rattle.s3_bureau.specs.Script.{entries_by}
-use Rattle.s3_bureau.specs.Underway.{Performs}
+use Rattle.s3_bureau.specs.Inner.Underway.{Performs}
 
 with_action-append : (level from : LevelId) (action : Action) (xs ys : List Action) → with_action level from action (xs ++ ys) ≡ with_action level from action xs ++ ys
 with_action-append One One action xs ys = refl

@@ -4,6 +4,7 @@ use Rattle.std.proofs.lemmas.List.{take_all}
 use Rattle.s3_cards.specs.declared.levels.LevelId.{LevelId}
 use Rattle.s3_cards.specs.declared.levels.LevelId.TheVariants.{One, Two}
 use Rattle.s3_cards.specs.Deck.{deck_of, cards_of as deck_cards}
+use Rattle.s3_level.specs.declared.action.Action.{Action}
 use Rattle.s3_level.specs.World.{World, at_start}
 use Rattle.s3_level.specs.Solo.{solo, closed}
 use Rattle.s3_bureau.specs.declared.entry.Entry.{Entry}
@@ -12,7 +13,7 @@ use Rattle.s3_bureau.specs.Entries.{own}
 use Rattle.s3_bureau.specs.Held.{HoldsFor}
 use Rattle.s3_bureau.specs.Script.{entries_of}
 use Rattle.s3_bureau.specs.Runs.{Texts, RunTexts, texts_of, run_alone, level_texts, entries_texts, texts_after}
-use Rattle.s3_bureau.specs.Underway.{ReadsDeck, Performs, drained_texts}
+use Rattle.s3_bureau.specs.Inner.Underway.{ReadsDeck, Performs, HasTexts, drained_texts}
 
 -- all lines of a closed world were drained
 drained_closed : (refusal : Option (ℕ × ℕ)) (w : World) → drained_texts refusal (closed w) ≡ texts_of refusal (closed w)
@@ -23,30 +24,35 @@ unfolding deck_cards
 empty_deck = refl
 
 -- the texts of a level with this deck
-level_given : (deck : List ℕ) (cards : List (List ℕ)) (refusal : Option (ℕ × ℕ)) (level : LevelId) (entries : List Entry) (opened performed finished : Bureau) (texts : Texts)
-    → ReadsDeck deck cards refusal → HoldsFor level opened (at_start cards) → Performs entries opened performed
-    → ((level : LevelId) (w : World) → HoldsFor level performed w → HoldsFor level finished (closed w))
-    → ((w : World) → HoldsFor level finished w → texts ≡ drained_texts refusal w)
-    → texts ≡ level_texts deck (own level entries)
+level_given : (deck : List ℕ) (cards : List (List ℕ)) (refusal : Option (ℕ × ℕ)) (actions : List Action) → ReadsDeck deck cards refusal
+    → drained_texts refusal (run_alone cards actions) ≡ level_texts deck actions
 unfolding level_texts
-level_given deck cards refusal level entries opened performed finished texts reads held performs closes shown =
-    shown (run_alone cards (own level entries)) (closes level (solo (at_start cards) (own level entries)) (performs level (at_start cards) held))
-    ∙ (drained_closed refusal (solo (at_start cards) (own level entries)) ∙ rw (reads.read, reads.refused) refl)
+level_given deck cards refusal actions reads =
+    drained_closed refusal (solo (at_start cards) actions) ∙ rw (reads.read, reads.refused) refl
 
 -- the texts of both levels after these entries
-pub texts_given : (deck1 : List ℕ) (cards : List (List ℕ)) (refusal : Option (ℕ × ℕ)) (entries : List Entry) (opened performed finished : Bureau) (one two : Texts)
+pub texts_given : (deck1 : List ℕ) (cards : List (List ℕ)) (refusal : Option (ℕ × ℕ)) (entries : List Entry) (opened : Bureau) (texts : RunTexts)
     → ReadsDeck deck1 cards refusal
-    → HoldsFor One opened (at_start cards) → HoldsFor Two opened (at_start []) → Performs entries opened performed
-    → ((level : LevelId) (w : World) → HoldsFor level performed w → HoldsFor level finished (closed w))
-    → ((w : World) → HoldsFor One finished w → one ≡ drained_texts refusal w)
-    → ((w : World) → HoldsFor Two finished w → two ≡ drained_texts None w)
-    → record { one = one; two = two } ≡ entries_texts deck1 entries
-texts_given deck1 cards refusal entries opened performed finished one two reads held_one held_two performs closes shown_one shown_two =
+    → HoldsFor One opened (at_start cards) → HoldsFor Two opened (at_start [])
+    → HasTexts refusal entries opened texts
+    → texts ≡ entries_texts deck1 entries
+texts_given deck1 cards refusal entries opened texts reads held_one held_two has =
     let none : ReadsDeck [] [] None = record { read = rw empty_deck refl; refused = rw empty_deck refl } in
-    rw (
-      level_given deck1 cards refusal One entries opened performed finished one reads held_one performs closes shown_one,
-      level_given [] [] None Two entries opened performed finished two none held_two performs closes shown_two,
-    ) refl
+    let one : texts.one ≡ level_texts deck1 (own One entries) = has.one (at_start cards) held_one ∙ level_given deck1 cards refusal (own One entries) reads in
+    let two : texts.two ≡ level_texts [] (own Two entries) = has.two (at_start []) held_two ∙ level_given [] [] None (own Two entries) none in
+    λ i. record { one = one i; two = two i }
+
+-- the texts that both levels show once they are closed
+pub texts_shown : (refusal : Option (ℕ × ℕ)) (entries : List Entry) (opened performed finished : Bureau) (texts : RunTexts)
+    → Performs entries opened performed
+    → ((level : LevelId) (w : World) → HoldsFor level performed w → HoldsFor level finished (closed w))
+    → ((w : World) → HoldsFor One finished w → texts.one ≡ drained_texts refusal w)
+    → ((w : World) → HoldsFor Two finished w → texts.two ≡ drained_texts None w)
+    → HasTexts refusal entries opened texts
+texts_shown refusal entries opened performed finished texts performs closes shown_one shown_two = record {
+  one = λ w held. shown_one (closed (solo w (own One entries))) (closes One (solo w (own One entries)) (performs One w held));
+  two = λ w held. shown_two (closed (solo w (own Two entries))) (closes Two (solo w (own Two entries)) (performs Two w held));
+}
 
 -- the texts of a run whose script was read
 pub run_given : (deck1 script : List ℕ) (entries : List Entry) (texts : RunTexts) → entries_of script ≡ Ok entries → texts ≡ entries_texts deck1 entries → texts_after deck1 (entries_of script) ≡ Ok texts

@@ -5,4 +5,4 @@ pub mod Runs
 pub mod Samples
 pub mod Script
 pub mod Texts
-pub mod Underway
+pub mod Inner

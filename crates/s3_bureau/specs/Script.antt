@@ -1,9 +1,10 @@
 -- What the lines of a script ask for.
-use Rattle.std.specs.Prelude.{◌≡◌, ℕ, ◌+◌, ◌-◌, ◌*◌, ◌==◌, ◌&&◌, List, [], ◌∷◌, ◌++◌, Option, Some, None, Result, Ok, Err, Vec, length, fold, replicate, nat_le, nat_lt, if◌then◌else◌}
+use Rattle.std.specs.Prelude.{◌≡◌, ℕ, ◌+◌, ◌-◌, ◌==◌, ◌&&◌, List, [], ◌∷◌, ◌++◌, Option, Some, None, Result, Ok, Err, Vec, length, replicate, nat_le, nat_lt, if◌then◌else◌}
 use Rattle.std.specs.List.{list_all, flat_map}
 use Rattle.std.specs.Option.{option_map}
 use Rattle.std.specs.Char.{is_ascii_digit}
 use Rattle.std.specs.Str.Lines.{lines}
+use Rattle.s3_cards.specs.Numbers.{is_digit_from, number_of}
 use Rattle.s3_cards.specs.declared.levels.LevelId.{LevelId}
 use Rattle.s3_cards.specs.declared.levels.LevelId.TheVariants.{One, Two}
 use Rattle.s3_level.specs.declared.action.Action.{Action}
@@ -17,14 +18,10 @@ use Rattle.s3_bureau.specs.declared.script.ScriptFault.TheVariants.{NoMemory, Li
 abbrev pub level_named : ℕ → Option LevelId
 level_named digit = if digit == 49 then Some One else if digit == 50 then Some Two else None
 
--- the number that digits spell
-abbrev pub number_of : List ℕ → ℕ
-number_of = fold (λ number digit. number * 10 + (digit - 48)) 0
-
 -- a count from 1 to 9,999 in one to four digits
 abbrev pub count_of : List ℕ → Option ℕ
 count_of digits =
-    if list_all is_ascii_digit digits && nat_le (length digits) 4 && nat_lt 0 (number_of digits) then Some (number_of digits) else None
+    if nat_le (length digits) 4 && list_all (is_digit_from 48) digits && nat_lt 0 (number_of 48 digits) then Some (number_of 48 digits) else None
 
 -- how many times, by what stands behind the level: once, or a blank and a count
 abbrev pub times_of : List ℕ → Option ℕ

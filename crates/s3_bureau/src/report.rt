@@ -1,7 +1,7 @@
 //! A level's report: its printed lines as a text.
 ghost use Rattle.std.specs.Prelude.{◌≡◌, ◌++◌, ◌≤◌, ◌+◌, length, map, OnOk, IfOk};
 ghost use Rattle.s3_bureau.specs.Texts.{shown_byte, trimmed, report_line, report_of};
-ghost use Rattle.s3_bureau.specs.Underway.{ShowsCodes};
+ghost use Rattle.s3_bureau.specs.Inner.Underway.{ShowsCodes};
 
 use super::number::push_number;
 use s3_cards::ebcdic::BLANK;

@@ -8,7 +8,7 @@ ghost use Rattle.s3_bureau.specs.Held.{HoldsFor, is_open};
 ghost use Rattle.s3_bureau.specs.declared.stop.Stop.TheVariants.{Stopped};
 ghost use Rattle.s3_bureau.specs.Script.{entries_by};
 ghost use Rattle.s3_bureau.specs.Runs.{Runs, entries_texts, outcome_texts, texts_in};
-ghost use Rattle.s3_bureau.specs.Underway.{ReadsDeck, Performs, drained_texts};
+ghost use Rattle.s3_bureau.specs.Inner.Underway.{ReadsDeck, Performs, HasTexts, drained_texts};
 
 use super::bureau::Bureau;
 use super::entry::Entry;
@@ -53,11 +53,26 @@ fn outcome(
 {
     let (cards, refusal) = read_deck(alloc, deck1)?;
     let mut bureau = Bureau::open(alloc, cards, Deck::empty(alloc))?;
-    perform(&mut bureau, commands)?;
-    finish(&mut bureau)?;
+    served(alloc, &mut bureau, pack, commands, refusal)
+}
+
+/// The texts of both levels after the entries of all commands, and the pack, where the deck of level one was refused or not.
+fn served(
+    alloc: Global,
+    bureau: &mut Bureau,
+    pack: &[u8],
+    commands: &[Command],
+    refusal: Option<(u16, u8)>,
+) -> Result<Outcome, AllocError>
+    requires { is_open bureau.old ≡ true }
+    ensures texts { IfOk result (λ outcome. HasTexts refusal (flat_map entries_by commands.now) bureau.old (outcome_texts outcome)) }
+    ensures pack { IfOk result (λ outcome. outcome.pack.items ≡ pack.now) }
+{
+    perform(bureau, commands)?;
+    finish(bureau)?;
     Ok(Outcome {
-        one: level_texts(alloc, &bureau, LevelId::One, refusal)?,
-        two: level_texts(alloc, &bureau, LevelId::Two, None)?,
+        one: level_texts(alloc, bureau, LevelId::One, refusal)?,
+        two: level_texts(alloc, bureau, LevelId::Two, None)?,
         pack: Vec::from_slice(alloc, pack)?,
     })
 }

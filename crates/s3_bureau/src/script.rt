@@ -3,7 +3,7 @@ ghost use Rattle.std.specs.Prelude.{◌≡◌};
 ghost use Rattle.s3_bureau.specs.Script.{level_named, count_of, times_of, digit_behind, command_of, entries_of, ReadsScript};
 
 use super::entry::Entry;
-use s3_cards::{LevelId, first_line};
+use s3_cards::{LevelId, first_line, number_spelled};
 use s3_level::Action;
 use std::alloc::{AllocFailed, Global};
 use thiserror::Error;
@@ -104,24 +104,17 @@ fn times(rest: &[u8]) -> Option<u16>
 }
 
 /// A count from 1 to 9,999 in one to four digits.
-#[tactic(auto, using(crate::proofs::Counts::room_for_one))]
+#[tactic(auto, using(crate::proofs::Counts::of_four_digits))]
 fn count(digits: &[u8]) -> Option<u16>
-    ensures value { result ≡ count_of digits.now }
+    ensures { result ≡ count_of digits.now }
 {
     if digits.len() > 4 {
         return None;
     }
-    let mut number: u16 = 0;
-    for digit in digits {
-        if !digit.is_ascii_digit() {
-            return None;
-        }
-        number = number * 10 + u16::from(*digit - b'0');
+    match number_spelled(b'0', digits)? {
+        0 => None,
+        number => Some(number as u16),
     }
-    if number == 0 {
-        return None;
-    }
-    Some(number)
 }
 
 /// The digit that stands alone after a blank.

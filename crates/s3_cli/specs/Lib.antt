@@ -1,5 +1,5 @@
 pub mod Faults
 pub mod Packs
 pub mod Parts
-pub mod PartsView
 pub mod Session
+pub mod Inner

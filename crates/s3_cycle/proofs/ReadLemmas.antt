@@ -1,121 +1,138 @@
 -- Step 2, and what follows the reading of a card.
-use Rattle.std.proofs.Common.{◌≡◌, ℕ, zero, suc, ◌==◌, Bool, true, false, not, ◌&&◌, ◌||◌, if◌then◌else◌, List, [], ◌∷◌, map, filter, get_or, slice_set, Option, Some, None, refl, ap, sym, ◌∙◌, arith, inl, inr}
+use Rattle.std.proofs.Common.{◌≡◌, ℕ, zero, suc, ◌==◌, Bool, true, false, not, ◌&&◌, ◌||◌, if◌then◌else◌, List, [], ◌∷◌, map, filter, Option, Some, None, refl, ap, sym, ◌∙◌, subst, arith}
 use Rattle.std.specs.List.{list_any}
 use Rattle.std.proofs.Math.Path.{fun_ext}
-use Rattle.std.proofs.lemmas.Bool.{cases_eq, eq-eqb, ne_eqb, and_right}
-use Rattle.std.proofs.lemmas.List.{get_or-set_other}
-use Rattle.s3_sheets.specs.declared.indicator.Indicator.{Indicator}
-use Rattle.s3_sheets.specs.declared.indicator.Indicator.TheVariants.{General, Level, LastRecord, Matching, Halt, FirstPage, Overflow, Switch}
-use Rattle.s3_meaning.specs.Names.{same_indicator}
+use Rattle.std.proofs.lemmas.Bool.{ne_eqb}
+use Rattle.s3_lines.specs.declared.indicator.Indicator.{Indicator}
+use Rattle.s3_lines.specs.declared.indicator.Indicator.TheVariants.{General, Level, LastRecord, Matching, Halt, FirstPage, Overflow, Switch}
+use Rattle.s3_lines.specs.declared.sheet.FileLine.{FileLine}
+use Rattle.s3_meaning.specs.declared.halt.HaltCode.TheVariants.{HaltIndicator}
+use Rattle.s3_meaning.specs.Names.{same_indicator, is_indicator}
 use Rattle.s3_meaning.specs.RecordTypes.{RecordType}
 use Rattle.s3_meaning.specs.Source.{Source, is_input}
 use Rattle.s3_meaning.specs.Requests.{Card, Read, End}
-use Rattle.s3_meaning.specs.Environment.{Environment, switch_on, is_level, with_last_record}
-use Rattle.s3_meaning.specs.Runs.{ask, ended}
+use Rattle.s3_meaning.specs.Environment.{Environment, is_level, turn, with_last_record}
+use Rattle.s3_meaning.specs.Selection.{Ended, Reading}
+use Rattle.s3_meaning.specs.Runs.{Rest, Anew, ask, ended, halted}
 use Rattle.s3_meaning.specs.Cycle.{halts_shown, cleared, reading_time, files_read, file_read, selected_or_last, last_time, again}
-use Rattle.s3_compile.specs.Stands.{Stands, SameTypes}
-use Rattle.s3_cycle.specs.declared.stepper.Stepper.{Stepper}
-use Rattle.s3_cycle.specs.declared.stepper.Point.TheVariants.{Card as CardPoint, End as EndPoint}
-use Rattle.s3_cycle.specs.declared.request.Request.TheVariants.{Card as CardRequest, End as EndRequest}
 use Rattle.s3_cycle.specs.declared.indicators.Indicators.{Indicators}
-use Rattle.s3_cycle.specs.Held.{held, on_in, is_used, without_type}
+use Rattle.s3_cycle.specs.declared.moving.TypeStart.{TypeStart}
+use Rattle.s3_cycle.specs.declared.stepper.Stepper.{Stepper}
+use Rattle.s3_cycle.specs.Inner.Indicators.{on_in, IsQuiet}
+use Rattle.s3_cycle.specs.Inner.Held.{held}
+use Rattle.s3_cycle.specs.Served.{IsServed}
 use Rattle.s3_cycle.specs.Rest.{waiting_of, reading_of, after_headings, heads_read, card_answered}
-use Rattle.s3_meaning.specs.Selection.{Ended}
-use Rattle.s3_cycle.proofs.TakeLemmas.{ended-at-once, select-ended, no-totals-put, stands-unread, stands-ended}
+use Rattle.s3_cycle.specs.Inner.Steps.{IsSound, Clears, type_in, type_indicator}
+use Rattle.s3_cycle.proofs.IndicatorLemmas.{general_quiet, page_quiet}
+use Rattle.s3_cycle.proofs.TypeLemmas.{Serves, serves, HasType, KindOf, kind_of, general}
+use Rattle.s3_cycle.proofs.TakeLemmas.{with_indicators, ended-at-once, select-ended, no-totals-put, stands-unread, stands-ended}
 
 -- the indicators when 1P, the types' indicators and the levels have gone off
-abbrev pub cleared_on : List RecordType → (Indicator → Bool) → Indicator → Bool
-cleared_on types on other = if is_level other then false else (if same_indicator other FirstPage then false else on other) && not (list_any (λ kind. same_indicator other kind.indicator) types)
+abbrev pub cleared_on : Bool → List RecordType → (Indicator → Bool) → Indicator → Bool
+cleared_on last types on other = if is_level other then last else (if same_indicator other FirstPage then false else on other) && not (list_any (λ kind. same_indicator other kind.indicator) types)
+
+-- as the stepper clears them
+abbrev pub off_by : Option Indicator → (Indicator → Bool) → Indicator → Bool
+off_by kind on other = if is_indicator other kind then false else (if same_indicator other FirstPage then false else on other)
 
 and_true : (b : Bool) → (b && true) ≡ b
 and_true true = refl
 and_true false = refl
 
--- an element that is set to false, or is past the end, is false
-off_there : (bits : List Bool) (n : ℕ) → get_or (slice_set bits n false) n false ≡ false
-off_there [] n = refl
-off_there (bit ∷ bits) zero = refl
-off_there (bit ∷ bits) (suc n) = off_there bits n
-
--- no level but L0 is on at first
-level-off : (n : ℕ) → false ≡ (suc n == 0)
-level-off n = sym (ne_eqb (suc n) 0 (λ e. positive e))
+-- no level but L0 is on
+level-off : (on : Indicator → Bool) (n : ℕ) → IsQuiet on → false ≡ on (Level (suc n))
+level-off on n quiet = sym (quiet.levels (suc n) ∙ ne_eqb (suc n) 0 (λ e. positive e))
   where
     positive : suc n ≡ 0 → ⊥
     positive e = omega arith
 
--- no type, or one with a general indicator
-cleared-none : (indicators : Indicators) (other : Indicator) → cleared_on [] (on_in indicators) other ≡ on_in (record indicators { first_page = false }) other
-cleared-none indicators (General n) = and_true (get_or indicators.general n false)
-cleared-none indicators (Level zero) = refl
-cleared-none indicators (Level (suc n)) = level-off n
-cleared-none indicators LastRecord = refl
-cleared-none indicators Matching = refl
-cleared-none indicators (Halt n) = refl
-cleared-none indicators FirstPage = refl
-cleared-none indicators (Overflow n) = refl
-cleared-none indicators (Switch n) = and_true (switch_on indicators.switches n)
+cleared-none : (on : Indicator → Bool) → IsQuiet on → (other : Indicator) → cleared_on false [] on other ≡ off_by None on other
+cleared-none on quiet (General n) = and_true (on (General n))
+cleared-none on quiet (Level zero) = and_true (on (Level zero))
+cleared-none on quiet (Level (suc n)) = level-off on n quiet
+cleared-none on quiet LastRecord = and_true (on LastRecord)
+cleared-none on quiet Matching = and_true (on Matching)
+cleared-none on quiet (Halt n) = and_true (on (Halt n))
+cleared-none on quiet FirstPage = refl
+cleared-none on quiet (Overflow n) = and_true (on (Overflow n))
+cleared-none on quiet (Switch n) = and_true (on (Switch n))
 
-cleared-one : (indicators : Indicators) (number : ℕ) (kind : RecordType) → kind.indicator ≡ General number → (other : Indicator) → cleared_on (kind ∷ []) (on_in indicators) other ≡ on_in (without_type (Some number) (record indicators { first_page = false })) other
-cleared-one indicators number kind same other = ap (λ i. cleared_on (record kind { indicator = i } ∷ []) (on_in indicators) other) same ∙ by_kind other
+cleared-one : (on : Indicator → Bool) (number : ℕ) (kind : RecordType) → IsQuiet on → kind.indicator ≡ General number → (other : Indicator) → cleared_on false (kind ∷ []) on other ≡ off_by (Some (General number)) on other
+cleared-one on number kind quiet same other = ap (λ i. cleared_on false (record kind { indicator = i } ∷ []) on other) same ∙ by_kind other
   where
-    general : (n : ℕ) → (get_or indicators.general n false && not ((n == number) || false)) ≡ get_or (slice_set indicators.general number false) n false
-    general n = elim (cases_eq n number) as (λ _. (get_or indicators.general n false && not ((n == number) || false)) ≡ get_or (slice_set indicators.general number false) n false) [
-      | inl e ↦ (ap (λ b. get_or indicators.general n false && not (b || false)) (eq-eqb n number e) ∙ and_right (get_or indicators.general n false) false refl
-          ∙ sym (ap (λ m. get_or (slice_set indicators.general m false) n false) (sym e) ∙ off_there indicators.general n))
-      | inr apart ↦ (ap (λ b. get_or indicators.general n false && not (b || false)) (ne_eqb n number apart) ∙ and_true (get_or indicators.general n false)
-          ∙ sym (get_or-set_other indicators.general number n false false apart))
-    ]
+    chosen : (b on' : Bool) → (on' && not (b || false)) ≡ (if b then false else on')
+    chosen true true = refl
+    chosen true false = refl
+    chosen false on' = and_true on'
 
-    by_kind : (other : Indicator) → cleared_on (record kind { indicator = General number } ∷ []) (on_in indicators) other ≡ on_in (without_type (Some number) (record indicators { first_page = false })) other
-    by_kind (General n) = general n
-    by_kind (Level zero) = refl
-    by_kind (Level (suc n)) = level-off n
-    by_kind LastRecord = refl
-    by_kind Matching = refl
-    by_kind (Halt n) = refl
+    by_kind : (other : Indicator) → cleared_on false (record kind { indicator = General number } ∷ []) on other ≡ off_by (Some (General number)) on other
+    by_kind (General n) = chosen (n == number) (on (General n))
+    by_kind (Level zero) = and_true (on (Level zero))
+    by_kind (Level (suc n)) = level-off on n quiet
+    by_kind LastRecord = and_true (on LastRecord)
+    by_kind Matching = and_true (on Matching)
+    by_kind (Halt n) = and_true (on (Halt n))
     by_kind FirstPage = refl
-    by_kind (Overflow n) = refl
-    by_kind (Switch n) = and_true (switch_on indicators.switches n)
+    by_kind (Overflow n) = and_true (on (Overflow n))
+    by_kind (Switch n) = and_true (on (Switch n))
 
--- the stepper that waits for a card, with the indicators off
-abbrev pub reading : Stepper → Stepper
-reading c = record c { indicators = without_type c.program.record_indicator (record c.indicators { first_page = false }); request = CardRequest; point = CardPoint }
+cleared-types : (c : Stepper) (source : Source) (serves : Serves c source) (start : Option TypeStart) → KindOf c source serves.served.card start → IsQuiet (on_in c.state.indicators) → (other : Indicator) → cleared_on false source.types (on_in c.state.indicators) other ≡ off_by (type_indicator start) (on_in c.state.indicators) other
+cleared-types c source serves None none quiet other = ap (λ types. cleared_on false types (on_in c.state.indicators) other) none ∙ cleared-none (on_in c.state.indicators) quiet other
+cleared-types c source serves (Some start) has quiet other =
+    ap (λ types. cleared_on false types (on_in c.state.indicators) other) has.one
+    ∙ cleared-one (on_in c.state.indicators) has.served.number has.kind quiet has.served.identifies other
+    ∙ ap (λ i. off_by (Some i) (on_in c.state.indicators) other) (sym (general c source serves start has))
 
-cleared-types : (c : Stepper) (source : Source) (stands : Stands c.program source) (number : Option ℕ) → SameTypes c.program.fields.items c.program.moves.items stands.card number source.types → (other : Indicator) → cleared_on source.types (on_in c.indicators) other ≡ on_in (without_type number (record c.indicators { first_page = false })) other
-cleared-types c source stands None none other = ap (λ types. cleared_on types (on_in c.indicators) other) none ∙ cleared-none c.indicators other
-cleared-types c source stands (Some number) (kind, one, same) other = ap (λ types. cleared_on types (on_in c.indicators) other) one ∙ cleared-one c.indicators number kind same.identifies other
+-- ---- what has gone off stays quiet
+-- 1P goes off, and then the type's indicator
+pub cleared_quiet : (c : Stepper) (source : Source) (serves : Serves c source) (on : Indicator → Bool) (start : Option TypeStart) → KindOf c source serves.served.card start → IsQuiet (on_in c.state.indicators) → ((other : Indicator) → on other ≡ off_by (type_indicator start) (on_in c.state.indicators) other) → IsQuiet on
+cleared_quiet c source serves on None none quiet off = page_quiet (on_in c.state.indicators) on off quiet
+cleared_quiet c source serves on (Some start) has quiet off =
+    general_quiet (off_by None (on_in c.state.indicators)) on has.served.number false
+    (λ other. off other ∙ ap (λ i. off_by (Some i) (on_in c.state.indicators) other) (general c source serves start has))
+    (page_quiet (on_in c.state.indicators) (off_by None (on_in c.state.indicators)) (λ other. refl) quiet)
 
-held-cleared : (c : Stepper) (source : Source) → Stands c.program source → ◌≡◌ {A = Environment} (record (held source c) { on = cleared_on source.types (on_in c.indicators) }) (held source (reading c))
+-- ---- step 1 after its lines
+no-halts : (anew : Anew) (ns : List ℕ) (go : Rest) (e : Environment) → ((n : ℕ) → e.on (Halt n) ≡ false) → halts_shown anew ns go e ≡ go e
+unfolding halts_shown
+no-halts anew [] go e off = refl
+no-halts anew (n ∷ ns) go e off = ap (λ b. (if b then halted anew (HaltIndicator n) (λ e'. halts_shown anew ns go (turn (Halt n) false e')) else halts_shown anew ns go) e) (off n) ∙ no-halts anew ns go e off
+
+-- the environment after steps 1 and 2
+held-cleared : (c : Stepper) (source : Source) (serves : Serves c source) (indicators : Indicators) → IsQuiet (on_in c.state.indicators) → ((other : Indicator) → on_in indicators other ≡ off_by (type_indicator (type_in c.program)) (on_in c.state.indicators) other)
+    → ◌≡◌ {A = Environment} (record (held source c) { on = cleared_on (on_in c.state.indicators LastRecord) source.types (on_in c.state.indicators) }) (held source (with_indicators indicators c))
 unfolding held
-held-cleared c source stands = ap (λ (on : Indicator → Bool). let e : Environment = record (held source c) { on = on } in e) (fun_ext λ other. cleared-types c source stands c.program.record_indicator stands.types other)
+held-cleared c source serves indicators quiet off =
+    ap (λ last. let e : Environment = record (held source c) { on = cleared_on last source.types (on_in c.state.indicators) } in e) quiet.last_record
+    ∙ ap (λ (on : Indicator → Bool). let e : Environment = record (held source c) { on = on } in e)
+    (fun_ext λ other. cleared-types c source serves (type_in c.program) (kind_of c source serves) quiet other ∙ sym (off other))
 
--- a card is asked for, with the indicators off
-pub card-asked : (c : Stepper) (source : Source) → is_used c.indicators.switches c.program.card_switch ≡ true → Stands c.program source → after_headings source (reading_of source c) (held source c) ≡ ask Card (λ answer. card_answered source (reading c) (filter is_input source.files) answer (held source (reading c)))
-unfolding after_headings halts_shown cleared reading_time held heads_read files_read file_read card_answered
-card-asked c source used stands =
-    ap (λ e. files_read source (again source) (map (waiting_of c) (filter is_input source.files)) (heads_read source) e) (held-cleared c source stands)
-    ∙ ap (λ files. files_read source (again source) (map (waiting_of c) files) (heads_read source) (held source (reading c))) stands.inputs
-    ∙ ap (λ standing. files_read source (again source) (record { file = stands.card; standing = standing; reads = c.reads; last_key = None } ∷ []) (heads_read source) (held source (reading c))) (stands-unread c used)
-    ∙ ap (λ reader. ask (if reader then Card else Read stands.card.name) (λ answer. card_answered source (reading c) (stands.card ∷ []) answer (held source (reading c)))) stands.reader
-    ∙ ap (λ files. ask Card (λ answer. card_answered source (reading c) files answer (held source (reading c)))) (sym stands.inputs)
+pub after-cleared : (c : Stepper) (source : Source) (reading : Reading) (serves : Serves c source) (indicators : Indicators) → IsQuiet (on_in c.state.indicators) → ((other : Indicator) → on_in indicators other ≡ off_by (type_indicator (type_in c.program)) (on_in c.state.indicators) other)
+    → after_headings source reading (held source c) ≡ reading_time source (again source) reading (held source (with_indicators indicators c))
+unfolding after_headings cleared held
+after-cleared c source reading serves indicators quiet off =
+    no-halts (again source) (1 ∷ 2 ∷ 3 ∷ 4 ∷ 5 ∷ 6 ∷ 7 ∷ 8 ∷ 9 ∷ []) _ (turn FirstPage false (held source c)) quiet.halts
+    ∙ ap (λ e. (if e.on LastRecord then last_time source (again source) else reading_time source (again source) reading) e) (held-cleared c source serves indicators quiet off)
+    ∙ ap (λ last. (if last then last_time source (again source) else reading_time source (again source) reading) (held source (with_indicators indicators c)))
+    (cleared_quiet c source serves (on_in indicators) (type_in c.program) (kind_of c source serves) quiet off).last_record
 
--- the switches stay
-pub cleared-switches : (number : Option ℕ) (indicators : Indicators) → (without_type number indicators).switches ≡ indicators.switches
-cleared-switches None indicators = refl
-cleared-switches (Some number) indicators = refl
+-- a card is asked for
+pub card-asked : (c : Stepper) (source : Source) (serves : Serves c source) → c.is_read ≡ true → reading_time source (again source) (reading_of source c) (held source c) ≡ ask Card (λ answer. card_answered source c (filter is_input source.files) answer (held source c))
+unfolding reading_time heads_read files_read file_read card_answered
+card-asked c source serves used =
+    let served : IsServed source = serves.served in
+    ap (λ files. files_read source (again source) (map (waiting_of c) files) (heads_read source) (held source c)) served.inputs
+    ∙ ap (λ standing. files_read source (again source) (record { file = served.card; standing = standing; reads = c.reads; last_key = None } ∷ []) (heads_read source) (held source c)) (stands-unread c used)
+    ∙ ap (λ reader. ask (if reader then Card else Read served.card.name) (λ answer. card_answered source c (served.card ∷ []) answer (held source c))) served.reader
+    ∙ ap (λ files. ask Card (λ answer. card_answered source c files answer (held source c))) (sym served.inputs)
 
--- the stepper at the end, with the indicators off
-abbrev pub unread : Stepper → Stepper
-unread c = record c { indicators = without_type c.program.record_indicator (record c.indicators { first_page = false }); request = EndRequest false; point = EndPoint }
-
--- a card file that isn't used has ended, and so does the job
-pub unread-ended : (c : Stepper) (source : Source) → is_used c.indicators.switches c.program.card_switch ≡ false → Stands c.program source → after_headings source (reading_of source c) (held source c) ≡ ask (End false) (λ answer answers. End false)
-unfolding after_headings halts_shown cleared reading_time held heads_read files_read selected_or_last last_time ended
-unread-ended c source unused stands =
-    ap (λ e. files_read source (again source) (map (waiting_of c) (filter is_input source.files)) (heads_read source) e) (held-cleared c source stands)
-    ∙ ap (λ files. files_read source (again source) (map (waiting_of c) files) (heads_read source) (held source (reading c))) stands.inputs
-    ∙ ap (λ standing. files_read source (again source) (record { file = stands.card; standing = standing; reads = c.reads; last_key = None } ∷ []) (heads_read source) (held source (reading c))) (stands-ended c unused)
-    ∙ ap (λ selected. selected_or_last source (again source) (record { files = record { file = stands.card; standing = Ended; reads = c.reads; last_key = None } ∷ []; primary_key = None }) selected (held source (reading c))) (select-ended stands.card c.reads)
-    ∙ no-totals-put c source stands (ended false) (with_last_record (held source (reading c)))
+-- a card file that isn't read has ended, and so does the job
+pub unread-ended : (c : Stepper) (source : Source) (serves : Serves c source) → c.is_read ≡ false → reading_time source (again source) (reading_of source c) (held source c) ≡ ask (End false) (λ answer answers. End false)
+unfolding reading_time heads_read files_read selected_or_last last_time ended
+unread-ended c source serves unused =
+    let served : IsServed source = serves.served in
+    ap (λ files. files_read source (again source) (map (waiting_of c) files) (heads_read source) (held source c)) served.inputs
+    ∙ ap (λ standing. files_read source (again source) (record { file = served.card; standing = standing; reads = c.reads; last_key = None } ∷ []) (heads_read source) (held source c)) (stands-ended c unused)
+    ∙ ap (λ selected. selected_or_last source (again source) (record { files = record { file = served.card; standing = Ended; reads = c.reads; last_key = None } ∷ []; primary_key = None }) selected (held source c)) (select-ended served.card c.reads)
+    ∙ no-totals-put source served (ended false) (with_last_record (held source c))
     ∙ sym (ended-at-once (End false))

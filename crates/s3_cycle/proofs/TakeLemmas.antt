@@ -1,68 +1,67 @@
 -- What a card does to the run: step 3 with its answer, and steps 4 to 12.
-use Rattle.std.proofs.Common.{◌≡◌, ℕ, suc, ◌+◌, ◌==◌, ◌<◌, min, Bool, true, false, not, ◌&&◌, ◌||◌, if◌then◌else◌, List, [], ◌∷◌, map, filter, find, length, get_or, nat_lt, cond, slice_get, slice_set, Option, Some, None, is_some, unwrap_or, option_map, refl, ap, sym, ◌∙◌, subst, inl, inr}
+use Rattle.std.proofs.Common.{◌≡◌, ℕ, suc, ◌+◌, ◌==◌, ◌<◌, min, Bool, true, false, not, ◌&&◌, ◌||◌, if◌then◌else◌, List, [], ◌∷◌, map, filter, find, drop, length, nat_lt, cond, Option, Some, None, is_some, unwrap_or, option_map, refl, ap, sym, ◌∙◌, subst}
 use Rattle.std.specs.List.{list_any, list_all}
 use Rattle.std.specs.Option.{option_or}
 use Rattle.std.proofs.Math.Path.{fun_ext}
-use Rattle.std.proofs.lemmas.Bool.{cases_eq, eq-eqb, ne_eqb, true≢false, cond-true, cond-false}
-use Rattle.std.proofs.lemmas.List.{get_or-set_same, get_or-set_other}
+use Rattle.std.proofs.lemmas.Bool.{true≢false, cond-true, cond-false}
 use Rattle.s3_cards.specs.declared.name.Name.{Name}
-use Rattle.s3_sheets.specs.declared.indicator.Indicator.{Indicator}
-use Rattle.s3_sheets.specs.declared.indicator.Indicator.TheVariants.{General, Level, LastRecord, Matching, Halt, FirstPage, Overflow, Switch}
-use Rattle.s3_sheets.specs.declared.sheet.FileLine.{FileLine}
-use Rattle.s3_sheets.specs.declared.sheet.Designation.{Designation}
-use Rattle.s3_sheets.specs.declared.sheet.Designation.TheVariants.{Primary, Secondary, Chained}
-use Rattle.s3_sheets.specs.declared.sheet.OutputKind.TheVariants.{Detail}
+use Rattle.s3_cards.specs.Names.{no_name, same_name}
+use Rattle.s3_cards.proofs.NameLemmas.{same_name-self}
+use Rattle.s3_lines.specs.declared.indicator.Indicator.{Indicator}
+use Rattle.s3_lines.specs.declared.indicator.Indicator.TheVariants.{General, Level, LastRecord, Matching, Halt, FirstPage, Overflow, Switch}
+use Rattle.s3_lines.specs.declared.sheet.FileLine.{FileLine}
+use Rattle.s3_lines.specs.declared.sheet.Designation.{Designation}
+use Rattle.s3_lines.specs.declared.sheet.Designation.TheVariants.{Primary, Secondary, Chained}
+use Rattle.s3_lines.specs.declared.sheet.InputLine.{InputLine}
+use Rattle.s3_program.specs.declared.program.Reference.{Reference}
+use Rattle.s3_lines.specs.declared.sheet.OutputLine.{OutputLine}
+use Rattle.s3_lines.specs.declared.sheet.OutputLine.TheVariants.{Line as LineCard, And as AndCard, Or as OrCard, Field as FieldCard}
 use Rattle.s3_meaning.specs.declared.halt.HaltCode.TheVariants.{UnidentifiedRecord, OutOfSequence}
 use Rattle.s3_meaning.specs.Names.{same_indicator}
-use Rattle.s3_cards.specs.Names.{same_name}
-use Rattle.s3_meaning.specs.RecordTypes.{RecordType}
+use Rattle.s3_meaning.specs.RecordTypes.{RecordType, group_fields}
 use Rattle.s3_meaning.specs.Calculations.{is_detail, is_total}
-use Rattle.s3_meaning.specs.OutputLines.{Output}
+use Rattle.s3_meaning.specs.OutputLines.{Output, outputs_from}
 use Rattle.s3_meaning.specs.Source.{Source, is_input, is_designated, overflow_of, has_control_fields, has_levels, detail_calculations}
 use Rattle.s3_meaning.specs.Requests.{Request, Ask, End, Answer, Found, Nothing, Current, NthRead}
 use Rattle.s3_meaning.specs.Environment.{Environment, turn, with_last_record}
 use Rattle.s3_meaning.specs.Selection.{Head, Unread, Stands as StandsHead, Ended, InputFile, Reading, Selected, least, primary_first, select, is_matched, taken, broken, break_level, levels, is_level_to, same_key, control_value, compared_field, match_key, code_holds, in_sequence}
 use Rattle.s3_meaning.specs.Runs.{Rest, Anew, ask, ended, halted}
+use Rattle.s3_meaning.specs.Moving.{fields_moved}
 use Rattle.s3_meaning.specs.Output.{is_total_line, lines_put}
 use Rattle.s3_meaning.specs.Calculating.{calculated}
 use Rattle.s3_meaning.specs.Cycle.{typed, headed, counted_read, on_read, files_read, totals, last_time, total_time, overflow_lines, matched, with_totals_due, detail_time, record_time, selected_or_last, headings, one_cycle, again}
 use Rattle.s3_meaning.proofs.Equations.{again-cycle}
-use Rattle.s3_compile.specs.declared.program.DetailLine.{DetailLine}
-use Rattle.s3_compile.specs.Stands.{Stands, SameType, SameTypes}
+use Rattle.s3_program.specs.Valid.{named, named_input, named_output}
+use Rattle.s3_program.specs.Stands.{source_named}
 use Rattle.s3_cycle.specs.declared.indicators.Indicators.{Indicators}
+use Rattle.s3_cycle.specs.declared.moving.TypeStart.{TypeStart}
 use Rattle.s3_cycle.specs.declared.request.Request.TheVariants.{Ask as AskRequest}
 use Rattle.s3_cycle.specs.declared.stepper.Point.TheVariants.{Unidentified as UnidentifiedPoint}
 use Rattle.s3_cycle.specs.declared.stepper.Stepper.{Stepper}
-use Rattle.s3_cycle.specs.Held.{held, on_in, is_used, current_in}
-use Rattle.s3_cycle.specs.Rest.{input_of, standing_of, waiting_of, reading_of, after_headings, headings_put, heads_read, card_answered, reply_answered}
-use Rattle.s3_cycle.proofs.ListLemmas.{there-too}
-use Rattle.s3_cards.proofs.NameLemmas.{same_name-self}
-use Rattle.s3_cycle.specs.Texts.{texts_moved}
-use Rattle.s3_cycle.proofs.PlainLemmas.{ArePlain, plain-match_key, plain-control_field, plain-has_levels, moves-fields, same-moves, type-plain}
+use Rattle.s3_cycle.specs.Inner.Indicators.{on_in, IsQuiet}
+use Rattle.s3_cycle.specs.Inner.Held.{tables, held, current_in}
+use Rattle.s3_cycle.specs.Served.{is_plain, IsServed, IsServedType, IsServedOutput, AreServedOutputs}
+use Rattle.s3_cycle.specs.Inner.Moving.{texts_moved, AreMoves}
+use Rattle.s3_cycle.specs.Rest.{input_of, standing_of, waiting_of, reading_of, outputs_behind, outputs_at, after_headings, headings_put, heads_read, card_answered, reply_answered}
+use Rattle.s3_cycle.specs.Inner.Steps.{TurnsOn, moved_by, type_in}
+use Rattle.s3_cycle.proofs.FieldLemmas.{with_texts}
+use Rattle.s3_cycle.proofs.TypeLemmas.{Serves, HasType, no_type, a_type, general}
+use Rattle.s3_cycle.proofs.PlainLemmas.{ArePlain, are_plain, plain-match_key, plain-control_field, plain-has_levels, moves-fields}
 
 -- ---- no calculations, and detail lines alone
--- all lines are detail lines
-abbrev pub AreDetail : List Output → Type 0
-AreDetail outputs = (k : ℕ) (output : Output) → slice_get outputs k ≡ Some output → output.kind ≡ Detail
-
-no-totals : (source : Source) (anew : Anew) (go : Rest) (e : Environment) (outputs : List Output) → AreDetail outputs → lines_put source anew is_total_line false outputs go e ≡ go e
+no-totals : (source : Source) (anew : Anew) (go : Rest) (e : Environment) (outputs : List Output) → AreServedOutputs source outputs → lines_put source anew is_total_line false outputs go e ≡ go e
 unfolding lines_put
-no-totals source anew go e [] detail = refl
-no-totals source anew go e (output ∷ outputs) detail =
-    ap (λ kind. lines_put source anew is_total_line false (record output { kind = kind } ∷ outputs) go e) (detail 0 output refl)
-    ∙ no-totals source anew go e outputs (λ k. detail (suc k))
-
-are-detail : (c : Stepper) (source : Source) → Stands c.program source → AreDetail source.outputs
-are-detail c source stands k output there =
-    let line : (line : DetailLine) × (slice_get c.program.lines.items k ≡ Some line) = there-too c.program.lines.items source.outputs k output (sym stands.count) there in
-    (stands.lines k line.0 output line.1 there).kind
+no-totals source anew go e [] served = refl
+no-totals source anew go e (output ∷ outputs) served =
+    ap (λ kind. lines_put source anew is_total_line false (record output { kind = kind } ∷ outputs) go e) served.0.kind
+    ∙ no-totals source anew go e outputs served.1
 
 -- totals without calculations and total lines
-pub no-totals-put : (c : Stepper) (source : Source) → Stands c.program source → (go : Rest) (e : Environment) → totals source (again source) go e ≡ go e
+pub no-totals-put : (source : Source) → IsServed source → (go : Rest) (e : Environment) → totals source (again source) go e ≡ go e
 unfolding totals calculated
-no-totals-put c source stands go e =
-    ap (λ calculations. calculated source (again source) (filter is_total calculations) (lines_put source (again source) is_total_line false source.outputs go) None (filter is_total calculations) e) stands.no_calculations
-    ∙ no-totals source (again source) go e source.outputs (are-detail c source stands)
+no-totals-put source served go e =
+    ap (λ calculations. calculated source (again source) (filter is_total calculations) (lines_put source (again source) is_total_line false source.outputs go) None (filter is_total calculations) e) served.no_calculations
+    ∙ no-totals source (again source) go e source.outputs served.outputs
 
 -- ---- no further card
 pub ended-at-once : (request : Request) → ask request (λ answer answers. request) ≡ (λ answers. request)
@@ -81,12 +80,12 @@ select-ended file reads = by_end file.ends_job
     by_end true = refl
     by_end false = refl
 
-pub job-ended : (c : Stepper) (source : Source) → Stands c.program source → card_answered source c (filter is_input source.files) Nothing (held source c) ≡ ask (End false) (λ answer answers. End false)
+pub job-ended : (c : Stepper) (source : Source) → IsServed source → card_answered source c (filter is_input source.files) Nothing (held source c) ≡ ask (End false) (λ answer answers. End false)
 unfolding card_answered on_read files_read heads_read selected_or_last last_time ended
-job-ended c source stands =
-    ap (λ files. card_answered source c files Nothing (held source c)) stands.inputs
-    ∙ ap (λ selected. selected_or_last source (again source) (record { files = record (input_of c stands.card) { standing = Ended } ∷ []; primary_key = None }) selected (held source c)) (select-ended stands.card c.reads)
-    ∙ no-totals-put c source stands (ended false) (with_last_record (held source c))
+job-ended c source served =
+    ap (λ files. card_answered source c files Nothing (held source c)) served.inputs
+    ∙ ap (λ selected. selected_or_last source (again source) (record { files = record (input_of c served.card) { standing = Ended } ∷ []; primary_key = None }) selected (held source c)) (select-ended served.card c.reads)
+    ∙ no-totals-put source served (ended false) (with_last_record (held source c))
     ∙ sym (ended-at-once (End false))
 
 -- ---- a card of no type
@@ -94,31 +93,18 @@ job-ended c source stands =
 abbrev pub unidentified : Stepper → Stepper
 unidentified c = record c { reads = min (c.reads + 1) 16776960; request = AskRequest UnidentifiedRecord; point = UnidentifiedPoint }
 
-pub card-unidentified : (c : Stepper) (source : Source) (bytes : List ℕ) → c.program.record_indicator ≡ None → Stands c.program source → card_answered source c (filter is_input source.files) (Found bytes) (held source c) ≡ ask (Ask UnidentifiedRecord) (λ answer. reply_answered source (unidentified c) (filter is_input source.files) answer (held source (unidentified c)))
+pub card-unidentified : (c : Stepper) (source : Source) (bytes : List ℕ) → type_in c.program ≡ None → Serves c source → card_answered source c (filter is_input source.files) (Found bytes) (held source c) ≡ ask (Ask UnidentifiedRecord) (λ answer. reply_answered source (unidentified c) (filter is_input source.files) answer (held source (unidentified c)))
 unfolding card_answered on_read typed halted reply_answered held
-card-unidentified c source bytes untyped stands =
-    let no_types : source.types ≡ [] = subst (λ number. SameTypes c.program.fields.items c.program.moves.items stands.card number source.types) untyped stands.types in
-    ap (λ files. card_answered source c files (Found bytes) (held source c)) stands.inputs
-    ∙ ap (λ types. typed (again source) (counted_read (input_of c stands.card)) bytes (find (λ kind. same_name kind.file stands.card.name && list_all (code_holds bytes) kind.codes) types) (λ input. files_read source (again source) [] (λ inputs. heads_read source (input ∷ inputs))) (held source c)) no_types
-    ∙ ap (λ files. ask (Ask UnidentifiedRecord) (λ answer. reply_answered source (unidentified c) files answer (held source (unidentified c)))) (sym stands.inputs)
+card-unidentified c source bytes untyped serves =
+    let served : IsServed source = serves.served in
+    ap (λ files. card_answered source c files (Found bytes) (held source c)) served.inputs
+    ∙ ap (λ types. typed (again source) (counted_read (input_of c served.card)) bytes (find (λ kind. same_name kind.file served.card.name && list_all (code_holds bytes) kind.codes) types) (λ input. files_read source (again source) [] (λ inputs. heads_read source (input ∷ inputs))) (held source c)) (no_type c source serves untyped)
+    ∙ ap (λ files. ask (Ask UnidentifiedRecord) (λ answer. reply_answered source (unidentified c) files answer (held source (unidentified c)))) (sym served.inputs)
 
 -- ---- a card of the one type
--- the type's indicator goes on, and no level breaks
-abbrev pub identified : ℕ → Stepper → Stepper
-identified number c = record c { indicators = record c.indicators { general = slice_set c.indicators.general number true } }
-
-turned-on : (indicators : Indicators) (number : ℕ) → number < length indicators.general → (other : Indicator) → (if same_indicator other (General number) then true else on_in indicators other) ≡ on_in (record indicators { general = slice_set indicators.general number true }) other
-turned-on indicators number within (General n) = elim (cases_eq n number) as (λ _. (if n == number then true else get_or indicators.general n false) ≡ get_or (slice_set indicators.general number true) n false) [
-  | inl e ↦ cond-true _ _ _ (eq-eqb n number e) ∙ sym (ap (λ m. get_or (slice_set indicators.general number true) m false) e ∙ get_or-set_same indicators.general number true false within)
-  | inr apart ↦ cond-false _ _ _ (ne_eqb n number apart) ∙ sym (get_or-set_other indicators.general number n true false apart)
-]
-turned-on indicators number within (Level n) = refl
-turned-on indicators number within LastRecord = refl
-turned-on indicators number within Matching = refl
-turned-on indicators number within (Halt n) = refl
-turned-on indicators number within FirstPage = refl
-turned-on indicators number within (Overflow n) = refl
-turned-on indicators number within (Switch n) = refl
+-- with these indicators
+abbrev pub with_indicators : Indicators → Stepper → Stepper
+with_indicators indicators c = record c { state = record c.state { indicators = indicators } }
 
 no-break_level : (e : Environment) (head : Head) → ArePlain head.kind.fields → break_level e head ≡ 0
 no-break_level e head plain = by_values (λ n. ap (option_map (compared_field head.bytes)) (plain-control_field head.kind n plain))
@@ -147,21 +133,22 @@ broken-plain head e plain =
     none-to_zero (Overflow n) = refl
     none-to_zero (Switch n) = refl
 
-nothing-breaks : (source : Source) (c : Stepper) (head : Head) (number : ℕ) → ArePlain head.kind.fields → head.kind.indicator ≡ General number → number < length c.indicators.general → broken head (turn head.kind.indicator true (held source c)) ≡ held source (identified number c)
+nothing-breaks : (source : Source) (c : Stepper) (head : Head) (indicators : Indicators) → ArePlain head.kind.fields → TurnsOn c.state.indicators head.kind.indicator indicators → broken head (turn head.kind.indicator true (held source c)) ≡ held source (with_indicators indicators c)
 unfolding held
-nothing-breaks source c head number plain same within =
+nothing-breaks source c head indicators plain turns =
     broken-plain head (turn head.kind.indicator true (held source c)) plain
-    ∙ ap (λ indicator. turn indicator true (held source c)) same
-    ∙ ap (λ (on : Indicator → Bool). let e : Environment = record (held source c) { on = on } in e) (fun_ext λ other. turned-on c.indicators number within other)
+    ∙ ap (λ (on : Indicator → Bool). let e : Environment = record (held source c) { on = on } in e) (fun_ext λ other. sym (turns other))
 
 -- neither total time nor overflow prints
 either : (b : Bool) (x y : Rest) (e : Environment) → x e ≡ y e → (if b then x else y) e ≡ y e
 either true x y e same = same
 either false x y e same = refl
 
-no-total_time : (c : Stepper) (source : Source) → Stands c.program source → (go : Rest) → total_time source (again source) go (held source c) ≡ go (held source c)
+no-total_time : (c : Stepper) (source : Source) → IsServed source → IsQuiet (on_in c.state.indicators) → (go : Rest) → total_time source (again source) go (held source c) ≡ go (held source c)
 unfolding total_time held
-no-total_time c source stands go = either c.totals_due _ go (held source c) (no-totals-put c source stands _ (held source c))
+no-total_time c source served quiet go =
+    either c.totals_due _ go (held source c)
+    (no-totals-put source served _ (held source c) ∙ ap (λ last. (if last then ended false else go) (held source c)) quiet.last_record)
 
 no-overflow_lines : (source : Source) → overflow_of source.files ≡ None → (go : Rest) (e : Environment) → overflow_lines source (again source) go e ≡ go e
 unfolding overflow_lines
@@ -177,19 +164,19 @@ primary-designation card primary = by card.designation primary
     by (Some Secondary) e = absurd (true≢false (sym e))
     by (Some Chained) e = absurd (true≢false (sym e))
 
-current-matched : (c : Stepper) (source : Source) (stands : Stands c.program source) (head : Head) → matched false (record { file = stands.card; head = head }) (held source c) ≡ held source (record c { current = Some head.number })
+current-matched : (c : Stepper) (source : Source) (served : IsServed source) (head : Head) → IsQuiet (on_in c.state.indicators) → matched false (record { file = served.card; head = head }) (held source c) ≡ held source (record c { current = Some head.number })
 unfolding held
-current-matched c source stands head =
-    ap (λ (on : Indicator → Bool). let e : Environment = record (held source c) { on = on; current = λ other. if same_name other stands.card.name then Some (NthRead head.number) else current_in source c.current other } in e)
+current-matched c source served head quiet =
+    ap (λ (on : Indicator → Bool). let e : Environment = record (held source c) { on = on; current = λ other. if same_name other served.card.name then Some (NthRead head.number) else current_in source c.current other } in e)
     (fun_ext λ other. not-matching other)
     ∙ ap (λ (current : Name → Option Current). let e : Environment = record (held source c) { current = current } in e)
     (fun_ext λ other. named other)
   where
-    not-matching : (other : Indicator) → (if same_indicator other Matching then false else on_in c.indicators other) ≡ on_in c.indicators other
+    not-matching : (other : Indicator) → (if same_indicator other Matching then false else on_in c.state.indicators other) ≡ on_in c.state.indicators other
     not-matching (General n) = refl
     not-matching (Level n) = refl
     not-matching LastRecord = refl
-    not-matching Matching = refl
+    not-matching Matching = sym quiet.matching
     not-matching (Halt n) = refl
     not-matching FirstPage = refl
     not-matching (Overflow n) = refl
@@ -199,11 +186,11 @@ current-matched c source stands head =
     by true = refl
     by false = refl
 
-    named : (other : Name) → (if same_name other stands.card.name then Some (NthRead head.number) else current_in source c.current other) ≡ current_in source (Some head.number) other
+    named : (other : Name) → (if same_name other served.card.name then Some (NthRead head.number) else current_in source c.current other) ≡ current_in source (Some head.number) other
     named other =
-        ap (λ files. if same_name other stands.card.name then Some (NthRead head.number) else (if list_any (λ file. same_name other file.name) files then option_map (λ n. NthRead n) c.current else None)) stands.inputs
-        ∙ by (same_name other stands.card.name)
-        ∙ ap (λ files. if list_any (λ file. same_name other file.name) files then Some (NthRead head.number) else None) (sym stands.inputs)
+        ap (λ files. if same_name other served.card.name then Some (NthRead head.number) else (if list_any (λ file. same_name other file.name) files then option_map (λ n. NthRead n) c.current else None)) served.inputs
+        ∙ by (same_name other served.card.name)
+        ∙ ap (λ files. if list_any (λ file. same_name other file.name) files then Some (NthRead head.number) else None) (sym served.inputs)
 
 -- total time is due from now on
 due-now : (c : Stepper) (source : Source) (selected : Selected) → has_levels source ≡ false → with_totals_due source selected (held source c) ≡ held source (record c { totals_due = true })
@@ -241,17 +228,17 @@ taken-head file head plain primary =
 abbrev pub head_from : Stepper → List ℕ → RecordType → Head
 head_from c bytes kind = record { number = min (c.reads + 1) 16776960; bytes = bytes; kind = kind }
 
-typed-one : (c : Stepper) (source : Source) (bytes : List ℕ) (number : ℕ) (kind : RecordType) (stands : Stands c.program source) → source.types ≡ kind ∷ [] → SameType c.program.fields.items c.program.moves.items stands.card number kind → card_answered source c (filter is_input source.files) (Found bytes) (held source c) ≡ heads_read source ((one_head stands.card (head_from c bytes kind)).files) (held source c)
+typed-one : (c : Stepper) (source : Source) (bytes : List ℕ) (kind : RecordType) (served : IsServed source) → source.types ≡ kind ∷ [] → (same : IsServedType served.card kind) → card_answered source c (filter is_input source.files) (Found bytes) (held source c) ≡ heads_read source ((one_head served.card (head_from c bytes kind)).files) (held source c)
 unfolding card_answered on_read typed headed files_read
-typed-one c source bytes number kind stands one same =
-    ap (λ files. card_answered source c files (Found bytes) (held source c)) stands.inputs
-    ∙ ap (λ types. typed (again source) input bytes (find (λ kind. same_name kind.file stands.card.name && list_all (code_holds bytes) kind.codes) types) go (held source c)) one
-    ∙ ap (λ codes. typed (again source) input bytes (cond (same_name kind.file stands.card.name && list_all (code_holds bytes) codes) (Some kind) None) go (held source c)) same.codes
+typed-one c source bytes kind served one same =
+    ap (λ files. card_answered source c files (Found bytes) (held source c)) served.inputs
+    ∙ ap (λ types. typed (again source) input bytes (find (λ kind. same_name kind.file served.card.name && list_all (code_holds bytes) kind.codes) types) go (held source c)) one
+    ∙ ap (λ codes. typed (again source) input bytes (cond (same_name kind.file served.card.name && list_all (code_holds bytes) codes) (Some kind) None) go (held source c)) same.codes
     ∙ ap (λ its. typed (again source) input bytes (cond (its && true) (Some kind) None) go (held source c)) same.file
-    ∙ ap (λ key. (if in_sequence key None then go (record input { standing = StandsHead (head_from c bytes kind); last_key = option_or key None }) else halted (again source) OutOfSequence ((again source).read input go)) (held source c)) (plain-match_key kind bytes (type-plain c.program.fields.items c.program.moves.items stands.card number kind same))
+    ∙ ap (λ key. (if in_sequence key None then go (record input { standing = StandsHead (head_from c bytes kind); last_key = option_or key None }) else halted (again source) OutOfSequence ((again source).read input go)) (held source c)) (plain-match_key kind bytes (are_plain kind.fields same.fields))
   where
     input : InputFile
-    input = counted_read (input_of c stands.card)
+    input = counted_read (input_of c served.card)
 
     go : InputFile → Rest
     go input = files_read source (again source) [] (λ inputs. heads_read source (input ∷ inputs))
@@ -261,62 +248,83 @@ pub cycle-begun : (source : Source) (reading : Reading) (e : Environment) → (a
 unfolding one_cycle headings headings_put after_headings
 cycle-begun source reading e = fun_ext λ answers. again-cycle source reading e answers
 
--- the stepper when the card is moved
-abbrev pub moved_by : Stepper → (bytes : List ℕ) → (number : ℕ) → Stepper
-moved_by c bytes number = record c {
-  indicators = record c.indicators { general = slice_set c.indicators.general number true };
-  current = Some (min (c.reads + 1) 16776960);
-  texts = texts_moved c.program.moves.items bytes c.texts;
-  totals_due = true;
-  reads = min (c.reads + 1) 16776960;
-}
-
--- the standing of a card file that is used, and of one that isn't
-pub stands-unread : (c : Stepper) → is_used c.indicators.switches c.program.card_switch ≡ true → standing_of c ≡ Unread
+-- the standing of a card file that is read, and of one that isn't
+pub stands-unread : (c : Stepper) → c.is_read ≡ true → standing_of c ≡ Unread
 stands-unread c used = cond-true _ _ _ used
 
-pub stands-ended : (c : Stepper) → is_used c.indicators.switches c.program.card_switch ≡ false → standing_of c ≡ Ended
+pub stands-ended : (c : Stepper) → c.is_read ≡ false → standing_of c ≡ Ended
 stands-ended c unused = cond-false _ _ _ unused
 
-head-taken : (c : Stepper) (source : Source) (bytes : List ℕ) (number : ℕ) (kind : RecordType) (stands : Stands c.program source) → is_used c.indicators.switches c.program.card_switch ≡ true → source.types ≡ kind ∷ [] → SameType c.program.fields.items c.program.moves.items stands.card number kind → number < length c.indicators.general → length c.texts ≡ length c.program.fields.items → heads_read source ((one_head stands.card (head_from c bytes kind)).files) (held source c) ≡ headings_put source (reading_of source (moved_by c bytes number)) source.outputs (held source (moved_by c bytes number))
+-- all output lines
+pub from_first : (last : Name) (cards : List (OutputLine Name)) → outputs_from last cards ≡ outputs_behind last cards 0
+from_first last [] = refl
+from_first last (LineCard card ∷ cards) = refl
+from_first last (AndCard conditions ∷ cards) = refl
+from_first last (OrCard conditions ∷ cards) = refl
+from_first last (FieldCard field ∷ cards) = refl
+
+pub all_outputs : (c : Stepper) (source : Source) → source_named c.program ≡ source → source.outputs ≡ outputs_at c 0
+unfolding named
+all_outputs c source stands = ap (λ (s : Source). s.outputs) (sym stands) ∙ from_first no_name (map (named_output (tables c.program)) c.program.outputs.items)
+
+head-taken : (c : Stepper) (source : Source) (bytes : List ℕ) (start : TypeStart) (indicators : Indicators) (serves : Serves c source) → c.is_read ≡ true → (has : HasType c source serves.served.card start) → TurnsOn c.state.indicators start.indicator indicators → IsQuiet (on_in indicators) → length c.state.texts ≡ length (tables c.program).fields → AreMoves c.state.texts (drop start.place c.program.inputs.items)
+    → heads_read source ((one_head serves.served.card (head_from c bytes has.kind)).files) (held source c) ≡ headings_put source (reading_of source (moved_by c bytes start indicators)) (outputs_at c 0) (held source (moved_by c bytes start indicators))
 unfolding heads_read selected_or_last record_time detail_time calculated held
-head-taken c source bytes number kind stands used one same within long =
-    ap (λ selected. selected_or_last source (again source) heads selected (held source c)) (select-head stands.card head plain)
-    ∙ ap (λ is_matching. record_time source (again source) is_matching selected ((again source).cycle (taken heads selected)) (held source c)) (not-matched stands.card head stands.primary)
-    ∙ ap (λ reading. record_time source (again source) false selected ((again source).cycle reading) (held source c)) (taken-head stands.card head plain stands.primary)
-    ∙ ap (λ e. total_time source (again source) (overflow_lines source (again source) (λ e'. detail_time source (again source) selected go (matched false selected e'))) e) (nothing-breaks source c head number plain same.identifies within)
-    ∙ no-total_time (identified number c) source stands (overflow_lines source (again source) (λ e'. detail_time source (again source) selected go (matched false selected e')))
-    ∙ no-overflow_lines source stands.no_overflow (λ e'. detail_time source (again source) selected go (matched false selected e')) (held source (identified number c))
-    ∙ ap (λ e. detail_time source (again source) selected go e) (current-matched (identified number c) source stands head)
-    ∙ moves-fields source (again source) bytes (calculated source (again source) (detail_calculations source) (λ e. go (with_totals_due source selected e)) None (detail_calculations source)) (record (identified number c) { current = Some head.number }) stands.fields.once long c.program.moves.items kind.fields (same-moves c.program.fields.items c.program.moves.items stands.card number kind same)
-    ∙ ap (λ calculations. calculated source (again source) (filter is_detail calculations) (λ e. go (with_totals_due source selected e)) None (filter is_detail calculations) (held source moved)) stands.no_calculations
-    ∙ ap go (due-now moved source selected (plain-has_levels source kind one plain))
-    ∙ cycle-begun source next (held source (moved_by c bytes number))
-    ∙ ap (λ standing. headings_put source (record { files = record { file = stands.card; standing = standing; reads = head.number; last_key = None } ∷ []; primary_key = None }) source.outputs (held source (moved_by c bytes number))) (sym (stands-unread c used))
-    ∙ ap (λ files. headings_put source (record { files = map (waiting_of (moved_by c bytes number)) files; primary_key = None }) source.outputs (held source (moved_by c bytes number))) (sym stands.inputs)
+head-taken c source bytes start indicators serves used has turns quiet long fit =
+    ap (λ selected. selected_or_last source (again source) heads selected (held source c)) (select-head card head plain)
+    ∙ ap (λ is_matching. record_time source (again source) is_matching selected ((again source).cycle (taken heads selected)) (held source c)) (not-matched card head served.primary)
+    ∙ ap (λ reading. record_time source (again source) false selected ((again source).cycle reading) (held source c)) (taken-head card head plain served.primary)
+    ∙ ap (λ e. total_time source (again source) (overflow_lines source (again source) (λ e'. detail_time source (again source) selected go (matched false selected e'))) e) (nothing-breaks source c head indicators plain (λ other. turns other ∙ ap (λ i. if same_indicator other i then true else on_in c.state.indicators other) (sym has.identifies)))
+    ∙ no-total_time on source served quiet (overflow_lines source (again source) (λ e'. detail_time source (again source) selected go (matched false selected e')))
+    ∙ no-overflow_lines source served.no_overflow (λ e'. detail_time source (again source) selected go (matched false selected e')) (held source on)
+    ∙ ap (λ e. detail_time source (again source) selected go e) (current-matched on source served head quiet)
+    ∙ ap (λ fields. fields_moved (again source) fields bytes after_moves (held source (record on { current = Some head.number }))) has.fields
+    ∙ moves-fields source (again source) bytes after_moves (record on { current = Some head.number }) long lines fit (ap (list_all is_plain) (sym has.fields) ∙ has.served.fields)
+    ∙ ap (λ calculations. calculated source (again source) (filter is_detail calculations) (λ e. go (with_totals_due source selected e)) None (filter is_detail calculations) (held source moved)) served.no_calculations
+    ∙ ap go (due-now moved source selected (plain-has_levels source has.kind has.one plain))
+    ∙ cycle-begun source next (held source (moved_by c bytes start indicators))
+    ∙ ap (λ outputs. headings_put source next outputs (held source (moved_by c bytes start indicators))) (all_outputs c source serves.stands)
+    ∙ ap (λ standing. headings_put source (record { files = record { file = card; standing = standing; reads = head.number; last_key = None } ∷ []; primary_key = None }) (outputs_at c 0) (held source (moved_by c bytes start indicators))) (sym (stands-unread c used))
+    ∙ ap (λ files. headings_put source (record { files = map (waiting_of (moved_by c bytes start indicators)) files; primary_key = None }) (outputs_at c 0) (held source (moved_by c bytes start indicators))) (sym served.inputs)
   where
+    served : IsServed source
+    served = serves.served
+
+    card : FileLine
+    card = served.card
+
     head : Head
-    head = head_from c bytes kind
+    head = head_from c bytes has.kind
 
     selected : Selected
-    selected = record { file = stands.card; head = head }
+    selected = record { file = card; head = head }
 
     heads : Reading
-    heads = one_head stands.card head
+    heads = one_head card head
 
-    plain : ArePlain kind.fields
-    plain = type-plain c.program.fields.items c.program.moves.items stands.card number kind same
+    plain : ArePlain has.kind.fields
+    plain = are_plain has.kind.fields has.served.fields
 
     next : Reading
-    next = record { files = record { file = stands.card; standing = Unread; reads = head.number; last_key = None } ∷ []; primary_key = None }
+    next = record { files = record { file = card; standing = Unread; reads = head.number; last_key = None } ∷ []; primary_key = None }
 
     go : Rest
     go = (again source).cycle next
 
-    moved : Stepper
-    moved = record (identified number c) { current = Some head.number; texts = texts_moved c.program.moves.items bytes c.texts }
+    on : Stepper
+    on = with_indicators indicators c
 
-pub card-taken : (c : Stepper) (source : Source) (bytes : List ℕ) (number : ℕ) → is_used c.indicators.switches c.program.card_switch ≡ true → c.program.record_indicator ≡ Some number → number < length c.indicators.general → length c.texts ≡ length c.program.fields.items → Stands c.program source → card_answered source c (filter is_input source.files) (Found bytes) (held source c) ≡ headings_put source (reading_of source (moved_by c bytes number)) source.outputs (held source (moved_by c bytes number))
-card-taken c source bytes number used typed_as within long stands =
-    let types : SameTypes c.program.fields.items c.program.moves.items stands.card (Some number) source.types = subst (λ number. SameTypes c.program.fields.items c.program.moves.items stands.card number source.types) typed_as stands.types in
-    typed-one c source bytes number types.0 stands types.1 types.2 ∙ head-taken c source bytes number types.0 stands used types.1 types.2 within long
+    lines : List (InputLine Reference)
+    lines = drop start.place c.program.inputs.items
+
+    after_moves : Rest
+    after_moves = calculated source (again source) (detail_calculations source) (λ e. go (with_totals_due source selected e)) None (detail_calculations source)
+
+    moved : Stepper
+    moved = with_texts (texts_moved lines bytes c.state.texts) (record on { current = Some head.number })
+
+pub card-taken : (c : Stepper) (source : Source) (bytes : List ℕ) (start : TypeStart) (indicators : Indicators) (serves : Serves c source) → c.is_read ≡ true → type_in c.program ≡ Some start → TurnsOn c.state.indicators start.indicator indicators → IsQuiet (on_in indicators) → length c.state.texts ≡ length (tables c.program).fields → AreMoves c.state.texts (drop start.place c.program.inputs.items)
+    → card_answered source c (filter is_input source.files) (Found bytes) (held source c) ≡ headings_put source (reading_of source (moved_by c bytes start indicators)) (outputs_at c 0) (held source (moved_by c bytes start indicators))
+card-taken c source bytes start indicators serves used typed_as turns quiet long fit =
+    let has : HasType c source serves.served.card start = a_type c source serves start typed_as in
+    typed-one c source bytes has.kind serves.served has.one has.served ∙ head-taken c source bytes start indicators serves used has turns quiet long fit

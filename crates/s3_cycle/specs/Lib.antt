@@ -1,6 +1,6 @@
 pub mod Requests
-pub mod Texts
-pub mod Held
-pub mod Printing
+pub mod Served
 pub mod Rest
-pub mod Steps
+pub mod Built
+pub mod Serves
+pub mod Inner

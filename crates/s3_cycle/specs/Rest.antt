@@ -1,37 +1,54 @@
 -- The rest of a run from where it stands: what follows the answer to the pending request.
-use Rattle.std.specs.Prelude.{◌≡◌, ℕ, true, false, List, [], ◌∷◌, ◌++◌, map, filter, drop, None, if◌then◌else◌}
-use Rattle.s3_sheets.specs.declared.indicator.Indicator.TheVariants.{LastRecord, FirstPage}
-use Rattle.s3_sheets.specs.declared.sheet.FileLine.{FileLine}
+use Rattle.std.specs.Prelude.{◌≡◌, ℕ, zero, suc, true, false, List, [], ◌∷◌, ◌++◌, map, filter, None, unwrap_or, if◌then◌else◌}
+use Rattle.s3_cards.specs.declared.name.Name.{Name}
+use Rattle.s3_cards.specs.Names.{no_name}
+use Rattle.s3_lines.specs.declared.indicator.Indicator.TheVariants.{LastRecord, FirstPage}
+use Rattle.s3_lines.specs.declared.sheet.FileLine.{FileLine}
+use Rattle.s3_lines.specs.declared.sheet.OutputLine.{OutputLine}
+use Rattle.s3_lines.specs.declared.sheet.OutputLine.TheVariants.{Line as LineCard}
 use Rattle.s3_meaning.specs.Source.{Source, is_input}
-use Rattle.s3_meaning.specs.OutputLines.{Output}
+use Rattle.s3_meaning.specs.OutputLines.{Output, outputs_from}
 use Rattle.s3_meaning.specs.Requests.{Answer}
 use Rattle.s3_meaning.specs.Environment.{turn}
 use Rattle.s3_meaning.specs.Selection.{Standing, Unread, Ended, InputFile, Reading, select}
 use Rattle.s3_meaning.specs.Runs.{Run, Rest, ask, ended, replied}
 use Rattle.s3_meaning.specs.Output.{is_heading_or_detail, lines_put}
 use Rattle.s3_meaning.specs.Cycle.{halts_shown, cleared, on_read, files_read, last_time, selected_or_last, reading_time, again, Req}
-use Rattle.s3_compile.specs.Stands.{Stands}
+use Rattle.s3_program.specs.Valid.{named_output}
+use Rattle.s3_program.specs.Stands.{Stands}
 use Rattle.s3_cycle.specs.declared.request.Request as Code
 use Rattle.s3_cycle.specs.declared.stepper.Point.{Point}
 use Rattle.s3_cycle.specs.declared.stepper.Point.TheVariants.{Headings, Card, Unidentified, End}
 use Rattle.s3_cycle.specs.declared.stepper.Stepper.{Stepper}
 use Rattle.s3_cycle.specs.Requests.{request_of}
-use Rattle.s3_cycle.specs.Held.{held, is_used}
+use Rattle.s3_cycle.specs.Inner.Held.{tables, held}
 
 -- ---- what is to be read
 -- a card file whose head was taken
 abbrev pub input_of : Stepper → FileLine → InputFile
 input_of c file = record { file = file; standing = Unread; reads = c.reads; last_key = None }
 
--- one whose switch is off has ended
+-- one whose condition is off has ended
 abbrev pub standing_of : Stepper → Standing
-standing_of c = if is_used c.indicators.switches c.program.card_switch then Unread else Ended
+standing_of c = if c.is_read then Unread else Ended
 
 abbrev pub waiting_of : Stepper → FileLine → InputFile
 waiting_of c file = record (input_of c file) { standing = standing_of c }
 
 abbrev pub reading_of : Source → Stepper → Reading
 reading_of source c = record { files = map (waiting_of c) (filter is_input source.files); primary_key = None }
+
+-- ---- what is still to be printed
+-- the output lines from a card on, where lines above it have named this file last
+abbrev pub outputs_behind : (last : Name) → List (OutputLine Name) → ℕ → List Output
+outputs_behind last [] place = []
+outputs_behind last (card ∷ cards) zero = outputs_from last (card ∷ cards)
+outputs_behind last (LineCard card ∷ cards) (suc place) = outputs_behind (unwrap_or card.file last) cards place
+outputs_behind last (card ∷ cards) (suc place) = outputs_behind last cards place
+
+-- the output lines of a run's program from a card on
+abbrev pub outputs_at : Stepper → ℕ → List Output
+outputs_at c place = outputs_behind no_name (map (named_output (tables c.program)) c.program.outputs.items) place
 
 -- ---- the steps from a place on
 -- step 1 after its lines, step 2, and all that follows
@@ -67,7 +84,7 @@ reply_answered source c (file ∷ files) answer = replied (again source) ((again
 -- ---- the rest
 -- what follows the answer
 abbrev pub answered : Source → Stepper → Point → Answer → Run
-answered source c (Headings next) answer = headings_put source (reading_of source c) (drop next source.outputs) (held source c)
+answered source c (Headings next) answer = headings_put source (reading_of source c) (outputs_at c next) (held source c)
 answered source c Card answer = card_answered source c (filter is_input source.files) answer (held source c)
 answered source c Unidentified answer = reply_answered source c (filter is_input source.files) answer (held source c)
 answered source c End answer = λ answers. request_of c.request

@@ -14,7 +14,7 @@ pub struct Carriage {
 
 impl Carriage {
     ghost use Rattle.s3_meaning.specs.Carriage.{spaced};
-    ghost use Rattle.s3_cycle.specs.Printing.{carriage_at};
+    ghost use Rattle.s3_cycle.specs.Inner.Printing.{carriage_at};
 
     /// One line on; line 1 of the next page comes after line 66, and page 0 after page 9,999.
     pub fn next_line(self) -> Carriage

@@ -2,7 +2,7 @@
 
 use crate::request::{Answer, Request};
 use crate::stepper::Stepper;
-use s3_compile::program::Program;
+use s3_program::program::Program;
 use std::alloc::{AllocError, Global};
 use std::marker::Model;
 
@@ -14,7 +14,7 @@ pub struct Cycle {
 
 impl Model for Cycle {
     ghost use Rattle.s3_cycle.specs.declared.stepper.Stepper.{Stepper};
-    ghost use Rattle.s3_cycle.specs.Steps.{IsSound};
+    ghost use Rattle.s3_cycle.specs.Inner.Steps.{IsSound};
 
     ghost Value = { Stepper };
 
@@ -28,7 +28,8 @@ impl Cycle {
     ghost use Rattle.s3_meaning.specs.Source.{Source};
     ghost use Rattle.s3_meaning.specs.Requests.{Answer as MeantAnswer};
     ghost use Rattle.s3_meaning.specs.Cycle.{Req};
-    ghost use Rattle.s3_compile.specs.Stands.{Stands};
+    ghost use Rattle.s3_program.specs.Stands.{Stands, source_named};
+    ghost use Rattle.s3_cycle.specs.Serves.{serves};
     ghost use Rattle.s3_cycle.specs.Requests.{request_of, answer_of, is_fit};
     ghost use Rattle.s3_cycle.specs.Rest.{rest, StandsFor, asked};
 
@@ -40,6 +41,7 @@ impl Cycle {
         switches: u8,
         date: [u8; 6],
     ) -> Result<Cycle, AllocError>
+        requires { IsTrue (serves (source_named program)) }
         ensures { IfOk result (λ c. (source : Source) → Stands program source → StandsFor c source × ((answers : List MeantAnswer) → rest source c answers ≡ Req source switches date answers)) }
     {
         Ok(Cycle {

@@ -1,46 +1,65 @@
 //! The indicators of a run.
+ghost use Rattle.std.specs.Prelude.{◌≡◌, ◌<◌};
+ghost use Rattle.s3_cycle.specs.Inner.Places.{place_of as place_of_spec};
 
-use s3_sheets::indicator::{Condition, Indicator};
+use s3_lines::indicator::{Condition, Indicator};
 
-/// The indicators of a run: those that change, and the switches.
+/// The indicators of a run: those that change, each at eight times its number and its kind, and the switches.
 #[derive(Clone, Copy)]
 pub struct Indicators {
-    /// 01 to 99, by number.
-    pub general: [bool; 256],
-    /// 1P.
-    pub first_page: bool,
+    /// By place.
+    pub on: [bool; 2048],
     /// U1 to U8, U1 the highest bit.
     pub switches: u8,
 }
 
+/// The place of an indicator, at which no other one is; a switch has none.
+fn place_of(indicator: Indicator) -> usize
+    ensures place { result ≡ place_of_spec indicator }
+    ensures within { result < 2048 }
+{
+    match indicator {
+        Indicator::General(number) => 8 * usize::from(number),
+        Indicator::Level(number) => 8 * usize::from(number) + 1,
+        Indicator::LastRecord => 2,
+        Indicator::Matching => 3,
+        Indicator::Halt(number) => 8 * usize::from(number) + 4,
+        Indicator::FirstPage => 5,
+        Indicator::Overflow(number) => 8 * usize::from(number) + 6,
+        Indicator::Switch(number) => 8 * usize::from(number) + 7,
+    }
+}
+
 impl Indicators {
-    ghost use Rattle.std.specs.Prelude.{◌≡◌, ◌<◌, length, replicate, slice_set, false, true};
+    ghost use Rattle.std.specs.Prelude.{◌≡◌, ◌<◌, false, true, if◌then◌else◌, IfSome};
     ghost use Rattle.std.specs.List.{list_all};
-    ghost use Rattle.s3_cycle.specs.Held.{on_in, condition_holds, entry_holds, is_used, without_type};
+    ghost use Rattle.s3_meaning.specs.Names.{same_indicator, is_indicator};
+    ghost use Rattle.s3_lines.specs.declared.indicator.Indicator.{Indicator};
+    ghost use Rattle.s3_cycle.specs.Inner.Indicators.{on_in, entry_holds, is_used, is_settable};
+    ghost use Rattle.s3_meaning.specs.Environment.{on_at_first};
 
     /// 1P and L0 are on, and the switches as they are set.
     pub fn at_first(switches: u8) -> Indicators
-        ensures { result ≡ record { general = replicate 256 false; first_page = true; switches = switches } }
+        ensures { (other : Indicator) → on_in result other ≡ on_at_first switches other }
     {
-        Indicators {
-            general: [false; 256],
-            first_page: true,
+        let mut indicators = Indicators {
+            on: [false; 2048],
             switches,
-        }
+        };
+        indicators.turn(Indicator::Level(0), true);
+        indicators.turn(Indicator::FirstPage, true);
+        indicators
     }
 
     /// Whether an indicator is on.
-    fn is_on(&self, indicator: Indicator) -> bool
+    pub fn is_on(&self, indicator: Indicator) -> bool
         ensures { result ≡ on_in self.now indicator }
     {
         match indicator {
-            Indicator::General(number) => self.general[number as usize],
-            Indicator::FirstPage => self.first_page,
-            Indicator::Level(number) => number == 0,
             Indicator::Switch(number) => (u16::from(self.switches) >> 8u8.saturating_sub(number))
                 % 2
                 == 1,
-            _ => false,
+            _ => self.on[place_of(indicator)],
         }
     }
 
@@ -67,32 +86,32 @@ impl Indicators {
         true
     }
 
-    /// Whether a file with this switch, or without one, is used.
-    pub fn serves(&self, switch: Option<u8>) -> bool
-        ensures { result ≡ is_used self.now.switches switch }
+    /// Whether a file with this condition, or without one, is used.
+    pub fn serves(&self, condition: Option<Indicator>) -> bool
+        ensures { result ≡ is_used self.now condition }
     {
-        match switch {
+        match condition {
             None => true,
-            Some(number) => self.is_on(Indicator::Switch(number)),
+            Some(indicator) => self.is_on(indicator),
         }
     }
 
-    /// A record identifying indicator goes on.
-    pub fn turn_on(&mut self, number: u8)
-        ensures value { self.new ≡ record self.old { general = slice_set self.old.general number true } }
-        ensures there { number < length self.old.general }
+    /// An indicator that is no switch goes on or off.
+    pub fn turn(&mut self, indicator: Indicator, to: bool)
+        requires { is_settable indicator ≡ true }
+        ensures { (other : Indicator) → on_in self.new other ≡ (if same_indicator other indicator then to else on_in self.old other) }
     {
-        self.general[number as usize] = true;
+        self.on[place_of(indicator)] = to;
     }
 
-    /// 1P goes off, and the record identifying indicator, if there is one.
-    pub fn clear(&mut self, record_indicator: Option<u8>)
-        ensures { self.new ≡ without_type record_indicator (record self.old { first_page = false }) }
+    /// An entry goes off, if it isn't blank.
+    pub fn turn_off(&mut self, entry: Option<Indicator>)
+        requires { IfSome entry (λ indicator. is_settable indicator ≡ true) }
+        ensures { (other : Indicator) → on_in self.new other ≡ (if is_indicator other entry then false else on_in self.old other) }
     {
-        self.first_page = false;
-        match record_indicator {
-            Some(number) => self.general[number as usize] = false,
+        match entry {
             None => {}
+            Some(indicator) => self.turn(indicator, false),
         }
     }
 }

@@ -1,13 +1,14 @@
 //! The texts of alphanumeric fields, by slot.
 ghost use Rattle.std.specs.Prelude.{◌≡◌, ◌<◌, List, ℕ, IfOk, Some, length, map, slice_get, slice_set};
-ghost use Rattle.s3_cycle.specs.Texts.{blank_texts, length_at};
+ghost use Rattle.s3_cycle.specs.Inner.Texts.{blank_texts, length_at, length_in as length_in_spec};
 
 use s3_cards::ebcdic::BLANK;
-use s3_compile::program::Field;
+use s3_lines::sheet::Shape;
+use s3_program::program::Defined;
 use std::alloc::{AllocError, Global};
 use std::marker::Model;
 
-/// The texts of alphanumeric fields, by slot; each keeps its length.
+/// The texts of fields, by slot; each keeps its length. A number has an empty text.
 #[derive(Drop)]
 pub struct Texts {
     texts: Vec<Vec<u8>>,
@@ -19,14 +20,24 @@ impl Model for Texts {
     ghost view = { λ t. map (λ text. text.items) t.texts.items };
 }
 
+/// How many characters a field has.
+fn length_in(shape: Shape) -> usize
+    ensures { result ≡ length_in_spec shape }
+{
+    match shape {
+        Shape::Alphanumeric(length) => usize::from(length),
+        Shape::Numeric(_, _) => 0,
+    }
+}
+
 impl Texts {
     /// A blank text for each field.
-    pub fn blank(alloc: Global, fields: &[Field]) -> Result<Texts, AllocError>
+    pub fn blank(alloc: Global, fields: &[Defined<Shape>]) -> Result<Texts, AllocError>
         ensures { IfOk result (λ texts. texts ≡ blank_texts fields.now) }
     {
         let mut texts = Vec::with_capacity(alloc, fields.len())?;
         for field in fields {
-            texts.push(vec![in alloc; BLANK; field.length]?)?;
+            texts.push(vec![in alloc; BLANK; length_in(field.meaning)]?)?;
         }
         Ok(Texts { texts })
     }

@@ -12,7 +12,7 @@ use Rattle.s3_level.specs.Parts.{has_room, with_line}
 use Rattle.s3_level.specs.World.{World, JobAtWork}
 use Rattle.s3_level.specs.Serving.{acted, answered, asking, at_work, card_answer, idle, line_printed, pending, with_card_read}
 use Rattle.s3_level.specs.Holds.{Holds, Becomes}
-use Rattle.s3_level.specs.Turning.{AtWorkBecomes}
+use Rattle.s3_level.specs.Inner.Turning.{AtWorkBecomes}
 
 -- after one answer more it follows the answers so far with that one
 pub resumed : (source : Source) (switches : ℕ) (date : List ℕ) (past : List Answer) (old new : Stepper) (answer : Answer)

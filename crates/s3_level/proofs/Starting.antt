@@ -11,14 +11,11 @@ use Rattle.s3_meaning.specs.Cycle.{Req}
 use Rattle.s3_cycle.specs.declared.stepper.Stepper.{Stepper}
 use Rattle.s3_cycle.specs.Rest.{rest, StandsFor as RunsFor}
 use Rattle.s3_level.specs.World.{World, JobAtWork}
-use Rattle.s3_sheets.specs.declared.sheet.Line.{Line}
-use Rattle.s3_sheets.specs.Lines.{lines_of}
-use Rattle.s3_sheets.specs.Sheets.{sheet_diagnostics}
-use Rattle.s3_meaning.specs.Source.{Source, source_of}
-use Rattle.s3_compile.specs.declared.program.Program.{Program}
-use Rattle.s3_compile.specs.Diagnostics.{first_else, compile_diagnostics}
-use Rattle.s3_compile.specs.Stands.{Stands}
-use Rattle.s3_compile.specs.Compiles.{StandsFor, program_name}
+use Rattle.s3_meaning.specs.Source.{Source}
+use Rattle.s3_program.specs.declared.program.Program.{Program}
+use Rattle.s3_level.specs.declared.stocked.Stocked.{Stocked}
+use Rattle.s3_program.specs.Stands.{Stands, parts_of}
+use Rattle.s3_program.specs.Valid.{named}
 use Rattle.s3_ocl.specs.declared.faults.FaultyJob.{FaultyJob}
 use Rattle.s3_ocl.specs.declared.jobs.OclFault.{OclFault}
 use Rattle.s3_ocl.specs.declared.jobs.OclFault.TheVariants.{NoMemory, Faulty}
@@ -27,9 +24,9 @@ use Rattle.s3_ocl.specs.Streams.{jobs_from}
 use Rattle.s3_ocl.proofs.StreamLemmas.{jobs_from-none, jobs_from-next}
 use Rattle.s3_level.specs.declared.job.OpenJob.{OpenJob}
 use Rattle.s3_level.specs.declared.level.Level.{Level}
-use Rattle.s3_level.specs.Serving.{asking, pending, run, compiled, compiled_data, data_of, diagnostics_of, performed, run_card_of, started, stocked, switches_after, with_jobs, with_settings}
+use Rattle.s3_level.specs.Serving.{asking, pending, run, compiled_data, data_of, performed, run_card_of, started, switches_after, with_jobs, with_settings}
 use Rattle.s3_level.specs.Holds.{Holds, HoldsAtWork, Stocks, Becomes}
-use Rattle.s3_level.specs.Turning.{AtWorkBecomes, NextIs, Starts}
+use Rattle.s3_level.specs.Inner.Turning.{AtWorkBecomes, NextIs, Starts}
 
 pub taken_then_started : {T E : Type 0} (result : Result T E) (old taken new : Level) (job : Result Job FaultyJob) (after number : ℕ)
     → number ≡ old.number
@@ -126,28 +123,10 @@ program_performed (Ok _) number job program from to old new runs is_program is_f
     (subst (λ (named : Name). Holds new (run number (slice_range old.deck from to) (w.library named) w)) is_program (performs w held)))
 program_performed (Err _) number job program from to old new runs is_program is_from is_to performs = tt
 
--- a source without diagnostics is compiled: a program that stands for it is in the library
-pub compiled_source : {T E : Type 0} (result : Result T E) (number run_card from : ℕ) (cards : List (List ℕ)) (lines : List Line) (program : Program) (old new : Level)
-    → sheet_diagnostics from cards ≡ []
-    → lines ≡ lines_of from cards
-    → compile_diagnostics run_card lines ≡ []
-    → StandsFor program lines
-    → OnOk result ((source : Source) → Stands program source → Becomes (stocked program.name source) old new)
-    → OnOk result (Becomes (compiled_data number run_card from cards) old new)
-compiled_source (Ok _) number run_card from cards lines program old new no_faults are_lines accepted stands stocks =
-    let none : diagnostics_of run_card from cards ≡ [] =
-    ap (λ found. first_else found (compile_diagnostics run_card (lines_of from cards))) no_faults
-    ∙ ap (compile_diagnostics run_card) (sym are_lines) ∙ accepted in
-    λ w held.
-    subst (λ found. Holds new (compiled number (lines_of from cards) found w)) (sym none)
-    (subst (λ (all : List Line). Holds new (stocked (program_name all) (source_of all) w)) are_lines
-    (subst (λ name. Holds new (stocked name (source_of lines) w)) stands.name (stocks (source_of lines) stands.meaning w held)))
-compiled_source (Err _) number run_card from cards lines program old new no_faults are_lines accepted stands stocks = tt
-
 -- a program of the library is started: its copy's cycle is at the beginning of the whole run
-pub started_program : {T E : Type 0} (result : Result T E) (number first end : ℕ) (name : Name) (program copy : Program) (cycle : Stepper) (old middle new : Level)
+pub started_program : {T E : Type 0} (result : Result T E) (number first end : ℕ) (name : Name) (program : Stocked) (copy : Program) (cycle : Stepper) (old middle new : Level)
     → get same_name old.library name ≡ Some program
-    → ((source : Source) → Stands program source → Stands copy source)
+    → parts_of copy ≡ parts_of program.program
     → ((source : Source) → Stands copy source → RunsFor cycle source × ((answers : List Answer) → rest source cycle answers ≡ Req source old.switches old.date answers))
     → middle ≡ record old { job = Some (record { number = number; cycle = cycle; next = first; end = end }) }
     → OnOk result (AtWorkBecomes (λ job w. asking job.number (pending job w) w) middle new)
@@ -158,9 +137,9 @@ started_program (Ok _) number first end name program copy cycle old middle new f
     at : Source → JobAtWork
     at source = record { number = number; source = source; cards = slice_range old.deck first end; past = [] }
 
-    opened : (source : Source) → Stands program source → (w : World) → Holds old w → Holds (record old { job = Some (record { number = number; cycle = cycle; next = first; end = end }) }) (record w { job = Some (at source) })
+    opened : (source : Source) → Stands program.program source → (w : World) → Holds old w → Holds (record old { job = Some (record { number = number; cycle = cycle; next = first; end = end }) }) (record w { job = Some (at source) })
     opened source stands w held =
-        let runs = starts source (copies source stands) in
+        let runs = starts source (ap named copies ∙ stands) in
         record {
           cards = held.cards;
           jobs = held.jobs;

@@ -4,8 +4,8 @@ use Rattle.indexmap.specs.IndexMap.{get}
 use Rattle.s3_cards.specs.declared.name.Name.{Name}
 use Rattle.s3_cards.specs.Names.{same_name}
 use Rattle.s3_meaning.specs.Source.{Source}
-use Rattle.s3_compile.specs.declared.program.Program.{Program}
-use Rattle.s3_compile.specs.Stands.{Stands}
+use Rattle.s3_program.specs.Stands.{Stands}
+use Rattle.s3_level.specs.declared.stocked.Stocked.{Stocked}
 use Rattle.s3_cycle.specs.Rest.{Follows}
 use Rattle.s3_ocl.specs.Streams.{jobs_from}
 use Rattle.s3_level.specs.declared.action.Action.{Action}
@@ -17,9 +17,9 @@ use Rattle.s3_level.specs.World.{World, JobAtWork}
 use Rattle.s3_level.specs.Solo.{step_of}
 
 -- a program stands for the world's source of its name, where there is one
-abbrev pub Stocks : Option Program → Option Source → Type 0
+abbrev pub Stocks : Option Stocked → Option Source → Type 0
 Stocks None None = Unit {0}
-Stocks (Some program) (Some source) = Stands program source
+Stocks (Some stocked) (Some source) = Stands stocked.program source
 Stocks _ _ = ⊥
 
 -- an open job is the world's job at work. No answer is stored: its cycle goes on as the whole run does after the past

@@ -3,5 +3,5 @@ pub mod World
 pub mod Serving
 pub mod Solo
 pub mod Holds
-pub mod Turning
 pub mod Samples
+pub mod Inner

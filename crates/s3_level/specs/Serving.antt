@@ -2,17 +2,17 @@
 use Rattle.std.specs.Prelude.{ℕ, ◌-◌, ◌^◌, Bool, true, false, List, [], ◌∷◌, ◌++◌, drop, map, slice_range, slice_index_or, sum_by, Option, Some, None, unwrap_or, Result, Ok, Err, if◌then◌else◌}
 use Rattle.s3_cards.specs.Printed.{Printed}
 use Rattle.s3_cards.specs.declared.name.Name.{Name}
-use Rattle.s3_sheets.specs.declared.sheet.Line.{Line}
-use Rattle.s3_sheets.specs.declared.diagnostic.Diagnostic.{Diagnostic}
+use Rattle.s3_lines.specs.declared.sheet.Line.{Line}
+use Rattle.s3_lines.specs.declared.diagnostic.Diagnostic.{Diagnostic}
 use Rattle.s3_sheets.specs.Lines.{lines_of}
 use Rattle.s3_sheets.specs.Sheets.{sheet_diagnostics}
 use Rattle.s3_cards.specs.Names.{same_name}
-use Rattle.s3_meaning.specs.Source.{Source, source_of}
+use Rattle.s3_meaning.specs.Source.{Source, source_of, program_name}
 use Rattle.s3_meaning.specs.Requests.{Request, Card, Print, Jump, Ask, End, Answer, Found, Nothing, Done}
 use Rattle.s3_meaning.specs.Environment.{switch_on}
 use Rattle.s3_meaning.specs.Cycle.{Req}
-use Rattle.s3_compile.specs.Diagnostics.{first_else, compile_diagnostics}
-use Rattle.s3_compile.specs.Compiles.{program_name}
+use Rattle.s3_cycle.specs.Built.{is_built, unbuilt_cards}
+use Rattle.s3_diagnose.specs.Diagnostics.{compile_diagnostics}
 use Rattle.s3_ocl.specs.declared.values.Switch.{Switch}
 use Rattle.s3_ocl.specs.declared.values.Switch.TheVariants.{On, Off, Leave}
 use Rattle.s3_ocl.specs.declared.faults.FaultyJob.{FaultyJob}
@@ -84,6 +84,11 @@ served (End at_once) job w = acted (job_ended w)
 served _ job w = idle w
 
 -- ---- the start of a job
+-- the first list, unless it is empty
+abbrev pub first_else : List Diagnostic → List Diagnostic → List Diagnostic
+first_else [] others = others
+first_else (diagnostic ∷ more) others = diagnostic ∷ more
+
 -- the diagnostics of a source: those of its cards, or, where there are none, those of the whole
 abbrev pub diagnostics_of : (run_card from : ℕ) → List (List ℕ) → List Diagnostic
 diagnostics_of run_card from cards = first_else (sheet_diagnostics from cards) (compile_diagnostics run_card (lines_of from cards))
@@ -95,9 +100,19 @@ details_of diagnostics = map (λ diagnostic. (diagnostic.card, diagnostic.number
 abbrev pub stocked : Name → Source → World → World
 stocked name source w = record w { library = λ other. if same_name name other then Some source else w.library other }
 
--- a source without diagnostics goes into the library
+-- 2 on each of these cards, which aren't built
+abbrev pub unbuilt_details : List ℕ → List (ℕ × ℕ)
+unbuilt_details cards = map (λ card. (card, 2)) cards
+
+-- the source of lines goes into the library, if all its cards are built
+abbrev pub accepted : ℕ → List Line → World → World
+accepted number lines w =
+    if is_built lines then stocked (program_name lines) (source_of lines) w
+    else halting number FaultySource (unbuilt_details (unbuilt_cards lines)) w
+
+-- a source without diagnostics is accepted
 abbrev pub compiled : ℕ → List Line → List Diagnostic → World → World
-compiled number lines [] w = stocked (program_name lines) (source_of lines) w
+compiled number lines [] w = accepted number lines w
 compiled number lines (first ∷ more) w = halting number FaultySource (details_of (first ∷ more)) w
 
 -- a program of the library is started

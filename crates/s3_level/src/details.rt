@@ -1,8 +1,8 @@
 //! The details of a halt: numbers of cards, each with the number of what is wrong there.
 ghost use Rattle.std.specs.Prelude.{◌≡◌, [], ◌∷◌, IfOk};
-ghost use Rattle.s3_level.specs.Serving.{details_of};
+ghost use Rattle.s3_level.specs.Serving.{details_of, unbuilt_details};
 
-use s3_sheets::Diagnostic;
+use s3_lines::Diagnostic;
 use std::alloc::{AllocError, Global};
 
 /// The details of one card at fault.
@@ -23,4 +23,14 @@ pub fn details_of(alloc: Global, diagnostics: &[Diagnostic]) -> Result<Vec<(u16,
         details.push((diagnostic.card, diagnostic.number))?;
     }
     Ok(details)
+}
+
+/// The number of a card that isn't built.
+const UNBUILT: u8 = 2;
+
+/// The details of cards that aren't built.
+pub fn unbuilt_details(alloc: Global, cards: &[u16]) -> Result<Vec<(u16, u8)>, AllocError>
+    ensures { IfOk result (λ details. details.items ≡ unbuilt_details cards.now) }
+{
+    cards.iter().map(|card| (*card, UNBUILT)).collect(alloc)
 }

@@ -3,20 +3,24 @@
 ghost use Rattle.std.specs.Prelude.{◌≤◌};
 
 use crate::action::Did;
-use crate::details::{details_of, one_detail};
+use crate::details::{details_of, one_detail, unbuilt_details};
 use crate::halt::Halt;
 use crate::halt_code::HaltCode;
 use crate::halt_log::HaltLog;
 use crate::job::OpenJob;
 use crate::printed_lines::PrintedLines;
+use crate::stocked::Stocked;
 use crate::switches::switches_after;
 use indexmap::IndexMap;
 use s3_cards::ebcdic::DIGIT_0;
 use s3_cards::{Deck, LevelId, Name, PrintLine};
-use s3_compile::{CompileFault, Program, compile};
-use s3_cycle::{Answer, Cycle, Request};
+use s3_compile::{CompileFault, compile};
+use s3_cycle::{Answer, Cycle, Request, is_built, unbuilt_cards};
+use s3_lines::Diagnostic;
+use s3_lines::sheet::Line;
 use s3_ocl::{FaultyJob, JobCards, OclFault, job_at, split};
-use s3_sheets::{Diagnostic, SheetFault, read_sheets};
+use s3_program::program::Program;
+use s3_sheets::{SheetFault, read_sheets};
 use std::alloc::{AllocError, Global};
 
 /// One level at work.
@@ -29,7 +33,7 @@ pub struct Level {
     next: usize,
     /// the number of the next job, 0 to 999
     number: u16,
-    library: IndexMap<Name, Program>,
+    library: IndexMap<Name, Stocked>,
     switches: u8,
     date: [u8; 6],
     job: Option<OpenJob>,
@@ -50,7 +54,12 @@ impl Level {
     ghost use Rattle.s3_meaning.specs.Source.{Source};
     ghost use Rattle.s3_meaning.specs.Requests as Meant;
     ghost use Rattle.s3_cycle.specs.declared.request.Request.TheVariants.{Card, Print};
-    ghost use Rattle.s3_compile.specs.Stands.{Stands};
+    ghost use Rattle.s3_lines.specs.Ranges.{are_read};
+    ghost use Rattle.s3_diagnose.specs.Diagnostics.{compile_diagnostics};
+    ghost use Rattle.s3_program.specs.Stands.{Stands, source_named};
+    ghost use Rattle.s3_cycle.specs.Serves.{serves};
+    ghost use Rattle.s3_program.specs.Translation.{StandsFor};
+    ghost use Rattle.s3_cycle.specs.Built as built;
     ghost use Rattle.s3_cycle.specs.Requests.{answer_of, is_fit};
     ghost use Rattle.s3_ocl.specs.Jobs.{next_job};
     ghost use Rattle.s3_ocl.specs.Streams.{jobs_from};
@@ -59,10 +68,10 @@ impl Level {
     ghost use Rattle.s3_level.specs.declared.halt_code.HaltCode.TheVariants.{FaultySource};
     ghost use Rattle.s3_level.specs.Parts.{drained_lines, halt_of, with_line};
     ghost use Rattle.s3_level.specs.World.{World, JobAtWork, at_start};
-    ghost use Rattle.s3_level.specs.Serving.{answered, asking, card_answer, compiled_data, data_of, details_of, halting, job_ended, line_printed, pending, performed, run, served, started, stocked, switches_after, with_answer, with_card_read, with_jobs};
+    ghost use Rattle.s3_level.specs.Serving.{accepted, answered, asking, card_answer, compiled, compiled_data, data_of, details_of, unbuilt_details, halting, job_ended, line_printed, pending, performed, run, served, started, stocked, switches_after, with_answer, with_card_read, with_jobs};
     ghost use Rattle.s3_level.specs.Solo.{step_of, closed};
     ghost use Rattle.s3_level.specs.Holds.{Holds, Becomes, Steps, Stays};
-    ghost use Rattle.s3_level.specs.Turning.{Pends, request_by, FitsJob, AsksFor, AtWorkBecomes, Serves, NextIs, Begins, Starts, Turns};
+    ghost use Rattle.s3_level.specs.Inner.Turning.{Pends, request_by, FitsJob, AsksFor, AtWorkBecomes, Serves, NextIs, Begins, Starts, Turns};
 
     /// A level with this deck, before its first entry.
     pub fn new(alloc: Global, id: LevelId, deck: Deck) -> Result<Level, AllocError>
@@ -435,11 +444,38 @@ impl Level {
                 return self.show_diagnostics(number, &found);
             }
         };
-        match compile(self.alloc, &lines, run_card) {
-            Ok(program) => self.stock(program),
+        self.compile_lines(number, run_card, &lines)
+    }
+
+    /// Compiles a source without diagnostics on single cards.
+    fn compile_lines(
+        &mut self,
+        number: u16,
+        run_card: u16,
+        lines: &[Line],
+    ) -> Result<(), AllocError>
+        requires { IsTrue (are_read lines.now) }
+        ensures world { OnOk result (Becomes (compiled number lines.now (compile_diagnostics run_card lines.now)) self.old self.new) }
+        ensures stays { Stays self.old self.new }
+    {
+        match compile(self.alloc, lines, run_card) {
+            Ok(program) => self.accept(number, lines, program),
             Err(CompileFault::NoMemory) => Err(AllocError),
             Err(CompileFault::Diagnostics(found)) => { self.show_diagnostics(number, &found) }
         }
+    }
+
+    /// Puts the program of these lines into the library, or shows which of their cards aren't built.
+    #[tactic(auto, using(crate::proofs::Compiling::stocked_served, crate::proofs::Compiling::built_source, crate::proofs::Compiling::unbuilt_source))]
+    fn accept(&mut self, number: u16, lines: &[Line], program: Program) -> Result<(), AllocError>
+        requires { StandsFor program lines.now }
+        ensures world { OnOk result (Becomes (accepted number lines.now) self.old self.new) }
+        ensures stays { Stays self.old self.new }
+    {
+        if !is_built(lines) {
+            return self.show_unbuilt(number, lines);
+        }
+        self.stock(program)
     }
 
     /// Shows the diagnostics of a source.
@@ -451,12 +487,23 @@ impl Level {
         self.show(number, HaltCode::FaultySource, details)
     }
 
+    /// Shows the cards of a source that aren't built.
+    fn show_unbuilt(&mut self, number: u16, lines: &[Line]) -> Result<(), AllocError>
+        ensures world { OnOk result (Becomes (halting number FaultySource (unbuilt_details (built.unbuilt_cards lines.now))) self.old self.new) }
+        ensures stays { Stays self.old self.new }
+    {
+        let cards = unbuilt_cards(self.alloc, lines)?;
+        let details = unbuilt_details(self.alloc, &cards)?;
+        self.show(number, HaltCode::FaultySource, details)
+    }
+
     /// Puts a program into the library, in place of an earlier one of its name.
     fn stock(&mut self, program: Program) -> Result<(), AllocError>
+        requires { IsTrue (serves (source_named program)) }
         ensures world { OnOk result ((source : Source) → Stands program source → Becomes (stocked program.name source) self.old self.new) }
         ensures stays { Stays self.old self.new }
     {
-        self.library.insert(program.name, program)?;
+        self.library.insert(program.name, Stocked { program })?;
         Ok(())
     }
 
@@ -465,10 +512,10 @@ impl Level {
         ensures world { OnOk result (Becomes (λ w. run number (slice_range self.old.deck from to) (w.library name) w) self.old self.new) }
         ensures stays { Stays self.old self.new }
     {
-        let Some(program) = self.library.get(&name) else {
+        let Some(stocked) = self.library.get(&name) else {
             return self.show(number, HaltCode::NoProgram, Vec::new(self.alloc));
         };
-        let program = program.copy(self.alloc)?;
+        let program = stocked.program.copy(self.alloc)?;
         let cycle = Cycle::start(self.alloc, program, self.switches, self.date)?;
         self.open(OpenJob {
             number,

@@ -11,6 +11,7 @@ mod job;
 mod laws;
 mod level;
 mod printed_lines;
+mod stocked;
 mod switches;
 
 pub use action::{Action, Did};

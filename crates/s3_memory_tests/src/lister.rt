@@ -2,6 +2,7 @@
 
 use s3_bureau::{Action, Bureau, Did, Entry, Stop};
 use s3_cards::{Deck, DeckFault, LevelId};
+use std::process::Abort;
 use std::test::Fail;
 
 /// The card lister, compiled and run over the cards `ABC` and `DEF`.
@@ -30,6 +31,12 @@ fn lister_ends_or_stays_stopped(rt: HostRuntime) -> Result<(), Fail> {
     let Ok(mut bureau) = Bureau::open(rt.alloc(), deck, Deck::empty(rt.alloc())) else {
         return Ok(());
     };
+    assert_ends_or_stays_stopped(&rt, &mut bureau);
+    Ok(())
+}
+
+/// Takes the lister's turns up to its end, or up to the growth that is refused.
+fn assert_ends_or_stays_stopped(rt: &impl Abort, bureau: &mut Bureau) {
     for _turn in 0..TURNS {
         match bureau.step(TURN) {
             Ok(did) => assert_eq!(rt; did, Did::Acted),
@@ -38,7 +45,7 @@ fn lister_ends_or_stays_stopped(rt: HostRuntime) -> Result<(), Fail> {
                 assert_eq!(rt; bureau.step(TURN), Err(Stop::Stopped));
                 assert_eq!(rt; bureau.finish(), Err(Stop::Stopped));
                 assert_eq!(rt; bureau.step(TURN), Err(Stop::Stopped));
-                return Ok(());
+                return;
             }
         }
     }
@@ -46,5 +53,4 @@ fn lister_ends_or_stays_stopped(rt: HostRuntime) -> Result<(), Fail> {
     assert_eq!(rt; bureau.lines(LevelId::One).len(), 2);
     assert_eq!(rt; bureau.halts(LevelId::One).len(), 0);
     assert_eq!(rt; bureau.finish(), Err(Stop::Stopped));
-    Ok(())
 }

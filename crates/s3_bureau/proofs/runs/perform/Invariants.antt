@@ -2,7 +2,7 @@
 use Rattle.std.proofs.Common.{◌≡◌, take, true}
 use Rattle.s3_bureau.specs.Held.{is_open}
 use Rattle.std.specs.List.{flat_map}
-use Rattle.s3_bureau.specs.Underway.{Performs}
+use Rattle.s3_bureau.specs.Inner.Underway.{Performs}
 use Rattle.s3_bureau.specs.Script.{entries_by}
 use Rattle.s3_bureau.proofs.runs.perform.Given as goal
 

@@ -1,7 +1,7 @@
 -- The entry was performed so many times, and the bureau is open.
 use Rattle.std.proofs.Common.{◌≡◌, replicate, true}
 use Rattle.s3_bureau.specs.Held.{is_open}
-use Rattle.s3_bureau.specs.Underway.{Performs}
+use Rattle.s3_bureau.specs.Inner.Underway.{Performs}
 use Rattle.s3_bureau.proofs.runs.repeat.Given as goal
 
 abbrev pub invariant-loop-time : goal.invariant-loop-time

@@ -1,6 +1,8 @@
-use Rattle.std.proofs.Common.{arith}
-use Rattle.s3_cycle.proofs.TextLemmas.{fits_at}
+use Rattle.std.proofs.Common.{sym, ◌∙◌}
+use Rattle.s3_cycle.proofs.TextLemmas.{moved_more}
 use Rattle.s3_cycle.proofs.moving.move_fields.Goals as goal
 
-pub move_field-requires : goal.move_field-requires
-move_field-requires c = fits_at c.args.moves.now c.args.card.now c.args.texts.now c.loop-field_move.texts c.loop-field_move.field_move-index _ (omega arith) c.loop-field_move.invariant c.requires
+pub loop-line-preserved : goal.loop-line-preserved
+loop-line-preserved c =
+    moved_more c.args.lines.now c.args.card.now c.args.texts.now c.loop-line.texts c.move_line.new.texts c.loop-line.line-index _ c.loop-line-test.true c.loop-line.invariant
+    (sym c.move_line.ensures.goes ∙ c.if-not-move_line.false) c.move_line.ensures.value c.move_line.ensures.lengths

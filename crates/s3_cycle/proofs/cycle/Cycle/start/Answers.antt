@@ -1,8 +1,12 @@
 use Rattle.std.proofs.Common.{ap, sym, subst}
 use Rattle.s3_meaning.specs.Runs.{Run}
-use Rattle.s3_compile.specs.Stands.{Stands}
+use Rattle.s3_program.specs.Stands.{Stands}
 use Rattle.s3_cycle.specs.Rest.{StandsFor}
+use Rattle.s3_cycle.proofs.ServesLemmas.{is_served}
 use Rattle.s3_cycle.proofs.cycle.Cycle.start.Goals as goal
+
+pub start-requires : goal.start-requires
+start-requires c = is_served _ c.requires
 
 pub returns : goal.returns
 unfolding StandsFor

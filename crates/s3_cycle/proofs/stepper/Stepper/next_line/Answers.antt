@@ -1,14 +1,12 @@
-use Rattle.std.proofs.Common.{◌≡◌, ◌∙◌, sym, refl, length, slice_get, Some, arith}
-use Rattle.std.proofs.lemmas.Option.{slice_get_read}
-use Rattle.s3_cycle.proofs.LineLemmas.{line-skipped}
+use Rattle.std.proofs.Common.{sym, ◌∙◌, arith}
+use Rattle.s3_cycle.proofs.StepLemmas.{skips_more, skips_all, is_printed}
 use Rattle.s3_cycle.proofs.stepper.Stepper.next_line.Goals as goal
 
 pub loop-place-preserved : goal.loop-place-preserved
-loop-place-preserved c =
-    let there : slice_get c.args.self.now.program.lines.items c.loop-place.place ≡ Some c.index.result.now = slice_get_read c.args.self.now.program.lines.items (length c.args.self.now.program.lines.items) c.loop-place.place c.index.result.now refl (omega arith) c.index.ensures in
-    λ source stands. c.loop-place.invariant source stands ∙ line-skipped source c.args.self.now _ c.loop-place.place c.index.result.now stands there (sym c.is_due.ensures ∙ c.if-is_due.false)
+loop-place-preserved c = skips_more c.args.self.now c.args.next c.loop-place.place c.requires.sound (omega arith) c.loop-place.invariant (sym c.is_due.ensures ∙ c.if-is_due.false)
 
 pub returns-then-is_due-clause-found : goal.returns-then-is_due-clause-found
-returns-then-is_due-clause-found c =
-    let there : slice_get c.args.self.now.program.lines.items c.loop-place.place ≡ Some c.index.result.now = slice_get_read c.args.self.now.program.lines.items (length c.args.self.now.program.lines.items) c.loop-place.place c.index.result.now refl (omega arith) c.index.ensures in
-    (record { within = omega arith; line = c.index.result.now; there = there; due = sym c.is_due.ensures ∙ c.if-is_due.true }, c.loop-place.invariant)
+returns-then-is_due-clause-found c = (is_printed c.args.self.now c.loop-place.place c.requires.sound (omega arith) (sym c.is_due.ensures ∙ c.if-is_due.true), c.loop-place.invariant)
+
+pub returns-clause-none : goal.returns-clause-none
+returns-clause-none c = skips_all c.args.self.now c.args.next c.loop-place.place c.loop-place.invariant (omega (arith, c.len-place-end.ensures, c.loop-place-test.false))

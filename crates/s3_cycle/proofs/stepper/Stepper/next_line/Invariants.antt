@@ -1,4 +1,4 @@
-use Rattle.s3_cycle.specs.Steps.{SkipsTo}
+use Rattle.s3_cycle.specs.Inner.Steps.{SkipsTo}
 use Rattle.s3_cycle.proofs.stepper.Stepper.next_line.Given as goal
 
 abbrev pub invariant-loop-place : goal.invariant-loop-place

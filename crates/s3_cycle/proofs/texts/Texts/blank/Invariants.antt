@@ -1,5 +1,5 @@
 use Rattle.std.proofs.Common.{◌≡◌, map, take}
-use Rattle.s3_cycle.specs.Texts.{blank_texts}
+use Rattle.s3_cycle.specs.Inner.Texts.{blank_texts}
 use Rattle.s3_cycle.proofs.texts.Texts.blank.Given as goal
 
 abbrev pub invariant-loop-field : goal.invariant-loop-field

@@ -1,6 +1,6 @@
 use Rattle.std.proofs.Common.{ℕ, Ok, subst}
 use Rattle.std.specs.Prelude.{OnOk}
-use Rattle.s3_level.specs.Turning.{Starts}
+use Rattle.s3_level.specs.Inner.Turning.{Starts}
 use Rattle.s3_level.proofs.Starting.{set_then_performed}
 use Rattle.s3_level.proofs.level.Level.start.Goals as goal
 

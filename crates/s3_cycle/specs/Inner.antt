@@ -1,0 +1,9 @@
+-- Words of inner functions and of proofs: none of them says what the product means.
+pub mod Held
+pub mod Printing
+pub mod Steps
+pub mod Texts
+pub mod Slots
+pub mod Places
+pub mod Moving
+pub mod Indicators
