@@ -4,7 +4,7 @@ use Rattle.std.specs.List.{insert}
 use Rattle.std.proofs.lemmas.Bool.{ltb-true, ltb-false, eqb-true, eq-eqb}
 use Rattle.s3_keyed.specs.declared.indexed.IndexEntry.{IndexEntry}
 use Rattle.s3_keyed.specs.KeyOrder.{number_of, Entry, insert_entry, ascends, keys_in}
-use Rattle.s3_keyed.specs.Shape.{entry_of}
+use Rattle.s3_keyed.specs.Inner.Shape.{entry_of}
 use Rattle.s3_keyed.proofs.Order.{below, at_most}
 use Rattle.s3_keyed.proofs.Goodness.{to_ascends, ascends_get}
 

@@ -6,7 +6,7 @@ use Rattle.s3_store.specs.State.{PoolState, KeepsContents}
 use Rattle.s3_files.specs.Records.{records_in}
 use Rattle.s3_keyed.specs.KeyOrder.{Entry, key_order, insert_entries, ascends, keys_in}
 use Rattle.s3_keyed.specs.Index.{Layout, keys_of, index_in}
-use Rattle.s3_keyed.specs.Shape.{layout_in, entry_of}
+use Rattle.s3_keyed.specs.Inner.Shape.{layout_in, entry_of}
 use Rattle.s3_keyed.specs.declared.keyed.Keyed.{Keyed}
 
 -- its sectors and their layout; how many records stood at its check, how many have their entry on the pack, how many there are;

@@ -3,4 +3,4 @@ pub mod Index
 pub mod KeyOrder
 pub mod Keyed
 pub mod Samples
-pub mod Shape
+pub mod Inner

@@ -2,7 +2,7 @@
 ghost use Rattle.std.specs.Prelude.{◌≡◌, ◌≢◌, ◌≤◌, ◌<◌, ◌+◌, ℕ, Some, true, nat_lt, length, map, slice_get, OnOk, OnErr, IfErr, MatchOption};
 ghost use Rattle.std.specs.List.{list_all};
 ghost use Rattle.s3_keyed.specs.KeyOrder.{number_of, insert_entry, ascends, keys_in};
-ghost use Rattle.s3_keyed.specs.Shape.{entry_of};
+ghost use Rattle.s3_keyed.specs.Inner.Shape.{entry_of};
 
 use crate::indexed::IndexEntry;
 use crate::keys::Key;

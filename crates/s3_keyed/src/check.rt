@@ -5,7 +5,7 @@ ghost use Rattle.s3_store.specs.Failures.{failed_transfers};
 ghost use Rattle.s3_files.specs.Files.{AreStored};
 ghost use Rattle.s3_keyed.specs.KeyOrder.{number_of, is_good_index};
 ghost use Rattle.s3_keyed.specs.Index.{index_in};
-ghost use Rattle.s3_keyed.specs.Shape.{layout_in, bytes_in, keys_on};
+ghost use Rattle.s3_keyed.specs.Inner.Shape.{layout_in, bytes_in, keys_on};
 
 use crate::entries::{read_entry, read_key};
 use crate::indexed::IndexedFile;

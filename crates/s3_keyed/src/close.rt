@@ -7,7 +7,7 @@ ghost use Rattle.s3_files.specs.Files.{AreStored};
 ghost use Rattle.s3_files.specs.Records.{records_in};
 ghost use Rattle.s3_keyed.specs.KeyOrder.{number_of, insert_entries, ascends, keys_in, IsAscending};
 ghost use Rattle.s3_keyed.specs.Index.{entry_at, index_in};
-ghost use Rattle.s3_keyed.specs.Shape.{layout_in, bytes_in, entry_of};
+ghost use Rattle.s3_keyed.specs.Inner.Shape.{layout_in, bytes_in, entry_of};
 
 use crate::entries::read_entry;
 use crate::indexed::{IndexEntry, IndexedFile};

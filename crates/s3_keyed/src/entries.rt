@@ -6,7 +6,7 @@ ghost use Rattle.s3_store.specs.Bytes.{part};
 ghost use Rattle.s3_files.specs.Files.{AreStored};
 ghost use Rattle.s3_keyed.specs.KeyOrder.{number_of};
 ghost use Rattle.s3_keyed.specs.Index.{entry_place, entry_at, key_of};
-ghost use Rattle.s3_keyed.specs.Shape.{layout_in, bytes_in, entry_of};
+ghost use Rattle.s3_keyed.specs.Inner.Shape.{layout_in, bytes_in, entry_of};
 
 use crate::indexed::{IndexEntry, IndexedFile};
 use crate::keys::Key;

@@ -27,7 +27,7 @@ impl IndexedFile {
     ghost use Rattle.s3_files.specs.Files.{HasRoom};
     ghost use Rattle.s3_slots.specs.Labels.{sectors_of};
     ghost use Rattle.s3_keyed.specs.Index.{HasIndex, layout_of};
-    ghost use Rattle.s3_keyed.specs.Shape.{layout_in};
+    ghost use Rattle.s3_keyed.specs.Inner.Shape.{layout_in};
 
     /// The file that a label describes.
     pub fn of(label: &FileLabel) -> Self

@@ -7,7 +7,7 @@ ghost use Rattle.s3_files.specs.Files.{AreStored};
 ghost use Rattle.s3_keyed.specs.KeyOrder.{number_of, key_order, is_good_index};
 ghost use Rattle.s3_files.specs.Records.{record_at};
 ghost use Rattle.s3_keyed.specs.Index.{key_of, index_in};
-ghost use Rattle.s3_keyed.specs.Shape.{layout_in, bytes_in, keys_on};
+ghost use Rattle.s3_keyed.specs.Inner.Shape.{layout_in, bytes_in, keys_on};
 ghost use Rattle.s3_keyed.specs.Calls.{place_of_key, nth_by_key as nth_by_key_spec, with_added, with_loaded, with_updated, IsOfSectors, keyed_result, index_answer, unit_of, Answers, Leaves, OnRefusal, or_no_key, failed_keyed_transfers};
 
 use crate::added::{insert_added, is_above_added, number_among};

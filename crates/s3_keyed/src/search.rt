@@ -6,7 +6,7 @@ ghost use Rattle.s3_store.specs.Failures.{failed_transfers};
 ghost use Rattle.s3_files.specs.Files.{AreStored};
 ghost use Rattle.s3_keyed.specs.KeyOrder.{number_of, ascends, keys_in, IsAscending};
 ghost use Rattle.s3_keyed.specs.Index.{entry_at, index_in};
-ghost use Rattle.s3_keyed.specs.Shape.{layout_in, bytes_in};
+ghost use Rattle.s3_keyed.specs.Inner.Shape.{layout_in, bytes_in};
 
 use crate::entries::read_entry;
 use crate::indexed::IndexedFile;

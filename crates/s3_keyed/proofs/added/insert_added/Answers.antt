@@ -1,5 +1,5 @@
 use Rattle.std.proofs.Common.{map, ap, ◌∙◌}
-use Rattle.s3_keyed.specs.Shape.{entry_of}
+use Rattle.s3_keyed.specs.Inner.Shape.{entry_of}
 use Rattle.s3_keyed.proofs.InMemory.{inserted}
 use Rattle.s3_keyed.proofs.added.insert_added.Goals as goal
 

@@ -1,6 +1,6 @@
 use Rattle.std.proofs.Common.{◌-◌, length, map, sym, ◌∙◌, arith}
 use Rattle.s3_keyed.specs.KeyOrder.{number_of}
-use Rattle.s3_keyed.specs.Shape.{entry_of}
+use Rattle.s3_keyed.specs.Inner.Shape.{entry_of}
 use Rattle.s3_keyed.proofs.Highest.{highest_says}
 use Rattle.s3_keyed.proofs.InMemory.{index_got, get_mapped}
 use Rattle.s3_keyed.proofs.MergeSteps.{length_entries}

@@ -3,7 +3,7 @@ use Rattle.s3_store.proofs.Frames.{keeps_trans}
 use Rattle.std.specs.List.{range_with_len}
 use Rattle.s3_keyed.specs.KeyOrder.{number_of}
 use Rattle.s3_keyed.specs.Index.{entry_at, index_in}
-use Rattle.s3_keyed.specs.Shape.{layout_in, bytes_in, keys_on, entry_of}
+use Rattle.s3_keyed.specs.Inner.Shape.{layout_in, bytes_in, keys_on, entry_of}
 use Rattle.s3_keyed.proofs.Goodness.{to_good, not_good}
 use Rattle.s3_keyed.proofs.Places.{length_keys, get_key}
 use Rattle.s3_keyed.proofs.Checked.{AreChecked, checked-more, checked-good, not_after, not_in_range, not_its_key, its_key}

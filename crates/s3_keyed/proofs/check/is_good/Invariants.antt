@@ -2,7 +2,7 @@ use Rattle.std.proofs.Common.{◌≡◌, ◌-◌, ◌<◌}
 use Rattle.s3_store.specs.State.{KeepsContents}
 use Rattle.s3_keyed.specs.KeyOrder.{number_of}
 use Rattle.s3_keyed.specs.Index.{entry_at}
-use Rattle.s3_keyed.specs.Shape.{layout_in, bytes_in, keys_on}
+use Rattle.s3_keyed.specs.Inner.Shape.{layout_in, bytes_in, keys_on}
 use Rattle.s3_keyed.proofs.Checked.{AreChecked}
 use Rattle.s3_keyed.proofs.check.is_good.Given as goal
 

@@ -4,7 +4,7 @@ use Rattle.s3_store.proofs.Frames.{keeps_within, within_trans}
 use Rattle.s3_files.specs.Records.{records_in}
 use Rattle.s3_keyed.specs.KeyOrder.{insert_entries}
 use Rattle.s3_keyed.specs.Index.{entry_at, index_in}
-use Rattle.s3_keyed.specs.Shape.{layout_in, bytes_in, entry_of}
+use Rattle.s3_keyed.specs.Inner.Shape.{layout_in, bytes_in, entry_of}
 use Rattle.s3_keyed.proofs.InMemory.{key_at, index_got}
 use Rattle.s3_keyed.proofs.MergeSteps.{some_items, no_items, last_hit, last_miss, step_moved, step_placed, merge_ends, ascends_take, short_take, short_at}
 use Rattle.s3_keyed.proofs.Places.{same_records}

@@ -4,7 +4,7 @@ use Rattle.s3_store.specs.State.{ChangesWithin}
 use Rattle.s3_files.specs.Records.{records_in}
 use Rattle.s3_keyed.specs.KeyOrder.{ascends, keys_in, insert_entries}
 use Rattle.s3_keyed.specs.Index.{entry_at}
-use Rattle.s3_keyed.specs.Shape.{layout_in, bytes_in, entry_of}
+use Rattle.s3_keyed.specs.Inner.Shape.{layout_in, bytes_in, entry_of}
 use Rattle.s3_keyed.proofs.Merging.{IsMerging}
 use Rattle.s3_keyed.proofs.close.merge.Given as goal
 

@@ -1,7 +1,7 @@
 use Rattle.std.proofs.Common.{◌+◌, ◌*◌, sym, ap, ◌∙◌, refl, arith}
 use Rattle.s3_store.specs.Bytes.{part}
 use Rattle.s3_keyed.specs.KeyOrder.{number_of}
-use Rattle.s3_keyed.specs.Shape.{layout_in, bytes_in}
+use Rattle.s3_keyed.specs.Inner.Shape.{layout_in, bytes_in}
 use Rattle.s3_keyed.proofs.Places.{key_there, length_buffer}
 use Rattle.s3_keyed.proofs.entries.read_key.Goals as goal
 

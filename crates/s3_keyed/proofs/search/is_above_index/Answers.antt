@@ -1,7 +1,7 @@
 use Rattle.std.proofs.Common.{◌-◌, Some, sym, ap, ◌∙◌, arith}
 use Rattle.s3_keyed.specs.KeyOrder.{number_of}
 use Rattle.s3_keyed.specs.Index.{index_in}
-use Rattle.s3_keyed.specs.Shape.{layout_in, bytes_in, entry_of}
+use Rattle.s3_keyed.specs.Inner.Shape.{layout_in, bytes_in, entry_of}
 use Rattle.s3_keyed.proofs.Highest.{highest_says, none_indexed, length_index}
 use Rattle.s3_keyed.proofs.Ordered.{get_index}
 use Rattle.s3_keyed.proofs.search.is_above_index.Goals as goal

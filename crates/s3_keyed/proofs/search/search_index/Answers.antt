@@ -2,7 +2,7 @@ use Rattle.std.proofs.Common.{◌≡◌, ◌+◌, ◌-◌, ◌/◌, ◌<◌, ap,
 use Rattle.s3_store.proofs.Frames.{keeps_trans}
 use Rattle.s3_keyed.specs.KeyOrder.{number_of}
 use Rattle.s3_keyed.specs.Index.{entry_at}
-use Rattle.s3_keyed.specs.Shape.{layout_in, bytes_in, entry_of}
+use Rattle.s3_keyed.specs.Inner.Shape.{layout_in, bytes_in, entry_of}
 use Rattle.s3_keyed.proofs.Checked.{lower_half, upper_half, not_found, is_below, is_beyond, is_found}
 use Rattle.s3_keyed.proofs.search.search_index.Goals as goal
 

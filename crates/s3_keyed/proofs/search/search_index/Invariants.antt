@@ -2,7 +2,7 @@ use Rattle.std.proofs.Common.{◌≡◌, ◌-◌, ◌<◌, ◌≤◌, ℕ}
 use Rattle.s3_store.specs.State.{KeepsContents}
 use Rattle.s3_keyed.specs.KeyOrder.{number_of}
 use Rattle.s3_keyed.specs.Index.{entry_at}
-use Rattle.s3_keyed.specs.Shape.{layout_in, bytes_in}
+use Rattle.s3_keyed.specs.Inner.Shape.{layout_in, bytes_in}
 use Rattle.s3_keyed.proofs.search.search_index.Given as goal
 
 abbrev pub invariant-halve : goal.invariant-halve

@@ -1,5 +1,5 @@
 use Rattle.std.proofs.Common.{◌≡◌, ◌+◌, length, ap, ◌∙◌, rules, arith}
-use Rattle.s3_keyed.specs.Shape.{layout_in, bytes_in}
+use Rattle.s3_keyed.specs.Inner.Shape.{layout_in, bytes_in}
 use Rattle.s3_keyed.specs.Index.{entry_at}
 use Rattle.s3_keyed.proofs.Places.{other_entry, length_buffer, placed}
 use Rattle.s3_keyed.proofs.write.write_entry.Goals as goal

@@ -1,7 +1,7 @@
 use Rattle.std.proofs.Common.{◌++◌, ◌∷◌, [], Ok, sym, ap, ◌∙◌, arith}
 use Rattle.s3_files.proofs.RecordLemmas.{length_records}
 use Rattle.s3_keyed.specs.KeyOrder.{number_of}
-use Rattle.s3_keyed.specs.Shape.{layout_in, bytes_in}
+use Rattle.s3_keyed.specs.Inner.Shape.{layout_in, bytes_in}
 use Rattle.s3_keyed.specs.Keyed.{shown, records_now}
 use Rattle.s3_keyed.proofs.Appending.{added_duplicate, added_full, added_made, is_none}
 use Rattle.s3_keyed.proofs.keyed.Keyed.add.Goals as goal

@@ -1,6 +1,6 @@
 use Rattle.std.proofs.Common.{◌^◌, map}
 use Rattle.s3_keyed.specs.KeyOrder.{number_of}
-use Rattle.s3_keyed.specs.Shape.{layout_in, bytes_in, entry_of}
+use Rattle.s3_keyed.specs.Inner.Shape.{layout_in, bytes_in, entry_of}
 use Rattle.s3_files.proofs.RecordLemmas.{records_push}
 use Rattle.s3_keyed.proofs.Appending.{appended_added}
 use Rattle.s3_keyed.proofs.keyed.Keyed.append_added.Goals as goal

@@ -2,7 +2,7 @@ use Rattle.std.proofs.Common.{Ok, sym, ap, ◌∙◌}
 use Rattle.s3_files.specs.Records.{got}
 use Rattle.s3_files.proofs.RecordLemmas.{get_record}
 use Rattle.s3_keyed.specs.Calls.{keyed_result}
-use Rattle.s3_keyed.specs.Shape.{bytes_in}
+use Rattle.s3_keyed.specs.Inner.Shape.{bytes_in}
 use Rattle.s3_keyed.proofs.CallLemmas.{no_record}
 use Rattle.s3_keyed.proofs.keyed.Keyed.get.Goals as goal
 

@@ -1,4 +1,4 @@
-use Rattle.s3_keyed.specs.Shape.{layout_in, bytes_in, keys_on, entry_of}
+use Rattle.s3_keyed.specs.Inner.Shape.{layout_in, bytes_in, keys_on, entry_of}
 use Rattle.s3_keyed.specs.Index.{index_in}
 use Rattle.std.proofs.Common.{◌^◌, ◌∙◌, map, ap}
 use Rattle.s3_keyed.proofs.Places.{length_keys}

@@ -1,6 +1,6 @@
 use Rattle.std.proofs.Common.{◌≡◌, map, subst, inl, inr, arith}
 use Rattle.s3_keyed.specs.KeyOrder.{number_of, Entry}
-use Rattle.s3_keyed.specs.Shape.{layout_in, bytes_in, entry_of}
+use Rattle.s3_keyed.specs.Inner.Shape.{layout_in, bytes_in, entry_of}
 use Rattle.s3_keyed.proofs.Order.{In}
 use Rattle.s3_keyed.proofs.Places.{length_keys}
 use Rattle.s3_keyed.proofs.Ordered.{index_ascending, index_hit, index_miss, memory_hit, memory_miss, entry_place_is, found_place, no_place}

@@ -4,7 +4,7 @@ use Rattle.s3_store.specs.Bytes.{part, SameOutside}
 use Rattle.s3_store.proofs.Frames.{keeps_within}
 use Rattle.s3_files.proofs.RecordLemmas.{length_records, get_record, records_set}
 use Rattle.s3_keyed.specs.Index.{keys_of}
-use Rattle.s3_keyed.specs.Shape.{layout_in, bytes_in}
+use Rattle.s3_keyed.specs.Inner.Shape.{layout_in, bytes_in}
 use Rattle.s3_keyed.specs.Keyed.{shown, records_now}
 use Rattle.s3_keyed.proofs.Places.{index_stays}
 use Rattle.s3_keyed.proofs.CallLemmas.{no_record, update_none, update_changed, update_made, same_key, keys_updated, ordered_same}

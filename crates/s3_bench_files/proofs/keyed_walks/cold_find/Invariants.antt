@@ -1,0 +1,10 @@
+use Rattle.std.proofs.Common.{◌≡◌}
+use Rattle.s3_files.specs.Files.{AreStored}
+use Rattle.s3_keyed.specs.Keyed.{shown, HasKeyOrder}
+use Rattle.s3_bench_files.proofs.keyed_walks.cold_find.Given as goal
+
+abbrev pub invariant-loop-call : goal.invariant-loop-call
+invariant-loop-call l = record {
+  stored : AreStored (shown l.file).sectors l.store.inner;
+  ordered : HasKeyOrder (shown l.file) l.store.inner;
+}

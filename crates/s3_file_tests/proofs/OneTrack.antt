@@ -1,0 +1,63 @@
+-- A file over one run of 24 sectors, and a store of zeros.
+use Rattle.std.proofs.Common.{◌≡◌, ℕ, ◌+◌, ◌/◌, ◌<◌, ◌≤◌, List, [], ◌∷◌, length, take, sym, ap, subst, ◌∙◌, arith}
+use Rattle.std.proofs.lemmas.List.Elements.{All-append}
+use Rattle.std.proofs.lemmas.List.FromFn.{length-range_with_len, get_or-range_with_len}
+use Rattle.std.specs.List.{All, range_with_len}
+use Rattle.std.proofs.lemmas.List.{length-take}
+use Rattle.s3_store.specs.Contents.{sectors_of as sectors_of_bytes}
+use Rattle.s3_store.proofs.Chunks.{length-first_chunks}
+use Rattle.s3_store.specs.Stretches.{sectors_in}
+use Rattle.s3_store.specs.declared.stretch.Stretch.{Stretch}
+use Rattle.s3_slots.specs.Labels.{sectors_of}
+use Rattle.s3_slots.specs.Stretches.{are_apart}
+use Rattle.s3_slots.specs.declared.label.FileLabel.{FileLabel}
+use Rattle.s3_files.specs.Files.{HasRoom, AreStored}
+use Rattle.s3_files.proofs.Rooms.{all_distinct, length_sectors}
+use Rattle.s3_keyed.specs.Index.{HasIndex}
+
+abbrev pub track : List Stretch
+track = record { start = 408; sectors = 24 } ∷ []
+
+run_below : (a n limit : ℕ) → a + n ≤ limit → All (λ m. m < limit) (range_with_len a n)
+run_below a n limit few k d below =
+    let long = length-range_with_len a n in
+    let at = get_or-range_with_len a n k d (omega (arith, long)) in
+    omega (arith, at, long)
+
+sectors_below : (limit : ℕ) → 432 ≤ limit → All (λ m. m < limit) (sectors_in track)
+sectors_below limit few = All-append (λ m. m < limit) (range_with_len 408 24) [] (run_below 408 24 limit few) (λ k d below. absurd (omega arith))
+
+track_length : length (sectors_in track) ≡ 24
+track_length = length_sectors track
+
+pub track_room : (label : FileLabel) → label.extents ≡ track → label.record_length ≡ 10 → label.capacity ≤ 10 → label.count ≤ label.capacity → HasRoom label
+track_room label at long few counted =
+    let sectors : length (sectors_in label.extents) ≡ 24 = ap (λ es. length (sectors_in es)) at ∙ track_length in
+    record {
+      small = subst (λ es. All (λ n. n < 65536) (sectors_in es)) (sym at) (sectors_below 65536 (omega arith));
+      distinct = all_distinct label.extents (ap are_apart at);
+      fits = rw long (omega (arith, sectors));
+      few = omega (arith, sectors);
+      counted = counted;
+    }
+
+pub track_index : (label : FileLabel) → label.extents ≡ track → label.record_length ≡ 10 → label.capacity ≤ 10 → label.key_length ≡ 1 → label.key_start ≡ 1 → HasIndex label
+track_index label at long few key start =
+    let sectors : length (sectors_in label.extents) ≡ 24 = ap (λ es. length (sectors_in es)) at ∙ track_length in
+    record {
+      some_key = omega arith;
+      short_key = omega arith;
+      some_start = omega arith;
+      inside = omega arith;
+      fits = rw (long, key) (omega (arith, sectors));
+    }
+
+pub track_stored : (label : FileLabel) (contents : List (List ℕ)) → label.extents ≡ track → 432 ≤ length contents → AreStored (sectors_of label) contents
+unfolding sectors_of
+track_stored label contents at few = subst (λ es. AreStored (sectors_in es) contents) (sym at) (sectors_below (length contents) few)
+
+pub store_length : (bytes : List ℕ) (store : List (List ℕ)) → store ≡ take 65535 (sectors_of_bytes bytes) → length bytes ≡ 110592 → length store ≡ 432
+store_length bytes store at long =
+    let n : length bytes / 256 ≡ 432 = ap (λ n. n / 256) long in
+    let count : length store ≡ length (take 65535 (sectors_of_bytes bytes)) = ap length at in
+    omega (arith, n, count, length-take 65535 (sectors_of_bytes bytes), length-first_chunks (length bytes / 256) bytes)
