@@ -21,7 +21,7 @@ use Rattle.s3_ocl.specs.Statements.{Statement, statement_at, statements_within, 
 use Rattle.s3_ocl.specs.Contents.{first_in, has, files_of, file_of, name_in, date_in, switches_in}
 use Rattle.s3_ocl.specs.Faults.{fault_number, is_before, earlier, first_fault, statement_faults, faults_behind}
 use Rattle.s3_ocl.specs.Jobs.{Job, cards_of, holds_at, stop_fault, stop_faults, faulty_end, job_with, job_or_fault, heading_at, job_at}
-use Rattle.s3_ocl.specs.Steps.{Contents, KeptOf, contents_of, contents_with, last_fault, with_last}
+use Rattle.s3_ocl.specs.Inner.Steps.{Contents, KeptOf, contents_of, contents_with, last_fault, with_last}
 use Rattle.s3_ocl.proofs.FaultLemmas.{earlier_assoc, first_fault-append}
 use Rattle.s3_ocl.proofs.PieceLemmas.{at_card, past}
 use Rattle.s3_ocl.proofs.BoundLemmas.{Each, each-append, each_statement, each_later}

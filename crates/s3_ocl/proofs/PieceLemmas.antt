@@ -11,7 +11,7 @@ use Rattle.s3_ocl.specs.Signs.{is_comma}
 use Rattle.s3_ocl.specs.Cards.{is_continuation, first_word, second_word}
 use Rattle.s3_ocl.specs.Parameters.{verb_of, goes_on, parts_of}
 use Rattle.s3_ocl.specs.Statements.{piece_of, texts_behind, pieces_in, pieces_from, pieces_of, statement_at}
-use Rattle.s3_ocl.specs.Steps.{pieces_more}
+use Rattle.s3_ocl.specs.Inner.Steps.{pieces_more}
 
 -- a text without parameters adds none
 pub no_parts : (verb : Verb) (number : ℕ) (pieces : List Piece) (text : List ℕ) → length text ≡ 0 → pieces ++ pieces_in verb number (length pieces) (parts_of text) ≡ pieces

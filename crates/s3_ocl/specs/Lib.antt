@@ -6,7 +6,7 @@ pub mod Parameters
 pub mod Signs
 pub mod Sound
 pub mod Statements
-pub mod Steps
 pub mod Streams
 pub mod Values
 pub mod Words
+pub mod Inner

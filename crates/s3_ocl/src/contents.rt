@@ -2,7 +2,7 @@
 ghost use Rattle.std.specs.Prelude.{◌≡◌, ◌++◌, [], OnOk, find};
 ghost use Rattle.std.specs.Option.{option_copied, option_to_list};
 ghost use Rattle.s3_ocl.specs.Contents.{stands_at as stands_at_spec, gives as gives_spec, is_given as is_given_spec, right_value as right_value_spec, value_in as value_in_spec, named as named_spec, count as count_spec, kept as kept_spec, dated as dated_spec, set as set_spec, name_in as name_in_spec, count_in as count_in_spec, retention_in, date_in as date_in_spec, switches_in as switches_in_spec, size_of as size_of_spec, file_with as file_with_spec, file_of as file_of_spec};
-ghost use Rattle.s3_ocl.specs.Steps.{contents_of, contents_with};
+ghost use Rattle.s3_ocl.specs.Inner.Steps.{contents_of, contents_with};
 
 use super::file_list::FileList;
 use super::parameters::{Entry, Parameter, Verb};
@@ -216,7 +216,7 @@ pub struct Contents {
 }
 
 impl Model for Contents {
-    ghost use Rattle.s3_ocl.specs.Steps.{Contents};
+    ghost use Rattle.s3_ocl.specs.Inner.Steps.{Contents};
 
     ghost Value = { Contents };
 

@@ -2,7 +2,7 @@
 ghost use Rattle.std.specs.Prelude.{◌≡◌, ◌+◌, ◌<◌, ◌≤◌, ◌∷◌, ◌++◌, OnOk, IfOk, IfSome, MatchOption, length, drop, slice_index_or, []};
 ghost use Rattle.s3_ocl.specs.Parameters.{parts_of};
 ghost use Rattle.s3_ocl.specs.Statements.{piece_of, pieces_in, texts_behind, is_verb, statement_at};
-ghost use Rattle.s3_ocl.specs.Steps.{pieces_more};
+ghost use Rattle.s3_ocl.specs.Inner.Steps.{pieces_more};
 
 use super::cards::{card_at, first_word, is_continuation, second_word};
 use super::parameters::{

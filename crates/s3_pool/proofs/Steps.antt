@@ -18,7 +18,7 @@ use Rattle.s3_store.proofs.SectorLists.{slice_get_set_same, slice_get_set_other,
 use Rattle.s3_pool.specs.declared.buffers.Buffer.{Buffer}
 use Rattle.s3_pool.specs.declared.buffers.Buffers.{Buffers}
 use Rattle.s3_pool.specs.Buffers.{laid, IsSound, KeepsLaid, Overwrites, pool_state}
-use Rattle.s3_pool.specs.BufferLending.{dirty, with_buffer}
+use Rattle.s3_pool.specs.Inner.BufferLending.{dirty, with_buffer}
 use Rattle.s3_pool.specs.Lending.{ChangesSector, KeepsAll}
 use Rattle.s3_pool.proofs.Laid.{apart, length_laid, laid_promoted, laid_held, laid_missed, laid_append, laid_set_value}
 

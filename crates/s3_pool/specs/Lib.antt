@@ -1,3 +1,3 @@
 pub mod Buffers
-pub mod BufferLending
 pub mod Lending
+pub mod Inner

@@ -5,7 +5,7 @@ ghost use Rattle.std.specs.Borrow.{sem};
 ghost use Rattle.lru.specs.LruCache.{IsValid};
 ghost use Rattle.s3_store.specs.Failures.{failed_calls, failed_transfers};
 ghost use Rattle.s3_pool.specs.Buffers.{IsSound, KeepsLaid, Overwrites};
-ghost use Rattle.s3_pool.specs.BufferLending.{LendsBytes, LendsBuffer, dirty, with_buffer};
+ghost use Rattle.s3_pool.specs.Inner.BufferLending.{LendsBytes, LendsBuffer, dirty, with_buffer};
 
 use lru::LruCache;
 use s3_store::{PackStore, PoolFault, StoreFault};

@@ -1,6 +1,6 @@
 use Rattle.std.proofs.Common.{◌+◌, ℕ, sym, ◌∙◌, ap}
 use Rattle.s3_ocl.specs.Statements.{Statement}
-use Rattle.s3_ocl.specs.Steps.{last_fault}
+use Rattle.s3_ocl.specs.Inner.Steps.{last_fault}
 use Rattle.s3_ocl.proofs.JobLemmas.{mark_within}
 use Rattle.s3_ocl.proofs.jobs.fault_here.Goals as goal
 
