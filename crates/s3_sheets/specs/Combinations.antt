@@ -77,7 +77,7 @@ is_of_date name = is_reserved name && not (same_name name page)
 unfoldable pub has_bad_content : List ℕ → Bool
 has_bad_content card =
     (are_filled card 45 70 && (are_filled card 32 37 || are_filled card 38 38 || are_filled card 39 39 || are_filled card 44 44))
-    || (are_filled card 38 38 && are_filled card 44 44)
+    || (are_filled card 32 37 && are_filled card 38 38 && are_filled card 44 44)
     || (are_filled card 39 39 && is_of_date (name_of (columns card 32 37)))
 
 -- neither a field nor a constant

@@ -186,7 +186,7 @@ fn has_bad_content(card: &Card) -> bool
     let is_packed = are_filled(card, 44, 44);
     let is_field = are_filled(card, 32, 37);
     (are_filled(card, 45, 70) && (is_field || is_edited || is_blanked || is_packed))
-        || (is_edited && is_packed)
+        || (is_field && is_edited && is_packed)
         || (is_blanked && is_of_date(Name::of(columns(card, 32, 37))))
 }
 
