@@ -1,3 +1,14 @@
-//! Selection of records. Not built yet.
-
+//! Selection of records: their types, the keys of their match fields, which record is processed next, and control breaks.
 #![tactic(auto)]
+
+pub mod choice;
+mod compared;
+pub mod controls;
+pub mod fields;
+pub mod heads;
+pub mod keys;
+pub mod laws;
+pub mod selection;
+mod types;
+
+pub use types::type_of;

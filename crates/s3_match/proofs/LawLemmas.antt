@@ -1,0 +1,93 @@
+-- The first of the least heads, and heads of one key.
+use Rattle.std.proofs.Common.{◌≡◌, ℕ, ◌<◌, ◌&&◌, length, get_or, List, [], ◌∷◌, Bool, true, false, not, refl, sym, ◌∙◌, ap, subst, zero, suc, arith}
+use Rattle.std.specs.Prelude.{Option, Some, None, is_some, ◌↔◌, find, if◌then◌else◌}
+use Rattle.std.specs.Option.{option_or}
+use Rattle.std.specs.List.{Any, list_all, list_any}
+use Rattle.std.proofs.lemmas.Bool.{and_parts, true≢false}
+use Rattle.std.proofs.lemmas.List.Folds.{Any-from_list_any, list_any-from_Any}
+use Rattle.s3_cards.proofs.NameLemmas.{same_codes, equal_codes}
+use Rattle.s3_lines.specs.declared.sheet.Designation.TheVariants.{Primary, Secondary}
+use Rattle.s3_meaning.specs.Source.{is_designated}
+use Rattle.s3_meaning.specs.Selection.{Reading, Selected, key_of, is_less, same_key, lesser, least, has_met_end, select_at_end, primary_first, select, is_matched}
+use Rattle.s3_match.specs.Laws.{heads_of, IsFirstLeast, HasKey, IsMatchedBySecondary}
+
+-- ---- the first of the least
+same_some : {X : Type 0} (a b : X) → Some a ≡ Some b → a ≡ b
+same_some a b e = cc
+
+-- a head in front of one with a lower key
+in_front : (head : Selected) (heads : List Selected) (selected : Selected) → is_less (key_of selected) (key_of head) ≡ true → IsFirstLeast heads selected → IsFirstLeast (head ∷ heads) selected
+in_front head heads selected lower found = record {
+  before = head ∷ found.before;
+  behind = found.behind;
+  stands = ap (λ (xs : List Selected). head ∷ xs) found.stands;
+  higher = each;
+}
+  where
+    each : (k : ℕ) (d : Selected) → k < length (head ∷ found.before) → is_less (key_of selected) (key_of (get_or (head ∷ found.before) k d)) ≡ true
+    each zero d within = lower
+    each (suc k) d within = found.higher k d (omega (arith, within))
+
+alone : (head : Selected) (heads : List Selected) → IsFirstLeast (head ∷ heads) head
+alone head heads = record { before = []; behind = heads; stands = refl; higher = λ k d within. absurd (omega (arith, within)) }
+
+pub first_least : (heads : List Selected) (selected : Selected) → least heads ≡ Some selected → IsFirstLeast heads selected
+first_least [] selected e = cc
+first_least (head ∷ heads) selected e =
+    subst (IsFirstLeast (head ∷ heads)) (same_some (lesser head (least heads)) selected e) (by (least heads) (λ other found. first_least heads other found))
+  where
+    choose : (other : Selected) (b : Bool) → is_less (key_of other) (key_of head) ≡ b → IsFirstLeast heads other → IsFirstLeast (head ∷ heads) (if b then other else head)
+    choose other true lower found = in_front head heads other lower found
+    choose other false lower found = alone head heads
+
+    by : (rest : Option Selected) → ((other : Selected) → rest ≡ Some other → IsFirstLeast heads other) → IsFirstLeast (head ∷ heads) (lesser head rest)
+    by None found = alone head heads
+    by (Some other) found = choose other (is_less (key_of other) (key_of head)) refl (found other refl)
+
+none_without : (heads : List Selected) → list_all (λ head. is_some (key_of head)) heads ≡ true → find (λ selected. not (is_some (key_of selected))) heads ≡ None
+none_without [] all = refl
+none_without (head ∷ heads) all =
+    let parts = and_parts (is_some (key_of head)) (list_all (λ head. is_some (key_of head)) heads) all in
+    ap (λ (b : Bool). if not b then Some head else find (λ selected. not (is_some (key_of selected))) heads) parts.0 ∙ none_without heads parts.1
+
+pub first_selected : (reading : Reading) (selected : Selected) → has_met_end reading.files ≡ false → list_all (λ head. is_some (key_of head)) (heads_of reading) ≡ true → select reading ≡ Some selected
+    → IsFirstLeast (primary_first (heads_of reading)) selected
+first_selected reading selected goes_on all e =
+    let keyed : option_or (find (λ selected. not (is_some (key_of selected))) (heads_of reading)) (least (primary_first (heads_of reading))) ≡ Some selected =
+    sym (ap (λ (b : Bool). if b then select_at_end (heads_of reading) reading.primary_key else option_or (find (λ selected. not (is_some (key_of selected))) (heads_of reading)) (least (primary_first (heads_of reading)))) goes_on) ∙ e in
+    first_least (primary_first (heads_of reading)) selected
+    (sym (ap (λ (o : Option Selected). option_or o (least (primary_first (heads_of reading)))) (none_without (heads_of reading) all)) ∙ keyed)
+
+-- ---- heads of one key
+same_there : (a b : Option (List ℕ)) → same_key a b ≡ true → (key : List ℕ) × (a ≡ Some key) × (b ≡ Some key)
+same_there None None h = absurd (true≢false (sym h))
+same_there None (Some b) h = absurd (true≢false (sym h))
+same_there (Some a) None h = absurd (true≢false (sym h))
+same_there (Some a) (Some b) h = (a, refl, ap Some (sym (equal_codes a b h)))
+
+there_same : (a b : Option (List ℕ)) (key : List ℕ) → a ≡ Some key → b ≡ Some key → same_key a b ≡ true
+there_same a b key e f = (λ i. same_key (e i) (f i)) ∙ same_codes key
+
+pub secondary_matched : (reading : Reading) (selected : Selected) → is_designated Primary selected.file ≡ false → (is_matched reading selected ≡ true) ↔ HasKey selected reading.primary_key
+secondary_matched reading selected other =
+    let e : is_matched reading selected ≡ same_key (key_of selected) reading.primary_key =
+    ap (λ (b : Bool). if b then list_any (λ other. is_designated Secondary other.file && same_key (key_of other) (key_of selected)) (heads_of reading) else same_key (key_of selected) reading.primary_key) other in
+    (λ h. same_there (key_of selected) reading.primary_key (sym e ∙ h), λ h. e ∙ there_same (key_of selected) reading.primary_key h.0 h.1 h.2)
+
+pub primary_matched : (reading : Reading) (selected : Selected) → is_designated Primary selected.file ≡ true → (is_matched reading selected ≡ true) ↔ IsMatchedBySecondary reading selected
+primary_matched reading selected own =
+    let matches : Selected → Bool = λ other. is_designated Secondary other.file && same_key (key_of other) (key_of selected) in
+    let e : is_matched reading selected ≡ list_any (λ other. is_designated Secondary other.file && same_key (key_of other) (key_of selected)) (heads_of reading) =
+    ap (λ (b : Bool). if b then list_any (λ other. is_designated Secondary other.file && same_key (key_of other) (key_of selected)) (heads_of reading) else same_key (key_of selected) reading.primary_key) own in (
+      λ h. to (Any-from_list_any (λ other. is_designated Secondary other.file && same_key (key_of other) (key_of selected)) (heads_of reading) (sym e ∙ h)),
+      λ h. e ∙ list_any-from_Any (λ other. is_designated Secondary other.file && same_key (key_of other) (key_of selected)) (heads_of reading) (from h),
+    )
+  where
+    to : Any (λ other. (is_designated Secondary other.file && same_key (key_of other) (key_of selected)) ≡ true) (heads_of reading) → IsMatchedBySecondary reading selected
+    to (k, other, within, here, is) =
+        let parts = and_parts (is_designated Secondary other.file) (same_key (key_of other) (key_of selected)) is in
+        (k, other, within, here, (parts.0, same_there (key_of other) (key_of selected) parts.1))
+
+    from : IsMatchedBySecondary reading selected → Any (λ other. (is_designated Secondary other.file && same_key (key_of other) (key_of selected)) ≡ true) (heads_of reading)
+    from (k, other, within, here, (designated, (key, one, two))) =
+        (k, other, within, here, λ i. designated i && there_same (key_of other) (key_of selected) key one two i)

@@ -1,0 +1,9 @@
+pub mod CodeLemmas
+pub mod ComparedLemmas
+pub mod TypeLemmas
+pub mod FieldLemmas
+pub mod KeyLemmas
+pub mod LawLemmas
+pub mod ControlLemmas
+pub mod SelectLemmas
+pub mod ChoiceLemmas

@@ -1,0 +1,20 @@
+-- The control fields that are held, and what breaks.
+use Rattle.std.specs.Prelude.{ℕ, zero, suc, Bool, not, ◌&&◌, List, Option, None, is_some, find, slice_get, unwrap_or}
+use Rattle.std.specs.Option.{option_and_then}
+use Rattle.s3_meaning.specs.RecordTypes.{RecordType}
+use Rattle.s3_meaning.specs.Selection.{control_value, same_key, levels}
+use Rattle.s3_match.specs.declared.keys.RecordKey.{RecordKey}
+use Rattle.s3_match.specs.Keys.{key_in}
+
+-- by level, L1 first
+abbrev pub held_in : List RecordKey → ℕ → Option (List ℕ)
+held_in held zero = None
+held_in held (suc n) = option_and_then key_in (slice_get held n)
+
+-- whether a level breaks, by what is held for each
+abbrev pub breaks_at : (ℕ → Option (List ℕ)) → RecordType → List ℕ → ℕ → Bool
+breaks_at held kind bytes n = is_some (control_value kind bytes n) && not (same_key (control_value kind bytes n) (held n))
+
+-- the greatest level that breaks, 0 if none: the meaning's, at an environment that holds this
+abbrev pub break_of : (ℕ → Option (List ℕ)) → RecordType → List ℕ → ℕ
+break_of held kind bytes = unwrap_or (find (breaks_at held kind bytes) levels) 0

@@ -1,0 +1,23 @@
+-- What the laws of selection say.
+use Rattle.std.specs.Prelude.{ℕ, ◌≡◌, true, List, ◌∷◌, ◌++◌, Option, Some, filter_map}
+use Rattle.std.specs.List.{All, Any}
+use Rattle.s3_lines.specs.declared.sheet.Designation.TheVariants.{Secondary}
+use Rattle.s3_meaning.specs.Source.{is_designated}
+use Rattle.s3_meaning.specs.Selection.{Reading, Selected, selectable, key_of, is_less}
+
+abbrev pub heads_of : Reading → List Selected
+heads_of reading = filter_map selectable reading.files
+
+-- every head before the selected one has a higher key
+pub record IsFirstLeast (heads : List Selected) (selected : Selected) : Type 0 where
+  pub before : List Selected
+  pub behind : List Selected
+  pub stands : heads ≡ before ++ selected ∷ behind
+  pub higher : All (λ head. is_less (key_of selected) (key_of head) ≡ true) before
+
+-- both are keys, and the same
+abbrev pub HasKey : Selected → Option (List ℕ) → Type 0
+HasKey selected other = (key : List ℕ) × (key_of selected ≡ Some key) × (other ≡ Some key)
+
+abbrev pub IsMatchedBySecondary : Reading → Selected → Type 0
+IsMatchedBySecondary reading selected = Any (λ other. (is_designated Secondary other.file ≡ true) × HasKey other (key_of selected)) (heads_of reading)

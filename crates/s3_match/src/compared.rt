@@ -1,0 +1,89 @@
+//! What match and control fields compare: characters by their bytes, numbers by their digits without sign.
+
+ghost use Rattle.std.specs.Prelude.{◌≡◌, ◌-◌, ◌+◌, ◌≤◌, ◌++◌, ◌∷◌, length, slice_range, slice_index, map};
+ghost use Rattle.arrayvec.specs.ArrayVec.{array_vec_len};
+ghost use Rattle.s3_decimal.specs.Records.{halves, zoned_digits, packed_digits};
+ghost use Rattle.s3_meaning.specs.Selection as meaning;
+
+use arrayvec::ArrayVec;
+use s3_lines::sheet::{FieldForm, FieldLine};
+use s3_program::program::Reference;
+use std::cmp::min;
+
+/// The most that the match fields of a record compare: nine fields of 256 characters.
+pub const KEY_BYTES: usize = 2_304;
+
+/// The bytes of a field.
+pub fn field_bytes<'a>(field: &FieldLine<Reference>, bytes: &'a [u8]) -> &'a [u8]
+    ensures { result.now ≡ slice_range bytes.now (field.now.from - 1) field.now.to }
+{
+    let end = min(field.to as usize, bytes.len());
+    let begin = min(field.from.saturating_sub(1) as usize, end);
+    &bytes[begin..end]
+}
+
+fn push_zoned(compared: &mut ArrayVec<u8, KEY_BYTES>, bytes: &[u8])
+    requires { array_vec_len compared.old + length bytes.now ≤ KEY_BYTES }
+    ensures { compared.new.items ≡ compared.old.items ++ zoned_digits bytes.now }
+{
+    for byte in bytes {
+        compared.push(byte % 16);
+    }
+}
+
+fn push_halves(compared: &mut ArrayVec<u8, KEY_BYTES>, bytes: &[u8])
+    requires { array_vec_len compared.old + length (halves bytes.now) ≤ KEY_BYTES }
+    ensures { compared.new.items ≡ compared.old.items ++ halves bytes.now }
+{
+    for byte in bytes {
+        compared.push(byte / 16);
+        compared.push(byte % 16);
+    }
+}
+
+/// The last byte of a packed number has a digit and the sign.
+fn push_packed(compared: &mut ArrayVec<u8, KEY_BYTES>, bytes: &[u8])
+    requires { array_vec_len compared.old + length (packed_digits bytes.now) ≤ KEY_BYTES }
+    ensures { compared.new.items ≡ compared.old.items ++ packed_digits bytes.now }
+{
+    let front = bytes.len().saturating_sub(1);
+    let last = if front < bytes.len() { bytes[front] } else { 0 };
+    push_halves(compared, &bytes[..front]);
+    compared.push(last / 16);
+}
+
+fn push_characters(compared: &mut ArrayVec<u8, KEY_BYTES>, bytes: &[u8])
+    requires { array_vec_len compared.old + length bytes.now ≤ KEY_BYTES }
+    ensures { compared.new.items ≡ compared.old.items ++ bytes.now }
+{
+    if compared.try_extend_from_slice(bytes).is_err() {
+        unreachable!()
+    }
+}
+
+/// Puts what a field compares behind the others.
+pub fn push_compared(compared: &mut ArrayVec<u8, KEY_BYTES>, form: FieldForm, bytes: &[u8])
+    requires { array_vec_len compared.old + length (meaning.compared form bytes.now) ≤ KEY_BYTES }
+    ensures { compared.new.items ≡ compared.old.items ++ meaning.compared form bytes.now }
+{
+    match form {
+        FieldForm::Alphanumeric | FieldForm::PackedText => push_characters(compared, bytes),
+        FieldForm::Zoned(_) => push_zoned(compared, bytes),
+        FieldForm::Packed(_) => push_packed(compared, bytes),
+    }
+}
+
+/// Whether a key is lower than another.
+pub fn is_below(left: &[u8], right: &[u8]) -> bool
+    ensures { result ≡ meaning.is_below left.now right.now }
+{
+    for place in 0..left.len() {
+        if place >= right.len() {
+            return false;
+        }
+        if left[place] != right[place] {
+            return left[place] < right[place];
+        }
+    }
+    left.len() < right.len()
+}

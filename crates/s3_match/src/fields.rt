@@ -1,0 +1,163 @@
+//! Finds the match and control fields of a record type.
+
+ghost use Rattle.std.specs.Prelude.{◌≡◌, drop, IsTrue, IfSome, option_map};
+ghost use Rattle.s3_lines.specs.Indicators.{same_indicator};
+ghost use Rattle.s3_lines.specs.Ranges.{field_in_range};
+ghost use Rattle.s3_program.specs.Matching.{indicator_number};
+ghost use Rattle.s3_match.specs.Types.{is_type_start, kind_at};
+ghost use Rattle.s3_match.specs.Fields as spec;
+
+use s3_lines::indicator::Indicator;
+use s3_lines::sheet::{FieldLine, InputLine};
+use s3_program::mark::Key;
+use s3_program::program::{Program, Reference};
+use s3_program::starts::TypeStart;
+
+/// An indicator as a number, which no other has.
+fn number_of(indicator: Indicator) -> u16
+    ensures { result ≡ indicator_number indicator }
+{
+    match indicator {
+        Indicator::General(number) => 8 * number as u16,
+        Indicator::Level(number) => 8 * number as u16 + 1,
+        Indicator::LastRecord => 2,
+        Indicator::Matching => 3,
+        Indicator::Halt(number) => 8 * number as u16 + 4,
+        Indicator::FirstPage => 5,
+        Indicator::Overflow(number) => 8 * number as u16 + 6,
+        Indicator::Switch(number) => 8 * number as u16 + 7,
+    }
+}
+
+#[tactic(auto, using(crate::proofs::FieldLemmas::by_number))]
+fn is_same(one: Indicator, other: Indicator) -> bool
+    ensures { result ≡ same_indicator one other }
+{
+    number_of(one) == number_of(other)
+}
+
+/// A field with an entry in 63-64 is one of the types with that indicator alone.
+fn is_own(indicator: Indicator, relation: Option<Indicator>) -> bool
+    ensures { result ≡ spec.is_own indicator relation }
+{
+    match relation {
+        Some(other) => is_same(indicator, other),
+        None => true,
+    }
+}
+
+/// Whether an entry has a level; any, where none is asked for.
+fn has_level(level: Option<u8>, entry: Option<u8>) -> bool
+    ensures { result ≡ spec.has_level level entry }
+{
+    match entry {
+        Some(number) => match level {
+            Some(wanted) => wanted == number,
+            None => true,
+        },
+        None => false,
+    }
+}
+
+fn level_of(key: Key, field: &FieldLine<Reference>) -> Option<u8>
+    ensures { result ≡ spec.level_of key field.now }
+{
+    match key {
+        Key::Control => field.control_level,
+        Key::Match => field.match_level,
+    }
+}
+
+/// The field on a line, if the type with that indicator has it at the level.
+fn field_on(
+    line: &InputLine<Reference>,
+    indicator: Indicator,
+    key: Key,
+    level: Option<u8>,
+) -> Option<FieldLine<Reference>>
+    ensures { result ≡ spec.field_on indicator key level line.now }
+{
+    match line {
+        InputLine::Field(field) => {
+            if is_own(indicator, field.relation) && has_level(level, level_of(key, field)) {
+                Some(*field)
+            } else {
+                None
+            }
+        }
+        InputLine::Record(..) | InputLine::And(_) | InputLine::Or(..) => None,
+    }
+}
+
+fn begins_group(line: &InputLine<Reference>) -> bool
+    ensures { result ≡ spec.begins_group line.now }
+{
+    match line {
+        InputLine::Record(..) => true,
+        InputLine::And(_) | InputLine::Or(..) | InputLine::Field(_) => false,
+    }
+}
+
+/// The first field from there on, down to the next record line.
+fn first_field(
+    inputs: &[InputLine<Reference>],
+    from: usize,
+    indicator: Indicator,
+    key: Key,
+    level: Option<u8>,
+) -> Option<FieldLine<Reference>>
+    ensures { result ≡ spec.first_field indicator key level (drop from inputs.now) }
+{
+    for place in from..inputs.len() {
+        if begins_group(&inputs[place]) {
+            return None;
+        }
+        let field = field_on(&inputs[place], indicator, key, level);
+        if field.is_some() {
+            return field;
+        }
+    }
+    None
+}
+
+/// The record identifying indicator of a line where a type starts.
+fn indicator_on(line: &InputLine<Reference>) -> Option<Indicator>
+    ensures { result ≡ spec.indicator_on line.now }
+{
+    match line {
+        InputLine::Record(_, indicator, _) => Some(*indicator),
+        InputLine::Or(indicator, _) => Some(*indicator),
+        InputLine::And(_) | InputLine::Field(_) => None,
+    }
+}
+
+/// The record identifying indicator of a type.
+pub fn indicator_of(program: &Program, start: TypeStart) -> Indicator
+    requires { IsTrue (is_type_start program.now start) }
+    ensures { result ≡ (kind_at program.now start).indicator }
+{
+    match indicator_on(&program.inputs[start.place]) {
+        Some(indicator) => indicator,
+        None => unreachable!(),
+    }
+}
+
+/// The first match or control field of a type at a level; at any, where none is asked for.
+pub fn field_at(
+    program: &Program,
+    start: TypeStart,
+    key: Key,
+    level: Option<u8>,
+) -> Option<FieldLine<Reference>>
+    requires { IsTrue (is_type_start program.now start) }
+    ensures field { option_map (spec.named_field program.now) result ≡ spec.field_at program.now start key level }
+    ensures ranged { IfSome result (λ field. IsTrue (field_in_range field)) }
+{
+    first_field(
+        &program.inputs,
+        start.fields,
+        indicator_of(program, start),
+        key,
+        level,
+    )
+}

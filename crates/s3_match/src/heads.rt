@@ -1,0 +1,141 @@
+//! The primary and secondary files, each with the record at its head.
+
+ghost use Rattle.std.specs.Prelude.{◌≡◌, ◌≤◌, ◌<◌, length, not, true, false, IsTrue, if◌then◌else◌};
+ghost use Rattle.s3_meaning.specs.Cycle.{counted_read};
+ghost use Rattle.s3_meaning.specs.Selection as meaning;
+ghost use Rattle.s3_program.specs.declared.program.Program.{Program};
+ghost use Rattle.s3_match.specs.Types.{is_type_start, kind_at};
+ghost use Rattle.s3_match.specs.Heads as spec;
+
+use crate::keys::RecordKey;
+use arrayvec::ArrayVec;
+use s3_program::program::Program;
+use s3_program::starts::TypeStart;
+
+/// The longest record.
+pub const RECORD_BYTES: usize = 1_024;
+
+/// The most records that a file has: the bytes of the largest pack.
+const MOST_READS: u32 = 16_776_960;
+
+/// What stands at the head of a file.
+#[derive(Clone, Copy)]
+pub enum Standing {
+    /// Nothing yet: the next record is to be read.
+    Unread,
+    /// A record of the type that starts there.
+    Stands(TypeStart),
+    /// Nothing, and nothing comes.
+    Ended,
+}
+
+/// A primary or secondary file.
+#[derive(Drop)]
+pub struct InputFile {
+    /// Its slot.
+    pub file: usize,
+    /// What stands at its head.
+    pub standing: Standing,
+    /// How many records were read, the one at its head the last.
+    pub reads: u32,
+    /// The bytes of the record at its head, and of the last one once that is taken.
+    pub bytes: ArrayVec<u8, RECORD_BYTES>,
+    /// The key of the record at its head.
+    pub key: RecordKey,
+    /// The key of the last head that had match fields and wasn't passed over.
+    pub last_key: RecordKey,
+}
+
+impl InputFile {
+    /// A file of which nothing was read.
+    pub fn unread(file: usize) -> InputFile
+        ensures { (program : Program) → spec.input_of program result ≡ spec.unread program file }
+    {
+        InputFile {
+            file,
+            standing: Standing::Unread,
+            reads: 0,
+            bytes: ArrayVec::new(),
+            key: RecordKey::none(),
+            last_key: RecordKey::none(),
+        }
+    }
+
+    /// Whether the next record is to be read.
+    pub fn is_unread(&self) -> bool
+        ensures { result ≡ spec.is_unread self.now }
+    {
+        match self.standing {
+            Standing::Unread => true,
+            Standing::Stands(_) | Standing::Ended => false,
+        }
+    }
+
+    /// Whether a record stands at its head.
+    pub fn has_head(&self) -> bool
+        ensures { result ≡ spec.has_head self.now }
+    {
+        match self.standing {
+            Standing::Stands(_) => true,
+            Standing::Unread | Standing::Ended => false,
+        }
+    }
+
+    /// Nothing comes any more.
+    pub fn end(&mut self)
+        ensures { (program : Program) → spec.input_of program self.new ≡ spec.ended (spec.input_of program self.old) }
+    {
+        self.standing = Standing::Ended;
+    }
+
+    /// The record at its head is taken; its bytes stay until the next one is put there.
+    pub fn vacate(&mut self)
+        ensures { (program : Program) → spec.input_of program self.new ≡ spec.vacated (spec.input_of program self.old) }
+    {
+        self.standing = Standing::Unread;
+    }
+
+    /// One record more was read.
+    pub fn count_read(&mut self)
+        requires { spec.is_unread self.old ≡ true }
+        ensures unread { spec.is_unread self.new ≡ true }
+        ensures counted { (program : Program) → spec.input_of program self.new ≡ counted_read (spec.input_of program self.old) }
+    {
+        if self.reads < MOST_READS {
+            self.reads += 1;
+        } else {
+            self.reads = MOST_READS;
+        }
+    }
+
+    /// Puts a record of a type at the head, if it is in sequence.
+    pub fn put(&mut self, program: &Program, start: TypeStart, bytes: &[u8]) -> bool
+        requires unread { spec.is_unread self.old ≡ true }
+        requires starts { IsTrue (is_type_start program.now start) }
+        requires fits { length bytes.now ≤ RECORD_BYTES }
+        ensures in_sequence { result ≡ meaning.in_sequence (meaning.match_key (kind_at program.now start) bytes.now) (spec.input_of program.now self.old).last_key }
+        ensures input { spec.input_of program.now self.new ≡ (if result then spec.put program.now start bytes.now (spec.input_of program.now self.old) else spec.input_of program.now self.old) }
+        ensures sound { spec.IsInput program.now self.new }
+    {
+        self.key.read(program, start, bytes);
+        if self.key.is_less(&self.last_key) {
+            return false;
+        }
+        self.keep(bytes);
+        if self.key.is_given {
+            self.last_key.copy_from(&self.key);
+        }
+        self.standing = Standing::Stands(start);
+        true
+    }
+
+    fn keep(&mut self, bytes: &[u8])
+        requires { length bytes.now ≤ RECORD_BYTES }
+        ensures { spec.Keeps self.old self.new bytes.now }
+    {
+        self.bytes.clear();
+        if self.bytes.try_extend_from_slice(bytes).is_err() {
+            unreachable!()
+        }
+    }
+}
