@@ -1,0 +1,9 @@
+pub mod IndicatorLemmas
+pub mod TextLemmas
+pub mod ValueLemmas
+pub mod FitLemmas
+pub mod MarkLemmas
+pub mod OrderLemmas
+pub mod ChangeLemmas
+pub mod GroupLemmas
+pub mod BeginLemmas

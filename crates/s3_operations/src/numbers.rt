@@ -1,0 +1,153 @@
+//! Numbers that operations take, and the one that they store.
+ghost use Rattle.std.specs.Prelude.{◌≡◌, true, zip, IsTrue, Some, if◌then◌else◌};
+ghost use Rattle.std.specs.List.{list_all};
+ghost use Rattle.s3_meaning.specs.Moving.{sign_marks as sign_marks_spec};
+ghost use Rattle.s3_meaning.specs.Environment.{Environment, put_number};
+ghost use Rattle.s3_meaning.specs.Source.{digits_of, decimals_of};
+ghost use Rattle.s3_meaning.specs.Calculating.{result_of, order_marks as order_marks_spec};
+ghost use Rattle.s3_program.specs.Stands.{source_named};
+ghost use Rattle.s3_program.specs.Tables.{meaning_at, name_of};
+ghost use Rattle.s3_operations.specs.Indicators.{are_settable, is_settable_entry};
+ghost use Rattle.s3_operations.specs.Fits.{tables, named_line, named_factor, meant_result, is_number_field, GivesNumber, TakesNumber, TakesNumbers};
+ghost use Rattle.s3_operations.specs.Held.{IsSound, IsNumberOf, Changes, held, with_value};
+
+use crate::values::Values;
+use s3_decimal::{Dec, Form, Rounding};
+use s3_lines::indicator::Indicator;
+use s3_lines::sheet::CalculationLine;
+use s3_program::program::{Program, Reference};
+use std::cmp::Ordering;
+
+/// Nothing.
+pub const ZERO: Dec = Dec {
+    value: 0,
+    digits: 1,
+    decimals: 0,
+};
+
+/// What becomes of the digits that a result doesn't keep.
+pub fn rounding(line: &CalculationLine<Reference>) -> Rounding
+    ensures { result ≡ (if line.now.half_adjust then Rounding.HalfAdjust else Rounding.Truncate) }
+{
+    if line.half_adjust {
+        Rounding::HalfAdjust
+    } else {
+        Rounding::Truncate
+    }
+}
+
+/// Each indicator with what it is to show.
+#[tactic(auto, using(crate::proofs::MarkLemmas::zip_three, crate::proofs::MarkLemmas::zip_settable))]
+fn marks(indicators: &[Option<Indicator>; 3], shown: [bool; 3]) -> [(Option<Indicator>, bool); 3]
+    requires { list_all is_settable_entry indicators.now ≡ true }
+    ensures marks { result ≡ zip indicators.now shown }
+    ensures settable { are_settable result ≡ true }
+{
+    [
+        (indicators[0], shown[0]),
+        (indicators[1], shown[1]),
+        (indicators[2], shown[2]),
+    ]
+}
+
+/// Plus, minus, zero.
+pub fn sign_marks(
+    indicators: &[Option<Indicator>; 3],
+    number: Dec,
+) -> [(Option<Indicator>, bool); 3]
+    requires { list_all is_settable_entry indicators.now ≡ true }
+    ensures marks { result ≡ sign_marks_spec indicators.now number.value }
+    ensures settable { are_settable result ≡ true }
+{
+    let is_zero = number.value.unsigned_abs() == 0;
+    let is_negative = number.is_negative();
+    marks(indicators, [!is_zero && !is_negative, is_negative, is_zero])
+}
+
+/// High, low, equal.
+pub fn order_marks(
+    indicators: &[Option<Indicator>; 3],
+    order: Ordering,
+) -> [(Option<Indicator>, bool); 3]
+    requires { list_all is_settable_entry indicators.now ≡ true }
+    ensures marks { result ≡ order_marks_spec indicators.now order }
+    ensures settable { are_settable result ≡ true }
+{
+    match order {
+        Ordering::Greater => marks(indicators, [true, false, false]),
+        Ordering::Less => marks(indicators, [false, true, false]),
+        Ordering::Equal => marks(indicators, [false, false, true]),
+    }
+}
+
+/// The slot of a result that is a number.
+pub fn number_slot(program: &Program, line: &CalculationLine<Reference>) -> usize
+    requires fits { IsTrue (is_number_field (meant_result program.now line.now.result)) }
+    ensures { line.now.result ≡ Some (Reference.Field result) }
+{
+    match line.result {
+        Some(Reference::Field(slot)) => slot,
+        _ => unreachable!(),
+    }
+}
+
+impl Values {
+    /// Factor 1, a number.
+    pub fn first(&self, program: &Program, line: &CalculationLine<Reference>) -> Dec
+        requires sound { IsSound program.now self.now }
+        requires takes { TakesNumbers program.now line.now }
+        ensures { (rest : Environment) → IsNumberOf (source_named program.now) (held program.now self.now rest) (named_factor program.now line.now.factor1) result }
+    {
+        self.number(program, &line.factor1)
+    }
+
+    /// Factor 2, a number.
+    pub fn second(&self, program: &Program, line: &CalculationLine<Reference>) -> Dec
+        requires sound { IsSound program.now self.now }
+        requires takes { TakesNumber program.now line.now }
+        ensures { (rest : Environment) → IsNumberOf (source_named program.now) (held program.now self.now rest) (named_factor program.now line.now.factor2) result }
+    {
+        self.number(program, &line.factor2)
+    }
+
+    /// The form of a result that is a number.
+    pub fn form(&self, program: &Program, line: &CalculationLine<Reference>) -> Form
+        requires sound { IsSound program.now self.now }
+        requires gives { GivesNumber program.now line.now }
+        ensures digits { result.digits ≡ digits_of (source_named program.now) (result_of (named_line program.now line.now)) }
+        ensures decimals { result.decimals ≡ decimals_of (source_named program.now) (result_of (named_line program.now line.now)) }
+    {
+        let number = &self.numbers[number_slot(program, line)];
+        Form {
+            digits: number.digits,
+            decimals: number.decimals,
+        }
+    }
+
+    /// A result is stored, and its indicators show its sign.
+    pub fn store(&mut self, program: &Program, line: &CalculationLine<Reference>, number: Dec)
+        requires sound { IsSound program.now self.old }
+        requires gives { GivesNumber program.now line.now }
+        requires digits { number.digits ≡ digits_of (source_named program.now) (result_of (named_line program.now line.now)) }
+        requires decimals { number.decimals ≡ decimals_of (source_named program.now) (result_of (named_line program.now line.now)) }
+        ensures { Changes program.now self.old self.new (λ source. with_value (named_line program.now line.now) number.value) }
+    {
+        let slot = number_slot(program, line);
+        self.numbers[slot] = number;
+        self.indicators.show(&sign_marks(&line.indicators, number));
+    }
+
+    /// The field of a slot gets a number of its form.
+    pub fn put_number(&mut self, program: &Program, slot: usize, number: Dec)
+        requires sound { IsSound program.now self.old }
+        requires fits { is_number_field (Some (meaning_at (tables program.now) (Reference.Field slot))) ≡ true }
+        requires digits { number.digits ≡ digits_of (source_named program.now) (name_of (tables program.now) (Reference.Field slot)) }
+        requires decimals { number.decimals ≡ decimals_of (source_named program.now) (name_of (tables program.now) (Reference.Field slot)) }
+        ensures change { Changes program.now self.old self.new (λ source. put_number (name_of (tables program.now) (Reference.Field slot)) number.value) }
+        ensures texts { self.new.texts ≡ self.old.texts }
+        ensures indicators { self.new.indicators ≡ self.old.indicators }
+        ensures division { self.new.division ≡ self.old.division }
+    {
+        self.numbers[slot] = number;
+    }
+}

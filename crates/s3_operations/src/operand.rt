@@ -1,0 +1,104 @@
+//! The values of factors.
+ghost use Rattle.std.specs.Prelude.{◌≡◌, true, IsTrue, Some};
+ghost use Rattle.s3_meaning.specs.Environment.{Environment};
+ghost use Rattle.s3_program.specs.Tables.{meaning_at, name_of};
+ghost use Rattle.s3_program.specs.Stands.{source_named};
+ghost use Rattle.s3_program.specs.Meant.{is_defined};
+ghost use Rattle.s3_operations.specs.Fits.{tables, named_factor, meant_factor, is_value, is_number, is_text};
+ghost use Rattle.s3_operations.specs.Held.{IsSound, IsOperand, IsNumberOf, IsTextOf, held};
+
+use crate::values::Values;
+use s3_decimal::Dec;
+use s3_lines::sheet::{Factor, Shape};
+use s3_program::program::{Program, Reference};
+
+/// The value of a factor.
+pub enum Operand<'a> {
+    /// A number.
+    Number(Dec),
+    /// Characters.
+    Text(&'a [u8]),
+}
+
+impl Values {
+    /// The value of the field of a slot.
+    fn value(&self, program: &Program, slot: usize) -> Operand<'_>
+        requires sound { IsSound program.now self.now }
+        requires there { IsTrue (is_defined (meaning_at (tables program.now) (Reference.Field slot))) }
+        ensures { (rest : Environment) → IsOperand (source_named program.now) (held program.now self.now rest) (Some (Factor.Named (name_of (tables program.now) (Reference.Field slot)))) result }
+    {
+        match program.fields[slot].meaning {
+            Shape::Numeric(_, _) => Operand::Number(self.numbers[slot]),
+            Shape::Alphanumeric(_) => Operand::Text(self.texts.text(slot)),
+        }
+    }
+
+    /// The value of what a factor names.
+    fn named(&self, program: &Program, name: Reference) -> Operand<'_>
+        requires sound { IsSound program.now self.now }
+        requires fits { IsTrue (is_value (Some (Factor.Named (meaning_at (tables program.now) name)))) }
+        ensures { (rest : Environment) → IsOperand (source_named program.now) (held program.now self.now rest) (Some (Factor.Named (name_of (tables program.now) name))) result }
+    {
+        match name {
+            Reference::Field(slot) => self.value(program, slot),
+            _ => unreachable!(),
+        }
+    }
+
+    fn of_factor<'a>(&'a self, program: &Program, factor: &'a Factor<Reference>) -> Operand<'a>
+        requires sound { IsSound program.now self.now }
+        requires fits { IsTrue (is_value (meant_factor program.now (Some factor.now))) }
+        ensures { (rest : Environment) → IsOperand (source_named program.now) (held program.now self.now rest) (named_factor program.now (Some factor.now)) result }
+    {
+        match factor {
+            Factor::Named(name) => self.named(program, *name),
+            Factor::Number(literal) => Operand::Number(Dec {
+                value: literal.value,
+                digits: literal.digits,
+                decimals: literal.decimals,
+            }),
+            Factor::Text(literal) => Operand::Text(&literal.codes[..literal.length as usize]),
+        }
+    }
+
+    /// The value of a factor.
+    pub fn operand<'a>(
+        &'a self,
+        program: &Program,
+        factor: &'a Option<Factor<Reference>>,
+    ) -> Operand<'a>
+        requires sound { IsSound program.now self.now }
+        requires fits { IsTrue (is_value (meant_factor program.now factor.now)) }
+        ensures { (rest : Environment) → IsOperand (source_named program.now) (held program.now self.now rest) (named_factor program.now factor.now) result }
+    {
+        match factor {
+            Some(factor) => self.of_factor(program, factor),
+            None => unreachable!(),
+        }
+    }
+
+    /// The value of a factor that is a number.
+    pub fn number(&self, program: &Program, factor: &Option<Factor<Reference>>) -> Dec
+        requires sound { IsSound program.now self.now }
+        requires fits { IsTrue (is_number (meant_factor program.now factor.now)) }
+        ensures { (rest : Environment) → IsNumberOf (source_named program.now) (held program.now self.now rest) (named_factor program.now factor.now) result }
+    {
+        match self.operand(program, factor) {
+            Operand::Number(number) => number,
+            Operand::Text(_) => unreachable!(),
+        }
+    }
+
+    /// The value of a factor that is a text.
+    pub fn text<'a>(&'a self, program: &Program, factor: &'a Option<Factor<Reference>>) -> &'a [u8]
+        requires sound { IsSound program.now self.now }
+        requires fits { IsTrue (is_value (meant_factor program.now factor.now)) }
+        requires text { is_text (meant_factor program.now factor.now) ≡ true }
+        ensures { (rest : Environment) → IsTextOf (source_named program.now) (held program.now self.now rest) (named_factor program.now factor.now) result.now }
+    {
+        match self.operand(program, factor) {
+            Operand::Number(_) => unreachable!(),
+            Operand::Text(text) => text,
+        }
+    }
+}

@@ -1,0 +1,119 @@
+//! The texts of fields, by slot.
+ghost use Rattle.std.specs.Prelude.{◌≡◌, ◌++◌, List, ℕ, IfOk, OnOk, replicate};
+ghost use Rattle.s3_meaning.specs.Calculating.{moved_right, moved_left};
+ghost use Rattle.s3_operations.specs.Texts.{IsCut, texts_on, blank_texts, length_of as length_of_spec};
+
+use s3_cards::ebcdic::BLANK;
+use s3_lines::sheet::Shape;
+use s3_program::program::Defined;
+use std::alloc::{AllocError, Global};
+use std::marker::Model;
+
+/// Where the text of a slot lies.
+#[derive(Clone, Copy)]
+pub struct Span {
+    /// Its first byte.
+    pub from: usize,
+    /// Behind its last byte.
+    pub to: usize,
+}
+
+/// The texts of fields, by slot, one behind the other; each keeps its length. A number has an empty text.
+#[derive(Drop)]
+pub struct Texts {
+    bytes: Vec<u8>,
+    spans: Vec<Span>,
+}
+
+impl Model for Texts {
+    ghost Value = { List (List ℕ) };
+
+    ghost view = { λ t. texts_on t.spans.items t.bytes.items };
+
+    ghost invariant = { λ t. IsCut t.spans.items t.bytes.items };
+}
+
+/// How many characters a field has.
+fn length_of(shape: Shape) -> usize
+    ensures { result ≡ length_of_spec shape }
+{
+    match shape {
+        Shape::Alphanumeric(length) => usize::from(length),
+        Shape::Numeric(_, _) => 0,
+    }
+}
+
+fn add_blanks(bytes: &mut Vec<u8>, count: usize) -> Result<(), AllocError>
+    ensures { OnOk result (bytes.new.items ≡ bytes.old.items ++ replicate count BLANK) }
+{
+    for _ in 0..count {
+        bytes.push(BLANK)?;
+    }
+    Ok(())
+}
+
+/// Lays a text over another one of a fixed length, right to right.
+fn overlay_right(target: &mut [u8], text: &[u8])
+    ensures { target.new ≡ moved_right text.now target.old }
+{
+    let count = target.len().min(text.len());
+    let kept = target.len() - count;
+    target[kept..].copy_from_slice(&text[text.len() - count..]);
+}
+
+/// Lays a text over another one of a fixed length, left to left.
+fn overlay_left(target: &mut [u8], text: &[u8])
+    ensures { target.new ≡ moved_left text.now target.old }
+{
+    let count = target.len().min(text.len());
+    target[..count].copy_from_slice(&text[..count]);
+}
+
+impl Texts {
+    ghost use Rattle.std.specs.Prelude.{◌≡◌, ◌<◌, Some, length, slice_get, slice_set};
+    ghost use Rattle.s3_operations.specs.Texts.{text_at};
+
+    /// A blank text for each field.
+    pub fn blank(alloc: Global, fields: &[Defined<Shape>]) -> Result<Texts, AllocError>
+        ensures { IfOk result (λ texts. texts ≡ blank_texts fields.now) }
+    {
+        let mut bytes = Vec::new(alloc);
+        let mut spans = Vec::with_capacity(alloc, fields.len())?;
+        for field in fields {
+            let from = bytes.len();
+            add_blanks(&mut bytes, length_of(field.meaning))?;
+            spans.push(Span {
+                from,
+                to: bytes.len(),
+            })?;
+        }
+        Ok(Texts { bytes, spans })
+    }
+
+    /// The text of a slot.
+    pub fn text(&self, slot: usize) -> &[u8]
+        requires { slot < length self.now }
+        ensures { slice_get self.now slot ≡ Some result.now }
+    {
+        let span = self.spans[slot];
+        &self.bytes[span.from..span.to]
+    }
+
+    /// Moves a text into that of a slot, right to right.
+    pub fn move_right(&mut self, slot: usize, text: &[u8])
+        requires { slot < length self.old }
+        ensures { self.new ≡ slice_set self.old slot (moved_right text.now (text_at self.old slot)) }
+    {
+        let span = self.spans[slot];
+        overlay_right(&mut self.bytes[span.from..span.to], text);
+    }
+
+    /// Moves a text into that of a slot, left to left.
+    pub fn move_left(&mut self, slot: usize, text: &[u8])
+        requires { slot < length self.old }
+        ensures { self.new ≡ slice_set self.old slot (moved_left text.now (text_at self.old slot)) }
+    {
+        let span = self.spans[slot];
+        overlay_left(&mut self.bytes[span.from..span.to], text);
+    }
+}
