@@ -12,6 +12,7 @@ pub struct CountingStore {
 }
 
 impl CountingStore {
+    /// A store with these sectors, of which none was read or written yet.
     pub fn over(inner: MemoryStore) -> Self
         ensures { result.inner ≡ inner }
     {

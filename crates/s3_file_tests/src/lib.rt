@@ -9,4 +9,6 @@ mod fuse_rows;
 #[cfg(test)]
 mod keyed_rows;
 #[cfg(test)]
+mod pack_rows;
+#[cfg(test)]
 mod record_rows;

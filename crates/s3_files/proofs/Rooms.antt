@@ -1,6 +1,6 @@
 -- A label that is well formed has room for its file.
 use Rattle.std.proofs.Common.{◌≡◌, ◌≢◌, ℕ, zero, suc, ◌+◌, ◌*◌, ◌%◌, ◌⊎◌, inl, inr, ◌<◌, ◌≤◌, Bool, true, false, ◌&&◌, ◌||◌, ◌==◌, nat_eq, nat_le, List, [], ◌∷◌, ◌++◌, length, refl, sym, ap, subst, ◌∙◌, arith, length-append}
-use Rattle.std.proofs.lemmas.Bool.{eqb-true, leb-true}
+use Rattle.std.proofs.lemmas.Bool.{eqb-true, eqb-false, leb-true, cases_eq}
 use Rattle.std.proofs.lemmas.List.Sums.{sum_by-cons}
 use Rattle.std.proofs.lemmas.List.Elements.{All-append}
 use Rattle.std.proofs.lemmas.List.FromFn.{length-range_with_len}
@@ -8,11 +8,14 @@ use Rattle.std.specs.List.{All, AllByRecursion, IsDistinct, range_with_len, list
 use Rattle.s3_store.specs.declared.stretch.Stretch.{Stretch}
 use Rattle.s3_store.specs.Stretches.{sectors_in, end_of}
 use Rattle.s3_slots.specs.Stretches.{is_apart, is_apart_from_all, are_apart, is_inside}
-use Rattle.s3_slots.specs.Slots.{is_extent, are_extents, is_count_of, is_key_of, is_well_formed, sectors_needed, record_sectors, index_sectors}
+use Rattle.s3_slots.specs.Slots.{is_extent, is_count_of, is_well_formed, sectors_needed, record_sectors, index_sectors}
 use Rattle.s3_slots.specs.declared.label.FileLabel.{FileLabel}
 use Rattle.s3_slots.specs.declared.label.Organization.{Organization}
 use Rattle.s3_slots.specs.declared.label.Organization.TheVariants.{Sequential, Indexed, Direct}
-use Rattle.s3_files.specs.Files.{HasRoom}
+use Rattle.s3_slots.specs.Kept.{IsOfPack}
+use Rattle.s3_slots.specs.Labels.{is_direct, sectors_of}
+use Rattle.s3_slots.proofs.Keeping.{formed_parts}
+use Rattle.s3_files.specs.Files.{HasRoom, AreStored}
 
 left : (a b : Bool) → (a && b) ≡ true → a ≡ true
 left true b h = refl
@@ -89,23 +92,71 @@ range_all P a (suc n) h (suc k) d below = range_all P (a + 1) n (λ i less. let 
 inside_of : (region e : Stretch) → is_extent region e ≡ true → end_of e ≤ end_of region
 inside_of region e h = leb-true (end_of e) (end_of region) (right (nat_le region.start e.start) (nat_le (end_of e) (end_of region)) (right ((e.start % 24 == 0) && (e.sectors % 24 == 0) && nat_le 24 e.sectors) (is_inside region e) h))
 
-pub all_small : (region : Stretch) (es : List Stretch) → end_of region ≤ 65536 → list_all (is_extent region) es ≡ true → All (λ n. n < 65536) (sectors_in es)
-all_small region [] few h = λ k d below. absurd (omega arith)
-all_small region (e ∷ es) few h =
+pub all_small : (region : Stretch) (es : List Stretch) (most : ℕ) → end_of region ≤ most → list_all (is_extent region) es ≡ true → All (λ n. n < most) (sectors_in es)
+all_small region [] most few h = λ k d below. absurd (omega arith)
+all_small region (e ∷ es) most few h =
     let within = inside_of region e (left (is_extent region e) (list_all (is_extent region) es) h) in
-    All-append (λ n. n < 65536) (range_with_len e.start e.sectors) (sectors_in es) (range_all (λ n. n < 65536) e.start e.sectors (λ i below. omega arith))
-    (all_small region es few (right (is_extent region e) (list_all (is_extent region) es) h))
+    All-append (λ n. n < most) (range_with_len e.start e.sectors) (sectors_in es) (range_all (λ n. n < most) e.start e.sectors (λ i below. omega arith))
+    (all_small region es most few (right (is_extent region e) (list_all (is_extent region) es) h))
 
 pub length_sectors : (es : List Stretch) → length (sectors_in es) ≡ sum_by (λ e. e.sectors) es
 length_sectors [] = refl
 length_sectors (e ∷ es) = length-append (range_with_len e.start e.sectors) (sectors_in es) ∙ ap (λ n. n + length (sectors_in es)) (length-range_with_len e.start e.sectors) ∙ ap (λ n. e.sectors + n) (length_sectors es) ∙ sym (sum_by-cons (λ x. x.sectors) e es)
 
-sum_few : (region : Stretch) (es : List Stretch) → end_of region ≤ 65536 → list_all (is_extent region) es ≡ true → sum_by (λ e. e.sectors) es ≤ 65536 * length es
-sum_few region [] few h = omega arith
-sum_few region (e ∷ es) few h =
+-- ---- so many different numbers below n are at most n
+
+-- a list without the greatest number that it may have
+record IsLess (n : ℕ) (xs : List ℕ) : Type 0 where
+  pub list : List ℕ
+  pub below : AllByRecursion (λ x. x < n) list
+  pub distinct : IsDistinct nat_eq list
+  pub count : length xs ≤ suc (length list)
+  pub apart : (x : ℕ) → AllByRecursion (λ y. nat_eq x y ≡ false) xs → AllByRecursion (λ y. nat_eq x y ≡ false) list
+
+rest_below : (n : ℕ) (xs : List ℕ) → AllByRecursion (λ x. x < suc n) xs → AllByRecursion (λ y. nat_eq n y ≡ false) xs → AllByRecursion (λ x. x < n) xs
+rest_below n [] below apart = tt
+rest_below n (x ∷ xs) below apart = (omega (arith, below.0, eqb-false n x apart.0), rest_below n xs below.1 apart.1)
+
+less : (n : ℕ) (xs : List ℕ) → AllByRecursion (λ x. x < suc n) xs → IsDistinct nat_eq xs → IsLess n xs
+unfolding IsDistinct
+less n [] below distinct = record { list = []; below = tt; distinct = tt; count = omega arith; apart = λ x h. tt }
+less n (x ∷ xs) below distinct = elim (cases_eq x n) [
+  | inl same ↦ record {
+    list = xs;
+    below = rest_below n xs below.1 (subst (λ m. AllByRecursion (λ y. nat_eq m y ≡ false) xs) same distinct.0);
+    distinct = distinct.1;
+    count = omega arith;
+    apart = λ m h. h.1;
+  }
+  | inr other ↦
+      let so = less n xs below.1 distinct.1 in
+      record {
+        list = x ∷ so.list;
+        below = (omega (arith, below.0, other), so.below);
+        distinct = (so.apart x distinct.0, so.distinct);
+        count = omega (arith, so.count);
+        apart = λ m h. (h.0, so.apart m h.1);
+      }
+]
+
+few_distinct : (n : ℕ) (xs : List ℕ) → AllByRecursion (λ x. x < n) xs → IsDistinct nat_eq xs → length xs ≤ n
+few_distinct zero [] below distinct = omega arith
+few_distinct zero (x ∷ xs) below distinct = absurd (omega (arith, below.0))
+few_distinct (suc n) xs below distinct =
+    let so = less n xs below distinct in
+    let rest = few_distinct n so.list so.below so.distinct in
+    omega (arith, so.count, rest)
+
+range_below : (n a count : ℕ) → a + count ≤ n → AllByRecursion (λ x. x < n) (range_with_len a count)
+range_below n a zero h = tt
+range_below n a (suc count) h = (omega (arith, h), range_below n (a + 1) count (omega (arith, h)))
+
+sectors_below : (region : Stretch) (es : List Stretch) (n : ℕ) → end_of region ≤ n → list_all (is_extent region) es ≡ true → AllByRecursion (λ x. x < n) (sectors_in es)
+sectors_below region [] n few h = tt
+sectors_below region (e ∷ es) n few h =
     let within = inside_of region e (left (is_extent region e) (list_all (is_extent region) es) h) in
-    let rest = sum_few region es few (right (is_extent region e) (list_all (is_extent region) es) h) in
-    omega (arith, sum_by-cons (λ x. x.sectors) e es)
+    rec_append (λ x. x < n) (range_with_len e.start e.sectors) (sectors_in es) (range_below n e.start e.sectors (omega (arith, within, few)))
+    (sectors_below region es n few (right (is_extent region e) (list_all (is_extent region) es) h))
 
 counted_by : (o : Organization) (capacity count : ℕ) → is_count_of o capacity count ≡ true → count ≤ capacity
 counted_by Sequential capacity count h = leb-true count capacity h
@@ -117,30 +168,39 @@ fits_by Sequential long key capacity n h = let le = leb-true (record_sectors cap
 fits_by Indexed long key capacity n h = let le = leb-true (record_sectors capacity long + index_sectors capacity key) n h in omega arith
 fits_by Direct long key capacity n h = let le = leb-true (record_sectors capacity long) n h in omega arith
 
--- a label that is well formed in a region of a pack, over at most four extents, has room for its file
-pub has_room : (region : Stretch) (label : FileLabel) → end_of region ≤ 65536 → length label.extents ≤ 4 → is_well_formed region label ≡ true → HasRoom label
-has_room region label few four formed =
-    let needed = nat_le (sectors_needed label.organization label.record_length label.key_length label.capacity) (sum_by (λ extent. extent.sectors) label.extents) in
-    let count = is_count_of label.organization label.capacity label.count in
-    let lengths = nat_le 1 label.record_length && nat_le label.record_length 1024 in
-    let key = is_key_of label.organization label.record_length label.key_length label.key_start in
-    let extents = are_extents region label.extents in
-    let capacity = nat_le 1 label.capacity in
-    let four_parts = left ((((lengths && key) && extents) && capacity) && count) needed formed in
-    let fits = right ((((lengths && key) && extents) && capacity) && count) needed formed in
-    let three = left (((lengths && key) && extents) && capacity) count four_parts in
-    let counted = right (((lengths && key) && extents) && capacity) count four_parts in
-    let two = left ((lengths && key) && extents) capacity three in
-    let ranges = right (lengths && key) extents two in
-    let each = left (nat_le 1 (length label.extents) && list_all (is_extent region) label.extents) (are_apart label.extents) ranges in
-    let apart = right (nat_le 1 (length label.extents) && list_all (is_extent region) label.extents) (are_apart label.extents) ranges in
+-- a label that is well formed in a region of a pack has room for its file
+pub has_room : (region : Stretch) (label : FileLabel) → end_of region ≤ 65536 → is_well_formed region label ≡ true → HasRoom label
+has_room region label few formed =
+    let parts = formed_parts region label formed in
+    let each = left (nat_le 1 (length label.extents) && list_all (is_extent region) label.extents) (are_apart label.extents) parts.room in
     let all = right (nat_le 1 (length label.extents)) (list_all (is_extent region) label.extents) each in
-    let long = length_sectors label.extents in
-    let most = sum_few region label.extents few all in
+    let distinct = all_distinct label.extents (right (nat_le 1 (length label.extents) && list_all (is_extent region) label.extents) (are_apart label.extents) parts.room) in
+    let most = few_distinct 65536 (sectors_in label.extents) (sectors_below region label.extents 65536 few all) distinct in
+    let sectors = sum_by (λ extent. extent.sectors) label.extents in
     record {
-      small = all_small region label.extents few all;
-      distinct = all_distinct label.extents apart;
-      fits = subst (λ n. label.capacity * label.record_length ≤ 256 * n) (sym long) (fits_by label.organization label.record_length label.key_length label.capacity (sum_by (λ extent. extent.sectors) label.extents) fits);
-      few = omega (arith, long, most, four);
-      counted = counted_by label.organization label.capacity label.count counted;
+      small = all_small region label.extents 65536 few all;
+      distinct = distinct;
+      fits = subst (λ n. label.capacity * label.record_length ≤ 256 * n) (sym (length_sectors label.extents)) (fits_by label.organization label.record_length label.key_length label.capacity sectors parts.fits);
+      few = omega (arith, most);
+      counted = counted_by label.organization label.capacity label.count parts.counted;
     }
+
+-- ---- the file of a label that a pack has
+
+pub of_pack_room : (sectors : ℕ) (label : FileLabel) → IsOfPack sectors label → HasRoom label
+of_pack_room sectors label is = has_room is.region label (omega (arith, is.within, is.few)) is.formed
+
+pub of_pack_stored : (contents : List (List ℕ)) (label : FileLabel) → IsOfPack (length contents) label → AreStored (sectors_of label) contents
+unfolding sectors_of
+of_pack_stored contents label is =
+    let parts = formed_parts is.region label is.formed in
+    let each = left (nat_le 1 (length label.extents) && list_all (is_extent is.region) label.extents) (are_apart label.extents) parts.room in
+    all_small is.region label.extents (length contents) is.within (right (nat_le 1 (length label.extents)) (list_all (is_extent is.region) label.extents) each)
+
+pub of_pack_full : (sectors : ℕ) (label : FileLabel) → IsOfPack sectors label → is_direct label.organization ≡ true → label.count ≡ label.capacity
+of_pack_full sectors label is direct = full label.organization label.capacity label.count direct (formed_parts is.region label is.formed).counted
+  where
+    full : (o : Organization) (capacity count : ℕ) → is_direct o ≡ true → is_count_of o capacity count ≡ true → count ≡ capacity
+    full Sequential capacity count direct h = absurd cc
+    full Indexed capacity count direct h = absurd cc
+    full Direct capacity count direct h = eqb-true count capacity h

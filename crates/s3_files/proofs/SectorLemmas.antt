@@ -1,31 +1,13 @@
 -- The bytes of a file when one of its sectors is read or written.
-use Rattle.std.proofs.Common.{◌≡◌, ◌≢◌, ℕ, zero, suc, ◌+◌, ◌*◌, ◌/◌, ◌%◌, ◌<◌, ◌≤◌, List, [], ◌∷◌, ◌++◌, length, take, drop, replicate, slice_get, unwrap_or, Some, true, false, nat_eq, refl, sym, ap, subst, ◌∙◌, arith, length-append, length-drop, length-take-le, append_assoc}
-use Rattle.std.proofs.lemmas.List.{take_at, take-append-le}
+use Rattle.std.proofs.Common.{◌≡◌, ◌≢◌, ℕ, zero, suc, ◌+◌, ◌*◌, ◌/◌, ◌%◌, ◌<◌, ◌≤◌, List, [], ◌∷◌, ◌++◌, length, take, drop, slice_get, Some, true, false, nat_eq, refl, sym, ap, subst, ◌∙◌, arith, length-append, length-drop, length-take-le, append_assoc}
+use Rattle.std.proofs.lemmas.List.{take-append-le}
 use Rattle.std.proofs.lemmas.Bool.{eq-eqb}
 use Rattle.std.specs.List.{flat_map, All, Contains, IsDistinct, AllByRecursion}
-use Rattle.s3_store.proofs.SectorLists.{slice_get_set_same, slice_get_set_other}
-use Rattle.std.proofs.Common.{slice_set, slice_index_or}
+use Rattle.std.proofs.Common.{Result, Ok, Err, OnOk, OnErr, slice_index_or}
+use Rattle.s3_store.specs.declared.pool_fault.PoolFault.{PoolFault}
+use Rattle.s3_store.proofs.SectorParts.{length-sector_bytes, sector_bytes-there, sector_bytes-same, length-with_part, part-with_part, outside-with_part, piece_there, piece_other}
 use Rattle.std.proofs.lemmas.List.Elements.{All-contains}
-use Rattle.s3_store.specs.Bytes.{sector_bytes, bytes_at, part, SameOutside}
-
-length-zeros : (n : ℕ) → length {A = ℕ} (replicate n 0) ≡ n
-length-zeros zero = refl
-length-zeros (suc n) = ap suc (length-zeros n)
-
-length-padded : (n : ℕ) (xs : List ℕ) → length {A = ℕ} (take n (xs ++ replicate n 0)) ≡ n
-length-padded n xs = let zeros : List ℕ = replicate n 0 in length-take-le n (xs ++ zeros) (omega (arith, length-append xs zeros, length-zeros n))
-
-pub length-sector_bytes : (contents : List (List ℕ)) (n : ℕ) → length (sector_bytes contents n) ≡ 256
-unfolding sector_bytes
-length-sector_bytes contents n = length-padded 256 (unwrap_or (slice_get contents n) [])
-
-pub sector_bytes-there : (contents : List (List ℕ)) (n : ℕ) (v : List ℕ) → slice_get contents n ≡ Some v → length v ≡ 256 → sector_bytes contents n ≡ v
-unfolding sector_bytes
-sector_bytes-there contents n v there len = rw there (take_at v (replicate 256 0) 256 len)
-
-pub sector_bytes-same : (old new : List (List ℕ)) (n : ℕ) → slice_get new n ≡ slice_get old n → sector_bytes new n ≡ sector_bytes old n
-unfolding sector_bytes
-sector_bytes-same old new n same = ap (λ o. take 256 (unwrap_or o [] ++ replicate 256 0)) same
+use Rattle.s3_store.specs.Bytes.{sector_bytes, bytes_at, part, with_part, with_piece, SameOutside}
 
 -- pieces of 256 bytes, joined
 module _ (f : ℕ → List ℕ) (whole : (n : ℕ) → length (f n) ≡ 256) where
@@ -130,13 +112,12 @@ module _ (sectors : List ℕ) (at n w : ℕ) (sector : List ℕ) (is : slice_get
       ∙ ap (λ m. part (xs ++ (sector ++ zs)) m w) (sym place)
       ∙ part-inside xs sector zs (256 * (at / 256)) (at % 256) w (length-front contents) (omega arith)
 
-  pub part-written : (old new : List (List ℕ)) (v : List ℕ) → IsDistinct nat_eq sectors → slice_get old n ≡ Some sector → slice_get new n ≡ Some v → ((m : ℕ) → m ≢ n → slice_get new m ≡ slice_get old m) → length v ≡ 256 → SameOutside (at % 256) w sector v → SameOutside at w (bytes_at sectors old) (bytes_at sectors new)
+  pub part-written : (old new : List (List ℕ)) (v : List ℕ) → IsDistinct nat_eq sectors → sector_bytes old n ≡ sector → slice_get new n ≡ Some v → ((m : ℕ) → m ≢ n → slice_get new m ≡ slice_get old m) → length v ≡ 256 → SameOutside (at % 256) w sector v → SameOutside at w (bytes_at sectors old) (bytes_at sectors new)
   unfolding bytes_at
-  part-written old new v distinct there now others long same =
+  part-written old new v distinct was now others long same =
       let f = sector_bytes old in let g = sector_bytes new in
       let xs = flat_map f (take (at / 256) sectors) in
       let zs = flat_map f (drop (suc (at / 256)) sectors) in
-      let was : f n ≡ sector = sector_bytes-there old n sector there whole in
       let is_now : g n ≡ v = sector_bytes-there new n v now long in
       let before : bytes_at sectors old ≡ xs ++ (sector ++ zs) = joined-split f (length-sector_bytes old) sectors (at / 256) n is ∙ ap (λ l. xs ++ (l ++ zs)) was in
       let after : bytes_at sectors new ≡ xs ++ (v ++ zs) = joined-changed f g n (λ m other. sector_bytes-same old new m (others m other)) sectors (at / 256) is distinct ∙ ap (λ l. xs ++ (l ++ zs)) is_now in
@@ -144,14 +125,31 @@ module _ (sectors : List ℕ) (at n w : ℕ) (sector : List ℕ) (is : slice_get
       let placed : SameOutside at w (xs ++ (sector ++ zs)) (xs ++ (v ++ zs)) = subst (λ m. SameOutside m w (xs ++ (sector ++ zs)) (xs ++ (v ++ zs))) place inside in
       rw (before, after) placed
 
-  -- the sector is set
-  pub part-set : (old mid new : List (List ℕ)) (v : List ℕ) → IsDistinct nat_eq sectors → slice_get old n ≡ Some sector → n < length old → mid ≡ old → new ≡ slice_set mid n v → length v ≡ 256 → SameOutside (at % 256) w sector v → SameOutside at w (bytes_at sectors old) (bytes_at sectors new)
-  part-set old mid new v distinct there below kept set long same =
-      let is_now : new ≡ slice_set old n v = set ∙ ap (λ l. slice_set l n v) kept in
-      part-written old new v distinct there (ap (λ l. slice_get l n) is_now ∙ slice_get_set_same old n v below) (λ m other. ap (λ l. slice_get l m) is_now ∙ slice_get_set_other old n m v other) long same
+-- a piece of a sector is changed
+module _ (sectors : List ℕ) (at n : ℕ) (piece : List ℕ) (is : slice_get sectors (at / 256) ≡ Some n) (fits : at % 256 + length piece ≤ 256) (old new : List (List ℕ)) (below : n < length old) where
+  abbrev changed : List ℕ
+  changed = with_part (sector_bytes old n) (at % 256) piece
 
-pub set-there : (old mid new : List (List ℕ)) (n : ℕ) (v : List ℕ) → n < length old → mid ≡ old → new ≡ slice_set mid n v → slice_get new n ≡ Some v
-set-there old mid new n v below kept set = ap (λ l. slice_get l n) (set ∙ ap (λ l. slice_set l n v) kept) ∙ slice_get_set_same old n v below
+  inside : at % 256 + length piece ≤ length (sector_bytes old n)
+  inside = omega (arith, fits, length-sector_bytes old n)
+
+  long : length changed ≡ 256
+  long = length-with_part (sector_bytes old n) (at % 256) piece inside ∙ length-sector_bytes old n
+
+  there : new ≡ with_piece old n (at % 256) piece → slice_get new n ≡ Some changed
+  there set = ap (λ l. slice_get l n) set ∙ piece_there old n (at % 256) piece below
+
+  pub piece-written : {T : Type 0} (r : Result T PoolFault) → OnOk r (new ≡ with_piece old n (at % 256) piece) → OnOk r (part (bytes_at sectors new) at (length piece) ≡ piece)
+  piece-written (Ok x) set =
+      part-read sectors at n (length piece) changed is fits long new (there set)
+      ∙ part-with_part (sector_bytes old n) (at % 256) piece inside
+  piece-written (Err fault) set = tt
+
+  pub piece-outside : {T : Type 0} (r : Result T PoolFault) → IsDistinct nat_eq sectors → OnOk r (new ≡ with_piece old n (at % 256) piece) → OnErr r (new ≡ old) → SameOutside at (length piece) (bytes_at sectors old) (bytes_at sectors new)
+  piece-outside (Ok x) distinct set same =
+      part-written sectors at n (length piece) (sector_bytes old n) is fits (length-sector_bytes old n) old new changed distinct refl (there set)
+      (λ m other. ap (λ l. slice_get l m) set ∙ piece_other old n (at % 256) m piece other) long (outside-with_part (sector_bytes old n) (at % 256) piece inside)
+  piece-outside (Err fault) distinct set same = record { before = ap (λ l. take at (bytes_at sectors l)) same; after = ap (λ l. drop (at + length piece) (bytes_at sectors l)) same }
 
 pub contains-got : (xs : List ℕ) (i n : ℕ) → slice_get xs i ≡ Some n → Contains xs n
 contains-got xs i n h = (i, got xs i n h, value xs i n h)

@@ -18,15 +18,6 @@ fn copy_part(bytes: &[u8], at: usize, piece: &mut [u8])
     piece.copy_from_slice(&bytes[at..at + piece.len()]);
 }
 
-/// Writes over the part of these bytes that begins at a place.
-fn overwrite(bytes: &mut [u8], at: usize, piece: &[u8])
-    requires { at + length piece.now ≤ length bytes.old }
-    ensures piece { part bytes.new at (length piece.now) ≡ piece.now }
-    ensures outside { SameOutside at (length piece.now) bytes.old bytes.new }
-{
-    bytes[at..at + piece.len()].copy_from_slice(piece);
-}
-
 /// Reads bytes that lie in one sector.
 fn read_piece<P: Sectors>(
     pool: &mut P,
@@ -64,12 +55,7 @@ fn write_piece<P: Sectors>(
     ensures failures { (P.state pool.new).failures ≡ (P.state pool.old).failures + failed_transfers result }
     ensures fault { IfErr result (λ e. e ≢ PoolFault.NoSector) }
 {
-    let n = sectors.sector_at(at / 256);
-    let mut sector = [0; 256];
-    pool.read_sector(n, &mut sector)?;
-    overwrite(&mut sector, at % 256, piece);
-    pool.write_sector(n, &sector)?;
-    Ok(())
+    pool.change_sector(sectors.sector_at(at / 256), at % 256, piece)
 }
 
 /// How many of these bytes lie in the sector of the first.

@@ -1,8 +1,12 @@
 //! What the definitions say of themselves: worked rows.
 
-ghost use Rattle.std.specs.Prelude.{◌≡◌, ◌-◌, ◌*◌, ◌/◌, ◌++◌, [], ◌∷◌, slice_get, replicate, Some, None, Ok, Err};
+ghost use Rattle.std.specs.Prelude.{◌≡◌, ◌-◌, ◌*◌, ◌/◌, ◌++◌, ℕ, List, [], ◌∷◌, true, length, slice_get, replicate, Some, None, Ok, Err};
 ghost use Rattle.s3_store.specs.Bytes.{bytes_at};
 ghost use Rattle.s3_store.specs.Stretches.{sectors_in};
+ghost use Rattle.s3_slots.specs.Kept.{IsOfPack};
+ghost use Rattle.s3_slots.specs.Labels.{is_direct, sectors_of};
+ghost use Rattle.s3_slots.specs.declared.label.FileLabel.{FileLabel};
+ghost use Rattle.s3_files.specs.Files.{HasRoom, AreStored};
 ghost use Rattle.s3_files.specs.Records.{records_in, record_at, with_record, with_last};
 ghost use Rattle.s3_files.specs.Samples.{two_pieces, two_sectors, split_contents, a, b, c};
 ghost use Rattle.s3_files.specs.declared.fault.FileFault.TheVariants.{NoRecord, Full};
@@ -30,4 +34,11 @@ pub fn a_list_of_records_refuses()
     ensures not_written { with_record 2 c (a ∷ b ∷ []) ≡ Err NoRecord }
     ensures one_more { with_last 3 c (a ∷ b ∷ []) ≡ Ok (a ∷ b ∷ c ∷ []) }
     ensures full { with_last 2 c (a ∷ b ∷ []) ≡ Err Full }
+{}
+
+/// A label that a pack has is of a file with room for its records, over sectors that are there; a direct file is full.
+pub fn a_label_of_a_pack_has_its_file()
+    ensures room { (sectors : ℕ) (label : FileLabel) → IsOfPack sectors label → HasRoom label }
+    ensures stored { (contents : List (List ℕ)) (label : FileLabel) → IsOfPack (length contents) label → AreStored (sectors_of label) contents }
+    ensures full { (sectors : ℕ) (label : FileLabel) → IsOfPack sectors label → is_direct label.organization ≡ true → label.count ≡ label.capacity }
 {}

@@ -15,7 +15,8 @@ pub use direct::Direct;
 pub use fault::FileFault;
 pub use file_sectors::FileSectors;
 pub use laws::{
-    a_list_of_records_refuses, a_record_lies_across_two_pieces, records_run_on_from_piece_to_piece,
+    a_label_of_a_pack_has_its_file, a_list_of_records_refuses, a_record_lies_across_two_pieces,
+    records_run_on_from_piece_to_piece,
 };
 pub use records::RecordFile;
 pub use sequential::Sequential;

@@ -4,6 +4,7 @@ mod Checked
 mod Goodness
 mod Highest
 mod InMemory
+pub mod Indexes
 mod KeyNumbers
 mod MergeSteps
 mod Merging

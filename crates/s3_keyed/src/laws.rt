@@ -1,10 +1,13 @@
 //! What the definitions say of themselves: worked rows.
 
-ghost use Rattle.std.specs.Prelude.{◌≡◌, ◌+◌, ◌++◌, [], ◌∷◌, true, false, replicate, Some, None, Ok, Err};
+ghost use Rattle.std.specs.Prelude.{◌≡◌, ◌+◌, ◌++◌, ℕ, [], ◌∷◌, true, false, replicate, Some, None, Ok, Err};
+ghost use Rattle.s3_slots.specs.Kept.{IsOfPack};
+ghost use Rattle.s3_slots.specs.Labels.{is_indexed};
 ghost use Rattle.s3_slots.specs.Slots.{sectors_needed};
+ghost use Rattle.s3_slots.specs.declared.label.FileLabel.{FileLabel};
 ghost use Rattle.s3_slots.specs.declared.label.Organization.TheVariants.{Indexed};
 ghost use Rattle.s3_keyed.specs.KeyOrder.{key_order, insert_entries, is_good_index};
-ghost use Rattle.s3_keyed.specs.Index.{entry_place, index_in, keys_at};
+ghost use Rattle.s3_keyed.specs.Index.{HasIndex, entry_place, index_in, keys_at};
 ghost use Rattle.s3_keyed.specs.Calls.{nth_by_key, place_of_key, with_added, with_loaded, with_updated};
 ghost use Rattle.s3_keyed.specs.Samples.{first_byte, ten_records, letter, b_and_a, two_letters, four_letters, entry};
 ghost use Rattle.s3_keyed.specs.declared.fault.KeyedFault.TheVariants.{Duplicate, Full, KeyChanged, NoKey, NotAscending};
@@ -48,4 +51,9 @@ pub fn a_full_file_tells_a_duplicate_first()
     ensures full_load { with_loaded first_byte 2 (letter 0xc3) b_and_a ≡ Err Full }
     ensures changed { with_updated first_byte 0 (letter 0xc1) b_and_a ≡ Err KeyChanged }
     ensures no_record { with_updated first_byte 2 (letter 0xc1) b_and_a ≡ Err NoKey }
+{}
+
+/// A label of an indexed file that a pack has has room for its index, and its key lies in its records.
+pub fn a_label_of_a_pack_has_its_index()
+    ensures { (sectors : ℕ) (label : FileLabel) → IsOfPack sectors label → is_indexed label.organization ≡ true → HasIndex label }
 {}

@@ -18,6 +18,6 @@ pub use fault::KeyedFault;
 pub use indexed::IndexedFile;
 pub use keyed::Keyed;
 pub use laws::{
-    a_full_file_tells_a_duplicate_first, added_entries_take_their_places,
-    entries_lie_behind_records, the_index_is_in_key_order,
+    a_full_file_tells_a_duplicate_first, a_label_of_a_pack_has_its_index,
+    added_entries_take_their_places, entries_lie_behind_records, the_index_is_in_key_order,
 };

@@ -1,5 +1,5 @@
 -- Slots of a level that were changed.
-use Rattle.std.proofs.Common.{◌≡◌, ℕ, List, Some, None, Result, Ok, true, refl, sym, ap, ◌∙◌, subst}
+use Rattle.std.proofs.Common.{◌≡◌, ◌≢◌, ℕ, List, Option, Some, None, Result, Ok, true, refl, sym, ap, ◌∙◌, subst}
 use Rattle.std.specs.List.{position_from}
 use Rattle.s3_cards.specs.declared.levels.LevelId.{LevelId}
 use Rattle.s3_cards.specs.declared.levels.LevelId.TheVariants.{One, Two}
@@ -71,3 +71,6 @@ pub made_ready : (level : LevelId) (new : NewFile) (old after : Areas) (region :
 made_ready level new old after region s t ready proper is set within =
     ready_with level (slots_at level after) old after region s t set within ready
     (made_kept old.header.format (region_at level old) old.masters new (slots_at level old) (slots_at level after) (ready_region level old s.contents ready).whole proper (ready.own level) is)
+
+pub other_place : (found : Option ℕ) (place j : ℕ) → found ≡ Some place → found ≢ Some j → j ≢ place
+other_place found place j is other = λ e. other (is ∙ ap Some (sym e))

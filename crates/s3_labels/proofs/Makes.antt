@@ -1,15 +1,18 @@
 -- A make over the sectors of a pack, and a list of makes on a copy.
-use Rattle.std.proofs.Common.{◌≡◌, ℕ, zero, suc, ◌+◌, ◌≤◌, ◌<◌, true, List, [], ◌∷◌, length, slice_get, Some, Result, Ok, Err, drop, refl, sym, ap, ◌∙◌, arith, inl, inr}
+use Rattle.std.proofs.Common.{◌≡◌, ◌≢◌, ℕ, zero, suc, ◌+◌, ◌*◌, ◌/◌, ◌%◌, ◌≤◌, ◌<◌, true, List, [], ◌∷◌, length, slice_get, Option, Some, Result, Ok, Err, drop, refl, sym, ap, ◌∙◌, arith, inl, inr}
 use Rattle.std.specs.Prelude.{IsOk, is_ok}
 use Rattle.std.specs.List.{All}
 use Rattle.s3_cards.specs.declared.levels.LevelId.{LevelId}
+use Rattle.s3_cards.specs.declared.levels.LevelId.TheVariants.{One, Two}
 use Rattle.s3_cards.specs.declared.name.Name.{Name}
 use Rattle.s3_store.proofs.Frames.{within_trans, within_weaker}
 use Rattle.s3_store.specs.State.{PoolState, ChangesWithin}
 use Rattle.s3_store.specs.Stretches.{end_of}
 use Rattle.s3_store.specs.declared.stretch.Stretch.{Stretch}
 use Rattle.s3_slots.specs.Labels.{sectors_of}
-use Rattle.s3_slots.specs.Slots.{are_extents}
+use Rattle.s3_slots.specs.Slots.{are_extents, labels_at, slot_bytes}
+use Rattle.s3_store.specs.Bytes.{part}
+use Rattle.s3_store.proofs.SectorParts.{sector_bytes-same}
 use Rattle.s3_slots.specs.Making.{made, planned, and_then}
 use Rattle.s3_slots.specs.declared.header.Format.{Format}
 use Rattle.s3_slots.specs.declared.label.FileLabel.{FileLabel}
@@ -18,7 +21,7 @@ use Rattle.s3_slots.specs.declared.making.NewFile.{NewFile}
 use Rattle.s3_slots.specs.declared.slot.Slot.{Slot}
 use Rattle.s3_slots.specs.declared.slot.Slot.TheVariants.{Sound}
 use Rattle.s3_slots.proofs.Keeping.{extents_inside, extents_there}
-use Rattle.s3_labels.specs.Areas.{Areas, IsReady, region_at, IsLabelSector, IsRecordOfDirect, IsOfMake, AreFilled}
+use Rattle.s3_labels.specs.Areas.{Areas, IsReady, region_at, area_of, IsLabelSector, IsRecordOfDirect, IsOfMake, AreFilled}
 use Rattle.s3_labels.proofs.Regions.{ready_region}
 
 -- ---- which sectors it changes
@@ -73,6 +76,27 @@ blanks_stay level areas contents area byte label t u few ready placed c filled =
     let region = ready_region level areas contents ready in
     let inside = extents_inside (region_at level areas) label.extents n placed h in
     c.contents n (behind_labels area n few (omega (arith, region.low, inside.0))) ∙ filled n h
+
+-- no slot of the labels changes while blank records are written
+pub slots_stay : (level : LevelId) (areas : Areas) (contents : List (List ℕ)) (area : ℕ) (label : FileLabel) (s t : PoolState) → area < 3 → IsReady areas contents
+    → are_extents (region_at level areas) label.extents ≡ true → ChangesWithin (IsRecordOfDirect label) s t → (j : ℕ) → j < 32 → slot_bytes area t.contents j ≡ slot_bytes area s.contents j
+unfolding sectors_of
+slots_stay level areas contents area label s t few ready placed c j below =
+    let n = labels_at area + j / 4 in
+    let region = ready_region level areas contents ready in
+    let is : IsLabelSector area n = (omega arith, omega (arith, below)) in
+    let out : IsRecordOfDirect label n → ⊥ = λ has.
+    let inside = extents_inside (region_at level areas) label.extents n placed has.1 in
+    behind_labels area n few (omega (arith, region.low, inside.0)) is in
+    ap (λ sector. part sector (j % 4 * 64) 64) (sector_bytes-same s.contents t.contents n (c.contents n out))
+
+pub few_areas : (level : LevelId) → area_of level < 3
+few_areas One = omega arith
+few_areas Two = omega arith
+
+-- one that is neither the old file's nor the new one's stays
+pub others_of_make : (freed old new : Option ℕ) (at j : ℕ) → freed ≡ old → new ≡ Some at → old ≢ Some j → new ≢ Some j → (freed ≢ Some j) × (j ≢ at)
+others_of_make freed old new at j is there not_old not_new = ((λ e. not_old (sym is ∙ e)), (λ e. not_new (there ∙ ap Some (sym e))))
 
 -- ---- a list of makes
 pub record IsPlanning (format : Format) (region : Stretch) (masters : List Slot) (news : List NewFile) (old : List Slot) (i : ℕ) (slots : List Slot) : Type 0 where

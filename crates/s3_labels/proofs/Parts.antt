@@ -1,11 +1,12 @@
 -- A part of some bytes after another part was written.
-use Rattle.std.proofs.Common.{◌≡◌, ◌≢◌, ℕ, zero, suc, ◌+◌, ◌*◌, ◌/◌, ◌%◌, ◌<◌, ◌≤◌, List, [], ◌∷◌, ◌++◌, length, take, drop, slice_get, slice_set, unwrap_or, replicate, refl, sym, ap, ◌∙◌, arith, inl, inr, ◌⊎◌, append_assoc, length-append, length-drop}
+use Rattle.std.proofs.Common.{◌≡◌, ◌≢◌, ℕ, zero, suc, ◌+◌, ◌*◌, ◌/◌, ◌%◌, ◌<◌, ◌≤◌, List, [], ◌∷◌, ◌++◌, length, take, drop, slice_get, slice_set, unwrap_or, replicate, refl, sym, ap, ◌∙◌, arith, inl, inr, ◌⊎◌, Result, Ok, Err, OnOk, OnErr, append_assoc, length-append, length-drop}
 use Rattle.s3_store.proofs.SectorLists.{slice_get_set_same, slice_get_set_other}
 use Rattle.s3_store.proofs.Frames.{within_weaker}
 use Rattle.s3_store.specs.State.{PoolState, ChangesWithin}
 use Rattle.byteorder.specs.Endian.{big_bytes}
 use Rattle.s3_labels.specs.Areas.{IsLabelSector, with_count_bytes}
-use Rattle.s3_store.specs.Bytes.{sector_bytes, part}
+use Rattle.s3_store.specs.Bytes.{sector_bytes, part, with_piece}
+use Rattle.s3_store.specs.declared.pool_fault.PoolFault.{PoolFault}
 use Rattle.s3_slots.specs.Slots.{slot_bytes, labels_at}
 use Rattle.s3_slots.proofs.Ranges.{take_all}
 use Rattle.s3_labels.proofs.Ways.{sector_read}
@@ -70,14 +71,14 @@ unfolding sector_bytes
 sector_other contents n m bytes h = ap (λ sector. take 256 (unwrap_or sector [] ++ replicate 256 0)) (slice_get_set_other contents n m bytes h)
 
 -- the sector of a slot's area with the slot written
-pub slot_written : (area i : ℕ) (contents : List (List ℕ)) (sector new : List ℕ) → labels_at area + i / 4 < length contents
+slot_written : (area i : ℕ) (contents : List (List ℕ)) (sector new : List ℕ) → labels_at area + i / 4 < length contents
     → length sector ≡ 256 → length (put_in (i % 4 * 64) 64 sector new) ≡ 256 → length new ≡ 64
     → slot_bytes area (slice_set contents (labels_at area + i / 4) (put_in (i % 4 * 64) 64 sector new)) i ≡ new
 slot_written area i contents sector new there l long h =
     ap (λ bytes. part bytes (i % 4 * 64) 64) (sector_set contents (labels_at area + i / 4) (put_in (i % 4 * 64) 64 sector new) there long)
     ∙ part_put (i % 4 * 64) 64 sector new h (omega (arith, l))
 
-pub slot_other : (area i j : ℕ) (contents : List (List ℕ)) (new : List ℕ) → labels_at area + i / 4 < length contents → length (sector_bytes contents (labels_at area + i / 4)) ≡ 256
+slot_other : (area i j : ℕ) (contents : List (List ℕ)) (new : List ℕ) → labels_at area + i / 4 < length contents → length (sector_bytes contents (labels_at area + i / 4)) ≡ 256
     → length (put_in (i % 4 * 64) 64 (sector_bytes contents (labels_at area + i / 4)) new) ≡ 256 → length new ≡ 64 → j ≢ i
     → slot_bytes area (slice_set contents (labels_at area + i / 4) (put_in (i % 4 * 64) 64 (sector_bytes contents (labels_at area + i / 4)) new)) j ≡ slot_bytes area contents j
 slot_other area i j contents new there l long h differ = same (nat_eq_or (j / 4) (i / 4))
@@ -120,22 +121,28 @@ long area i old new bytes so =
     let l = sector_length old (labels_at area + i / 4) in
     put_length (i % 4 * 64) 64 (sector_bytes old (labels_at area + i / 4)) bytes so.width (omega (arith, l)) ∙ l
 
-pub rewritten : (area i : ℕ) (old new : List (List ℕ)) (bytes : List ℕ) → IsRewritten area i old new bytes → slot_bytes area new i ≡ bytes
+rewritten : (area i : ℕ) (old new : List (List ℕ)) (bytes : List ℕ) → IsRewritten area i old new bytes → slot_bytes area new i ≡ bytes
 rewritten area i old new bytes so =
     rw so.set (slot_written area i old (sector_bytes old (labels_at area + i / 4)) bytes so.there (sector_length old (labels_at area + i / 4)) (long area i old new bytes so) so.width)
 
-pub others_kept : (area i : ℕ) (old new : List (List ℕ)) (bytes : List ℕ) → IsRewritten area i old new bytes → (j : ℕ) → j ≢ i → slot_bytes area new j ≡ slot_bytes area old j
+others_kept : (area i : ℕ) (old new : List (List ℕ)) (bytes : List ℕ) → IsRewritten area i old new bytes → (j : ℕ) → j ≢ i → slot_bytes area new j ≡ slot_bytes area old j
 others_kept area i old new bytes so j differ =
     rw so.set (slot_other area i j old bytes so.there (sector_length old (labels_at area + i / 4)) (long area i old new bytes so) so.width differ)
 
-pub is_rewritten : (area i at : ℕ) (old mid new : List (List ℕ)) (sector put bytes : List ℕ) → labels_at area + i / 4 < length old → length bytes ≡ 64 → at ≡ i % 4
-    → mid ≡ old → sector ≡ sector_bytes old (labels_at area + i / 4) → put ≡ (take (at * 64) sector ++ bytes) ++ drop (at * 64 + length bytes) sector
-    → new ≡ slice_set mid (labels_at area + i / 4) put → IsRewritten area i old new bytes
-is_rewritten area i at old mid new sector put bytes there width e same read putted set = record {
-  there = there;
-  width = width;
-  set = set ∙ ap (λ l. slice_set l (labels_at area + i / 4) put) same ∙ ap (slice_set old (labels_at area + i / 4)) (rw (e, width, read) at putted);
-}
+is_rewritten : (area i at : ℕ) (old new : List (List ℕ)) (bytes : List ℕ) → labels_at area + i / 4 < length old → length bytes ≡ 64 → at ≡ i % 4
+    → new ≡ with_piece old (labels_at area + i / 4) (at * 64) bytes → IsRewritten area i old new bytes
+is_rewritten area i at old new bytes there width e set = record { there = there; width = width; set = rw (e, width) at set }
+
+-- what a change of a slot's part of its sector leaves, refused or not
+module _ (area i at : ℕ) (old new : List (List ℕ)) (bytes : List ℕ) (there : labels_at area + i / 4 < length old) (width : length bytes ≡ 64) (e : at ≡ i % 4) where
+  pub slot_changed : {T : Type 0} (r : Result T PoolFault) → OnOk r (new ≡ with_piece old (labels_at area + i / 4) (at * 64) bytes) → OnOk r (slot_bytes area new i ≡ bytes)
+  slot_changed (Ok x) set = rewritten area i old new bytes (is_rewritten area i at old new bytes there width e set)
+  slot_changed (Err fault) set = tt
+
+  pub others_stay : {T : Type 0} (r : Result T PoolFault) → OnOk r (new ≡ with_piece old (labels_at area + i / 4) (at * 64) bytes) → OnErr r (new ≡ old)
+      → (j : ℕ) → j ≢ i → slot_bytes area new j ≡ slot_bytes area old j
+  others_stay (Ok x) set same j differ = others_kept area i old new bytes (is_rewritten area i at old new bytes there width e set) j differ
+  others_stay (Err fault) set same j differ = ap (λ contents. slot_bytes area contents j) same
 
 -- the sector of a slot is one of its area's labels
 pub slot_within : (area i : ℕ) (s t : PoolState) → i < 32 → ChangesWithin (λ n. n ≡ 1 + 8 * area + i / 4) s t → ChangesWithin (IsLabelSector area) s t

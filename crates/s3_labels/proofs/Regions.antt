@@ -1,5 +1,5 @@
 -- Where the regions of a pack that is ready lie.
-use Rattle.std.proofs.Common.{◌≡◌, ℕ, ◌%◌, ◌≤◌, ◌<◌, Bool, true, false, ◌&&◌, nat_le, ◌==◌, List, [], ◌∷◌, length, Some, Ok, refl, arith}
+use Rattle.std.proofs.Common.{◌≡◌, ℕ, ◌%◌, ◌≤◌, ◌<◌, Bool, true, false, ◌&&◌, nat_le, ◌==◌, List, [], ◌∷◌, length, slice_get, Some, Ok, refl, arith}
 use Rattle.std.specs.Prelude.{nat_lt}
 use Rattle.std.specs.List.{list_all}
 use Rattle.std.proofs.lemmas.Bool.{and_parts, leb-true, ltb-false, eqb-true}
@@ -7,7 +7,13 @@ use Rattle.s3_cards.specs.declared.levels.LevelId.{LevelId}
 use Rattle.s3_cards.specs.declared.levels.LevelId.TheVariants.{One, Two}
 use Rattle.s3_store.specs.Stretches.{end_of}
 use Rattle.s3_store.specs.declared.stretch.Stretch.{Stretch}
-use Rattle.s3_slots.specs.Kept.{AreKept}
+use Rattle.s3_cards.specs.declared.name.Name.{Name}
+use Rattle.s3_slots.specs.Kept.{AreKept, IsOfPack}
+use Rattle.s3_slots.specs.Slots.{standing}
+use Rattle.s3_slots.specs.declared.label.FileLabel.{FileLabel}
+use Rattle.s3_slots.specs.declared.slot.Slot.TheVariants.{Sound}
+use Rattle.s3_slots.specs.declared.slot.Standing.TheVariants.{Present}
+use Rattle.s3_slots.proofs.Makes.{present_at}
 use Rattle.s3_slots.specs.Stretches.{IsIn, IsWhole, is_apart, is_apart_from_all, are_apart}
 use Rattle.s3_slots.proofs.Rooms.{apart_sectors}
 use Rattle.s3_slots.specs.declared.slot.Slot.{Slot}
@@ -116,3 +122,29 @@ accepted_placed sectors header h =
     masters_from : (header : Header) → is_apart header.masters header.level_one ≡ true → is_apart header.masters header.level_two ≡ true → (level : LevelId) (n : ℕ) → IsIn (region_of level header) n → IsIn header.masters n → ⊥
     masters_from header one two One n a b = apart_sectors header.masters header.level_one n one b.0 b.1 a.0 a.1
     masters_from header one two Two n a b = apart_sectors header.masters header.level_two n two b.0 b.1 a.0 a.1
+
+-- ---- the labels of a pack that is ready
+pub slot_on_pack : (level : LevelId) (areas : Areas) (contents : List (List ℕ)) (i : ℕ) (label : FileLabel) → slice_get (slots_at level areas) i ≡ Some (Sound label) → IsReady areas contents
+    → IsOfPack (length contents) label
+slot_on_pack level areas contents i label there ready = record {
+  region = region_at level areas;
+  within = (ready_region level areas contents ready).high;
+  few = ready.few;
+  formed = (ready.own level).formed i label there;
+}
+
+pub own_on_pack : (level : LevelId) (areas : Areas) (contents : List (List ℕ)) (name : Name) (label : FileLabel) → standing name (slots_at level areas) ≡ Present label → IsReady areas contents
+    → IsOfPack (length contents) label
+own_on_pack level areas contents name label stands ready =
+    let at = present_at name (slots_at level areas) label stands in
+    slot_on_pack level areas contents at.slot label at.there ready
+
+pub master_on_pack : (areas : Areas) (contents : List (List ℕ)) (name : Name) (label : FileLabel) → standing name areas.masters ≡ Present label → IsReady areas contents → IsOfPack (length contents) label
+master_on_pack areas contents name label stands ready =
+    let at = present_at name areas.masters label stands in
+    record {
+      region = areas.header.masters;
+      within = (accepted_regions (length contents) areas.header ready.header).masters.high;
+      few = ready.few;
+      formed = ready.masters.formed at.slot label at.there;
+    }

@@ -4,7 +4,8 @@ ghost use Rattle.std.specs.List.{position_from};
 ghost use Rattle.s3_slots.specs.Header.{quota_of};
 ghost use Rattle.s3_slots.specs.Slots.{are_extents, bears, standing};
 ghost use Rattle.s3_slots.specs.Stretches.{IsWhole};
-ghost use Rattle.s3_slots.specs.Making.{made, tracks_of, refusal, changed_in};
+ghost use Rattle.s3_slots.specs.Making.{made, tracks_of, refusal, changed_in, new_label, dropped};
+ghost use Rattle.s3_slots.specs.Placement.{free_slot};
 ghost use Rattle.s3_store.specs.Stretches.{end_of};
 ghost use Rattle.s3_slots.specs.declared.slot.Slot.TheVariants.{Free, Sound};
 
@@ -166,6 +167,9 @@ impl AreaSlots {
         ensures placed { IfOk result (λ made. are_extents (region_at level self.old) made.label.extents ≡ true) }
         ensures named { IfOk result (λ made. made.label.name ≡ new.now.name) }
         ensures there { IfOk result (λ made. slice_get (slots_at level self.new) made.at ≡ Some (Sound made.label)) }
+        ensures label { IfOk result (λ made. made.label ≡ new_label new.now made.label.extents) }
+        ensures slot { IfOk result (λ made. free_slot (dropped new.now.name (slots_at level self.old)) ≡ Some made.at) }
+        ensures old { IfOk result (λ made. made.freed ≡ position_from (bears new.now.name) 0 (slots_at level self.old)) }
         ensures freed { IfOk result (λ made. IfSome made.freed (λ i. i < 32)) }
     {
         let format = self.header.format;

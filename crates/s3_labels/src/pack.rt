@@ -1,11 +1,13 @@
 //! A pack.
 ghost use Rattle.std.specs.Prelude.{◌≡◌, ◌≢◌, ◌≤◌, ◌<◌, ◌+◌, ℕ, length, slice_get, replicate, Ok, Err, Some, true, OnOk, OnErr, IsOk, ◌⊎◌, IfOk, IfErr};
-ghost use Rattle.std.specs.List.{All};
+ghost use Rattle.std.specs.List.{All, position_from};
 ghost use Rattle.s3_store.specs.State.{KeepsContents, ChangesWithin};
 ghost use Rattle.s3_slots.specs.Header.{mounted};
 ghost use Rattle.s3_slots.specs.Labels.{is_direct, sectors_of};
-ghost use Rattle.s3_slots.specs.Slots.{standing, are_extents};
-ghost use Rattle.s3_slots.specs.Making.{found, made, planned, with_count, without_label, IsNewFile};
+ghost use Rattle.s3_slots.specs.Slots.{standing, are_extents, bears, slot_bytes};
+ghost use Rattle.s3_slots.specs.Kept.{IsOfPack};
+ghost use Rattle.s3_slots.specs.Placement.{free_slot};
+ghost use Rattle.s3_slots.specs.Making.{found, made, planned, with_count, without_label, IsNewFile, new_label, dropped};
 ghost use Rattle.s3_labels.specs.Areas.{slots_at, slots_in, region_at, with_slots, area_of as area_of_spec, areas_on, IsReady, IsRefusal, failed_by, failed_mount, IsChangeRefusal, IsOfSectors, failed_change, IsLabelSector, IsOfMake, AreFilled, IsPlanRefusal, MayHave, with_count_bytes};
 ghost use Rattle.s3_labels.specs.Written.{IsWritten, WritesSlot};
 
@@ -145,9 +147,10 @@ impl<P: Sectors> Pack<P> {
     }
 
     /// The file of a label for a level, its own before the masters', and whether it is a master's.
-    #[tactic(auto, unfolding(s3_slots::specs::Making::found))]
+    #[tactic(auto, using(crate::proofs::Regions::own_on_pack, crate::proofs::Regions::master_on_pack), unfolding(s3_slots::specs::Making::found))]
     pub fn find(&self, level: LevelId, name: Name) -> Result<(FileLabel, bool), LabelFault>
-        ensures { result ≡ found name (slots_at level self.now.areas) self.now.areas.masters }
+        ensures value { result ≡ found name (slots_at level self.now.areas) self.now.areas.masters }
+        ensures on_pack { IsReady self.now.areas (P.state self.now.pool).contents → IfOk result (λ file. IsOfPack (length (P.state self.now.pool).contents) file.0) }
     {
         match standing_of(name, self.areas.slots(level)) {
             Standing::Present(label) => Ok((label, false)),
@@ -178,20 +181,24 @@ impl<P: Sectors> Pack<P> {
         Ok(())
     }
 
-    /// Makes a file of a level. The records of a direct file are blank.
+    /// Makes a file of a level. The records of a direct file are blank. Of its label slots the old file's changes, and the lowest
+    /// that is free without it, refused or not.
     ///
     /// After a fault of the sectors no call on the pack is to be made.
     pub fn make(&mut self, level: LevelId, new: &NewFile) -> Result<FileLabel, ChangeFault>
         requires ready { IsReady self.old.areas (P.state self.old.pool).contents }
         requires proper { IsNewFile new.now }
         ensures ok { OnOk result (made self.old.areas.header.format (region_at level self.old.areas) self.old.areas.masters new.now (slots_at level self.old.areas) ≡ Ok (slots_at level self.new.areas)) }
+        ensures label { IfOk result (λ label. label ≡ new_label new.now label.extents) }
         ensures named { IfOk result (λ label. label.name ≡ new.now.name) }
+        ensures on_pack { IfOk result (IsOfPack (length (P.state self.new.pool).contents)) }
         ensures placed { IfOk result (λ label. are_extents (region_at level self.old.areas) label.extents ≡ true) }
         ensures written { IfOk result (IsWritten (area_of_spec level) (slots_at level self.new.areas) (P.state self.new.pool).contents) }
         ensures blank { IfOk result (λ label. is_direct label.organization ≡ true → AreFilled BLANK (sectors_of label) (P.state self.new.pool).contents) }
         ensures err { IfErr result (IsChangeRefusal (made self.old.areas.header.format (region_at level self.old.areas) self.old.areas.masters new.now (slots_at level self.old.areas))) }
         ensures same { IfErr result (λ fault. IsOfSectors fault ⊎ (self.new ≡ self.old)) }
         ensures alone { self.new.areas ≡ with_slots level (slots_at level self.new.areas) self.old.areas }
+        ensures others { (j : ℕ) → j < 32 → position_from (bears new.now.name) 0 (slots_at level self.old.areas) ≢ Some j → free_slot (dropped new.now.name (slots_at level self.old.areas)) ≢ Some j → slot_bytes (area_of_spec level) (P.state self.new.pool).contents j ≡ slot_bytes (area_of_spec level) (P.state self.old.pool).contents j }
         ensures within { ChangesWithin (IsOfMake (area_of_spec level) new.now.name (made self.old.areas.header.format (region_at level self.old.areas) self.old.areas.masters new.now (slots_at level self.old.areas))) (P.state self.old.pool) (P.state self.new.pool) }
         ensures failures { (P.state self.new.pool).failures ≡ (P.state self.old.pool).failures + failed_change result }
         ensures ready { IsReady self.new.areas (P.state self.new.pool).contents }
@@ -211,6 +218,7 @@ impl<P: Sectors> Pack<P> {
         ensures err { IfErr result (IsChangeRefusal (with_count name count (slots_at level self.old.areas))) }
         ensures same { IfErr result (λ fault. IsOfSectors fault ⊎ (self.new ≡ self.old)) }
         ensures alone { self.new.areas ≡ with_slots level (slots_at level self.new.areas) self.old.areas }
+        ensures others { (j : ℕ) → position_from (bears name) 0 (slots_at level self.old.areas) ≢ Some j → slot_bytes (area_of_spec level) (P.state self.new.pool).contents j ≡ slot_bytes (area_of_spec level) (P.state self.old.pool).contents j }
         ensures within { ChangesWithin (IsLabelSector (area_of_spec level)) (P.state self.old.pool) (P.state self.new.pool) }
         ensures failures { (P.state self.new.pool).failures ≡ (P.state self.old.pool).failures + failed_change result }
         ensures ready { IsReady self.new.areas (P.state self.new.pool).contents }
@@ -229,6 +237,7 @@ impl<P: Sectors> Pack<P> {
         ensures err { IfErr result (IsChangeRefusal (without_label name (slots_at level self.old.areas))) }
         ensures same { IfErr result (λ fault. IsOfSectors fault ⊎ (self.new ≡ self.old)) }
         ensures alone { self.new.areas ≡ with_slots level (slots_at level self.new.areas) self.old.areas }
+        ensures others { (j : ℕ) → position_from (bears name) 0 (slots_at level self.old.areas) ≢ Some j → slot_bytes (area_of_spec level) (P.state self.new.pool).contents j ≡ slot_bytes (area_of_spec level) (P.state self.old.pool).contents j }
         ensures within { ChangesWithin (IsLabelSector (area_of_spec level)) (P.state self.old.pool) (P.state self.new.pool) }
         ensures failures { (P.state self.new.pool).failures ≡ (P.state self.old.pool).failures + failed_change result }
         ensures ready { IsReady self.new.areas (P.state self.new.pool).contents }

@@ -9,22 +9,13 @@ ghost use Rattle.s3_store.specs.Stretches.{end_of, sectors_in};
 ghost use Rattle.std.specs.List.{All, Contains};
 ghost use Rattle.s3_labels.specs.Areas.{IsLabelSector, IsRecordOfDirect, AreFilled, with_count_bytes};
 
-use crate::reading::{read_at, read_slot};
+use crate::reading::read_slot;
 use byteorder::{BigEndian, ByteOrder};
 use s3_cards::ebcdic::BLANK;
 use s3_slots::{FileLabel, Made, Organization, bytes_of};
-use s3_store::{PoolFault, Sectors, Stretch};
-
-/// Copies a part into these bytes.
-fn put_part(bytes: &mut [u8], at: usize, part: &[u8])
-    requires { at + length part.now ≤ length bytes.old }
-    ensures { bytes.new ≡ (take at bytes.old ++ part.now) ++ drop (at + length part.now) bytes.old }
-{
-    bytes[at..at + part.len()].copy_from_slice(part);
-}
+use s3_store::{PoolFault, Sectors, Stretch, put_part};
 
 /// Writes the bytes of a slot.
-#[tactic(auto, using(s3_store::proofs::Frames::keeps_within, s3_store::proofs::Frames::within_from_keeps))]
 pub fn write_slot<P: Sectors>(
     pool: &mut P,
     area: u16,
@@ -35,15 +26,12 @@ pub fn write_slot<P: Sectors>(
     requires slot { i < 32 }
     requires room { 25 ≤ length (P.state pool.old).contents }
     ensures written { OnOk result (slot_bytes area (P.state pool.new).contents i ≡ bytes.now) }
-    ensures others { OnOk result ((j : ℕ) → j ≢ i → slot_bytes area (P.state pool.new).contents j ≡ slot_bytes area (P.state pool.old).contents j) }
+    ensures others { (j : ℕ) → j ≢ i → slot_bytes area (P.state pool.new).contents j ≡ slot_bytes area (P.state pool.old).contents j }
     ensures within { ChangesWithin (λ n. n ≡ 1 + 8 * area + i / 4) (P.state pool.old) (P.state pool.new) }
     ensures failures { (P.state pool.new).failures ≡ (P.state pool.old).failures + failed_transfers result }
     ensures fault { IfErr result (λ fault. fault ≢ PoolFault.NoSector) }
 {
-    let mut sector = read_at(pool, 1 + 8 * area + i / 4)?;
-    put_part(&mut sector, usize::from(i % 4) * 64, bytes);
-    pool.write_sector(1 + 8 * area + i / 4, &sector)?;
-    Ok(())
+    pool.change_sector(1 + 8 * area + i / 4, usize::from(i % 4) * 64, bytes)
 }
 
 /// Writes zeros to the slot that a make has freed, if it isn't the one that it has filled.
@@ -58,7 +46,7 @@ fn clear_freed<P: Sectors>(
     requires freed { IfSome freed (λ i. i < 32) }
     requires room { 25 ≤ length (P.state pool.old).contents }
     ensures cleared { OnOk result (IfSome freed (λ i. i ≢ at → slot_bytes area (P.state pool.new).contents i ≡ replicate 64 0)) }
-    ensures others { OnOk result ((j : ℕ) → freed ≢ Some j → slot_bytes area (P.state pool.new).contents j ≡ slot_bytes area (P.state pool.old).contents j) }
+    ensures others { (j : ℕ) → freed ≢ Some j → slot_bytes area (P.state pool.new).contents j ≡ slot_bytes area (P.state pool.old).contents j }
     ensures within { ChangesWithin (IsLabelSector area) (P.state pool.old) (P.state pool.new) }
     ensures failures { (P.state pool.new).failures ≡ (P.state pool.old).failures + failed_transfers result }
     ensures fault { IfErr result (λ fault. fault ≢ PoolFault.NoSector) }
@@ -76,7 +64,7 @@ pub fn clear_slot<P: Sectors>(pool: &mut P, area: u16, i: u16) -> Result<(), Poo
     requires slot { i < 32 }
     requires room { 25 ≤ length (P.state pool.old).contents }
     ensures cleared { OnOk result (slot_bytes area (P.state pool.new).contents i ≡ replicate 64 0) }
-    ensures others { OnOk result ((j : ℕ) → j ≢ i → slot_bytes area (P.state pool.new).contents j ≡ slot_bytes area (P.state pool.old).contents j) }
+    ensures others { (j : ℕ) → j ≢ i → slot_bytes area (P.state pool.new).contents j ≡ slot_bytes area (P.state pool.old).contents j }
     ensures within { ChangesWithin (IsLabelSector area) (P.state pool.old) (P.state pool.new) }
     ensures failures { (P.state pool.new).failures ≡ (P.state pool.old).failures + failed_transfers result }
     ensures fault { IfErr result (λ fault. fault ≢ PoolFault.NoSector) }
@@ -91,7 +79,7 @@ pub fn write_count<P: Sectors>(pool: &mut P, area: u16, i: u16, count: u32) -> R
     requires slot { i < 32 }
     requires room { 25 ≤ length (P.state pool.old).contents }
     ensures written { OnOk result (slot_bytes area (P.state pool.new).contents i ≡ with_count_bytes count (slot_bytes area (P.state pool.old).contents i)) }
-    ensures others { OnOk result ((j : ℕ) → j ≢ i → slot_bytes area (P.state pool.new).contents j ≡ slot_bytes area (P.state pool.old).contents j) }
+    ensures others { (j : ℕ) → j ≢ i → slot_bytes area (P.state pool.new).contents j ≡ slot_bytes area (P.state pool.old).contents j }
     ensures within { ChangesWithin (IsLabelSector area) (P.state pool.old) (P.state pool.new) }
     ensures failures { (P.state pool.new).failures ≡ (P.state pool.old).failures + failed_transfers result }
     ensures fault { IfErr result (λ fault. fault ≢ PoolFault.NoSector) }
@@ -161,7 +149,7 @@ pub fn write_made<P: Sectors>(pool: &mut P, area: u16, made: &Made) -> Result<()
     requires room { 25 ≤ length (P.state pool.old).contents }
     ensures written { OnOk result (slot_bytes area (P.state pool.new).contents made.now.at ≡ label_bytes made.now.label) }
     ensures cleared { OnOk result (IfSome made.now.freed (λ i. i ≢ made.now.at → slot_bytes area (P.state pool.new).contents i ≡ replicate 64 0)) }
-    ensures others { OnOk result ((j : ℕ) → made.now.freed ≢ Some j → j ≢ made.now.at → slot_bytes area (P.state pool.new).contents j ≡ slot_bytes area (P.state pool.old).contents j) }
+    ensures others { (j : ℕ) → made.now.freed ≢ Some j → j ≢ made.now.at → slot_bytes area (P.state pool.new).contents j ≡ slot_bytes area (P.state pool.old).contents j }
     ensures within { ChangesWithin (IsLabelSector area) (P.state pool.old) (P.state pool.new) }
     ensures failures { (P.state pool.new).failures ≡ (P.state pool.old).failures + failed_transfers result }
     ensures fault { IfErr result (λ fault. fault ≢ PoolFault.NoSector) }

@@ -12,7 +12,7 @@ use Rattle.lru.proofs.CallerLemmas.{Contains-lookup_entry, Contains-promoted, Co
 use Rattle.s3_store.specs.declared.pool_fault.PoolFault.{PoolFault}
 use Rattle.s3_store.specs.declared.pool_fault.PoolFault.TheVariants.{NoSector}
 use Rattle.s3_store.specs.Failures.{failed_transfers}
-use Rattle.s3_store.specs.State.{KeepsContents, ChangesWithin}
+use Rattle.s3_store.specs.State.{PoolState, KeepsContents, ChangesWithin}
 use Rattle.s3_store.proofs.Frames.{keeps_trans, within_from_keeps}
 use Rattle.s3_store.proofs.SectorLists.{slice_get_set_same, slice_get_set_other, slice_set_known}
 use Rattle.s3_pool.specs.declared.buffers.Buffer.{Buffer}
@@ -313,6 +313,14 @@ err_after b'' f'' (Err fault) keeps k = laid_trans keeps k
 pub changes_one : {T : Type 0} (b b' : List (List ℕ)) (f f' : Buffers) (m m' : ℕ) (n : ℕ) (w : List ℕ) (r : Result T PoolFault) → OnOk r (Overwrites n w b f b' f') → OnErr r (KeepsLaid b f b' f') → ChangesWithin (λ i. i ≡ n) (pool_state b m f) (pool_state b' m' f')
 changes_one b b' f f' m m' n w (Ok x) o k = overwritten_within m m' n w o
 changes_one b b' f f' m m' n w (Err fault) o k = within_from_keeps _ _ _ (keeps_contents m m' k)
+
+-- one sector is as a reference has left it
+pub changed_within : {s t : PoolState} (n : ℕ) (w : List ℕ) → ChangesSector n s t w → ChangesWithin (λ i. i ≡ n) s t
+changed_within {s} {t} n w c = record {
+  count = ap length c.contents ∙ length-set s.contents n w;
+  contents = λ i other. ap (λ l. slice_get l i) c.contents ∙ slice_get_set_other s.contents n i w other;
+  stored = λ i other. c.stored.each i;
+}
 
 held_buffer : (o : Option Buffer) (v : List ℕ) → IsSomeAnd o (λ f. v ≡ f.bytes.value) → (f : Buffer) × (o ≡ Some f) × (v ≡ f.bytes.value)
 held_buffer None v h = absurd h

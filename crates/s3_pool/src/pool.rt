@@ -5,7 +5,7 @@ ghost use Rattle.s3_store.specs.Failures.{failed_transfers};
 ghost use Rattle.s3_store.specs.State.{KeepsContents};
 
 use crate::buffers::{Buffers, give_up_all, load, overwrite};
-use s3_store::{PackStore, PoolFault, Sectors};
+use s3_store::{PackStore, PoolFault, Sectors, put_part};
 use std::alloc::{AllocFailed, Global};
 use std::marker::Model;
 
@@ -101,5 +101,11 @@ impl<S: PackStore> Sectors for Pool<S> {
 
     fn write_sector(&mut self, n: u16, bytes: &[u8; 256]) -> Result<(), PoolFault> {
         overwrite(&mut self.store, &mut self.buffers, n, bytes)
+    }
+
+    fn change_sector(&mut self, n: u16, at: usize, piece: &[u8]) -> Result<(), PoolFault> {
+        let sector = self.sector_mut(n)?;
+        put_part(sector, at, piece);
+        Ok(())
     }
 }

@@ -281,21 +281,29 @@ position_none p k (x ∷ xs) h = elim (cases_Bool (p x)) [
   | inr fails ↦ or_from (p x) (list_any p xs) fails (position_none p (k + 1) xs (sym (cond-false (p x) (Some k) (position_from p (k + 1) xs) fails) ∙ h))
 ]
 
-absent_unused : (name : Name) (slots : List Slot) → standing name slots ≡ Absent → list_any (bears name) slots ≡ false
+-- where nothing stands under a name, no slot bears it
+pub absent_nowhere : (name : Name) (slots : List Slot) → standing name slots ≡ Absent → position_from (bears name) 0 slots ≡ None
 unfolding standing
-absent_unused name slots h = by (position_from (bears name) 0 slots) refl
+absent_nowhere name slots h = by (position_from (bears name) 0 slots) refl
   where
     at_slot : (i : ℕ) (slot : Slot) → slice_get slots i ≡ Some slot → bears name slot ≡ true → standing_with (list_any (is_damaged_under name) slots) (slot_at slots (Some i)) ≡ Absent → ⊥
     at_slot i Free there passes e = absurd cc
     at_slot i (Damaged other) there passes e = absurd cc
     at_slot i (Sound label) there passes e = let f : Present label ≡ Absent = sym (ap (standing_with (list_any (is_damaged_under name) slots)) there) ∙ e in absurd cc
 
-    by : (place : Option ℕ) → position_from (bears name) 0 slots ≡ place → list_any (bears name) slots ≡ false
-    by None e = position_none (bears name) 0 slots e
+    by : (place : Option ℕ) → position_from (bears name) 0 slots ≡ place → place ≡ None
+    by None e = refl
     by (Some i) e =
         let first = position_passes (bears name) 0 i slots e in
         let at : i - 0 ≡ i = omega arith in
         absurd (at_slot i first.0.slot (sym (ap (slice_get slots) at) ∙ first.0.there) first.0.passes (sym (ap (λ place. standing_with (list_any (is_damaged_under name) slots) (slot_at slots place)) e) ∙ h))
+
+absent_unused : (name : Name) (slots : List Slot) → standing name slots ≡ Absent → list_any (bears name) slots ≡ false
+absent_unused name slots h = position_none (bears name) 0 slots (absent_nowhere name slots h)
+
+pub absent_dropped : (name : Name) (slots : List Slot) → standing name slots ≡ Absent → dropped name slots ≡ slots
+unfolding dropped
+absent_dropped name slots h = ap (changed_in (λ label. Free) slots) (absent_nowhere name slots h)
 
 freed_unused : (region : Stretch) (name : Name) (slots : List Slot) (i : ℕ) (old : FileLabel) → AreKept region slots → position_from (bears name) 0 slots ≡ Some i → slice_get slots i ≡ Some (Sound old)
     → i < length slots → list_any (bears name) (slice_set slots i Free) ≡ false

@@ -8,3 +8,4 @@ pub mod Runs
 pub mod NewFiles
 pub mod SlotLemmas
 pub mod Judging
+pub mod ReadBack

@@ -23,6 +23,18 @@ at_present : (name : Name) (slots : List Slot) (old : FileLabel) → standing na
 unfolding standing
 at_present name slots old h = with_present (list_any (is_damaged_under name) slots) (slot_at slots (position_from (bears name) 0 slots)) old h
 
+-- the slot of a label
+pub record IsAt (slots : List Slot) (label : FileLabel) : Type 0 where
+  pub slot : ℕ
+  pub there : slice_get slots slot ≡ Some (Sound label)
+
+pub present_at : (name : Name) (slots : List Slot) (label : FileLabel) → standing name slots ≡ Present label → IsAt slots label
+present_at name slots label h = by (position_from (bears name) 0 slots) (at_present name slots label h)
+  where
+    by : (place : Option ℕ) → slot_at slots place ≡ Some (Sound label) → IsAt slots label
+    by None e = absurd cc
+    by (Some i) e = record { slot = i; there = e }
+
 pub present_is : (name : Name) (slots : List Slot) (old : FileLabel) (i : ℕ) → standing name slots ≡ Present old → position_from (bears name) 0 slots ≡ Some i
     → slice_get slots i ≡ Some (Sound old)
 present_is name slots old i h p = sym (ap (slot_at slots) p) ∙ at_present name slots old h

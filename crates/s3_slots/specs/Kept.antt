@@ -1,6 +1,7 @@
 -- What stays true of the slots of an area while its files are made, counted and dropped.
-use Rattle.std.specs.Prelude.{◌≡◌, ℕ, true, List, slice_get, Some}
+use Rattle.std.specs.Prelude.{◌≡◌, ◌≤◌, ℕ, true, List, slice_get, Some}
 use Rattle.std.specs.List.{Contains}
+use Rattle.s3_store.specs.Stretches.{end_of}
 use Rattle.s3_store.specs.declared.stretch.Stretch.{Stretch}
 use Rattle.s3_slots.specs.Labels.{sectors_of}
 use Rattle.s3_slots.specs.Slots.{is_well_formed}
@@ -15,3 +16,10 @@ pub record AreKept (region : Stretch) (slots : List Slot) : Type 0 where
       → Contains (sectors_of first) n → Contains (sectors_of second) n → i ≡ j
   pub named : (i j : ℕ) (first second : FileLabel) → slice_get slots i ≡ Some (Sound first) → slice_get slots j ≡ Some (Sound second)
       → first.name ≡ second.name → i ≡ j
+
+-- a label that a pack of so many sectors has: it is well formed in a region of the pack
+pub record IsOfPack (sectors : ℕ) (label : FileLabel) : Type 0 where
+  pub region : Stretch
+  pub within : end_of region ≤ sectors
+  pub few : sectors ≤ 65535
+  pub formed : is_well_formed region label ≡ true

@@ -1,5 +1,5 @@
 -- The fields of a label, and its 64 bytes.
-use Rattle.std.specs.Prelude.{ℕ, ◌+◌, ◌==◌, Bool, true, false, ◌&&◌, ◌++◌, List, [], ◌∷◌, take, drop, replicate, map, slice_index, slice_get, unwrap_or, Option, Some, None, if◌then◌else◌}
+use Rattle.std.specs.Prelude.{◌≡◌, ◌<◌, ◌≤◌, ◌^◌, ℕ, ◌+◌, ◌==◌, Bool, true, false, ◌&&◌, ◌++◌, List, [], ◌∷◌, length, take, drop, replicate, map, slice_index, slice_get, unwrap_or, Option, Some, None, if◌then◌else◌}
 use Rattle.byteorder.specs.Endian.{big_number, big_bytes}
 use Rattle.s3_cards.specs.declared.ebcdic.TheConstants.{LETTER_D, LETTER_I, LETTER_P, LETTER_S, LETTER_T}
 use Rattle.s3_cards.specs.declared.name.Name.{Name}
@@ -115,3 +115,17 @@ label_bytes label =
     ++ big_bytes 4 label.capacity ++ big_bytes 4 label.count ++ label.date
     ++ extent_bytes (extent_at label.extents 1) ++ extent_bytes (extent_at label.extents 2) ++ extent_bytes (extent_at label.extents 3)
     ++ replicate 18 0
+
+-- A label whose fields are in the ranges of their bytes: its name is one, its extents are up to four, each of them used.
+pub record IsWritable (label : FileLabel) : Type 0 where
+  pub codes : length label.name.codes ≡ 8
+  pub named : is_name label.name.codes ≡ true
+  pub record_length : label.record_length < 65536
+  pub key_start : label.key_start < 65536
+  pub some : 1 ≤ length label.extents
+  pub few : length label.extents ≤ 4
+  pub used : (i : ℕ) → i < length label.extents → is_unused (extent_at label.extents i) ≡ false
+  pub small : (i : ℕ) → ((extent_at label.extents i).start < 65536) × ((extent_at label.extents i).sectors < 65536)
+  pub capacity : label.capacity < 2 ^ 32
+  pub count : label.count < 2 ^ 32
+  pub date : length label.date ≡ 6

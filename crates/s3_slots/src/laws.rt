@@ -1,7 +1,7 @@
 //! Worked rows of headers, labels and slots.
-ghost use Rattle.std.specs.Prelude.{ℕ, List, true, ◌≡◌, ◌*◌, ◌/◌, ◌++◌, [], ◌∷◌, take, drop, replicate, slice_get, slice_set, Some, Ok, Err};
+ghost use Rattle.std.specs.Prelude.{ℕ, List, true, ◌≡◌, ◌*◌, ◌/◌, ◌++◌, [], ◌∷◌, length, take, drop, replicate, slice_get, slice_set, Some, Ok, Err};
 ghost use Rattle.s3_slots.specs.Header.{mounted};
-ghost use Rattle.s3_slots.specs.Labels.{label_bytes, sectors_of};
+ghost use Rattle.s3_slots.specs.Labels.{label_bytes, label_in, sectors_of, IsWritable};
 ghost use Rattle.s3_slots.specs.Slots.{slots_of, standing, is_count_of};
 ghost use Rattle.s3_slots.specs.Kept.{AreKept};
 ghost use Rattle.s3_slots.specs.Stretches.{IsWhole};
@@ -80,4 +80,10 @@ pub fn files_stay_apart()
     ensures made { (format : Format) (region : Stretch) (masters : List Slot) (new : NewFile) (slots after : List Slot) → IsWhole region → IsNewFile new → AreKept region slots → made format region masters new slots ≡ Ok after → AreKept region after }
     ensures counted { (region : Stretch) (name : Name) (n : ℕ) (slots : List Slot) → ((label : FileLabel) → standing name slots ≡ Present label → is_count_of label.organization label.capacity n ≡ true) → AreKept region slots → AreKept region (counted name n slots) }
     ensures dropped { (region : Stretch) (name : Name) (slots : List Slot) → AreKept region slots → AreKept region (dropped name slots) }
+{}
+
+/// A label that is written reads back, in the second format and, over one extent, in the first.
+pub fn a_label_reads_back()
+    ensures second { (label : FileLabel) → IsWritable label → label_in Second (label_bytes label) ≡ Some label }
+    ensures first { (label : FileLabel) → IsWritable label → length label.extents ≡ 1 → label_in First (label_bytes label) ≡ Some label }
 {}

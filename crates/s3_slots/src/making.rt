@@ -1,8 +1,9 @@
 //! The making of files.
 
-ghost use Rattle.std.specs.Prelude.{◌≡◌, ◌≤◌, ◌<◌, ◌+◌, Ok, Err, OnOk, OnErr, IfOk, IfErr, IfSome, length, slice_get, slice_set, Some, None, true};
-ghost use Rattle.std.specs.List.{list_any};
-ghost use Rattle.s3_slots.specs.Slots.{standing as standing_spec, are_extents};
+ghost use Rattle.std.specs.Prelude.{◌≡◌, ◌≤◌, ◌<◌, ◌+◌, Ok, Err, OnOk, OnErr, IfOk, IfErr, IfSome, length, slice_get, slice_set, Some, None, true, nat_le};
+ghost use Rattle.std.specs.List.{list_any, position_from};
+ghost use Rattle.s3_slots.specs.Placement.{free_slot as free_slot_spec};
+ghost use Rattle.s3_slots.specs.Slots.{standing as standing_spec, are_extents, bears, sectors_needed as sectors_needed_spec};
 ghost use Rattle.s3_slots.specs.Stretches.{IsWhole};
 ghost use Rattle.s3_slots.specs.declared.slot.Standing.TheVariants.{Present};
 ghost use Rattle.s3_slots.specs.declared.slot.Slot.TheVariants.{Sound};
@@ -73,6 +74,19 @@ pub struct Made {
     pub label: FileLabel,
 }
 
+/// Whether a file with room for so many records fits so many sectors.
+fn does_fit(new: &NewFile, sectors: u32, capacity: u32) -> bool
+    requires { new.now.key_length ≤ 29 }
+    ensures { result ≡ nat_le (sectors_needed_spec new.now.organization new.now.record_length new.now.key_length capacity) sectors }
+{
+    sectors_needed(
+        new.organization,
+        new.record_length,
+        new.key_length,
+        capacity,
+    ) <= u64::from(sectors)
+}
+
 /// The greatest capacity that fits so many sectors.
 fn greatest_capacity(new: &NewFile, sectors: u32) -> u32
     requires key { new.now.key_length ≤ 29 }
@@ -80,18 +94,17 @@ fn greatest_capacity(new: &NewFile, sectors: u32) -> u32
     requires few { sectors ≤ 1572840 }
     ensures { result ≡ greatest_capacity_spec new.now sectors }
 {
-    let mut capacity = sectors * 256 / u32::from(new.record_length);
-    while capacity > 0
-        && sectors_needed(
-            new.organization,
-            new.record_length,
-            new.key_length,
-            capacity,
-        ) > u64::from(sectors)
-    {
-        capacity -= 1;
+    let mut least = 0;
+    let mut most = sectors * 256 / u32::from(new.record_length);
+    while least < most {
+        let middle = most - (most - least) / 2;
+        if does_fit(new, sectors, middle) {
+            least = middle;
+        } else {
+            most = middle - 1;
+        }
     }
-    capacity
+    least
 }
 
 /// How many tracks a new file takes.
@@ -172,6 +185,8 @@ fn put(
     ensures placed { IfOk result (λ made. are_extents region made.label.extents ≡ true) }
     ensures named { IfOk result (λ made. made.label.name ≡ new.now.name) }
     ensures there { IfOk result (λ made. slice_get slots.new made.at ≡ Some (Sound made.label)) }
+    ensures label { IfOk result (λ made. made.label ≡ new_label_spec new.now made.label.extents) }
+    ensures slot { IfOk result (λ made. free_slot_spec slots.old ≡ Some made.at) }
     ensures freed { IfOk result (λ made. made.freed ≡ None) }
 {
     let at = match free_slot(slots) {
@@ -210,6 +225,9 @@ fn put_over(
     ensures placed { IfOk result (λ made. are_extents region made.label.extents ≡ true) }
     ensures named { IfOk result (λ made. made.label.name ≡ new.now.name) }
     ensures there { IfOk result (λ made. slice_get slots.new made.at ≡ Some (Sound made.label)) }
+    ensures label { IfOk result (λ made. made.label ≡ new_label_spec new.now made.label.extents) }
+    ensures slot { IfOk result (λ made. free_slot_spec (dropped new.now.name slots.old) ≡ Some made.at) }
+    ensures old { IfOk result (λ made. made.freed ≡ position_from (bears new.now.name) 0 slots.old) }
     ensures freed { IfOk result (λ made. IfSome made.freed (λ i. i < length slots.old)) }
 {
     match standing_of(new.name, slots) {
@@ -245,6 +263,9 @@ fn put_instead(
     ensures placed { IfOk result (λ made. are_extents region made.label.extents ≡ true) }
     ensures named { IfOk result (λ made. made.label.name ≡ new.now.name) }
     ensures there { IfOk result (λ made. slice_get slots.new made.at ≡ Some (Sound made.label)) }
+    ensures label { IfOk result (λ made. made.label ≡ new_label_spec new.now made.label.extents) }
+    ensures slot { IfOk result (λ made. free_slot_spec (dropped new.now.name slots.old) ≡ Some made.at) }
+    ensures old { IfOk result (λ made. made.freed ≡ position_from (bears new.now.name) 0 slots.old) }
     ensures freed { IfOk result (λ made. IfSome made.freed (λ i. i < length slots.old)) }
 {
     let place = match place_of(new.name, slots) {
@@ -286,6 +307,9 @@ pub fn make_in(
     ensures placed { IfOk result (λ made. are_extents region made.label.extents ≡ true) }
     ensures named { IfOk result (λ made. made.label.name ≡ new.now.name) }
     ensures there { IfOk result (λ made. slice_get slots.new made.at ≡ Some (Sound made.label)) }
+    ensures label { IfOk result (λ made. made.label ≡ new_label_spec new.now made.label.extents) }
+    ensures slot { IfOk result (λ made. free_slot_spec (dropped new.now.name slots.old) ≡ Some made.at) }
+    ensures old { IfOk result (λ made. made.freed ≡ position_from (bears new.now.name) 0 slots.old) }
     ensures freed { IfOk result (λ made. IfSome made.freed (λ i. i < length slots.old)) }
 {
     if any_bears(new.name, masters) {

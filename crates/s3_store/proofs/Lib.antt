@@ -1,3 +1,4 @@
 pub mod Chunks
 pub mod Frames
 pub mod SectorLists
+pub mod SectorParts

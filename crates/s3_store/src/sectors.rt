@@ -1,9 +1,11 @@
 //! What the layers above see: one list of sectors, over a store or over a pool.
-ghost use Rattle.std.specs.Prelude.{◌≡◌, ◌≢◌, ◌<◌, ◌+◌, ℕ, List, length, slice_get, slice_set, Some, OnOk, OnErr, IfErr};
+ghost use Rattle.std.specs.Prelude.{◌≡◌, ◌≢◌, ◌<◌, ◌≤◌, ◌+◌, ℕ, List, length, slice_get, slice_set, Some, OnOk, OnErr, IfErr};
 ghost use Rattle.s3_store.specs.State.{PoolState, KeepsContents, ChangesWithin};
+ghost use Rattle.s3_store.specs.Bytes.{with_piece};
 ghost use Rattle.s3_store.specs.Failures.{failed_transfers};
 
 use crate::pack_store::PackStore;
+use crate::part::put_part;
 use crate::pool_fault::PoolFault;
 
 /// Sectors of 256 bytes, numbered from 0, over some store.
@@ -31,6 +33,16 @@ pub trait Sectors {
         ensures within { ChangesWithin (λ i. i ≡ n) (state self.old) (state self.new) }
         ensures failures { (state self.new).failures ≡ (state self.old).failures + failed_transfers result }
         ensures fault { IfErr result (λ fault. fault ≢ PoolFault.NoSector) };
+
+    /// Writes these bytes over those of sector `n` that begin at `at`. The others of the sector stay.
+    fn change_sector(&mut self, n: u16, at: usize, piece: &[u8]) -> Result<(), PoolFault>
+        requires there { n < length (state self.old).contents }
+        requires fits { at + length piece.now ≤ 256 }
+        ensures ok { OnOk result ((state self.new).contents ≡ with_piece (state self.old).contents n at piece.now) }
+        ensures err { OnErr result ((state self.new).contents ≡ (state self.old).contents) }
+        ensures within { ChangesWithin (λ i. i ≡ n) (state self.old) (state self.new) }
+        ensures failures { (state self.new).failures ≡ (state self.old).failures + failed_transfers result }
+        ensures fault { IfErr result (λ fault. fault ≢ PoolFault.NoSector) };
 }
 
 /// A store is its own list of sectors.
@@ -48,6 +60,14 @@ impl<S: PackStore> Sectors for S {
 
     fn write_sector(&mut self, n: u16, bytes: &[u8; 256]) -> Result<(), PoolFault> {
         self.write(n, bytes)?;
+        Ok(())
+    }
+
+    fn change_sector(&mut self, n: u16, at: usize, piece: &[u8]) -> Result<(), PoolFault> {
+        let mut bytes = [0; 256];
+        self.read(n, &mut bytes)?;
+        put_part(&mut bytes, at, piece);
+        self.write(n, &bytes)?;
         Ok(())
     }
 }

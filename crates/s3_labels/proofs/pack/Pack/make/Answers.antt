@@ -1,8 +1,8 @@
-use Rattle.std.proofs.Common.{refl, arith}
+use Rattle.std.proofs.Common.{refl, ◌∙◌, arith}
 use Rattle.s3_labels.specs.Areas.{area_of, region_at}
-use Rattle.s3_labels.proofs.Regions.{region_fits, region_whole, ready_room}
+use Rattle.s3_labels.proofs.Regions.{region_fits, region_whole, ready_room, slot_on_pack}
 use Rattle.s3_labels.proofs.Changes.{made_ready}
-use Rattle.s3_labels.proofs.Makes.{there_for, make_within, blanks_stay}
+use Rattle.s3_labels.proofs.Makes.{there_for, make_within, blanks_stay, slots_stay, others_of_make, few_areas}
 use Rattle.s3_labels.proofs.pack.Pack.make.Goals as goal
 
 pub make-requires-clause-fits : goal.make-requires-clause-fits
@@ -58,3 +58,31 @@ returns-clause-written g c = record {
   there = c.in_ok-made.ensures.there;
   bytes = rw c.area_of.ensures.value at c.in_ok-write_made.ensures.written;
 }
+
+pub returns-clause-on_pack : goal.returns-clause-on_pack
+returns-clause-on_pack g c =
+    slot_on_pack c.args.level c.make.new.self (g.P.Sectors.state c.write_made.new.pool).contents c.in_ok-made.made.at c.in_ok-made.made.label c.in_ok-made.ensures.there
+    (made_ready c.args.level c.args.new.now c.args.self.now.areas c.make.new.self _ (g.P.Sectors.state c.args.self.now.pool) (g.P.Sectors.state c.write_made.new.pool) c.requires.ready c.requires.proper
+    c.in_ok-made.ensures.ok c.in_ok-made.ensures.alone
+    (make_within c.area_of.result c.args.new.now.name _ c.in_ok-made.made.label _ _ _
+    (record { slots = _; at = c.in_ok-made.made.at; is = c.in_ok-made.ensures.ok; there = c.in_ok-made.ensures.there; named = c.in_ok-made.ensures.named })
+    c.in_ok-write_records.ensures.within c.in_ok-write_made.ensures.within))
+
+pub returns-in_err-write_records-clause-others : goal.returns-in_err-write_records-clause-others
+returns-in_err-write_records-clause-others g c = λ j below not_old not_new.
+    slots_stay c.args.level c.args.self.now.areas _ (area_of c.args.level) c.in_ok-made.made.label (g.P.Sectors.state c.args.self.now.pool) (g.P.Sectors.state c.write_records.new.pool) (few_areas c.args.level) c.requires.ready
+    c.in_ok-made.ensures.placed c.in_err-write_records.ensures.within j below
+
+pub returns-in_err-write_made-clause-others : goal.returns-in_err-write_made-clause-others
+returns-in_err-write_made-clause-others g c = λ j below not_old not_new.
+    let other = others_of_make c.in_ok-made.made.freed _ _ c.in_ok-made.made.at j c.in_ok-made.ensures.old c.in_ok-made.ensures.slot not_old not_new in
+    (rw c.area_of.ensures.value at c.in_err-write_made.ensures.others) j other.0 other.1
+    ∙ slots_stay c.args.level c.args.self.now.areas _ (area_of c.args.level) c.in_ok-made.made.label (g.P.Sectors.state c.args.self.now.pool) (g.P.Sectors.state c.write_records.new.pool) (few_areas c.args.level) c.requires.ready
+    c.in_ok-made.ensures.placed c.in_ok-write_records.ensures.within j below
+
+pub returns-clause-others : goal.returns-clause-others
+returns-clause-others g c = λ j below not_old not_new.
+    let other = others_of_make c.in_ok-made.made.freed _ _ c.in_ok-made.made.at j c.in_ok-made.ensures.old c.in_ok-made.ensures.slot not_old not_new in
+    (rw c.area_of.ensures.value at c.in_ok-write_made.ensures.others) j other.0 other.1
+    ∙ slots_stay c.args.level c.args.self.now.areas _ (area_of c.args.level) c.in_ok-made.made.label (g.P.Sectors.state c.args.self.now.pool) (g.P.Sectors.state c.write_records.new.pool) (few_areas c.args.level) c.requires.ready
+    c.in_ok-made.ensures.placed c.in_ok-write_records.ensures.within j below

@@ -1,5 +1,5 @@
 use Rattle.s3_labels.proofs.Regions.{ready_room}
-use Rattle.s3_labels.proofs.Changes.{count_set, count_kept, ready_with}
+use Rattle.s3_labels.proofs.Changes.{count_set, count_kept, ready_with, other_place}
 use Rattle.s3_labels.proofs.pack.Pack.set_count.Goals as goal
 
 pub write_count-requires-clause-room : goal.write_count-requires-clause-room
@@ -12,3 +12,11 @@ pub returns-clause-ready : goal.returns-clause-ready
 returns-clause-ready g c =
     ready_with _ _ _ _ _ _ _ c.recount.ensures c.in_ok-write_count.ensures.within c.requires.ready
     (count_kept c.args.level c.args.name c.args.count c.in_ok-place.place c.args.self.now.areas _ c.requires.ready c.in_ok-place.ensures.place c.requires.room)
+
+pub returns-in_err-write_count-clause-others : goal.returns-in_err-write_count-clause-others
+returns-in_err-write_count-clause-others g c = λ j other.
+    (rw c.area_of.ensures.value at c.in_err-write_count.ensures.others) j (other_place _ _ j c.in_ok-place.ensures.place other)
+
+pub returns-clause-others : goal.returns-clause-others
+returns-clause-others g c = λ j other.
+    (rw c.area_of.ensures.value at c.in_ok-write_count.ensures.others) j (other_place _ _ j c.in_ok-place.ensures.place other)

@@ -1,0 +1,11 @@
+//! Parts of bytes.
+ghost use Rattle.std.specs.Prelude.{◌≡◌, ◌≤◌, ◌+◌, length};
+ghost use Rattle.s3_store.specs.Bytes.{with_part};
+
+/// Writes bytes over those that begin at a place.
+pub fn put_part(bytes: &mut [u8], at: usize, piece: &[u8])
+    requires { at + length piece.now ≤ length bytes.old }
+    ensures { bytes.new ≡ with_part bytes.old at piece.now }
+{
+    bytes[at..at + piece.len()].copy_from_slice(piece);
+}
