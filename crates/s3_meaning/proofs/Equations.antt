@@ -5,8 +5,8 @@ use Rattle.s3_meaning.proofs.Selecting.{taken_unread}
 use Rattle.s3_cards.specs.declared.name.Name.{Name}
 use Rattle.s3_lines.specs.declared.indicator.Indicator.{Indicator}
 use Rattle.s3_lines.specs.declared.indicator.Indicator.TheVariants.{LastRecord, Halt}
-use Rattle.s3_meaning.specs.declared.halt.HaltCode.{HaltCode}
-use Rattle.s3_meaning.specs.declared.halt.HaltCode.TheVariants.{HaltIndicator, BadDigit, ZeroDivisor, NoRecordFound, UnidentifiedRecord, OutOfSequence}
+use Rattle.s3_operator.specs.declared.halt_code.HaltCode.{HaltCode}
+use Rattle.s3_operator.specs.declared.halt_code.HaltCode.TheVariants.{HaltIndicator, BadDigit, ZeroDivisor, NoRecordFound, UnidentifiedRecord, OutOfSequence}
 use Rattle.s3_lines.specs.declared.sheet.FieldLine.{FieldLine}
 use Rattle.s3_lines.specs.declared.sheet.FieldForm.{FieldForm}
 use Rattle.s3_lines.specs.declared.sheet.FieldForm.TheVariants.{Alphanumeric, Zoned, Packed, PackedText}

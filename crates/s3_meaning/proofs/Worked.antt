@@ -2,7 +2,7 @@
 use Rattle.std.proofs.Common.{◌≡◌, pos, negsuc, List, [], ◌∷◌, Some, None, true, false, refl}
 use Rattle.s3_decimal.specs.Exact.{stored}
 use Rattle.s3_lines.specs.declared.indicator.Indicator.TheVariants.{General, Matching, FirstPage, Overflow}
-use Rattle.s3_meaning.specs.declared.halt.HaltCode.TheVariants.{ZeroDivisor}
+use Rattle.s3_operator.specs.declared.halt_code.HaltCode.TheVariants.{ZeroDivisor}
 use Rattle.s3_lines.specs.declared.sheet.FileUse.TheVariants.{Input as InputUse, Output as OutputUse}
 use Rattle.s3_lines.specs.declared.sheet.Designation.TheVariants.{Primary, Secondary}
 use Rattle.s3_lines.specs.declared.sheet.Device.TheVariants.{CardReader, Printer, Disk}
@@ -72,7 +72,7 @@ lines_matching =
     ∷ []
 
 row_matching : asked (Req (source_of lines_matching) 0 (240 ∷ 240 ∷ 240 ∷ 240 ∷ 240 ∷ 240 ∷ [])) ((Found (padded_to 10 (241 ∷ 240 ∷ []))) ∷ (Found (padded_to 10 (242 ∷ 240 ∷ []))) ∷ Done ∷ (Found (padded_to 10 (242 ∷ 240 ∷ []))) ∷ Done ∷ (Found (padded_to 10 (242 ∷ 240 ∷ []))) ∷ Done ∷ (Found (padded_to 10 (243 ∷ 240 ∷ []))) ∷ Done ∷ (Found (padded_to 10 (242 ∷ 245 ∷ []))) ∷ Done ∷ (Found (padded_to 10 (243 ∷ 240 ∷ []))) ∷ Done ∷ Nothing ∷ Done ∷ Nothing ∷ []) ≡
-    ((Read (named (215 ∷ 217 ∷ 201 ∷ 212 ∷ []))) ∷ (Read (named (226 ∷ 197 ∷ 195 ∷ []))) ∷ (Print 1 1 (padded_to 132 (215 ∷ 241 ∷ 240 ∷ []))) ∷ (Read (named (215 ∷ 217 ∷ 201 ∷ 212 ∷ []))) ∷ (Print 1 2 (padded_to 132 (215 ∷ 242 ∷ 240 ∷ 64 ∷ 212 ∷ 217 ∷ []))) ∷ (Read (named (215 ∷ 217 ∷ 201 ∷ 212 ∷ []))) ∷ (Print 1 3 (padded_to 132 (215 ∷ 242 ∷ 240 ∷ 64 ∷ 212 ∷ 217 ∷ []))) ∷ (Read (named (215 ∷ 217 ∷ 201 ∷ 212 ∷ []))) ∷ (Print 1 4 (padded_to 132 (226 ∷ 242 ∷ 240 ∷ 64 ∷ 212 ∷ 217 ∷ []))) ∷ (Read (named (226 ∷ 197 ∷ 195 ∷ []))) ∷ (Print 1 5 (padded_to 132 (226 ∷ 242 ∷ 245 ∷ []))) ∷ (Read (named (226 ∷ 197 ∷ 195 ∷ []))) ∷ (Print 1 6 (padded_to 132 (215 ∷ 243 ∷ 240 ∷ 64 ∷ 212 ∷ 217 ∷ []))) ∷ (Read (named (215 ∷ 217 ∷ 201 ∷ 212 ∷ []))) ∷ (Print 1 7 (padded_to 132 (226 ∷ 243 ∷ 240 ∷ 64 ∷ 212 ∷ 217 ∷ []))) ∷ (Read (named (226 ∷ 197 ∷ 195 ∷ []))) ∷ (End false) ∷ [])
+    ((Read (named (215 ∷ 217 ∷ 201 ∷ 212 ∷ [])) 10) ∷ (Read (named (226 ∷ 197 ∷ 195 ∷ [])) 10) ∷ (Print 1 1 (padded_to 132 (215 ∷ 241 ∷ 240 ∷ []))) ∷ (Read (named (215 ∷ 217 ∷ 201 ∷ 212 ∷ [])) 10) ∷ (Print 1 2 (padded_to 132 (215 ∷ 242 ∷ 240 ∷ 64 ∷ 212 ∷ 217 ∷ []))) ∷ (Read (named (215 ∷ 217 ∷ 201 ∷ 212 ∷ [])) 10) ∷ (Print 1 3 (padded_to 132 (215 ∷ 242 ∷ 240 ∷ 64 ∷ 212 ∷ 217 ∷ []))) ∷ (Read (named (215 ∷ 217 ∷ 201 ∷ 212 ∷ [])) 10) ∷ (Print 1 4 (padded_to 132 (226 ∷ 242 ∷ 240 ∷ 64 ∷ 212 ∷ 217 ∷ []))) ∷ (Read (named (226 ∷ 197 ∷ 195 ∷ [])) 10) ∷ (Print 1 5 (padded_to 132 (226 ∷ 242 ∷ 245 ∷ []))) ∷ (Read (named (226 ∷ 197 ∷ 195 ∷ [])) 10) ∷ (Print 1 6 (padded_to 132 (215 ∷ 243 ∷ 240 ∷ 64 ∷ 212 ∷ 217 ∷ []))) ∷ (Read (named (215 ∷ 217 ∷ 201 ∷ 212 ∷ [])) 10) ∷ (Print 1 7 (padded_to 132 (226 ∷ 243 ∷ 240 ∷ 64 ∷ 212 ∷ 217 ∷ []))) ∷ (Read (named (226 ∷ 197 ∷ 195 ∷ [])) 10) ∷ (End false) ∷ [])
 unfolding lines_matching asked ask ended to_totals replied halted number_moved field_moved fields_moved printed stored_or_halted file_line_put line_put lines_put divided not_found chained_to on_chain chained performed calculated halts_shown headings cleared headed typed on_read file_read files_read totals last_time total_time overflow_lines detail_time record_time selected_or_last reading_time one_cycle anew_within again stored
 row_matching = refl
 

@@ -31,7 +31,7 @@ use Rattle.s3_lines.specs.declared.sheet.OutputContent.TheVariants.{Constant as 
 use Rattle.s3_lines.specs.declared.sheet.OutputLine.TheVariants.{Line as LineCard, Field as FieldCard}
 use Rattle.s3_lines.specs.declared.sheet.SheetLine.{SheetLine}
 use Rattle.s3_lines.specs.declared.sheet.SheetLine.TheVariants.{File, Input, Calculation, Output}
-use Rattle.s3_meaning.specs.declared.halt.HaltCode.TheVariants.{HaltIndicator, UnidentifiedRecord, ZeroDivisor, BadDigit}
+use Rattle.s3_operator.specs.declared.halt_code.HaltCode.TheVariants.{HaltIndicator, UnidentifiedRecord, ZeroDivisor, BadDigit}
 use Rattle.s3_meaning.specs.Requests.{Request, Card, Read, Print, Jump, Ask, End, Answer, Found, Nothing, Done, Reply}
 use Rattle.s3_meaning.specs.Runs.{Run}
 use Rattle.s3_meaning.specs.Source.{source_of}
@@ -483,7 +483,7 @@ abbrev pub record_of : List ℕ → Answer
 record_of text = Found (padded_to 4 (ebcdic text))
 
 abbrev pub read_primary : Request
-read_primary = Read (name (codes "P"))
+read_primary = Read (name (codes "P")) 4
 
 abbrev pub read_secondary : Request
-read_secondary = Read (name (codes "S"))
+read_secondary = Read (name (codes "S")) 4

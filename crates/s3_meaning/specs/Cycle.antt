@@ -4,7 +4,7 @@ use Rattle.std.specs.Option.{option_or}
 use Rattle.std.specs.List.{list_any}
 use Rattle.s3_lines.specs.declared.indicator.Indicator.{Indicator}
 use Rattle.s3_lines.specs.declared.indicator.Indicator.TheVariants.{LastRecord, Matching, Halt, FirstPage}
-use Rattle.s3_meaning.specs.declared.halt.HaltCode.TheVariants.{HaltIndicator, UnidentifiedRecord, OutOfSequence}
+use Rattle.s3_operator.specs.declared.halt_code.HaltCode.TheVariants.{HaltIndicator, UnidentifiedRecord, OutOfSequence}
 use Rattle.s3_lines.specs.declared.sheet.FileLine.{FileLine}
 use Rattle.s3_meaning.specs.Names.{same_indicator}
 use Rattle.s3_meaning.specs.RecordTypes.{RecordType}
@@ -42,7 +42,7 @@ cleared source go e = go (turn_levels (e.on LastRecord) (without_types source e)
 -- ---- step 3
 -- a card or a record
 abbrev pub read_request : FileLine → Request
-read_request file = if is_card_reader file.device then Card else Read file.name
+read_request file = if is_card_reader file.device then Card else Read file.name file.record_length
 
 -- a record in sequence stands at the head of its file; one that isn't halts, and reply 0 passes it over
 unfoldable pub headed : Anew → InputFile → Head → (InputFile → Rest) → Rest

@@ -1,11 +1,12 @@
 -- What a job holds between two lines: its fields and indicators by their names, and the facts of the cycle.
-use Rattle.std.specs.Prelude.{ℕ, zero, suc, ◌+◌, ◌*◌, ◌-◌, ◌/◌, ◌%◌, ◌^◌, ◌==◌, Bool, true, false, not, ◌&&◌, ℤ, pos, List, replicate, slice_index, Option, None, if◌then◌else◌}
+use Rattle.std.specs.Prelude.{ℕ, ◌+◌, ◌*◌, ◌-◌, ◌/◌, ◌%◌, ◌^◌, ◌==◌, Bool, true, false, not, ◌&&◌, ℤ, pos, List, replicate, slice_index, Option, None, if◌then◌else◌}
 use Rattle.std.specs.List.{list_any, list_all}
 use Rattle.s3_decimal.specs.Exact.{Fraction, exact}
 use Rattle.s3_cards.specs.declared.name.Name.{Name}
 use Rattle.s3_lines.specs.declared.indicator.Indicator.{Indicator}
 use Rattle.s3_lines.specs.declared.indicator.Indicator.TheVariants.{Level, LastRecord, FirstPage, Switch}
 use Rattle.s3_lines.specs.declared.indicator.Condition.{Condition}
+use Rattle.s3_lines.specs.Ranges.{is_between}
 use Rattle.s3_meaning.specs.Names.{same_indicator, is_indicator, udate, umonth, uday, uyear}
 use Rattle.s3_cards.specs.Names.{same_name}
 use Rattle.s3_meaning.specs.Source.{Source, length_of}
@@ -50,8 +51,7 @@ show marks e =
     }
 
 abbrev pub is_level : Indicator → Bool
-is_level (Level zero) = false
-is_level (Level (suc n)) = true
+is_level (Level n) = is_between 1 9 n
 is_level _ = false
 
 -- L1 to L9 go on or off

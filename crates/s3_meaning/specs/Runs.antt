@@ -2,7 +2,7 @@
 -- and gives the request that stands when they are used up.
 use Rattle.std.specs.Prelude.{ℕ, ◌==◌, Bool, true, false, List, [], ◌∷◌, if◌then◌else◌}
 use Rattle.s3_lines.specs.declared.indicator.Indicator.TheVariants.{LastRecord, FirstPage}
-use Rattle.s3_meaning.specs.declared.halt.HaltCode.{HaltCode}
+use Rattle.s3_operator.specs.declared.halt_code.HaltCode.{HaltCode}
 use Rattle.s3_meaning.specs.Requests.{Request, Ask, End, Answer, Reply}
 use Rattle.s3_meaning.specs.Calculations.{Calculation}
 use Rattle.s3_meaning.specs.Environment.{Environment, turn, with_last_record}

@@ -6,7 +6,6 @@ use Rattle.s3_cards.specs.declared.name.Name.{Name}
 use Rattle.s3_lines.specs.declared.indicator.Indicator.{Indicator}
 use Rattle.s3_lines.specs.declared.sheet.FileUse.{FileUse}
 use Rattle.s3_lines.specs.declared.sheet.FileUse.TheVariants.{Output as OutputUse, Input as InputUse, Update}
-use Rattle.s3_lines.specs.declared.sheet.Designation.{Designation}
 use Rattle.s3_lines.specs.declared.sheet.Designation.TheVariants.{Primary, Secondary, Chained}
 use Rattle.s3_lines.specs.declared.sheet.Device.{Device}
 use Rattle.s3_lines.specs.declared.sheet.Device.TheVariants.{CardReader, Printer}
@@ -22,6 +21,7 @@ use Rattle.s3_lines.specs.declared.sheet.OutputLine.{OutputLine}
 use Rattle.s3_lines.specs.declared.sheet.SheetLine.{SheetLine}
 use Rattle.s3_lines.specs.declared.sheet.SheetLine.TheVariants.{Header, File, Input, Calculation as CalculationSheet, Output as OutputSheet}
 use Rattle.s3_lines.specs.declared.sheet.Line.{Line}
+pub use Rattle.s3_lines.specs.Files.{is_designated}
 use Rattle.s3_lines.specs.Ranges.{shape_of_positions}
 use Rattle.s3_meaning.specs.Names.{is_indicator, page, udate, umonth, uday, uyear, rpgobj}
 use Rattle.s3_cards.specs.Names.{same_name}
@@ -170,23 +170,6 @@ abbrev pub body : Source → Name → List Calculation
 body source name = body_in name source.calculations
 
 -- ---- files
-abbrev pub is_designated : Designation → FileLine → Bool
-is_designated Primary file = on file.designation
-  where
-    on : Option Designation → Bool
-    on (Some Primary) = true
-    on _ = false
-is_designated Secondary file = on file.designation
-  where
-    on : Option Designation → Bool
-    on (Some Secondary) = true
-    on _ = false
-is_designated Chained file = on file.designation
-  where
-    on : Option Designation → Bool
-    on (Some Chained) = true
-    on _ = false
-
 abbrev pub is_input : FileLine → Bool
 is_input file = is_designated Primary file || is_designated Secondary file
 

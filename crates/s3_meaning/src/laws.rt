@@ -1,14 +1,14 @@
 //! What the definitions say of themselves: laws, and worked rows.
 
-ghost use Rattle.std.specs.Prelude.{◌≡◌, ◌+◌, ◌*◌, ◌<◌, ◌≤◌, ◌↔◌, ℕ, List, [], ◌∷◌, true, false, All, IsTrue, IsSome, Some, codes};
+ghost use Rattle.std.specs.Prelude.{◌≡◌, ◌+◌, ◌*◌, ◌<◌, ◌≤◌, ◌↔◌, ℕ, pos, List, [], ◌∷◌, map, true, false, All, IsTrue, IsSome, Some, None, codes};
 ghost use Rattle.s3_meaning.specs.Carriage.{Carriage, spaced, skipped};
 ghost use Rattle.s3_meaning.specs.Selection.{Selected, key_of, is_less, least};
 ghost use Rattle.s3_meaning.specs.Source.{Source, source_of};
-ghost use Rattle.s3_meaning.specs.Requests.{Card, Found, Nothing, Done, Print, End, Ask, Reply};
-ghost use Rattle.s3_meaning.specs.declared.halt.HaltCode.TheVariants.{OutOfSequence};
+ghost use Rattle.s3_meaning.specs.Requests.{Card, Read, Chain, RecordNumber, Append, Add, Update, Jump, Found, Nothing, Done, Refused, Print, End, Ask, Reply, fits};
+ghost use Rattle.s3_operator.specs.declared.halt_code.HaltCode.TheVariants.{OutOfSequence, ZeroDivisor, FileFull, KeyNotAscending, DuplicateKey, NothingToUpdate, KeyChanged};
 ghost use Rattle.s3_meaning.specs.Corners.{ComesOut, AsksOver, no_card, last_set_on, first_totals, last_in_totals, halts_in_order, reply_two, reply_three, reply_two_twice, unknown_card, bad_digits, remainders, zero_divisor, minus_zero, blank_after, pages, jumps, card_of, printed_at, overflow_set_on, overflow_at, two_cards, skipped_over, matching, matching_two, record_of, read_primary, read_secondary};
 ghost use Rattle.s3_meaning.specs.Cycle.{again, renewed, Req};
-ghost use Rattle.s3_meaning.specs.Samples.{card_lister, level_totals, card, print_line, no_date};
+ghost use Rattle.s3_meaning.specs.Samples.{card_lister, level_totals, card, print_line, no_date, cards};
 
 /// What a run can begin anew is what its definition makes of itself: no bound is left in it.
 pub fn nothing_is_bounded()
@@ -93,4 +93,20 @@ pub fn matching_comes_out()
         (read_primary ∷ read_secondary ∷ printed_at 1 1 (codes "P20") ∷ read_primary ∷ Ask OutOfSequence ∷ read_primary ∷ End false ∷ []) }
     ensures highest_first { AsksOver matching_two (record_of (codes "102") ∷ record_of (codes "201") ∷ [])
         (read_primary ∷ read_secondary ∷ printed_at 1 1 (codes "S20") ∷ []) }
+{}
+
+/// Which answers fit: a card of 96 bytes, a record of its file's length, or none; what a file can refuse; the replies that a halt
+/// allows; and none to the end of a job.
+pub fn answers_fit_their_requests()
+    ensures cards { map (fits Card) (Found (card []) ∷ Found (0xc1 ∷ []) ∷ Nothing ∷ Done ∷ Reply 0 ∷ []) ≡ true ∷ false ∷ true ∷ false ∷ false ∷ [] }
+    ensures records { map (fits (Read cards 2)) (Found (0xc1 ∷ 0xc2 ∷ []) ∷ Found (0xc1 ∷ []) ∷ Nothing ∷ Done ∷ []) ≡ true ∷ false ∷ true ∷ false ∷ [] }
+    ensures chained { map (fits (Chain cards 1 (RecordNumber (pos 3)))) (Found (0xc1 ∷ 0xc2 ∷ []) ∷ Found (0xc1 ∷ []) ∷ Nothing ∷ Refused FileFull ∷ []) ≡ false ∷ true ∷ true ∷ false ∷ [] }
+    ensures appended { map (fits (Append cards [])) (Done ∷ Refused FileFull ∷ Refused KeyNotAscending ∷ Refused DuplicateKey ∷ Nothing ∷ []) ≡ true ∷ true ∷ true ∷ false ∷ false ∷ [] }
+    ensures added { map (fits (Add cards [])) (Done ∷ Refused FileFull ∷ Refused DuplicateKey ∷ Refused KeyNotAscending ∷ []) ≡ true ∷ true ∷ true ∷ false ∷ [] }
+    ensures updated { map (fits (Update cards None [])) (Done ∷ Refused NothingToUpdate ∷ Refused KeyChanged ∷ Refused FileFull ∷ []) ≡ true ∷ true ∷ true ∷ false ∷ [] }
+    ensures printed { map (fits (Print 1 1 [])) (Done ∷ Nothing ∷ Refused FileFull ∷ []) ≡ true ∷ false ∷ false ∷ [] }
+    ensures jumps { map (fits Jump) (Done ∷ Nothing ∷ Refused FileFull ∷ []) ≡ true ∷ false ∷ false ∷ [] }
+    ensures replies { map (fits (Ask ZeroDivisor)) (Reply 0 ∷ Reply 1 ∷ Reply 2 ∷ Reply 3 ∷ Done ∷ []) ≡ true ∷ false ∷ true ∷ true ∷ false ∷ [] }
+    ensures replies_full { map (fits (Ask FileFull)) (Reply 0 ∷ Reply 2 ∷ Reply 3 ∷ []) ≡ false ∷ true ∷ true ∷ [] }
+    ensures ends { map (fits (End false)) (Done ∷ Nothing ∷ Reply 3 ∷ []) ≡ false ∷ false ∷ false ∷ [] }
 {}

@@ -2,12 +2,10 @@
 
 #![tactic(auto)]
 
-/// What a job halts for.
-pub mod halt;
 mod laws;
 
 pub use laws::{
-    cards_are_listed, corners_come_out, matching_comes_out, nothing_is_bounded,
-    overflow_comes_past_60, the_carriage_moves_by_lines, the_least_key_is_selected,
-    totals_are_printed,
+    answers_fit_their_requests, cards_are_listed, corners_come_out, matching_comes_out,
+    nothing_is_bounded, overflow_comes_past_60, the_carriage_moves_by_lines,
+    the_least_key_is_selected, totals_are_printed,
 };

@@ -1,4 +1,6 @@
-/// What a level halts for, until an operator replies.
+//! What a level halts for.
+
+/// What a level halts for, until an operator replies: a program at work, or a job that can't be started.
 #[derive(Clone, Copy)]
 pub enum HaltCode {
     /// H1 to H9: the program turned on the halt indicator of this number, 1 to 9.
@@ -23,4 +25,26 @@ pub enum HaltCode {
     FileFull,
     /// KA: a load's record has a key that doesn't come behind that of the last one.
     KeyNotAscending,
+    /// OC: the job's statements are at fault.
+    FaultyJob,
+    /// PG: the program isn't in the library.
+    NoProgram,
+    /// CE: the source has diagnostics.
+    FaultySource,
+    /// LB: a file of the program has no FILE statement, or there is no file of its label.
+    NoLabel,
+    /// LD: damage in a label area blocks the label.
+    DamagedLabel,
+    /// MU: a master would be changed, or a file made under its label.
+    MasterForUpdate,
+    /// NS: no slot is free for the label of a file to be made, or its region has no room for it.
+    NoSpace,
+    /// RT: the file in the way of one to be made is kept for good.
+    RetainedFile,
+    /// DU: two files of the job have one label.
+    DuplicateLabel,
+    /// LN: record length, organization or key of a file aren't those of its label.
+    LabelMismatch,
+    /// IX: the index of a file isn't good.
+    BadIndex,
 }

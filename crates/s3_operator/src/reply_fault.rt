@@ -1,0 +1,29 @@
+//! Why a reply is refused.
+
+use thiserror::Error;
+
+/// Why a reply is refused.
+#[derive(Clone, Copy, Debug, PartialEq, Eq, Error)]
+pub enum ReplyFault {
+    /// No halt waits for a reply.
+    #[error("no halt waits for a reply")]
+    NotHalted,
+    /// The halt that waits doesn't allow the digit.
+    #[error("the halt doesn't allow this reply")]
+    NotAllowed,
+}
+
+impl ReplyFault {
+    ghost use Rattle.std.specs.Prelude.{◌≡◌};
+    ghost use Rattle.s3_operator.specs.Halts.{fault_number};
+
+    /// 1 for NotHalted, 2 for NotAllowed.
+    pub fn number(self) -> u8
+        ensures { result ≡ fault_number self }
+    {
+        match self {
+            ReplyFault::NotHalted => 1,
+            ReplyFault::NotAllowed => 2,
+        }
+    }
+}
