@@ -21,6 +21,35 @@ pub enum Indicator {
     Switch(u8),
 }
 
+impl Indicator {
+    ghost use Rattle.std.specs.Prelude.{◌≡◌, ◌<◌};
+    ghost use Rattle.s3_lines.specs.Indicators.{indicator_number, same_indicator};
+
+    /// A number that no other indicator has, below 2,048: eight times the number on the sheet, and its kind.
+    pub fn number(self) -> usize
+        ensures number { result ≡ indicator_number self }
+        ensures within { result < 2048 }
+    {
+        match self {
+            Indicator::General(number) => 8 * usize::from(number),
+            Indicator::Level(number) => 8 * usize::from(number) + 1,
+            Indicator::LastRecord => 2,
+            Indicator::Matching => 3,
+            Indicator::Halt(number) => 8 * usize::from(number) + 4,
+            Indicator::FirstPage => 5,
+            Indicator::Overflow(number) => 8 * usize::from(number) + 6,
+            Indicator::Switch(number) => 8 * usize::from(number) + 7,
+        }
+    }
+
+    /// Whether it is the same indicator as another one.
+    pub fn is(self, other: Indicator) -> bool
+        ensures { result ≡ same_indicator self other }
+    {
+        self == other
+    }
+}
+
 /// What must hold of an indicator.
 #[derive(Clone, Copy)]
 pub struct Condition {

@@ -80,6 +80,26 @@ pub struct FileLine {
     pub condition: Option<Indicator>,
 }
 
+impl FileLine {
+    ghost use Rattle.std.specs.Prelude.{◌≡◌};
+    ghost use Rattle.s3_lines.specs.declared.sheet.Designation.TheVariants.{Primary, Secondary};
+    ghost use Rattle.s3_lines.specs.Files.{is_designated};
+
+    /// Whether it is a primary file.
+    pub fn is_primary(&self) -> bool
+        ensures { result ≡ is_designated Primary self.now }
+    {
+        matches!(self.designation, Some(Designation::Primary))
+    }
+
+    /// Whether it is a secondary file.
+    pub fn is_secondary(&self) -> bool
+        ensures { result ≡ is_designated Secondary self.now }
+    {
+        matches!(self.designation, Some(Designation::Secondary))
+    }
+}
+
 /// The part of a byte that a record code compares.
 #[derive(Clone, Copy)]
 pub enum CodePart {

@@ -9,6 +9,7 @@ use Rattle.std.proofs.lemmas.List.{take_more, append-nil}
 use Rattle.std.proofs.lemmas.List.Elements.{filter_map-append}
 use Rattle.s3_cards.specs.declared.name.Name.{Name}
 use Rattle.s3_cards.specs.Names.{same_name}
+use Rattle.s3_cards.proofs.DeckLemmas.{option_or_assoc}
 use Rattle.s3_cards.proofs.NameLemmas.{same_name-equal, same_name-self}
 use Rattle.s3_lines.specs.declared.sheet.Line.{Line}
 use Rattle.std.proofs.lemmas.Bool.Decides.{nat_tests}
@@ -23,12 +24,12 @@ use Rattle.s3_program.specs.Given.{noted, all_noted, firsts}
 use Rattle.s3_program.proofs.SoundLemmas.{both}
 
 -- ---- look-ups
-found_in_both : {X : Type 0} (name : Name) (xs ys : List (Name × X)) → lookup (same_name name) (xs ++ ys) ≡ option_or (lookup (same_name name) xs) (lookup (same_name name) ys)
-found_in_both name [] ys = refl
-found_in_both {X} name (x ∷ xs) ys = step (same_name name x.0) (found_in_both name xs ys)
+pub found_in_both : {K X : Type 0} (test : K → Bool) (xs ys : List (K × X)) → lookup test (xs ++ ys) ≡ option_or (lookup test xs) (lookup test ys)
+found_in_both test [] ys = refl
+found_in_both {K} {X} test (x ∷ xs) ys = step (test x.0) (found_in_both test xs ys)
   where
-    step : (b : Bool) → lookup (same_name name) (xs ++ ys) ≡ option_or (lookup (same_name name) xs) (lookup (same_name name) ys)
-        → cond b (Some x.1) (lookup (same_name name) (xs ++ ys)) ≡ option_or (cond b (Some x.1) (lookup (same_name name) xs)) (lookup (same_name name) ys)
+    step : (b : Bool) → lookup test (xs ++ ys) ≡ option_or (lookup test xs) (lookup test ys)
+        → cond b (Some x.1) (lookup test (xs ++ ys)) ≡ option_or (cond b (Some x.1) (lookup test xs)) (lookup test ys)
     step true later = refl
     step false later = later
 
@@ -36,19 +37,15 @@ found_or : {X : Type 0} (o : Option X) (rest : Option X) → is_some o ≡ true 
 found_or None rest there = absurd (true≢false (sym there))
 found_or (Some x) rest there = refl
 
-or_none : {X : Type 0} (o : Option X) → option_or o None ≡ o
+pub or_none : {X : Type 0} (o : Option X) → option_or o None ≡ o
 or_none None = refl
 or_none (Some x) = refl
-
-or_assoc : {X : Type 0} (a b c : Option X) → option_or (option_or a b) c ≡ option_or a (option_or b c)
-or_assoc None b c = refl
-or_assoc (Some x) b c = refl
 
 note_found : {X : Type 0} (name : Name) (table : List (Name × X)) (entry : Name × X)
     → lookup (same_name name) (noted table entry) ≡ option_or (lookup (same_name name) table) (lookup (same_name name) (entry ∷ []))
 note_found {X} name table entry = elim (cases_Bool (is_some (lookup (same_name entry.0) table))) [
   | inl there ↦ rw there (old (same_name name entry.0) (same_name-equal name entry.0) there)
-  | inr new ↦ rw new (found_in_both name table (entry ∷ []))
+  | inr new ↦ rw new (found_in_both (same_name name) table (entry ∷ []))
 ]
   where
     old : (b : Bool) → (b ≡ true → name ≡ entry.0) → is_some (lookup (same_name entry.0) table) ≡ true
@@ -63,8 +60,8 @@ all_found name table [] = sym (or_none (lookup (same_name name) table))
 all_found name table (entry ∷ entries) =
     all_found name (noted table entry) entries
     ∙ (ap (λ o. option_or o (lookup (same_name name) entries)) (note_found name table entry)
-    ∙ (or_assoc (lookup (same_name name) table) (lookup (same_name name) (entry ∷ [])) (lookup (same_name name) entries)
-    ∙ ap (option_or (lookup (same_name name) table)) (sym (found_in_both name (entry ∷ []) entries))))
+    ∙ (option_or_assoc (lookup (same_name name) table) (lookup (same_name name) (entry ∷ [])) (lookup (same_name name) entries)
+    ∙ ap (option_or (lookup (same_name name) table)) (sym (found_in_both (same_name name) (entry ∷ []) entries))))
 
 -- a name has what its first entry gives it
 pub first_found : {X : Type 0} (name : Name) (entries : List (Name × X)) → lookup (same_name name) (firsts entries) ≡ lookup (same_name name) entries

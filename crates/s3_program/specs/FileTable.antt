@@ -1,5 +1,5 @@
 -- The table of files: what a program may do with a file on a device.
-use Rattle.std.specs.Prelude.{Bool, true, false, not, ◌==◌, ◌&&◌, ◌||◌, Option, Some, None, is_some, if◌then◌else◌}
+use Rattle.std.specs.Prelude.{Bool, true, false, not, ◌&&◌, ◌||◌, Option, Some, None, is_some, if◌then◌else◌}
 use Rattle.s3_lines.specs.declared.sheet.FileUse.{FileUse}
 use Rattle.s3_lines.specs.declared.sheet.FileUse.TheVariants.{Input, Output, Update}
 use Rattle.s3_lines.specs.declared.sheet.Designation.{Designation}
@@ -18,12 +18,6 @@ abbrev pub is_output_use : FileUse → Bool
 is_output_use Output = true
 is_output_use Input = false
 is_output_use Update = false
-
-abbrev pub is_primary : Option Designation → Bool
-is_primary (Some Primary) = true
-is_primary (Some Secondary) = false
-is_primary (Some Chained) = false
-is_primary None = false
 
 -- P or S
 abbrev pub is_by_cycle : Option Designation → Bool

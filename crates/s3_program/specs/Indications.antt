@@ -1,11 +1,10 @@
 -- 7: an indicator that may not stand where it does, or a relation that isn't of its group.
-use Rattle.std.specs.Prelude.{ℕ, Bool, true, false, not, ◌&&◌, ◌||◌, List, [], ◌∷◌, Option, Some, None, is_some, slice_get}
+use Rattle.std.specs.Prelude.{ℕ, Bool, true, false, not, ◌&&◌, ◌||◌, List, Option, Some, None, slice_get}
 use Rattle.std.specs.List.{list_any}
 use Rattle.s3_lines.specs.declared.indicator.Indicator.{Indicator}
 use Rattle.s3_lines.specs.declared.indicator.Indicator.TheVariants.{Overflow}
 use Rattle.s3_lines.specs.declared.sheet.FieldForm.{FieldForm}
 use Rattle.s3_lines.specs.declared.sheet.FieldForm.TheVariants.{Alphanumeric, Zoned, Packed, PackedText}
-use Rattle.s3_lines.specs.declared.sheet.FieldLine.{FieldLine}
 use Rattle.s3_lines.specs.declared.sheet.InputLine.{InputLine}
 use Rattle.s3_lines.specs.declared.sheet.InputLine.TheVariants.{Field as FieldOfRecord}
 use Rattle.s3_lines.specs.declared.sheet.Operation.{Operation}

@@ -1,16 +1,15 @@
 -- 11: match or control fields that disagree or stand on a chained file, or an Mn or Ln given twice in one type.
-use Rattle.std.specs.Prelude.{ℕ, ◌+◌, ◌*◌, ◌==◌, nat_lt, Bool, true, false, not, ◌&&◌, ◌||◌, List, [], ◌∷◌, ◌++◌, Option, Some, None, is_some, map, filter, if◌then◌else◌, option_map}
+use Rattle.std.specs.Prelude.{ℕ, ◌==◌, nat_lt, Bool, true, false, not, ◌&&◌, ◌||◌, List, [], ◌∷◌, ◌++◌, Option, Some, None, is_some, map, if◌then◌else◌, option_map}
 use Rattle.std.specs.List.{list_any}
 use Rattle.std.specs.Option.{option_to_list}
 use Rattle.std.specs.Bool.{beq}
 use Rattle.std.specs.Map.{lookup}
 use Rattle.std.specs.Cmp.Lexicographic.{pointwise}
 use Rattle.s3_lines.specs.declared.indicator.Indicator.{Indicator}
-use Rattle.s3_lines.specs.declared.indicator.Indicator.TheVariants.{General, Level as Level_, LastRecord, Matching, Halt, FirstPage, Overflow, Switch}
-use Rattle.s3_lines.specs.Indicators.{same_indicator}
+use Rattle.s3_lines.specs.Indicators.{same_indicator, indicator_number}
 use Rattle.s3_lines.specs.declared.sheet.FieldLine.{FieldLine}
 use Rattle.s3_lines.specs.declared.sheet.InputLine.{InputLine}
-use Rattle.s3_lines.specs.declared.sheet.InputLine.TheVariants.{Record, And as AndCodes, Or as OrCodes, Field as FieldOfRecord}
+use Rattle.s3_lines.specs.declared.sheet.InputLine.TheVariants.{Record, Or as OrCodes, Field as FieldOfRecord}
 use Rattle.s3_lines.specs.declared.sheet.Shape.{Shape}
 use Rattle.s3_program.specs.declared.program.Meaning.{Meaning}
 use Rattle.s3_program.specs.declared.program.Meaning.TheVariants as a
@@ -67,17 +66,6 @@ types_from at [] = []
 types_from at (line ∷ lines) = with_type (type_on at line) (types_from (behind_input at line) lines)
 
 -- ---- the match and control fields of a group
--- an indicator as a number, which no other has
-abbrev pub indicator_number : Indicator → ℕ
-indicator_number (General n) = 8 * n
-indicator_number (Level_ n) = 8 * n + 1
-indicator_number LastRecord = 2
-indicator_number Matching = 3
-indicator_number (Halt n) = 8 * n + 4
-indicator_number FirstPage = 5
-indicator_number (Overflow n) = 8 * n + 6
-indicator_number (Switch n) = 8 * n + 7
-
 abbrev pub level : Key → ℕ → Level
 level key number = record { key = key; number = number }
 

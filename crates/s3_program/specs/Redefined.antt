@@ -1,6 +1,6 @@
 -- 6: a file, tag or subroutine defined twice, a field with two kinds, lengths or decimals, a reserved field defined or changed. PAGE
 -- may be changed, with 4 digits and 0 decimals: that is its first definition.
-use Rattle.std.specs.Prelude.{ℕ, ◌+◌, ◌-◌, ◌==◌, nat_lt, Bool, true, false, not, ◌&&◌, ◌||◌, Option, Some, None, if◌then◌else◌}
+use Rattle.std.specs.Prelude.{ℕ, ◌+◌, ◌-◌, ◌==◌, Bool, false, not, ◌&&◌, ◌||◌, Option, Some, None}
 use Rattle.s3_cards.specs.declared.name.Name.{Name}
 use Rattle.s3_cards.specs.Names.{same_name}
 use Rattle.s3_lines.specs.Reserved.{is_reserved, page}
@@ -17,7 +17,6 @@ use Rattle.s3_lines.specs.declared.sheet.CalculationLine.{CalculationLine}
 use Rattle.s3_meaning.specs.Source.{field_shape}
 use Rattle.s3_program.specs.declared.program.Meaning.{Meaning}
 use Rattle.s3_program.specs.declared.program.Meaning.TheVariants as a
-use Rattle.s3_program.specs.declared.program.Defined.{Defined}
 use Rattle.s3_program.specs.declared.standing.FileStanding.{FileStanding}
 use Rattle.s3_program.specs.declared.standing.CalculationStanding.{CalculationStanding}
 use Rattle.s3_program.specs.Rows.{row_of}

@@ -3,6 +3,7 @@
 use Rattle.std.specs.Prelude.{Bool, true, false, not, ◌&&◌, ◌||◌, Option, Some, None, List, ◌==◌}
 use Rattle.std.specs.Option.{option_or}
 use Rattle.std.specs.List.{count_by}
+use Rattle.s3_lines.specs.declared.sheet.Designation.TheVariants.{Primary}
 use Rattle.s3_lines.specs.declared.sheet.FileLine.{FileLine}
 use Rattle.s3_lines.specs.declared.sheet.FieldForm.{FieldForm}
 use Rattle.s3_lines.specs.declared.sheet.FieldForm.TheVariants.{Packed, PackedText}
@@ -15,12 +16,13 @@ use Rattle.s3_lines.specs.declared.sheet.OutputContent.{OutputContent}
 use Rattle.s3_lines.specs.declared.sheet.OutputContent.TheVariants.{Constant as ConstantContent, Field as FieldContent}
 use Rattle.s3_lines.specs.declared.sheet.OutputLine.{OutputLine}
 use Rattle.s3_lines.specs.declared.sheet.OutputLine.TheVariants.{Line as LineCard, Field as FieldCard}
+use Rattle.s3_lines.specs.Files.{is_designated}
 use Rattle.s3_program.specs.declared.program.Meaning.{Meaning}
 use Rattle.s3_program.specs.declared.program.Meaning.TheVariants as a
 use Rattle.s3_program.specs.declared.standing.FileStanding.{FileStanding}
 use Rattle.s3_program.specs.declared.standing.InputStanding.{InputStanding}
 use Rattle.s3_program.specs.declared.standing.OutputStanding.{OutputStanding}
-use Rattle.s3_program.specs.FileTable.{is_in_table, is_card_file, is_print_file, is_primary, is_disk, is_printer, allows_records, allows_output, has_spacing}
+use Rattle.s3_program.specs.FileTable.{is_in_table, is_card_file, is_print_file, is_disk, is_printer, allows_records, allows_output, has_spacing}
 
 abbrev pub file_misused : FileStanding → FileLine → Bool
 file_misused at file =
@@ -73,4 +75,4 @@ output_misused at _ = false
 
 -- on the whole program: not exactly one file of designation P
 abbrev pub has_one_primary : List FileLine → Bool
-has_one_primary files = count_by (λ file. is_primary file.designation) files == 1
+has_one_primary files = count_by (is_designated Primary) files == 1

@@ -44,7 +44,7 @@ pub struct TypeMark {
     /// The place of the group's record line.
     pub group: usize,
     /// The number of the indicator.
-    pub indicator: u16,
+    pub indicator: usize,
     /// Ln or Mn.
     pub level: Level,
 }
