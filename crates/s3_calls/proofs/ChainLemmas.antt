@@ -8,7 +8,7 @@ use Rattle.std.proofs.lemmas.List.Folds.{Any-from_list_any, list_any-from_Any}
 use Rattle.s3_program.specs.declared.call.Call.{Call}
 use Rattle.s3_program.specs.Jumps.{is_place, ends_chain, reaches}
 use Rattle.s3_program.proofs.CallLemmas.{shorter}
-use Rattle.s3_calls.specs.Chains.{is_called, is_among}
+use Rattle.s3_calls.specs.Inner.Chains.{is_called, is_among}
 
 -- ---- tests
 pub alike : (a b : Bool) → (a ≡ true → b ≡ true) → (b ≡ true → a ≡ true) → a ≡ b

@@ -8,7 +8,7 @@ use Rattle.indexmap.specs.IndexMap.{IndexMap}
 use Rattle.indexmap.specs.IndexSet.{IndexSet, contains}
 use Rattle.s3_program.specs.declared.call.Call.{Call}
 use Rattle.s3_program.specs.Jumps.{is_place, reaches}
-use Rattle.s3_calls.specs.Reaching.{calls_it, callers_in, HasCallers, Adds}
+use Rattle.s3_calls.specs.Inner.Reaching.{calls_it, callers_in, HasCallers, Adds}
 use Rattle.s3_calls.proofs.ChainLemmas.{alike, or_none}
 
 -- a set has what reaches a subroutine by at most n calls, and each call of one of these is from another of these, but for those of the last level

@@ -3,7 +3,7 @@
 ghost use Rattle.std.specs.Prelude.{◌≡◌, ℕ, nat_eq, IfOk, filter};
 ghost use Rattle.indexmap.specs.IndexSet.{contains};
 ghost use Rattle.s3_program.specs.Jumps.{ends_chain};
-ghost use Rattle.s3_calls.specs.Chains.{is_called, is_among};
+ghost use Rattle.s3_calls.specs.Inner.Chains.{is_called, is_among};
 
 use indexmap::IndexSet;
 use s3_program::call::Call;

@@ -4,7 +4,7 @@ ghost use Rattle.std.specs.Prelude.{◌≡◌, ℕ, nat_eq, IfOk, OnOk, filter, 
 ghost use Rattle.std.specs.List.{list_any};
 ghost use Rattle.indexmap.specs.IndexSet.{contains};
 ghost use Rattle.s3_program.specs.Jumps.{is_place, same_call, is_in_circle, ends_chain};
-ghost use Rattle.s3_calls.specs.Reaching.{HasCallers};
+ghost use Rattle.s3_calls.specs.Inner.Reaching.{HasCallers};
 
 use crate::reaching::{callers_of_each, reaching};
 use indexmap::{IndexMap, IndexSet};

@@ -4,7 +4,7 @@ ghost use Rattle.std.specs.Prelude.{◌≡◌, ℕ, nat_eq, IfOk, OnOk, [], ◌�
 ghost use Rattle.std.specs.List.{flat_map};
 ghost use Rattle.indexmap.specs.IndexSet.{contains};
 ghost use Rattle.s3_program.specs.Jumps.{reaches};
-ghost use Rattle.s3_calls.specs.Reaching.{callers_in, HasCallers, Adds};
+ghost use Rattle.s3_calls.specs.Inner.Reaching.{callers_in, HasCallers, Adds};
 
 use indexmap::{IndexMap, IndexSet};
 use s3_program::call::Call;

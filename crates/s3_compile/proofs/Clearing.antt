@@ -4,7 +4,9 @@ use Rattle.std.specs.Prelude.{map, filter, filter_map}
 use Rattle.std.specs.List.{list_any, count_by}
 use Rattle.std.proofs.lemmas.List.Sums.{sum_by-cons}
 use Rattle.s3_lines.specs.declared.diagnostic.Diagnostic.{Diagnostic}
+use Rattle.s3_lines.specs.declared.sheet.Designation.TheVariants.{Primary}
 use Rattle.s3_lines.specs.declared.sheet.FileLine.{FileLine}
+use Rattle.s3_lines.specs.Files.{is_designated}
 use Rattle.s3_lines.specs.declared.sheet.CalculationLine.{CalculationLine}
 use Rattle.s3_lines.specs.declared.sheet.SheetLine.{SheetLine}
 use Rattle.s3_lines.specs.declared.sheet.SheetLine.TheVariants as sheet
@@ -16,7 +18,6 @@ use Rattle.s3_program.specs.Tables.{meaning_of}
 use Rattle.s3_program.specs.Translation.{tables_in, known_lines}
 use Rattle.s3_program.specs.Places.{Verb}
 use Rattle.s3_program.specs.Conditions.{numbers, is_clear, verb_of, calculation_holds, files_clear, inputs_clear, calculations_clear, outputs_clear, are_clear}
-use Rattle.s3_program.specs.FileTable.{is_primary}
 use Rattle.s3_program.specs.Uses.{has_one_primary as has_one_primary_file}
 use Rattle.s3_program.proofs.SoundLemmas.{both}
 use Rattle.s3_diagnose.specs.declared.standing.Standing.{Standing}
@@ -93,7 +94,7 @@ all_clear known at (line ∷ lines) none =
 
 -- ---- the primary file
 abbrev is_primary_file : FileLine → Bool
-is_primary_file file = is_primary file.designation
+is_primary_file file = is_designated Primary file
 
 primaries : (lines : List Line) → count_by is_primary_line lines ≡ count_by is_primary_file (filter_map file_line lines)
 primaries [] = refl

@@ -45,10 +45,10 @@ use Rattle.s3_program.specs.Conditions.{is_clear, verb_of, input_holds, calculat
 use Rattle.s3_program.specs.Meant.{Meant, is_defined, factor_passes, entry_passes, input_passes, calculation_passes, content_passes, output_passes, are_defined}
 use Rattle.s3_program.specs.Tables.{meaning_of, or_undefined}
 use Rattle.s3_program.specs.Translation.{tables_in, known_lines}
+use Rattle.s3_program.proofs.GivenLemmas.{found_in_both}
 use Rattle.s3_program.proofs.SoundLemmas.{both}
 use Rattle.s3_diagnose.specs.Known.{Meanings, meant_input}
 use Rattle.s3_diagnose.specs.Lookups.{input_given, result_given, fields_given, tables_given, meanings_of}
-use Rattle.s3_compile.proofs.NoteLemmas.{found_in_both}
 use Rattle.s3_compile.proofs.Labelling.{is_off}
 
 -- ---- what is used

@@ -1,5 +1,5 @@
 -- Tables of first entries, filled by a walk over lines.
-use Rattle.std.proofs.Common.{◌≡◌, ℕ, ◌+◌, ◌<◌, ◌++◌, length, drop, get_or, zero, suc, List, [], ◌∷◌, Bool, true, false, cond, refl, sym, ◌∙◌, ap, arith, drop-cons, subst, ◌||◌}
+use Rattle.std.proofs.Common.{◌≡◌, ℕ, ◌+◌, ◌<◌, ◌++◌, length, drop, get_or, zero, suc, List, [], ◌∷◌, Bool, true, false, refl, sym, ◌∙◌, ap, arith, drop-cons, subst, ◌||◌}
 use Rattle.std.specs.Prelude.{Option, Some, None, map, option_map, IsTrue}
 use Rattle.std.specs.Option.{option_or, option_to_list}
 use Rattle.std.proofs.Math.Path.{fun_ext}
@@ -18,31 +18,14 @@ use Rattle.s3_program.specs.declared.mark.TypeMark.{TypeMark}
 use Rattle.s3_program.specs.declared.mark.Level.{Level}
 use Rattle.s3_program.specs.declared.mark.Key.{Key}
 use Rattle.s3_program.specs.declared.mark.Key.TheVariants as key
+use Rattle.s3_cards.proofs.DeckLemmas.{option_or_assoc}
 use Rattle.s3_program.specs.Matching.{level, group_mark, same_group_mark, same_type, same_type_mark, same_level, all_marks_from, some_marks_from, type_marks_from, types_from, shapes_from, type_on, with_type, first_matched, marks_of, is_type_of, in_all_of, in_some_of, in_type_of, level_shape_of}
 use Rattle.s3_diagnose.specs.declared.tables.MarkTables.{MarkTables}
 use Rattle.s3_diagnose.specs.Inner.Shown.{marks_shown}
 use Rattle.s3_diagnose.specs.Inner.Ranged.{is_ranged_input}
+use Rattle.s3_program.proofs.GivenLemmas.{found_in_both, or_none}
 use Rattle.s3_diagnose.proofs.Walks.{both_first, both_second}
 use Rattle.s3_compile.specs.Inner.Noted.{Finds, FindsMore, Has, HasMore, all_on, some_on, in_type_on}
-
--- ---- options
-or_none : {X : Type 0} (o : Option X) → option_or o None ≡ o
-or_none None = refl
-or_none (Some x) = refl
-
-or_assoc : {X : Type 0} (a b c : Option X) → option_or (option_or a b) c ≡ option_or a (option_or b c)
-or_assoc None b c = refl
-or_assoc (Some x) b c = refl
-
--- ---- look-ups
-pub found_in_both : {K X : Type 0} (test : K → Bool) (xs ys : List (K × X)) → lookup test (xs ++ ys) ≡ option_or (lookup test xs) (lookup test ys)
-found_in_both test [] ys = refl
-found_in_both {K} {X} test (x ∷ xs) ys = step (test x.0) (found_in_both test xs ys)
-  where
-    step : (b : Bool) → lookup test (xs ++ ys) ≡ option_or (lookup test xs) (lookup test ys)
-        → cond b (Some x.1) (lookup test (xs ++ ys)) ≡ option_or (cond b (Some x.1) (lookup test xs)) (lookup test ys)
-    step true later = refl
-    step false later = later
 
 -- ---- a walk: a table and what the lines that are left give find together what all the lines give
 pub record Covers {K X S : Type 0} (same : K → K → Bool) (table : IndexMap K X S) (left all : List (K × X)) : Type 0 where
@@ -61,7 +44,7 @@ covers_more : {K X S : Type 0} (same : K → K → Bool) (old new : IndexMap K X
 covers_more same old new xs ys all covers more = record {
   at = λ key.
       ap (λ o. option_or o (lookup (same key) ys)) (more.at key)
-      ∙ (or_assoc (get same old key) (lookup (same key) xs) (lookup (same key) ys)
+      ∙ (option_or_assoc (get same old key) (lookup (same key) xs) (lookup (same key) ys)
       ∙ (ap (option_or (get same old key)) (sym (found_in_both (same key) xs ys)) ∙ covers.at key));
 }
 

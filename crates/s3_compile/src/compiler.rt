@@ -7,7 +7,7 @@ ghost use Rattle.s3_diagnose.specs.Inner.Shown.{known_shown};
 ghost use Rattle.s3_compile.specs.Compiles.{Compiles};
 ghost use Rattle.s3_compile.specs.Inner.Defines.{Defines};
 
-use crate::known::known_tables;
+use crate::known::{empty_tables, fill_tables};
 use s3_diagnose::compile_diagnostics;
 use s3_diagnose::tables::KnownTables;
 use s3_lines::Diagnostic;
@@ -59,6 +59,20 @@ fn compile_known(
     }
 }
 
+/// The program of lines, or their diagnostics, by tables that it fills with what they define.
+fn compile_with(
+    alloc: Global,
+    known: &mut KnownTables,
+    lines: &[Line],
+    run_card: u16,
+) -> Result<Program, CompileFault>
+    requires read { IsTrue (are_read lines.now) }
+    ensures { Compiles lines.now run_card result }
+{
+    fill_tables(alloc, known, lines)?;
+    compile_known(alloc, known, lines, run_card)
+}
+
 /// The program that stands for the source of these lines, under the name of its H card or RPGOBJ; or its diagnostics 5 to
 /// 12, by card and then number, where one on the whole program bears the number of the RUN card. The lines are those of
 /// cards without a fault of their own, as `read_sheets` gives them.
@@ -66,6 +80,6 @@ pub fn compile(alloc: Global, lines: &[Line], run_card: u16) -> Result<Program, 
     requires read { IsTrue (are_read lines.now) }
     ensures { Compiles lines.now run_card result }
 {
-    let known = known_tables(alloc, lines)?;
-    compile_known(alloc, &known, lines, run_card)
+    let mut known = empty_tables(alloc);
+    compile_with(alloc, &mut known, lines, run_card)
 }

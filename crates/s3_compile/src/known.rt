@@ -3,7 +3,9 @@
 ghost use Rattle.std.specs.Prelude.{◌≡◌, ◌++◌, IfOk, OnOk, IsTrue, [], filter_map, option_map};
 ghost use Rattle.s3_meaning.specs.Source.{reserved_shapes, input_line, calculation_line};
 ghost use Rattle.s3_program.specs.Given.{all_noted, firsts};
-ghost use Rattle.s3_program.specs.Jumps.{calls_from, with_call, caller_of as caller_spec, callee_of as callee_spec};
+ghost use Rattle.indexmap.specs.IndexSet.{contains};
+ghost use Rattle.s3_program.specs.Jumps.{calls_from, with_call, is_forbidden, same_call, caller_of as caller_spec, callee_of as callee_spec};
+ghost use Rattle.s3_program.specs.Matching.{marks_of};
 ghost use Rattle.s3_program.specs.Standings.{first_calculation as first_calculation_spec};
 ghost use Rattle.s3_program.specs.Tables.{meaning_of};
 ghost use Rattle.s3_program.specs.Translation.{tables_in};
@@ -11,19 +13,19 @@ ghost use Rattle.s3_diagnose.specs.Inner.Early.{IsEarly};
 ghost use Rattle.s3_diagnose.specs.Known.{meant_input, meant_calculation};
 ghost use Rattle.s3_diagnose.specs.Lookups.{fields_given, known_of};
 ghost use Rattle.s3_diagnose.specs.Inner.Ranged.{are_ranged};
-ghost use Rattle.s3_diagnose.specs.Inner.Shown.{known_shown};
-ghost use Rattle.s3_compile.specs.Inner.Defines.{Defines};
+ghost use Rattle.s3_diagnose.specs.Inner.Shown.{known_shown, marks_shown};
+ghost use Rattle.s3_compile.specs.Inner.Defines.{Defines, AreEmpty, inputs_known, calculations_known};
 
 use crate::file_places::file_places;
-use crate::marking::marks_of;
+use crate::marking::fill_marks;
 use crate::naming::{note_fields, note_results, subroutines_defined, tags_defined};
-use indexmap::IndexMap;
+use indexmap::{IndexMap, IndexSet};
 use s3_calls::forbidden_calls;
 use s3_cards::Name;
 use s3_diagnose::behind::{behind_calculation, first_calculation};
 use s3_diagnose::jumps::{callee_of, caller_of};
 use s3_diagnose::meant::{calculation, input};
-use s3_diagnose::tables::KnownTables;
+use s3_diagnose::tables::{KnownTables, MarkTables};
 use s3_lines::reserved::{PAGE, UDATE, UDAY, UMONTH, UYEAR};
 use s3_lines::sheet::{CalculationLine, InputLine, Line, Shape, SheetLine};
 use s3_program::call::Call;
@@ -58,17 +60,16 @@ fn fields_defined(alloc: Global, lines: &[Line]) -> Result<IndexMap<Name, Shape>
     Ok(table)
 }
 
-/// What lines define, each name by its first line.
-fn definitions_of(alloc: Global, lines: &[Line]) -> Result<Definitions, AllocError>
+/// Fills tables with what lines define, each name by its first line.
+fn define(alloc: Global, known: &mut Definitions, lines: &[Line]) -> Result<(), AllocError>
     requires { IsTrue (are_ranged lines.now) }
-    ensures { IfOk result (λ known. Defines known lines.now) }
+    ensures { OnOk result (Defines known.new lines.now) }
 {
-    Ok(Definitions {
-        files: files_defined(alloc, lines)?,
-        fields: fields_defined(alloc, lines)?,
-        tags: tags_defined(alloc, lines)?,
-        subroutines: subroutines_defined(alloc, lines)?,
-    })
+    known.files = files_defined(alloc, lines)?;
+    known.fields = fields_defined(alloc, lines)?;
+    known.tags = tags_defined(alloc, lines)?;
+    known.subroutines = subroutines_defined(alloc, lines)?;
+    Ok(())
 }
 
 /// The I line of a line, with what it names.
@@ -97,7 +98,7 @@ fn inputs_meant(
     known: &Definitions,
     lines: &[Line],
 ) -> Result<Vec<InputLine<Meaning>>, AllocError>
-    ensures { IfOk result (λ inputs. inputs.items ≡ filter_map (λ line. option_map (meant_input (meaning_of (tables_in known.now))) (input_line line)) lines.now) }
+    ensures { IfOk result (λ inputs. inputs.items ≡ inputs_known known.now lines.now) }
 {
     lines
         .iter()
@@ -111,7 +112,7 @@ fn calculations_meant(
     known: &Definitions,
     lines: &[Line],
 ) -> Result<Vec<CalculationLine<Meaning>>, AllocError>
-    ensures { IfOk result (λ calculations. calculations.items ≡ filter_map (λ line. option_map (meant_calculation (meaning_of (tables_in known.now))) (calculation_line line)) lines.now) }
+    ensures { IfOk result (λ calculations. calculations.items ≡ calculations_known known.now lines.now) }
 {
     lines
         .iter()
@@ -148,23 +149,68 @@ fn calls_of(alloc: Global, lines: &[CalculationLine<Meaning>]) -> Result<Vec<Cal
     Ok(calls)
 }
 
-/// What lines define, and what their diagnostics ask of it.
-pub fn known_tables(alloc: Global, lines: &[Line]) -> Result<KnownTables, AllocError>
+/// Fills tables with what the I lines say of match and control fields.
+fn mark(
+    alloc: Global,
+    known: &Definitions,
+    marks: &mut MarkTables,
+    lines: &[Line],
+) -> Result<(), AllocError>
     requires { IsTrue (are_ranged lines.now) }
-    ensures shown { IfOk result (λ known. known_shown known ≡ known_of lines.now) }
-    ensures defines { IfOk result (λ known. Defines known.definitions lines.now) }
+    ensures { OnOk result (marks_shown marks.new ≡ marks_of (inputs_known known.now lines.now)) }
 {
-    let definitions = definitions_of(alloc, lines)?;
-    let inputs = inputs_meant(alloc, &definitions, lines)?;
-    let calculations = calculations_meant(alloc, &definitions, lines)?;
+    let inputs = inputs_meant(alloc, known, lines)?;
+    fill_marks(alloc, marks, &inputs)
+}
+
+/// The calls of the C lines that are forbidden.
+fn calls_forbidden(
+    alloc: Global,
+    known: &Definitions,
+    lines: &[Line],
+) -> Result<IndexSet<Call>, AllocError>
+    ensures { IfOk result (λ set. (call : Call) → contains same_call set call
+        ≡ is_forbidden (calls_from first_calculation_spec (calculations_known known.now lines.now)) call) }
+{
+    let calculations = calculations_meant(alloc, known, lines)?;
     let calls = calls_of(alloc, &calculations)?;
-    let file_places = file_places(alloc, lines)?;
-    let marks = marks_of(alloc, &inputs)?;
-    let forbidden = forbidden_calls(alloc, &calls)?;
-    Ok(KnownTables {
-        definitions,
-        file_places,
-        marks,
-        forbidden,
-    })
+    forbidden_calls(alloc, &calls)
+}
+
+/// Tables of no lines.
+pub fn empty_tables(alloc: Global) -> KnownTables
+    ensures { AreEmpty result }
+{
+    KnownTables {
+        definitions: Definitions {
+            files: IndexMap::new(alloc),
+            fields: IndexMap::new(alloc),
+            tags: IndexMap::new(alloc),
+            subroutines: IndexMap::new(alloc),
+        },
+        file_places: IndexMap::new(alloc),
+        marks: MarkTables {
+            types: IndexSet::new(alloc),
+            in_all: IndexMap::new(alloc),
+            in_some: IndexMap::new(alloc),
+            in_type: IndexMap::new(alloc),
+            shapes: IndexMap::new(alloc),
+            matched: [false; 9],
+        },
+        forbidden: IndexSet::new(alloc),
+    }
+}
+
+/// Fills tables with what lines define, and what their diagnostics ask of it. The caller owns them, so that no early
+/// return here drops them.
+pub fn fill_tables(alloc: Global, known: &mut KnownTables, lines: &[Line]) -> Result<(), AllocError>
+    requires { IsTrue (are_ranged lines.now) }
+    ensures shown { OnOk result (known_shown known.new ≡ known_of lines.now) }
+    ensures defines { OnOk result (Defines known.new.definitions lines.now) }
+{
+    define(alloc, &mut known.definitions, lines)?;
+    known.file_places = file_places(alloc, lines)?;
+    mark(alloc, &known.definitions, &mut known.marks, lines)?;
+    known.forbidden = calls_forbidden(alloc, &known.definitions, lines)?;
+    Ok(())
 }

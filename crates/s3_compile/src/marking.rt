@@ -13,7 +13,7 @@ ghost use Rattle.s3_diagnose.specs.Inner.Shown.{marks_shown};
 use crate::noting::note;
 use indexmap::{IndexMap, IndexSet};
 use s3_diagnose::behind::{behind_input, first_input};
-use s3_diagnose::matching::{has_any, indicator_number, matched_by, type_on};
+use s3_diagnose::matching::{has_any, matched_by, type_on};
 use s3_diagnose::shapes::shape_of_field;
 use s3_diagnose::tables::MarkTables;
 use s3_lines::indicator::Indicator;
@@ -199,7 +199,7 @@ fn note_level_in_type(
     if let Some(number) = entry {
         let mark = TypeMark {
             group,
-            indicator: indicator_number(indicator),
+            indicator: indicator.number(),
             level: Level { key, number },
         };
         note_type_mark(table, mark, place)?;
@@ -330,24 +330,20 @@ fn first_matched(tables: &MarkTables, lines: &[InputLine<Meaning>]) -> [bool; 9]
     [false; 9]
 }
 
-/// What I lines say of match and control fields.
-pub fn marks_of(alloc: Global, lines: &[InputLine<Meaning>]) -> Result<MarkTables, AllocError>
+/// Fills tables with what I lines say of match and control fields.
+pub fn fill_marks(
+    alloc: Global,
+    tables: &mut MarkTables,
+    lines: &[InputLine<Meaning>],
+) -> Result<(), AllocError>
     requires { IsTrue (list_all is_ranged_input lines.now) }
-    ensures { IfOk result (λ tables. marks_shown tables ≡ spec.marks_of lines.now) }
+    ensures { OnOk result (marks_shown tables.new ≡ spec.marks_of lines.now) }
 {
-    let types = types(alloc, lines)?;
-    let in_all = marks_in_all(alloc, lines)?;
-    let in_some = marks_in_some(alloc, &types, lines)?;
-    let in_type = marks_in_type(alloc, lines)?;
-    let shapes = level_shapes(alloc, lines)?;
-    let mut tables = MarkTables {
-        types,
-        in_all,
-        in_some,
-        in_type,
-        shapes,
-        matched: [false; 9],
-    };
-    tables.matched = first_matched(&tables, lines);
-    Ok(tables)
+    tables.types = types(alloc, lines)?;
+    tables.in_all = marks_in_all(alloc, lines)?;
+    tables.in_some = marks_in_some(alloc, &tables.types, lines)?;
+    tables.in_type = marks_in_type(alloc, lines)?;
+    tables.shapes = level_shapes(alloc, lines)?;
+    tables.matched = first_matched(tables, lines);
+    Ok(())
 }

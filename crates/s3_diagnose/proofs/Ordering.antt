@@ -1,16 +1,38 @@
 -- Diagnostics stand by card and then number.
-use Rattle.std.proofs.Common.{◌≡◌, ℕ, ◌<◌, List, [], ◌∷◌, ◌++◌, Bool, true, false, cond, refl, sym, arith, subst, length, lt-ltb, lit<}
+use Rattle.std.proofs.Common.{◌≡◌, ℕ, ◌<◌, ◌≤◌, List, [], ◌∷◌, ◌++◌, Bool, true, false, cond, refl, sym, arith, subst, lt-ltb, lit<}
 use Rattle.std.specs.Prelude.{IsTrue, ◌==◌, nat_lt, ◌&&◌, ◌||◌, map, filter}
 use Rattle.std.specs.List.{AllByRecursion}
+use Rattle.std.proofs.lemmas.Bool.{and_parts}
 use Rattle.std.proofs.lemmas.Bool.Decides.{nat_tests}
 use Rattle.s3_lines.specs.declared.diagnostic.Diagnostic.{Diagnostic}
 use Rattle.s3_lines.specs.declared.sheet.Line.{Line}
+use Rattle.s3_lines.specs.Ascending.{cards_ascend}
 use Rattle.s3_program.specs.Conditions.{numbers}
 use Rattle.s3_diagnose.specs.declared.standing.Standing.{Standing}
 use Rattle.s3_diagnose.specs.Known.{meant_line, first_standing, behind}
 use Rattle.s3_diagnose.specs.Lookups.{Known, known_of}
 use Rattle.s3_diagnose.specs.Diagnostics.{line_holds, found_on, diagnostics_from, precedes, placed, has_one_primary, compile_diagnostics}
-use Rattle.s3_diagnose.specs.Order.{AreInOrder, CardsAscend}
+use Rattle.s3_diagnose.specs.Order.{AreInOrder}
+
+-- ---- cards
+abbrev CardsAscend : List Line → Type 0
+CardsAscend [] = Unit {0}
+CardsAscend (line ∷ lines) = AllByRecursion (λ (other : Line). line.card < other.card) lines × CardsAscend lines
+
+all_above : (low from : ℕ) (lines : List Line) → low ≤ from → cards_ascend from lines ≡ true → AllByRecursion (λ (other : Line). low < other.card) lines
+unfolding cards_ascend
+all_above low from [] under ascend = tt
+all_above low from (line ∷ lines) under ascend =
+    let parts = and_parts (nat_lt from line.card) (cards_ascend line.card lines) ascend in
+    let above : low < line.card = grind (arith, nat_tests, under, parts.0) in
+    (above, all_above low line.card lines (omega (arith, above)) parts.1)
+
+ascending : (from : ℕ) (lines : List Line) → cards_ascend from lines ≡ true → CardsAscend lines
+unfolding cards_ascend
+ascending from [] ascend = tt
+ascending from (line ∷ lines) ascend =
+    let parts = and_parts (nat_lt from line.card) (cards_ascend line.card lines) ascend in
+    (all_above line.card line.card lines (omega arith) parts.1, ascending line.card lines parts.1)
 
 -- ---- numbers
 later_card : (a b c d : ℕ) → a < b → IsTrue (nat_lt a b || ((a == b) && nat_lt c d))
@@ -152,9 +174,10 @@ chosen : (b : Bool) (found others : List Diagnostic) → AreInOrder found → Ar
 chosen true found others one two = one
 chosen false found others one two = two
 
-pub in_order : (run_card : ℕ) (lines : List Line) → CardsAscend lines → AreInOrder (compile_diagnostics run_card lines)
+pub in_order : (run_card from : ℕ) (lines : List Line) → cards_ascend from lines ≡ true → AreInOrder (compile_diagnostics run_card lines)
 unfolding compile_diagnostics
-in_order run_card lines cards =
+in_order run_card from lines ascend =
+    let cards : CardsAscend lines = ascending from lines ascend in
     let found : List Diagnostic = diagnostics_from (known_of lines) first_standing lines in
     let order : AreInOrder found = lines_in_order (known_of lines) first_standing lines cards in
     chosen (has_one_primary lines) found (placed found (on_card run_card 12)) order (placed_in_order found (on_card run_card 12) order)

@@ -2,13 +2,14 @@
 use Rattle.std.specs.Prelude.{ℕ, ◌==◌, nat_lt, Bool, false, ◌&&◌, ◌||◌, List, [], ◌∷◌, ◌++◌, map, filter, filter_map, if◌then◌else◌}
 use Rattle.s3_lines.specs.declared.diagnostic.Diagnostic.{Diagnostic}
 use Rattle.std.specs.List.{count_by}
+use Rattle.s3_lines.specs.declared.sheet.Designation.TheVariants.{Primary}
 use Rattle.s3_lines.specs.declared.sheet.SheetLine.{SheetLine}
 use Rattle.s3_lines.specs.declared.sheet.SheetLine.TheVariants.{File}
 use Rattle.s3_lines.specs.declared.sheet.Line.{Line}
+use Rattle.s3_lines.specs.Files.{is_designated}
 use Rattle.s3_meaning.specs.Source.{calculation_line}
 use Rattle.s3_program.specs.Places.{Verb}
 use Rattle.s3_program.specs.Conditions.{numbers, verb_of, file_holds, input_holds, calculation_holds, output_holds}
-use Rattle.s3_program.specs.FileTable.{is_primary}
 use Rattle.s3_diagnose.specs.declared.standing.MeantLine.{MeantLine}
 use Rattle.s3_diagnose.specs.declared.standing.MeantLine.TheVariants as meant
 use Rattle.s3_diagnose.specs.declared.standing.Standing.{Standing}
@@ -53,7 +54,7 @@ abbrev pub is_primary_line : Line → Bool
 is_primary_line line = on line.sheet
   where
     on : SheetLine → Bool
-    on (File file) = is_primary file.designation
+    on (File file) = is_designated Primary file
     on _ = false
 
 abbrev pub has_one_primary : List Line → Bool

@@ -9,8 +9,6 @@ use Rattle.s3_lines.specs.declared.sheet.Factor.TheVariants.{Named}
 use Rattle.s3_lines.specs.declared.sheet.Operation.{Operation}
 use Rattle.s3_lines.specs.declared.sheet.Operation.TheVariants.{Tag, BeginSubroutine}
 use Rattle.s3_lines.specs.declared.sheet.CalculationLine.{CalculationLine}
-use Rattle.s3_lines.specs.declared.sheet.SheetLine.{SheetLine}
-use Rattle.s3_lines.specs.declared.sheet.SheetLine.TheVariants as sheet
 use Rattle.s3_lines.specs.declared.sheet.Line.{Line}
 use Rattle.s3_meaning.specs.Source.{reserved_shapes, file_line, input_line, calculation_line}
 use Rattle.s3_program.specs.declared.program.TagPlace.{TagPlace}

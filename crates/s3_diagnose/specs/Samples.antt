@@ -1,5 +1,5 @@
 -- Small sources with the diagnostics that they have, taken from the rules by hand: numbers that are met, and near ones that aren't.
-use Rattle.std.specs.Prelude.{ℕ, ◌+◌, Bool, true, false, pos, List, [], ◌∷◌, ◌++◌, map, Option, Some, None}
+use Rattle.std.specs.Prelude.{ℕ, ◌+◌, true, false, pos, List, [], ◌∷◌, ◌++◌, Option, Some, None}
 use Rattle.s3_edit.specs.declared.code.EditCode.TheVariants.{Date, Suppressed}
 use Rattle.s3_cards.specs.declared.name.Name.{Name}
 use Rattle.s3_cards.specs.Names.{name_of}
@@ -19,8 +19,7 @@ use Rattle.s3_lines.specs.declared.sheet.FieldForm.{FieldForm}
 use Rattle.s3_lines.specs.declared.sheet.FieldForm.TheVariants as form
 use Rattle.s3_lines.specs.declared.sheet.FieldLine.{FieldLine}
 use Rattle.s3_lines.specs.declared.sheet.InputLine.TheVariants as input
-use Rattle.s3_lines.specs.declared.sheet.Shape.{Shape}
-use Rattle.s3_lines.specs.declared.sheet.Shape.TheVariants.{Numeric, Alphanumeric}
+use Rattle.s3_lines.specs.declared.sheet.Shape.TheVariants.{Numeric}
 use Rattle.s3_lines.specs.declared.sheet.Factor.{Factor}
 use Rattle.s3_lines.specs.declared.sheet.Factor.TheVariants.{Named, Number}
 use Rattle.s3_lines.specs.declared.sheet.Operation.{Operation}

@@ -1,6 +1,5 @@
 -- What the samples show.
 use Rattle.std.specs.Prelude.{◌≡◌, List, map}
-use Rattle.s3_lines.specs.declared.diagnostic.Diagnostic.{Diagnostic}
 use Rattle.s3_diagnose.specs.Diagnostics.{compile_diagnostics}
 use Rattle.s3_diagnose.specs.Samples.{Sample, cards_from}
 

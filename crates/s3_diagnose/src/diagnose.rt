@@ -12,7 +12,6 @@ ghost use Rattle.s3_diagnose.specs.Inner.Shown.{known_shown};
 
 use crate::behind::{behind, first_standing};
 use crate::conditions::line_holds;
-use crate::files::is_primary;
 use crate::meant::meant_line;
 use crate::standing::{MeantLine, Standing};
 use crate::tables::KnownTables;
@@ -133,7 +132,7 @@ fn is_primary_line(line: &Line) -> bool
     ensures { result ≡ spec.is_primary_line line.now }
 {
     match &line.sheet {
-        SheetLine::File(file) => is_primary(file.designation),
+        SheetLine::File(file) => file.is_primary(),
         _ => false,
     }
 }

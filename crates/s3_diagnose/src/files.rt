@@ -17,13 +17,6 @@ fn is_output_use(usage: FileUse) -> bool
     matches!(usage, FileUse::Output)
 }
 
-/// Whether a designation is P.
-pub fn is_primary(designation: Option<Designation>) -> bool
-    ensures { result ≡ spec.is_primary designation }
-{
-    matches!(designation, Some(Designation::Primary))
-}
-
 fn is_by_cycle(designation: Option<Designation>) -> bool
     ensures { result ≡ spec.is_by_cycle designation }
 {

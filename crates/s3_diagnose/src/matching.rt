@@ -62,21 +62,6 @@ fn first_in_some(tables: &MarkTables, group: usize, level: Level) -> Option<usiz
     tables.in_some.get(&GroupMark { group, level }).copied()
 }
 
-pub fn indicator_number(indicator: Indicator) -> u16
-    ensures { result ≡ spec.indicator_number indicator }
-{
-    match indicator {
-        Indicator::General(n) => 8 * u16::from(n),
-        Indicator::Level(n) => 8 * u16::from(n) + 1,
-        Indicator::LastRecord => 2,
-        Indicator::Matching => 3,
-        Indicator::Halt(n) => 8 * u16::from(n) + 4,
-        Indicator::FirstPage => 5,
-        Indicator::Overflow(n) => 8 * u16::from(n) + 6,
-        Indicator::Switch(n) => 8 * u16::from(n) + 7,
-    }
-}
-
 fn first_in_type(
     tables: &MarkTables,
     group: usize,
@@ -87,7 +72,7 @@ fn first_in_type(
 {
     let mark = TypeMark {
         group,
-        indicator: indicator_number(indicator),
+        indicator: indicator.number(),
         level,
     };
     tables.in_type.get(&mark).copied()

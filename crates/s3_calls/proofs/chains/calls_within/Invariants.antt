@@ -1,6 +1,6 @@
 use Rattle.std.proofs.Common.{◌≡◌, nat_eq, take, filter}
 use Rattle.indexmap.specs.IndexSet.{contains}
-use Rattle.s3_calls.specs.Chains.{is_among}
+use Rattle.s3_calls.specs.Inner.Chains.{is_among}
 use Rattle.s3_calls.proofs.chains.calls_within.Given as goal
 
 abbrev pub invariant-loop-call : goal.invariant-loop-call

@@ -1,7 +1,7 @@
 use Rattle.std.proofs.Common.{◌≡◌, ◌∙◌, nat_eq, filter}
 use Rattle.std.proofs.lemmas.Result.{IfOk-weaker}
 use Rattle.indexmap.specs.IndexSet.{contains}
-use Rattle.s3_calls.specs.Chains.{is_called, is_among}
+use Rattle.s3_calls.specs.Inner.Chains.{is_called, is_among}
 use Rattle.s3_calls.proofs.ChainLemmas.{within_same}
 use Rattle.s3_calls.proofs.chains.later_calls.Goals as goal
 

@@ -1,7 +1,7 @@
 use Rattle.std.proofs.Common.{◌≡◌, ◌∙◌, ap, arith, filter, List}
 use Rattle.s3_program.specs.declared.call.Call.{Call}
 use Rattle.s3_program.specs.Jumps.{ends_chain}
-use Rattle.s3_calls.specs.Chains.{is_called, is_among}
+use Rattle.s3_calls.specs.Inner.Chains.{is_called, is_among}
 use Rattle.s3_calls.proofs.ChainLemmas.{later_first, later_next}
 use Rattle.s3_calls.proofs.chains.ninth_calls.Goals as goal
 

@@ -1,5 +1,5 @@
 use Rattle.std.proofs.Common.{take}
-use Rattle.s3_calls.specs.Reaching.{Adds}
+use Rattle.s3_calls.specs.Inner.Reaching.{Adds}
 use Rattle.s3_calls.proofs.reaching.add_all.Given as goal
 
 abbrev pub invariant-loop-subroutine : goal.invariant-loop-subroutine

@@ -1,6 +1,6 @@
 use Rattle.std.proofs.Common.{take}
 use Rattle.std.specs.List.{flat_map}
-use Rattle.s3_calls.specs.Reaching.{callers_in, Adds}
+use Rattle.s3_calls.specs.Inner.Reaching.{callers_in, Adds}
 use Rattle.s3_calls.proofs.reaching.add_callers.Given as goal
 
 abbrev pub invariant-loop-callee : goal.invariant-loop-callee

@@ -1,5 +1,5 @@
 use Rattle.std.proofs.Common.{take}
-use Rattle.s3_calls.specs.Reaching.{HasCallers}
+use Rattle.s3_calls.specs.Inner.Reaching.{HasCallers}
 use Rattle.s3_calls.proofs.reaching.callers_of_each.Given as goal
 
 abbrev pub invariant-loop-call : goal.invariant-loop-call

@@ -1,7 +1,7 @@
 use Rattle.std.proofs.Common.{◌≡◌, List, [], vec_len, ℕ, ◌∙◌, arith, subst, sym}
 use Rattle.std.specs.List.{flat_map}
 use Rattle.std.proofs.lemmas.Bool.{eqb-true}
-use Rattle.s3_calls.specs.Reaching.{callers_in, Adds}
+use Rattle.s3_calls.specs.Inner.Reaching.{callers_in, Adds}
 use Rattle.s3_calls.proofs.ReachLemmas.{level_next, level_last}
 use Rattle.s3_calls.proofs.reaching.reaching.Goals as goal
 

@@ -8,4 +8,4 @@ pub returns-in_ok-note_type_mark : goal.returns-in_ok-note_type_mark
 returns-in_ok-note_type_mark c =
     given_more same_type_mark c.args.table.now c.note_type_mark.new.table (level c.args.key) (λ l. (type_mark c.args.group c.args.indicator l, c.args.place)) c.args.entry c.in-Some.number c.in-Some.is
     (subst (λ (n : ℕ). FindsMore same_type_mark c.args.table.now c.note_type_mark.new.table ((record { group = c.args.group; indicator = n; level = level c.args.key c.in-Some.number }, c.args.place) ∷ []))
-    c.indicator_number.ensures c.in_ok-note_type_mark.ensures)
+    c.number.ensures.number c.in_ok-note_type_mark.ensures)
