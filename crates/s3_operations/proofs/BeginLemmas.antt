@@ -1,12 +1,13 @@
 -- The values at the start of a job: a zero or blanks in each field, and the date.
 use Rattle.std.proofs.Common.{◌≡◌, ℕ, ◌+◌, ◌*◌, ◌^◌, ◌<◌, ◌≤◌, List, [], ◌∷◌, ◌++◌, true, map, take, length, refl, sym, ◌∙◌, ap, arith, zero, suc, get_or}
-use Rattle.std.specs.Prelude.{ℤ, pos, Option, Some, None, replicate, slice_get, unwrap_or, nat_le, ◌&&◌}
+use Rattle.std.specs.Prelude.{ℤ, pos, Option, Some, None, replicate, slice_get, slice_index, unwrap_or, option_map, nat_le, nat_lt, ◌&&◌, ◌%◌}
 use Rattle.std.specs.List.{list_all}
 use Rattle.std.specs.Map.{keys_of}
 use Rattle.std.specs.Cmp.Lexicographic.{pointwise}
 use Rattle.std.proofs.lemmas.Bool.{and_parts, true≢false}
 use Rattle.std.proofs.lemmas.Bool.Decides.{nat_tests}
 use Rattle.std.proofs.lemmas.List.{map-append, take_more, take_all, length-replicate}
+use Rattle.std.proofs.lemmas.Option.{slice_get-map}
 use Rattle.std.proofs.lemmas.Simd.{map-map}
 use Rattle.s3_decimal.specs.declared.number.Dec.{Dec}
 use Rattle.s3_cards.specs.declared.ebcdic.TheConstants.{BLANK}
@@ -16,9 +17,10 @@ use Rattle.s3_cards.proofs.NameLemmas.{same_name-equal}
 use Rattle.s3_lines.specs.declared.sheet.Shape.{Shape}
 use Rattle.s3_lines.specs.declared.sheet.Shape.TheVariants.{Alphanumeric, Numeric}
 use Rattle.s3_lines.specs.Ranges.{shape_in_range}
-use Rattle.s3_lines.specs.Reserved.{udate, umonth, uday, uyear}
-use Rattle.s3_meaning.specs.Source.{shape_of, digits_of, decimals_of, reserved_shapes}
-use Rattle.s3_meaning.specs.Environment.{Environment, put_number, date_part, on_at_first}
+use Rattle.s3_lines.specs.Reserved.{page, udate, umonth, uday, uyear}
+use Rattle.s3_meaning.specs.Source.{Source, shape_of, digits_of, decimals_of, reserved_shapes}
+use Rattle.s3_meaning.specs.Source.{length_of as length_in_source}
+use Rattle.s3_meaning.specs.Environment.{put_number, date_part, on_at_first}
 use Rattle.s3_lines.specs.declared.indicator.Indicator.{Indicator}
 use Rattle.std.proofs.Math.Path.{fun_ext}
 use Rattle.s3_program.specs.Tables.{slot_in}
@@ -26,17 +28,17 @@ use Rattle.s3_program.specs.declared.program.Program.{Program}
 use Rattle.s3_program.specs.declared.program.Defined.{Defined}
 use Rattle.s3_program.specs.declared.program.Reference.TheVariants.{Field as FieldSlot}
 use Rattle.s3_program.specs.declared.program.Meaning.TheVariants as meaning
-use Rattle.s3_program.specs.Tables.{name_of, meaning_at, or_undefined}
+use Rattle.s3_program.specs.Tables.{name_of, meaning_at, or_undefined, found_in}
 use Rattle.s3_program.specs.Valid.{entry_of, named, is_shaped}
 use Rattle.s3_program.specs.Stands.{parts_of, source_named}
-use Rattle.s3_program.proofs.SlotLemmas.{Kept, kept}
+use Rattle.s3_program.proofs.SlotLemmas.{Kept, kept, no_shape}
+use Rattle.s3_program.proofs.TableLemmas.{slot_entry}
 use Rattle.s3_operations.specs.Fits.{tables, is_number_field, is_numeric_shape}
 use Rattle.s3_operations.specs.declared.values.Values.{Values}
-use Rattle.s3_operations.specs.declared.indicators.Indicators.{Indicators}
 use Rattle.s3_operations.specs.Indicators.{on_in}
-use Rattle.s3_operations.specs.Held.{form_of, form_in, form_in_shape, length_in, number_at, held, IsSound, Changes}
+use Rattle.s3_operations.specs.Held.{form_of, form_in, form_in_shape, length_in, number_at, text_at, remainder_in, held, IsSound, Changes}
 use Rattle.s3_operations.specs.Texts.{blank_texts, length_of}
-use Rattle.s3_operations.specs.Beginning.{IsZeros, are_fields_in_range, no_number, with_date, Begins}
+use Rattle.s3_operations.specs.Beginning.{IsDate, IsZeros, are_digits, are_fields_in_range, no_number, with_date, Begins}
 use Rattle.s3_operations.proofs.ChangeLemmas.{at_get}
 use Rattle.s3_operations.proofs.ValueLemmas.{FieldAt, NumberField, field_entry, field_at, field_number, digits_when, decimals_when}
 
@@ -153,6 +155,10 @@ reserved_at p slot digits name there shape_is =
       decimals_is = ap (decimals_of (source_named p)) f.named ∙ decimals_when (source_named p) name digits 0 shape_is;
     }
 
+pub page_at : (p : Program) → ReservedAt p 0 4 page
+unfolding named
+page_at p = reserved_at p 0 4 page refl refl
+
 pub date_at : (p : Program) → ReservedAt p 1 6 udate
 unfolding named
 date_at p = reserved_at p 1 6 udate refl refl
@@ -206,15 +212,65 @@ dated date p old year day month new y d m u ny nd nm nu is_ny is_nd is_nm is_nu 
       ∙ (λ i. put_number (is_nu i) (is_u i) (put_number (is_nm i) (is_m i) (put_number (is_nd i) (is_d i) (put_number (is_ny i) (is_y i) (held p old rest))))));
 }
 
+-- ---- texts by name
+abbrev blank_entry : Name × Shape → List ℕ
+blank_entry entry = replicate (length_in entry) BLANK
+
+blank_entries : (fields : List (Defined Shape)) → blank_texts fields ≡ map blank_entry (map entry_of fields)
+blank_entries [] = refl
+blank_entries (f ∷ fs) = λ i. one f.name f.meaning i ∷ blank_entries fs i
+  where
+    one : (name : Name) (shape : Shape) → replicate (length_of shape) BLANK ≡ blank_entry (name, shape)
+    one name (Alphanumeric size) = refl
+    one name (Numeric digits decimals) = refl
+
+length_by : (source : Source) (name : Name) (shape : Shape) → shape_of source name ≡ shape → blank_entry (name, shape) ≡ replicate (length_in_source source name) BLANK
+length_by source name (Alphanumeric size) h = rw h refl
+length_by source name (Numeric digits decimals) h = rw h refl
+
+-- a name without a slot has no length
+blank_held : (p : Program) (name : Name) → text_at (blank_texts p.fields.items) (slot_in (tables p).fields name) ≡ replicate (length_in_source (source_named p) name) BLANK
+blank_held p name =
+    let table : List (Name × Shape) = (tables p).fields in
+    let slot : ℕ = slot_in table name in
+    ap (λ (texts : List (List ℕ)). text_at texts slot) (blank_entries p.fields.items)
+    ∙ (ap (λ (o : Option (List ℕ)). unwrap_or o []) (slice_get-map blank_entry table slot ∙ ap (option_map blank_entry) (slot_entry table name))
+    ∙ step (found_in table name) refl)
+  where
+    step : (o : Option Shape) → found_in (tables p).fields name ≡ o → unwrap_or (option_map blank_entry (option_map (λ (x : Shape). (name, x)) o)) [] ≡ replicate (length_in_source (source_named p) name) BLANK
+    step None found = length_by (source_named p) name (Alphanumeric 0) (no_shape (parts_of p) name p.valid found)
+    step (Some shape) found =
+        length_by (source_named p) name shape (field_entry p (slot_in (tables p).fields name) name shape p.valid (slot_entry (tables p).fields name ∙ ap (option_map (λ (x : Shape). (name, x))) found)).shaped
+
 -- values of a job that has begun, by name
 pub begun : (p : Program) (switches : ℕ) (date : List ℕ) (s new : Values) → IsZeros p.fields.items s.numbers.items → s.texts ≡ blank_texts p.fields.items
-    → ((other : Indicator) → on_in s.indicators other ≡ on_at_first switches other) → s.division ≡ None → new.texts ≡ s.texts → new.indicators ≡ s.indicators → new.division ≡ s.division
-    → Changes p s new (λ source. with_date date) → Begins p switches date new
+    → ((other : Indicator) → on_in s.indicators other ≡ on_at_first switches other) → s.division ≡ None → Changes p s new (λ source. with_date date) → Begins p switches date new
 unfolding held
-begun p switches date s new zeros texts on division same_texts same_indicators same_division change = record {
+begun p switches date s new zeros texts on division change = record {
   sound = change.sound;
-  numbers = λ rest. ap (λ (e : Environment). e.numbers) (change.held rest) ∙ ap (λ (ns : Name → ℤ). (with_date date (record rest { numbers = ns })).numbers) (fun_ext (λ (name : Name). zero_at p.fields.items s.numbers.items (slot_in (tables p).fields name) zeros));
-  texts = same_texts ∙ texts;
-  on = λ other. ap (λ (x : Indicators). on_in x other) same_indicators ∙ on other;
-  division = same_division ∙ division;
+  held = λ rest.
+      change.held rest ∙ (λ i. with_date date (record rest {
+        numbers = fun_ext (λ (name : Name). zero_at p.fields.items s.numbers.items (slot_in (tables p).fields name) zeros) i;
+        texts = fun_ext (λ (name : Name). ap (λ (ts : List (List ℕ)). text_at ts (slot_in (tables p).fields name)) texts ∙ blank_held p name) i;
+        on = fun_ext on i;
+        remainder = remainder_in (division i);
+      }));
 }
+
+-- ---- six digits are a date
+digit_at : (date : List ℕ) (k : ℕ) → are_digits date ≡ true → slice_index date k % 16 < 10
+digit_at [] k all = omega arith
+digit_at (byte ∷ bytes) zero all = below (byte % 16) (and_parts (nat_lt (byte % 16) 10) (are_digits bytes) all).0
+  where
+    below : (n : ℕ) → nat_lt n 10 ≡ true → n < 10
+    below n h = grind (arith, nat_tests, h)
+digit_at (byte ∷ bytes) (suc k) all = digit_at bytes k (and_parts (nat_lt (byte % 16) 10) (are_digits bytes) all).1
+
+pub date_of_digits : (date : List ℕ) → are_digits date ≡ true → IsDate date
+date_of_digits date all = record { month = part 0; day = part 2; year = part 4 }
+  where
+    two : (a b : ℕ) → a < 10 → b < 10 → a * 10 + b < 100
+    two a b above below = omega (arith, above, below)
+
+    part : (k : ℕ) → date_part date k < 100
+    part k = two (slice_index date k % 16) (slice_index date (k + 1) % 16) (digit_at date k all) (digit_at date (k + 1) all)

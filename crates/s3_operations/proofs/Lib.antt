@@ -7,3 +7,8 @@ pub mod OrderLemmas
 pub mod ChangeLemmas
 pub mod GroupLemmas
 pub mod BeginLemmas
+pub mod FieldLemmas
+pub mod IndicatingLemmas
+pub mod TypeLemmas
+pub mod MoveLemmas
+pub mod WithinLemmas

@@ -4,3 +4,6 @@ pub mod Fits
 pub mod Held
 pub mod Groups
 pub mod Beginning
+pub mod Indicating
+pub mod Moves
+pub mod Performing

@@ -91,10 +91,7 @@ impl Values {
     fn put_date(&mut self, program: &Program, date: &[u8; 6])
         requires sound { IsSound program.now self.old }
         requires date { IsDate date.now }
-        ensures change { Changes program.now self.old self.new (λ source. with_date date.now) }
-        ensures texts { self.new.texts ≡ self.old.texts }
-        ensures indicators { self.new.indicators ≡ self.old.indicators }
-        ensures division { self.new.division ≡ self.old.division }
+        ensures { Changes program.now self.old self.new (λ source. with_date date.now) }
     {
         let month = date_part(date, 0);
         let day = date_part(date, 2);

@@ -38,7 +38,10 @@ pub fn rounding(line: &CalculationLine<Reference>) -> Rounding
 
 /// Each indicator with what it is to show.
 #[tactic(auto, using(crate::proofs::MarkLemmas::zip_three, crate::proofs::MarkLemmas::zip_settable))]
-fn marks(indicators: &[Option<Indicator>; 3], shown: [bool; 3]) -> [(Option<Indicator>, bool); 3]
+pub(crate) fn marks(
+    indicators: &[Option<Indicator>; 3],
+    shown: [bool; 3],
+) -> [(Option<Indicator>, bool); 3]
     requires { list_all is_settable_entry indicators.now ≡ true }
     ensures marks { result ≡ zip indicators.now shown }
     ensures settable { are_settable result ≡ true }

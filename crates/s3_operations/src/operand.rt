@@ -5,7 +5,7 @@ ghost use Rattle.s3_program.specs.Tables.{meaning_at, name_of};
 ghost use Rattle.s3_program.specs.Stands.{source_named};
 ghost use Rattle.s3_program.specs.Meant.{is_defined};
 ghost use Rattle.s3_operations.specs.Fits.{tables, named_factor, meant_factor, is_value, is_number, is_text};
-ghost use Rattle.s3_operations.specs.Held.{IsSound, IsOperand, IsNumberOf, IsTextOf, held};
+ghost use Rattle.s3_operations.specs.Held.{IsSound, IsOperand, IsNumberOf, IsTextOf, IsValueOf, held};
 
 use crate::values::Values;
 use s3_decimal::Dec;
@@ -22,10 +22,11 @@ pub enum Operand<'a> {
 
 impl Values {
     /// The value of the field of a slot.
-    fn value(&self, program: &Program, slot: usize) -> Operand<'_>
+    pub fn value(&self, program: &Program, slot: usize) -> Operand<'_>
         requires sound { IsSound program.now self.now }
         requires there { IsTrue (is_defined (meaning_at (tables program.now) (Reference.Field slot))) }
-        ensures { (rest : Environment) → IsOperand (source_named program.now) (held program.now self.now rest) (Some (Factor.Named (name_of (tables program.now) (Reference.Field slot)))) result }
+        ensures operand { (rest : Environment) → IsOperand (source_named program.now) (held program.now self.now rest) (Some (Factor.Named (name_of (tables program.now) (Reference.Field slot)))) result }
+        ensures value { (rest : Environment) → IsValueOf (source_named program.now) (held program.now self.now rest) (name_of (tables program.now) (Reference.Field slot)) result }
     {
         match program.fields[slot].meaning {
             Shape::Numeric(_, _) => Operand::Number(self.numbers[slot]),

@@ -1,5 +1,5 @@
 //! The texts of fields, by slot.
-ghost use Rattle.std.specs.Prelude.{◌≡◌, ◌++◌, List, ℕ, IfOk, OnOk, replicate};
+ghost use Rattle.std.specs.Prelude.{◌≡◌, ◌++◌, List, ℕ, IfOk, OnOk, length, replicate};
 ghost use Rattle.s3_meaning.specs.Calculating.{moved_right, moved_left};
 ghost use Rattle.s3_operations.specs.Texts.{IsCut, texts_on, blank_texts, length_of as length_of_spec};
 
@@ -69,8 +69,15 @@ fn overlay_left(target: &mut [u8], text: &[u8])
     target[..count].copy_from_slice(&text[..count]);
 }
 
+/// Makes a text blank.
+fn overlay_blanks(target: &mut [u8])
+    ensures { target.new ≡ replicate (length target.old) BLANK }
+{
+    target.fill(BLANK);
+}
+
 impl Texts {
-    ghost use Rattle.std.specs.Prelude.{◌≡◌, ◌<◌, Some, length, slice_get, slice_set};
+    ghost use Rattle.std.specs.Prelude.{◌≡◌, ◌<◌, Some, length, replicate, slice_get, slice_set};
     ghost use Rattle.s3_operations.specs.Texts.{text_at};
 
     /// A blank text for each field.
@@ -115,5 +122,14 @@ impl Texts {
     {
         let span = self.spans[slot];
         overlay_left(&mut self.bytes[span.from..span.to], text);
+    }
+
+    /// Makes the text of a slot blank.
+    pub fn clear(&mut self, slot: usize)
+        requires { slot < length self.old }
+        ensures { self.new ≡ slice_set self.old slot (replicate (length (text_at self.old slot)) BLANK) }
+    {
+        let span = self.spans[slot];
+        overlay_blanks(&mut self.bytes[span.from..span.to]);
     }
 }

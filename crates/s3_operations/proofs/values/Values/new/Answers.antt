@@ -21,4 +21,4 @@ returns c =
     let s : Values = record { numbers = c.in_ok-zeros.field-0; texts = c.in_ok-blank.field-0; indicators = c.at_first.result; division = None } in
     begun c.args.program.now c.args.switches c.args.date s c.put_date.new.self
     (subst (λ (fields : List (Defined Shape)). IsZeros fields s.numbers.items) c.as_slice.ensures.value c.in_ok-zeros.ensures) (c.in_ok-blank.ensures ∙ ap blank_texts c.as_slice-2.ensures.value)
-    c.at_first.ensures refl c.put_date.ensures.texts c.put_date.ensures.indicators c.put_date.ensures.division c.put_date.ensures.change
+    c.at_first.ensures refl c.put_date.ensures

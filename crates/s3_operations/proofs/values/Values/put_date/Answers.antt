@@ -39,8 +39,8 @@ put_number-requires-4-clause-digits c = c.whole-4.ensures.digits ∙ sym (date_a
 pub put_number-requires-4-clause-decimals : goal.put_number-requires-4-clause-decimals
 put_number-requires-4-clause-decimals c = c.whole-4.ensures.decimals ∙ sym (date_at c.args.program.now).decimals_is
 
-pub returns-clause-change : goal.returns-clause-change
-returns-clause-change c =
+pub returns : goal.returns
+returns c =
     let p = c.args.program.now in
     dated c.args.date.now p c.args.self.now c.put_number.new.self c.put_number-2.new.self c.put_number-3.new.self c.put_number-4.new.self
     c.whole.result.value c.whole-2.result.value c.whole-3.result.value c.whole-4.result.value _ _ _ _ (year_at p).named (day_at p).named (month_at p).named (date_at p).named

@@ -1,0 +1,140 @@
+-- Indicators that the cycle turns by itself.
+use Rattle.std.proofs.Common.{◌≡◌, ℕ, ◌+◌, ◌<◌, List, [], ◌∷◌, Bool, true, false, not, ◌&&◌, ◌||◌, refl, ◌∙◌, ap, arith, zero, suc, length, get_or}
+use Rattle.std.specs.Prelude.{map, if◌then◌else◌}
+use Rattle.std.specs.List.{list_all}
+use Rattle.std.proofs.Math.Path.{fun_ext}
+use Rattle.std.proofs.lemmas.Bool.{and_parts}
+use Rattle.std.proofs.lemmas.Bool.Decides.{nat_tests}
+use Rattle.s3_lines.specs.declared.indicator.Indicator.{Indicator}
+use Rattle.s3_lines.specs.declared.indicator.Indicator.TheVariants.{General, Level, LastRecord, Matching, Halt, FirstPage, Overflow, Switch}
+use Rattle.s3_lines.specs.declared.sheet.InputLine.{InputLine}
+use Rattle.s3_lines.specs.declared.sheet.InputLine.TheVariants.{Record, And as AndCodes, Or as OrCodes, Field as InputField}
+use Rattle.s3_lines.specs.Ranges.{is_record_indicator, input_in_range}
+use Rattle.s3_meaning.specs.Names.{same_indicator}
+use Rattle.s3_meaning.specs.Selection.{is_level_to}
+use Rattle.s3_meaning.specs.Environment.{Environment, is_level}
+use Rattle.s3_program.specs.declared.program.Program.{Program}
+use Rattle.s3_program.specs.declared.program.Reference.{Reference}
+use Rattle.s3_program.specs.Tables.{Tables, slot_in}
+use Rattle.s3_program.specs.Positions.{are_in_range}
+use Rattle.s3_program.specs.Valid.{meant_input}
+use Rattle.s3_program.specs.Stands.{parts_of}
+use Rattle.s3_program.proofs.SlotLemmas.{kept}
+use Rattle.s3_operations.specs.declared.values.Values.{Values}
+use Rattle.s3_operations.specs.Fits.{tables}
+use Rattle.s3_operations.specs.Held.{held, number_at, text_at, remainder_in, IsSound, Changes, form_of}
+use Rattle.s3_operations.specs.Indicators.{on_in, is_settable, is_settable_entry}
+use Rattle.s3_operations.specs.Indicating.{type_indicator}
+
+-- indicators alone change
+pub turned_by : (f : (Indicator → Bool) → Indicator → Bool) (p : Program) (old new : Values) → IsSound p old → new.numbers.items ≡ old.numbers.items → new.texts ≡ old.texts → new.division ≡ old.division
+    → ((other : Indicator) → on_in new.indicators other ≡ f (on_in old.indicators) other) → Changes p old new (λ source e. record e { on = f e.on })
+unfolding held
+turned_by f p old new sound numbers texts division turned = record {
+  sound = record { numbers = ap (map form_of) numbers ∙ sound.numbers; texts = ap (map (λ (text : List ℕ). length text)) texts ∙ sound.texts };
+  held = λ rest i. record rest {
+    numbers = λ other. number_at (numbers i) (slot_in (tables p).fields other);
+    texts = λ other. text_at (texts i) (slot_in (tables p).fields other);
+    on = fun_ext turned i;
+    remainder = remainder_in (division i);
+  };
+}
+
+-- what values hold of an indicator
+pub held_on : (p : Program) (s : Values) (rest : Environment) (indicator : Indicator) → (held p s rest).on indicator ≡ on_in s.indicators indicator
+unfolding held
+held_on p s rest indicator = refl
+
+-- ---- levels
+pub no_level_yet : (other : Indicator) (to v : Bool) → v ≡ (if is_level_to 0 other then to else v)
+no_level_yet (General n) to v = refl
+no_level_yet (Level n) to v = rw (none n) refl
+  where
+    none : (n : ℕ) → is_level_to 0 (Level n) ≡ false
+    none n = grind (arith, nat_tests)
+no_level_yet LastRecord to v = refl
+no_level_yet Matching to v = refl
+no_level_yet (Halt n) to v = refl
+no_level_yet FirstPage to v = refl
+no_level_yet (Overflow n) to v = refl
+no_level_yet (Switch n) to v = refl
+
+either : (a b to v : Bool) → (if a then to else (if b then to else v)) ≡ (if (a || b) then to else v)
+either true b to v = refl
+either false b to v = refl
+
+pub level_more : (k : ℕ) (other : Indicator) (to v w : Bool) → w ≡ (if is_level_to k other then to else v)
+    → (if same_indicator other (Level (k + 1)) then to else w) ≡ (if is_level_to (k + 1) other then to else v)
+level_more k other to v w before =
+    ap (λ (x : Bool). if same_indicator other (Level (k + 1)) then to else x) before
+    ∙ (either (same_indicator other (Level (k + 1))) (is_level_to k other) to v ∙ ap (λ (b : Bool). if b then to else v) (next other))
+  where
+    next : (other : Indicator) → (same_indicator other (Level (k + 1)) || is_level_to k other) ≡ is_level_to (k + 1) other
+    next (General n) = refl
+    next (Level n) = grind (arith, nat_tests)
+    next LastRecord = refl
+    next Matching = refl
+    next (Halt n) = refl
+    next FirstPage = refl
+    next (Overflow n) = refl
+    next (Switch n) = refl
+
+pub all_levels : (other : Indicator) → is_level_to 9 other ≡ is_level other
+all_levels (General n) = refl
+all_levels (Level n) = grind (arith, nat_tests)
+all_levels LastRecord = refl
+all_levels Matching = refl
+all_levels (Halt n) = refl
+all_levels FirstPage = refl
+all_levels (Overflow n) = refl
+all_levels (Switch n) = refl
+
+pub raised_to : (a v : Bool) → (if a then true else v) ≡ (a || v)
+raised_to true v = refl
+raised_to false v = refl
+
+-- ---- record types
+pub turn_once : (a b to v : Bool) → (if b then to else (if a then to else v)) ≡ (if (a || (b || false)) then to else v)
+turn_once true true to v = refl
+turn_once true false to v = refl
+turn_once false true to v = refl
+turn_once false false to v = refl
+
+pub type_settable : (inputs : List (InputLine Reference)) (k : ℕ) (d : InputLine Reference) → list_all is_settable_entry (map type_indicator inputs) ≡ true → k < length inputs
+    → is_settable_entry (type_indicator (get_or inputs k d)) ≡ true
+type_settable [] k d all within = absurd (omega (arith, within))
+type_settable (line ∷ lines) zero d all within = (and_parts (is_settable_entry (type_indicator line)) (list_all is_settable_entry (map type_indicator lines)) all).0
+type_settable (line ∷ lines) (suc k) d all within =
+    type_settable lines k d (and_parts (is_settable_entry (type_indicator line)) (list_all is_settable_entry (map type_indicator lines)) all).1 (omega (arith, within))
+
+pub record_settable : (indicator : Indicator) → is_record_indicator indicator ≡ true → is_settable indicator ≡ true
+record_settable (General n) h = refl
+record_settable (Level n) h = refl
+record_settable LastRecord h = refl
+record_settable Matching h = refl
+record_settable (Halt n) h = refl
+record_settable FirstPage h = refl
+record_settable (Overflow n) h = refl
+record_settable (Switch n) h = h
+
+all_settable : (tables : Tables) (lines : List (InputLine Reference)) → list_all input_in_range (map (meant_input tables) lines) ≡ true → list_all is_settable_entry (map type_indicator lines) ≡ true
+all_settable tables [] ranged = refl
+all_settable tables (Record file indicator codes ∷ lines) ranged =
+    let parts = and_parts _ (list_all input_in_range (map (meant_input tables) lines)) ranged in
+    rw (record_settable indicator (and_parts (is_record_indicator indicator) _ parts.0).0, all_settable tables lines parts.1) refl
+all_settable tables (AndCodes codes ∷ lines) ranged = all_settable tables lines (and_parts _ (list_all input_in_range (map (meant_input tables) lines)) ranged).1
+all_settable tables (OrCodes indicator codes ∷ lines) ranged =
+    let parts = and_parts _ (list_all input_in_range (map (meant_input tables) lines)) ranged in
+    rw (record_settable indicator (and_parts (is_record_indicator indicator) _ parts.0).0, all_settable tables lines parts.1) refl
+all_settable tables (InputField field ∷ lines) ranged = all_settable tables lines (and_parts _ (list_all input_in_range (map (meant_input tables) lines)) ranged).1
+
+pub types_settable : (p : Program) → list_all is_settable_entry (map type_indicator p.inputs.items) ≡ true
+unfolding are_in_range
+types_settable p =
+    all_settable (tables p) p.inputs.items (and_parts _ _ (and_parts _ _ (and_parts _ _ (kept (parts_of p) p.valid).ranged).0).0).1
+
+pub off_where : (b v : Bool) → (if b then false else v) ≡ (v && not b)
+off_where true true = refl
+off_where true false = refl
+off_where false true = refl
+off_where false false = refl

@@ -1,0 +1,394 @@
+-- The record types of a file are those that start at its places, and their indicators go off file by file.
+use Rattle.std.proofs.Common.{◌≡◌, ℕ, ◌+◌, ◌<◌, ◌≤◌, ◌==◌, ◌&&◌, length, drop, take, get_or, List, [], ◌∷◌, Bool, true, false, not, refl, sym, ◌∙◌, ap, inl, inr, arith, zero, suc, ◌||◌, Vec, Global, zero-add}
+use Rattle.std.specs.Prelude.{Option, Some, None, unwrap_or, option_map, map, filter, filter_map, slice_get, nat_lt, if◌then◌else◌}
+use Rattle.std.specs.List.{list_any, list_all}
+use Rattle.std.specs.Map.{keys_of}
+use Rattle.std.specs.Vec.{vec_len}
+use Rattle.std.proofs.Math.Path.{fun_ext}
+use Rattle.std.proofs.lemmas.Bool.{and_parts, true≢false, cases_Bool}
+use Rattle.std.proofs.lemmas.Bool.Decides.{nat_tests}
+use Rattle.std.proofs.lemmas.List.{length-map, get_or-map, map-append, take_more}
+use Rattle.std.proofs.lemmas.Option.{slice_get_past, slice_get-get_or}
+use Rattle.std.proofs.lemmas.List.Folds.{list_any-append}
+use Rattle.std.proofs.lemmas.List.FromFn.{length-map-range_with_len, get_or-map-range_with_len}
+use Rattle.s3_cards.specs.declared.name.Name.{Name}
+use Rattle.s3_cards.specs.Names.{no_name, same_name}
+use Rattle.s3_lines.specs.declared.indicator.Indicator.{Indicator}
+use Rattle.s3_lines.specs.declared.sheet.Shape.{Shape}
+use Rattle.s3_program.specs.declared.program.Kind.TheVariants as kind
+use Rattle.s3_lines.specs.declared.sheet.RecordCode.{RecordCode}
+use Rattle.s3_lines.specs.declared.sheet.FileLine.{FileLine}
+use Rattle.s3_lines.specs.declared.sheet.InputLine.{InputLine}
+use Rattle.s3_lines.specs.declared.sheet.InputLine.TheVariants.{Record, And as AndCodes, Or as OrCodes, Field as InputField}
+use Rattle.s3_meaning.specs.Names.{same_indicator, is_indicator}
+use Rattle.s3_meaning.specs.Environment.{Environment}
+use Rattle.s3_meaning.specs.Cycle.{without_types}
+use Rattle.s3_program.specs.declared.program.Program.{Program}
+use Rattle.s3_program.specs.declared.program.Reference.{Reference}
+use Rattle.s3_program.specs.declared.program.Reference.TheVariants as slot
+use Rattle.s3_program.specs.declared.program.Meaning.{Meaning}
+use Rattle.s3_program.specs.declared.program.Meaning.TheVariants as meaning
+use Rattle.s3_program.specs.declared.starts.TypeStart.{TypeStart}
+use Rattle.s3_program.specs.declared.standing.InputStanding.{InputStanding}
+use Rattle.s3_program.specs.Standings.{first_input, behind_input}
+use Rattle.s3_program.specs.Matching.{Marks, marks_of}
+use Rattle.s3_program.specs.Conditions.{numbers, is_clear, input_holds, inputs_clear, are_clear}
+use Rattle.s3_program.specs.Distinct.{are_distinct}
+use Rattle.s3_program.specs.Meant.{is_of, input_passes, are_of_kinds}
+use Rattle.s3_program.specs.Started.{type_at}
+use Rattle.s3_program.specs.Starts.{file_slot, is_type_of, types_of_file, type_starts, type_starts_from}
+use Rattle.s3_program.specs.Stands.{parts_of, source_named}
+use Rattle.s3_program.specs.Tables.{Tables, name_in, name_of, meaning_at, or_undefined, item_in}
+use Rattle.s3_program.specs.Valid.{meant_input, meant}
+use Rattle.s3_program.proofs.SlotLemmas.{kept, own_slot, same_slot}
+use Rattle.s3_program.proofs.StartedLemmas.{types_stand}
+use Rattle.s3_operations.specs.declared.values.Values.{Values}
+use Rattle.s3_operations.specs.Fits.{tables}
+use Rattle.s3_operations.specs.Held.{held, IsSound, Changes}
+use Rattle.s3_operations.specs.Indicators.{on_in, turned_all}
+use Rattle.s3_operations.specs.Indicating.{type_indicator, start_indicator, without_types_of}
+use Rattle.s3_operations.proofs.IndicatingLemmas.{turned_by, turn_once, off_where}
+
+-- ---- as many lists of starts as files, and which is whose
+pub as_many : (program : Program) (file : ℕ) → file < length program.files.items → file < vec_len program.starts.types
+as_many program file within =
+    let e : length program.starts.types.items ≡ length program.files.items =
+    sym (length-map program.starts.types.items (λ types. types.items)) ∙ ap length program.starting.types ∙ length-map-range_with_len (types_of_file (type_starts program.files.items program.inputs.items)) 0 (length program.files.items) in
+    grind (arith, e)
+
+-- ---- each start has a file
+no_file : {X : Type 0} (known : X → Meaning) → ((x : X) → is_of kind.File (known x) ≡ false) → (o : Option X) → is_of kind.File (or_undefined known o) ≡ true → ⊥
+no_file known never None of_file = true≢false (sym of_file)
+no_file known never (Some x) of_file = true≢false (sym of_file ∙ never x)
+
+none_of : (p : ℕ → Bool) (xs : List ℕ) (k : ℕ) → list_any p xs ≡ false → k < length xs → p (get_or xs k 0) ≡ false
+none_of p [] k none within = absurd (omega (arith, within))
+none_of p (x ∷ xs) zero none within = elim (cases_Bool (p x)) [
+  | inl is ↦ absurd (true≢false (sym (ap (λ (b : Bool). b || list_any p xs) is) ∙ none))
+  | inr not_it ↦ not_it
+]
+none_of p (x ∷ xs) (suc k) none within = elim (cases_Bool (p x)) [
+  | inl is ↦ absurd (true≢false (sym (ap (λ (b : Bool). b || list_any p xs) is) ∙ none))
+  | inr not_it ↦ none_of p xs k (sym (ap (λ (b : Bool). b || list_any p xs) not_it) ∙ none) (omega (arith, within))
+]
+
+opposite : (b : Bool) → not b ≡ true → b ≡ false
+opposite true h = absurd (true≢false (sym h))
+opposite false h = refl
+
+turned : (b : Bool) → not b ≡ false → b ≡ true
+turned true h = refl
+turned false h = absurd (true≢false h)
+
+-- an OR line goes on with a group
+open_there : (marks : Marks) (at : InputStanding) (indicator : Indicator) (codes : List (Option RecordCode)) → is_clear (input_holds marks at (OrCodes indicator codes)) ≡ true → at.is_open ≡ true
+open_there marks at indicator codes clear =
+    turned at.is_open (none_of (input_holds marks at (OrCodes indicator codes)) numbers 4 (opposite (list_any (input_holds marks at (OrCodes indicator codes)) numbers) clear) (omega arith))
+
+file_there : (tables : Tables) (last : ℕ) (file : Reference) → is_of kind.File (meaning_at tables file) ≡ true → nat_lt (file_slot last file) (length tables.files) ≡ true
+file_there tables last (slot.File k) of_file = elim (cases_Bool (nat_lt k (length tables.files))) [
+  | inl within ↦ within
+  | inr past ↦
+      let none : item_in tables.files k ≡ None = ap (option_map (λ (entry : Name × FileLine). entry.1)) (slice_get_past tables.files k (grind (arith, nat_tests, past))) in
+      absurd (true≢false (sym of_file ∙ ap (λ (o : Option FileLine). is_of kind.File (or_undefined (λ x. meaning.File x) o)) none))
+]
+file_there tables last (slot.Field k) of_file = absurd (no_file (λ (entry : Name × Shape). meaning.Field (record { name = entry.0; meaning = entry.1 })) (λ entry. refl) (slice_get tables.fields k) of_file)
+file_there tables last (slot.Tag k) of_file = absurd (no_file (λ x. meaning.Tag x) (λ x. refl) (item_in tables.tags k) of_file)
+file_there tables last (slot.Subroutine k) of_file = absurd (no_file (λ x. meaning.Subroutine x) (λ x. refl) (item_in tables.subroutines k) of_file)
+
+pub record Open (count last : ℕ) (is_open : Bool) : Type 0 where
+  pub file : is_open ≡ true → nat_lt last count ≡ true
+
+both : (a b : Bool) → a ≡ true → b ≡ true → (a && b) ≡ true
+both a b e f = (λ i. e i && f i)
+
+files_there : (tables : Tables) (marks : Marks) (last place : ℕ) (at : InputStanding) (lines : List (InputLine Reference))
+    → list_all (input_passes is_of) (map (meant_input tables) lines) ≡ true
+    → inputs_clear marks at (map (meant_input tables) lines) ≡ true
+    → Open (length tables.files) last at.is_open
+    → list_all (λ start. nat_lt start.file (length tables.files)) (type_starts_from last place lines) ≡ true
+unfolding type_starts_from
+files_there tables marks last place at [] kinds clear open_file = refl
+files_there tables marks last place at (Record file indicator codes ∷ lines) kinds clear open_file =
+    let kind = and_parts (is_of kind.File (meaning_at tables file)) (list_all (input_passes is_of) (map (meant_input tables) lines)) kinds in
+    let rest = and_parts (is_clear (input_holds marks at (meant_input tables (Record file indicator codes)))) (inputs_clear marks (behind_input at (meant_input tables (Record file indicator codes))) (map (meant_input tables) lines)) clear in
+    let here = file_there tables last file kind.0 in
+    both _ _ here (files_there tables marks (file_slot last file) (place + 1) (behind_input at (meant_input tables (Record file indicator codes))) lines kind.1 rest.1 (record { file = λ is. here }))
+files_there tables marks last place at (AndCodes codes ∷ lines) kinds clear open_file =
+    let rest = and_parts (is_clear (input_holds marks at (AndCodes codes))) (inputs_clear marks (behind_input at (AndCodes codes)) (map (meant_input tables) lines)) clear in
+    files_there tables marks last (place + 1) (behind_input at (AndCodes codes)) lines kinds rest.1 open_file
+files_there tables marks last place at (OrCodes indicator codes ∷ lines) kinds clear open_file =
+    let rest = and_parts (is_clear (input_holds marks at (OrCodes indicator codes))) (inputs_clear marks (behind_input at (OrCodes indicator codes)) (map (meant_input tables) lines)) clear in
+    both _ _ (open_file.file (open_there marks at indicator codes rest.0)) (files_there tables marks last (place + 1) (behind_input at (OrCodes indicator codes)) lines kinds rest.1 open_file)
+files_there tables marks last place at (InputField field ∷ lines) kinds clear open_file =
+    let kind = and_parts (is_of kind.Field (meaning_at tables field.name)) (list_all (input_passes is_of) (map (meant_input tables) lines)) kinds in
+    let rest = and_parts (is_clear (input_holds marks at (meant_input tables (InputField field)))) (inputs_clear marks (behind_input at (meant_input tables (InputField field))) (map (meant_input tables) lines)) clear in
+    files_there tables marks last (place + 1) (behind_input at (meant_input tables (InputField field))) lines kind.1 rest.1 (record { file = λ is. absurd (true≢false (sym is)) })
+
+-- ---- one name, one slot
+name_there : {X : Type 0} (table : List (Name × X)) (k : ℕ) (e : Name × X) → slice_get table k ≡ Some e → name_in table k ≡ e.0
+name_there table k e there = ap (λ o. unwrap_or (option_map (λ (entry : Name × _). entry.0) o) no_name) there
+
+pub same_file : {X : Type 0} (table : List (Name × X)) (k file : ℕ) → are_distinct (keys_of table) ≡ true → nat_lt k (length table) ≡ true → file < length table
+    → same_name (name_in table k) (name_in table file) ≡ (k == file)
+same_file [] k file distinct here there = absurd (omega (arith, there))
+same_file {X} (d ∷ ds) k file distinct here there =
+    let table : List (Name × X) = d ∷ ds in
+    let one = slice_get-get_or table k d (grind (arith, nat_tests, here)) in
+    let two = slice_get-get_or table file d there in
+    (λ i. same_name (name_there table k (get_or table k d) one i) (name_there table file (get_or table file d) two i))
+    ∙ sym (same_slot table file (get_or table file d) (get_or table k d).0 distinct two)
+    ∙ ap (λ n. n == file) (own_slot table k (get_or table k d) distinct one)
+
+-- ---- the type
+pub own_starts : (program : Program) (file : ℕ) (d : Vec TypeStart Global) → file < length program.files.items
+    → (get_or program.starts.types.items file d).items ≡ types_of_file (type_starts program.files.items program.inputs.items) file
+own_starts program file d within =
+    sym (get_or-map (λ (types : Vec TypeStart Global). types.items) program.starts.types.items file d [] (listed within))
+    ∙ (ap (λ (lists : List (List TypeStart)). get_or lists file []) program.starting.types
+    ∙ get_or-map-range_with_len (types_of_file (type_starts program.files.items program.inputs.items)) 0 (length program.files.items) file file [] within (zero-add file))
+  where
+    listed : file < length program.files.items → file < length program.starts.types.items
+    listed h =
+        let e : length program.starts.types.items ≡ length program.files.items =
+        sym (length-map program.starts.types.items (λ types. types.items)) ∙ ap length program.starting.types ∙ length-map-range_with_len (types_of_file (type_starts program.files.items program.inputs.items)) 0 (length program.files.items) in
+        omega (arith, e, h)
+
+pub starts_have_files : (program : Program) → list_all (λ start. nat_lt start.file (length (tables program).files)) (type_starts program.files.items program.inputs.items) ≡ true
+unfolding are_of_kinds are_clear
+starts_have_files program =
+    let keeps = kept (parts_of program) program.valid in
+    let kinds = (and_parts _ _ (and_parts _ _ keeps.kinds).0).0 in
+    let clear = (and_parts _ _ (and_parts _ _ (and_parts _ _ keeps.clear).0).0).1 in
+    files_there (tables program) (marks_of (meant (parts_of program)).inputs) (length program.files.items) 0 first_input program.inputs.items kinds clear (record { file = λ is. absurd (true≢false (sym is)) })
+
+-- ---- each start has a line
+both_hold : (a b : Bool) → a ≡ true → b ≡ true → (a && b) ≡ true
+both_hold a b e f = (λ i. e i && f i)
+
+places_from : (n last place : ℕ) (lines : List (InputLine Reference)) → place + length lines ≤ n → list_all (λ start. nat_lt start.place n) (type_starts_from last place lines) ≡ true
+unfolding type_starts_from
+places_from n last place [] within = refl
+places_from n last place (Record file indicator codes ∷ lines) within =
+    both_hold _ _ (grind (arith, nat_tests, within)) (places_from n (file_slot last file) (place + 1) lines (omega (arith, within)))
+places_from n last place (AndCodes codes ∷ lines) within = places_from n last (place + 1) lines (omega (arith, within))
+places_from n last place (OrCodes indicator codes ∷ lines) within = both_hold _ _ (grind (arith, nat_tests, within)) (places_from n last (place + 1) lines (omega (arith, within)))
+places_from n last place (InputField field ∷ lines) within = places_from n last (place + 1) lines (omega (arith, within))
+
+all_kept : {X : Type 0} (p q : X → Bool) (xs : List X) → list_all p xs ≡ true → list_all p (filter q xs) ≡ true
+all_kept p q [] all = refl
+all_kept p q (x ∷ xs) all =
+    let parts = and_parts (p x) (list_all p xs) all in
+    step (q x) refl parts.0 (all_kept p q xs parts.1)
+  where
+    step : (b : Bool) → q x ≡ b → p x ≡ true → list_all p (filter q xs) ≡ true → list_all p (filter q (x ∷ xs)) ≡ true
+    step true is here later = rw is (both_hold _ _ here later)
+    step false is here later = rw is later
+
+pub places_there : (program : Program) (file : ℕ)
+    → list_all (λ start. nat_lt start.place (length program.inputs.items)) (types_of_file (type_starts program.files.items program.inputs.items) file) ≡ true
+places_there program file =
+    all_kept (λ start. nat_lt start.place (length program.inputs.items)) (is_type_of file) (type_starts program.files.items program.inputs.items)
+    (places_from (length program.inputs.items) (length program.files.items) 0 program.inputs.items (omega arith))
+
+pub place_at : (n k : ℕ) (d : TypeStart) (types : List TypeStart) → list_all (λ start. nat_lt start.place n) types ≡ true → k < length types → (get_or types k d).place < n
+place_at n k d [] all within = absurd (omega (arith, within))
+place_at n zero d (start ∷ types) all within =
+    let here = (and_parts (nat_lt start.place n) (list_all (λ start. nat_lt start.place n) types) all).0 in
+    grind (arith, nat_tests, here)
+place_at n (suc k) d (start ∷ types) all within =
+    place_at n k d types (and_parts (nat_lt start.place n) (list_all (λ start. nat_lt start.place n) types) all).1 (omega (arith, within))
+
+-- ---- indicators go off, start by start
+line_at : (inputs : List (InputLine Reference)) (start : TypeStart) (d : InputLine Reference) → start.place < length inputs → type_indicator (get_or inputs start.place d) ≡ start_indicator inputs start
+line_at inputs start d within = first inputs start.place within
+  where
+    first : (lines : List (InputLine Reference)) (k : ℕ) → k < length lines
+        → type_indicator (get_or lines k d) ≡ start_indicator lines (record { file = start.file; place = k; fields = start.fields })
+    first [] k h = absurd (omega (arith, h))
+    first (line ∷ lines) zero h = refl
+    first (line ∷ lines) (suc k) h = first lines k (omega (arith, h))
+
+pub start_more : (inputs : List (InputLine Reference)) (types : List TypeStart) (k : ℕ) (start : TypeStart) (d : InputLine Reference) (other : Indicator) (v w : Bool) → k < length types
+    → (get_or types k start).place < length inputs
+    → w ≡ turned_all false (map (start_indicator inputs) (take k types)) other v
+    → (if is_indicator other (type_indicator (get_or inputs (get_or types k start).place d)) then false else w) ≡ turned_all false (map (start_indicator inputs) (take (k + 1) types)) other v
+start_more inputs types k start d other v w within there before =
+    rw (line_at inputs (get_or types k start) d there)
+    (rw (before, take_more types k start within, map-append (start_indicator inputs) (take k types) (get_or types k start ∷ []), list_any-append (is_indicator other) (map (start_indicator inputs) (take k types)) (start_indicator inputs (get_or types k start) ∷ []))
+    (turn_once (list_any (is_indicator other) (map (start_indicator inputs) (take k types))) (is_indicator other (start_indicator inputs (get_or types k start))) false v))
+
+-- ---- the types of the source by their starts
+abbrev passes : {Y : Type 0} → (Y → Bool) → Option Y → Bool
+passes p None = false
+passes p (Some y) = p y
+
+nothing : (b : Bool) → false ≡ (b && false)
+nothing true = refl
+nothing false = refl
+
+any_mapped : {X Y : Type 0} (p : Y → Bool) (f : X → Y) (xs : List X) → list_any p (map f xs) ≡ list_any (λ x. p (f x)) xs
+any_mapped p f [] = refl
+any_mapped p f (x ∷ xs) = ap (λ b. p (f x) || b) (any_mapped p f xs)
+
+any_kept : {X : Type 0} (p q : X → Bool) (xs : List X) → list_any p (filter q xs) ≡ list_any (λ x. q x && p x) xs
+any_kept p q [] = refl
+any_kept p q (x ∷ xs) = step (q x) refl (any_kept p q xs)
+  where
+    step : (b : Bool) → q x ≡ b → list_any p (filter q xs) ≡ list_any (λ x. q x && p x) xs → list_any p (filter q (x ∷ xs)) ≡ list_any (λ x. q x && p x) (x ∷ xs)
+    step true is later = rw is (ap (λ b. p x || b) later)
+    step false is later = rw is later
+
+any_found : {X Y : Type 0} (at : X → Option Y) (good holds : X → Bool) (p : Y → Bool) → ((x : X) → good x ≡ true → passes p (at x) ≡ holds x)
+    → (xs : List X) → list_all good xs ≡ true → list_any p (filter_map at xs) ≡ list_any holds xs
+any_found at good holds p same [] all = refl
+any_found at good holds p same (x ∷ xs) all =
+    let parts = and_parts (good x) (list_all good xs) all in
+    step (at x) refl (same x parts.0) (any_found at good holds p same xs parts.1)
+  where
+    step : (o : Option _) → at x ≡ o → passes p (at x) ≡ holds x → list_any p (filter_map at xs) ≡ list_any holds xs → list_any p (filter_map at (x ∷ xs)) ≡ list_any holds (x ∷ xs)
+    step None is here later = rw is (rw (sym here) (rw is later))
+    step (Some y) is here later = rw is (rw (sym here) (rw is (ap (λ b. p y || b) later)))
+
+type_passes : (tables : Tables) (inputs : List (InputLine Reference)) (start : TypeStart) (good : Name → Bool) (other : Indicator)
+    → passes (λ kind. good kind.file && same_indicator other kind.indicator) (type_at tables inputs start) ≡ (good (name_in tables.files start.file) && is_indicator other (start_indicator inputs start))
+type_passes tables inputs start good other = on (drop start.place inputs) refl
+  where
+    on : (lines : List (InputLine Reference)) → drop start.place inputs ≡ lines
+        → passes (λ kind. good kind.file && same_indicator other kind.indicator) (type_at tables inputs start) ≡ (good (name_in tables.files start.file) && is_indicator other (start_indicator inputs start))
+    on [] is = rw is (nothing (good (name_in tables.files start.file)))
+    on (Record file indicator codes ∷ lines) is = rw is refl
+    on (AndCodes codes ∷ lines) is = rw is (nothing (good (name_in tables.files start.file)))
+    on (OrCodes indicator codes ∷ lines) is = rw is refl
+    on (InputField field ∷ lines) is = rw is (nothing (good (name_in tables.files start.file)))
+
+abbrev has_file : Program → TypeStart → Bool
+has_file program start = nat_lt start.file (length (tables program).files)
+
+abbrev shows : Program → Indicator → TypeStart → Bool
+shows program other start = is_indicator other (start_indicator program.inputs.items start)
+
+-- the types of one file
+own_types : (program : Program) (file : ℕ) (other : Indicator) → file < length program.files.items
+    → list_any (λ start. is_type_of file start && shows program other start) (type_starts program.files.items program.inputs.items)
+    ≡ list_any (λ kind. same_name kind.file (name_of (tables program) (slot.File file)) && same_indicator other kind.indicator) (source_named program).types
+own_types program file other within =
+    let keeps = kept (parts_of program) program.valid in
+    sym (any_found (type_at (tables program) program.inputs.items) (has_file program) (λ start. is_type_of file start && shows program other start)
+    (λ kind. same_name kind.file (name_of (tables program) (slot.File file)) && same_indicator other kind.indicator)
+    (λ start good. type_passes (tables program) program.inputs.items start (λ name. same_name name (name_of (tables program) (slot.File file))) other
+    ∙ ap (λ b. b && shows program other start) (same_file (tables program).files start.file file keeps.files_distinct good (fits within)))
+    (type_starts program.files.items program.inputs.items) (starts_have_files program))
+    ∙ ap (list_any (λ kind. same_name kind.file (name_of (tables program) (slot.File file)) && same_indicator other kind.indicator)) (types_stand program)
+  where
+    fits : file < length program.files.items → file < length (tables program).files
+    fits h = grind (arith, length-map, h)
+
+pub types_of_cleared : (p : Program) (file : ℕ) (old new : Values) → IsSound p old → file < length p.files.items → new.numbers.items ≡ old.numbers.items → new.texts ≡ old.texts → new.division ≡ old.division
+    → ((other : Indicator) → on_in new.indicators other
+    ≡ turned_all false (map (start_indicator p.inputs.items) (types_of_file (type_starts p.files.items p.inputs.items) file)) other (on_in old.indicators other))
+    → Changes p old new (without_types_of (name_of (tables p) (slot.File file)))
+types_of_cleared p file old new sound within numbers texts division turned =
+    let starts : List TypeStart = type_starts p.files.items p.inputs.items in
+    let change = turned_by (λ on other. on other && not (list_any (λ kind. same_name kind.file (name_of (tables p) (slot.File file)) && same_indicator other kind.indicator) (source_named p).types)) p old new sound numbers texts division
+    (λ other. turned other ∙ off_where (list_any (is_indicator other) (map (start_indicator p.inputs.items) (types_of_file starts file))) (on_in old.indicators other)
+    ∙ ap (λ b. on_in old.indicators other && not b) (any_mapped (is_indicator other) (start_indicator p.inputs.items) (types_of_file starts file)
+    ∙ any_kept (shows p other) (is_type_of file) starts ∙ own_types p file other within)) in
+    record { sound = change.sound; held = change.held }
+
+-- ---- file by file
+-- the indicators of the types of the first files go off
+abbrev pub without_first : Program → ℕ → Environment → Environment
+without_first p k e = record e { on = λ other. e.on other && not (list_any (λ start. nat_lt start.file k && shows p other start) (type_starts p.files.items p.inputs.items)) }
+
+none_first : {X : Type 0} (f : X → ℕ) (p : X → Bool) (xs : List X) → list_any (λ x. nat_lt (f x) 0 && p x) xs ≡ false
+none_first f p [] = refl
+none_first f p (x ∷ xs) = rw (below (f x)) (none_first f p xs)
+  where
+    below : (n : ℕ) → nat_lt n 0 ≡ false
+    below n = grind (arith, nat_tests)
+
+not_none : (v : Bool) → v ≡ (v && not false)
+not_none true = refl
+not_none false = refl
+
+pub first_none : (p : Program) (old : Values) → IsSound p old → Changes p old old (λ source. without_first p 0)
+unfolding held
+first_none p old sound = record {
+  sound = sound;
+  held = λ rest i. record (held p old rest) {
+    on = fun_ext (λ (other : Indicator). not_none (on_in old.indicators other)
+        ∙ ap (λ b. on_in old.indicators other && not b) (sym (none_first (λ (start : TypeStart). start.file) (shows p other) (type_starts p.files.items p.inputs.items)))) i;
+  };
+}
+
+next_of : (b c d p : Bool) → (b || c) ≡ d → ((b && p) || (c && p)) ≡ (d && p)
+next_of true true d p e = rw (sym e) (twice p)
+  where
+    twice : (p : Bool) → (p || p) ≡ p
+    twice true = refl
+    twice false = refl
+next_of true false d p e = rw (sym e) (plain p)
+  where
+    plain : (p : Bool) → (p || false) ≡ p
+    plain true = refl
+    plain false = refl
+next_of false true d p e = rw (sym e) refl
+next_of false false d p e = rw (sym e) refl
+
+mixed : (a b c d : Bool) → ((a || b) || (c || d)) ≡ ((a || c) || (b || d))
+mixed true b c d = refl
+mixed false b true d = either b
+  where
+    either : (b : Bool) → (b || true) ≡ true
+    either true = refl
+    either false = refl
+mixed false b false d = refl
+
+any_next : {X : Type 0} (f : X → ℕ) (p : X → Bool) (k : ℕ) (xs : List X)
+    → (list_any (λ x. nat_lt (f x) k && p x) xs || list_any (λ x. (f x == k) && p x) xs) ≡ list_any (λ x. nat_lt (f x) (k + 1) && p x) xs
+any_next f p k [] = refl
+any_next f p k (x ∷ xs) =
+    mixed (nat_lt (f x) k && p x) (list_any (λ x. nat_lt (f x) k && p x) xs) ((f x == k) && p x) (list_any (λ x. (f x == k) && p x) xs)
+    ∙ (λ i. next_of (nat_lt (f x) k) (f x == k) (nat_lt (f x) (k + 1)) (p x) (next (f x)) i || any_next f p k xs i)
+  where
+    next : (n : ℕ) → (nat_lt n k || (n == k)) ≡ nat_lt n (k + 1)
+    next n = grind (arith, nat_tests)
+
+and_twice : (v a b : Bool) → ((v && not a) && not b) ≡ (v && not (a || b))
+and_twice true true b = refl
+and_twice true false b = refl
+and_twice false a b = refl
+
+pub first_more : (p : Program) (k : ℕ) (old mid new : Values) → k < length p.files.items → Changes p old mid (λ source. without_first p k)
+    → Changes p mid new (without_types_of (name_of (tables p) (slot.File k))) → Changes p old new (λ source. without_first p (k + 1))
+first_more p k old mid new within before now =
+    let starts : List TypeStart = type_starts p.files.items p.inputs.items in
+    record {
+      sound = now.sound;
+      held = λ rest. now.held rest ∙ ap (without_types_of (name_of (tables p) (slot.File k)) (source_named p)) (before.held rest)
+          ∙ (λ i. record (held p old rest) {
+            on = fun_ext (λ (other : Indicator).
+                and_twice ((held p old rest).on other) (list_any (λ start. nat_lt start.file k && shows p other start) starts)
+                (list_any (λ kind. same_name kind.file (name_of (tables p) (slot.File k)) && same_indicator other kind.indicator) (source_named p).types)
+                ∙ ap (λ b. (held p old rest).on other && not b)
+                (ap (λ b. list_any (λ start. nat_lt start.file k && shows p other start) starts || b) (sym (own_types p k other within))
+                ∙ any_next (λ (start : TypeStart). start.file) (shows p other) k starts)) i;
+          });
+    }
+
+pub first_all : (p : Program) (k : ℕ) (old new : Values) → length p.files.items ≤ k → k ≤ length p.files.items → Changes p old new (λ source. without_first p k) → Changes p old new without_types
+first_all p k old new past within change =
+    let starts : List TypeStart = type_starts p.files.items p.inputs.items in
+    let count : length (tables p).files ≡ k = grind (arith, length-map, past, within) in
+    record {
+      sound = change.sound;
+      held = λ rest. change.held rest
+          ∙ (λ i. record (held p old rest) {
+            on = fun_ext (λ (other : Indicator). ap (λ b. (held p old rest).on other && not b)
+                (sym (any_found (type_at (tables p) p.inputs.items) (has_file p) (λ start. nat_lt start.file k && shows p other start) (λ kind. same_indicator other kind.indicator)
+                (λ start good. type_passes (tables p) p.inputs.items start (λ name. true) other ∙ ap (λ b. b && shows p other start) (sym (ap (nat_lt start.file) (sym count) ∙ good)))
+                starts (starts_have_files p))
+                ∙ ap (list_any (λ kind. same_indicator other kind.indicator)) (types_stand p))) i;
+          });
+    }
