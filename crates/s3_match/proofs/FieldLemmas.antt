@@ -1,18 +1,15 @@
 -- The fields of a record type line by line.
-use Rattle.std.proofs.Common.{◌≡◌, ℕ, ◌+◌, ◌<◌, ◌≤◌, ◌&&◌, ◌==◌, length, drop, get_or, List, [], ◌∷◌, Bool, true, false, refl, sym, ◌∙◌, ap, zero, suc, arith, add-zero}
+use Rattle.std.proofs.Common.{◌≡◌, ℕ, ◌+◌, ◌<◌, ◌≤◌, ◌&&◌, length, drop, get_or, List, [], ◌∷◌, Bool, true, false, refl, sym, ◌∙◌, ap, zero, suc, arith, add-zero}
 use Rattle.std.specs.Prelude.{Option, Some, None, is_some, IsTrue, IfSome, unwrap_or, option_map, map, filter, find, if◌then◌else◌}
 use Rattle.std.specs.Option.{option_or}
 use Rattle.std.specs.List.{list_all}
 use Rattle.std.proofs.lemmas.Bool.{and_parts, true≢false}
-use Rattle.std.proofs.lemmas.Bool.Decides.{nat_tests}
 use Rattle.std.proofs.lemmas.List.{at_drop_more, at_drop_all, length-drop, get_or-drop}
 use Rattle.s3_cards.specs.declared.name.Name.{Name}
 use Rattle.s3_lines.specs.declared.indicator.Indicator.{Indicator}
-use Rattle.s3_lines.specs.declared.indicator.Indicator.TheVariants.{General, LastRecord}
 use Rattle.s3_lines.specs.declared.sheet.FieldLine.{FieldLine}
 use Rattle.s3_lines.specs.declared.sheet.InputLine.{InputLine}
 use Rattle.s3_lines.specs.declared.sheet.InputLine.TheVariants.{Record, And as AndCodes, Or as OrCodes, Field as InputField}
-use Rattle.s3_lines.specs.Indicators.{same_indicator}
 use Rattle.s3_lines.specs.Ranges.{field_in_range, input_in_range}
 use Rattle.s3_meaning.specs.RecordTypes.{RecordType, group_fields}
 use Rattle.s3_meaning.specs.Source.{is_field_of}
@@ -22,7 +19,6 @@ use Rattle.s3_program.specs.declared.program.Program.{Program}
 use Rattle.s3_program.specs.declared.program.Reference.{Reference}
 use Rattle.s3_program.specs.declared.starts.TypeStart.{TypeStart}
 use Rattle.s3_program.specs.Lines.{map_field}
-use Rattle.s3_program.specs.Matching.{indicator_number}
 use Rattle.s3_program.specs.Positions.{are_in_range}
 use Rattle.s3_program.specs.Started.{type_on}
 use Rattle.s3_program.specs.Stands.{parts_of}
@@ -31,12 +27,6 @@ use Rattle.s3_program.specs.Valid.{named_input, meant_input}
 use Rattle.s3_program.proofs.SlotLemmas.{kept}
 use Rattle.s3_match.specs.Types.{tables_in, kind_at, no_type, is_type_start}
 use Rattle.s3_match.specs.Fields.{named_field, is_own, has_level, level_of, field_on, begins_group, first_field, indicator_on, field_at}
-
--- two indicators are the same exactly where their numbers are
-pub by_number : (a b : Indicator) → (indicator_number a == indicator_number b) ≡ same_indicator a b
-by_number (General a) (General b) = grind (arith, nat_tests)
-by_number LastRecord LastRecord = refl
-by_number a b = grind (arith, nat_tests)
 
 -- ---- a loop over lines
 field_here : (indicator : Indicator) (key : Key) (level : Option ℕ) (inputs : List (InputLine Reference)) (from k : ℕ) (d : InputLine Reference) → k < length inputs

@@ -20,17 +20,17 @@ level_same : (n : ℕ) (entry : Option ℕ) → has_level (Some n) entry ≡ is_
 level_same n None = refl
 level_same n (Some m) = refl
 
-level_any : (entry : Option ℕ) → has_level None entry ≡ is_some entry
+pub level_any : (entry : Option ℕ) → has_level None entry ≡ is_some entry
 level_any None = refl
 level_any (Some m) = refl
 
 match_is : (program : Program) (start : TypeStart) (n : ℕ) → field_at program start key.Match (Some n) ≡ match_field (kind_at program start) n
 match_is program start n = λ i. find (λ field. level_same n field.match_level i) (own_fields (kind_at program start))
 
-control_is : (program : Program) (start : TypeStart) (n : ℕ) → field_at program start key.Control (Some n) ≡ control_field (kind_at program start) n
+pub control_is : (program : Program) (start : TypeStart) (n : ℕ) → field_at program start key.Control (Some n) ≡ control_field (kind_at program start) n
 control_is program start n = λ i. find (λ field. level_same n field.control_level i) (own_fields (kind_at program start))
 
-any_found : {X : Type 0} (p : X → Bool) (xs : List X) → is_some (find p xs) ≡ list_any p xs
+pub any_found : {X : Type 0} (p : X → Bool) (xs : List X) → is_some (find p xs) ≡ list_any p xs
 any_found p [] = refl
 any_found p (x ∷ xs) = by (p x) (any_found p xs)
   where
@@ -38,7 +38,7 @@ any_found p (x ∷ xs) = by (p x) (any_found p xs)
     by true later = refl
     by false later = later
 
-is_some_map : {X Y : Type 0} (f : X → Y) (o : Option X) → is_some (option_map f o) ≡ is_some o
+pub is_some_map : {X Y : Type 0} (f : X → Y) (o : Option X) → is_some (option_map f o) ≡ is_some o
 is_some_map f None = refl
 is_some_map f (Some x) = refl
 

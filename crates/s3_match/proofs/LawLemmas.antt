@@ -1,15 +1,16 @@
 -- The first of the least heads, and heads of one key.
-use Rattle.std.proofs.Common.{◌≡◌, ℕ, ◌<◌, ◌&&◌, length, get_or, List, [], ◌∷◌, Bool, true, false, not, refl, sym, ◌∙◌, ap, subst, zero, suc, arith}
-use Rattle.std.specs.Prelude.{Option, Some, None, is_some, ◌↔◌, find, if◌then◌else◌}
-use Rattle.std.specs.Option.{option_or}
+use Rattle.std.proofs.Common.{◌≡◌, ℕ, ◌<◌, ◌&&◌, ◌||◌, length, map, get_or, List, [], ◌∷◌, Bool, true, false, not, refl, sym, ◌∙◌, ap, subst, zero, suc, arith}
+use Rattle.std.specs.Prelude.{Option, Some, None, is_some, ◌↔◌, find, option_map, slice_get, if◌then◌else◌}
+use Rattle.std.specs.Option.{option_and_then, option_or}
 use Rattle.std.specs.List.{Any, list_all, list_any}
 use Rattle.std.proofs.lemmas.Bool.{and_parts, true≢false}
 use Rattle.std.proofs.lemmas.List.Folds.{Any-from_list_any, list_any-from_Any}
-use Rattle.s3_cards.proofs.NameLemmas.{same_codes, equal_codes}
+use Rattle.s3_cards.proofs.NameLemmas.{same_codes, equal_codes, same_name-self}
+use Rattle.s3_cards.specs.Names.{same_name}
 use Rattle.s3_lines.specs.declared.sheet.Designation.TheVariants.{Primary, Secondary}
 use Rattle.s3_meaning.specs.Source.{is_designated}
-use Rattle.s3_meaning.specs.Selection.{Reading, Selected, key_of, is_less, same_key, lesser, least, has_met_end, select_at_end, primary_first, select, is_matched}
-use Rattle.s3_match.specs.Laws.{heads_of, IsFirstLeast, HasKey, IsMatchedBySecondary}
+use Rattle.s3_meaning.specs.Selection.{Head, Unread, InputFile, Reading, Selected, head_of, selectable, is_unread, vacated, taken, key_of, is_less, same_key, lesser, least, has_met_end, select_at_end, primary_first, select, is_matched}
+use Rattle.s3_match.specs.Laws.{heads_of, stands_at, IsFirstLeast, HasKey, IsMatchedBySecondary}
 
 -- ---- the first of the least
 same_some : {X : Type 0} (a b : X) → Some a ≡ Some b → a ≡ b
@@ -91,3 +92,27 @@ primary_matched reading selected own =
     from : IsMatchedBySecondary reading selected → Any (λ other. (is_designated Secondary other.file && same_key (key_of other) (key_of selected)) ≡ true) (heads_of reading)
     from (k, other, within, here, (designated, (key, one, two))) =
         (k, other, within, here, λ i. designated i && there_same (key_of other) (key_of selected) key one two i)
+
+-- ---- a taken head
+emptied : (reading : Reading) (inputs : List InputFile) (selected : Selected) (place : ℕ) → option_and_then selectable (slice_get inputs place) ≡ Some selected
+    → list_any is_unread (map (vacated selected.file.name) inputs) ≡ true
+emptied reading [] selected place e = cc
+emptied reading (input ∷ inputs) selected zero e =
+    (λ i. is_unread (vacated_here i) || list_any is_unread (map (vacated selected.file.name) inputs))
+  where
+    own : (o : Option Head) → option_map (λ head. record { file = input.file; head = head }) o ≡ Some selected → input.file ≡ selected.file
+    own None h = cc
+    own (Some head) h = ap (λ (s : Selected). s.file) (same_some (record { file = input.file; head = head }) selected h)
+
+    vacated_here : vacated selected.file.name input ≡ record input { standing = Unread }
+    vacated_here =
+        ap (λ (b : Bool). if b then record input { standing = Unread } else input)
+        (ap (λ file. same_name input.file.name file.name) (sym (own (head_of input) e)) ∙ same_name-self input.file.name)
+emptied reading (input ∷ inputs) selected (suc place) e = either (is_unread (vacated selected.file.name input)) (emptied reading inputs selected place e)
+  where
+    either : (b : Bool) {c : Bool} → c ≡ true → (b || c) ≡ true
+    either true h = refl
+    either false h = h
+
+pub taken_missed : (reading : Reading) (selected : Selected) (place : ℕ) → stands_at reading place ≡ Some selected → list_any is_unread (taken reading selected).files ≡ true
+taken_missed reading selected place e = emptied reading reading.files selected place e

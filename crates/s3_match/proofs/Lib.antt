@@ -7,3 +7,11 @@ pub mod LawLemmas
 pub mod ControlLemmas
 pub mod SelectLemmas
 pub mod ChoiceLemmas
+pub mod ReadLemmas
+pub mod SlotLemmas
+pub mod ReadingLemmas
+pub mod TakeLemmas
+pub mod BeginLemmas
+pub mod UnreadLemmas
+pub mod HoldLemmas
+pub mod AnswerLemmas

@@ -197,7 +197,7 @@ files_there tables marks last place at (InputField field ∷ lines) kinds clear 
 name_there : {X : Type 0} (table : List (Name × X)) (k : ℕ) (e : Name × X) → slice_get table k ≡ Some e → name_in table k ≡ e.0
 name_there table k e there = ap (λ o. unwrap_or (option_map (λ (entry : Name × _). entry.0) o) no_name) there
 
-same_file : {X : Type 0} (table : List (Name × X)) (k file : ℕ) → are_distinct (keys_of table) ≡ true → nat_lt k (length table) ≡ true → file < length table
+pub same_file : {X : Type 0} (table : List (Name × X)) (k file : ℕ) → are_distinct (keys_of table) ≡ true → nat_lt k (length table) ≡ true → file < length table
     → same_name (name_in table k) (name_in table file) ≡ (k == file)
 same_file [] k file distinct here there = absurd (omega (arith, there))
 same_file {X} (d ∷ ds) k file distinct here there =

@@ -1,5 +1,6 @@
 -- What the laws of selection say.
-use Rattle.std.specs.Prelude.{ℕ, ◌≡◌, true, List, ◌∷◌, ◌++◌, Option, Some, filter_map}
+use Rattle.std.specs.Prelude.{ℕ, ◌≡◌, true, List, ◌∷◌, ◌++◌, Option, Some, filter_map, slice_get}
+use Rattle.std.specs.Option.{option_and_then}
 use Rattle.std.specs.List.{All, Any}
 use Rattle.s3_lines.specs.declared.sheet.Designation.TheVariants.{Secondary}
 use Rattle.s3_meaning.specs.Source.{is_designated}
@@ -7,6 +8,10 @@ use Rattle.s3_meaning.specs.Selection.{Reading, Selected, selectable, key_of, is
 
 abbrev pub heads_of : Reading → List Selected
 heads_of reading = filter_map selectable reading.files
+
+-- the head of the file at the place
+abbrev pub stands_at : Reading → (place : ℕ) → Option Selected
+stands_at reading place = option_and_then selectable (slice_get reading.files place)
 
 -- every head before the selected one has a higher key
 pub record IsFirstLeast (heads : List Selected) (selected : Selected) : Type 0 where

@@ -6,3 +6,6 @@ pub mod Heads
 pub mod Controls
 pub mod Selecting
 pub mod Choice
+pub mod Reading
+pub mod Beginning
+pub mod Inner

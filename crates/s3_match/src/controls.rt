@@ -1,11 +1,20 @@
 //! Control breaks: the control field that is held for each level.
 
-ghost use Rattle.std.specs.Prelude.{◌≡◌, ◌≤◌, IsTrue, length};
+ghost use Rattle.std.specs.Prelude.{◌≡◌, ◌≤◌, ◌==◌, ℕ, IsTrue, None, is_some, length, if◌then◌else◌};
+ghost use Rattle.std.specs.Option.{option_or};
+ghost use Rattle.std.specs.List.{list_any};
+ghost use Rattle.s3_meaning.specs.Selection.{control_field, control_value};
+ghost use Rattle.s3_meaning.specs.Source.{has_control_fields as has_control_fields_spec, has_levels as has_levels_spec};
+ghost use Rattle.s3_program.specs.Stands.{source_named};
+ghost use Rattle.s3_program.specs.Starts.{is_type};
 ghost use Rattle.s3_match.specs.Types.{is_type_start, kind_at};
 ghost use Rattle.s3_match.specs.Controls as spec;
 
+use crate::fields::field_at;
 use crate::keys::{LEVELS, RecordKey};
-use s3_program::program::Program;
+use s3_lines::sheet::InputLine;
+use s3_program::mark::Key;
+use s3_program::program::{Program, Reference};
 use s3_program::starts::TypeStart;
 
 /// Whether the type names a level, and its field differs from the one held. `value` becomes what the field compares.
@@ -49,4 +58,143 @@ pub fn break_level(
         }
     }
     0
+}
+
+/// Whether a type names a level.
+#[tactic(auto, using(crate::proofs::HoldLemmas::level_named))]
+fn names_level(program: &Program, start: TypeStart, level: u8) -> bool
+    requires { IsTrue (is_type_start program.now start) }
+    ensures { result ≡ is_some (control_field (kind_at program.now start) level) }
+{
+    field_at(program, start, Key::Control, Some(level)).is_some()
+}
+
+/// Whether a type has control fields.
+#[tactic(auto, using(crate::proofs::HoldLemmas::any_named))]
+pub fn has_control_fields(program: &Program, start: TypeStart) -> bool
+    requires { IsTrue (is_type_start program.now start) }
+    ensures { result ≡ has_control_fields_spec (kind_at program.now start) }
+{
+    field_at(program, start, Key::Control, None).is_some()
+}
+
+/// Whether a line has a field with a control level.
+fn names_some_level(line: &InputLine<Reference>) -> bool
+    ensures { result ≡ spec.names_some_level line.now }
+{
+    match line {
+        InputLine::Field(field) => field.control_level.is_some(),
+        InputLine::Record(..) | InputLine::And(_) | InputLine::Or(..) => false,
+    }
+}
+
+fn some_names_level(lines: &[InputLine<Reference>]) -> bool
+    ensures { result ≡ list_any spec.names_some_level lines.now }
+{
+    lines.iter().any(|line| names_some_level(line))
+}
+
+/// Whether a record type starts at a line.
+fn starts_type(line: &InputLine<Reference>) -> bool
+    ensures { result ≡ is_type line.now }
+{
+    match line {
+        InputLine::Record(..) | InputLine::Or(..) => true,
+        InputLine::And(_) | InputLine::Field(_) => false,
+    }
+}
+
+/// Whether a line behind the start of a type has a field with a control level.
+#[tactic(auto, using(crate::proofs::HoldLemmas::types_begin, crate::proofs::HoldLemmas::no_type_yet, crate::proofs::HoldLemmas::no_type_at_all))]
+fn some_type_names_level(lines: &[InputLine<Reference>]) -> bool
+    ensures { result ≡ spec.some_type_names_level lines.now }
+{
+    for place in 0..lines.len() {
+        if starts_type(&lines[place]) {
+            return some_names_level(&lines[place + 1..]);
+        }
+    }
+    false
+}
+
+/// Whether a program has control fields.
+#[tactic(auto, using(crate::proofs::HoldLemmas::program_levels))]
+pub fn has_levels(program: &Program) -> bool
+    ensures { result ≡ has_levels_spec (source_named program.now) }
+{
+    some_type_names_level(&program.inputs)
+}
+
+/// Holds the control field of a level, if the type names it.
+fn hold_level(held: &mut [RecordKey], program: &Program, start: TypeStart, level: u8, bytes: &[u8])
+    requires starts { IsTrue (is_type_start program.now start) }
+    requires nine { length held.old ≡ 9 }
+    requires from_one { 1 ≤ level }
+    requires to_nine { level ≤ 9 }
+    ensures { (other : ℕ) → spec.held_in held.new other
+        ≡ (if other == level then option_or (control_value (kind_at program.now start) bytes.now level) (spec.held_in held.old level) else spec.held_in held.old other) }
+{
+    if names_level(program, start, level) {
+        held[(level - 1) as usize].read_control(program, start, level, bytes);
+    }
+}
+
+/// Holds the control fields of the levels that the type names.
+#[tactic(auto, using(crate::proofs::HoldLemmas::held_at_first, crate::proofs::HoldLemmas::held_one_more, crate::proofs::HoldLemmas::held_all))]
+fn hold_levels(held: &mut [RecordKey], program: &Program, start: TypeStart, bytes: &[u8])
+    requires starts { IsTrue (is_type_start program.now start) }
+    requires nine { length held.old ≡ 9 }
+    ensures { (level : ℕ) → spec.held_in held.new level ≡ option_or (control_value (kind_at program.now start) bytes.now level) (spec.held_in held.old level) }
+{
+    for step in 0..LEVELS {
+        hold_level(held, program, start, step + 1, bytes);
+    }
+}
+
+/// The control fields that are held.
+#[derive(Drop)]
+pub struct Controls {
+    /// Those of L1 to L9.
+    pub held: [RecordKey; 9],
+    /// What one of a record compares, while it is read.
+    pub value: RecordKey,
+}
+
+impl Controls {
+    /// None is held yet.
+    pub fn none() -> Controls
+        ensures { (level : ℕ) → spec.held_in result.held level ≡ None }
+    {
+        Controls {
+            held: [
+                RecordKey::none(),
+                RecordKey::none(),
+                RecordKey::none(),
+                RecordKey::none(),
+                RecordKey::none(),
+                RecordKey::none(),
+                RecordKey::none(),
+                RecordKey::none(),
+                RecordKey::none(),
+            ],
+            value: RecordKey::none(),
+        }
+    }
+
+    /// The greatest level that breaks, 0 if none.
+    pub fn break_level(&mut self, program: &Program, start: TypeStart, bytes: &[u8]) -> u8
+        requires { IsTrue (is_type_start program.now start) }
+        ensures level { result ≡ spec.break_of (spec.held_in self.old.held) (kind_at program.now start) bytes.now }
+        ensures held { self.new.held ≡ self.old.held }
+    {
+        break_level(&self.held, &mut self.value, program, start, bytes)
+    }
+
+    /// Holds the control fields of a record, of the levels that its type names.
+    pub fn hold(&mut self, program: &Program, start: TypeStart, bytes: &[u8])
+        requires { IsTrue (is_type_start program.now start) }
+        ensures { (level : ℕ) → spec.held_in self.new.held level ≡ option_or (control_value (kind_at program.now start) bytes.now level) (spec.held_in self.old.held level) }
+    {
+        hold_levels(&mut self.held, program, start, bytes);
+    }
 }

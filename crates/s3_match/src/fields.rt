@@ -1,9 +1,7 @@
 //! Finds the match and control fields of a record type.
 
 ghost use Rattle.std.specs.Prelude.{◌≡◌, drop, IsTrue, IfSome, option_map};
-ghost use Rattle.s3_lines.specs.Indicators.{same_indicator};
 ghost use Rattle.s3_lines.specs.Ranges.{field_in_range};
-ghost use Rattle.s3_program.specs.Matching.{indicator_number};
 ghost use Rattle.s3_match.specs.Types.{is_type_start, kind_at};
 ghost use Rattle.s3_match.specs.Fields as spec;
 
@@ -13,35 +11,12 @@ use s3_program::mark::Key;
 use s3_program::program::{Program, Reference};
 use s3_program::starts::TypeStart;
 
-/// An indicator as a number, which no other has.
-fn number_of(indicator: Indicator) -> u16
-    ensures { result ≡ indicator_number indicator }
-{
-    match indicator {
-        Indicator::General(number) => 8 * number as u16,
-        Indicator::Level(number) => 8 * number as u16 + 1,
-        Indicator::LastRecord => 2,
-        Indicator::Matching => 3,
-        Indicator::Halt(number) => 8 * number as u16 + 4,
-        Indicator::FirstPage => 5,
-        Indicator::Overflow(number) => 8 * number as u16 + 6,
-        Indicator::Switch(number) => 8 * number as u16 + 7,
-    }
-}
-
-#[tactic(auto, using(crate::proofs::FieldLemmas::by_number))]
-fn is_same(one: Indicator, other: Indicator) -> bool
-    ensures { result ≡ same_indicator one other }
-{
-    number_of(one) == number_of(other)
-}
-
 /// A field with an entry in 63-64 is one of the types with that indicator alone.
 fn is_own(indicator: Indicator, relation: Option<Indicator>) -> bool
     ensures { result ≡ spec.is_own indicator relation }
 {
     match relation {
-        Some(other) => is_same(indicator, other),
+        Some(other) => indicator.is(other),
         None => true,
     }
 }

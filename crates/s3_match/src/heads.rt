@@ -49,7 +49,9 @@ pub struct InputFile {
 impl InputFile {
     /// A file of which nothing was read.
     pub fn unread(file: usize) -> InputFile
-        ensures { (program : Program) → spec.input_of program result ≡ spec.unread program file }
+        ensures input { (program : Program) → spec.input_of program result ≡ spec.unread program file }
+        ensures slot { result.file ≡ file }
+        ensures unread { spec.is_unread result ≡ true }
     {
         InputFile {
             file,
@@ -83,14 +85,18 @@ impl InputFile {
 
     /// Nothing comes any more.
     pub fn end(&mut self)
-        ensures { (program : Program) → spec.input_of program self.new ≡ spec.ended (spec.input_of program self.old) }
+        ensures input { (program : Program) → spec.input_of program self.new ≡ spec.ended (spec.input_of program self.old) }
+        ensures slot { self.new.file ≡ self.old.file }
+        ensures head { spec.has_head self.new ≡ false }
     {
         self.standing = Standing::Ended;
     }
 
     /// The record at its head is taken; its bytes stay until the next one is put there.
     pub fn vacate(&mut self)
-        ensures { (program : Program) → spec.input_of program self.new ≡ spec.vacated (spec.input_of program self.old) }
+        ensures input { (program : Program) → spec.input_of program self.new ≡ spec.vacated (spec.input_of program self.old) }
+        ensures slot { self.new.file ≡ self.old.file }
+        ensures unread { spec.is_unread self.new ≡ true }
     {
         self.standing = Standing::Unread;
     }
@@ -100,6 +106,7 @@ impl InputFile {
         requires { spec.is_unread self.old ≡ true }
         ensures unread { spec.is_unread self.new ≡ true }
         ensures counted { (program : Program) → spec.input_of program self.new ≡ counted_read (spec.input_of program self.old) }
+        ensures slot { self.new.file ≡ self.old.file }
     {
         if self.reads < MOST_READS {
             self.reads += 1;
@@ -116,6 +123,8 @@ impl InputFile {
         ensures in_sequence { result ≡ meaning.in_sequence (meaning.match_key (kind_at program.now start) bytes.now) (spec.input_of program.now self.old).last_key }
         ensures input { spec.input_of program.now self.new ≡ (if result then spec.put program.now start bytes.now (spec.input_of program.now self.old) else spec.input_of program.now self.old) }
         ensures sound { spec.IsInput program.now self.new }
+        ensures slot { self.new.file ≡ self.old.file }
+        ensures unread { spec.is_unread self.new ≡ not result }
     {
         self.key.read(program, start, bytes);
         if self.key.is_less(&self.last_key) {

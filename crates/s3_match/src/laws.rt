@@ -1,11 +1,24 @@
-//! What selection and MR say, in the words of the field.
+//! What selection, MR and the reading of files say, in the words of the field.
 
-ghost use Rattle.std.specs.Prelude.{◌≡◌, ◌↔◌, List, true, false, IsTrue, is_some};
-ghost use Rattle.std.specs.List.{list_all};
+ghost use Rattle.std.specs.Prelude.{◌≡◌, ◌+◌, ◌<◌, ◌≤◌, ◌↔◌, ℕ, List, Some, None, true, false, is_some, length, slice_set};
+ghost use Rattle.std.specs.List.{list_all, list_any};
 ghost use Rattle.s3_lines.specs.declared.sheet.Designation.TheVariants.{Primary};
-ghost use Rattle.s3_meaning.specs.Source.{is_designated};
-ghost use Rattle.s3_meaning.specs.Selection.{Reading, Selected, key_of, least, has_met_end, primary_first, select, is_matched};
-ghost use Rattle.s3_match.specs.Laws.{heads_of, IsFirstLeast, IsMatchedBySecondary, HasKey};
+ghost use Rattle.s3_meaning.specs.Source.{Source, is_designated};
+ghost use Rattle.s3_meaning.specs.Selection.{Head, InputFile, Reading, Selected, key_of, is_unread, taken, type_of, in_sequence, match_key, break_level, least, has_met_end, primary_first, select, is_matched};
+ghost use Rattle.s3_meaning.specs.Cycle.{files_read, file_read, on_read, counted_read};
+ghost use Rattle.s3_meaning.specs.Environment.{Environment};
+ghost use Rattle.s3_meaning.specs.Runs.{Rest, Anew, halted};
+ghost use Rattle.s3_meaning.specs.Requests.{Answer, Found};
+ghost use Rattle.s3_meaning.specs.RecordTypes.{RecordType};
+ghost use Rattle.s3_operator.specs.declared.halt_code.HaltCode.TheVariants.{OutOfSequence, UnidentifiedRecord};
+ghost use Rattle.s3_program.specs.declared.program.Program.{Program};
+ghost use Rattle.s3_program.specs.declared.starts.TypeStart.{TypeStart};
+ghost use Rattle.s3_program.specs.Stands.{source_named};
+ghost use Rattle.s3_match.specs.Types.{kind_at};
+ghost use Rattle.s3_match.specs.Controls.{break_of};
+ghost use Rattle.s3_match.specs.Heads.{ended, put};
+ghost use Rattle.s3_match.specs.Laws.{heads_of, stands_at, IsFirstLeast, IsMatchedBySecondary, HasKey};
+ghost use Rattle.s3_match.specs.Reading.{input_at, read_from, read_behind, on_record, is_record, AreRead, IsNextUnread};
 
 /// Where all heads have match fields, the selected one is the first least one, the primary standing before the secondary files and
 /// these in F order: each head before it has a higher key.
@@ -19,4 +32,42 @@ pub fn ties_go_to_the_first()
 pub fn records_match_by_keys()
     ensures primary { (reading : Reading) (selected : Selected) → is_designated Primary selected.file ≡ true → (is_matched reading selected ≡ true) ↔ IsMatchedBySecondary reading selected }
     ensures secondary { (reading : Reading) (selected : Selected) → is_designated Primary selected.file ≡ false → (is_matched reading selected ≡ true) ↔ HasKey selected reading.primary_key }
+{}
+
+/// The level that breaks by the control fields that are held is that of an environment that holds them.
+pub fn levels_break_by_what_is_held()
+    ensures { (e : Environment) (head : Head) → break_of e.held head.kind head.bytes ≡ break_level e head }
+{}
+
+/// After a head of one of its files is taken, a file is to be read.
+pub fn a_taken_head_is_missed()
+    ensures { (reading : Reading) (selected : Selected) (place : ℕ) → stands_at reading place ≡ Some selected → list_any is_unread (taken reading selected).files ≡ true }
+{}
+
+/// Files are read one after another: those whose head stands, or that have ended, are passed over, and behind the first one that is
+/// to be read the others are read on, whatever its reading puts in its place.
+pub fn files_are_read_in_turn()
+    ensures whole { (source : Source) (anew : Anew) (inputs : List InputFile) (go : List InputFile → Rest) → files_read source anew inputs go ≡ read_from source anew inputs 0 go }
+    ensures next { (source : Source) (anew : Anew) (inputs : List InputFile) (from place : ℕ) (go : List InputFile → Rest) (e : Environment) → IsNextUnread inputs from place
+        → read_from source anew inputs from go e ≡ file_read source anew (input_at inputs place) (λ input. read_from source anew (slice_set inputs place input) (place + 1) go) e }
+    ensures none { (source : Source) (anew : Anew) (inputs : List InputFile) (from : ℕ) (go : List InputFile → Rest) (e : Environment) → from ≤ length inputs → AreRead inputs from (length inputs)
+        → read_from source anew inputs from go e ≡ go inputs e }
+{}
+
+/// A record that was read is counted. One of a type stands at the head of its file if it is in sequence, and the files behind are
+/// read on; any other one halts, and its file is read again. Where there is no record the file has ended.
+pub fn an_answer_stands_at_its_file()
+    ensures counted { (source : Source) (anew : Anew) (inputs : List InputFile) (place : ℕ) (bytes : List ℕ) (go : List InputFile → Rest) (e : Environment) → place < length inputs
+        → on_read source anew (input_at inputs place) (read_behind source anew inputs place go) (Found bytes) e ≡ on_record source anew (slice_set inputs place (counted_read (input_at inputs place))) place bytes go e }
+    ensures stands { (program : Program) (anew : Anew) (inputs : List InputFile) (place : ℕ) (start : TypeStart) (bytes : List ℕ) (go : List InputFile → Rest) (e : Environment)
+        → type_of (source_named program) (input_at inputs place).file.name bytes ≡ Some (kind_at program start) → in_sequence (match_key (kind_at program start) bytes) (input_at inputs place).last_key ≡ true
+        → on_record (source_named program) anew inputs place bytes go e ≡ read_from (source_named program) anew (slice_set inputs place (put program start bytes (input_at inputs place))) (place + 1) go e }
+    ensures out_of_sequence { (source : Source) (anew : Anew) (inputs : List InputFile) (place : ℕ) (kind : RecordType) (bytes : List ℕ) (go : List InputFile → Rest) (e : Environment)
+        → type_of source (input_at inputs place).file.name bytes ≡ Some kind → in_sequence (match_key kind bytes) (input_at inputs place).last_key ≡ false
+        → on_record source anew inputs place bytes go e ≡ halted anew OutOfSequence (anew.read (input_at inputs place) (read_behind source anew inputs place go)) e }
+    ensures unidentified { (source : Source) (anew : Anew) (inputs : List InputFile) (place : ℕ) (bytes : List ℕ) (go : List InputFile → Rest) (e : Environment)
+        → type_of source (input_at inputs place).file.name bytes ≡ None
+        → on_record source anew inputs place bytes go e ≡ halted anew UnidentifiedRecord (anew.read (input_at inputs place) (read_behind source anew inputs place go)) e }
+    ensures ended { (source : Source) (anew : Anew) (inputs : List InputFile) (place : ℕ) (answer : Answer) (go : List InputFile → Rest) (e : Environment) → is_record answer ≡ false
+        → on_read source anew (input_at inputs place) (read_behind source anew inputs place go) answer e ≡ read_from source anew (slice_set inputs place (ended (input_at inputs place))) (place + 1) go e }
 {}

@@ -8,6 +8,7 @@ pub mod fields;
 pub mod heads;
 pub mod keys;
 pub mod laws;
+pub mod reading;
 pub mod selection;
 mod types;
 

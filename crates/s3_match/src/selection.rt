@@ -12,33 +12,9 @@ ghost use Rattle.s3_match.specs.Selecting as spec;
 
 use crate::heads::InputFile;
 use crate::keys::RecordKey;
-use s3_lines::sheet::{Designation, FileLine};
 use s3_program::program::Program;
 
-fn is_primary_line(file: &FileLine) -> bool
-    ensures { result ≡ is_designated Primary file.now }
-{
-    match file.designation {
-        Some(designation) => match designation {
-            Designation::Primary => true,
-            Designation::Secondary | Designation::Chained => false,
-        },
-        None => false,
-    }
-}
-
-fn is_secondary_line(file: &FileLine) -> bool
-    ensures { result ≡ is_designated Secondary file.now }
-{
-    match file.designation {
-        Some(designation) => match designation {
-            Designation::Secondary => true,
-            Designation::Primary | Designation::Chained => false,
-        },
-        None => false,
-    }
-}
-
+/// Whether an input's file is a primary file of the program.
 #[tactic(auto, using(crate::proofs::SelectLemmas::file_here, crate::proofs::SelectLemmas::file_past))]
 pub fn is_primary(program: &Program, input: &InputFile) -> bool
     ensures { result ≡ is_designated Primary (file_at program.now input.now.file) }
@@ -46,9 +22,10 @@ pub fn is_primary(program: &Program, input: &InputFile) -> bool
     if input.file >= program.files.len() {
         return false;
     }
-    is_primary_line(&program.files[input.file])
+    program.files[input.file].is_primary()
 }
 
+/// Whether an input's file is a secondary file of the program.
 #[tactic(auto, using(crate::proofs::SelectLemmas::file_here, crate::proofs::SelectLemmas::file_past))]
 pub fn is_secondary(program: &Program, input: &InputFile) -> bool
     ensures { result ≡ is_designated Secondary (file_at program.now input.now.file) }
@@ -56,7 +33,7 @@ pub fn is_secondary(program: &Program, input: &InputFile) -> bool
     if input.file >= program.files.len() {
         return false;
     }
-    is_secondary_line(&program.files[input.file])
+    program.files[input.file].is_secondary()
 }
 
 #[tactic(auto, using(crate::proofs::SelectLemmas::file_here, crate::proofs::SelectLemmas::file_past))]

@@ -1,0 +1,197 @@
+-- Control fields are held for the levels that a type names.
+use Rattle.std.proofs.Common.{◌≡◌, ℕ, ◌+◌, ◌<◌, ◌≤◌, ◌==◌, ◌&&◌, ◌||◌, length, map, drop, get_or, List, [], ◌∷◌, Bool, true, false, refl, sym, ◌∙◌, ap, zero, suc, arith, inl, inr}
+use Rattle.std.specs.Prelude.{Option, Some, None, is_some, IsTrue, IfSome, option_map, nat_le, if◌then◌else◌}
+use Rattle.std.specs.Option.{option_or}
+use Rattle.std.specs.List.{list_any}
+use Rattle.std.proofs.lemmas.Bool.{cases_Bool, and_parts, true≢false}
+use Rattle.std.proofs.lemmas.Bool.Decides.{nat_tests}
+use Rattle.std.proofs.lemmas.List.{at_drop_more, at_drop_all}
+use Rattle.s3_cards.specs.declared.name.Name.{Name}
+use Rattle.s3_cards.specs.Names.{no_name}
+use Rattle.s3_lines.specs.declared.indicator.Indicator.{Indicator}
+use Rattle.s3_lines.specs.declared.sheet.FieldLine.{FieldLine}
+use Rattle.s3_lines.specs.declared.sheet.InputLine.{InputLine}
+use Rattle.s3_lines.specs.declared.sheet.InputLine.TheVariants.{Record, And as AndCodes, Or as OrCodes, Field as InputField}
+use Rattle.s3_lines.specs.Ranges.{is_between, if_given, field_in_range}
+use Rattle.s3_meaning.specs.RecordTypes.{RecordType, group_fields, types_from}
+use Rattle.s3_meaning.specs.Source.{own_fields, has_control_fields, has_levels}
+use Rattle.s3_meaning.specs.Selection.{compared_field, control_field, control_value}
+use Rattle.s3_program.specs.declared.mark.Key.TheVariants as key
+use Rattle.s3_program.specs.declared.program.Program.{Program}
+use Rattle.s3_program.specs.declared.program.Reference.{Reference}
+use Rattle.s3_program.specs.declared.starts.TypeStart.{TypeStart}
+use Rattle.s3_program.specs.Starts.{is_type}
+use Rattle.s3_program.specs.Stands.{source_named}
+use Rattle.s3_program.specs.Tables.{Tables, name_of}
+use Rattle.s3_program.specs.Valid.{named, named_input}
+use Rattle.s3_match.specs.declared.keys.RecordKey.{RecordKey}
+use Rattle.s3_match.specs.Types.{tables_in, is_type_start, kind_at}
+use Rattle.s3_match.specs.Fields.{named_field, is_own, has_level, first_field, field_at}
+use Rattle.s3_match.specs.Controls.{held_in, names_some_level, some_type_names_level}
+use Rattle.s3_match.specs.Inner.Holding.{AreHeldTo}
+use Rattle.s3_match.proofs.FieldLemmas.{field_is, field_ranged}
+use Rattle.s3_match.proofs.KeyLemmas.{control_is, level_any, any_found, is_some_map}
+
+-- ---- whether a level is named
+pub level_named : (program : Program) (start : TypeStart) (n : ℕ) (field : Option (FieldLine Reference)) (found : Bool) → found ≡ is_some field
+    → option_map (named_field program) field ≡ field_at program start key.Control (Some n) → found ≡ is_some (control_field (kind_at program start) n)
+level_named program start n field found is e = is ∙ sym (is_some_map (named_field program) field) ∙ ap is_some (e ∙ control_is program start n)
+
+pub any_named : (program : Program) (start : TypeStart) (field : Option (FieldLine Reference)) (found : Bool) → found ≡ is_some field
+    → option_map (named_field program) field ≡ field_at program start key.Control None → found ≡ has_control_fields (kind_at program start)
+any_named program start field found is e =
+    is ∙ sym (is_some_map (named_field program) field) ∙ ap is_some e
+    ∙ any_found (λ (field : FieldLine Name). has_level None field.control_level) (own_fields (kind_at program start))
+    ∙ (λ i. list_any (λ field. level_any field.control_level i) (own_fields (kind_at program start)))
+
+-- a field that is found has the level
+found_level : (indicator : Indicator) (n : ℕ) (lines : List (InputLine Reference)) → IfSome (first_field indicator key.Control (Some n) lines) (λ field. has_level (Some n) field.control_level ≡ true)
+unfolding first_field
+found_level indicator n [] = tt
+found_level indicator n (Record file other codes ∷ lines) = tt
+found_level indicator n (AndCodes codes ∷ lines) = found_level indicator n lines
+found_level indicator n (OrCodes other codes ∷ lines) = found_level indicator n lines
+found_level indicator n (InputField field ∷ lines) = by (is_own indicator field.relation && has_level (Some n) field.control_level) refl (found_level indicator n lines)
+  where
+    by : (b : Bool) → (is_own indicator field.relation && has_level (Some n) field.control_level) ≡ b → IfSome (first_field indicator key.Control (Some n) lines) (λ field. has_level (Some n) field.control_level ≡ true)
+        → IfSome (option_or (if b then Some field else None) (first_field indicator key.Control (Some n) lines)) (λ field. has_level (Some n) field.control_level ≡ true)
+    by true e later = (and_parts (is_own indicator field.relation) (has_level (Some n) field.control_level) e).1
+    by false e later = later
+
+no_such_level : (n : ℕ) (entry : Option ℕ) → is_between 1 9 n ≡ false → has_level (Some n) entry ≡ true → if_given (is_between 1 9) entry ≡ true → ⊥
+no_such_level n None out has ranged = true≢false (sym has)
+no_such_level n (Some m) out has ranged =
+    let same : n ≡ m = number n m has in
+    true≢false (sym ranged ∙ ap (is_between 1 9) (sym same) ∙ out)
+  where
+    number : (m n : ℕ) → (m == n) ≡ true → m ≡ n
+    number m n h = grind (arith, nat_tests, h)
+
+entry_of : (field : FieldLine Reference) → field_in_range field ≡ true → if_given (is_between 1 9) field.control_level ≡ true
+entry_of field h = (and_parts _ _ (and_parts _ _ (and_parts _ _ (and_parts _ _ h).0).0).0).1
+
+-- no type names L0, or a level above L9
+pub unnamed : (program : Program) (start : TypeStart) (bytes : List ℕ) (n : ℕ) → is_type_start program start ≡ true → is_between 1 9 n ≡ false → control_value (kind_at program start) bytes n ≡ None
+unnamed program start bytes n is out =
+    ap (option_map (compared_field bytes))
+    (sym (control_is program start n) ∙ sym (field_is program start key.Control (Some n) (kind_at program start).indicator is refl)
+    ∙ ap (option_map (named_field program)) (nothing (first_field (kind_at program start).indicator key.Control (Some n) (drop start.fields program.inputs.items))
+    (found_level (kind_at program start).indicator n (drop start.fields program.inputs.items))
+    (field_ranged program start.fields (kind_at program start).indicator key.Control (Some n))))
+  where
+    nothing : (o : Option (FieldLine Reference)) → IfSome o (λ field. has_level (Some n) field.control_level ≡ true) → IfSome o (λ field. IsTrue (field_in_range field)) → o ≡ None
+    nothing None has ranged = refl
+    nothing (Some field) has ranged = absurd (no_such_level n field.control_level out has (entry_of field ranged))
+
+-- ---- level by level
+pub held_at_first : (program : Program) (start : TypeStart) (bytes : List ℕ) (held : List RecordKey) → is_type_start program start ≡ true → AreHeldTo (kind_at program start) bytes held held 0
+held_at_first program start bytes held is = record {
+  named = λ level h. at_zero level (omega (arith, h));
+  others = λ level h. refl;
+}
+  where
+    at_zero : (level : ℕ) → level ≡ 0 → held_in held level ≡ option_or (control_value (kind_at program start) bytes level) (held_in held level)
+    at_zero zero e = sym (ap (λ (v : Option (List ℕ)). option_or v None) (unnamed program start bytes 0 is refl))
+    at_zero (suc level) e = absurd (omega (arith, e))
+
+pub held_one_more : (kind : RecordType) (bytes : List ℕ) (old held new : List RecordKey) (n level : ℕ) → level ≡ n + 1 → AreHeldTo kind bytes old held n
+    → ((other : ℕ) → held_in new other ≡ (if other == level then option_or (control_value kind bytes level) (held_in held level) else held_in held other)) → AreHeldTo kind bytes old new (n + 1)
+held_one_more kind bytes old held new n level e before step = record {
+  named = λ other h. elim (cases_Bool (other == level)) [
+    | inl same ↦
+        let at : other ≡ level = number other level same in
+        step other ∙ ap (λ (b : Bool). if b then option_or (control_value kind bytes level) (held_in held level) else held_in held other) same
+        ∙ ap (option_or (control_value kind bytes level)) (before.others level (omega (arith, e)))
+        ∙ ap (λ (m : ℕ). option_or (control_value kind bytes m) (held_in old m)) (sym at)
+    | inr different ↦ elsewhere other different ∙ before.named other (below other different h)
+  ];
+  others = λ other h. elsewhere other (above other h) ∙ before.others other (omega (arith, h));
+}
+  where
+    number : (m n : ℕ) → (m == n) ≡ true → m ≡ n
+    number m n h = grind (arith, nat_tests, h)
+
+    below : (m : ℕ) → (m == level) ≡ false → m ≤ n + 1 → m ≤ n
+    below m h less = grind (arith, nat_tests, h, less, e)
+
+    above : (m : ℕ) → n + 1 < m → (m == level) ≡ false
+    above m h = grind (arith, nat_tests, h, e)
+
+    elsewhere : (other : ℕ) → (other == level) ≡ false → held_in new other ≡ held_in held other
+    elsewhere other different = step other ∙ ap (λ (b : Bool). if b then option_or (control_value kind bytes level) (held_in held level) else held_in held other) different
+
+pub held_all : (program : Program) (start : TypeStart) (bytes : List ℕ) (old new : List RecordKey) (n : ℕ) → is_type_start program start ≡ true → n ≡ 9 → AreHeldTo (kind_at program start) bytes old new n
+    → (level : ℕ) → held_in new level ≡ option_or (control_value (kind_at program start) bytes level) (held_in old level)
+held_all program start bytes old new n is e held level = elim (cases_Bool (nat_le level 9)) [
+  | inl low ↦ held.named level (within level low)
+  | inr high ↦
+      held.others level (above level high)
+      ∙ sym (ap (λ (v : Option (List ℕ)). option_or v (held_in old level)) (unnamed program start bytes level is (out level high)))
+]
+  where
+    within : (m : ℕ) → nat_le m 9 ≡ true → m ≤ n
+    within m h = grind (arith, nat_tests, h, e)
+
+    above : (m : ℕ) → nat_le m 9 ≡ false → n < m
+    above m h = grind (arith, nat_tests, h, e)
+
+    out : (m : ℕ) → nat_le m 9 ≡ false → is_between 1 9 m ≡ false
+    out m h = ap (λ (b : Bool). nat_le 1 m && b) h ∙ nothing (nat_le 1 m)
+      where
+        nothing : (b : Bool) → (b && false) ≡ false
+        nothing true = refl
+        nothing false = refl
+
+-- ---- whether a program has control fields
+types_at : (lines : List (InputLine Reference)) (k : ℕ) (d : InputLine Reference) → k < length lines → some_type_names_level lines ≡ some_type_names_level (drop k lines)
+    → some_type_names_level lines ≡ (if is_type (get_or lines k d) then list_any names_some_level (drop (k + 1) lines) else some_type_names_level (drop (k + 1) lines))
+unfolding some_type_names_level
+types_at lines k d within before = before ∙ at_drop_more some_type_names_level lines k d within
+
+pub types_begin : (lines : List (InputLine Reference)) (k : ℕ) (d : InputLine Reference) (some starts : Bool) → k < length lines → some_type_names_level lines ≡ some_type_names_level (drop k lines)
+    → starts ≡ is_type (get_or lines k d) → starts ≡ true → some ≡ list_any names_some_level (drop (k + 1) lines) → some ≡ some_type_names_level lines
+types_begin lines k d some starts within before is on named =
+    named ∙ sym (types_at lines k d within before ∙ ap (λ (b : Bool). if b then list_any names_some_level (drop (k + 1) lines) else some_type_names_level (drop (k + 1) lines)) (sym is ∙ on))
+
+pub no_type_yet : (lines : List (InputLine Reference)) (k : ℕ) (d : InputLine Reference) (starts : Bool) → k < length lines → some_type_names_level lines ≡ some_type_names_level (drop k lines)
+    → starts ≡ is_type (get_or lines k d) → starts ≡ false → some_type_names_level lines ≡ some_type_names_level (drop (k + 1) lines)
+no_type_yet lines k d starts within before is off =
+    types_at lines k d within before ∙ ap (λ (b : Bool). if b then list_any names_some_level (drop (k + 1) lines) else some_type_names_level (drop (k + 1) lines)) (sym is ∙ off)
+
+pub no_type_at_all : (lines : List (InputLine Reference)) (k : ℕ) → length lines ≤ k → some_type_names_level lines ≡ some_type_names_level (drop k lines) → false ≡ some_type_names_level lines
+unfolding some_type_names_level
+no_type_at_all lines k past before = sym (before ∙ at_drop_all some_type_names_level lines k past)
+
+abbrev controlled : FieldLine Name → Bool
+controlled field = is_some field.control_level
+
+or_again : (a b c : Bool) → (a || b) ≡ c → (a || (a || b)) ≡ c
+or_again true b c e = e
+or_again false b c e = e
+
+-- behind a type's line
+open_levels : (tables : Tables) (file : Name) (lines : List (InputLine Reference))
+    → (list_any controlled (group_fields (map (named_input tables) lines)) || list_any (λ kind. list_any controlled kind.fields) (types_from file (map (named_input tables) lines))) ≡ list_any names_some_level lines
+open_levels tables file [] = refl
+open_levels tables file (Record next indicator codes ∷ lines) = open_levels tables (name_of tables next) lines
+open_levels tables file (AndCodes codes ∷ lines) = open_levels tables file lines
+open_levels tables file (OrCodes indicator codes ∷ lines) =
+    or_again (list_any controlled (group_fields (map (named_input tables) lines))) (list_any (λ kind. list_any controlled kind.fields) (types_from file (map (named_input tables) lines))) _ (open_levels tables file lines)
+open_levels tables file (InputField field ∷ lines) = by (is_some field.control_level) (open_levels tables file lines)
+  where
+    by : (b : Bool) → (list_any controlled (group_fields (map (named_input tables) lines)) || list_any (λ kind. list_any controlled kind.fields) (types_from file (map (named_input tables) lines))) ≡ list_any names_some_level lines
+        → (b || list_any controlled (group_fields (map (named_input tables) lines)) || list_any (λ kind. list_any controlled kind.fields) (types_from file (map (named_input tables) lines))) ≡ (b || list_any names_some_level lines)
+    by true later = refl
+    by false later = later
+
+levels_shown : (tables : Tables) (file : Name) (lines : List (InputLine Reference)) → list_any (λ kind. list_any controlled kind.fields) (types_from file (map (named_input tables) lines)) ≡ some_type_names_level lines
+unfolding some_type_names_level
+levels_shown tables file [] = refl
+levels_shown tables file (Record next indicator codes ∷ lines) = open_levels tables (name_of tables next) lines
+levels_shown tables file (AndCodes codes ∷ lines) = levels_shown tables file lines
+levels_shown tables file (OrCodes indicator codes ∷ lines) = open_levels tables file lines
+levels_shown tables file (InputField field ∷ lines) = levels_shown tables file lines
+
+pub program_levels : (program : Program) (some : Bool) → some ≡ some_type_names_level program.inputs.items → some ≡ has_levels (source_named program)
+unfolding named
+program_levels program some is = is ∙ sym (levels_shown (tables_in program) no_name program.inputs.items)

@@ -1,0 +1,89 @@
+-- What the cycle holds of its reading, and the files that are still to be read.
+use Rattle.std.specs.Prelude.{ℕ, ◌≡◌, ◌+◌, ◌<◌, ◌≤◌, Bool, true, false, List, ◌++◌, map, filter, take, drop, length, slice_get, slice_set, slice_index_or, unwrap_or, option_map, None}
+use Rattle.std.specs.List.{All, range_with_len}
+use Rattle.s3_meaning.specs.Source.{Source, is_input}
+use Rattle.s3_meaning.specs.Requests.{Answer, Found}
+use Rattle.s3_meaning.specs.Runs.{Rest, Anew}
+use Rattle.s3_meaning.specs.Selection as meaning
+use Rattle.s3_meaning.specs.Cycle.{files_read, typed}
+use Rattle.s3_program.specs.declared.program.Program.{Program}
+use Rattle.s3_program.specs.declared.starts.TypeStart.{TypeStart}
+use Rattle.s3_match.specs.declared.heads.InputFile.{InputFile}
+use Rattle.s3_match.specs.declared.reading.Reading.{Reading}
+use Rattle.s3_match.specs.Types.{kind_at}
+use Rattle.s3_match.specs.Heads.{no_file, file_at, is_unread, IsInput}
+use Rattle.s3_match.specs.Selecting.{reading_of}
+
+abbrev pub reading_in : Program → Reading → meaning.Reading
+reading_in program reading = reading_of program reading.files.items reading.primary_key
+
+abbrev pub is_input_slot : Program → ℕ → Bool
+is_input_slot program slot = is_input (file_at program slot)
+
+-- the slots of the primary and secondary files, in F order
+abbrev pub input_slots : Program → List ℕ
+input_slots program = filter (is_input_slot program) (range_with_len 0 (length program.files.items))
+
+abbrev pub slots_of : List InputFile → List ℕ
+slots_of files = map (λ input. input.file) files
+
+-- each primary and secondary file stands there once, in F order, with the key of its head
+pub record IsReading (program : Program) (reading : Reading) : Type 0 where
+  pub inputs : All (IsInput program) reading.files.items
+  pub slots : slots_of reading.files.items ≡ input_slots program
+
+-- ---- one of the files
+-- what stands for the file where a place has none
+abbrev pub no_input : meaning.InputFile
+no_input = record { file = no_file; standing = meaning.Ended; reads = 0; last_key = None }
+
+abbrev pub input_at : List meaning.InputFile → (place : ℕ) → meaning.InputFile
+input_at inputs place = slice_index_or inputs place no_input
+
+-- the file at the place changes
+abbrev pub changed_at : (place : ℕ) → (meaning.InputFile → meaning.InputFile) → meaning.Reading → meaning.Reading
+changed_at place change reading = record reading { files = slice_set reading.files place (change (input_at reading.files place)) }
+
+abbrev pub is_unread_at : List InputFile → (place : ℕ) → Bool
+is_unread_at files place = unwrap_or (option_map is_unread (slice_get files place)) false
+
+-- a file stands at the place, and its next record is to be read
+pub record IsUnreadAt (files : List InputFile) (place : ℕ) : Type 0 where
+  pub within : place < length files
+  pub unread : is_unread_at files place ≡ true
+
+-- the head of a file, if a record of this type stands there
+abbrev pub head_with : Program → InputFile → TypeStart → meaning.Selected
+head_with program input start = record {
+  file = file_at program input.file;
+  head = record { number = input.reads; bytes = input.bytes.items; kind = kind_at program start };
+}
+
+-- ---- reading on
+-- none of the files from a place on, and before another, is to be read
+pub record AreRead (inputs : List meaning.InputFile) (from to : ℕ) : Type 0 where
+  pub each : (k : ℕ) → from ≤ k → k < to → meaning.is_unread (input_at inputs k) ≡ false
+
+-- the first file from a place on that is to be read
+pub record IsNextUnread (inputs : List meaning.InputFile) (from place : ℕ) : Type 0 where
+  pub behind : from ≤ place
+  pub within : place < length inputs
+  pub unread : meaning.is_unread (input_at inputs place) ≡ true
+  pub before : AreRead inputs from place
+
+-- the files from a place on are read; those before it stay as they are
+unfoldable pub read_from : Source → Anew → (inputs : List meaning.InputFile) → (place : ℕ) → (List meaning.InputFile → Rest) → Rest
+read_from source anew inputs place go = files_read source anew (drop place inputs) (λ later. go (take place inputs ++ later))
+
+-- what follows the reading of the file at a place: it stands there as it is then, and the files behind it are read on
+abbrev pub read_behind : Source → Anew → (inputs : List meaning.InputFile) → (place : ℕ) → (List meaning.InputFile → Rest) → meaning.InputFile → Rest
+read_behind source anew inputs place go input = read_from source anew (slice_set inputs place input) (place + 1) go
+
+-- a record was read from the file at a place, and counted
+abbrev pub on_record : Source → Anew → (inputs : List meaning.InputFile) → (place : ℕ) → (bytes : List ℕ) → (List meaning.InputFile → Rest) → Rest
+on_record source anew inputs place bytes go =
+    typed anew (input_at inputs place) bytes (meaning.type_of source (input_at inputs place).file.name bytes) (read_behind source anew inputs place go)
+
+abbrev pub is_record : Answer → Bool
+is_record (Found bytes) = true
+is_record _ = false

@@ -1,0 +1,228 @@
+//! What the cycle holds of its reading: the primary and secondary files, and the last primary key.
+
+ghost use Rattle.std.specs.Prelude.{◌≡◌, ◌+◌, ◌<◌, ◌≤◌, length, not, true, IfOk, IfSome, IsTrue, option_map, slice_index_or, MatchOption, if◌then◌else◌};
+ghost use Rattle.std.specs.Option.{option_or};
+ghost use Rattle.std.specs.List.{list_any};
+ghost use Rattle.s3_lines.specs.declared.sheet.Designation.TheVariants.{Primary};
+ghost use Rattle.s3_meaning.specs.Cycle.{counted_read, first_reading};
+ghost use Rattle.s3_meaning.specs.Environment.{Environment, on_at_first};
+ghost use Rattle.s3_meaning.specs.Source.{is_designated, is_input};
+ghost use Rattle.s3_meaning.specs.Selection as meaning;
+ghost use Rattle.s3_meaning.specs.Selection.{Selected, in_sequence, match_key};
+ghost use Rattle.s3_program.specs.declared.program.Program.{Program};
+ghost use Rattle.s3_program.specs.Stands.{source_named};
+ghost use Rattle.s3_match.specs.Beginning.{BeginsWith, holds_at_first};
+ghost use Rattle.s3_match.specs.Choice.{IsHeadAt};
+ghost use Rattle.s3_match.specs.declared.heads.InputFile.{InputFile};
+ghost use Rattle.s3_match.specs.Heads.{ended, file_at, put as put_head};
+ghost use Rattle.s3_match.specs.Inner.Beginning.{IsFirst, AreFirst};
+ghost use Rattle.s3_match.specs.Keys.{key_in};
+ghost use Rattle.s3_match.specs.Reading as spec;
+ghost use Rattle.s3_match.specs.Reading.{IsReading, IsUnreadAt, AreRead, IsNextUnread, reading_in, changed_at, input_at, head_with};
+ghost use Rattle.s3_match.specs.Selecting.{inputs_of, selected_at};
+ghost use Rattle.s3_match.specs.Types.{is_type_start, kind_at, name_of_file};
+
+use crate::heads::{InputFile, RECORD_BYTES, Standing};
+use crate::keys::RecordKey;
+use crate::selection::is_primary;
+use crate::types::type_of;
+use s3_lines::indicator::Indicator;
+use s3_lines::sheet::{Designation, FileLine};
+use s3_program::program::Program;
+use s3_program::starts::TypeStart;
+use std::alloc::{AllocError, Global};
+
+/// The primary and secondary files of a run, and what their keys are matched with.
+#[derive(Drop)]
+pub struct Reading {
+    /// The files, in F order.
+    pub files: Vec<InputFile>,
+    /// The key of the last selected primary record with match fields.
+    pub primary_key: RecordKey,
+}
+
+/// Whether an indicator is on as a job begins: L0, 1P, and the switches as they are set, U1 the highest bit.
+fn is_on_at_first(switches: u8, indicator: Indicator) -> bool
+    ensures { result ≡ on_at_first switches indicator }
+{
+    match indicator {
+        Indicator::Level(number) => number == 0,
+        Indicator::FirstPage => true,
+        Indicator::Switch(number) => (u16::from(switches) >> 8u8.saturating_sub(number)) % 2 == 1,
+        Indicator::General(_)
+        | Indicator::LastRecord
+        | Indicator::Matching
+        | Indicator::Halt(_)
+        | Indicator::Overflow(_) => false,
+    }
+}
+
+/// Whether the cycle reads a file by itself: it is a primary or a secondary one.
+fn is_selected(file: &FileLine) -> bool
+    ensures { result ≡ is_input file.now }
+{
+    match file.designation {
+        Some(designation) => match designation {
+            Designation::Primary | Designation::Secondary => true,
+            Designation::Chained => false,
+        },
+        None => false,
+    }
+}
+
+/// Whether a file is served from the beginning of a job on.
+fn is_served_at_first(switches: u8, file: &FileLine) -> bool
+    ensures { result ≡ holds_at_first switches file.now.condition }
+{
+    match file.condition {
+        Some(indicator) => is_on_at_first(switches, indicator),
+        None => true,
+    }
+}
+
+/// A primary or secondary file as a job begins: one whose condition is off has ended.
+fn first_input(program: &Program, slot: usize, switches: u8) -> InputFile
+    requires { slot < length program.now.files.items }
+    ensures { IsFirst program.now switches slot result }
+{
+    let mut input = InputFile::unread(slot);
+    if !is_served_at_first(switches, &program.files[slot]) {
+        input.end();
+    }
+    input
+}
+
+/// Puts the file of a slot behind the others, if it is a primary or secondary one.
+fn add_first(
+    files: &mut Vec<InputFile>,
+    program: &Program,
+    slot: usize,
+    switches: u8,
+) -> Result<(), AllocError>
+    requires within { slot < length program.now.files.items }
+    requires before { AreFirst program.now switches slot files.old.items }
+    ensures { IfOk result (λ done. AreFirst program.now switches (slot + 1) files.new.items) }
+{
+    if is_selected(&program.files[slot]) {
+        files.push(first_input(program, slot, switches))?;
+    }
+    Ok(())
+}
+
+/// Keeps the key of a primary record with match fields.
+fn keep_primary(primary_key: &mut RecordKey, program: &Program, input: &InputFile)
+    ensures { key_in primary_key.new ≡ (if is_designated Primary (file_at program.now input.now.file) then option_or (key_in input.now.key) (key_in primary_key.old) else key_in primary_key.old) }
+{
+    if is_primary(program, input) && input.key.is_given {
+        primary_key.copy_from(&input.key);
+    }
+}
+
+impl Reading {
+    /// The reading as a job with these switches begins; refused only where memory runs out.
+    pub fn first(alloc: Global, program: &Program, switches: u8) -> Result<Reading, AllocError>
+        ensures sound { IfOk result (λ reading. IsReading program.now reading) }
+        ensures reading { IfOk result (λ reading. (e : Environment) → BeginsWith switches e → reading_in program.now reading ≡ first_reading (source_named program.now) e) }
+    {
+        let mut files = Vec::new(alloc);
+        for slot in 0..program.files.len() {
+            add_first(&mut files, program, slot, switches)?;
+        }
+        Ok(Reading {
+            files,
+            primary_key: RecordKey::none(),
+        })
+    }
+
+    /// The slot of the file there.
+    pub fn slot(&self, place: usize) -> usize
+        requires { place < length self.now.files.items }
+        ensures within { (program : Program) → IsReading program self.now → result < length program.files.items }
+        ensures file { (program : Program) → (input_at (reading_in program self.now).files place).file ≡ file_at program result }
+        ensures name { (program : Program) → IsReading program self.now → name_of_file program result ≡ (input_at (reading_in program self.now).files place).file.name }
+    {
+        self.files[place].file
+    }
+
+    /// The first type of the file there all of whose codes hold of a record.
+    pub fn type_of(&self, program: &Program, place: usize, bytes: &[u8]) -> Option<TypeStart>
+        requires sound { IsReading program.now self.now }
+        requires within { place < length self.now.files.items }
+        ensures found { option_map (kind_at program.now) result ≡ meaning.type_of (source_named program.now) (input_at (reading_in program.now self.now).files place).file.name bytes.now }
+        ensures starts { IfSome result (λ start. IsTrue (is_type_start program.now start)) }
+    {
+        type_of(program, self.slot(place), bytes)
+    }
+
+    /// The type of the record at the head of the file there.
+    pub fn head(&self, place: usize) -> TypeStart
+        requires { IsHeadAt self.now.files.items place }
+        ensures selected { (program : Program) (input : InputFile) → input ≡ slice_index_or self.now.files.items place input → selected_at program self.now.files.items place ≡ Some (head_with program input result) }
+        ensures starts { (program : Program) → IsReading program self.now → IsTrue (is_type_start program result) }
+    {
+        match self.files[place].standing {
+            Standing::Stands(start) => start,
+            Standing::Unread | Standing::Ended => unreachable!(),
+        }
+    }
+
+    /// Takes the record at the head of the file there, whose next record is to be read then.
+    pub fn take(&mut self, program: &Program, place: usize)
+        requires sound { IsReading program.now self.old }
+        requires head { IsHeadAt self.old.files.items place }
+        ensures sound { IsReading program.now self.new }
+        ensures taken { (selected : Selected) → selected_at program.now self.old.files.items place ≡ Some selected → reading_in program.now self.new ≡ meaning.taken (reading_in program.now self.old) selected }
+        ensures unread { IsUnreadAt self.new.files.items place }
+        ensures some_unread { list_any meaning.is_unread (reading_in program.now self.new).files ≡ true }
+    {
+        keep_primary(&mut self.primary_key, program, &self.files[place]);
+        self.files[place].vacate();
+    }
+
+    /// The place of the first file from there on whose next record is to be read.
+    #[tactic(auto, using(crate::proofs::UnreadLemmas::none_between, crate::proofs::UnreadLemmas::one_more_read, crate::proofs::UnreadLemmas::next_there, crate::proofs::UnreadLemmas::read_past))]
+    pub fn first_unread_from(&self, from: usize) -> Option<usize>
+        ensures here { IfSome result (IsUnreadAt self.now.files.items) }
+        ensures next { (program : Program) → MatchOption result (AreRead (inputs_of program self.now.files.items) from (length self.now.files.items)) (IsNextUnread (inputs_of program self.now.files.items) from) }
+    {
+        for place in from..self.files.len() {
+            if self.files[place].is_unread() {
+                return Some(place);
+            }
+        }
+        None
+    }
+
+    /// Nothing comes any more from the file there.
+    pub fn end(&mut self, place: usize)
+        requires within { place < length self.old.files.items }
+        ensures sound { (program : Program) → IsReading program self.old → IsReading program self.new }
+        ensures reading { (program : Program) → reading_in program self.new ≡ changed_at place ended (reading_in program self.old) }
+    {
+        self.files[place].end();
+    }
+
+    /// One record more was read from the file there.
+    pub fn count_read(&mut self, place: usize)
+        requires unread { IsUnreadAt self.old.files.items place }
+        ensures sound { (program : Program) → IsReading program self.old → IsReading program self.new }
+        ensures unread { IsUnreadAt self.new.files.items place }
+        ensures reading { (program : Program) → reading_in program self.new ≡ changed_at place counted_read (reading_in program self.old) }
+    {
+        self.files[place].count_read();
+    }
+
+    /// Puts a record of a type at the head of the file there, if it is in sequence.
+    pub fn put(&mut self, program: &Program, place: usize, start: TypeStart, bytes: &[u8]) -> bool
+        requires unread { IsUnreadAt self.old.files.items place }
+        requires sound { IsReading program.now self.old }
+        requires starts { IsTrue (is_type_start program.now start) }
+        requires fits { length bytes.now ≤ RECORD_BYTES }
+        ensures in_sequence { result ≡ in_sequence (match_key (kind_at program.now start) bytes.now) (input_at (reading_in program.now self.old).files place).last_key }
+        ensures sound { IsReading program.now self.new }
+        ensures unread { spec.is_unread_at self.new.files.items place ≡ not result }
+        ensures reading { reading_in program.now self.new ≡ (if result then changed_at place (put_head program.now start bytes.now) (reading_in program.now self.old) else reading_in program.now self.old) }
+    {
+        self.files[place].put(program, start, bytes)
+    }
+}
