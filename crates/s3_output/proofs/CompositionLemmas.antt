@@ -1,0 +1,213 @@
+-- The positions of a record, where a content is laid over it.
+use Rattle.std.proofs.Common.{◌≡◌, ℕ, ◌+◌, ◌-◌, ◌<◌, ◌≤◌, get_or, List, [], ◌∷◌, ◌++◌, Bool, true, false, zero, suc, length, take, drop, map, refl, sym, ◌∙◌, ap, subst, arith}
+use Rattle.std.specs.Prelude.{Option, Some, None, unwrap_or, replicate, slice_get}
+use Rattle.std.proofs.lemmas.List.{map-append, length-map, length-append, length-drop, length-take-le, take-take, take-map, drop-map, drop-take, length-replicate}
+use Rattle.s3_cards.specs.declared.ebcdic.TheConstants.{BLANK}
+use Rattle.s3_meaning.specs.Output.{filled, laid}
+use Rattle.s3_output.specs.Compositions.{position, positions_on}
+
+none_on : (puts : List Bool) → positions_on puts [] ≡ []
+none_on [] = refl
+none_on (put ∷ puts) = refl
+
+split_on : (ps qs : List Bool) (xs ys : List ℕ) → length ps ≡ length xs → positions_on (ps ++ qs) (xs ++ ys) ≡ positions_on ps xs ++ positions_on qs ys
+split_on [] qs [] ys same = refl
+split_on [] qs (x ∷ xs) ys same = absurd (omega (arith, same))
+split_on (p ∷ ps) qs [] ys same = absurd (omega (arith, same))
+split_on (p ∷ ps) qs (x ∷ xs) ys same = ap (λ ds. positions_on (p ∷ []) (x ∷ []) ++ ds) (split_on ps qs xs ys (omega (arith, same)))
+
+take_on : (n : ℕ) (puts : List Bool) (codes : List ℕ) → positions_on (take n puts) (take n codes) ≡ take n (positions_on puts codes)
+take_on zero puts codes = refl
+take_on (suc n) [] codes = refl
+take_on (suc n) (put ∷ puts) [] = refl
+take_on (suc n) (put ∷ puts) (code ∷ codes) = ap (λ ds. positions_on (put ∷ []) (code ∷ []) ++ ds) (take_on n puts codes)
+
+drop_on : (n : ℕ) (puts : List Bool) (codes : List ℕ) → positions_on (drop n puts) (drop n codes) ≡ drop n (positions_on puts codes)
+drop_on zero puts codes = refl
+drop_on (suc n) [] codes = refl
+drop_on (suc n) (put ∷ puts) [] = none_on (drop n puts)
+drop_on (suc n) (put ∷ puts) (code ∷ codes) = drop_on n puts codes
+
+put_on : (codes : List ℕ) → positions_on (replicate (length codes) true) codes ≡ map (λ code. Some code) codes
+put_on [] = refl
+put_on (code ∷ codes) = ap (λ ds. Some code ∷ ds) (put_on codes)
+
+blank_on : (n : ℕ) → positions_on (replicate n false) (replicate n BLANK) ≡ replicate n None
+blank_on zero = refl
+blank_on (suc n) = ap (λ ds. None ∷ ds) (blank_on n)
+
+pub length_on : (puts : List Bool) (codes : List ℕ) → length puts ≡ length codes → length (positions_on puts codes) ≡ length codes
+length_on [] [] same = refl
+length_on [] (code ∷ codes) same = absurd (omega (arith, same))
+length_on (put ∷ puts) [] same = absurd (omega (arith, same))
+length_on (put ∷ puts) (code ∷ codes) same = ap (λ n. suc n) (length_on puts codes (omega (arith, same)))
+
+-- ---- a content laid over the record
+take_past : {X : Type 0} (xs ys : List X) (n : ℕ) → take (length xs + n) (xs ++ ys) ≡ xs ++ take n ys
+take_past [] ys n = let e : 0 + n ≡ n = omega arith in ap (λ k. take k ys) e
+take_past (x ∷ xs) ys n = let e : suc (length xs) + n ≡ suc (length xs + n) = omega arith in ap (λ k. take k (x ∷ xs ++ ys)) e ∙ ap (λ zs. x ∷ zs) (take_past xs ys n)
+
+pub laid_on : (puts puts' : List Bool) (codes codes' content : List ℕ) (end count : ℕ) → count ≡ length content → length puts ≡ length codes → count ≤ end → end ≤ length codes
+    → codes' ≡ take (end - length content) codes ++ content ++ drop end codes → puts' ≡ take (end - count) puts ++ replicate count true ++ drop end puts
+    → positions_on puts' codes' ≡ laid end content (positions_on puts codes)
+laid_on puts puts' codes codes' content end count counts same begins ends codes_are puts_are =
+    let left : ℕ = end - length content in
+    let marks : List Bool = replicate (length content) true in
+    let within : left ≤ length codes = omega (arith, ends) in
+    let puts_is : puts' ≡ take left puts ++ marks ++ drop end puts =
+    puts_are ∙ ap (λ n. take (end - n) puts ++ replicate n true ++ drop end puts) counts in
+    let lefts : length (take left puts) ≡ length (take left codes) =
+    length-take-le left puts (subst (λ n. left ≤ n) (sym same) within) ∙ sym (length-take-le left codes within) in
+    let fronts : length (take left puts ++ marks) ≡ length (take left codes ++ content) =
+    length-append (take left puts) marks ∙ ((λ i. lefts i + length-replicate (length content) true i) ∙ sym (length-append (take left codes) content)) in
+    (λ i. positions_on (puts_is i) (codes_are i))
+    ∙ (split_on (take left puts ++ marks) (drop end puts) (take left codes ++ content) (drop end codes) fronts
+    ∙ (λ i. (split_on (take left puts) marks (take left codes) content lefts ∙ (λ j. take_on left puts codes j ++ put_on content j)) i ++ drop_on end puts codes i))
+
+pub take_laid : (n end : ℕ) (content : List ℕ) (positions : List (Option ℕ)) → length content ≤ end → end ≤ n → n ≤ length positions
+    → take n (laid end content positions) ≡ laid end content (take n positions)
+take_laid n end content positions begins ends within =
+    let left : ℕ = end - length content in
+    let A : List (Option ℕ) = take left positions in
+    let B : List (Option ℕ) = map (λ code. Some code) content in
+    let D : List (Option ℕ) = drop end positions in
+    let front : length (A ++ B) ≡ end =
+    sizes end (length content) (length A) (length B) (length (A ++ B)) begins (length-take-le left positions (least (length content) begins ends within)) (length-map content (λ code. Some code)) (length-append A B) in
+    let whole : n ≡ length (A ++ B) + (n - end) = omega (arith, ends, front) in
+    let whole_end : n ≡ end + (n - end) = omega (arith, ends) in
+    ap (λ k. take k (A ++ B ++ D)) whole
+    ∙ (take_past (A ++ B) D (n - end)
+    ∙ (λ i. sym (take-take left n positions (omega (arith, begins, ends))) i ++ B ++ (sym (drop-take end (n - end) positions) ∙ ap (λ k. drop end (take k positions)) (sym whole_end)) i))
+  where
+    least : (size : ℕ) → size ≤ end → end ≤ n → n ≤ length positions → end - size ≤ length positions
+    least size begins ends within = omega (arith, begins, ends, within)
+
+    sizes : (end size a b c : ℕ) → size ≤ end → a ≡ end - size → b ≡ size → c ≡ a + b → c ≡ end
+    sizes end size a b c begins is_a is_b is_c = omega (arith, begins, is_a, is_b, is_c)
+
+pub length_laid : (end : ℕ) (content : List ℕ) (positions : List (Option ℕ)) → length content ≤ end → end ≤ length positions → length (laid end content positions) ≡ length positions
+length_laid end content positions begins ends =
+    let A : List (Option ℕ) = take (end - length content) positions in
+    let B : List (Option ℕ) = map (λ code. Some code) content in
+    let D : List (Option ℕ) = drop end positions in
+    sum end (length content) (length positions) (length A) (length B) (length D) begins ends (length-take-le (end - length content) positions (least end (length content) (length positions) ends))
+    (length-map content (λ code. Some code)) (length-drop end positions) (length (A ++ B)) (length (A ++ B ++ D)) (length-append A B) (length-append (A ++ B) D)
+  where
+    least : (end size n : ℕ) → end ≤ n → end - size ≤ n
+    least end size n ends = omega (arith, ends)
+
+    sum : (end size n a b d : ℕ) → size ≤ end → end ≤ n → a ≡ end - size → b ≡ size → d ≡ n - end → (ab abd : ℕ) → ab ≡ a + b → abd ≡ ab + d → abd ≡ n
+    sum end size n a b d begins ends is_a is_b is_d ab abd front whole = omega (arith, begins, ends, is_a, is_b, is_d, front, whole)
+
+-- ---- codes
+filled_some : (content : List ℕ) → filled (map (λ code. Some code) content) ≡ content
+filled_some [] = refl
+filled_some (code ∷ codes) = ap (λ ds. code ∷ ds) (filled_some codes)
+
+abbrev or_blank : Option ℕ → ℕ
+or_blank position = unwrap_or position BLANK
+
+filled_split : (one two : List (Option ℕ)) → filled (one ++ two) ≡ filled one ++ filled two
+filled_split one two = map-append or_blank one two
+
+pub filled_laid : (end : ℕ) (content codes : List ℕ) (positions : List (Option ℕ)) → filled positions ≡ codes
+    → filled (laid end content positions) ≡ take (end - length content) codes ++ content ++ drop end codes
+filled_laid end content codes positions are =
+    let left : ℕ = end - length content in
+    let B : List (Option ℕ) = map (λ code. Some code) content in
+    filled_split (take left positions ++ B) (drop end positions)
+    ∙ (λ i. (filled_split (take left positions) B ∙ (λ j. (sym (take-map or_blank left positions) ∙ ap (take left) are) j ++ filled_some content j)) i
+    ++ (sym (drop-map or_blank end positions) ∙ ap (drop end) are) i)
+
+pub filled_take : (n : ℕ) (codes : List ℕ) (positions : List (Option ℕ)) → filled positions ≡ codes → take n codes ≡ filled (take n positions)
+filled_take n codes positions are = ap (take n) (sym are) ∙ take-map or_blank n positions
+
+-- ---- a record begins
+pub cleared_on : (n : ℕ) (puts puts' : List Bool) (codes codes' : List ℕ) → codes' ≡ replicate n BLANK ++ drop n codes → puts' ≡ replicate n false ++ drop n puts
+    → positions_on puts' codes' ≡ replicate n None ++ drop n (positions_on puts codes)
+cleared_on n puts puts' codes codes' codes_are puts_are =
+    (λ i. positions_on (puts_are i) (codes_are i))
+    ∙ split_on (replicate n false) (drop n puts) (replicate n BLANK) (drop n codes) (length-replicate n false ∙ sym (length-replicate n BLANK))
+    ∙ (λ i. blank_on n i ++ drop_on n puts codes i)
+
+filled_none : (n : ℕ) → filled (replicate n None) ≡ replicate n BLANK
+filled_none zero = refl
+filled_none (suc n) = ap (λ ds. BLANK ∷ ds) (filled_none n)
+
+pub cleared_filled : (n : ℕ) (codes : List ℕ) (positions : List (Option ℕ)) → filled positions ≡ codes → filled (replicate n None ++ drop n positions) ≡ replicate n BLANK ++ drop n codes
+cleared_filled n codes positions are =
+    filled_split (replicate n None) (drop n positions) ∙ (λ i. filled_none n i ++ (sym (drop-map or_blank n positions) ∙ ap (drop n) are) i)
+
+pub cleared_take : (n : ℕ) (positions : List (Option ℕ)) → take n (replicate n None ++ positions) ≡ replicate n None
+cleared_take zero positions = refl
+cleared_take (suc n) positions = ap (λ ds. None ∷ ds) (cleared_take n positions)
+
+pub all_blank : (n : ℕ) → filled (positions_on (replicate n false) (replicate n BLANK)) ≡ replicate n BLANK
+all_blank n = ap filled (blank_on n) ∙ filled_none n
+
+-- ---- all steps of a record
+pub lay_filled : (puts puts' : List Bool) (codes codes' content : List ℕ) (end count : ℕ) → count ≡ length content → length puts ≡ length codes → count ≤ end → end ≤ length codes
+    → codes' ≡ take (end - length content) codes ++ content ++ drop end codes → puts' ≡ take (end - count) puts ++ replicate count true ++ drop end puts
+    → filled (positions_on puts codes) ≡ codes → filled (positions_on puts' codes') ≡ codes'
+lay_filled puts puts' codes codes' content end count counts same begins ends codes_are puts_are are =
+    ap filled (laid_on puts puts' codes codes' content end count counts same begins ends codes_are puts_are)
+    ∙ filled_laid end content codes (positions_on puts codes) are ∙ sym codes_are
+
+pub lay_view : (n : ℕ) (puts puts' : List Bool) (codes codes' content : List ℕ) (end count : ℕ) → count ≡ length content → length puts ≡ length codes → count ≤ end → end ≤ n → n ≤ length codes
+    → codes' ≡ take (end - length content) codes ++ content ++ drop end codes → puts' ≡ take (end - count) puts ++ replicate count true ++ drop end puts
+    → take n (positions_on puts' codes') ≡ laid end content (take n (positions_on puts codes))
+lay_view n puts puts' codes codes' content end count counts same begins ends within codes_are puts_are =
+    ap (take n) (laid_on puts puts' codes codes' content end count counts same begins (omega (arith, ends, within)) codes_are puts_are)
+    ∙ take_laid n end content (positions_on puts codes) (subst (λ k. k ≤ end) counts begins) ends (subst (λ k. n ≤ k) (sym (length_on puts codes same)) within)
+
+pub view_length : (n : ℕ) (puts : List Bool) (codes : List ℕ) → length puts ≡ length codes → n ≤ length codes → length (take n (positions_on puts codes)) ≡ n
+view_length n puts codes same within = length-take-le n (positions_on puts codes) (subst (λ k. n ≤ k) (sym (length_on puts codes same)) within)
+
+pub clear_filled : (n : ℕ) (puts puts' : List Bool) (codes codes' : List ℕ) → codes' ≡ replicate n BLANK ++ drop n codes → puts' ≡ replicate n false ++ drop n puts
+    → filled (positions_on puts codes) ≡ codes → filled (positions_on puts' codes') ≡ codes'
+clear_filled n puts puts' codes codes' codes_are puts_are are =
+    ap filled (cleared_on n puts puts' codes codes' codes_are puts_are) ∙ cleared_filled n codes (positions_on puts codes) are ∙ sym codes_are
+
+pub clear_view : (n : ℕ) (puts puts' : List Bool) (codes codes' : List ℕ) → codes' ≡ replicate n BLANK ++ drop n codes → puts' ≡ replicate n false ++ drop n puts
+    → take n (positions_on puts' codes') ≡ replicate n None
+clear_view n puts puts' codes codes' codes_are puts_are =
+    ap (take n) (cleared_on n puts puts' codes codes' codes_are puts_are) ∙ cleared_take n (drop n (positions_on puts codes))
+
+-- an end position within a record of the array
+pub record EndsWithin (n end : ℕ) (puts : List Bool) (codes : List ℕ) : Type 0 where
+  pub same : length puts ≡ length codes
+  pub within : end ≤ n
+  pub whole : n ≤ length codes
+  pub inside : end ≤ length codes
+
+pub ends_within : (n end : ℕ) (puts : List Bool) (codes : List ℕ) (now : List (Option ℕ)) → length codes ≡ 1024 → length puts ≡ 1024 → n ≤ 1024
+    → take n (positions_on puts codes) ≡ now → end ≤ length now → EndsWithin n end puts codes
+ends_within n end puts codes now code_size put_size few view ends =
+    let same : length puts ≡ length codes = put_size ∙ sym code_size in
+    let whole : n ≤ length codes = subst (λ k. n ≤ k) (sym code_size) few in
+    let inside : end ≤ n = subst (λ k. end ≤ k) (ap length (sym view) ∙ view_length n puts codes same whole) ends in
+    record { same = same; within = inside; whole = whole; inside = omega (arith, inside, whole) }
+
+-- ---- one position
+taken_at : {X : Type 0} (xs : List X) (n k : ℕ) → k < length (take n xs) → slice_get (take n xs) k ≡ slice_get xs k
+taken_at xs zero k within = absurd (omega (arith, within))
+taken_at [] (suc n) k within = refl
+taken_at (x ∷ xs) (suc n) zero within = refl
+taken_at (x ∷ xs) (suc n) (suc k) within = taken_at xs n k (omega (arith, within))
+
+position_on : (puts : List Bool) (codes : List ℕ) (k : ℕ) → length puts ≡ length codes → k < length codes → slice_get (positions_on puts codes) k ≡ Some (position (get_or puts k false) (get_or codes k 0))
+position_on [] codes k same within = absurd (omega (arith, same, within))
+position_on (put ∷ puts) [] k same within = absurd (omega (arith, within))
+position_on (put ∷ puts) (code ∷ codes) zero same within = refl
+position_on (put ∷ puts) (code ∷ codes) (suc k) same within = position_on puts codes k (omega (arith, same)) (omega (arith, within))
+
+pub position_at : (n k : ℕ) (puts : List Bool) (codes : List ℕ) (now : List (Option ℕ)) (put : Bool) → length codes ≡ 1024 → length puts ≡ 1024 → n ≤ 1024 → take n (positions_on puts codes) ≡ now
+    → k < length now → get_or puts k false ≡ put → slice_get now k ≡ Some (position put (get_or codes k 0))
+position_at n k puts codes now put code_size put_size few view within is =
+    let same : length puts ≡ length codes = put_size ∙ sym code_size in
+    let whole : n ≤ length codes = subst (λ j. n ≤ j) (sym code_size) few in
+    let inside : k < length (take n (positions_on puts codes)) = subst (λ ds. k < length ds) (sym view) within in
+    let below : k < n = subst (λ j. k < j) (view_length n puts codes same whole) inside in
+    ap (λ ds. slice_get ds k) (sym view)
+    ∙ (taken_at (positions_on puts codes) n k inside
+    ∙ (position_on puts codes k same (omega (arith, below, whole)) ∙ ap (λ b. Some (position b (get_or codes k 0))) is))

@@ -1,0 +1,6 @@
+pub mod CompositionLemmas
+pub mod GroupLemmas
+pub mod FitLemmas
+pub mod FieldLemmas
+pub mod ComposeLemmas
+pub mod LawLemmas

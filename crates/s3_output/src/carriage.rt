@@ -1,0 +1,156 @@
+//! The carriage of the printer.
+ghost use Rattle.std.specs.Prelude.{◌≡◌, ◌≤◌, ◌&&◌, ◌||◌, true, false, Some};
+ghost use Rattle.s3_lines.specs.Ranges.{spacing_in_range, is_between, if_given};
+ghost use Rattle.s3_meaning.specs.Carriage as meaning;
+
+use s3_lines::sheet::Spacing;
+
+/// The last line of a page.
+const LAST_LINE: u8 = 66;
+
+/// The line past which overflow goes on.
+const OVERFLOW_LINE: u8 = 60;
+
+/// The page before page 0.
+const LAST_PAGE: u16 = 9999;
+
+/// Where the carriage stands.
+#[derive(Clone, Copy)]
+pub struct Carriage {
+    /// The page, 0 to 9,999.
+    pub page: u16,
+    /// The line of the page, 1 to 66.
+    pub line: u8,
+    pub ghost page_fits: { page ≤ 9999 },
+    pub ghost line_begins: { 1 ≤ line },
+    pub ghost line_fits: { line ≤ 66 },
+}
+
+/// Where the carriage has moved to.
+#[derive(Clone, Copy)]
+pub struct Moved {
+    /// Where it stands now.
+    pub carriage: Carriage,
+    /// Overflow goes on.
+    pub overflow: bool,
+}
+
+/// The page behind a page.
+fn next_page(page: u16) -> u16
+    requires { page ≤ 9999 }
+    ensures value { result ≡ meaning.next_page page }
+    ensures fits { result ≤ 9999 }
+{
+    if page < LAST_PAGE { page + 1 } else { 0 }
+}
+
+/// From at most line 60 to above it.
+fn passes(from: u8, to: u8) -> bool
+    ensures { result ≡ meaning.passes from to }
+{
+    from <= OVERFLOW_LINE && to > OVERFLOW_LINE
+}
+
+/// All entries blank mean a space after.
+fn is_blank(spacing: &Spacing) -> bool
+    ensures { result ≡ meaning.is_blank spacing.now }
+{
+    !(spacing.space_before.is_some()
+        || spacing.space_after.is_some()
+        || spacing.skip_before.is_some()
+        || spacing.skip_after.is_some())
+}
+
+impl Moved {
+    ghost use Rattle.s3_output.specs.Carriages.{place_moved};
+
+    /// So many lines on; line 1 of the next page comes after line 66.
+    fn spaced(self, lines: u8) -> Moved
+        requires { lines ≤ 3 }
+        ensures { place_moved result ≡ meaning.spaced lines (place_moved self) }
+    {
+        let from = self.carriage;
+        let to = from.line + lines;
+        let overflow = self.overflow || passes(from.line, to);
+        let carriage = if to > LAST_LINE {
+            Carriage {
+                page: next_page(from.page),
+                line: to - LAST_LINE,
+            }
+        } else {
+            Carriage {
+                page: from.page,
+                line: to,
+            }
+        };
+        Moved { carriage, overflow }
+    }
+
+    /// Down to a line of the page, else to that line of the next page, which sets no overflow.
+    fn skipped_to(self, line: u8) -> Moved
+        requires { is_between 1 66 line ≡ true }
+        ensures { place_moved result ≡ meaning.skipped (Some line) (place_moved self) }
+    {
+        let from = self.carriage;
+        if line < from.line {
+            let page = next_page(from.page);
+            return Moved {
+                carriage: Carriage { page, line },
+                overflow: self.overflow,
+            };
+        }
+        Moved {
+            carriage: Carriage {
+                page: from.page,
+                line,
+            },
+            overflow: self.overflow || passes(from.line, line),
+        }
+    }
+
+    /// A blank entry moves nothing.
+    fn skipped(self, to: Option<u8>) -> Moved
+        requires { if_given (is_between 1 66) to ≡ true }
+        ensures { place_moved result ≡ meaning.skipped to (place_moved self) }
+    {
+        match to {
+            Some(line) => self.skipped_to(line),
+            None => self,
+        }
+    }
+
+    /// From the place of print on: skip after, then space after.
+    pub fn after_print(self, spacing: &Spacing) -> Moved
+        requires { spacing_in_range spacing.now ≡ true }
+        ensures { place_moved result ≡ meaning.after_print spacing.now (place_moved self) }
+    {
+        let lines = if is_blank(spacing) {
+            1
+        } else {
+            spacing.space_after.unwrap_or(0)
+        };
+        self.skipped(spacing.skip_after).spaced(lines)
+    }
+}
+
+impl Carriage {
+    ghost use Rattle.s3_output.specs.Carriages.{place, place_moved};
+
+    /// To the place of print: skip before, then space before; printing at line 60 sets overflow.
+    pub fn to_print(self, spacing: &Spacing) -> Moved
+        requires { spacing_in_range spacing.now ≡ true }
+        ensures { place_moved result ≡ meaning.to_print spacing.now (place self false) }
+    {
+        let still = Moved {
+            carriage: self,
+            overflow: false,
+        };
+        let there = still
+            .skipped(spacing.skip_before)
+            .spaced(spacing.space_before.unwrap_or(0));
+        Moved {
+            carriage: there.carriage,
+            overflow: there.overflow || there.carriage.line == OVERFLOW_LINE,
+        }
+    }
+}

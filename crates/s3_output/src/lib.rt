@@ -1,0 +1,13 @@
+//! What an output line puts out: whether it holds, the record that it composes, and how it moves the carriage.
+#![tactic(auto)]
+
+pub mod carriage;
+mod composing;
+pub mod composition;
+pub mod conditions;
+mod fields;
+pub mod laws;
+mod numbers;
+pub mod requests;
+
+pub use composing::compose;

@@ -1,0 +1,84 @@
+//! The request that a line of a disk file makes.
+ghost use Rattle.std.specs.Prelude.{◌≡◌, List, ℕ, Option, true};
+ghost use Rattle.s3_meaning.specs.Environment.{Environment};
+ghost use Rattle.s3_meaning.specs.OutputLines.{Output};
+ghost use Rattle.s3_meaning.specs.Output as meaning;
+ghost use Rattle.s3_meaning.specs.Source as source;
+ghost use Rattle.s3_output.specs.Lines.{IsLineAt};
+ghost use Rattle.s3_lines.specs.Ranges.{spacing_in_range};
+ghost use Rattle.s3_output.specs.Requests.{request_of};
+
+use s3_lines::sheet::{Designation, FileLine, FileUse, OutputLine, Spacing};
+use s3_program::program::Program;
+use s3_program::starts::OutputStart;
+
+/// What a line of a disk file asks for.
+#[derive(Clone, Copy, Debug, PartialEq, Eq)]
+pub enum DiskRequest {
+    /// The current record is written back with what was put.
+    Update,
+    /// A record goes in by its key.
+    Add,
+    /// A record goes behind the last one.
+    Append,
+}
+
+/// The spacing of a line whose card isn't there.
+const NO_SPACING: Spacing = Spacing {
+    space_before: None,
+    space_after: None,
+    skip_before: None,
+    skip_after: None,
+};
+
+/// A line without ADD for it is an update.
+fn is_updated(file: &FileLine) -> bool
+    ensures { result ≡ source.is_updated file.now }
+{
+    match file.usage {
+        FileUse::Update => true,
+        FileUse::Output => matches!(file.designation, Some(Designation::Chained)),
+        FileUse::Input => false,
+    }
+}
+
+/// What a line of a file asks for: update for U and the direct load, else append, or add by key.
+pub fn disk_request(file: &FileLine, is_addition: bool) -> DiskRequest
+    ensures { (line : Output) (positions : List (Option ℕ)) (e : Environment) → line.is_addition ≡ is_addition
+        → meaning.disk_request file.now line positions e ≡ request_of result file.now positions e }
+{
+    if is_updated(file) && !is_addition {
+        DiskRequest::Update
+    } else if is_addition && file.key.is_some() {
+        DiskRequest::Add
+    } else {
+        DiskRequest::Append
+    }
+}
+
+/// Whether a line adds a record to its file.
+pub fn is_addition(program: &Program, start: &OutputStart) -> bool
+    ensures { (line : Output) → IsLineAt program.now start.now line → line.is_addition ≡ result }
+{
+    if start.place >= program.outputs.len() {
+        return false;
+    }
+    match &program.outputs[start.place] {
+        OutputLine::Line(card) => card.is_addition,
+        OutputLine::And(_) | OutputLine::Or(_) | OutputLine::Field(_) => false,
+    }
+}
+
+/// How the carriage moves for a line.
+pub fn spacing(program: &Program, start: &OutputStart) -> Spacing
+    ensures line { (line : Output) → IsLineAt program.now start.now line → line.spacing ≡ result }
+    ensures range { spacing_in_range result ≡ true }
+{
+    if start.place >= program.outputs.len() {
+        return NO_SPACING;
+    }
+    match &program.outputs[start.place] {
+        OutputLine::Line(card) => card.spacing,
+        OutputLine::And(_) | OutputLine::Or(_) | OutputLine::Field(_) => NO_SPACING,
+    }
+}
