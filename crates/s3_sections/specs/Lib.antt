@@ -1,0 +1,4 @@
+pub mod Sections
+pub mod Spots
+pub mod Jumps
+pub mod Courses

@@ -1,0 +1,77 @@
+//! The course of a run through subroutines.
+ghost use Rattle.std.specs.Prelude.{◌≡◌, [], None};
+ghost use Rattle.s3_lines.specs.declared.sheet.Operation.TheVariants as op;
+ghost use Rattle.s3_meaning.specs.Calculations.{name_in};
+ghost use Rattle.s3_operations.specs.Fits.{named_line};
+ghost use Rattle.s3_sections.specs.Sections.{rest_of};
+ghost use Rattle.s3_sections.specs.Spots.{IsSpot, IsLineAt, IsOfSection, subroutine_in};
+ghost use Rattle.s3_sections.specs.Courses as spec;
+ghost use Rattle.s3_program.specs.declared.program.Program.{Program};
+
+use crate::spot::Spot;
+use arrayvec::ArrayVec;
+use s3_lines::sheet::CalculationLine;
+use s3_program::program::{Program, Reference};
+
+/// The most calls, each in what the one before calls.
+pub const MOST_CALLS: usize = 8;
+
+/// Where a run stands, and where it goes on when subroutines are done.
+#[derive(Drop)]
+pub struct Course {
+    /// Where it stands.
+    pub here: Spot,
+    /// Where it goes on behind each EXSR that isn't done, the innermost last.
+    pub returns: ArrayVec<Spot, MOST_CALLS>,
+}
+
+impl Course {
+    /// A course that begins at a spot outside of all subroutines.
+    pub fn new(here: Spot) -> Course
+        ensures here { result.here ≡ here }
+        ensures returns { result.returns.items ≡ [] }
+        ensures course { (program : Program) → IsSpot program here → subroutine_in here ≡ None → spec.IsCourse program result }
+    {
+        Course {
+            here,
+            returns: ArrayVec::new(),
+        }
+    }
+
+    /// Goes on at another place of the section in which it stands.
+    pub fn move_to(&mut self, place: usize)
+        ensures here { self.new.here ≡ record self.old.here { place = place } }
+        ensures returns { self.new.returns ≡ self.old.returns }
+        ensures course { (program : Program) → spec.IsCourse program self.old → IsSpot program (record self.old.here { place = place }) → spec.IsCourse program self.new }
+    {
+        self.here.place = place;
+    }
+
+    /// Goes to the subroutine that the EXSR at a place calls.
+    pub fn enter(&mut self, program: &Program, line: &CalculationLine<Reference>, place: usize)
+        requires course { spec.IsCourse program.now self.old }
+        requires line { IsLineAt program.now place line.now op.ExecuteSubroutine }
+        requires inside { IsOfSection program.now self.old.here place line.now }
+        ensures { spec.Enters program.now (name_in (named_line program.now line.now).factor2) place self.old self.new }
+    {
+        self.returns.push(Spot {
+            section: self.here.section,
+            begin: self.here.begin,
+            place: place + 1,
+        });
+        self.here = Spot::subroutine(program, line);
+    }
+
+    /// At the end of a section, goes on behind the EXSR that called it; false where none did.
+    pub fn leave(&mut self) -> bool
+        ensures { (program : Program) → spec.IsCourse program self.old → rest_of program self.old.here.section self.old.here.place ≡ [] → spec.Leaves program self.old self.new result }
+    {
+        match self.returns.pop() {
+            Some(spot) => {
+                self.here = spot;
+                true
+            }
+            None => false,
+        }
+    }
+}

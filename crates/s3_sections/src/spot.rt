@@ -1,0 +1,148 @@
+//! Where a run stands in a section of the C sheet, and which calculation comes next.
+ghost use Rattle.std.specs.Prelude.{◌≡◌, ◌&&◌, None};
+ghost use Rattle.s3_meaning.specs.Source.{detail_calculations, total_calculations};
+ghost use Rattle.s3_program.specs.Stands.{source_named};
+ghost use Rattle.s3_meaning.specs.Environment.{Environment};
+ghost use Rattle.s3_meaning.specs.Calculating.{level_on};
+ghost use Rattle.s3_program.specs.Standings.{ends_subroutine};
+ghost use Rattle.s3_program.specs.declared.program.Program.{Program};
+ghost use Rattle.s3_operations.specs.Held.{held};
+ghost use Rattle.s3_sections.specs.Sections.{rest_of, has_line, is_detail_time, is_total_time};
+ghost use Rattle.s3_sections.specs.Spots.{IsSpot, ComesAny, subroutine_in};
+
+use s3_lines::sheet::{CalculationTime, Operation};
+use s3_operations::groups::Gathered;
+use s3_operations::values::Values;
+use s3_program::program::Program;
+
+/// A part of the C sheet whose lines are done one behind the other.
+#[derive(Clone, Copy, Default)]
+pub enum Section {
+    /// The detail lines.
+    #[default]
+    Detail,
+    /// The total lines.
+    Total,
+    /// The lines of a subroutine, behind its BEGSR.
+    Subroutine,
+}
+
+impl Section {
+    /// Whether a calculation with this level entry and this operation is one of the section; a subroutine ends at its ENDSR.
+    fn has(self, time: CalculationTime, operation: Option<Operation>) -> bool
+        ensures { result ≡ has_line self time operation }
+    {
+        match self {
+            Section::Detail => is_detail(time),
+            Section::Total => is_total(time),
+            Section::Subroutine => !is_end(operation),
+        }
+    }
+}
+
+fn is_detail(time: CalculationTime) -> bool
+    ensures { result ≡ is_detail_time time }
+{
+    matches!(time, CalculationTime::Detail)
+}
+
+fn is_total(time: CalculationTime) -> bool
+    ensures { result ≡ is_total_time time }
+{
+    matches!(time, CalculationTime::Total(_))
+}
+
+fn is_end(operation: Option<Operation>) -> bool
+    ensures { result ≡ ends_subroutine operation }
+{
+    matches!(operation, Some(Operation::EndSubroutine))
+}
+
+/// Whether the level entry of a calculation holds: that of a total line where its indicator is on.
+fn is_level_on(values: &Values, time: CalculationTime) -> bool
+    ensures { (program : Program) (rest : Environment) → result ≡ level_on time (held program values.now rest) }
+{
+    match time {
+        CalculationTime::Total(level) => values.indicators.is_on(level),
+        CalculationTime::Detail
+        | CalculationTime::Subroutine
+        | CalculationTime::And
+        | CalculationTime::Or => true,
+    }
+}
+
+/// Whether its level entry and a group of its conditions hold.
+fn holds(values: &Values, gathered: Gathered) -> bool
+    ensures { (program : Program) (rest : Environment) → result ≡ (level_on gathered.time (held program values.now rest) && gathered.holds) }
+{
+    is_level_on(values, gathered.time) && gathered.holds
+}
+
+/// Where a run stands in a section.
+#[derive(Clone, Copy, Default)]
+pub struct Spot {
+    /// Which section.
+    pub section: Section,
+    /// The place at which the section begins: of its first line, or behind its BEGSR.
+    pub begin: usize,
+    /// The place from which the section goes on.
+    pub place: usize,
+}
+
+/// The next calculation of a section.
+#[derive(Clone, Copy)]
+pub struct Next {
+    /// The place of its card with an operation.
+    pub place: usize,
+    /// Its level and a group of its conditions hold.
+    pub holds: bool,
+}
+
+impl Spot {
+    /// Where the detail calculations begin.
+    pub fn detail(program: &Program) -> Spot
+        ensures spot { IsSpot program.now result }
+        ensures section { result.section ≡ Section.Detail }
+        ensures outside { subroutine_in result ≡ None }
+        ensures whole { detail_calculations (source_named program.now) ≡ rest_of program.now result.section result.begin }
+        ensures all { result.place ≡ result.begin }
+    {
+        Spot {
+            section: Section::Detail,
+            begin: 0,
+            place: 0,
+        }
+    }
+
+    /// Where the total calculations begin.
+    pub fn totals(program: &Program) -> Spot
+        ensures spot { IsSpot program.now result }
+        ensures section { result.section ≡ Section.Total }
+        ensures outside { subroutine_in result ≡ None }
+        ensures whole { total_calculations (source_named program.now) ≡ rest_of program.now result.section result.begin }
+        ensures all { result.place ≡ result.begin }
+    {
+        let totals = program.starts.sections.totals;
+        Spot {
+            section: Section::Total,
+            begin: totals,
+            place: totals,
+        }
+    }
+
+    /// The next calculation; none at the end of the section.
+    pub fn next(self, program: &Program, values: &Values) -> Option<Next>
+        requires { IsSpot program.now self }
+        ensures { (rest : Environment) → ComesAny program.now (held program.now values.now rest) self result }
+    {
+        let gathered = values.gathered(program, self.place, CalculationTime::Detail)?;
+        let line = &program.calculations[gathered.place];
+        if !self.section.has(gathered.time, line.operation) {
+            return None;
+        }
+        Some(Next {
+            place: gathered.place,
+            holds: holds(values, gathered),
+        })
+    }
+}
