@@ -1,7 +1,7 @@
 -- Only an entry that acts takes memory.
 use Rattle.std.proofs.Common.{◌≡◌, Bool, true, false, List, [], ◌∷◌, Option, Some, None, Result, Ok, Err, refl}
 use Rattle.std.specs.Prelude.{OnErr, if◌then◌else◌}
-use Rattle.s3_meaning.specs.Requests.{Request, Card, Print, Jump, End}
+use Rattle.s3_meaning.specs.Requests.{Request, Card, Read, Chain, Append, Add, Update, Print, Jump, Ask, End}
 use Rattle.s3_ocl.specs.declared.faults.FaultyJob.{FaultyJob}
 use Rattle.s3_ocl.specs.Jobs.{Job}
 use Rattle.s3_level.specs.declared.action.Action.TheVariants.{Turn}
@@ -9,7 +9,8 @@ use Rattle.s3_level.specs.declared.action.Did.{Did}
 use Rattle.s3_level.specs.declared.action.Did.TheVariants.{Acted, Idle}
 use Rattle.std.specs.declared.alloc.AllocError.{AllocError}
 use Rattle.s3_level.specs.declared.level.Level.{Level}
-use Rattle.s3_level.specs.Parts.{has_room, is_waiting}
+use Rattle.s3_level.specs.Lines.{has_room}
+use Rattle.s3_operator.specs.Halts.{is_waiting}
 use Rattle.s3_level.specs.World.{World, JobAtWork}
 use Rattle.s3_level.specs.Serving.{Outcome, acted, idle, pending, served, begun}
 use Rattle.s3_level.specs.Solo.{step_of}
@@ -28,7 +29,12 @@ served_acts Card job w not_idle = refl
 served_acts (Print page line text) job w not_idle = chosen (has_room w.lines) _ w not_idle
 served_acts Jump job w not_idle = refl
 served_acts (End at_once) job w not_idle = refl
-served_acts _ job w not_idle = absurd (not_idle refl)
+served_acts (Ask code) job w not_idle = absurd (not_idle refl)
+served_acts (Read file record_length) job w not_idle = absurd (not_idle refl)
+served_acts (Chain file record_length sought) job w not_idle = absurd (not_idle refl)
+served_acts (Append file bytes) job w not_idle = absurd (not_idle refl)
+served_acts (Add file bytes) job w not_idle = absurd (not_idle refl)
+served_acts (Update file current changes) job w not_idle = absurd (not_idle refl)
 
 begun_acts : (jobs : List (Result Job FaultyJob)) (w : World) → IdleOrActs (begun jobs w)
 begun_acts [] w not_idle = absurd (not_idle refl)

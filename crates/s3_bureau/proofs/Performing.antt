@@ -11,9 +11,7 @@ use Rattle.s3_level.specs.World.{World}
 use Rattle.s3_level.specs.Solo.{step_of, solo}
 use Rattle.s3_bureau.specs.declared.entry.Entry.{Entry}
 use Rattle.s3_bureau.specs.declared.script.Command.{Command}
-use Rattle.s3_bureau.specs.declared.bureau.Bureau.{Bureau}
 use Rattle.s3_bureau.specs.Entries.{with_action, own}
-use Rattle.s3_bureau.specs.Held.{HoldsFor}
 use Rattle.s3_bureau.specs.Script.{entries_by}
 use Rattle.s3_bureau.specs.Inner.Underway.{Performs}
 
@@ -33,30 +31,30 @@ solo-append w [] ys = refl
 solo-append w (action ∷ xs) ys = solo-append (step_of w action).world xs ys
 
 -- entries after others
-pub performs_then : (xs ys : List Entry) (first middle last : Bureau) → Performs xs first middle → Performs ys middle last → Performs (xs ++ ys) first last
+pub performs_then : (xs ys : List Entry) (first middle last : LevelId → World → Type 0) → Performs xs first middle → Performs ys middle last → Performs (xs ++ ys) first last
 performs_then xs ys first middle last before after = λ level w held.
-    subst (λ (v : World). HoldsFor level last v) (sym (ap (solo w) (own-append level xs ys) ∙ solo-append w (own level xs) (own level ys)))
+    subst (λ (v : World). last level v) (sym (ap (solo w) (own-append level xs ys) ∙ solo-append w (own level xs) (own level ys)))
     (after level (solo w (own level xs)) (before level w held))
 
-both : (from : LevelId) (action : Action) (old new : Bureau) → ((w : World) → HoldsFor from old w → HoldsFor from new (step_of w action).world)
-    → ((w : World) → HoldsFor (other from) old w → HoldsFor (other from) new w)
-    → (level : LevelId) (w : World) → HoldsFor level old w → HoldsFor level new (solo w (with_action level from action []))
+both : (from : LevelId) (action : Action) (old new : LevelId → World → Type 0) → ((w : World) → old from w → new from (step_of w action).world)
+    → ((w : World) → old (other from) w → new (other from) w)
+    → (level : LevelId) (w : World) → old level w → new level (solo w (with_action level from action []))
 both One action old new mine his One w held = mine w held
 both One action old new mine his Two w held = his w held
 both Two action old new mine his One w held = his w held
 both Two action old new mine his Two w held = mine w held
 
 -- one entry more, so many times
-pub one_more : (entry : Entry) (n : ℕ) (first middle last : Bureau) → Performs (replicate n entry) first middle
-    → ((w : World) → HoldsFor entry.level middle w → HoldsFor entry.level last (step_of w entry.action).world)
-    → ((w : World) → HoldsFor (other entry.level) middle w → HoldsFor (other entry.level) last w)
+pub one_more : (entry : Entry) (n : ℕ) (first middle last : LevelId → World → Type 0) → Performs (replicate n entry) first middle
+    → ((w : World) → middle entry.level w → last entry.level (step_of w entry.action).world)
+    → ((w : World) → middle (other entry.level) w → last (other entry.level) w)
     → Performs (replicate (n + 1) entry) first last
 one_more entry n first middle last before mine his =
     subst (λ (entries : List Entry). Performs entries first last) (replicate-append-replicate n 1 entry)
     (performs_then (replicate n entry) (entry ∷ []) first middle last before (both entry.level entry.action middle last mine his))
 
 -- one command more
-pub command_more : (front all : List Command) (command : Command) (first middle last : Bureau) → all ≡ front ++ command ∷ []
+pub command_more : (front all : List Command) (command : Command) (first middle last : LevelId → World → Type 0) → all ≡ front ++ command ∷ []
     → Performs (flat_map entries_by front) first middle → Performs (entries_by command) middle last → Performs (flat_map entries_by all) first last
 command_more front all command first middle last more before after =
     subst (λ (entries : List Entry). Performs entries first last)

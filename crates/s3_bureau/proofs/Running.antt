@@ -8,9 +8,7 @@ use Rattle.s3_level.specs.declared.action.Action.{Action}
 use Rattle.s3_level.specs.World.{World, at_start}
 use Rattle.s3_level.specs.Solo.{solo, closed}
 use Rattle.s3_bureau.specs.declared.entry.Entry.{Entry}
-use Rattle.s3_bureau.specs.declared.bureau.Bureau.{Bureau}
 use Rattle.s3_bureau.specs.Entries.{own}
-use Rattle.s3_bureau.specs.Held.{HoldsFor}
 use Rattle.s3_bureau.specs.Script.{entries_of}
 use Rattle.s3_bureau.specs.Runs.{Texts, RunTexts, texts_of, run_alone, level_texts, entries_texts, texts_after}
 use Rattle.s3_bureau.specs.Inner.Underway.{ReadsDeck, Performs, HasTexts, drained_texts}
@@ -31,9 +29,9 @@ level_given deck cards refusal actions reads =
     drained_closed refusal (solo (at_start cards) actions) ∙ rw (reads.read, reads.refused) refl
 
 -- the texts of both levels after these entries
-pub texts_given : (deck1 : List ℕ) (cards : List (List ℕ)) (refusal : Option (ℕ × ℕ)) (entries : List Entry) (opened : Bureau) (texts : RunTexts)
+pub texts_given : (deck1 : List ℕ) (cards : List (List ℕ)) (refusal : Option (ℕ × ℕ)) (entries : List Entry) (opened : LevelId → World → Type 0) (texts : RunTexts)
     → ReadsDeck deck1 cards refusal
-    → HoldsFor One opened (at_start cards) → HoldsFor Two opened (at_start [])
+    → opened One (at_start cards) → opened Two (at_start [])
     → HasTexts refusal entries opened texts
     → texts ≡ entries_texts deck1 entries
 texts_given deck1 cards refusal entries opened texts reads held_one held_two has =
@@ -43,11 +41,11 @@ texts_given deck1 cards refusal entries opened texts reads held_one held_two has
     λ i. record { one = one i; two = two i }
 
 -- the texts that both levels show once they are closed
-pub texts_shown : (refusal : Option (ℕ × ℕ)) (entries : List Entry) (opened performed finished : Bureau) (texts : RunTexts)
+pub texts_shown : (refusal : Option (ℕ × ℕ)) (entries : List Entry) (opened performed finished : LevelId → World → Type 0) (texts : RunTexts)
     → Performs entries opened performed
-    → ((level : LevelId) (w : World) → HoldsFor level performed w → HoldsFor level finished (closed w))
-    → ((w : World) → HoldsFor One finished w → texts.one ≡ drained_texts refusal w)
-    → ((w : World) → HoldsFor Two finished w → texts.two ≡ drained_texts None w)
+    → ((level : LevelId) (w : World) → performed level w → finished level (closed w))
+    → ((w : World) → finished One w → texts.one ≡ drained_texts refusal w)
+    → ((w : World) → finished Two w → texts.two ≡ drained_texts None w)
     → HasTexts refusal entries opened texts
 texts_shown refusal entries opened performed finished texts performs closes shown_one shown_two = record {
   one = λ w held. shown_one (closed (solo w (own One entries))) (closes One (solo w (own One entries)) (performs One w held));

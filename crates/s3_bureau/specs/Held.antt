@@ -4,7 +4,8 @@ use Rattle.s3_cards.specs.declared.levels.LevelId.{LevelId}
 use Rattle.s3_cards.specs.declared.levels.LevelId.TheVariants.{One, Two}
 use Rattle.s3_cards.specs.Printed.{Printed}
 use Rattle.s3_level.specs.declared.level.Level.{Level}
-use Rattle.s3_level.specs.Parts.{drained_lines}
+use Rattle.s3_operator.specs.Halts.{ShownHalt}
+use Rattle.s3_level.specs.Lines.{drained_lines}
 use Rattle.s3_level.specs.World.{World}
 use Rattle.s3_level.specs.Holds.{Holds}
 use Rattle.s3_bureau.specs.declared.bureau.Phase.{Phase}
@@ -19,6 +20,10 @@ level_of Two bureau = bureau.two
 -- the lines that a level has drained
 abbrev pub lines_at : LevelId → Bureau → List Printed
 lines_at level bureau = drained_lines (level_of level bureau).lines
+
+-- the halts that a level has shown
+abbrev pub halts_at : LevelId → Bureau → List ShownHalt
+halts_at level bureau = (level_of level bureau).halts
 
 abbrev pub takes_entries : Phase → Bool
 takes_entries Open = true
@@ -38,3 +43,7 @@ is_open bureau = takes_entries bureau.phase
 pub record HoldsFor (level : LevelId) (bureau : Bureau) (w : World) : Type 0 where
   pub goes_on : has_worlds bureau.phase ≡ true
   pub world : Holds (level_of level bureau) w
+
+-- the worlds that it holds, by level
+abbrev pub held_by : Bureau → LevelId → World → Type 0
+held_by bureau level w = HoldsFor level bureau w

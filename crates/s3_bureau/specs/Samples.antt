@@ -3,8 +3,8 @@ use Rattle.std.specs.Prelude.{ℕ, List, Option}
 use Rattle.s3_cards.specs.declared.levels.LevelId.{LevelId}
 use Rattle.s3_cards.specs.Printed.{Printed}
 use Rattle.s3_level.specs.declared.action.Action.TheVariants.{Turn, Reply, Drain}
-use Rattle.s3_level.specs.declared.halt_code.HaltCode.{HaltCode}
-use Rattle.s3_level.specs.Parts.{ShownHalt}
+use Rattle.s3_operator.specs.declared.halt_code.HaltCode.{HaltCode}
+use Rattle.s3_operator.specs.Halts.{ShownHalt}
 use Rattle.s3_bureau.specs.declared.entry.Entry.{Entry}
 
 abbrev pub turn : LevelId → Entry

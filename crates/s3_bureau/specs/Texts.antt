@@ -4,11 +4,9 @@ use Rattle.std.specs.List.{flat_map}
 use Rattle.std.specs.Fmt.{decimal}
 use Rattle.s3_cards.specs.Codes.{host_of}
 use Rattle.s3_cards.specs.Printed.{Printed}
-use Rattle.s3_meaning.specs.declared.halt.HaltCode.{HaltCode as ProgramHalt}
-use Rattle.s3_meaning.specs.declared.halt.HaltCode.TheVariants.{HaltIndicator, UnidentifiedRecord, ZeroDivisor, BadDigit, NoRecordFound, DuplicateKey, OutOfSequence, KeyChanged, NothingToUpdate, FileFull, KeyNotAscending}
-use Rattle.s3_level.specs.declared.halt_code.HaltCode.{HaltCode}
-use Rattle.s3_level.specs.declared.halt_code.HaltCode.TheVariants.{FaultyJob, NoProgram, FaultySource, Program}
-use Rattle.s3_level.specs.Parts.{ShownHalt}
+use Rattle.s3_operator.specs.declared.halt_code.HaltCode.{HaltCode}
+use Rattle.s3_operator.specs.declared.halt_code.HaltCode.TheVariants.{HaltIndicator, UnidentifiedRecord, ZeroDivisor, BadDigit, NoRecordFound, DuplicateKey, OutOfSequence, KeyChanged, NothingToUpdate, FileFull, KeyNotAscending, FaultyJob, NoProgram, FaultySource, NoLabel, DamagedLabel, MasterForUpdate, NoSpace, RetainedFile, DuplicateLabel, LabelMismatch, BadIndex}
+use Rattle.s3_operator.specs.Halts.{ShownHalt}
 
 -- a number in at least so many decimal digits
 abbrev pub in_digits : ℕ → ℕ → List ℕ
@@ -36,26 +34,30 @@ report_line p = in_digits 4 p.page ++ 32 ∷ [] ++ in_digits 2 p.line ++ 32 ∷ 
 abbrev pub report_of : List Printed → List ℕ
 report_of = flat_map report_line
 
--- the letters of what a program halts for
-abbrev pub letters_of_program : ProgramHalt → List ℕ
-letters_of_program (HaltIndicator n) = codes "H" ++ in_digits 1 n
-letters_of_program UnidentifiedRecord = codes "UR"
-letters_of_program ZeroDivisor = codes "DZ"
-letters_of_program BadDigit = codes "DE"
-letters_of_program NoRecordFound = codes "NF"
-letters_of_program DuplicateKey = codes "DK"
-letters_of_program OutOfSequence = codes "SQ"
-letters_of_program KeyChanged = codes "KC"
-letters_of_program NothingToUpdate = codes "NU"
-letters_of_program FileFull = codes "EX"
-letters_of_program KeyNotAscending = codes "KA"
-
 -- the letters of what a level halts for
 abbrev pub letters_of : HaltCode → List ℕ
+letters_of (HaltIndicator n) = codes "H" ++ in_digits 1 n
+letters_of UnidentifiedRecord = codes "UR"
+letters_of ZeroDivisor = codes "DZ"
+letters_of BadDigit = codes "DE"
+letters_of NoRecordFound = codes "NF"
+letters_of DuplicateKey = codes "DK"
+letters_of OutOfSequence = codes "SQ"
+letters_of KeyChanged = codes "KC"
+letters_of NothingToUpdate = codes "NU"
+letters_of FileFull = codes "EX"
+letters_of KeyNotAscending = codes "KA"
 letters_of FaultyJob = codes "OC"
 letters_of NoProgram = codes "PG"
 letters_of FaultySource = codes "CE"
-letters_of (Program code) = letters_of_program code
+letters_of NoLabel = codes "LB"
+letters_of DamagedLabel = codes "LD"
+letters_of MasterForUpdate = codes "MU"
+letters_of NoSpace = codes "NS"
+letters_of RetainedFile = codes "RT"
+letters_of DuplicateLabel = codes "DU"
+letters_of LabelMismatch = codes "LN"
+letters_of BadIndex = codes "IX"
 
 -- a reply, or `-` for none
 abbrev pub reply_text : Option ℕ → List ℕ

@@ -1,7 +1,7 @@
 //! The bureau: two levels, each with its own deck, that take turns.
 ghost use Rattle.std.specs.Prelude.{◌≡◌, IfOk, OnErr};
 ghost use Rattle.s3_level.specs.declared.action.Did.{Did};
-ghost use Rattle.s3_level.specs.Parts.{drained_lines};
+ghost use Rattle.s3_level.specs.Lines.{drained_lines};
 ghost use Rattle.s3_level.specs.World.{World};
 ghost use Rattle.s3_level.specs.Solo.{step_of};
 ghost use Rattle.s3_level.specs.Holds.{Holds, Steps};
@@ -36,11 +36,12 @@ impl Bureau {
     ghost use Rattle.s3_cards.specs.Levels.{other};
     ghost use Rattle.s3_cards.specs.declared.levels.LevelId.{LevelId};
     ghost use Rattle.s3_level.specs.declared.action.Did.{Did};
-    ghost use Rattle.s3_level.specs.Parts.{halt_of, drained_lines};
+    ghost use Rattle.s3_level.specs.Lines.{drained_lines};
+    ghost use Rattle.s3_operator.specs.Halts.{halt_of};
     ghost use Rattle.s3_level.specs.World.{World, at_start};
     ghost use Rattle.s3_level.specs.Solo.{step_of, closed};
     ghost use Rattle.s3_level.specs.Holds.{Holds, Steps};
-    ghost use Rattle.s3_bureau.specs.Held.{HoldsFor, is_open, level_of, lines_at};
+    ghost use Rattle.s3_bureau.specs.Held.{HoldsFor, halts_at, is_open, level_of, lines_at};
 
     /// A bureau with a deck for each level, before its first entry. Level two isn't served yet: for now its deck counts as
     /// empty.
@@ -62,8 +63,7 @@ impl Bureau {
     /// `Stop::Stopped`, as it does after `finish`.
     pub fn step(&mut self, entry: Entry) -> Result<Did, Stop>
         // The level's own world takes that entry, with this answer.
-        ensures own { IfOk result (λ did. (w : World) → HoldsFor entry.level self.old w →
-            (did ≡ (step_of w entry.action).did) × HoldsFor entry.level self.new (step_of w entry.action).world) }
+        ensures own { IfOk result (λ did. Steps entry.action did (HoldsFor entry.level self.old) (HoldsFor entry.level self.new)) }
 
         // The worlds of the other level stay.
         ensures other { OnOk result ((w : World) → HoldsFor (other entry.level) self.old w → HoldsFor (other entry.level) self.new w) }
@@ -74,6 +74,7 @@ impl Bureau {
         ensures not_before { is_open self.old ≡ true → result ≢ Err Stop.Stopped }
         ensures goes_on { OnOk result (is_open self.new ≡ true) }
         ensures stops { OnErr result (is_open self.new ≡ false) }
+        ensures holds_none { result ≡ Err Stop.NoMemory → (level : LevelId) (w : World) → HoldsFor level self.new w → ⊥ }
 
         // Only an entry that acts takes memory. Where memory runs out the drained lines of both levels stay. Whatever the
         // answer is, the other level stays as it is.
@@ -95,7 +96,7 @@ impl Bureau {
 
     /// Performs an entry in its level.
     fn enter(&mut self, entry: Entry) -> Result<Did, AllocError>
-        ensures step { IfOk result (λ did. Steps entry.action did (level_of entry.level self.old) (level_of entry.level self.new)) }
+        ensures step { IfOk result (λ did. Steps entry.action did (Holds (level_of entry.level self.old)) (Holds (level_of entry.level self.new))) }
         ensures memory { OnErr result ((w : World) → Holds (level_of entry.level self.old) w → (step_of w entry.action).did ≡ Did.Acted) }
         ensures lines { OnErr result ((level : LevelId) → lines_at level self.new ≡ lines_at level self.old) }
         ensures stays { level_of (other entry.level) self.new ≡ level_of (other entry.level) self.old }
@@ -112,7 +113,7 @@ impl Bureau {
     pub fn finish(&mut self) -> Result<(), Stop>
         ensures closes { OnOk result ((level : LevelId) (w : World) → HoldsFor level self.old w → HoldsFor level self.new (closed w)) }
         ensures stopped { is_open self.old ≡ false → (result ≡ Err Stop.Stopped) × (self.new ≡ self.old) }
-        ensures not_before { is_open self.old ≡ true → result ≢ Err Stop.Stopped }
+        ensures takes_no_memory { is_open self.old ≡ true → result ≡ Ok tt }
         ensures finished { is_open self.new ≡ false }
     {
         if self.phase != Phase::Open {
@@ -134,10 +135,8 @@ impl Bureau {
 
     /// The halts that a level has shown, in order.
     pub fn halts(&self, level: LevelId) -> &[Halt]
+        ensures value { map halt_of result.now ≡ halts_at level self.now }
         ensures world { (w : World) → HoldsFor level self.now w → map halt_of result.now ≡ w.halts }
-
-        // Also where the bureau was stopped.
-        ensures level { (w : World) → Holds (level_of level self.now) w → map halt_of result.now ≡ w.halts }
     {
         self.level(level).halts()
     }
@@ -156,7 +155,7 @@ impl Bureau {
 /// One entry of a level. It is proved once, for either level.
 #[tactic(auto, using(crate::proofs::Memory::turn_that_acts))]
 fn act(level: &mut Level, action: Action) -> Result<Did, AllocError>
-    ensures step { IfOk result (λ did. Steps action did level.old level.new) }
+    ensures step { IfOk result (λ did. Steps action did (Holds level.old) (Holds level.new)) }
     ensures memory { OnErr result ((w : World) → Holds level.old w → (step_of w action).did ≡ Did.Acted) }
     ensures lines { OnErr result (drained_lines level.new.lines ≡ drained_lines level.old.lines) }
 {

@@ -1,13 +1,12 @@
 //! A level's halt text: its halts, with what was wrong at each.
 ghost use Rattle.std.specs.Prelude.{◌≡◌, ◌++◌, map, OnOk, IfOk};
 ghost use Rattle.std.specs.List.{flat_map};
-ghost use Rattle.s3_level.specs.Parts.{halt_of};
-ghost use Rattle.s3_meaning.specs.declared.halt.HaltCode.TheVariants.{HaltIndicator};
-ghost use Rattle.s3_bureau.specs.Texts.{letters_of, letters_of_program, reply_text, detail_line, halt_line, halt_lines, refusal_line, halt_text_of};
+ghost use Rattle.s3_operator.specs.Halts.{halt_of};
+ghost use Rattle.s3_operator.specs.declared.halt_code.HaltCode.TheVariants.{HaltIndicator};
+ghost use Rattle.s3_bureau.specs.Texts.{letters_of, reply_text, detail_line, halt_line, halt_lines, refusal_line, halt_text_of};
 
 use super::number::push_number;
-use s3_level::{Halt, HaltCode};
-use s3_meaning::halt::HaltCode as ProgramHalt;
+use s3_operator::{Halt, HaltCode};
 use std::alloc::{AllocError, Global};
 
 /// The halt text of the halts. Where the deck was refused, the number of the card at fault and of its fault go first, as
@@ -87,33 +86,33 @@ fn push_letters(text: &mut Vec<u8>, code: HaltCode) -> Result<(), AllocError>
     ensures { OnOk result (text.new.items ≡ text.old.items ++ letters_of code) }
 {
     match code {
+        HaltCode::HaltIndicator(number) => push_indicator(text, number),
+        HaltCode::UnidentifiedRecord => text.extend_from_slice(b"UR"),
+        HaltCode::ZeroDivisor => text.extend_from_slice(b"DZ"),
+        HaltCode::BadDigit => text.extend_from_slice(b"DE"),
+        HaltCode::NoRecordFound => text.extend_from_slice(b"NF"),
+        HaltCode::DuplicateKey => text.extend_from_slice(b"DK"),
+        HaltCode::OutOfSequence => text.extend_from_slice(b"SQ"),
+        HaltCode::KeyChanged => text.extend_from_slice(b"KC"),
+        HaltCode::NothingToUpdate => text.extend_from_slice(b"NU"),
+        HaltCode::FileFull => text.extend_from_slice(b"EX"),
+        HaltCode::KeyNotAscending => text.extend_from_slice(b"KA"),
         HaltCode::FaultyJob => text.extend_from_slice(b"OC"),
         HaltCode::NoProgram => text.extend_from_slice(b"PG"),
         HaltCode::FaultySource => text.extend_from_slice(b"CE"),
-        HaltCode::Program(code) => push_program_letters(text, code),
-    }
-}
-
-fn push_program_letters(text: &mut Vec<u8>, code: ProgramHalt) -> Result<(), AllocError>
-    ensures { OnOk result (text.new.items ≡ text.old.items ++ letters_of_program code) }
-{
-    match code {
-        ProgramHalt::HaltIndicator(number) => push_indicator(text, number),
-        ProgramHalt::UnidentifiedRecord => text.extend_from_slice(b"UR"),
-        ProgramHalt::ZeroDivisor => text.extend_from_slice(b"DZ"),
-        ProgramHalt::BadDigit => text.extend_from_slice(b"DE"),
-        ProgramHalt::NoRecordFound => text.extend_from_slice(b"NF"),
-        ProgramHalt::DuplicateKey => text.extend_from_slice(b"DK"),
-        ProgramHalt::OutOfSequence => text.extend_from_slice(b"SQ"),
-        ProgramHalt::KeyChanged => text.extend_from_slice(b"KC"),
-        ProgramHalt::NothingToUpdate => text.extend_from_slice(b"NU"),
-        ProgramHalt::FileFull => text.extend_from_slice(b"EX"),
-        ProgramHalt::KeyNotAscending => text.extend_from_slice(b"KA"),
+        HaltCode::NoLabel => text.extend_from_slice(b"LB"),
+        HaltCode::DamagedLabel => text.extend_from_slice(b"LD"),
+        HaltCode::MasterForUpdate => text.extend_from_slice(b"MU"),
+        HaltCode::NoSpace => text.extend_from_slice(b"NS"),
+        HaltCode::RetainedFile => text.extend_from_slice(b"RT"),
+        HaltCode::DuplicateLabel => text.extend_from_slice(b"DU"),
+        HaltCode::LabelMismatch => text.extend_from_slice(b"LN"),
+        HaltCode::BadIndex => text.extend_from_slice(b"IX"),
     }
 }
 
 fn push_indicator(text: &mut Vec<u8>, number: u8) -> Result<(), AllocError>
-    ensures { OnOk result (text.new.items ≡ text.old.items ++ letters_of_program (HaltIndicator number)) }
+    ensures { OnOk result (text.new.items ≡ text.old.items ++ letters_of (HaltIndicator number)) }
 {
     text.push(b'H')?;
     push_number(text, u16::from(number), 1)

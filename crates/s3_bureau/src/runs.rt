@@ -4,7 +4,7 @@ ghost use Rattle.std.specs.List.{flat_map};
 ghost use Rattle.s3_cards.specs.declared.levels.LevelId.{LevelId};
 ghost use Rattle.s3_level.specs.World.{World};
 ghost use Rattle.s3_level.specs.Solo.{closed};
-ghost use Rattle.s3_bureau.specs.Held.{HoldsFor, is_open};
+ghost use Rattle.s3_bureau.specs.Held.{HoldsFor, held_by, is_open};
 ghost use Rattle.s3_bureau.specs.declared.stop.Stop.TheVariants.{Stopped};
 ghost use Rattle.s3_bureau.specs.Script.{entries_by};
 ghost use Rattle.s3_bureau.specs.Runs.{Runs, entries_texts, outcome_texts, texts_in};
@@ -65,7 +65,7 @@ fn served(
     refusal: Option<(u16, u8)>,
 ) -> Result<Outcome, AllocError>
     requires { is_open bureau.old ≡ true }
-    ensures texts { IfOk result (λ outcome. HasTexts refusal (flat_map entries_by commands.now) bureau.old (outcome_texts outcome)) }
+    ensures texts { IfOk result (λ outcome. HasTexts refusal (flat_map entries_by commands.now) (held_by bureau.old) (outcome_texts outcome)) }
     ensures pack { IfOk result (λ outcome. outcome.pack.items ≡ pack.now) }
 {
     perform(bureau, commands)?;
@@ -93,7 +93,7 @@ fn read_deck(alloc: Global, text: &[u8]) -> Result<(Deck, Option<(u16, u8)>), Al
 /// Performs the entries of all commands, in order.
 fn perform(bureau: &mut Bureau, commands: &[Command]) -> Result<(), AllocError>
     requires { is_open bureau.old ≡ true }
-    ensures worlds { OnOk result (Performs (flat_map entries_by commands.now) bureau.old bureau.new) }
+    ensures worlds { OnOk result (Performs (flat_map entries_by commands.now) (held_by bureau.old) (held_by bureau.new)) }
     ensures goes_on { OnOk result (is_open bureau.new ≡ true) }
 {
     for command in commands {
@@ -105,7 +105,7 @@ fn perform(bureau: &mut Bureau, commands: &[Command]) -> Result<(), AllocError>
 /// Performs an entry so many times.
 fn repeat(bureau: &mut Bureau, entry: Entry, count: u16) -> Result<(), AllocError>
     requires { is_open bureau.old ≡ true }
-    ensures worlds { OnOk result (Performs (replicate count entry) bureau.old bureau.new) }
+    ensures worlds { OnOk result (Performs (replicate count entry) (held_by bureau.old) (held_by bureau.new)) }
     ensures goes_on { OnOk result (is_open bureau.new ≡ true) }
 {
     for _time in 0..count {

@@ -1,7 +1,8 @@
 //! One session: bytes in, bytes out.
 
-ghost use Rattle.std.specs.Prelude.{◌≡◌, Ok, Err, IfOk, IfErr, IfSome};
+ghost use Rattle.std.specs.Prelude.{◌≡◌, ◌≢◌, Ok, Err, IfOk, IfErr, IfSome};
 ghost use Rattle.s3_cli.specs.Session.{Answers, Refuses};
+ghost use Rattle.s3_cli.specs.declared.fault.SessionFault.TheVariants.{File};
 
 use crate::fault::SessionFault;
 use crate::input::{ReadFault, read_within};
@@ -28,6 +29,7 @@ pub fn session<R: Read, W: Write>(
     ensures wrote { IfOk result (λ saved. IfSome (R.remaining reader.old) (λ input.
         Answers pack.now input saved.items (W.contents writer.old) (W.contents writer.new))) }
     ensures refused { IfErr result (λ fault. IfSome (R.remaining reader.old) (λ input. Refuses fault input)) }
+    ensures wrote_nothing { IfErr result (λ fault. fault ≢ File → W.contents writer.new ≡ W.contents writer.old) }
 {
     let input = match read_within(alloc, reader, INPUT_LIMIT) {
         Ok(input) => input,

@@ -16,6 +16,7 @@ use Rattle.s3_lines.specs.declared.sheet.Designation.TheVariants.{Primary, Secon
 use Rattle.s3_lines.specs.declared.sheet.Device.{Device}
 use Rattle.s3_lines.specs.declared.sheet.Device.TheVariants.{CardReader, Printer, Disk}
 use Rattle.s3_lines.specs.declared.sheet.FileLine.{FileLine}
+use Rattle.s3_lines.proofs.FileLemmas.{primary_designation}
 use Rattle.s3_lines.specs.declared.sheet.RecordCode.{RecordCode}
 use Rattle.s3_lines.specs.declared.sheet.FieldLine.{FieldLine}
 use Rattle.s3_lines.specs.declared.sheet.InputLine.{InputLine}
@@ -30,7 +31,7 @@ use Rattle.s3_lines.specs.declared.sheet.SheetLine.TheVariants.{Header, File, In
 use Rattle.s3_lines.specs.declared.sheet.Line.{Line}
 use Rattle.s3_meaning.specs.Source.{Source, source_of, file_line, input_line, calculation_line, output_line, is_designated, is_input, is_card_reader, is_printer, overflow_of, field_shape, input_shape, shape_in, shape_of, reserved_shapes, result_shape, is_numeric, file_named}
 use Rattle.s3_cycle.specs.declared.built.Before.{Before}
-use Rattle.s3_cycle.specs.Built.{is_primary, is_card_device, is_print_device, is_card_file, is_print_file, is_built_file, is_file, is_built_card, after_file, after, nothing_before, are_files, is_general, is_built_behind, is_built, is_built_input, is_built_line, is_built_piece, is_detail, is_blank, is_for_print, is_in_print, is_built_content, are_built_conditions}
+use Rattle.s3_cycle.specs.Built.{is_card_device, is_print_device, is_card_file, is_print_file, is_built_file, is_file, is_built_card, after_file, after, nothing_before, are_files, is_general, is_built_behind, is_built, is_built_input, is_built_line, is_built_piece, is_detail, is_blank, is_for_print, is_in_print, is_built_content, are_built_conditions}
 use Rattle.s3_meaning.specs.Names.{entries, page, udate, umonth, uday, uyear}
 use Rattle.s3_meaning.specs.RecordTypes.{further_codes, group_fields, type_from, types_from, types_of}
 use Rattle.s3_meaning.specs.OutputLines.{fields_from, outputs_from}
@@ -87,12 +88,6 @@ pub record PrintFile (b : Before) (file : FileLine) : Type 0 where
   pub width : is_between 1 132 file.record_length ≡ true
   pub behind : after_file b file ≡ record b { print = Some file }
 
-its_primary : (d : Option Designation) → is_primary d ≡ true → d ≡ Some Primary
-its_primary None h = nothing h
-its_primary (Some Primary) h = refl
-its_primary (Some Secondary) h = nothing h
-its_primary (Some Chained) h = nothing h
-
 its_reader : (d : Device) → is_card_device d ≡ true → d ≡ CardReader
 its_reader CardReader h = refl
 its_reader Printer h = nothing h
@@ -114,7 +109,7 @@ card_file b file h =
     let one = and_parts _ _ two.0 in
     record {
       fresh = its_none b.card one.0;
-      primary = its_primary file.designation one.1;
+      primary = primary_designation file one.1;
       reader = its_reader file.device two.1;
       overflow = its_none file.overflow three.1;
       behind = ap (λ c. if c then record b { card = Some file } else (if is_print_file b file then record b { print = Some file } else b)) h;

@@ -6,7 +6,7 @@ use Rattle.std.proofs.lemmas.Bool.{ne_eqb}
 use Rattle.s3_lines.specs.declared.indicator.Indicator.{Indicator}
 use Rattle.s3_lines.specs.declared.indicator.Indicator.TheVariants.{General, Level, LastRecord, Matching, Halt, FirstPage, Overflow, Switch}
 use Rattle.s3_lines.specs.declared.sheet.FileLine.{FileLine}
-use Rattle.s3_meaning.specs.declared.halt.HaltCode.TheVariants.{HaltIndicator}
+use Rattle.s3_operator.specs.declared.halt_code.HaltCode.TheVariants.{HaltIndicator}
 use Rattle.s3_meaning.specs.Names.{same_indicator, is_indicator}
 use Rattle.s3_meaning.specs.RecordTypes.{RecordType}
 use Rattle.s3_meaning.specs.Source.{Source, is_input}
@@ -46,10 +46,15 @@ level-off on n quiet = sym (quiet.levels (suc n) ∙ ne_eqb (suc n) 0 (λ e. pos
     positive : suc n ≡ 0 → ⊥
     positive e = omega arith
 
+-- one that is off stays off
+still-off : (b v : Bool) → v ≡ false → (if b then false else (v && true)) ≡ v
+still-off true v off = sym off
+still-off false v off = and_true v
+
 cleared-none : (on : Indicator → Bool) → IsQuiet on → (other : Indicator) → cleared_on false [] on other ≡ off_by None on other
 cleared-none on quiet (General n) = and_true (on (General n))
 cleared-none on quiet (Level zero) = and_true (on (Level zero))
-cleared-none on quiet (Level (suc n)) = level-off on n quiet
+cleared-none on quiet (Level (suc n)) = still-off (is_level (Level (suc n))) (on (Level (suc n))) (sym (level-off on n quiet))
 cleared-none on quiet LastRecord = and_true (on LastRecord)
 cleared-none on quiet Matching = and_true (on Matching)
 cleared-none on quiet (Halt n) = and_true (on (Halt n))
@@ -68,7 +73,7 @@ cleared-one on number kind quiet same other = ap (λ i. cleared_on false (record
     by_kind : (other : Indicator) → cleared_on false (record kind { indicator = General number } ∷ []) on other ≡ off_by (Some (General number)) on other
     by_kind (General n) = chosen (n == number) (on (General n))
     by_kind (Level zero) = and_true (on (Level zero))
-    by_kind (Level (suc n)) = level-off on n quiet
+    by_kind (Level (suc n)) = still-off (is_level (Level (suc n))) (on (Level (suc n))) (sym (level-off on n quiet))
     by_kind LastRecord = and_true (on LastRecord)
     by_kind Matching = and_true (on Matching)
     by_kind (Halt n) = and_true (on (Halt n))
@@ -123,7 +128,7 @@ card-asked c source serves used =
     let served : IsServed source = serves.served in
     ap (λ files. files_read source (again source) (map (waiting_of c) files) (heads_read source) (held source c)) served.inputs
     ∙ ap (λ standing. files_read source (again source) (record { file = served.card; standing = standing; reads = c.reads; last_key = None } ∷ []) (heads_read source) (held source c)) (stands-unread c used)
-    ∙ ap (λ reader. ask (if reader then Card else Read served.card.name) (λ answer. card_answered source c (served.card ∷ []) answer (held source c))) served.reader
+    ∙ ap (λ reader. ask (if reader then Card else Read served.card.name served.card.record_length) (λ answer. card_answered source c (served.card ∷ []) answer (held source c))) served.reader
     ∙ ap (λ files. ask Card (λ answer. card_answered source c files answer (held source c))) (sym served.inputs)
 
 -- a card file that isn't read has ended, and so does the job

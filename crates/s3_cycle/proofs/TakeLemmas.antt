@@ -10,13 +10,14 @@ use Rattle.s3_cards.proofs.NameLemmas.{same_name-self}
 use Rattle.s3_lines.specs.declared.indicator.Indicator.{Indicator}
 use Rattle.s3_lines.specs.declared.indicator.Indicator.TheVariants.{General, Level, LastRecord, Matching, Halt, FirstPage, Overflow, Switch}
 use Rattle.s3_lines.specs.declared.sheet.FileLine.{FileLine}
+use Rattle.s3_lines.proofs.FileLemmas.{primary_designation}
 use Rattle.s3_lines.specs.declared.sheet.Designation.{Designation}
 use Rattle.s3_lines.specs.declared.sheet.Designation.TheVariants.{Primary, Secondary, Chained}
 use Rattle.s3_lines.specs.declared.sheet.InputLine.{InputLine}
 use Rattle.s3_program.specs.declared.program.Reference.{Reference}
 use Rattle.s3_lines.specs.declared.sheet.OutputLine.{OutputLine}
 use Rattle.s3_lines.specs.declared.sheet.OutputLine.TheVariants.{Line as LineCard, And as AndCard, Or as OrCard, Field as FieldCard}
-use Rattle.s3_meaning.specs.declared.halt.HaltCode.TheVariants.{UnidentifiedRecord, OutOfSequence}
+use Rattle.s3_operator.specs.declared.halt_code.HaltCode.TheVariants.{UnidentifiedRecord, OutOfSequence}
 use Rattle.s3_meaning.specs.Names.{same_indicator}
 use Rattle.s3_meaning.specs.RecordTypes.{RecordType, group_fields}
 use Rattle.s3_meaning.specs.Calculations.{is_detail, is_total}
@@ -155,15 +156,6 @@ unfolding overflow_lines
 no-overflow_lines source none go e = rw none refl
 
 -- the card is the current record of its file
-primary-designation : (card : FileLine) → is_designated Primary card ≡ true → card.designation ≡ Some Primary
-primary-designation card primary = by card.designation primary
-  where
-    by : (designation : Option Designation) → is_designated Primary (record card { designation = designation }) ≡ true → designation ≡ Some Primary
-    by None e = absurd (true≢false (sym e))
-    by (Some Primary) e = refl
-    by (Some Secondary) e = absurd (true≢false (sym e))
-    by (Some Chained) e = absurd (true≢false (sym e))
-
 current-matched : (c : Stepper) (source : Source) (served : IsServed source) (head : Head) → IsQuiet (on_in c.state.indicators) → matched false (record { file = served.card; head = head }) (held source c) ≡ held source (record c { current = Some head.number })
 unfolding held
 current-matched c source served head quiet =
@@ -215,7 +207,7 @@ select-head file head plain = by_end file.ends_job
     by_end false = ap (λ key. option_or (cond (not (is_some key)) (Some (record { file = record file { ends_job = false }; head = head })) None) (least (primary_first (record { file = record file { ends_job = false }; head = head } ∷ [])))) (plain-match_key head.kind head.bytes plain)
 
 not-matched : (file : FileLine) (head : Head) → is_designated Primary file ≡ true → is_matched (one_head file head) (record { file = file; head = head }) ≡ false
-not-matched file head primary = ap (λ designation. is_matched (one_head (record file { designation = designation }) head) (record { file = record file { designation = designation }; head = head })) (primary-designation file primary)
+not-matched file head primary = ap (λ designation. is_matched (one_head (record file { designation = designation }) head) (record { file = record file { designation = designation }; head = head })) (primary_designation file primary)
 
 taken-head : (file : FileLine) (head : Head) → ArePlain head.kind.fields → is_designated Primary file ≡ true → taken (one_head file head) (record { file = file; head = head }) ≡ record { files = record { file = file; standing = Unread; reads = head.number; last_key = None } ∷ []; primary_key = None }
 taken-head file head plain primary =

@@ -9,11 +9,11 @@ use Rattle.s3_lines.specs.Reserved.{is_reserved}
 use Rattle.s3_lines.specs.declared.indicator.Indicator.{Indicator}
 use Rattle.s3_lines.specs.declared.indicator.Indicator.TheVariants.{General, Switch}
 use Rattle.s3_lines.specs.declared.indicator.Condition.{Condition}
-use Rattle.s3_lines.specs.declared.sheet.Designation.{Designation}
 use Rattle.s3_lines.specs.declared.sheet.Designation.TheVariants.{Primary}
 use Rattle.s3_lines.specs.declared.sheet.Device.{Device}
 use Rattle.s3_lines.specs.declared.sheet.Device.TheVariants.{CardReader, Printer}
 use Rattle.s3_lines.specs.declared.sheet.FileLine.{FileLine}
+use Rattle.s3_lines.specs.Files.{is_designated}
 use Rattle.s3_lines.specs.declared.sheet.InputLine.{InputLine}
 use Rattle.s3_lines.specs.declared.sheet.InputLine.TheVariants.{Record, And as AndCodes, Or as OrCodes, Field as InputField}
 use Rattle.s3_lines.specs.declared.sheet.OutputKind.{OutputKind}
@@ -33,10 +33,6 @@ use Rattle.s3_cycle.specs.declared.built.Before.{Before}
 use Rattle.s3_cycle.specs.Served.{is_plain, is_plain_form}
 
 -- ---- files
-abbrev pub is_primary : Option Designation → Bool
-is_primary (Some Primary) = true
-is_primary _ = false
-
 abbrev pub is_card_device : Device → Bool
 is_card_device CardReader = true
 is_card_device _ = false
@@ -47,7 +43,7 @@ is_print_device _ = false
 
 -- the one card file
 abbrev pub is_card_file : Before → FileLine → Bool
-is_card_file before file = is_none before.card && is_primary file.designation && is_card_device file.device && is_none file.overflow
+is_card_file before file = is_none before.card && is_designated Primary file && is_card_device file.device && is_none file.overflow
 
 -- the one print file
 abbrev pub is_print_file : Before → FileLine → Bool

@@ -4,6 +4,5 @@ pub mod Printing
 pub mod Steps
 pub mod Texts
 pub mod Slots
-pub mod Places
 pub mod Moving
 pub mod Indicators

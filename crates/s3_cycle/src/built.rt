@@ -8,7 +8,7 @@ use s3_cards::Name;
 use s3_lines::indicator::{Condition, Indicator};
 use s3_lines::is_reserved;
 use s3_lines::sheet::{
-    Designation, Device, FieldForm, FieldLine, FieldOutput, FileLine, InputLine, Line, OutputCard,
+    Device, FieldForm, FieldLine, FieldOutput, FileLine, InputLine, Line, OutputCard,
     OutputContent, OutputField, OutputForm, OutputKind, OutputLine, SheetLine, Spacing,
 };
 use std::alloc::{AllocError, Global};
@@ -24,12 +24,6 @@ pub struct Before {
     pub is_typed: bool,
     /// An output line stands there.
     pub is_lined: bool,
-}
-
-fn is_primary(designation: Option<Designation>) -> bool
-    ensures { result ≡ spec.is_primary designation }
-{
-    matches!(designation, Some(Designation::Primary))
 }
 
 fn is_card_reader(device: Device) -> bool
@@ -48,7 +42,7 @@ fn is_card_file(before: &Before, file: &FileLine) -> bool
     ensures { result ≡ spec.is_card_file before.now file.now }
 {
     before.card.is_none()
-        && is_primary(file.designation)
+        && file.is_primary()
         && is_card_reader(file.device)
         && file.overflow.is_none()
 }

@@ -1,33 +1,14 @@
 //! The indicators of a run.
-ghost use Rattle.std.specs.Prelude.{◌≡◌, ◌<◌};
-ghost use Rattle.s3_cycle.specs.Inner.Places.{place_of as place_of_spec};
 
 use s3_lines::indicator::{Condition, Indicator};
 
-/// The indicators of a run: those that change, each at eight times its number and its kind, and the switches.
+/// The indicators of a run: those that change, each at its number, and the switches.
 #[derive(Clone, Copy)]
 pub struct Indicators {
-    /// By place.
+    /// By number.
     pub on: [bool; 2048],
     /// U1 to U8, U1 the highest bit.
     pub switches: u8,
-}
-
-/// The place of an indicator, at which no other one is; a switch has none.
-fn place_of(indicator: Indicator) -> usize
-    ensures place { result ≡ place_of_spec indicator }
-    ensures within { result < 2048 }
-{
-    match indicator {
-        Indicator::General(number) => 8 * usize::from(number),
-        Indicator::Level(number) => 8 * usize::from(number) + 1,
-        Indicator::LastRecord => 2,
-        Indicator::Matching => 3,
-        Indicator::Halt(number) => 8 * usize::from(number) + 4,
-        Indicator::FirstPage => 5,
-        Indicator::Overflow(number) => 8 * usize::from(number) + 6,
-        Indicator::Switch(number) => 8 * usize::from(number) + 7,
-    }
 }
 
 impl Indicators {
@@ -59,7 +40,7 @@ impl Indicators {
             Indicator::Switch(number) => (u16::from(self.switches) >> 8u8.saturating_sub(number))
                 % 2
                 == 1,
-            _ => self.on[place_of(indicator)],
+            _ => self.on[indicator.number()],
         }
     }
 
@@ -101,7 +82,7 @@ impl Indicators {
         requires { is_settable indicator ≡ true }
         ensures { (other : Indicator) → on_in self.new other ≡ (if same_indicator other indicator then to else on_in self.old other) }
     {
-        self.on[place_of(indicator)] = to;
+        self.on[indicator.number()] = to;
     }
 
     /// An entry goes off, if it isn't blank.

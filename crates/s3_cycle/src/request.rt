@@ -4,7 +4,7 @@ ghost use Rattle.std.specs.Prelude.{◌≡◌};
 ghost use Rattle.s3_cycle.specs.Requests.{is_fit};
 
 use s3_cards::{Card, PrintLine};
-use s3_meaning::halt::HaltCode;
+use s3_operator::HaltCode;
 
 /// What a run asks for.
 #[derive(Clone, Copy)]

@@ -20,7 +20,7 @@ use s3_cards::ebcdic::BLANK;
 use s3_cards::{Card, PRINT_POSITIONS, PrintLine};
 use s3_lines::indicator::Indicator;
 use s3_lines::sheet::{Designation, Device, FileLine, OutputLine};
-use s3_meaning::halt::HaltCode;
+use s3_operator::HaltCode;
 use s3_program::program::Program;
 use std::alloc::{AllocError, Global};
 

@@ -13,26 +13,25 @@ use Rattle.s3_diagnose.specs.Diagnostics.{compile_diagnostics}
 use Rattle.s3_cycle.specs.Built.{is_built, unbuilt_cards}
 use Rattle.s3_cycle.specs.Serves.{serves}
 use Rattle.s3_cycle.proofs.ServesLemmas.{built_serves}
-use Rattle.s3_level.specs.declared.level.Level.{Level}
 use Rattle.s3_level.specs.declared.stocked.Stocked.{Stocked}
-use Rattle.s3_level.specs.declared.halt_code.HaltCode.TheVariants.{FaultySource}
+use Rattle.s3_operator.specs.declared.halt_code.HaltCode.TheVariants.{FaultySource}
 use Rattle.s3_level.specs.Serving.{accepted, compiled, compiled_data, first_else, halting, stocked, unbuilt_details}
 use Rattle.s3_level.specs.declared.job.OpenJob.{OpenJob}
 use Rattle.s3_level.specs.World.{World, JobAtWork}
-use Rattle.s3_level.specs.Holds.{Holds, HoldsAtWork, Stocks, Becomes}
+use Rattle.s3_level.specs.Holds.{HoldsAtWork, Stocks, Becomes}
 
 -- a program that stands for lines goes into the library if all their cards are built
-pub built_source : {T E : Type 0} (result : Result T E) (number : ℕ) (lines : List Line) (program : Program) (old new : Level)
+pub built_source : {T E : Type 0} (result : Result T E) (number : ℕ) (lines : List Line) (program : Program) (old new : World → Type 0)
     → is_built lines ≡ true
     → StandsFor program lines
     → OnOk result ((source : Source) → Stands program source → Becomes (stocked program.name source) old new)
     → OnOk result (Becomes (accepted number lines) old new)
 built_source (Ok _) number lines program old new built stands stocks =
     λ w held.
-    rw built (subst (λ name. Holds new (stocked name (source_of lines) w)) stands.name (stocks (source_of lines) stands.meaning w held))
+    rw built (subst (λ name. new (stocked name (source_of lines) w)) stands.name (stocks (source_of lines) stands.meaning w held))
 built_source (Err _) number lines program old new built stands stocks = tt
 
-pub unbuilt_source : {T E : Type 0} (result : Result T E) (number : ℕ) (lines : List Line) (old new : Level)
+pub unbuilt_source : {T E : Type 0} (result : Result T E) (number : ℕ) (lines : List Line) (old new : World → Type 0)
     → is_built lines ≡ false
     → OnOk result (Becomes (halting number FaultySource (unbuilt_details (unbuilt_cards lines))) old new)
     → OnOk result (Becomes (accepted number lines) old new)
@@ -44,7 +43,7 @@ pub stocked_served : (lines : List Line) (program : Program) → is_built lines 
 stocked_served lines program built stands = ap serves stands.meaning ∙ built_serves lines built
 
 -- a source without diagnostics is accepted
-pub accepted_source : {T E : Type 0} (result : Result T E) (number run_card : ℕ) (lines : List Line) (old new : Level)
+pub accepted_source : {T E : Type 0} (result : Result T E) (number run_card : ℕ) (lines : List Line) (old new : World → Type 0)
     → compile_diagnostics run_card lines ≡ []
     → OnOk result (Becomes (accepted number lines) old new)
     → OnOk result (Becomes (compiled number lines (compile_diagnostics run_card lines)) old new)
@@ -52,15 +51,15 @@ accepted_source (Ok _) number run_card lines old new none accepts = λ w held. r
 accepted_source (Err _) number run_card lines old new none accepts = tt
 
 -- a source whose cards have no diagnostics is compiled by its lines
-pub compiled_source : {T E : Type 0} (result : Result T E) (number run_card from : ℕ) (cards : List (List ℕ)) (lines : List Line) (old new : Level)
+pub compiled_source : {T E : Type 0} (result : Result T E) (number run_card from : ℕ) (cards : List (List ℕ)) (lines : List Line) (old new : World → Type 0)
     → sheet_diagnostics from cards ≡ []
     → lines ≡ lines_of from cards
     → OnOk result (Becomes (compiled number lines (compile_diagnostics run_card lines)) old new)
     → OnOk result (Becomes (compiled_data number run_card from cards) old new)
 compiled_source (Ok _) number run_card from cards lines old new no_faults are_lines compiles =
     λ w held.
-    subst (λ found. Holds new (compiled number (lines_of from cards) (first_else found (compile_diagnostics run_card (lines_of from cards))) w)) (sym no_faults)
-    (subst (λ (all : List Line). Holds new (compiled number all (compile_diagnostics run_card all) w)) are_lines (compiles w held))
+    subst (λ found. new (compiled number (lines_of from cards) (first_else found (compile_diagnostics run_card (lines_of from cards))) w)) (sym no_faults)
+    (subst (λ (all : List Line). new (compiled number all (compile_diagnostics run_card all) w)) are_lines (compiles w held))
 compiled_source (Err _) number run_card from cards lines old new no_faults are_lines compiles = tt
 
 -- what is found under a name, once a program was put into the library

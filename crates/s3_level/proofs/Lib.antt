@@ -5,3 +5,4 @@ pub mod Compiling
 pub mod Lister
 pub mod SwitchLaw
 pub mod Settings
+pub mod Replying

@@ -10,8 +10,8 @@ use Rattle.s3_ocl.specs.Faults.{first_fault, statement_faults, faults_behind}
 use Rattle.s3_ocl.specs.Jobs.{job_at}
 use Rattle.s3_ocl.specs.Streams.{jobs_within}
 use Rattle.s3_level.specs.declared.action.Action.TheVariants.{Turn}
-use Rattle.s3_level.specs.declared.halt_code.HaltCode.TheVariants.{FaultyJob, NoProgram}
-use Rattle.s3_level.specs.Parts.{with_halt}
+use Rattle.s3_operator.specs.declared.halt_code.HaltCode.TheVariants.{FaultyJob, NoProgram}
+use Rattle.s3_operator.specs.Halts.{with_halt}
 use Rattle.s3_level.specs.World.{at_start}
 use Rattle.s3_level.specs.Solo.{step_of}
 use Rattle.s3_level.specs.Samples.{settings_deck, faulty_deck}

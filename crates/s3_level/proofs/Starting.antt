@@ -28,14 +28,14 @@ use Rattle.s3_level.specs.Serving.{asking, pending, run, compiled_data, data_of,
 use Rattle.s3_level.specs.Holds.{Holds, HoldsAtWork, Stocks, Becomes}
 use Rattle.s3_level.specs.Inner.Turning.{AtWorkBecomes, NextIs, Starts}
 
-pub taken_then_started : {T E : Type 0} (result : Result T E) (old taken new : Level) (job : Result Job FaultyJob) (after number : ℕ)
+pub taken_then_started : {T E : Type 0} (result : Result T E) (old : Level) (taken new : World → Type 0) (job : Result Job FaultyJob) (behind : List (Result Job FaultyJob)) (number : ℕ)
     → number ≡ old.number
-    → Becomes (with_jobs (jobs_from old.deck after)) old taken
+    → Becomes (with_jobs behind) (Holds old) taken
     → OnOk result (Becomes (started number job) taken new)
-    → OnOk result (Starts job after old new)
-taken_then_started (Ok _) old taken new job after number is_number takes starts =
-    λ w at_rest held. subst (λ n. Holds new (started n job (with_jobs (jobs_from old.deck after) w))) (is_number ∙ sym held.number) (starts _ (takes w held))
-taken_then_started (Err _) old taken new job after number is_number takes starts = tt
+    → OnOk result (Starts job behind (Holds old) new)
+taken_then_started (Ok _) old taken new job behind number is_number takes starts =
+    λ w at_rest held. subst (λ n. new (started n job (with_jobs behind w))) (is_number ∙ sym held.number) (starts _ (takes w held))
+taken_then_started (Err _) old taken new job behind number is_number takes starts = tt
 
 -- no job at work was started with the old date and switches
 between_jobs : (deck : List (List ℕ)) (job : Option OpenJob) (before after : World) (meant : Option JobAtWork) → meant ≡ None
@@ -64,19 +64,19 @@ settings_held old new job is_new w at_rest held =
     })
 
 -- a job that isn't faulty is taken, its settings are made, and it is performed under its number
-pub set_then_performed : {T E : Type 0} (result : Result T E) (old taken set new : Level) (job : Job) (after number : ℕ)
+pub set_then_performed : {T E : Type 0} (result : Result T E) (old taken set : Level) (new : World → Type 0) (job : Job) (behind : List (Result Job FaultyJob)) (number : ℕ)
     → number ≡ old.number
-    → Becomes (with_jobs (jobs_from old.deck after)) old taken
+    → Becomes (with_jobs behind) (Holds old) (Holds taken)
     → set ≡ record taken { switches = switches_after job.switches taken.switches; date = unwrap_or job.date taken.date }
-    → OnOk result (Becomes (performed number job (data_of set.deck job)) set new)
-    → OnOk result (Starts (Ok job) after old new)
-set_then_performed (Ok _) old taken set new job after number is_number takes sets performs =
+    → OnOk result (Becomes (performed number job (data_of set.deck job)) (Holds set) new)
+    → OnOk result (Starts (Ok job) behind (Holds old) new)
+set_then_performed (Ok _) old taken set new job behind number is_number takes sets performs =
     λ w at_rest held.
-    let begun : World = with_settings job (with_jobs (jobs_from old.deck after) w) in
-    let ready : Holds set begun = settings_held taken set job sets (with_jobs (jobs_from old.deck after) w) at_rest (takes w held) in
-    subst (λ n. Holds new (performed n job (data_of w.deck.cards job) begun)) (is_number ∙ sym held.number)
-    (subst (λ cards. Holds new (performed number job (data_of cards job) begun)) (sym ready.cards) (performs begun ready))
-set_then_performed (Err _) old taken set new job after number is_number takes sets performs = tt
+    let begun : World = with_settings job (with_jobs behind w) in
+    let ready : Holds set begun = settings_held taken set job sets (with_jobs behind w) at_rest (takes w held) in
+    subst (λ n. new (performed n job (data_of w.deck.cards job) begun)) (is_number ∙ sym held.number)
+    (subst (λ cards. new (performed number job (data_of cards job) begun)) (sym ready.cards) (performs begun ready))
+set_then_performed (Err _) old taken set new job behind number is_number takes sets performs = tt
 
 -- where no job begins none is left, else some is
 pub no_job_left : (deck : List (List ℕ)) (from : ℕ) → job_place deck from ≡ None → jobs_from deck from ≡ []
@@ -107,30 +107,30 @@ next_is deck from (Err (Faulty faulty)) less gives = jobs_from-next deck from le
 next_is deck from (Err NoMemory) less gives = tt
 
 -- a job that doesn't compile runs the program that it names over its data
-pub program_performed : {T E : Type 0} (result : Result T E) (number : ℕ) (job : Job) (program : Name) (from to : ℕ) (old new : Level)
+pub program_performed : {T E : Type 0} (result : Result T E) (number : ℕ) (job : Job) (program : Name) (from to : ℕ) (old : Level) (new : World → Type 0)
     → is_compile job ≡ false
     → program ≡ job.program
     → from ≡ job.data_from
     → to ≡ job.data_to
-    → OnOk result (Becomes (λ w. run number (slice_range old.deck from to) (w.library program) w) old new)
-    → OnOk result (Becomes (performed number job (data_of old.deck job)) old new)
+    → OnOk result (Becomes (λ w. run number (slice_range old.deck from to) (w.library program) w) (Holds old) new)
+    → OnOk result (Becomes (performed number job (data_of old.deck job)) (Holds old) new)
 program_performed (Ok _) number job program from to old new runs is_program is_from is_to performs =
     λ w held.
     let over : List (List ℕ) = data_of old.deck job in
     let same : slice_range old.deck from to ≡ over = ap (λ n. slice_range old.deck n to) is_from ∙ ap (slice_range old.deck job.data_from) is_to in
-    subst (λ (compiles : Bool). Holds new (if compiles then compiled_data number (run_card_of job) job.data_from over w else run number over (w.library job.program) w)) (sym runs)
-    (subst (λ cards. Holds new (run number cards (w.library job.program) w)) same
-    (subst (λ (named : Name). Holds new (run number (slice_range old.deck from to) (w.library named) w)) is_program (performs w held)))
+    subst (λ (compiles : Bool). new (if compiles then compiled_data number (run_card_of job) job.data_from over w else run number over (w.library job.program) w)) (sym runs)
+    (subst (λ cards. new (run number cards (w.library job.program) w)) same
+    (subst (λ (named : Name). new (run number (slice_range old.deck from to) (w.library named) w)) is_program (performs w held)))
 program_performed (Err _) number job program from to old new runs is_program is_from is_to performs = tt
 
 -- a program of the library is started: its copy's cycle is at the beginning of the whole run
-pub started_program : {T E : Type 0} (result : Result T E) (number first end : ℕ) (name : Name) (program : Stocked) (copy : Program) (cycle : Stepper) (old middle new : Level)
+pub started_program : {T E : Type 0} (result : Result T E) (number first end : ℕ) (name : Name) (program : Stocked) (copy : Program) (cycle : Stepper) (old middle : Level) (new : World → Type 0)
     → get same_name old.library name ≡ Some program
     → parts_of copy ≡ parts_of program.program
     → ((source : Source) → Stands copy source → RunsFor cycle source × ((answers : List Answer) → rest source cycle answers ≡ Req source old.switches old.date answers))
     → middle ≡ record old { job = Some (record { number = number; cycle = cycle; next = first; end = end }) }
-    → OnOk result (AtWorkBecomes (λ job w. asking job.number (pending job w) w) middle new)
-    → OnOk result (Becomes (λ w. run number (slice_range old.deck first end) (w.library name) w) old new)
+    → OnOk result (AtWorkBecomes (λ job w. asking job.number (pending job w) w) (Holds middle) new)
+    → OnOk result (Becomes (λ w. run number (slice_range old.deck first end) (w.library name) w) (Holds old) new)
 started_program (Ok _) number first end name program copy cycle old middle new found copies starts opens asks =
     λ w held. by w held (w.library name) (subst (λ stocked'. Stocks stocked' (w.library name)) found (held.library name))
   where
@@ -159,7 +159,7 @@ started_program (Ok _) number first end name program copy cycle old middle new f
           halts = held.halts;
         }
 
-    by : (w : World) → Holds old w → (source : Option Source) → Stocks (Some program) source → Holds new (run number (slice_range old.deck first end) source w)
+    by : (w : World) → Holds old w → (source : Option Source) → Stocks (Some program) source → new (run number (slice_range old.deck first end) source w)
     by w held None stands = absurd stands
     by w held (Some source) stands = asks (record w { job = Some (at source) }) (at source) refl (subst (λ level. Holds level (record w { job = Some (at source) })) (sym opens) (opened source stands w held))
 started_program (Err _) number first end name program copy cycle old middle new found copies starts opens asks = tt

@@ -12,7 +12,7 @@ use Rattle.s3_level.specs.declared.action.Action.{Action}
 use Rattle.s3_level.specs.declared.action.Did.{Did}
 use Rattle.s3_level.specs.declared.job.OpenJob.{OpenJob}
 use Rattle.s3_level.specs.declared.level.Level.{Level}
-use Rattle.s3_level.specs.Parts.{drained_lines}
+use Rattle.s3_level.specs.Lines.{drained_lines}
 use Rattle.s3_level.specs.World.{World, JobAtWork}
 use Rattle.s3_level.specs.Solo.{step_of}
 
@@ -46,13 +46,16 @@ pub record Holds (level : Level) (w : World) : Type 0 where
   pub lines : w.lines ≡ level.lines
   pub halts : w.halts ≡ level.halts
 
+-- What is said of an entry is said of two conditions on worlds, what was held before it and what is held after it, whatever
+-- it is that holds them.
+
 -- each world that was held becomes this one
-abbrev pub Becomes : (World → World) → Level → Level → Type 0
-Becomes change old new = (w : World) → Holds old w → Holds new (change w)
+abbrev pub Becomes : (World → World) → (World → Type 0) → (World → Type 0) → Type 0
+Becomes change old new = (w : World) → old w → new (change w)
 
 -- each world that was held takes one step of the solo run, with this answer
-abbrev pub Steps : Action → Did → Level → Level → Type 0
-Steps action did old new = (w : World) → Holds old w → (did ≡ (step_of w action).did) × Holds new (step_of w action).world
+abbrev pub Steps : Action → Did → (World → Type 0) → (World → Type 0) → Type 0
+Steps action did old new = (w : World) → old w → (did ≡ (step_of w action).did) × new (step_of w action).world
 
 -- which level it is never changes; the drained lines don't but by draining
 pub record Stays (old new : Level) : Type 0 where

@@ -1,4 +1,4 @@
-pub mod Parts
+pub mod Lines
 pub mod World
 pub mod Serving
 pub mod Solo

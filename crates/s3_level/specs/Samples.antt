@@ -1,10 +1,12 @@
 -- A worked row: the deck that compiles the card lister and lists two cards.
-use Rattle.std.specs.Prelude.{ℕ, ◌-◌, ◌+◌, List, [], ◌∷◌, ◌++◌, codes, length, replicate, take, drop}
+use Rattle.std.specs.Prelude.{ℕ, ◌-◌, ◌+◌, List, [], ◌∷◌, ◌++◌, codes, length, replicate, take, drop, Option}
 use Rattle.s3_cards.specs.Deck.{card_of}
 use Rattle.s3_cards.specs.Printed.{Printed}
-use Rattle.s3_level.specs.declared.action.Action.TheVariants.{Turn}
+use Rattle.s3_operator.specs.declared.halt_code.HaltCode.{HaltCode}
+use Rattle.s3_operator.specs.Halts.{ShownHalt}
+use Rattle.s3_level.specs.declared.action.Action.TheVariants.{Turn, Reply}
 use Rattle.s3_level.specs.World.{World, at_start}
-use Rattle.s3_level.specs.Solo.{solo}
+use Rattle.s3_level.specs.Solo.{step_of, solo}
 
 -- a card, with a text from a column on
 abbrev pub punched : (column : ℕ) → List ℕ → List ℕ → List ℕ
@@ -82,3 +84,19 @@ abbrev pub faulty_deck : List (List ℕ)
 faulty_deck =
     card_of (codes "// LOAD NONE,F1") ∷ card_of (codes "// DATE 06/15/76") ∷ card_of (codes "// SWITCH 1XX0XXX1")
     ∷ card_of (codes "/&") ∷ []
+
+-- two jobs of a program that isn't there
+abbrev pub two_jobs_deck : List (List ℕ)
+two_jobs_deck = settings_deck ++ settings_deck
+
+-- the world after one turn
+abbrev pub at_halt : List (List ℕ) → World
+at_halt deck = (step_of (at_start deck) Turn).world
+
+-- and after a reply to the halt that was shown
+abbrev pub passed_over : List (List ℕ) → (digit : ℕ) → World
+passed_over deck digit = (step_of (at_halt deck) (Reply digit)).world
+
+-- a halt without details
+abbrev pub halted : (job : ℕ) → HaltCode → (reply : Option ℕ) → ShownHalt
+halted job code reply = record { job = job; code = code; details = []; reply = reply }

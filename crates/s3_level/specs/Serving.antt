@@ -8,7 +8,7 @@ use Rattle.s3_sheets.specs.Lines.{lines_of}
 use Rattle.s3_sheets.specs.Sheets.{sheet_diagnostics}
 use Rattle.s3_cards.specs.Names.{same_name}
 use Rattle.s3_meaning.specs.Source.{Source, source_of, program_name}
-use Rattle.s3_meaning.specs.Requests.{Request, Card, Print, Jump, Ask, End, Answer, Found, Nothing, Done}
+use Rattle.s3_meaning.specs.Requests.{Request, Card, Read, Chain, Append, Add, Update, Print, Jump, Ask, End, Answer, Found, Nothing, Done}
 use Rattle.s3_meaning.specs.Environment.{switch_on}
 use Rattle.s3_meaning.specs.Cycle.{Req}
 use Rattle.s3_cycle.specs.Built.{is_built, unbuilt_cards}
@@ -20,9 +20,10 @@ use Rattle.s3_ocl.specs.Faults.{fault_number}
 use Rattle.s3_ocl.specs.Jobs.{Job, is_compile}
 use Rattle.s3_level.specs.declared.action.Did.{Did}
 use Rattle.s3_level.specs.declared.action.Did.TheVariants.{Acted, Idle}
-use Rattle.s3_level.specs.declared.halt_code.HaltCode.{HaltCode}
-use Rattle.s3_level.specs.declared.halt_code.HaltCode.TheVariants.{FaultyJob as FaultyStatements, NoProgram, FaultySource, Program}
-use Rattle.s3_level.specs.Parts.{has_room, with_line, with_halt}
+use Rattle.s3_operator.specs.declared.halt_code.HaltCode.{HaltCode}
+use Rattle.s3_operator.specs.declared.halt_code.HaltCode.TheVariants.{FaultyJob as FaultyStatements, NoProgram, FaultySource}
+use Rattle.s3_level.specs.Lines.{has_room, with_line}
+use Rattle.s3_operator.specs.Halts.{with_halt}
 use Rattle.s3_level.specs.World.{World, JobAtWork, number_after}
 
 -- what an entry is answered, and the world after it
@@ -42,7 +43,7 @@ halting number code details w = record w { halts = with_halt number code details
 
 -- where a job asks for a reply, its halt is shown
 abbrev pub asking : ℕ → Request → World → World
-asking number (Ask code) w = halting number (Program code) [] w
+asking number (Ask code) w = halting number code [] w
 asking number _ w = w
 
 -- ---- the job at work
@@ -75,13 +76,18 @@ line_printed line job w = if has_room w.lines then acted (answered Done job (rec
 abbrev pub job_ended : World → World
 job_ended w = record w { job = None }
 
--- the pending request is served; those to files on the pack are not built yet
+-- the pending request is served: those to files on the pack once packs are, until then they wait; so does one for a reply
 abbrev pub served : Request → JobAtWork → World → Outcome
 served Card job w = acted (answered (card_answer job.cards) (with_card_read job) w)
 served (Print page line text) job w = line_printed (record { page = page; line = line; text = text }) job w
 served Jump job w = acted (answered Done job w)
 served (End at_once) job w = acted (job_ended w)
-served _ job w = idle w
+served (Ask code) job w = idle w
+served (Read file record_length) job w = idle w
+served (Chain file record_length sought) job w = idle w
+served (Append file bytes) job w = idle w
+served (Add file bytes) job w = idle w
+served (Update file current changes) job w = idle w
 
 -- ---- the start of a job
 -- the first list, unless it is empty

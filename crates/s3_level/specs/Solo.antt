@@ -1,9 +1,11 @@
 -- The solo run: one level's entries alone, over its own world.
-use Rattle.std.specs.Prelude.{ℕ, List, [], ◌∷◌, Option, Some, None, if◌then◌else◌}
+use Rattle.std.specs.Prelude.{ℕ, List, [], ◌∷◌, Option, Some, None, Result, Ok, Err, if◌then◌else◌}
 use Rattle.s3_level.specs.declared.action.Action.{Action}
 use Rattle.s3_level.specs.declared.action.Action.TheVariants.{Turn, Reply, Drain}
 use Rattle.s3_level.specs.declared.action.Did.TheVariants.{Refused}
-use Rattle.s3_level.specs.Parts.{is_waiting, is_queued, with_drained, all_drained}
+use Rattle.s3_level.specs.Lines.{is_queued, with_drained, all_drained}
+use Rattle.s3_operator.specs.declared.reply_fault.ReplyFault.{ReplyFault}
+use Rattle.s3_operator.specs.Halts.{answer_to, fault_number, is_waiting, waiting, with_reply}
 use Rattle.s3_level.specs.World.{World, JobAtWork}
 use Rattle.s3_level.specs.Serving.{Outcome, idle, acted, pending, served, begun, job_ended}
 
@@ -18,9 +20,15 @@ turned w = if is_waiting w.halts then idle w else on w.job
     on (Some job) = served (pending job w) job w
     on None = begun w.deck.jobs w
 
--- a reply is refused: no halt waits, or the halt allows no reply, as none does yet
-abbrev pub replied : World → Outcome
-replied w = refused (if is_waiting w.halts then 2 else 1) w
+-- The halt that waits gets its reply, unless it is refused. Of a job that couldn't be started that passes the job over: the
+-- next turn begins the next one. A program at work takes no reply yet.
+abbrev pub reply_given : (digit : ℕ) → Result (Unit {0}) ReplyFault → Option JobAtWork → World → Outcome
+reply_given digit (Err fault) job w = refused (fault_number fault) w
+reply_given digit (Ok allowed) None w = acted (record w { halts = with_reply digit w.halts })
+reply_given digit (Ok allowed) (Some job) w = refused 2 w
+
+abbrev pub replied : (digit : ℕ) → World → Outcome
+replied digit w = reply_given digit (answer_to digit (waiting w.halts)) w.job w
 
 -- the first queued line is drained
 abbrev pub drained : World → Outcome
@@ -29,7 +37,7 @@ drained w = if is_queued w.lines then acted (record w { lines = with_drained w.l
 -- one entry of the level
 abbrev pub step_of : World → Action → Outcome
 step_of w Turn = turned w
-step_of w (Reply digit) = replied w
+step_of w (Reply digit) = replied digit w
 step_of w Drain = drained w
 
 -- the level's entries, one after the other

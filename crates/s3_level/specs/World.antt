@@ -6,7 +6,8 @@ use Rattle.s3_meaning.specs.Requests.{Answer}
 use Rattle.s3_ocl.specs.declared.faults.FaultyJob.{FaultyJob}
 use Rattle.s3_ocl.specs.Jobs.{Job}
 use Rattle.s3_ocl.specs.Streams.{jobs_from}
-use Rattle.s3_level.specs.Parts.{Lines, no_lines, ShownHalt}
+use Rattle.s3_level.specs.Lines.{Lines, no_lines}
+use Rattle.s3_operator.specs.Halts.{ShownHalt}
 
 -- the cards of the deck, its jobs that are not begun, and the number of the next one. A job has its data by their places
 -- among the cards, which never change.

@@ -1,15 +1,15 @@
 //! What the definitions say of themselves: worked rows, and each switch after the start of a job.
-ghost use Rattle.std.specs.Prelude.{◌≡◌, ◌≤◌, ℕ, List, [], ◌∷◌};
+ghost use Rattle.std.specs.Prelude.{◌≡◌, ◌≤◌, ℕ, List, [], ◌∷◌, Some, None};
 ghost use Rattle.s3_ocl.specs.declared.values.Switch.{Switch};
 ghost use Rattle.s3_meaning.specs.Environment.{switch_on};
 ghost use Rattle.s3_level.specs.Serving.{is_on_after, switch_of, switches_after};
-ghost use Rattle.s3_level.specs.declared.action.Action.TheVariants.{Turn};
-ghost use Rattle.s3_level.specs.declared.action.Did.TheVariants.{Idle};
-ghost use Rattle.s3_level.specs.declared.halt_code.HaltCode.TheVariants.{FaultyJob, NoProgram};
-ghost use Rattle.s3_level.specs.Parts.{with_halt};
+ghost use Rattle.s3_level.specs.declared.action.Action.TheVariants.{Turn, Reply};
+ghost use Rattle.s3_level.specs.declared.action.Did.TheVariants.{Acted, Idle, Refused};
+ghost use Rattle.s3_operator.specs.declared.halt_code.HaltCode.TheVariants.{FaultyJob, NoProgram};
+ghost use Rattle.s3_operator.specs.Halts.{with_halt};
 ghost use Rattle.s3_level.specs.World.{at_start};
-ghost use Rattle.s3_level.specs.Solo.{step_of, closed};
-ghost use Rattle.s3_level.specs.Samples.{after_turns, first_line, listing, settings_deck, faulty_deck};
+ghost use Rattle.s3_level.specs.Solo.{step_of, refused, closed};
+ghost use Rattle.s3_level.specs.Samples.{after_turns, at_halt, first_line, halted, listing, passed_over, settings_deck, faulty_deck, two_jobs_deck};
 
 /// The deck that compiles the card lister and lists ABC and DEF. Its turns are: compile, start, card, line, card, line, end of
 /// the cards, end of the job.
@@ -27,6 +27,17 @@ pub fn card_lister_lists()
 #[tactic(auto, using(crate::proofs::SwitchLaw::each_switch))]
 pub fn each_switch_is_set()
     ensures { (switches : List Switch) (was n : ℕ) → 1 ≤ n → n ≤ 8 → switch_on (switches_after switches was) n ≡ is_on_after (switch_of switches n) (switch_on was n) }
+{}
+
+/// A job that couldn't be started is passed over by reply 2 or 3, which stands in its halt: the next turn begins the next job.
+/// Reply 0 is refused with 2, and a reply where no halt waits with 1; both change nothing.
+pub fn replies_pass_jobs_over()
+    ensures not_allowed { step_of (at_halt two_jobs_deck) (Reply 0) ≡ refused 2 (at_halt two_jobs_deck) }
+    ensures none_waits { step_of (at_start two_jobs_deck) (Reply 3) ≡ refused 1 (at_start two_jobs_deck) }
+    ensures did { (step_of (at_halt two_jobs_deck) (Reply 3)).did ≡ Acted }
+    ensures passed_over { (passed_over two_jobs_deck 3).halts ≡ halted 1 NoProgram (Some 3) ∷ [] }
+    ensures once { (step_of (passed_over two_jobs_deck 3) (Reply 3)).did ≡ Refused 1 }
+    ensures next { (step_of (passed_over two_jobs_deck 2) Turn).world.halts ≡ halted 1 NoProgram (Some 2) ∷ halted 2 NoProgram None ∷ [] }
 {}
 
 /// A job sets date and switches although its program isn't there, and a faulty job sets nothing.

@@ -4,9 +4,6 @@ ghost use Rattle.std.specs.Prelude.{◌≤◌};
 
 use crate::action::Did;
 use crate::details::{details_of, one_detail, unbuilt_details};
-use crate::halt::Halt;
-use crate::halt_code::HaltCode;
-use crate::halt_log::HaltLog;
 use crate::job::OpenJob;
 use crate::printed_lines::PrintedLines;
 use crate::stocked::Stocked;
@@ -19,6 +16,7 @@ use s3_cycle::{Answer, Cycle, Request, is_built, unbuilt_cards};
 use s3_lines::Diagnostic;
 use s3_lines::sheet::Line;
 use s3_ocl::{FaultyJob, JobCards, OclFault, job_at, split};
+use s3_operator::{Halt, HaltCode, HaltLog, ReplyFault};
 use s3_program::program::Program;
 use s3_sheets::{SheetFault, read_sheets};
 use std::alloc::{AllocError, Global};
@@ -49,7 +47,7 @@ const NO_DATE: [u8; 6] = [DIGIT_0; 6];
 const LAST_NUMBER: u16 = 999;
 
 impl Level {
-    ghost use Rattle.std.specs.Prelude.{◌≡◌, ◌≢◌, ◌<◌, [], true, false, nat_lt, length, map, slice_range, unwrap_or, IfOk, IsTrue, OnOk};
+    ghost use Rattle.std.specs.Prelude.{◌≡◌, ◌≢◌, ◌<◌, [], true, false, nat_lt, length, map, slice_range, unwrap_or, IfOk, IsTrue, OnOk, OnErr};
     ghost use Rattle.std.specs.Option.{option_copied};
     ghost use Rattle.s3_meaning.specs.Source.{Source};
     ghost use Rattle.s3_meaning.specs.Requests as Meant;
@@ -65,13 +63,14 @@ impl Level {
     ghost use Rattle.s3_ocl.specs.Streams.{jobs_from};
     ghost use Rattle.s3_level.specs.declared.action.Action.TheVariants.{Turn, Reply, Drain};
     ghost use Rattle.s3_level.specs.declared.action.Did.TheVariants.{Acted, Idle};
-    ghost use Rattle.s3_level.specs.declared.halt_code.HaltCode.TheVariants.{FaultySource};
-    ghost use Rattle.s3_level.specs.Parts.{drained_lines, halt_of, with_line};
+    ghost use Rattle.s3_operator.specs.declared.halt_code.HaltCode.TheVariants.{FaultySource};
+    ghost use Rattle.s3_level.specs.Lines.{drained_lines, with_line};
+    ghost use Rattle.s3_operator.specs.Halts.{halt_of};
     ghost use Rattle.s3_level.specs.World.{World, JobAtWork, at_start};
     ghost use Rattle.s3_level.specs.Serving.{accepted, answered, asking, card_answer, compiled, compiled_data, data_of, details_of, unbuilt_details, halting, job_ended, line_printed, pending, performed, run, served, started, stocked, switches_after, with_answer, with_card_read, with_jobs};
     ghost use Rattle.s3_level.specs.Solo.{step_of, closed};
     ghost use Rattle.s3_level.specs.Holds.{Holds, Becomes, Steps, Stays};
-    ghost use Rattle.s3_level.specs.Inner.Turning.{Pends, request_by, FitsJob, AsksFor, AtWorkBecomes, Serves, NextIs, Begins, Starts, Turns};
+    ghost use Rattle.s3_level.specs.Inner.Turning.{Pends, request_by, FitsJob, AsksFor, AtWorkBecomes, Serves, NextIs, Begins, Starts, Turns, Replies};
 
     /// A level with this deck, before its first entry.
     pub fn new(alloc: Global, id: LevelId, deck: Deck) -> Result<Level, AllocError>
@@ -106,7 +105,7 @@ impl Level {
     /// where the job would print and 64 lines are queued. After it ran out of memory nothing is said of the worlds that are
     /// held.
     pub fn turn(&mut self) -> Result<Did, AllocError>
-        ensures step { IfOk result (λ did. Steps Turn did self.old self.new) }
+        ensures step { IfOk result (λ did. Steps Turn did (Holds self.old) (Holds self.new)) }
         ensures idle { (w : World) → Holds self.old w → (step_of w Turn).did ≡ Idle → result ≡ Ok Idle }
         ensures lines { drained_lines self.new.lines ≡ drained_lines self.old.lines }
         ensures id { self.new.id ≡ self.old.id }
@@ -115,18 +114,35 @@ impl Level {
     }
 
     /// Answers the halt that waits with a digit: refused with 1 where no halt waits, and with 2 where it doesn't allow
-    /// the digit, as no halt does yet.
+    /// the digit, or where a program is at work, since none takes a reply yet. It takes no memory so far.
     pub fn answer(&mut self, digit: u8) -> Result<Did, AllocError>
-        ensures step { IfOk result (λ did. Steps (Reply digit) did self.old self.new) }
-        ensures refused { (w : World) → Holds self.old w → result ≡ Ok (step_of w (Reply digit)).did }
-        ensures unchanged { self.new ≡ self.old }
+        ensures step { IfOk result (λ did. Steps (Reply digit) did (Holds self.old) (Holds self.new)) }
+        ensures answer { (w : World) → Holds self.old w → result ≡ Ok (step_of w (Reply digit)).did }
+        ensures unchanged { result ≢ Ok Acted → self.new ≡ self.old }
+        ensures lines { drained_lines self.new.lines ≡ drained_lines self.old.lines }
+        ensures id { self.new.id ≡ self.old.id }
     {
-        Ok(Did::Refused(if self.halts.is_waiting() { 2 } else { 1 }))
+        match self.reply(digit) {
+            Ok(()) => Ok(Did::Acted),
+            Err(fault) => Ok(Did::Refused(fault.number())),
+        }
+    }
+
+    /// Gives the halt that waits its reply, unless a program is at work.
+    fn reply(&mut self, digit: u8) -> Result<(), ReplyFault>
+        ensures given { Replies digit result (Holds self.old) (Holds self.new) }
+        ensures refused { OnErr result (self.new ≡ self.old) }
+        ensures stays { Stays self.old self.new }
+    {
+        if self.job.is_some() && self.halts.is_waiting() {
+            return Err(ReplyFault::NotAllowed);
+        }
+        self.halts.reply(digit)
     }
 
     /// Takes the first queued line into the printed output; refused with 3 where none is queued.
     pub fn drain(&mut self) -> Did
-        ensures step { Steps Drain result self.old self.new }
+        ensures step { Steps Drain result (Holds self.old) (Holds self.new) }
         ensures id { self.new.id ≡ self.old.id }
     {
         if self.lines.drain() {
@@ -138,7 +154,7 @@ impl Level {
 
     /// Ends the job at work without its pending request, and drains all queued lines; a halt that waits keeps no reply.
     pub fn close(&mut self)
-        ensures world { Becomes closed self.old self.new }
+        ensures world { Becomes closed (Holds self.old) (Holds self.new) }
         ensures id { self.new.id ≡ self.old.id }
     {
         self.lines.drain_all();
@@ -155,7 +171,8 @@ impl Level {
 
     /// The halts that were shown, in order.
     pub fn halts(&self) -> &[Halt]
-        ensures { (w : World) → Holds self.now w → map halt_of result.now ≡ w.halts }
+        ensures value { map halt_of result.now ≡ self.now.halts }
+        ensures world { (w : World) → Holds self.now w → map halt_of result.now ≡ w.halts }
     {
         self.halts.halts()
     }
@@ -163,7 +180,7 @@ impl Level {
     /// Performs the pending request of the job at work, or begins the next job.
     #[tactic(auto, unfolding(s3_cycle::specs::Requests::request_of))]
     fn step(&mut self) -> Result<Did, AllocError>
-        ensures world { Turns result self.old self.new }
+        ensures world { Turns result (Holds self.old) (Holds self.new) }
         ensures stays { Stays self.old self.new }
     {
         if self.halts.is_waiting() {
@@ -194,7 +211,7 @@ impl Level {
 
     /// Ends the job at work.
     fn end_job(&mut self) -> Did
-        ensures world { Becomes job_ended self.old self.new }
+        ensures world { Becomes job_ended (Holds self.old) (Holds self.new) }
         ensures acted { result ≡ Acted }
         ensures stays { Stays self.old self.new }
     {
@@ -205,7 +222,7 @@ impl Level {
     /// Reads a card for the job at work.
     fn read_card(&mut self) -> Result<Did, AllocError>
         requires { request_by self.old.job ≡ Some Card }
-        ensures served { Serves (served Meant.Card) result self.old self.new }
+        ensures served { Serves (served Meant.Card) result (Holds self.old) (Holds self.new) }
         ensures stays { Stays self.old self.new }
     {
         let answer = self.next_card();
@@ -218,7 +235,7 @@ impl Level {
         ensures answer { (w : World) (job : JobAtWork) → w.job ≡ Some job → Holds self.old w → answer_of result ≡ card_answer job.cards }
         ensures fits { IsTrue (is_fit Card result) }
         ensures request { request_by self.new.job ≡ request_by self.old.job }
-        ensures world { AtWorkBecomes (λ job w. record w { job = Some (with_card_read job) }) self.old self.new }
+        ensures world { AtWorkBecomes (λ job w. record w { job = Some (with_card_read job) }) (Holds self.old) (Holds self.new) }
         ensures stays { Stays self.old self.new }
     {
         match &mut self.job {
@@ -231,7 +248,7 @@ impl Level {
     #[tactic(auto, unfolding(s3_cycle::specs::Requests::answer_of))]
     fn print(&mut self, line: PrintLine) -> Result<Did, AllocError>
         requires { request_by self.old.job ≡ Some (Print line) }
-        ensures served { Serves (line_printed line) result self.old self.new }
+        ensures served { Serves (line_printed line) result (Holds self.old) (Holds self.new) }
         ensures stays { Stays self.old self.new }
     {
         if !self.lines.has_room() {
@@ -244,7 +261,7 @@ impl Level {
 
     /// Puts a line last.
     fn put_line(&mut self, line: PrintLine) -> Result<(), AllocError>
-        ensures world { OnOk result (Becomes (λ w. record w { lines = with_line line w.lines }) self.old self.new) }
+        ensures world { OnOk result (Becomes (λ w. record w { lines = with_line line w.lines }) (Holds self.old) (Holds self.new)) }
         ensures request { request_by self.new.job ≡ request_by self.old.job }
         ensures stays { Stays self.old self.new }
     {
@@ -254,7 +271,7 @@ impl Level {
     /// Lets the job at work go on with the answer to its pending request.
     fn resume(&mut self, answer: &Answer) -> Result<(), AllocError>
         requires { FitsJob self.old.job answer.now }
-        ensures world { OnOk result (AtWorkBecomes (answered (answer_of answer.now)) self.old self.new) }
+        ensures world { OnOk result (AtWorkBecomes (answered (answer_of answer.now)) (Holds self.old) (Holds self.new)) }
         ensures stays { Stays self.old self.new }
     {
         self.take_answer(answer);
@@ -265,7 +282,7 @@ impl Level {
     #[tactic(auto, using(crate::proofs::Running::resumed))]
     fn take_answer(&mut self, answer: &Answer)
         requires { FitsJob self.old.job answer.now }
-        ensures world { AtWorkBecomes (λ job w. record w { job = Some (with_answer (answer_of answer.now) job) }) self.old self.new }
+        ensures world { AtWorkBecomes (λ job w. record w { job = Some (with_answer (answer_of answer.now) job) }) (Holds self.old) (Holds self.new) }
         ensures stays { Stays self.old self.new }
     {
         if let Some(job) = &mut self.job {
@@ -275,20 +292,18 @@ impl Level {
 
     /// Where the job at work asks for a reply, shows that halt.
     fn show_asked(&mut self) -> Result<(), AllocError>
-        ensures world { OnOk result (AtWorkBecomes (λ job w. asking job.number (pending job w) w) self.old self.new) }
+        ensures world { OnOk result (AtWorkBecomes (λ job w. asking job.number (pending job w) w) (Holds self.old) (Holds self.new)) }
         ensures stays { Stays self.old self.new }
     {
         match self.asked() {
-            Some((number, code)) => {
-                self.show(number, HaltCode::Program(code), Vec::new(self.alloc))
-            }
+            Some((number, code)) => { self.show(number, code, Vec::new(self.alloc)) }
             None => Ok(()),
         }
     }
 
     /// The number of the job at work and what it halts for, where it asks for a reply.
     #[tactic(auto, unfolding(s3_cycle::specs::Requests::request_of, s3_cycle::specs::Requests::answer_of))]
-    fn asked(&self) -> Option<(u16, s3_meaning::halt::HaltCode)>
+    fn asked(&self) -> Option<(u16, HaltCode)>
         ensures { (w : World) (job : JobAtWork) → w.job ≡ Some job → Holds self.now w → AsksFor result job w }
     {
         let Some(job) = &self.job else {
@@ -307,7 +322,7 @@ impl Level {
         code: HaltCode,
         details: Vec<(u16, u8)>,
     ) -> Result<(), AllocError>
-        ensures world { OnOk result (Becomes (halting number code details.items) self.old self.new) }
+        ensures world { OnOk result (Becomes (halting number code details.items) (Holds self.old) (Holds self.new)) }
         ensures stays { Stays self.old self.new }
     {
         self.halts.show(number, code, details)
@@ -315,7 +330,7 @@ impl Level {
 
     /// Begins the next job, if there is one.
     fn begin(&mut self) -> Result<Did, AllocError>
-        ensures world { Begins result self.old self.new }
+        ensures world { Begins result (Holds self.old) (Holds self.new) }
         ensures stays { Stays self.old self.new }
     {
         if !self.has_job() {
@@ -344,7 +359,7 @@ impl Level {
     #[tactic(auto, using(crate::proofs::Starting::no_job_behind))]
     fn pass_over(&mut self)
         requires { jobs_from self.old.deck self.old.next ≡ [] }
-        ensures world { Becomes (λ w. w) self.old self.new }
+        ensures world { Becomes (λ w. w) (Holds self.old) (Holds self.new) }
         ensures stays { Stays self.old self.new }
     {
         self.next = self.deck.len();
@@ -363,7 +378,7 @@ impl Level {
     /// Takes the next job, which ends before that place, and answers its number.
     fn take_job(&mut self, after: usize) -> u16
         ensures number { result ≡ self.old.number }
-        ensures world { Becomes (with_jobs (jobs_from self.old.deck after)) self.old self.new }
+        ensures world { Becomes (with_jobs (jobs_from self.old.deck after)) (Holds self.old) (Holds self.new) }
         ensures stays { Stays self.old self.new }
     {
         let number = self.number;
@@ -374,7 +389,7 @@ impl Level {
 
     /// Passes a faulty job over and shows its fault.
     fn refuse(&mut self, faulty: FaultyJob) -> Result<(), AllocError>
-        ensures world { OnOk result (Starts (Err faulty) faulty.after self.old self.new) }
+        ensures world { OnOk result (Starts (Err faulty) (jobs_from self.old.deck faulty.after) (Holds self.old) (Holds self.new)) }
         ensures stays { Stays self.old self.new }
     {
         let number = self.take_job(faulty.after);
@@ -383,7 +398,7 @@ impl Level {
 
     /// Shows the fault of a job's statements.
     fn show_fault(&mut self, number: u16, faulty: FaultyJob) -> Result<(), AllocError>
-        ensures world { OnOk result (Becomes (started number (Err faulty)) self.old self.new) }
+        ensures world { OnOk result (Becomes (started number (Err faulty)) (Holds self.old) (Holds self.new)) }
         ensures stays { Stays self.old self.new }
     {
         let details = one_detail(self.alloc, faulty.card, faulty.fault.number())?;
@@ -393,7 +408,7 @@ impl Level {
     /// Starts the next job.
     fn start(&mut self, job: &JobCards) -> Result<(), AllocError>
         requires { job.now.data_to ≤ length self.old.deck }
-        ensures world { OnOk result (Starts (Ok job.now) job.now.after self.old self.new) }
+        ensures world { OnOk result (Starts (Ok job.now) (jobs_from self.old.deck job.now.after) (Holds self.old) (Holds self.new)) }
         ensures stays { Stays self.old self.new }
     {
         let number = self.take_job(job.after());
@@ -413,7 +428,7 @@ impl Level {
     /// Compiles a job's source, or starts its program.
     fn perform(&mut self, number: u16, job: &JobCards) -> Result<(), AllocError>
         requires { job.now.data_to ≤ length self.old.deck }
-        ensures world { OnOk result (Becomes (performed number job.now (data_of self.old.deck job.now)) self.old self.new) }
+        ensures world { OnOk result (Becomes (performed number job.now (data_of self.old.deck job.now)) (Holds self.old) (Holds self.new)) }
         ensures stays { Stays self.old self.new }
     {
         let from = job.data_from();
@@ -434,7 +449,7 @@ impl Level {
     ) -> Result<(), AllocError>
         requires order { from ≤ to }
         requires within { to ≤ length self.old.deck }
-        ensures world { OnOk result (Becomes (compiled_data number run_card from (slice_range self.old.deck from to)) self.old self.new) }
+        ensures world { OnOk result (Becomes (compiled_data number run_card from (slice_range self.old.deck from to)) (Holds self.old) (Holds self.new)) }
         ensures stays { Stays self.old self.new }
     {
         let lines = match read_sheets(self.alloc, &self.deck, from, to) {
@@ -455,7 +470,7 @@ impl Level {
         lines: &[Line],
     ) -> Result<(), AllocError>
         requires { IsTrue (are_read lines.now) }
-        ensures world { OnOk result (Becomes (compiled number lines.now (compile_diagnostics run_card lines.now)) self.old self.new) }
+        ensures world { OnOk result (Becomes (compiled number lines.now (compile_diagnostics run_card lines.now)) (Holds self.old) (Holds self.new)) }
         ensures stays { Stays self.old self.new }
     {
         match compile(self.alloc, lines, run_card) {
@@ -469,7 +484,7 @@ impl Level {
     #[tactic(auto, using(crate::proofs::Compiling::stocked_served, crate::proofs::Compiling::built_source, crate::proofs::Compiling::unbuilt_source))]
     fn accept(&mut self, number: u16, lines: &[Line], program: Program) -> Result<(), AllocError>
         requires { StandsFor program lines.now }
-        ensures world { OnOk result (Becomes (accepted number lines.now) self.old self.new) }
+        ensures world { OnOk result (Becomes (accepted number lines.now) (Holds self.old) (Holds self.new)) }
         ensures stays { Stays self.old self.new }
     {
         if !is_built(lines) {
@@ -480,7 +495,7 @@ impl Level {
 
     /// Shows the diagnostics of a source.
     fn show_diagnostics(&mut self, number: u16, found: &[Diagnostic]) -> Result<(), AllocError>
-        ensures world { OnOk result (Becomes (halting number FaultySource (details_of found.now)) self.old self.new) }
+        ensures world { OnOk result (Becomes (halting number FaultySource (details_of found.now)) (Holds self.old) (Holds self.new)) }
         ensures stays { Stays self.old self.new }
     {
         let details = details_of(self.alloc, found)?;
@@ -489,7 +504,7 @@ impl Level {
 
     /// Shows the cards of a source that aren't built.
     fn show_unbuilt(&mut self, number: u16, lines: &[Line]) -> Result<(), AllocError>
-        ensures world { OnOk result (Becomes (halting number FaultySource (unbuilt_details (built.unbuilt_cards lines.now))) self.old self.new) }
+        ensures world { OnOk result (Becomes (halting number FaultySource (unbuilt_details (built.unbuilt_cards lines.now))) (Holds self.old) (Holds self.new)) }
         ensures stays { Stays self.old self.new }
     {
         let cards = unbuilt_cards(self.alloc, lines)?;
@@ -500,7 +515,7 @@ impl Level {
     /// Puts a program into the library, in place of an earlier one of its name.
     fn stock(&mut self, program: Program) -> Result<(), AllocError>
         requires { IsTrue (serves (source_named program)) }
-        ensures world { OnOk result ((source : Source) → Stands program source → Becomes (stocked program.name source) self.old self.new) }
+        ensures world { OnOk result ((source : Source) → Stands program source → Becomes (stocked program.name source) (Holds self.old) (Holds self.new)) }
         ensures stays { Stays self.old self.new }
     {
         self.library.insert(program.name, Stocked { program })?;
@@ -509,7 +524,7 @@ impl Level {
 
     /// Starts a program of the library over the data cards between two places.
     fn run(&mut self, number: u16, name: Name, from: usize, to: usize) -> Result<(), AllocError>
-        ensures world { OnOk result (Becomes (λ w. run number (slice_range self.old.deck from to) (w.library name) w) self.old self.new) }
+        ensures world { OnOk result (Becomes (λ w. run number (slice_range self.old.deck from to) (w.library name) w) (Holds self.old) (Holds self.new)) }
         ensures stays { Stays self.old self.new }
     {
         let Some(stocked) = self.library.get(&name) else {

@@ -4,9 +4,6 @@
 
 mod action;
 mod details;
-mod halt;
-mod halt_code;
-mod halt_log;
 mod job;
 mod laws;
 mod level;
@@ -15,7 +12,8 @@ mod stocked;
 mod switches;
 
 pub use action::{Action, Did};
-pub use halt::Halt;
-pub use halt_code::HaltCode;
-pub use laws::{card_lister_lists, each_switch_is_set, jobs_set_date_and_switches};
+pub use laws::{
+    card_lister_lists, each_switch_is_set, jobs_set_date_and_switches, replies_pass_jobs_over,
+};
 pub use level::Level;
+pub use s3_operator::{Halt, HaltCode};

@@ -1,6 +1,6 @@
 //! The printed lines of a level, in order, the first ones drained and the others queued.
 ghost use Rattle.std.specs.Prelude.{◌≡◌, OnOk, OnErr, IfOk, if◌then◌else◌};
-ghost use Rattle.s3_level.specs.Parts.{no_lines, has_room, with_line, is_queued, with_drained, all_drained, drained_lines};
+ghost use Rattle.s3_level.specs.Lines.{no_lines, has_room, with_line, is_queued, with_drained, all_drained, drained_lines};
 
 use s3_cards::PrintLine;
 use std::alloc::{AllocError, Global};
@@ -18,7 +18,7 @@ pub struct PrintedLines {
 
 impl Model for PrintedLines {
     ghost use Rattle.std.specs.Prelude.{◌≤◌, length};
-    ghost use Rattle.s3_level.specs.Parts.{Lines};
+    ghost use Rattle.s3_level.specs.Lines.{Lines};
 
     ghost Value = { Lines };
 

@@ -17,6 +17,18 @@ const TURN: Entry = Entry {
     action: Action::Turn,
 };
 
+/// With ample memory nothing is refused: the lister ends with both lines.
+#[test]
+fn lister_ends(rt: HostRuntime) -> Result<(), Fail> {
+    let deck = Deck::read(rt.alloc(), DECK)?;
+    let mut bureau = Bureau::open(rt.alloc(), deck, Deck::empty(rt.alloc()))?;
+    for _turn in 0..TURNS {
+        assert_eq!(rt; bureau.step(TURN), Ok(Did::Acted));
+    }
+    assert_ends(&rt, &mut bureau);
+    Ok(())
+}
+
 /// The lister ends with both lines, or a growth was refused: then every later call answers that the bureau is stopped.
 #[test]
 fn lister_ends_or_stays_stopped(rt: HostRuntime) -> Result<(), Fail> {
@@ -49,6 +61,11 @@ fn assert_ends_or_stays_stopped(rt: &impl Abort, bureau: &mut Bureau) {
             }
         }
     }
+    assert_ends(rt, bureau);
+}
+
+/// After its last turn the lister has both lines and no halt, and nothing more is done.
+fn assert_ends(rt: &impl Abort, bureau: &mut Bureau) {
     assert_eq!(rt; bureau.finish(), Ok(()));
     assert_eq!(rt; bureau.lines(LevelId::One).len(), 2);
     assert_eq!(rt; bureau.halts(LevelId::One).len(), 0);

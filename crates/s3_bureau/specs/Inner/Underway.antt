@@ -4,13 +4,11 @@ use Rattle.std.specs.Prelude.{◌≡◌, ◌<◌, ℕ, List, Option, None, slice
 use Rattle.s3_cards.specs.declared.levels.LevelId.{LevelId}
 use Rattle.s3_cards.specs.declared.levels.LevelId.TheVariants.{One, Two}
 use Rattle.s3_cards.specs.Deck.{deck_of}
-use Rattle.s3_level.specs.Parts.{drained_lines}
+use Rattle.s3_level.specs.Lines.{drained_lines}
 use Rattle.s3_level.specs.World.{World}
 use Rattle.s3_level.specs.Solo.{solo, closed}
 use Rattle.s3_bureau.specs.declared.entry.Entry.{Entry}
-use Rattle.s3_bureau.specs.declared.bureau.Bureau.{Bureau}
 use Rattle.s3_bureau.specs.Entries.{own}
-use Rattle.s3_bureau.specs.Held.{HoldsFor}
 use Rattle.s3_bureau.specs.Runs.{Texts, RunTexts, cards_of, refusal_of}
 use Rattle.s3_bureau.specs.Texts.{shown_byte, report_of, halt_text_of}
 
@@ -20,17 +18,17 @@ pub record ReadsDeck (text : List ℕ) (cards : List (List ℕ)) (refusal : Opti
   pub refused : refusal ≡ refusal_of (deck_of text)
 
 -- each world that was held for a level has taken that level's own entries, in their order
-abbrev pub Performs : List Entry → Bureau → Bureau → Type 0
-Performs entries old new = (level : LevelId) (w : World) → HoldsFor level old w → HoldsFor level new (solo w (own level entries))
+abbrev pub Performs : List Entry → (LevelId → World → Type 0) → (LevelId → World → Type 0) → Type 0
+Performs entries old new = (level : LevelId) (w : World) → old level w → new level (solo w (own level entries))
 
 -- the texts of a world's drained lines and its halts
 abbrev pub drained_texts : Option (ℕ × ℕ) → World → Texts
 drained_texts refusal w = record { report = report_of (drained_lines w.lines); halts = halt_text_of refusal w.halts }
 
 -- these are the texts of each world that was held for a level, after that level's own entries and once it is closed
-pub record HasTexts (refusal : Option (ℕ × ℕ)) (entries : List Entry) (bureau : Bureau) (texts : RunTexts) : Type 0 where
-  pub one : (w : World) → HoldsFor One bureau w → texts.one ≡ drained_texts refusal (closed (solo w (own One entries)))
-  pub two : (w : World) → HoldsFor Two bureau w → texts.two ≡ drained_texts None (closed (solo w (own Two entries)))
+pub record HasTexts (refusal : Option (ℕ × ℕ)) (entries : List Entry) (held : LevelId → World → Type 0) (texts : RunTexts) : Type 0 where
+  pub one : (w : World) → held One w → texts.one ≡ drained_texts refusal (closed (solo w (own One entries)))
+  pub two : (w : World) → held Two w → texts.two ≡ drained_texts None (closed (solo w (own Two entries)))
 
 -- the table has the byte that shows each code
 abbrev pub ShowsCodes : List ℕ → Type 0

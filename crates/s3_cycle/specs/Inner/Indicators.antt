@@ -6,7 +6,7 @@ use Rattle.s3_lines.specs.declared.indicator.Condition.{Condition}
 use Rattle.s3_lines.specs.declared.sheet.FileLine.{FileLine}
 use Rattle.s3_meaning.specs.Environment.{switch_on}
 use Rattle.s3_meaning.specs.Source.{is_input}
-use Rattle.s3_cycle.specs.Inner.Places.{place_of}
+use Rattle.s3_lines.specs.Indicators.{indicator_number}
 use Rattle.s3_cycle.specs.declared.indicators.Indicators.{Indicators}
 
 -- no line changes a switch
@@ -16,7 +16,7 @@ is_settable _ = true
 
 abbrev pub on_in : Indicators → Indicator → Bool
 on_in indicators (Switch n) = switch_on indicators.switches n
-on_in indicators indicator = get_or indicators.on (place_of indicator) false
+on_in indicators indicator = get_or indicators.on (indicator_number indicator) false
 
 abbrev pub condition_holds : Indicators → Condition → Bool
 condition_holds indicators condition = if condition.negated then not (on_in indicators condition.indicator) else on_in indicators condition.indicator

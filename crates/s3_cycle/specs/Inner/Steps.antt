@@ -1,6 +1,6 @@
 -- Steps of a suspended run.
 use Rattle.std.specs.Prelude.{◌≡◌, ℕ, ◌+◌, min, Bool, true, false, ◌&&◌, List, [], ◌∷◌, map, drop, length, slice_get, Option, Some, None, if◌then◌else◌}
-use Rattle.s3_meaning.specs.declared.halt.HaltCode.TheVariants.{UnidentifiedRecord}
+use Rattle.s3_operator.specs.declared.halt_code.HaltCode.TheVariants.{UnidentifiedRecord}
 use Rattle.s3_cards.specs.Printed.{Printed}
 use Rattle.s3_lines.specs.Ranges.{is_between}
 use Rattle.s3_lines.specs.declared.indicator.Indicator.{Indicator}

@@ -1,5 +1,5 @@
 use Rattle.std.proofs.Common.{◌∙◌, refl, ap}
-use Rattle.s3_meaning.specs.declared.halt.HaltCode.TheVariants.{UnidentifiedRecord}
+use Rattle.s3_operator.specs.declared.halt_code.HaltCode.TheVariants.{UnidentifiedRecord}
 use Rattle.s3_cycle.specs.declared.request.Request.TheVariants.{Ask}
 use Rattle.s3_cycle.specs.declared.stepper.Point.TheVariants.{Unidentified}
 use Rattle.s3_cycle.specs.declared.stepper.Stepper.{Stepper}
