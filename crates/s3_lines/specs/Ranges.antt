@@ -4,7 +4,7 @@ use Rattle.std.specs.Prelude.{ℕ, ◌+◌, ◌-◌, ◌*◌, ◌^◌, ◌==◌,
 use Rattle.std.specs.List.{list_all}
 use Rattle.std.specs.Option.{option_or}
 use Rattle.s3_cards.specs.declared.name.Name.{Name}
-use Rattle.s3_cards.specs.Names.{same_name}
+use Rattle.s3_cards.specs.Names.{no_name, same_name}
 use Rattle.s3_lines.specs.declared.indicator.Indicator.{Indicator}
 use Rattle.s3_lines.specs.declared.indicator.Indicator.TheVariants.{General, Level, LastRecord, Matching, Halt, FirstPage, Overflow, Switch}
 use Rattle.s3_lines.specs.declared.indicator.Condition.{Condition}
@@ -91,6 +91,10 @@ abbrev pub conditions_in_range : List (Option Condition) → Bool
 conditions_in_range conditions = list_all (if_given (λ condition. indicator_in_range condition.indicator)) conditions
 
 -- ---- the F sheet
+-- a file's name isn't blank
+abbrev pub is_named : Name → Bool
+is_named name = not (same_name name no_name)
+
 -- in bytes
 abbrev pub longest_record : Device → ℕ
 longest_record CardReader = 96
@@ -113,7 +117,8 @@ key_in_range record_length key = is_between 1 29 key.length && nat_le 1 key.star
 
 abbrev pub file_in_range : FileLine → Bool
 file_in_range file =
-    is_between 1 (longest_record file.device) file.record_length
+    is_named file.name
+    && is_between 1 (longest_record file.device) file.record_length
     && (if file.is_keyed && file.is_indexed then is_some file.key else is_none file.key)
     && if_given (key_in_range file.record_length) file.key
     && (not file.ends_job || is_selected file.designation)

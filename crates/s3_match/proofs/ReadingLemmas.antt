@@ -23,7 +23,7 @@ use Rattle.s3_match.specs.Types.{tables_in, is_type_start}
 use Rattle.s3_match.specs.Keys.{key_in}
 use Rattle.s3_match.specs.Heads.{no_file, file_at, is_unread, is_unread_standing, has_head, is_head_standing, input_of, IsInput}
 use Rattle.s3_match.specs.Selecting.{inputs_of, reading_of, selected_of, selected_at}
-use Rattle.s3_match.specs.Reading.{no_input, input_at, slots_of, is_unread_at, changed_at, head_with, IsReading, IsUnreadAt}
+use Rattle.s3_match.specs.Reading.{no_input, input_at, slots_of, bytes_at, is_unread_at, changed_at, head_with, IsReading, IsUnreadAt}
 use Rattle.s3_match.proofs.SelectLemmas.{with_standing}
 use Rattle.s3_match.proofs.SlotLemmas.{slot_kept}
 
@@ -89,6 +89,18 @@ still_unread files new k y within e unread = record {
   within = omega (arith, ap length e, length-set files k y, within);
   unread = ap (λ (xs : List InputFile). is_unread_at xs k) e ∙ unread_set files k y within ∙ unread;
 }
+
+-- ---- its bytes
+bytes_here : (files : List InputFile) (k : ℕ) (d : InputFile) → k < length files → bytes_at files k ≡ (get_or files k d).bytes.items
+bytes_here files k d within = ap (λ (o : Option InputFile). unwrap_or (option_map (λ (input : InputFile). input.bytes.items) o) []) (slice_get-get_or files k d within)
+
+pub bytes_stay : (files : List InputFile) (k : ℕ) (x y : InputFile) → k < length files → x ≡ get_or files k x → y.bytes ≡ x.bytes → bytes_at (set files k y) k ≡ bytes_at files k
+bytes_stay files k x y within there same =
+    bytes_here (set files k y) k y (omega (arith, length-set files k y, within))
+    ∙ ap (λ (input : InputFile). input.bytes.items) (get_or-set_same files k y y within)
+    ∙ ap (λ bytes. bytes.items) same
+    ∙ ap (λ (input : InputFile). input.bytes.items) there
+    ∙ sym (bytes_here files k x within)
 
 -- ---- the slots of a reading
 pub input_slot : (program : Program) (reading : Reading) (k : ℕ) (x : InputFile) → IsReading program reading → k < length reading.files.items → x ≡ get_or reading.files.items k x → x.file < length program.files.items

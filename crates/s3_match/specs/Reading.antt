@@ -1,5 +1,5 @@
 -- What the cycle holds of its reading, and the files that are still to be read.
-use Rattle.std.specs.Prelude.{ℕ, ◌≡◌, ◌+◌, ◌<◌, ◌≤◌, Bool, true, false, List, ◌++◌, map, filter, take, drop, length, slice_get, slice_set, slice_index_or, unwrap_or, option_map, None}
+use Rattle.std.specs.Prelude.{ℕ, ◌≡◌, ◌+◌, ◌<◌, ◌≤◌, Bool, true, false, List, [], ◌++◌, map, filter, take, drop, length, slice_get, slice_set, slice_index_or, unwrap_or, option_map, None}
 use Rattle.std.specs.List.{All, range_with_len}
 use Rattle.s3_meaning.specs.Source.{Source, is_input}
 use Rattle.s3_meaning.specs.Requests.{Answer, Found}
@@ -46,6 +46,10 @@ changed_at place change reading = record reading { files = slice_set reading.fil
 
 abbrev pub is_unread_at : List InputFile → (place : ℕ) → Bool
 is_unread_at files place = unwrap_or (option_map is_unread (slice_get files place)) false
+
+-- the bytes of the record at the head of the file there, and of the last one once that is taken
+abbrev pub bytes_at : List InputFile → (place : ℕ) → List ℕ
+bytes_at files place = unwrap_or (option_map (λ input. input.bytes.items) (slice_get files place)) []
 
 -- a file stands at the place, and its next record is to be read
 pub record IsUnreadAt (files : List InputFile) (place : ℕ) : Type 0 where

@@ -97,6 +97,7 @@ impl InputFile {
         ensures input { (program : Program) → spec.input_of program self.new ≡ spec.vacated (spec.input_of program self.old) }
         ensures slot { self.new.file ≡ self.old.file }
         ensures unread { spec.is_unread self.new ≡ true }
+        ensures bytes { self.new.bytes ≡ self.old.bytes }
     {
         self.standing = Standing::Unread;
     }

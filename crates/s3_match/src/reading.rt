@@ -174,6 +174,7 @@ impl Reading {
         ensures taken { (selected : Selected) → selected_at program.now self.old.files.items place ≡ Some selected → reading_in program.now self.new ≡ meaning.taken (reading_in program.now self.old) selected }
         ensures unread { IsUnreadAt self.new.files.items place }
         ensures some_unread { list_any meaning.is_unread (reading_in program.now self.new).files ≡ true }
+        ensures bytes { spec.bytes_at self.new.files.items place ≡ spec.bytes_at self.old.files.items place }
     {
         keep_primary(&mut self.primary_key, program, &self.files[place]);
         self.files[place].vacate();

@@ -12,3 +12,4 @@ pub mod IndicatingLemmas
 pub mod TypeLemmas
 pub mod MoveLemmas
 pub mod WithinLemmas
+pub mod ChainLemmas

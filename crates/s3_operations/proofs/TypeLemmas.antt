@@ -57,7 +57,7 @@ as_many program file within =
     grind (arith, e)
 
 -- ---- each start has a file
-no_file : {X : Type 0} (known : X → Meaning) → ((x : X) → is_of kind.File (known x) ≡ false) → (o : Option X) → is_of kind.File (or_undefined known o) ≡ true → ⊥
+pub no_file : {X : Type 0} (known : X → Meaning) → ((x : X) → is_of kind.File (known x) ≡ false) → (o : Option X) → is_of kind.File (or_undefined known o) ≡ true → ⊥
 no_file known never None of_file = true≢false (sym of_file)
 no_file known never (Some x) of_file = true≢false (sym of_file ∙ never x)
 
@@ -163,16 +163,13 @@ starts_have_files program =
     files_there (tables program) (marks_of (meant (parts_of program)).inputs) (length program.files.items) 0 first_input program.inputs.items kinds clear (record { file = λ is. absurd (true≢false (sym is)) })
 
 -- ---- each start has a line
-both_hold : (a b : Bool) → a ≡ true → b ≡ true → (a && b) ≡ true
-both_hold a b e f = (λ i. e i && f i)
-
 places_from : (n last place : ℕ) (lines : List (InputLine Reference)) → place + length lines ≤ n → list_all (λ start. nat_lt start.place n) (type_starts_from last place lines) ≡ true
 unfolding type_starts_from
 places_from n last place [] within = refl
 places_from n last place (Record file indicator codes ∷ lines) within =
-    both_hold _ _ (grind (arith, nat_tests, within)) (places_from n (file_slot last file) (place + 1) lines (omega (arith, within)))
+    both _ _ (grind (arith, nat_tests, within)) (places_from n (file_slot last file) (place + 1) lines (omega (arith, within)))
 places_from n last place (AndCodes codes ∷ lines) within = places_from n last (place + 1) lines (omega (arith, within))
-places_from n last place (OrCodes indicator codes ∷ lines) within = both_hold _ _ (grind (arith, nat_tests, within)) (places_from n last (place + 1) lines (omega (arith, within)))
+places_from n last place (OrCodes indicator codes ∷ lines) within = both _ _ (grind (arith, nat_tests, within)) (places_from n last (place + 1) lines (omega (arith, within)))
 places_from n last place (InputField field ∷ lines) within = places_from n last (place + 1) lines (omega (arith, within))
 
 all_kept : {X : Type 0} (p q : X → Bool) (xs : List X) → list_all p xs ≡ true → list_all p (filter q xs) ≡ true
@@ -182,7 +179,7 @@ all_kept p q (x ∷ xs) all =
     step (q x) refl parts.0 (all_kept p q xs parts.1)
   where
     step : (b : Bool) → q x ≡ b → p x ≡ true → list_all p (filter q xs) ≡ true → list_all p (filter q (x ∷ xs)) ≡ true
-    step true is here later = rw is (both_hold _ _ here later)
+    step true is here later = rw is (both _ _ here later)
     step false is here later = rw is later
 
 pub places_there : (program : Program) (file : ℕ)

@@ -7,3 +7,4 @@ pub mod Beginning
 pub mod Indicating
 pub mod Moves
 pub mod Performing
+pub mod Chaining

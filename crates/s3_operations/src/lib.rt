@@ -1,8 +1,9 @@
-//! Calculation lines of a program that ask for nothing, performed on the values of its fields and on its indicators.
+//! Calculation lines of a program, performed on the values of its fields and on its indicators, and what a CHAIN seeks by them.
 #![tactic(auto)]
 
 pub mod arithmetic;
 pub mod beginning;
+pub mod chaining;
 pub mod comparing;
 pub mod dividing;
 pub mod division;

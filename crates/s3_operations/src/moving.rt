@@ -19,7 +19,7 @@ use s3_lines::sheet::{CalculationLine, Factor, Shape};
 use s3_program::program::{Program, Reference};
 
 /// The longest value of a factor, in bytes.
-const LONGEST: usize = 256;
+pub const LONGEST: usize = 256;
 
 /// The slot of a result that is a text.
 fn text_slot(program: &Program, line: &CalculationLine<Reference>) -> usize
@@ -101,7 +101,7 @@ impl Values {
     }
 
     /// The bytes of a factor: the characters of a text, the zoned bytes of a number. Their count, and they first in the buffer.
-    fn bytes(
+    pub fn bytes(
         &self,
         program: &Program,
         factor: &Option<Factor<Reference>>,

@@ -9,3 +9,4 @@ pub mod Worked
 pub mod StartedLemmas
 pub mod GivenLemmas
 pub mod CallLemmas
+pub mod NameLemmas

@@ -307,6 +307,8 @@ wrong_tables =
     ∷ record whole { fields = slice_set (slice_set fields 0 (defined udate (Numeric 6 0))) 1 (defined page (Numeric 4 0)) }
     -- two primary files
     ∷ record whole { files = slice_set files 3 (file (0xe2 ∷ 0xe3 ∷ 0xd6 ∷ []) UpdateUse (Some Primary) Disk 40) }
+    -- a file without a name
+    ∷ record whole { files = slice_set files 4 (file [] OutputUse None Disk 30) }
     ∷ []
 
 -- lines that are wrong

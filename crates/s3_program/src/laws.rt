@@ -1,12 +1,12 @@
 //! What the definitions say of themselves: laws, and worked programs.
 
-ghost use Rattle.std.specs.Prelude.{◌≡◌, true, false, filter_map, List, Option, ◌++◌, ℕ, ◌<◌};
+ghost use Rattle.std.specs.Prelude.{◌≡◌, true, false, filter_map, List, Option, None, ◌++◌, ℕ, ◌<◌};
 ghost use Rattle.std.specs.List.{list_any, list_all};
-ghost use Rattle.s3_meaning.specs.Source.{reserved_shapes, shape_in};
+ghost use Rattle.s3_meaning.specs.Source.{reserved_shapes, shape_in, file_named};
 ghost use Rattle.s3_program.specs.Shapes.{same_shape};
 ghost use Rattle.std.specs.Map.{lookup, keys_of};
 ghost use Rattle.s3_cards.specs.declared.name.Name.{Name};
-ghost use Rattle.s3_cards.specs.Names.{same_name};
+ghost use Rattle.s3_cards.specs.Names.{no_name, same_name};
 ghost use Rattle.s3_lines.specs.declared.sheet.Shape.{Shape};
 ghost use Rattle.s3_program.specs.Distinct.{are_distinct};
 ghost use Rattle.s3_program.specs.Given.{firsts};
@@ -31,6 +31,11 @@ pub fn worked_programs()
 pub fn the_source_starts_there()
     ensures types { (program : Program) → filter_map (type_at (tables_of (parts_of program)) program.inputs.items) (type_starts program.files.items program.inputs.items) ≡ (source_named program).types }
     ensures outputs { (program : Program) → filter_map (output_at (tables_of (parts_of program)) program.outputs.items) (output_starts program.files.items program.outputs.items) ≡ (source_named program).outputs }
+{}
+
+/// Each file of a program has a name: the blank name, which a line card without a file has where none stands before it, finds none.
+pub fn files_have_names()
+    ensures { (program : Program) → file_named (source_named program) no_name ≡ None }
 {}
 
 /// Of many entries a name has what the first one gives it, and no name stands twice among the first ones; with the reserved

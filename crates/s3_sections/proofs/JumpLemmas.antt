@@ -318,6 +318,7 @@ goes_below p spot place line is at inside t below =
     (record {
       same = refl;
       is = record { first = is.first; here = s.behind };
+      below = omega (arith, below);
       has = ap (has_tag t.entry.0) s.joins ∙ tag_there t.entry.0 s.before s.calculation (rest_of p spot.section (suc t.entry.1.place)) s.is;
       over = λ source anew whole go.
           ap (calculated source anew whole go (Some t.entry.0)) s.joins ∙ passed source anew whole go t.entry.0 s.before s.calculation (rest_of p spot.section (suc t.entry.1.place)) s.none s.is;

@@ -1,13 +1,14 @@
 -- The line of a card without a fault has each entry in its range.
-use Rattle.std.proofs.Common.{◌≡◌, ℕ, zero, suc, ◌+◌, ◌-◌, ◌<◌, ◌≤◌, List, [], Bool, true, false, refl, ◌∙◌, ap, arith, inl, inr, length, drop, replicate, get_or, lit<, length-take}
+use Rattle.std.proofs.Common.{◌≡◌, ℕ, zero, suc, ◌+◌, ◌-◌, ◌<◌, ◌≤◌, List, [], ◌∷◌, Bool, true, false, refl, subst, ◌∙◌, ap, arith, inl, inr, length, take, drop, replicate, get_or, lit<, length-take}
 use Rattle.std.specs.Prelude.{Option, Some, None, unwrap_or, is_some, is_none, nat_le, nat_lt, ◌==◌, ◌&&◌, ◌||◌, not, if◌then◌else◌}
-use Rattle.std.specs.List.{list_all, list_any}
+use Rattle.std.specs.List.{list_all, list_any, prefix_len}
 use Rattle.std.specs.Option.{option_to_list}
 use Rattle.std.proofs.lemmas.Bool.{cases_Bool}
 use Rattle.std.proofs.lemmas.Bool.Decides.{nat_tests}
 use Rattle.std.proofs.lemmas.List.Folds.{list_any_at}
 use Rattle.s3_cards.specs.declared.name.Name.{Name}
-use Rattle.s3_lines.specs.Ranges.{is_between, if_given, in_range, conditions_in_range, longest_record, is_printer, is_selected, key_in_range, is_overflow_indicator, file_in_range, field_in_range, shape_in_range, shape_of_positions, calculation_in_range, output_in_range, content_in_range}
+use Rattle.s3_cards.specs.Names.{begins_name, is_mark, is_word, is_name, name_of}
+use Rattle.s3_lines.specs.Ranges.{is_between, if_given, in_range, is_named, conditions_in_range, longest_record, is_printer, is_selected, key_in_range, is_overflow_indicator, file_in_range, field_in_range, shape_in_range, shape_of_positions, calculation_in_range, output_in_range, content_in_range}
 use Rattle.s3_lines.specs.declared.indicator.Indicator.{Indicator}
 use Rattle.s3_lines.specs.declared.sheet.KeyField.{KeyField}
 use Rattle.s3_lines.specs.declared.sheet.FieldOutput.{FieldOutput}
@@ -18,7 +19,7 @@ use Rattle.s3_sheets.specs.Columns.{are_blank, columns, column, number_of, numbe
 use Rattle.s3_sheets.specs.Indicators.{indicator_of, listed}
 use Rattle.s3_sheets.specs.Entries.{constant, constant_text}
 use Rattle.s3_sheets.specs.Rules.{Blank, rule_faults, broken_by, no_faults, one_fault}
-use Rattle.s3_sheets.specs.Tables.{rule, rules_of, output_field_rules}
+use Rattle.s3_sheets.specs.Tables.{rule, rules_of, file_rules, output_field_rules}
 use Rattle.s3_sheets.specs.Kinds.{kind_of}
 use Rattle.s3_sheets.specs.Combinations.{is_key_within, has_stray_entry, has_bad_extent, has_bad_positions, has_bad_definition, has_no_content, has_early_constant, begins_too_early, combined_faults}
 use Rattle.s3_sheets.specs.Lines.{designation_of, device_of, key_field, key_of, form_of, has_index, file_line, field_line, calculation_line, longest_name, definition_of, spacing_of, space_of, is_addition, output_card, output_field, three_conditions, sheet_line, line_at, line_of}
@@ -47,6 +48,23 @@ not_false true e = refl
 not_false false e = absurd cc
 
 -- ---- the F sheet
+-- what begins a name is not blank
+begun_named : (code : ℕ) (codes : List ℕ) → begins_name code ≡ true → is_named (name_of (code ∷ codes)) ≡ true
+begun_named code codes begins = elim (cases_Bool (code == 0x40)) [
+  | inl same ↦ absurd (let e : code ≡ 0x40 = grind (arith, nat_tests) in let f = subst (λ c. begins_name c ≡ true) e begins in cc)
+  | inr other ↦ rw other refl
+]
+
+name_given : (codes : List ℕ) → is_name codes ≡ true → is_named (name_of codes) ≡ true
+unfolding is_word
+name_given codes named = begun codes (prefix_len is_mark codes) (each (is_word (take (prefix_len is_mark codes) codes)) _ named).0
+  where
+    begun : (codes : List ℕ) (end : ℕ) → is_word (take end codes) ≡ true → is_named (name_of codes) ≡ true
+    begun [] zero word = absurd cc
+    begun [] (suc end) word = absurd cc
+    begun (code ∷ codes) zero word = absurd cc
+    begun (code ∷ codes) (suc end) word = begun_named code codes (each (begins_name code) _ word).0
+
 key_given : (ix : Bool) (o : Option KeyField) (n : ℕ) → (ix && not (is_key_within n (if ix then o else None))) ≡ false
     → (if ix then is_some (if ix then o else None) else is_none (if ix then o else None)) ≡ true
 key_given true None n e = absurd cc
@@ -85,9 +103,9 @@ blanks_listed list (suc (suc (suc n))) = refl
 blank_listed : (list : IndicatorList) (entry : List ℕ) → not (are_blank entry) ≡ false → listed list entry ≡ None
 blank_listed list entry blank = ap (listed list) (all_blank entry (not_false (are_blank entry) blank)) ∙ blanks_listed list (length entry)
 
-file_passes : (card : List ℕ) → has_stray_entry card ≡ false → has_bad_extent card ≡ false → file_in_range (file_line card) ≡ true
+file_passes : (card : List ℕ) → is_name (columns card 7 14) ≡ true → has_stray_entry card ≡ false → has_bad_extent card ≡ false → file_in_range (file_line card) ≡ true
 unfolding has_stray_entry has_bad_extent file_line
-file_passes card stray bad =
+file_passes card named stray bad =
     let ends : Bool = column card 17 == 0xc5 in
     let selected : Bool = is_selected (designation_of (column card 16)) in
     let printer : Bool = is_printer (device_of (columns card 40 46)) in
@@ -100,7 +118,7 @@ file_passes card stray bad =
     let s = neither ((ends && not selected) || keyed) (filled && not printer) stray in
     let t = neither (ends && not selected) keyed s.0 in
     let b = neither (not fits) (has_index card && not (is_key_within size (key_of card))) bad in
-    both (both (both (both (both (not_false fits b.0) (key_given (has_index card) (key_field l p) size b.1))
+    both (both (both (both (both (both (name_given (columns card 7 14) named) (not_false fits b.0)) (key_given (has_index card) (key_field l p) size b.1))
     (key_ranged (has_index card) l p size (number_in_range 1 29 (columns card 29 30)) (number_in_range 1 9999 (columns card 35 38)) b.1))
     (ends_with ends selected t.0))
     (of_printer (listed OverflowList (columns card 33 34)) filled printer (listed_passes OverflowList (columns card 33 34))
@@ -218,13 +236,17 @@ put_line_passes card broken combined =
     (name_allowed _ (none_at (λ rule. (rule_faults card rule).name) output_field_rules 9 (rule 1 1 Blank) broken.name (lit< tt)))
     (number_allowed _ (none_at (λ rule. (rule_faults card rule).number) output_field_rules 7 (rule 1 1 Blank) broken.number (lit< tt)))
 
+file_named : (card : List ℕ) → (broken_by file_rules card).name ≡ false → is_name (columns card 7 14) ≡ true
+unfolding file_rules rule_faults
+file_named card broken = name_allowed _ (none_at (λ rule. (rule_faults card rule).name) file_rules 0 (rule 1 1 Blank) broken (lit< tt))
+
 kind_passes : (kind : CardKind) (card : List ℕ) (number : ℕ) → NoFaults (broken_by (rules_of kind) card) → NoFaults (combined_faults kind card)
     → are_in_range (option_to_list (line_at number (sheet_line kind card))) ≡ true
 unfolding in_range
 kind_passes Comment card number broken combined = refl
 kind_passes Unknown card number broken combined = refl
 kind_passes Header card number broken combined = refl
-kind_passes File card number broken combined = both (file_passes card combined.entry combined.number) refl
+kind_passes File card number broken combined = both (file_passes card (file_named card broken.name) combined.entry combined.number) refl
 kind_passes Record card number broken combined =
     both (both (record_indicator_passes (columns card 19 20)) (codes_pass (columns card 21 27) (columns card 28 34) (columns card 35 41))) refl
 kind_passes RecordAnd card number broken combined = both (codes_pass (columns card 21 27) (columns card 28 34) (columns card 35 41)) refl

@@ -1,5 +1,5 @@
 use Rattle.std.proofs.Common.{refl}
-use Rattle.s3_match.proofs.ReadingLemmas.{headless, unread_headless, still_sound, still_unread}
+use Rattle.s3_match.proofs.ReadingLemmas.{headless, unread_headless, still_sound, still_unread, bytes_stay}
 use Rattle.s3_match.proofs.TakeLemmas.{head_taken}
 use Rattle.s3_match.proofs.UnreadLemmas.{some_left}
 use Rattle.s3_match.proofs.reading.Reading.take.Goals as goal
@@ -20,3 +20,6 @@ returns-clause-unread c = still_unread c.args.self.now.files.items _ c.args.plac
 pub returns-clause-some_unread : goal.returns-clause-some_unread
 returns-clause-some_unread c =
     some_left c.args.program.now _ c.args.place (still_unread c.args.self.now.files.items _ c.args.place c.vacate.new.self c.requires.head.within refl c.vacate.ensures.unread).unread
+
+pub returns-clause-bytes : goal.returns-clause-bytes
+returns-clause-bytes c = bytes_stay c.args.self.now.files.items c.args.place c.index_mut.result.now c.vacate.new.self c.requires.head.within c.index_mut.ensures.value c.vacate.ensures.bytes

@@ -1,0 +1,79 @@
+//! CHAIN: the file that it names, and what it seeks there.
+ghost use Rattle.std.specs.Prelude.{◌≡◌, ◌<◌, ◌≤◌, true, false, Some, length, slice_get};
+ghost use Rattle.s3_lines.specs.declared.sheet.Operation.TheVariants as op;
+ghost use Rattle.s3_meaning.specs.Calculating.{bytes_in, number_in};
+ghost use Rattle.s3_meaning.specs.Environment.{Environment};
+ghost use Rattle.s3_program.specs.Stands.{source_named};
+ghost use Rattle.s3_operations.specs.Chaining.{file_sought, has_key, is_chained_file, names_file};
+ghost use Rattle.s3_operations.specs.Fits.{IsLineOf, named_factor};
+ghost use Rattle.s3_operations.specs.Held.{IsSound, held};
+
+use crate::moving::LONGEST;
+use crate::values::Values;
+use arrayvec::ArrayVec;
+use s3_lines::sheet::{CalculationLine, Factor};
+use s3_program::program::{Program, Reference};
+
+/// The most bytes that a key has.
+pub const KEY_BYTES: usize = 29;
+
+/// The slot of the file that factor 2 names.
+fn file_slot(line: &CalculationLine<Reference>) -> usize
+    requires { names_file line.now.factor2 ≡ true }
+    ensures { line.now.factor2 ≡ Some (Factor.Named (Reference.File result)) }
+{
+    match line.factor2 {
+        Some(Factor::Named(Reference::File(slot))) => slot,
+        _ => unreachable!(),
+    }
+}
+
+/// The slot of the file that a CHAIN names.
+pub fn chained_file(program: &Program, line: &CalculationLine<Reference>) -> usize
+    requires { IsLineOf program.now line.now op.Chain }
+    ensures names { line.now.factor2 ≡ Some (Factor.Named (Reference.File result)) }
+    ensures within { result < length program.now.files.items }
+    ensures file { file_sought program.now line.now ≡ slice_get program.now.files.items result }
+    ensures chained { is_chained_file (file_sought program.now line.now) ≡ true }
+{
+    file_slot(line)
+}
+
+/// A key of these bytes.
+fn key_of(bytes: &[u8]) -> ArrayVec<u8, KEY_BYTES>
+    requires { length bytes.now ≤ 29 }
+    ensures { result.items ≡ bytes.now }
+{
+    match ArrayVec::try_from(bytes) {
+        Ok(key) => key,
+        Err(_) => unreachable!(),
+    }
+}
+
+impl Values {
+    /// The key that a CHAIN to an indexed file seeks: the characters of a text, the zoned bytes of a number.
+    pub fn key(
+        &self,
+        program: &Program,
+        line: &CalculationLine<Reference>,
+    ) -> ArrayVec<u8, KEY_BYTES>
+        requires sound { IsSound program.now self.now }
+        requires line { IsLineOf program.now line.now op.Chain }
+        requires keyed { has_key (file_sought program.now line.now) ≡ true }
+        ensures { (rest : Environment) → result.items ≡ bytes_in (source_named program.now) (held program.now self.now rest) (named_factor program.now line.now.factor1) }
+    {
+        let mut buffer = [0; LONGEST];
+        let count = self.bytes(program, &line.factor1, &mut buffer);
+        key_of(&buffer[..count])
+    }
+
+    /// The record number that a CHAIN to a file without a key seeks.
+    pub fn record_number(&self, program: &Program, line: &CalculationLine<Reference>) -> i64
+        requires sound { IsSound program.now self.now }
+        requires line { IsLineOf program.now line.now op.Chain }
+        requires unkeyed { has_key (file_sought program.now line.now) ≡ false }
+        ensures { (rest : Environment) → result ≡ (number_in (source_named program.now) (held program.now self.now rest) (named_factor program.now line.now.factor1)).numerator }
+    {
+        self.number(program, &line.factor1).value
+    }
+}
