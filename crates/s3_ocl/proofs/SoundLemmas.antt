@@ -1,6 +1,6 @@
--- What FILE statements say is in range.
+-- What FILE and DATE statements say is in range.
 use Rattle.std.proofs.Common.{◌≡◌, ℕ, ◌+◌, ◌-◌, ◌^◌, ◌<◌, ◌≤◌, List, [], ◌∷◌, ◌++◌, Bool, true, false, cond, refl, ◌∙◌, ap, subst, arith, length, take, drop, replicate, zero, suc, eqb-true, lit<, lit≤}
-use Rattle.std.specs.Prelude.{Option, Some, None, Result, Ok, Err, ◌==◌, ◌&&◌, not, find, nat_le, unwrap_or, option_and_then, IfOk, if◌then◌else◌}
+use Rattle.std.specs.Prelude.{Option, Some, None, Result, Ok, Err, ◌==◌, ◌&&◌, not, find, nat_le, slice_index, unwrap_or, option_and_then, IfOk, if◌then◌else◌}
 use Rattle.std.specs.List.{list_all, prefix_len, position_or_len, cons_option}
 use Rattle.std.proofs.lemmas.Bool.Decides.{nat_tests}
 use Rattle.std.proofs.lemmas.Option.{cond_some}
@@ -19,7 +19,8 @@ use Rattle.s3_ocl.specs.declared.parameters.Verb.TheVariants as verb
 use Rattle.s3_ocl.specs.declared.statements.Piece.{Piece}
 use Rattle.s3_ocl.specs.Signs.{is_hyphen}
 use Rattle.s3_cards.specs.Names.{is_blank, is_digit, begins_name, goes_on_in_name, is_word, name_of, is_mark}
-use Rattle.s3_ocl.specs.Values.{name_value, count_value}
+use Rattle.s3_cards.specs.declared.ebcdic.TheConstants.{SLASH}
+use Rattle.s3_ocl.specs.Values.{name_value, count_value, date_value, dated, is_date, two_digits, without_slashes}
 use Rattle.s3_ocl.specs.Parameters.{value_of, given_by, given, given_key, keyed, entry_at, entry_of, parameter_of, parts_of, verb_of}
 use Rattle.s3_ocl.specs.Cards.{first_word, is_statement}
 use Rattle.s3_ocl.specs.Statements.{pieces_in, pieces_from, pieces_of, texts_of, statement_at, statements_within, is_verb}
@@ -27,9 +28,9 @@ use Rattle.s3_ocl.specs.declared.contents.FileStatement.{FileStatement}
 use Rattle.s3_ocl.specs.declared.faults.Mark.{Mark}
 use Rattle.s3_ocl.specs.declared.jobs.OclFault.{OclFault}
 use Rattle.s3_ocl.specs.Jobs.{Job, Gives, job_at, job_or_fault, job_with, heading_at, cards_of}
-use Rattle.std.specs.Option.{option_map}
-use Rattle.s3_ocl.specs.Contents.{rank, is_parameter, stands_at, gives, right_value, value_in, named, count, name_in, count_in, size_of, file_with, files_of}
-use Rattle.s3_ocl.specs.Sound.{is_padded_name, is_between, is_size, is_sound_file}
+use Rattle.std.specs.Option.{option_map, option_or}
+use Rattle.s3_ocl.specs.Contents.{rank, is_parameter, stands_at, gives, right_value, value_in, named, count, dated as value_date, name_in, count_in, date_in, date_of, first_in, size_of, file_with, files_of}
+use Rattle.s3_ocl.specs.Sound.{is_padded_name, is_between, is_size, is_sound_date, is_sound_file}
 use Rattle.s3_cards.specs.Numbers.{number_of}
 use Rattle.s3_cards.proofs.NumberLemmas.{number_below}
 
@@ -127,13 +128,40 @@ count_sound limit high text value room h =
     (between 1 high (number_of 0xf0 text) (at_most 1 (number_of 0xf0 text) outer.1)
     (below_limit (number_of 0xf0 text) 0 high (length text) limit (number_below 0xf0 text inner.1) (at_most (length text) limit inner.0) room))
 
--- the same by a parameter's place among them: FileName, Label, Records and Tracks
+abbrev is_dated_soundly : Value → Bool
+is_dated_soundly (Named name) = true
+is_dated_soundly (Count n) = true
+is_dated_soundly (Kept r) = true
+is_dated_soundly (Dated digits) = list_all is_digit digits
+is_dated_soundly (Set s) = true
+is_dated_soundly Checked = true
+
+dated_by : (digits : List ℕ) (value : Value) → dated digits ≡ Some value → is_dated_soundly value ≡ true
+dated_by digits value h =
+    let both = cond_some (is_date digits) (Dated digits) value h in
+    let first = both_true _ (nat_le (two_digits digits 2) 31) both.0 in
+    let second = both_true _ (nat_le 1 (two_digits digits 2)) first.0 in
+    let third = both_true _ (nat_le (two_digits digits 0) 12) second.0 in
+    let fourth = both_true (list_all is_digit digits) (nat_le 1 (two_digits digits 0)) third.0 in
+    subst (λ (v : Value). is_dated_soundly v ≡ true) both.1 fourth.0
+
+date_sound : (text : List ℕ) (value : Value) → date_value text ≡ Some value → is_dated_soundly value ≡ true
+unfolding date_value
+date_sound text value h = by (length text == 6) ((length text == 8) && (slice_index text 2 == SLASH) && (slice_index text 5 == SLASH)) h
+  where
+    by : (t u : Bool) → (if t then dated text else if u then dated (without_slashes text) else None) ≡ Some value → is_dated_soundly value ≡ true
+    by true u e = dated_by text value e
+    by false true e = dated_by (without_slashes text) value e
+    by false false e = cc
+
+-- the same by a parameter's place among them: FileName, Label, Records, Tracks and Date
 abbrev is_sound_ranked : ℕ → Value → Bool
 is_sound_ranked n value =
     if n == 2 then is_sound_name value
     else if n == 4 then is_sound_name value
     else if n == 5 then is_sound_count 999999 value
     else if n == 6 then is_sound_count 999 value
+    else if n == 8 then is_dated_soundly value
     else true
 
 abbrev is_sound_value : Parameter → Value → Bool
@@ -148,7 +176,7 @@ value_sound parameter.Label text value h = name_sound 8 text value h
 value_sound parameter.Records text value h = count_sound 6 999999 text value (lit≤ tt) h
 value_sound parameter.Tracks text value h = count_sound 3 999 text value (lit≤ tt) h
 value_sound parameter.Retain text value h = refl
-value_sound parameter.Date text value h = refl
+value_sound parameter.Date text value h = date_sound text value h
 value_sound parameter.Switches text value h = refl
 
 abbrev is_sound_entry : Entry → Bool
@@ -266,6 +294,23 @@ counted_sound limit (Dated d) n sound h = cc
 counted_sound limit (Set s) n sound h = cc
 counted_sound limit Checked n sound h = cc
 
+dated_sound : (value : Value) (digits : List ℕ) → is_dated_soundly value ≡ true → value_date value ≡ Some digits → list_all is_digit digits ≡ true
+dated_sound (Named other) digits sound h = cc
+dated_sound (Count m) digits sound h = cc
+dated_sound (Kept r) digits sound h = cc
+dated_sound (Dated others) digits sound h = (let same : others ≡ digits = cc in subst (λ (l : List ℕ). list_all is_digit l ≡ true) same sound)
+dated_sound (Set s) digits sound h = cc
+dated_sound Checked digits sound h = cc
+
+date_in_sound : (pieces : List Piece) → list_all is_sound_piece pieces ≡ true → is_sound_date (date_in pieces) ≡ true
+date_in_sound pieces all = by (date_in pieces) refl
+  where
+    by : (o : Option (List ℕ)) → date_in pieces ≡ o → is_sound_date o ≡ true
+    by None e = refl
+    by (Some digits) e =
+        let v = then_some value_date (value_in parameter.Date pieces) digits e in
+        dated_sound v.0 digits (value_in_sound parameter.Date pieces v.0 all v.1) v.2
+
 file_name_sound : (pieces : List Piece) (name : Name) → list_all is_sound_piece pieces ≡ true → name_in parameter.FileName pieces ≡ Some name → is_padded_name name ≡ true
 file_name_sound pieces name all h =
     let v = then_some named (value_in parameter.FileName pieces) name h in
@@ -311,6 +356,44 @@ sound_files (suc turns) number (card ∷ cards) =
     go false r more = refl
     go true true more = one_file (statement_at number card cards).pieces (name_in parameter.FileName (statement_at number card cards).pieces) [] (sound_statement number card cards) refl refl
     go true false more = one_file (statement_at number card cards).pieces (name_in parameter.FileName (statement_at number card cards).pieces) _ (sound_statement number card cards) refl more
+
+first_date : (one rest : Option (List ℕ)) → is_sound_date one ≡ true → is_sound_date rest ≡ true → is_sound_date (option_or one rest) ≡ true
+first_date None rest sound more = more
+first_date (Some digits) rest sound more = sound
+
+sound_dates : (turns number : ℕ) (cards : List (List ℕ)) → is_sound_date (date_of (statements_within turns number cards)) ≡ true
+unfolding statements_within first_in
+sound_dates zero number cards = refl
+sound_dates (suc turns) number [] = refl
+sound_dates (suc turns) number (card ∷ cards) =
+    go (is_statement card) (is_verb verb.Run (statement_at number card cards).verb)
+    (sound_dates turns (number + (statement_at number card cards).cards) (drop (statement_at number card cards).cards (card ∷ cards)))
+  where
+    here : is_sound_date (date_in (statement_at number card cards).pieces) ≡ true
+    here = date_in_sound (statement_at number card cards).pieces (sound_statement number card cards)
+
+    go : (t r : Bool) → is_sound_date (date_of (statements_within turns (number + (statement_at number card cards).cards) (drop (statement_at number card cards).cards (card ∷ cards)))) ≡ true
+        → is_sound_date (date_of (cond t (statement_at number card cards ∷ cond r [] (statements_within turns (number + (statement_at number card cards).cards) (drop (statement_at number card cards).cards (card ∷ cards)))) [])) ≡ true
+    go false r more = refl
+    go true true more = first_date (date_in (statement_at number card cards).pieces) None here refl
+    go true false more = first_date (date_in (statement_at number card cards).pieces) _ here more
+
+-- the date of a job without faults
+dated_job : (cards : List (List ℕ)) (place : ℕ) (job : Job) → job_at cards place ≡ Ok job → is_sound_date job.date ≡ true
+unfolding job_at
+dated_job cards place job h = go _ h
+  where
+    go : (o : Option Mark) → job_or_fault cards (heading_at cards place) (place + cards_of (heading_at cards place)) o ≡ Ok job → is_sound_date job.date ≡ true
+    go None e =
+        let same : job_with cards (heading_at cards place) (place + cards_of (heading_at cards place)) ≡ job = cc in
+        subst (λ (j : Job). is_sound_date j.date ≡ true) same (sound_dates (length (drop place cards)) (place + 1) (drop place cards))
+    go (Some mark) e = cc
+
+-- and so that of a job that a call gave
+pub dated_result : (cards : List (List ℕ)) (place : ℕ) (result : Result Job OclFault) → Gives result (job_at cards place)
+    → IfOk result (λ job. is_sound_date job.date ≡ true)
+dated_result cards place (Ok job) gives = dated_job cards place job gives
+dated_result cards place (Err fault) gives = tt
 
 -- the files of a job without faults
 sound_job : (cards : List (List ℕ)) (place : ℕ) (job : Job) → job_at cards place ≡ Ok job → list_all is_sound_file job.files ≡ true

@@ -1,10 +1,11 @@
--- The ranges of what a FILE statement says.
-use Rattle.std.specs.Prelude.{ℕ, Bool, ◌&&◌, nat_le}
+-- The ranges of what FILE and DATE statements say.
+use Rattle.std.specs.Prelude.{ℕ, Bool, true, ◌&&◌, nat_le, List, Option, Some, None}
+use Rattle.std.specs.List.{list_all}
 use Rattle.s3_cards.specs.declared.name.Name.{Name}
 use Rattle.s3_ocl.specs.declared.contents.FileSize.{FileSize}
 use Rattle.s3_ocl.specs.declared.contents.FileSize.TheVariants.{Records, Tracks}
 use Rattle.s3_ocl.specs.declared.contents.FileStatement.{FileStatement}
-use Rattle.s3_cards.specs.Names.{is_name}
+use Rattle.s3_cards.specs.Names.{is_digit, is_name}
 
 -- a name and blanks behind it
 abbrev pub is_padded_name : Name → Bool
@@ -21,3 +22,8 @@ is_size (Tracks n) = is_between 1 999 n
 -- its name and its label are names, and its size is one
 abbrev pub is_sound_file : FileStatement → Bool
 is_sound_file file = is_padded_name file.name && is_padded_name file.label && is_size file.size
+
+-- digits, where a date is given
+abbrev pub is_sound_date : Option (List ℕ) → Bool
+is_sound_date None = true
+is_sound_date (Some digits) = list_all is_digit digits

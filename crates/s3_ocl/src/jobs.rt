@@ -3,7 +3,7 @@ ghost use Rattle.std.specs.Prelude.{◌≡◌, ◌<◌, ◌≤◌, ◌+◌, [], 
 ghost use Rattle.s3_ocl.specs.Cards.{is_job_end as job_end_spec, is_statement as statement_spec};
 ghost use Rattle.s3_ocl.specs.Jobs.{job_with as job_with_spec, faulty_end, job_end as job_end_at, stop_fault as stop_fault_spec, holds_at, job_at as job_at_spec, next_job, job_place, is_compile as is_compile_spec, Gives, LiesWithin};
 ghost use Rattle.s3_ocl.specs.Inner.Steps.{Behind, IsKept, KeptOf, last_fault as last_fault_spec, with_last};
-ghost use Rattle.s3_ocl.specs.Sound.{is_sound_file};
+ghost use Rattle.s3_ocl.specs.Sound.{is_sound_date, is_sound_file};
 ghost use Rattle.s3_ocl.specs.Streams.{OneStream};
 ghost use Rattle.std.specs.List.{list_all};
 ghost use Rattle.s3_ocl.specs.Faults.{first_fault, statement_faults};
@@ -310,12 +310,13 @@ pub fn job_at(deck: &Deck, from: usize) -> Option<usize>
 }
 
 /// The next job from a place on, or its fault, and the place behind it.
-#[tactic(auto, using(crate::proofs::SoundLemmas::sound_result))]
+#[tactic(auto, using(crate::proofs::SoundLemmas::sound_result, crate::proofs::SoundLemmas::dated_result))]
 pub fn split(alloc: Global, deck: &Deck, from: usize) -> Result<JobCards, OclFault>
     requires { next_job deck.now from < length deck.now }
     ensures value { Gives result (job_at_spec deck.now (next_job deck.now from)) }
     ensures places { LiesWithin deck.now (next_job deck.now from) result }
     ensures sound { IfOk result (λ job. IsTrue (list_all is_sound_file job.files)) }
+    ensures dated { IfOk result (λ job. IsTrue (is_sound_date job.date)) }
 {
     let cards = deck.cards();
     read_job(alloc, cards, Stop::Beginning.next(cards, from))
