@@ -1,8 +1,14 @@
 -- Words of inner functions and of proofs: none of them says what the product means.
-pub mod Held
+pub mod Environment
+pub mod Going
+pub mod Lines
+pub mod Halting
+pub mod Calculating
+pub mod Fields
 pub mod Printing
-pub mod Steps
-pub mod Texts
-pub mod Slots
-pub mod Moving
-pub mod Indicators
+pub mod Entries
+pub mod Heads
+pub mod Selecting
+pub mod Starting
+pub mod Answers
+pub mod Chaining

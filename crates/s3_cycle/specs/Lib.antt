@@ -1,6 +1,5 @@
+-- What a suspended run is: its requests, and what is left of it.
 pub mod Requests
-pub mod Served
 pub mod Rest
-pub mod Built
-pub mod Serves
+pub mod Following
 pub mod Inner

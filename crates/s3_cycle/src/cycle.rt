@@ -2,6 +2,7 @@
 
 use crate::request::{Answer, Request};
 use crate::stepper::Stepper;
+use s3_output::composition::Composition;
 use s3_program::program::Program;
 use std::alloc::{AllocError, Global};
 use std::marker::Model;
@@ -14,24 +15,26 @@ pub struct Cycle {
 
 impl Model for Cycle {
     ghost use Rattle.s3_cycle.specs.declared.stepper.Stepper.{Stepper};
-    ghost use Rattle.s3_cycle.specs.Inner.Steps.{IsSound};
+    ghost use Rattle.s3_cycle.specs.Inner.Going.{IsWaiting};
 
     ghost Value = { Stepper };
 
     ghost view = { λ c. c.stepper };
 
-    ghost invariant = { λ c. IsSound c.stepper };
+    ghost invariant = { λ c. IsWaiting c.stepper };
 }
 
 impl Cycle {
     ghost use Rattle.std.specs.Prelude.{◌≡◌, IfOk, IsTrue, List, [], ◌∷◌};
     ghost use Rattle.s3_meaning.specs.Source.{Source};
     ghost use Rattle.s3_meaning.specs.Requests.{Answer as MeantAnswer};
+    ghost use Rattle.s3_meaning.specs.Output.{filled};
     ghost use Rattle.s3_meaning.specs.Cycle.{Req};
-    ghost use Rattle.s3_program.specs.Stands.{Stands, source_named};
-    ghost use Rattle.s3_cycle.specs.Serves.{serves};
-    ghost use Rattle.s3_cycle.specs.Requests.{request_of, answer_of, is_fit};
-    ghost use Rattle.s3_cycle.specs.Rest.{rest, StandsFor, asked};
+    ghost use Rattle.s3_program.specs.Stands.{Stands};
+    ghost use Rattle.s3_operations.specs.Beginning.{IsDate};
+    ghost use Rattle.s3_cycle.specs.Requests.{IsLine, answer_of};
+    ghost use Rattle.s3_cycle.specs.Following.{StandsFor, asked, is_fit, put, waits};
+    ghost use Rattle.s3_cycle.specs.Rest.{rest};
 
     /// A job at its first request, with its switches, U1 the highest bit, and its date, six EBCDIC digits. All memory of the
     /// run is taken here.
@@ -41,7 +44,7 @@ impl Cycle {
         switches: u8,
         date: [u8; 6],
     ) -> Result<Cycle, AllocError>
-        requires { IsTrue (serves (source_named program)) }
+        requires { IsDate date }
         ensures { IfOk result (λ c. (source : Source) → Stands program source → StandsFor c source × ((answers : List MeantAnswer) → rest source c answers ≡ Req source switches date answers)) }
     {
         Ok(Cycle {
@@ -52,15 +55,30 @@ impl Cycle {
     /// The request that waits for an answer.
     pub fn pending(&self) -> &Request
         ensures request { result.now ≡ asked self.now }
-        ensures next { (source : Source) → request_of result.now ≡ rest source self.now [] }
+        ensures next { (source : Source) → waits self.now ≡ rest source self.now [] }
     {
         &self.stepper.request
     }
 
+    /// The text of the line, or the record, that the request puts out. A line that is to be printed has 1 to 132 bytes.
+    pub fn record(&self) -> &[u8]
+        ensures value { result.now ≡ filled (put self.now) }
+        ensures line { IsLine (asked self.now) result.now }
+    {
+        self.stepper.composition.codes()
+    }
+
+    /// What an update puts at each position of the record.
+    pub fn changes(&self) -> &Composition
+        ensures { result.now ≡ put self.now }
+    {
+        &self.stepper.composition
+    }
+
     /// Goes on with the answer, up to the next request. It takes no memory.
-    pub fn resume(&mut self, answer: &Answer)
-        requires { IsTrue (is_fit (asked self.old) answer.now) }
-        ensures { (source : Source) → StandsFor self.old source → StandsFor self.new source × ((answers : List MeantAnswer) → rest source self.new answers ≡ rest source self.old (answer_of answer.now ∷ answers)) }
+    pub fn resume(&mut self, answer: Answer<'_>)
+        requires { IsTrue (is_fit self.old answer) }
+        ensures { (source : Source) → StandsFor self.old source → StandsFor self.new source × ((answers : List MeantAnswer) → rest source self.new answers ≡ rest source self.old (answer_of answer.entry ∷ answers)) }
     {
         self.stepper.go_on(answer);
     }

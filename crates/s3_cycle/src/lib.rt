@@ -2,19 +2,26 @@
 
 #![tactic(auto)]
 
-pub mod built;
-mod carriage;
+mod answers;
+mod calculating;
+mod chaining;
 pub mod cycle;
-mod indicators;
-mod laws;
-mod moving;
+mod fields;
+mod halts;
+mod indicating;
+mod lines;
+mod performing;
 mod printing;
+pub mod progress;
+mod reading;
 pub mod request;
-mod state;
-mod stepper;
-mod texts;
+mod selecting;
+mod starting;
+pub mod state;
+pub mod stepper;
+mod totals;
+mod waiting;
+pub mod went;
 
-pub use built::{is_built, unbuilt_cards};
 pub use cycle::Cycle;
-pub use laws::built_sources_are_served;
-pub use request::{Answer, Request, fits};
+pub use request::{Answer, Current, Request, Sought};

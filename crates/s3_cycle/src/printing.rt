@@ -1,98 +1,108 @@
-//! What a line prints, and whether it does.
-ghost use Rattle.std.specs.Prelude.{◌≡◌, ◌≤◌, length};
-ghost use Rattle.s3_cycle.specs.Inner.Printing.{overlaid, pieces_put, card_put, piece_put, content_bytes, is_part, groups_hold, card_hold, ArePieces, CardFits, ContentFits, PieceFits};
+//! The request that an output line makes.
+ghost use Rattle.std.specs.Prelude.{◌≡◌, ◌<◌, ◌≤◌, true, length};
+ghost use Rattle.s3_meaning.specs.OutputLines.{Output};
+ghost use Rattle.s3_meaning.specs.Cycle.{again};
+ghost use Rattle.s3_meaning.specs.Runs.{ask};
+ghost use Rattle.s3_meaning.specs.Output.{disk_request as disk_request_spec, filled, printed, put_carriage, stored_or_halted};
+ghost use Rattle.s3_output.specs.Carriages.{place_moved};
+ghost use Rattle.s3_output.specs.Lines.{IsLineAt, IsStart};
+ghost use Rattle.s3_match.specs.Heads.{file_at};
+ghost use Rattle.s3_cycle.specs.Requests.{request_of};
+ghost use Rattle.s3_cycle.specs.Rest.{lines_from};
+ghost use Rattle.s3_cycle.specs.Inner.Going.{AreSound, Changes, IsRunning, IsWalk, GoesOn, held_by, here, is_record_request};
+ghost use Rattle.s3_cycle.specs.Inner.Printing.{ComposesLine};
 
-use crate::indicators::Indicators;
-use crate::moving::slot_of;
-use crate::state::State;
-use crate::texts::Texts;
-use s3_lines::indicator::Condition;
-use s3_lines::sheet::{OutputContent, OutputField, OutputLine};
-use s3_program::program::Reference;
+use crate::progress::Point;
+use crate::request::Request;
+use crate::stepper::Stepper;
+use s3_output::carriage::{Carriage, Moved};
+use s3_output::compose;
+use s3_output::requests::{DiskRequest, disk_request, is_addition, spacing};
+use s3_program::starts::{OutputStart, Walk};
 
-/// Lays the fields of a line over its text, in order, as far as their conditions hold: those on its cards, down to the next line.
-pub fn put_pieces(cards: &[OutputLine<Reference>], state: &State, text: &mut [u8])
-    requires { ArePieces state.now.texts (length text.old) cards.now }
-    ensures { text.new ≡ pieces_put state.now cards.now text.old }
-{
-    for card in cards {
-        if !put_card(card, state, text) {
-            break;
+impl Stepper {
+    /// Composes the line that starts there.
+    pub fn compose(&mut self, start: &OutputStart)
+        requires running { IsRunning self.old }
+        requires starts { IsStart self.old.program start.now }
+        requires file { start.now.file < length self.old.program.files.items }
+        ensures { ComposesLine self.old self.new start.now }
+    {
+        let length = self.program.files[start.file].record_length;
+        compose(
+            &self.program,
+            &mut self.state.values,
+            start,
+            usize::from(length),
+            &mut self.composition,
+        );
+    }
+
+    /// Prints the line that is composed, and moves the carriage.
+    pub fn print(&mut self, start: &OutputStart, walk: Walk, next: usize)
+        requires running { IsRunning self.old }
+        requires walk { IsWalk self.old.program self.old.progress walk }
+        requires line { (1 ≤ length self.old.composition) × (length self.old.composition ≤ 132) }
+        ensures { (line : Output) → IsLineAt self.old.program start.now line
+            → GoesOn self.old self.new (here self.old (λ source program progress. printed source line (filled self.old.composition) (lines_from source program progress walk next))) }
+    {
+        let spacing = spacing(&self.program, start);
+        let place = self.state.carriage.to_print(&spacing);
+        self.move_carriage(place.after_print(&spacing));
+        let request = Request::Print {
+            page: place.carriage.page,
+            line: place.carriage.line,
+        };
+        self.wait(request, Point::Lines { walk, next });
+    }
+
+    /// Puts the carriage where it has moved to; the overflow indicator goes on with overflow.
+    fn move_carriage(&mut self, to: Moved)
+        requires { IsRunning self.old }
+        ensures { Changes self.old self.new (λ source. put_carriage source (place_moved to)) }
+    {
+        self.put_carriage(to.carriage);
+        if to.overflow {
+            self.turn_entry(self.overflow, true);
         }
     }
-}
 
-/// Lays the field of a card over a text, if it is one, and says whether the card is a part of the line.
-fn put_card(card: &OutputLine<Reference>, state: &State, text: &mut [u8]) -> bool
-    requires { CardFits state.now.texts (length text.old) card.now }
-    ensures goes { result ≡ is_part card.now }
-    ensures value { text.new ≡ card_put state.now card.now text.old }
-{
-    match card {
-        OutputLine::Field(field) => {
-            put_piece(field, state, text);
-            true
-        }
-        OutputLine::And(_) | OutputLine::Or(_) => true,
-        OutputLine::Line(_) => false,
+    /// The carriage stands there.
+    fn put_carriage(&mut self, to: Carriage)
+        requires { AreSound self.old.program self.old.state }
+        ensures { Changes self.old self.new (λ source e. record e { page = to.page; line = to.line }) }
+    {
+        self.state.carriage = to;
     }
-}
 
-/// Lays a field over a text, where its conditions hold.
-fn put_piece(field: &OutputField<Reference>, state: &State, text: &mut [u8])
-    requires { PieceFits state.now.texts (length text.old) field.now }
-    ensures { text.new ≡ piece_put state.now field.now text.old }
-{
-    if state.indicators.all_hold(&field.conditions) {
-        put_content(&field.content, field.end as usize, &state.texts, text);
+    /// Asks that the record that is composed be put into its file.
+    pub fn store(&mut self, start: &OutputStart, walk: Walk, next: usize)
+        requires running { IsRunning self.old }
+        requires walk { IsWalk self.old.program self.old.progress walk }
+        requires file { start.now.file < length self.old.program.files.items }
+        ensures { (line : Output) → IsLineAt self.old.program start.now line
+            → GoesOn self.old self.new (here self.old (λ source program progress e. ask (disk_request_spec (file_at program start.now.file) line self.old.composition e)
+            (λ answer. stored_or_halted (again source) (lines_from source program progress walk next) answer e))) }
+    {
+        self.wait(self.record_request(start), Point::Records { walk, next });
     }
-}
 
-/// Lays a content over a text, up to an end position.
-fn put_content(content: &OutputContent<Reference>, end: usize, texts: &Texts, text: &mut [u8])
-    requires begins { ContentFits texts.now end content.now }
-    requires ends { end ≤ length text.old }
-    ensures { text.new ≡ overlaid end (content_bytes texts.now content.now) text.old }
-{
-    match content {
-        OutputContent::Constant(constant) => overlay(
-            text,
-            end,
-            &constant.codes[..constant.length as usize],
-        ),
-        OutputContent::Field(field) => overlay(text, end, texts.text(slot_of(field.name))),
-    }
-}
-
-/// Lays a content over a text, up to an end position.
-fn overlay(text: &mut [u8], end: usize, content: &[u8])
-    requires begins { length content.now ≤ end }
-    requires ends { end ≤ length text.old }
-    ensures { text.new ≡ overlaid end content.now text.old }
-{
-    text[end - content.len()..end].copy_from_slice(content);
-}
-
-/// Whether one of the groups of conditions of a line holds: that of its first card, and those on the AND and OR cards below it.
-pub fn holds(
-    first: &[Option<Condition>; 3],
-    cards: &[OutputLine<Reference>],
-    indicators: &Indicators,
-) -> bool
-    ensures { result ≡ groups_hold indicators.now (card_hold indicators.now first.now) cards.now }
-{
-    let mut latest = indicators.all_hold(first);
-    for card in cards {
-        match card {
-            OutputLine::And(conditions) => latest = latest && indicators.all_hold(conditions),
-            OutputLine::Or(conditions) => {
-                if latest {
-                    return true;
-                }
-                latest = indicators.all_hold(conditions);
-            }
-            OutputLine::Line(_) | OutputLine::Field(_) => break,
+    /// The request that puts the record into its file.
+    fn record_request(&self, start: &OutputStart) -> Request
+        requires sound { AreSound self.now.program self.now.state }
+        requires file { start.now.file < length self.now.program.files.items }
+        ensures kind { is_record_request result ≡ true }
+        ensures request { (line : Output) → IsLineAt self.now.program start.now line
+            → request_of self.now.program self.now.composition result ≡ disk_request_spec (file_at self.now.program start.now.file) line self.now.composition (held_by self.now) }
+    {
+        let file = start.file;
+        match disk_request(&self.program.files[file], is_addition(&self.program, start)) {
+            DiskRequest::Append => Request::Append { file },
+            DiskRequest::Add => Request::Add { file },
+            DiskRequest::Update => Request::Update {
+                file,
+                current: self.state.current[file],
+            },
         }
     }
-    latest
 }

@@ -1,13 +1,14 @@
 use Rattle.std.proofs.Common.{ap, ◌∙◌}
+use Rattle.s3_meaning.specs.Requests.{fits}
 use Rattle.s3_cycle.specs.declared.stepper.Stepper.{Stepper}
-use Rattle.s3_cycle.specs.Requests.{is_fit}
-use Rattle.s3_cycle.specs.Rest.{asked}
-use Rattle.s3_cycle.proofs.StepLemmas.{resumes}
+use Rattle.s3_cycle.specs.Requests.{answer_of, request_of}
+use Rattle.s3_cycle.specs.Following.{is_fit, waits}
+use Rattle.s3_cycle.proofs.FollowLemmas.{resumes}
 use Rattle.s3_cycle.proofs.cycle.Cycle.resume.Goals as goal
 
 pub go_on-requires-clause-fits : goal.go_on-requires-clause-fits
-unfolding asked
-go_on-requires-clause-fits c = ap (λ (k : Stepper). is_fit k.request c.args.answer.now) c.self.view_is ∙ c.requires
+unfolding is_fit waits
+go_on-requires-clause-fits c = ap (λ (k : Stepper). fits (request_of k.program k.composition k.request) (answer_of c.args.answer)) c.self.view_is ∙ c.requires
 
 pub returns : goal.returns
-returns c = resumes c.args.self.now c.self.inside.stepper c.go_on.new.self c.args.answer.now c.self.view_is c.go_on.ensures
+returns c = resumes c.args.self.now c.self.inside.stepper c.go_on.new.self c.args.answer c.self.view_is c.go_on.ensures

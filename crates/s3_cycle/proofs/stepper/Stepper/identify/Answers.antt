@@ -1,22 +1,23 @@
-use Rattle.std.proofs.Common.{◌∙◌, ◌+◌, ap, true, Some, List, ℕ, min, map, length}
-use Rattle.s3_cycle.specs.declared.stepper.Stepper.{Stepper}
-use Rattle.s3_cycle.proofs.StepLemmas.{can_take, taken_settable}
+use Rattle.std.proofs.Common.{ap, ◌∙◌}
+use Rattle.std.specs.Option.{option_or}
+use Rattle.s3_meaning.specs.Selection.{control_value}
+use Rattle.s3_operations.specs.Indicators.{is_settable}
+use Rattle.s3_match.specs.Controls.{break_of, held_in}
+use Rattle.s3_match.specs.Types.{kind_at}
+use Rattle.s3_cycle.proofs.GoingLemmas.{changed_stays}
+use Rattle.s3_cycle.specs.Inner.Going.{IsTaken}
+use Rattle.s3_cycle.proofs.IdentifyLemmas.{kind_settable, bytes_there, identifies}
 use Rattle.s3_cycle.proofs.stepper.Stepper.identify.Goals as goal
 
-pub turn-requires : goal.turn-requires
-turn-requires c = taken_settable c.args.self.now c.args.start (can_take c.args.self.now c.args.start c.requires.sound c.requires.typed)
-
-pub move_type-requires : goal.move_type-requires
-move_type-requires c =
-    let can = can_take c.args.self.now c.args.start c.requires.sound c.requires.typed in
-    record { within = can.within; moves = can.fit }
+pub turn-requires-clause-settable : goal.turn-requires-clause-settable
+turn-requires-clause-settable c =
+    ap is_settable c.indicator_of-indicator.ensures ∙ kind_settable c.args.self.now.program c.args.selection.start c.requires.taken.record_there.starts
 
 pub returns : goal.returns
-returns c = record {
-  indicators = c.turn.new.self;
-  turns = c.turn.ensures;
-  same =
-      ap (λ (k : Stepper). let new : Stepper = record k { current = Some k.reads; totals_due = true } in new) c.count_read.ensures
-      ∙ ap (λ (texts : List (List ℕ)). let new : Stepper = record c.args.self.now { state = record { indicators = c.turn.new.self; texts = texts }; current = Some (min (c.args.self.now.reads + 1) 16776960); totals_due = true; reads = min (c.args.self.now.reads + 1) 16776960 } in new) c.move_type.ensures.value;
-  lengths = record { lengths = ap (λ (k : Stepper). map (λ text. length text) k.state.texts) c.count_read.ensures ∙ c.move_type.ensures.same.lengths };
-}
+returns c =
+    let taken = changed_stays (λ program progress. IsTaken program progress c.args.selection) c.args.self.now c.turn.new.self _ c.turn.ensures c.requires.taken in
+    let bytes = bytes_there c.turn.new.self.progress.reading.files.items c.args.selection.place c.index.result.now taken.record_there.within c.index.ensures in
+    identifies c.args.self.now c.turn.new.self c.raise_levels.new.self c.hold.new.self c.args.selection c.indicator_of-indicator.result c.break_level-level.result c.turn.ensures c.indicator_of-indicator.ensures
+    (c.break_level-level.ensures.level ∙ ap (break_of (held_in c.turn.new.self.state.controls.held) (kind_at c.turn.new.self.program c.args.selection.start)) (c.deref.ensures.0 ∙ bytes))
+    c.raise_levels.ensures
+    (λ n. c.hold.ensures n ∙ (λ i. option_or (control_value (kind_at c.turn.new.self.program c.args.selection.start) ((c.deref-2.ensures.0 ∙ bytes) i) n) (held_in (c.break_level-level.ensures.held i) n)))

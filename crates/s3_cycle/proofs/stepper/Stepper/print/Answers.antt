@@ -1,6 +1,7 @@
-use Rattle.s3_cycle.proofs.StepLemmas.{prints, goes-along}
+use Rattle.s3_cycle.proofs.PrintLemmas.{prints}
 use Rattle.s3_cycle.proofs.stepper.Stepper.print.Goals as goal
 
 pub returns : goal.returns
-returns c = goes-along _ _ _ _ c.wait.ensures
-    (prints c.args.self.now c.next_line-self.result c.args.place c.printed-line.result c.requires.sound c.requires.line c.printed-line.ensures (record { page = c.next_line-self.ensures.page; line = c.next_line-self.ensures.line }))
+returns c = λ line is.
+    prints c.args.self.now c.move_carriage.new.self _ line c.spacing-spacing.result c.to_print-place.result c.after_print.result c.args.walk c.args.next c.requires.running c.requires.walk
+    (c.spacing-spacing.ensures.line line is) c.to_print-place.ensures c.after_print.ensures c.move_carriage.ensures c.requires.line c.wait.ensures

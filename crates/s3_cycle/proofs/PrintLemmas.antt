@@ -1,0 +1,394 @@
+-- The request that an output line makes.
+use Rattle.std.proofs.Common.{◌≡◌, ℕ, ◌+◌, ◌<◌, ◌≤◌, Bool, true, false, if◌then◌else◌, List, [], ◌∷◌, length, get_or, Option, Some, None, Fits, w64, ◌⊎◌, inl, inr, refl, sym, ◌∙◌, ap, subst, true≢false, arith}
+use Rattle.std.specs.Prelude.{◌&&◌, nat_le, slice_get, unwrap_or, option_map, option_and_then, replicate}
+use Rattle.std.specs.List.{list_all}
+use Rattle.std.specs.Option.{option_or}
+use Rattle.std.proofs.lemmas.Bool.{and_parts}
+use Rattle.std.proofs.lemmas.Option.{slice_get-map, slice_get_read, slice_get-get_or, get_or_from_slice_get, slice_get_within}
+use Rattle.s3_cards.specs.declared.name.Name.{Name}
+use Rattle.s3_cards.specs.Names.{no_name}
+use Rattle.s3_lines.specs.Ranges.{file_in_range, if_given, is_between, is_overflow_indicator, longest_record}
+use Rattle.s3_lines.specs.declared.indicator.Indicator.{Indicator}
+use Rattle.s3_lines.specs.declared.indicator.Indicator.TheVariants.{Switch}
+use Rattle.s3_lines.specs.declared.sheet.Device.{Device}
+use Rattle.s3_lines.specs.declared.sheet.Device.TheVariants.{CardReader, Printer, Disk}
+use Rattle.s3_lines.specs.declared.sheet.FileLine.{FileLine}
+use Rattle.s3_lines.specs.declared.sheet.Spacing.{Spacing}
+use Rattle.s3_meaning.specs.Source.{Source, overflow_of, is_printer}
+use Rattle.s3_meaning.specs.Environment.{Environment}
+use Rattle.s3_meaning.specs.OutputLines.{Output}
+use Rattle.s3_meaning.specs.Carriage.{Carriage as Place, to_print, after_print}
+use Rattle.s3_meaning.specs.Requests as Meant
+use Rattle.s3_meaning.specs.Output.{Composed, composed, carriage, filled, put_carriage, printed, disk_request, stored_or_halted, file_line_put}
+use Rattle.s3_meaning.specs.Runs.{Run, Rest, ask}
+use Rattle.s3_meaning.specs.Cycle.{again}
+use Rattle.s3_program.specs.declared.program.Program.{Program}
+use Rattle.s3_program.specs.declared.starts.OutputStart.{OutputStart}
+use Rattle.s3_program.specs.declared.starts.Walk.{Walk}
+use Rattle.s3_program.specs.declared.starts.Walk.TheVariants as walk
+use Rattle.s3_program.specs.Positions.{are_in_range}
+use Rattle.s3_program.specs.Stands.{parts_of}
+use Rattle.s3_program.specs.Tables.{slot_in}
+use Rattle.s3_program.specs.Valid.{file_entry, named}
+use Rattle.s3_program.proofs.SlotLemmas.{kept, own_slot}
+use Rattle.s3_operations.specs.Fits.{tables}
+use Rattle.s3_operations.specs.declared.values.Values.{Values}
+use Rattle.s3_operations.specs.Held.{held}
+use Rattle.s3_operations.specs.Indicators.{is_settable, is_settable_entry}
+use Rattle.s3_output.specs.declared.carriage.Carriage.{Carriage}
+use Rattle.s3_output.specs.declared.carriage.Moved.{Moved}
+use Rattle.s3_output.specs.declared.requests.DiskRequest.{DiskRequest}
+use Rattle.s3_output.specs.declared.requests.DiskRequest.TheVariants as disk
+use Rattle.s3_output.specs.Carriages.{place, place_moved}
+use Rattle.s3_output.specs.Requests as disk_spec
+use Rattle.s3_output.specs.Composing.{Composes}
+use Rattle.s3_output.specs.Lines.{IsLineAt}
+use Rattle.s3_match.specs.Heads.{no_file, file_at}
+use Rattle.s3_match.specs.Types.{name_of_file}
+use Rattle.s3_cycle.specs.declared.progress.Point.TheVariants as at
+use Rattle.s3_cycle.specs.declared.request.Request.{Request}
+use Rattle.s3_cycle.specs.declared.request.Request.TheVariants as asks
+use Rattle.s3_cycle.specs.declared.request.Current.{Current}
+use Rattle.s3_cycle.specs.declared.state.State.{State}
+use Rattle.s3_cycle.specs.declared.stepper.Stepper.{Stepper}
+use Rattle.s3_cycle.specs.Requests.{IsLine, request_of, current_of}
+use Rattle.s3_cycle.specs.Rest.{lines_from, after_lines, starts_of}
+use Rattle.s3_cycle.specs.Inner.Environment.{environment, others}
+use Rattle.s3_cycle.specs.Inner.Going.{own, held_by, here, AreSound, IsRunning, IsWalk, GoesOn, Changes, is_record_request}
+use Rattle.s3_cycle.specs.Inner.Entries.{turn_entry}
+use Rattle.s3_cycle.specs.Inner.Lines.{is_used, is_held, is_due, IsDue, PassesTo}
+use Rattle.s3_cycle.specs.Inner.Printing.{ComposesLine}
+use Rattle.s3_cycle.proofs.GoingLemmas.{goes_wait, goes_then, goes_as, changed_running, changed_program, changes_both}
+use Rattle.s3_cycle.proofs.AnswerLemmas.{at_most, file_ranged}
+use Rattle.s3_cycle.proofs.LineLemmas.{IsLineOf, line_of, line_due}
+
+-- ---- the carriage
+-- the overflow indicator is no switch
+settable : (i : Indicator) → is_overflow_indicator i ≡ true → is_settable i ≡ true
+settable (Switch n) is = absurd (true≢false (sym is))
+settable _ is = refl
+
+overflow_in : (files : List FileLine) → list_all file_in_range files ≡ true → is_settable_entry (overflow_of files) ≡ true
+overflow_in [] ranged = refl
+overflow_in (file ∷ files) ranged =
+    let parts = and_parts (file_in_range file) (list_all file_in_range files) ranged in
+    by file.overflow (and_parts _ _ (and_parts _ _ parts.0).0).1 (overflow_in files parts.1)
+  where
+    by : (o : Option Indicator) → if_given (λ i. is_overflow_indicator i && is_printer file.device) o ≡ true → is_settable_entry (overflow_of files) ≡ true
+        → is_settable_entry (option_or o (overflow_of files)) ≡ true
+    by None given later = later
+    by (Some i) given later = settable i (and_parts (is_overflow_indicator i) (is_printer file.device) given).0
+
+pub overflow_settable : (c : Stepper) → IsRunning c → is_settable_entry c.overflow ≡ true
+unfolding are_in_range
+overflow_settable c running =
+    let ranged = (kept (parts_of c.program) c.program.valid).ranged in
+    ap is_settable_entry running.overflow ∙ overflow_in c.program.files.items (and_parts _ _ (and_parts _ _ (and_parts _ _ ranged).0).0).0
+
+-- it stands where it was put
+pub carriage_put : (c : Stepper) (to : Carriage) → AreSound c.program c.state
+    → Changes c (record c { state = record c.state { carriage = to } }) (λ source e. record e { page = to.page; line = to.line })
+unfolding environment held
+carriage_put c to sound = record { stays = refl; sound = record { values = sound.values; current = sound.current }; held = refl }
+
+-- with overflow its indicator goes on
+with_overflow : (source : Source) (to : Place) (o : Option Indicator) (e : Environment) → overflow_of source.files ≡ o → to.overflow ≡ true → turn_entry o true (record e { page = to.page; line = to.line }) ≡ put_carriage source to e
+with_overflow source to None e is on = rw is refl
+with_overflow source to (Some i) e is on = rw (is, on) refl
+
+without_overflow : (source : Source) (to : Place) (o : Option Indicator) (e : Environment) → overflow_of source.files ≡ o → to.overflow ≡ false → record e { page = to.page; line = to.line } ≡ put_carriage source to e
+without_overflow source to None e is off = rw is refl
+without_overflow source to (Some i) e is off = rw (is, off) refl
+
+pub own_overflow : (c : Stepper) → IsRunning c → overflow_of (own c).files ≡ c.overflow
+unfolding named
+own_overflow c running = sym running.overflow
+
+pub carriage_overflows : (old mid new : Stepper) (to : Moved) → IsRunning old → to.overflow ≡ true → Changes old mid (λ source e. record e { page = to.carriage.page; line = to.carriage.line })
+    → Changes mid new (λ source. turn_entry mid.overflow true) → Changes old new (λ source. put_carriage source (place_moved to))
+carriage_overflows old mid new to running on before behind =
+    let both : Changes old new (λ source e. turn_entry mid.overflow true (record e { page = to.carriage.page; line = to.carriage.line })) = changes_both old mid new _ (λ source. turn_entry mid.overflow true) before behind in
+    record {
+      stays = both.stays;
+      sound = both.sound;
+      held = both.held
+          ∙ (ap (λ (k : Stepper). turn_entry k.overflow true (record (held_by old) { page = to.carriage.page; line = to.carriage.line })) before.stays
+          ∙ with_overflow (own old) (place_moved to) old.overflow (held_by old) (own_overflow old running) on);
+    }
+
+pub carriage_stays : (old new : Stepper) (to : Moved) → IsRunning old → to.overflow ≡ false → Changes old new (λ source e. record e { page = to.carriage.page; line = to.carriage.line })
+    → Changes old new (λ source. put_carriage source (place_moved to))
+carriage_stays old new to running off changes = record {
+  stays = changes.stays;
+  sound = changes.sound;
+  held = changes.held ∙ without_overflow (own old) (place_moved to) old.overflow (held_by old) (own_overflow old running) off;
+}
+
+-- ---- a line is printed
+pub prints : (old mid new : Stepper) (line : Output) (spacing : Spacing) (there after : Moved) (w : Walk) (next : ℕ) → IsRunning old → IsWalk old.program old.progress w → line.spacing ≡ spacing
+    → place_moved there ≡ to_print spacing (place old.state.carriage false) → place_moved after ≡ after_print spacing (place_moved there)
+    → Changes old mid (λ source. put_carriage source (place_moved after)) → IsLine (asks.Print there.carriage.page there.carriage.line) old.composition
+    → new ≡ record mid { request = asks.Print there.carriage.page there.carriage.line; point = at.Lines w next }
+    → GoesOn old new (here old (λ source program progress. printed source line (filled old.composition) (lines_from source program progress w next)))
+unfolding printed request_of environment held
+prints old mid new line spacing there after w next running walk spaced is_there is_after moves printable same =
+    let asks_at : Place → Place → Run = λ one two. ask (Meant.Print one.page one.line (filled old.composition))
+    (λ answer. lines_from (own old) old.program old.progress w next (put_carriage (own old) two (held_by old))) in
+    let asks_in : Stepper → Run = λ k. ask (Meant.Print there.carriage.page there.carriage.line (filled k.composition)) (λ answer. lines_from (own k) k.program k.progress w next (held_by k)) in
+    let to : to_print line.spacing (carriage (held_by old)) ≡ place_moved there = ap (λ (s : Spacing). to_print s (carriage (held_by old))) spaced ∙ sym is_there in
+    let on : after_print line.spacing (to_print line.spacing (carriage (held_by old))) ≡ place_moved after =
+    ap (λ (s : Spacing). after_print s (to_print line.spacing (carriage (held_by old)))) spaced ∙ (ap (after_print spacing) to ∙ sym is_after) in
+    let before : asks_in mid ≡ asks_at (place_moved there) (place_moved after) =
+    ap asks_in moves.stays
+    ∙ ap (λ (e : Environment). ask (Meant.Print there.carriage.page there.carriage.line (filled old.composition)) (λ answer. lines_from (own old) old.program old.progress w next e)) moves.held in
+    let meant : asks_at (to_print line.spacing (carriage (held_by old))) (after_print line.spacing (to_print line.spacing (carriage (held_by old)))) ≡ asks_at (place_moved there) (place_moved after) =
+    ap (λ one. asks_at one (after_print line.spacing (to_print line.spacing (carriage (held_by old))))) to ∙ ap (asks_at (place_moved there)) on in
+    goes_then old mid new (asks_in mid) _ (changed_program old mid _ moves) (meant ∙ sym before)
+    (goes_wait mid new (asks.Print there.carriage.page there.carriage.line) (at.Lines w next) (asks_in mid) same (changed_running old mid _ moves running)
+    (refl, walks_on moves.stays walk) (printable_on moves.stays) refl)
+  where
+    walks_on : mid ≡ record old { state = mid.state } → IsWalk old.program old.progress w → IsWalk mid.program mid.progress w
+    walks_on stays walks = let P : Stepper → Type 0 = λ k. IsWalk k.program k.progress w in subst P (sym stays) walks
+
+    printable_on : mid ≡ record old { state = mid.state } → IsLine (asks.Print there.carriage.page there.carriage.line) mid.composition
+    printable_on stays = let P : Stepper → Type 0 = λ k. IsLine (asks.Print there.carriage.page there.carriage.line) k.composition in subst P (sym stays) printable
+
+-- ---- a record is put into its file
+file_name : (p : Program) (k : ℕ) → name_of_file p k ≡ (file_at p k).name
+file_name p k = ap (λ (o : Option (Name × FileLine)). unwrap_or (option_map (λ (e : Name × FileLine). e.0) o) no_name) (slice_get-map file_entry p.files.items k) ∙ by (slice_get p.files.items k)
+  where
+    by : (o : Option FileLine) → unwrap_or (option_map (λ (e : Name × FileLine). e.0) (option_map file_entry o)) no_name ≡ (unwrap_or o no_file).name
+    by None = refl
+    by (Some file) = refl
+
+pub file_within : (p : Program) (k : ℕ) → k < length p.files.items → slice_get p.files.items k ≡ Some (file_at p k)
+file_within p k within =
+    let there = slice_get-get_or p.files.items k no_file within in
+    there ∙ ap (λ file. Some file) (sym (ap (λ o. unwrap_or o no_file) there))
+
+-- the current record of a file stands in its slot
+current_there : (c : Stepper) (k : ℕ) (current : Option Current) → k < length c.program.files.items → slice_get c.state.current.items k ≡ Some current
+    → (held_by c).current (file_at c.program k).name ≡ option_map current_of current
+unfolding environment held
+current_there c k current within there =
+    let entry : slice_get (tables c.program).files k ≡ Some (file_entry (file_at c.program k)) = slice_get-map file_entry c.program.files.items k ∙ ap (option_map file_entry) (file_within c.program k within) in
+    let slot : slot_in (tables c.program).files (file_at c.program k).name ≡ k = own_slot (tables c.program).files k _ (kept (parts_of c.program) c.program.valid).files_distinct entry in
+    ap (λ n. option_map current_of (option_and_then (λ (o : Option Current). o) (slice_get c.state.current.items n))) slot
+    ∙ ap (λ (o : Option (Option Current)). option_map current_of (option_and_then (λ (o : Option Current). o) o)) there
+
+-- the file of a slot, as it is read
+file_read : (p : Program) (k : ℕ) (file : FileLine) → k < length p.files.items → file ≡ get_or p.files.items k file → file ≡ file_at p k
+file_read p k file within read = sym (ap (λ o. unwrap_or o no_file) (slice_get_read p.files.items (length p.files.items) k file refl within read))
+
+-- what a line asks for
+disk_asks : (c : Stepper) (start : OutputStart) (asked kind : DiskRequest) (is_added : Bool) (file : FileLine) (request : Request) → start.file < length c.program.files.items
+    → file ≡ get_or c.program.files.items start.file file → asked ≡ kind
+    → request_of c.program c.composition request ≡ disk_spec.request_of kind (file_at c.program start.file) c.composition (held_by c)
+    → ((line : Output) (positions : List (Option ℕ)) (e : Environment) → line.is_addition ≡ is_added → disk_request file line positions e ≡ disk_spec.request_of asked file positions e)
+    → ((line : Output) → IsLineAt c.program start line → line.is_addition ≡ is_added)
+    → (line : Output) → IsLineAt c.program start line → request_of c.program c.composition request ≡ disk_request (file_at c.program start.file) line c.composition (held_by c)
+disk_asks c start asked kind is_added file request within read is_kind asks meant added line is =
+    let same : file ≡ file_at c.program start.file = file_read c.program start.file file within read in
+    asks ∙ (ap (λ (f : FileLine). disk_spec.request_of kind f c.composition (held_by c)) (sym same)
+    ∙ (ap (λ (a : DiskRequest). disk_spec.request_of a file c.composition (held_by c)) (sym is_kind)
+    ∙ (sym (meant line c.composition (held_by c) (added line is)) ∙ ap (λ (f : FileLine). disk_request f line c.composition (held_by c)) same)))
+
+-- what the lines of a file ask for, and whether a line is an addition
+abbrev pub AsksFor : FileLine → DiskRequest → Bool → Type 0
+AsksFor file asked is_added = (line : Output) (positions : List (Option ℕ)) (e : Environment) → line.is_addition ≡ is_added → disk_request file line positions e ≡ disk_spec.request_of asked file positions e
+
+abbrev pub IsAdded : Stepper → OutputStart → Bool → Type 0
+IsAdded c start is_added = (line : Output) → IsLineAt c.program start line → line.is_addition ≡ is_added
+
+abbrev pub Asks : Stepper → OutputStart → Request → Type 0
+Asks c start request = (line : Output) → IsLineAt c.program start line → request_of c.program c.composition request ≡ disk_request (file_at c.program start.file) line c.composition (held_by c)
+
+pub appends : (c : Stepper) (start : OutputStart) (asked : DiskRequest) (is_added : Bool) (file : FileLine) → start.file < length c.program.files.items → file ≡ get_or c.program.files.items start.file file
+    → asked ≡ disk.Append → AsksFor file asked is_added → IsAdded c start is_added → Asks c start (asks.Append start.file)
+unfolding request_of
+appends c start asked is_added file within read is meant added =
+    disk_asks c start asked disk.Append is_added file (asks.Append start.file) within read is (ap (λ name. Meant.Append name (filled c.composition)) (file_name c.program start.file)) meant added
+
+pub adds : (c : Stepper) (start : OutputStart) (asked : DiskRequest) (is_added : Bool) (file : FileLine) → start.file < length c.program.files.items → file ≡ get_or c.program.files.items start.file file
+    → asked ≡ disk.Add → AsksFor file asked is_added → IsAdded c start is_added → Asks c start (asks.Add start.file)
+unfolding request_of
+adds c start asked is_added file within read is meant added =
+    disk_asks c start asked disk.Add is_added file (asks.Add start.file) within read is (ap (λ name. Meant.Add name (filled c.composition)) (file_name c.program start.file)) meant added
+
+pub updates : (c : Stepper) (start : OutputStart) (asked : DiskRequest) (is_added : Bool) (file : FileLine) (current : Option Current) → AreSound c.program c.state → start.file < length c.program.files.items
+    → file ≡ get_or c.program.files.items start.file file → current ≡ get_or c.state.current.items start.file current
+    → asked ≡ disk.Update → AsksFor file asked is_added → IsAdded c start is_added → Asks c start (asks.Update start.file current)
+unfolding request_of
+updates c start asked is_added file current sound within read stands is meant added =
+    let inside : start.file < length c.state.current.items = omega (arith, sound.current, within) in
+    let there : slice_get c.state.current.items start.file ≡ Some current = slice_get_read c.state.current.items (length c.state.current.items) start.file current refl inside stands in
+    disk_asks c start asked disk.Update is_added file (asks.Update start.file current) within read is
+    (ap (λ name. Meant.Update name (option_map current_of current) c.composition) (file_name c.program start.file)
+    ∙ ap (λ o. Meant.Update (file_at c.program start.file).name o c.composition) (sym (current_there c start.file current within there)))
+    meant added
+
+-- a record is no line
+no_line : (request : Request) (positions : List (Option ℕ)) → is_record_request request ≡ true → IsLine request positions
+no_line (asks.Append slot) positions is = tt
+no_line (asks.Add slot) positions is = tt
+no_line (asks.Update slot current) positions is = tt
+no_line asks.Card positions is = tt
+no_line (asks.Read slot size) positions is = tt
+no_line (asks.Chain slot size sought) positions is = tt
+no_line (asks.Print page place') positions is = absurd (true≢false (sym is))
+no_line asks.Jump positions is = tt
+no_line (asks.Ask code) positions is = tt
+no_line (asks.End at_once) positions is = tt
+
+pub stores : (old new : Stepper) (line : Output) (k : ℕ) (request : Request) (w : Walk) (next : ℕ) → IsRunning old → IsWalk old.program old.progress w → is_record_request request ≡ true
+    → request_of old.program old.composition request ≡ disk_request (file_at old.program k) line old.composition (held_by old)
+    → new ≡ record old { request = request; point = at.Records w next }
+    → GoesOn old new (here old (λ source program progress e. ask (disk_request (file_at program k) line old.composition e) (λ answer. stored_or_halted (again source) (lines_from source program progress w next) answer e)))
+stores old new line k request w next running walk is asks same =
+    goes_wait old new request (at.Records w next) _ same running (is, walk) (no_line request old.composition is)
+    (ap (λ r. ask r (λ answer. stored_or_halted (again (own old)) (lines_from (own old) old.program old.progress w next) answer (held_by old))) (sym asks))
+
+-- ---- a line is put out
+-- it is composed
+pub composes_line : (old : Stepper) (start : OutputStart) (size : ℕ) (values : Values) (positions : List (Option ℕ)) (new : Stepper) (file : FileLine) → AreSound old.program old.state
+    → start.file < length old.program.files.items → file ≡ get_or old.program.files.items start.file file → size ≡ file.record_length
+    → new ≡ record old { state = record old.state { values = values }; composition = new.composition } → new.composition ≡ positions
+    → Composes old.program start size old.state.values values positions → ComposesLine old new start
+unfolding environment
+composes_line old start size values positions new file sound within read is_size same is_put composes =
+    let at : file ≡ file_at old.program start.file = file_read old.program start.file file within read in
+    let is_state : new.state ≡ record old.state { values = values } = ap (λ (k : Stepper). k.state) same in
+    let as_long : size ≡ (file_at old.program start.file).record_length = is_size ∙ ap (λ (f : FileLine). f.record_length) at in
+    record {
+      same = same ∙ ap (λ (s : State). let k : Stepper = record old { state = s; composition = new.composition } in k) (sym is_state);
+      sound = let P : State → Type 0 = λ s. AreSound old.program s in subst P (sym is_state) (record { values = composes.sound; current = sound.current });
+      sized = ap (λ (ps : List (Option ℕ)). length ps) is_put ∙ composes.sized ∙ as_long;
+      composes = λ line line_is.
+          ap (λ n. composed (own old) line.fields (record { positions = replicate n None; after = held_by old })) (sym as_long)
+          ∙ (sym (composes.composed line (others old.program old.state) line_is)
+          ∙ (ap (λ ps. let c : Composed = record { positions = ps; after = held old.program values (others old.program old.state) } in c) (sym is_put)
+          ∙ ap (λ (s : State). let c : Composed = record { positions = new.composition; after = environment old.program s } in c) (sym is_state)));
+    }
+
+-- its run goes on with it as it is composed
+pub record IsPut (old : Stepper) (w : Walk) (place : ℕ) (start : OutputStart) (line : Output) : Type 0 where
+  pub is_line : IsLineOf old.program w start line
+  pub within : start.file < length old.program.files.items
+  pub runs : here old (λ source program progress. lines_from source program progress w place)
+      ≡ file_line_put (own old) (again (own old)) line (file_at old.program start.file) (lines_from (own old) old.program old.progress w (place + 1)) (held_by old)
+
+pub is_put : (old : Stepper) (w : Walk) (place : ℕ) (start : OutputStart) → slice_get (starts_of old.program.starts w) place ≡ Some start → is_due old w start ≡ true → (line : Output) × IsPut old w place start line
+is_put old w place start there due =
+    let found = line_of old.program w place start there in
+    let on = ap (λ o. is_used (held_by old) (slice_get old.program.files.items start.file) && is_held old w o) (sym found.1.there) ∙ due in
+    let used = (and_parts (is_used (held_by old) (slice_get old.program.files.items start.file)) (is_held old w (Some found.0)) on).0 in
+    let inside : start.file < length old.program.files.items = used_within old.program.files.items start.file used in (
+      found.0,
+      record {
+        is_line = found.1;
+        within = inside;
+        runs = line_due old.program w place start found.0 (file_at old.program start.file) _ (held_by old) there found.1 (file_within old.program start.file inside) on;
+      },
+    )
+  where
+    used_within : (files : List FileLine) (k : ℕ) → is_used (held_by old) (slice_get files k) ≡ true → k < length files
+    used_within files k used = by (slice_get files k) refl used
+      where
+        by : (o : Option FileLine) → slice_get files k ≡ o → is_used (held_by old) o ≡ true → k < length files
+        by None at used = absurd (true≢false (sym used))
+        by (Some file) at used = slice_get_within files k file at
+
+-- the start of a line that is due, as it is read
+pub due_read : (old : Stepper) (w : Walk) (place : ℕ) (starts : List OutputStart) (d : OutputStart) → starts ≡ starts_of old.program.starts w → IsDue old w place → (line : Output) × IsPut old w place (get_or starts place d) line
+due_read old w place starts d same due =
+    let at : get_or starts place d ≡ due.start = get_or_from_slice_get starts place due.start d (ap (λ list. slice_get list place) same ∙ due.there) in
+    let P : OutputStart → Type 0 = λ s. (line : Output) × IsPut old w place s line in
+    subst P (sym at) (is_put old w place due.start due.there due.due)
+
+-- no list is so long that its places don't fit
+pub place_fits : (c : Stepper) (w : Walk) (place : ℕ) → IsDue c w place → Fits w64 (place + 1)
+place_fits c w place due = by w (slice_get_within (starts_of c.program.starts w) place due.start due.there)
+  where
+    by : (w : Walk) → place < length (starts_of c.program.starts w) → Fits w64 (place + 1)
+    by walk.Beginning within = record { fits = omega (arith, within, c.program.starts.beginning.ok.0, c.program.starts.beginning.small) }
+    by walk.Totals within = record { fits = omega (arith, within, c.program.starts.totals.ok.0, c.program.starts.totals.small) }
+    by walk.Exceptions within = record { fits = omega (arith, within, c.program.starts.exceptions.ok.0, c.program.starts.exceptions.small) }
+    by walk.Overflow within = record { fits = omega (arith, within, c.program.starts.overflow.ok.0, c.program.starts.overflow.small) }
+
+-- whether its file is a printer, as it is read
+pub device_read : (p : Program) (k : ℕ) (file : FileLine) (b : Bool) → k < length p.files.items → file ≡ get_or p.files.items k file → is_printer file.device ≡ b → is_printer (file_at p k).device ≡ b
+device_read p k file b within read is = ap (λ (f : FileLine). is_printer f.device) (sym (file_read p k file within read)) ∙ is
+
+-- the lines of a printer have 1 to 132 positions
+printable : (d : Device) (n : ℕ) → is_printer d ≡ true → is_between 1 (longest_record d) n ≡ true → (1 ≤ n) × (n ≤ 132)
+printable Printer n is h = let both = and_parts (nat_le 1 n) (nat_le n 132) h in (at_most 1 n both.0, at_most n 132 both.1)
+printable CardReader n is h = absurd (true≢false (sym is))
+printable Disk n is h = absurd (true≢false (sym is))
+
+pub not_printer : (d : Device) → (d ≡ CardReader) ⊎ (d ≡ Disk) → is_printer d ≡ false
+not_printer d (inl card) = ap is_printer card
+not_printer d (inr disk_file) = ap is_printer disk_file
+
+-- it is composed, and then printed or stored
+composed_runs : (old mid : Stepper) (w : Walk) (place : ℕ) (start : OutputStart) (line : Output) → IsPut old w place start line → ComposesLine old mid start
+    → here old (λ source program progress. lines_from source program progress w place)
+    ≡ here mid (λ source program progress. (if is_printer (file_at program start.file).device then printed source line (filled mid.composition) (lines_from source program progress w (place + 1))
+    else (λ e. ask (disk_request (file_at program start.file) line mid.composition e) (λ answer. stored_or_halted (again source) (lines_from source program progress w (place + 1)) answer e))))
+unfolding file_line_put
+composed_runs old mid w place start line put composes =
+    let go : Rest = lines_from (own old) old.program old.progress w (place + 1) in
+    let file : FileLine = file_at old.program start.file in
+    put.runs
+    ∙ (ap (λ (c : Composed). (if is_printer file.device then printed (own old) line (filled c.positions) go else (λ e. ask (disk_request file line c.positions e) (λ answer. stored_or_halted (again (own old)) go answer e))) c.after)
+    (composes.composes line put.is_line.there)
+    ∙ sym (ap (λ (k : Stepper). here k (λ source program progress. (if is_printer (file_at program start.file).device then printed source line (filled mid.composition) (lines_from source program progress w (place + 1))
+    else (λ e. ask (disk_request (file_at program start.file) line mid.composition e) (λ answer. stored_or_halted (again source) (lines_from source program progress w (place + 1)) answer e))))) composes.same))
+
+pub composed_running : (old mid : Stepper) (start : OutputStart) → ComposesLine old mid start → IsRunning old → IsRunning mid
+composed_running old mid start composes running =
+    let P : Stepper → Type 0 = λ k. IsRunning k in
+    subst P (sym composes.same) (record { overflow = running.overflow; state = composes.sound; reading = running.reading; heads = running.heads })
+
+pub composed_walk : (old mid : Stepper) (start : OutputStart) (w : Walk) → ComposesLine old mid start → IsWalk old.program old.progress w → IsWalk mid.program mid.progress w
+composed_walk old mid start w composes walks = let P : Stepper → Type 0 = λ k. IsWalk k.program k.progress w in subst P (sym composes.same) walks
+
+composed_program : (old mid : Stepper) (start : OutputStart) → ComposesLine old mid start → mid.program ≡ old.program
+composed_program old mid start composes = ap (λ (k : Stepper). k.program) composes.same
+
+pub composed_line : (old mid : Stepper) (start : OutputStart) (page line : ℕ) → ComposesLine old mid start → start.file < length old.program.files.items
+    → is_printer (file_at mid.program start.file).device ≡ true → IsLine (asks.Print page line) mid.composition
+composed_line old mid start page line composes within is =
+    let device : is_printer (file_at old.program start.file).device ≡ true = ap (λ (p : Program). is_printer (file_at p start.file).device) (sym (composed_program old mid start composes)) ∙ is in
+    let P : ℕ → Type 0 = λ n. (1 ≤ n) × (n ≤ 132) in
+    subst P (sym composes.sized) (printable (file_at old.program start.file).device (file_at old.program start.file).record_length device (file_ranged old.program start.file within))
+
+pub composed_within : (old mid : Stepper) (start : OutputStart) → ComposesLine old mid start → start.file < length old.program.files.items → start.file < length mid.program.files.items
+composed_within old mid start composes inside = let P : Stepper → Type 0 = λ k. start.file < length k.program.files.items in subst P (sym composes.same) inside
+
+pub line_printed : (old mid new : Stepper) (w : Walk) (place : ℕ) (start : OutputStart) (line : Output) → IsPut old w place start line → ComposesLine old mid start
+    → is_printer (file_at mid.program start.file).device ≡ true
+    → ((line : Output) → IsLineAt mid.program start line → GoesOn mid new (here mid (λ source program progress. printed source line (filled mid.composition) (lines_from source program progress w (place + 1)))))
+    → GoesOn old new (here old (λ source program progress. lines_from source program progress w place))
+line_printed old mid new w place start line put composes printer goes =
+    goes_then old mid new _ _ (composed_program old mid start composes)
+    (composed_runs old mid w place start line put composes
+    ∙ ap (λ (b : Bool). here mid (λ source program progress. (if b then printed source line (filled mid.composition) (lines_from source program progress w (place + 1))
+    else (λ e. ask (disk_request (file_at program start.file) line mid.composition e) (λ answer. stored_or_halted (again source) (lines_from source program progress w (place + 1)) answer e))))) printer)
+    (goes line (let P : Stepper → Type 0 = λ k. IsLineAt k.program start line in subst P (sym composes.same) put.is_line.there))
+
+pub line_stored : (old mid new : Stepper) (w : Walk) (place : ℕ) (start : OutputStart) (line : Output) → IsPut old w place start line → ComposesLine old mid start
+    → is_printer (file_at mid.program start.file).device ≡ false
+    → ((line : Output) → IsLineAt mid.program start line → GoesOn mid new (here mid (λ source program progress e. ask (disk_request (file_at program start.file) line mid.composition e)
+    (λ answer. stored_or_halted (again source) (lines_from source program progress w (place + 1)) answer e))))
+    → GoesOn old new (here old (λ source program progress. lines_from source program progress w place))
+line_stored old mid new w place start line put composes printer goes =
+    goes_then old mid new _ _ (composed_program old mid start composes)
+    (composed_runs old mid w place start line put composes
+    ∙ ap (λ (b : Bool). here mid (λ source program progress. (if b then printed source line (filled mid.composition) (lines_from source program progress w (place + 1))
+    else (λ e. ask (disk_request (file_at program start.file) line mid.composition e) (λ answer. stored_or_halted (again source) (lines_from source program progress w (place + 1)) answer e))))) printer)
+    (goes line (let P : Stepper → Type 0 = λ k. IsLineAt k.program start line in subst P (sym composes.same) put.is_line.there))
+
+-- ---- lines from a place on
+pub puts_next : (old new : Stepper) (w : Walk) (next place : ℕ) → PassesTo old w next place → GoesOn old new (here old (λ source program progress. lines_from source program progress w place))
+    → GoesOn old new (here old (λ source program progress. lines_from source program progress w next))
+puts_next old new w next place passes goes = goes_as old new _ _ (passes (after_lines (own old) old.program old.progress w)) goes

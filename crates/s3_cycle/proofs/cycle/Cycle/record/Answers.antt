@@ -1,0 +1,18 @@
+use Rattle.std.proofs.Common.{ap, ◌∙◌, sym, subst, List, ℕ}
+use Rattle.s3_meaning.specs.Output.{filled}
+use Rattle.s3_cycle.specs.declared.stepper.Stepper.{Stepper}
+use Rattle.s3_cycle.specs.Requests.{IsLine}
+use Rattle.s3_cycle.specs.Following.{asked, put}
+use Rattle.s3_cycle.proofs.FollowLemmas.{line_filled}
+use Rattle.s3_cycle.proofs.cycle.Cycle.record.Goals as goal
+
+pub returns-clause-value : goal.returns-clause-value
+unfolding put
+returns-clause-value c = c.codes.ensures ∙ ap (λ (k : Stepper). filled k.composition) c.self.view_is
+
+pub returns-clause-line : goal.returns-clause-line
+unfolding asked
+returns-clause-line c =
+    let P : Stepper → Type 0 = λ k. IsLine k.request c.codes.result.now in
+    let Q : List ℕ → Type 0 = λ text. IsLine c.self.inside.stepper.request text in
+    subst P c.self.view_is (subst Q (sym c.codes.ensures) (line_filled c.self.inside.stepper.request c.self.inside.stepper.composition c.self.invariant.line))

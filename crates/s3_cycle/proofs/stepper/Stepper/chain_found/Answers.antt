@@ -1,0 +1,28 @@
+use Rattle.std.proofs.Common.{ap, sym, ◌∙◌}
+use Rattle.std.specs.Prelude.{Some, None}
+use Rattle.s3_meaning.specs.Calculating.{chained_to}
+use Rattle.s3_operations.specs.Indicators.{is_settable_entry}
+use Rattle.s3_cycle.proofs.ChainingLemmas.{chain_settable}
+use Rattle.s3_cycle.proofs.FoundLemmas.{found_then}
+use Rattle.s3_cycle.proofs.stepper.Stepper.chain_found.Goals as goal
+
+pub turn_entry-requires-clause-settable : goal.turn_entry-requires-clause-settable
+turn_entry-requires-clause-settable c =
+    let at = c.requires.chain in
+    ap is_settable_entry (c.first_indicator.ensures at.line at.there) ∙ chain_settable c.args.self.now.program c.args.place at.line at.there at.operation
+
+pub returns-in-Some : goal.returns-in-Some
+returns-in-Some c =
+    let at = c.requires.chain in
+    found_then c.args.self.now c.turn_entry.new.self c.take_chained.new.self c.args.place c.args.file c.args.bytes.now (Some c.in-Some.start) c.first_indicator.result at (c.first_indicator.ensures at.line at.there) c.turn_entry.ensures
+    c.in-Some.ensures.found c.take_chained.ensures
+
+pub returns-in-None : goal.returns-in-None
+unfolding chained_to
+returns-in-None c =
+    let at = c.requires.chain in
+    found_then c.args.self.now c.turn_entry.new.self c.halt.new.self c.args.place c.args.file c.args.bytes.now None c.first_indicator.result at (c.first_indicator.ensures at.line at.there) c.turn_entry.ensures
+    c.in-None.ensures.found c.halt.ensures
+
+pub take_chained-requires-clause-typed : goal.take_chained-requires-clause-typed
+take_chained-requires-clause-typed c = sym c.in-Some.ensures.found

@@ -1,0 +1,214 @@
+-- Steps of a suspended run: from where it stands it goes on with the run that is meant.
+use Rattle.std.specs.Prelude.{◌≡◌, ◌≤◌, ◌<◌, ℕ, Bool, true, false, not, ◌||◌, List, length, Some, is_some, slice_get}
+use Rattle.std.specs.List.{All, list_any, list_all}
+use Rattle.s3_cards.specs.declared.name.Name.{Name}
+use Rattle.s3_lines.specs.Ranges.{is_between}
+use Rattle.s3_lines.specs.declared.sheet.FieldLine.{FieldLine}
+use Rattle.s3_lines.specs.declared.sheet.InputLine.TheVariants.{Field as InputField}
+use Rattle.s3_lines.specs.declared.sheet.Operation.{Operation}
+use Rattle.s3_lines.specs.declared.sheet.Operation.TheVariants as operation
+use Rattle.s3_lines.specs.declared.sheet.CalculationLine.{CalculationLine}
+use Rattle.s3_lines.specs.declared.sheet.Factor.TheVariants.{Named}
+use Rattle.s3_meaning.specs.Source.{Source, is_card_reader, overflow_of}
+use Rattle.s3_meaning.specs.Environment.{Environment}
+use Rattle.s3_meaning.specs.Runs.{Run, Rest}
+use Rattle.s3_meaning.specs.Selection as meaning
+use Rattle.s3_program.specs.declared.program.Program.{Program}
+use Rattle.s3_program.specs.declared.program.Reference.{Reference}
+use Rattle.s3_program.specs.declared.program.Reference.TheVariants.{File}
+use Rattle.s3_program.specs.declared.starts.TypeStart.{TypeStart}
+use Rattle.s3_program.specs.declared.starts.Walk.{Walk}
+use Rattle.s3_program.specs.declared.starts.Walk.TheVariants as walk
+use Rattle.s3_program.specs.Stands.{source_named}
+use Rattle.s3_operations.specs.Held.{IsSound as AreValues}
+use Rattle.s3_match.specs.declared.heads.InputFile.{InputFile}
+use Rattle.s3_match.specs.declared.heads.Standing.TheVariants.{Stands}
+use Rattle.s3_match.specs.Heads.{file_at}
+use Rattle.s3_match.specs.Reading.{IsReading, IsUnreadAt, input_at}
+use Rattle.s3_match.specs.Types.{is_type_start}
+use Rattle.s3_sections.specs.Courses.{IsCourse}
+use Rattle.s3_cycle.specs.declared.progress.Progress.{Progress}
+use Rattle.s3_cycle.specs.declared.progress.Selection.{Selection}
+use Rattle.s3_cycle.specs.declared.progress.Time.{Time}
+use Rattle.s3_cycle.specs.declared.progress.Time.TheVariants as time
+use Rattle.s3_cycle.specs.declared.progress.Moves.{Moves}
+use Rattle.s3_cycle.specs.declared.progress.Moves.TheVariants as moves
+use Rattle.s3_cycle.specs.declared.progress.Continuation.{Continuation}
+use Rattle.s3_cycle.specs.declared.progress.Continuation.TheVariants as after
+use Rattle.s3_cycle.specs.declared.progress.Point.{Point}
+use Rattle.s3_cycle.specs.declared.progress.Point.TheVariants as at
+use Rattle.s3_cycle.specs.declared.request.Request.{Request}
+use Rattle.s3_cycle.specs.declared.request.Request.TheVariants as asks
+use Rattle.s3_cycle.specs.declared.state.State.{State}
+use Rattle.s3_cycle.specs.declared.stepper.Stepper.{Stepper}
+use Rattle.s3_cycle.specs.Requests.{IsLine}
+use Rattle.s3_cycle.specs.Rest.{rest, inputs_in, moved_bytes, fields_at}
+use Rattle.s3_cycle.specs.Inner.Environment.{environment}
+
+-- ---- where a run stands
+abbrev pub own : Stepper → Source
+own c = source_named c.program
+
+abbrev pub held_by : Stepper → Environment
+held_by c = environment c.program c.state
+
+-- what is meant from there
+abbrev pub here : Stepper → (Source → Program → Progress → Rest) → Run
+here c meant = meant (own c) c.program c.progress (held_by c)
+
+-- ---- soundness
+pub record AreSound (program : Program) (state : State) : Type 0 where
+  pub values : AreValues program state.values
+  pub current : length state.current.items ≡ length program.files.items
+
+-- the fields of a group from a place on stand within a record
+abbrev pub AreWithin : Program → List ℕ → ℕ → Type 0
+AreWithin program bytes place = All (λ (field : FieldLine Name). field.to ≤ length bytes) (fields_at program place)
+
+-- the record that is processed: a type starts there, and its fields stand within the record
+pub record IsSelection (program : Program) (progress : Progress) (selection : Selection) : Type 0 where
+  pub within : selection.place < length progress.reading.files.items
+  pub starts : is_type_start program selection.start ≡ true
+  pub fields : AreWithin program (moved_bytes progress (moves.Selected selection)) selection.start.fields
+
+-- some file is to be read then, or none has a head
+abbrev pub can_begin : List meaning.InputFile → Bool
+can_begin inputs = list_any meaning.is_unread inputs || list_all (λ input. not (is_some (meaning.head_of input))) inputs
+
+abbrev pub CanBegin : Program → Progress → Type 0
+CanBegin program progress = can_begin (inputs_in program progress) ≡ true
+
+-- the record was taken, so its file is to be read in the next cycle
+pub record IsTaken (program : Program) (progress : Progress) (selection : Selection) : Type 0 where
+  pub record_there : IsSelection program progress selection
+  pub begins : CanBegin program progress
+
+abbrev pub IsTime : Program → Progress → Time → Type 0
+IsTime program progress (time.Details selection) = IsTaken program progress selection
+IsTime program progress (time.Totals selection) = IsTaken program progress selection
+IsTime program progress time.Last = Unit {0}
+
+-- the fields of the record at a head stand within it
+pub record IsHeadWithin (program : Program) (input : InputFile) : Type 0 where
+  pub within : (start : TypeStart) → input.standing ≡ Stands start → AreWithin program input.bytes.items start.fields
+
+-- a run between two requests
+pub record IsRunning (c : Stepper) : Type 0 where
+  pub overflow : c.overflow ≡ overflow_of c.program.files.items
+  pub state : AreSound c.program c.state
+  pub reading : IsReading c.program c.progress.reading
+  pub heads : All (IsHeadWithin c.program) c.progress.reading.files.items
+
+-- calculations go on
+pub record CanCalculate (program : Program) (progress : Progress) : Type 0 where
+  pub time : IsTime program progress progress.time
+  pub course : IsCourse program progress.course
+
+-- ---- what waits for an answer
+-- lines of a kind are put out at their time
+abbrev pub IsOverflowTime : Program → Progress → Time → Type 0
+IsOverflowTime program progress (time.Details selection) = ⊥
+IsOverflowTime program progress (time.Totals selection) = IsTaken program progress selection
+IsOverflowTime program progress time.Last = ⊥
+
+abbrev pub IsTotalTime : Program → Progress → Time → Type 0
+IsTotalTime program progress (time.Details selection) = ⊥
+IsTotalTime program progress (time.Totals selection) = IsTaken program progress selection
+IsTotalTime program progress time.Last = Unit {0}
+
+abbrev pub IsWalk : Program → Progress → Walk → Type 0
+IsWalk program progress walk.Beginning = CanBegin program progress
+IsWalk program progress walk.Totals = IsTotalTime program progress progress.time
+IsWalk program progress walk.Exceptions = CanCalculate program progress
+IsWalk program progress walk.Overflow = IsOverflowTime program progress progress.time
+
+-- a line with this operation stands at the place
+pub record IsLineAt (program : Program) (place : ℕ) (bears : Operation) : Type 0 where
+  pub line : CalculationLine Reference
+  pub there : slice_get program.calculations.items place ≡ Some line
+  pub operation : line.operation ≡ Some bears
+
+-- whose fields can be moved now
+abbrev pub AreMoves : Program → Progress → Moves → Type 0
+AreMoves program progress (moves.Selected selection) = IsTaken program progress selection
+AreMoves program progress moves.Chained = CanCalculate program progress
+
+-- the fields from a place on stand within the record
+pub record CanMove (program : Program) (progress : Progress) (m : Moves) (place : ℕ) : Type 0 where
+  pub moves : AreMoves program progress m
+  pub within : AreWithin program (moved_bytes progress m) place
+
+-- a field stands there
+pub record IsField (program : Program) (place : ℕ) : Type 0 where
+  pub field : FieldLine Reference
+  pub there : slice_get program.inputs.items place ≡ Some (InputField field)
+
+-- what can follow reply 0
+abbrev pub Continues : Program → Progress → Continuation → Type 0
+Continues program progress (after.Halts number) = (is_between 1 9 number ≡ true) × CanBegin program progress
+Continues program progress (after.Lines w next) = IsWalk program progress w
+Continues program progress (after.Head place) = IsUnreadAt progress.reading.files.items place
+Continues program progress (after.Field m place) = IsField program place × CanMove program progress m place
+Continues program progress (after.Division place) = IsLineAt program place operation.Divide × CanCalculate program progress
+Continues program progress after.Calculations = CanCalculate program progress
+
+-- a request that is answered by this alone
+abbrev pub is_print_or_jump : Request → Bool
+is_print_or_jump (asks.Print page line) = true
+is_print_or_jump asks.Jump = true
+is_print_or_jump request = false
+
+abbrev pub is_record_request : Request → Bool
+is_record_request (asks.Append file) = true
+is_record_request (asks.Add file) = true
+is_record_request (asks.Update file current) = true
+is_record_request request = false
+
+-- the card, or the record of the file
+abbrev pub IsHeadRequest : Program → Progress → ℕ → Request → Type 0
+IsHeadRequest program progress place asks.Card = is_card_reader (input_at (inputs_in program progress) place).file.device ≡ true
+IsHeadRequest program progress place (asks.Read file length) = length ≡ (input_at (inputs_in program progress) place).file.record_length
+IsHeadRequest program progress place request = ⊥
+
+-- the CHAIN at the place names the file, which is chained
+pub record IsChainOf (program : Program) (place file : ℕ) : Type 0 where
+  pub line : CalculationLine Reference
+  pub there : slice_get program.calculations.items place ≡ Some line
+  pub operation : line.operation ≡ Some operation.Chain
+  pub names : line.factor2 ≡ Some (Named (File file))
+  pub within : file < length program.files.items
+
+abbrev pub IsChainRequest : Program → (place file : ℕ) → Request → Type 0
+IsChainRequest program place file (asks.Chain slot length sought) = IsChainOf program place file × (length ≡ (file_at program file).record_length)
+IsChainRequest program place file request = ⊥
+
+abbrev pub is_ask : Request → Bool
+is_ask (asks.Ask code) = true
+is_ask request = false
+
+abbrev pub Waits : Program → Progress → Request → Point → Type 0
+Waits program progress request (at.Lines w next) = (is_print_or_jump request ≡ true) × IsWalk program progress w
+Waits program progress request (at.Records w next) = (is_record_request request ≡ true) × IsWalk program progress w
+Waits program progress request (at.Head place) = IsHeadRequest program progress place request × IsUnreadAt progress.reading.files.items place
+Waits program progress request (at.Chained place file) = IsChainRequest program place file request × CanCalculate program progress
+Waits program progress request at.Calculations = (request ≡ asks.Jump) × CanCalculate program progress
+Waits program progress request (at.Reply next) = (is_ask request ≡ true) × Continues program progress next
+Waits program progress request (at.End at_once) = request ≡ asks.End at_once
+
+-- a run that waits for an answer
+pub record IsWaiting (c : Stepper) : Type 0 where
+  pub running : IsRunning c
+  pub waits : Waits c.program c.progress c.request c.point
+  pub line : IsLine c.request c.composition
+
+-- it goes on with this run, over the same program, to its next request
+pub record GoesOn (old new : Stepper) (run : Run) : Type 0 where
+  pub program : new.program ≡ old.program
+  pub sound : IsWaiting new
+  pub runs : rest (own new) new ≡ run
+
+-- ---- changes of the environment alone
+pub record Changes (old new : Stepper) (change : Source → Environment → Environment) : Type 0 where
+  pub stays : new ≡ record old { state = new.state }
+  pub sound : AreSound old.program new.state
+  pub held : environment old.program new.state ≡ change (own old) (held_by old)

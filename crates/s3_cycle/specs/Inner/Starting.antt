@@ -1,0 +1,30 @@
+-- The beginning of a run.
+use Rattle.std.specs.Prelude.{◌≡◌, ℕ, List}
+use Rattle.std.specs.List.{All}
+use Rattle.s3_meaning.specs.Environment.{at_first}
+use Rattle.s3_meaning.specs.Cycle.{Req, first_reading}
+use Rattle.s3_program.specs.declared.program.Program.{Program}
+use Rattle.s3_program.specs.Stands.{source_named}
+use Rattle.s3_match.specs.Reading.{IsReading, reading_in}
+use Rattle.s3_cycle.specs.declared.progress.Progress.{Progress}
+use Rattle.s3_cycle.specs.declared.state.State.{State}
+use Rattle.s3_cycle.specs.declared.stepper.Stepper.{Stepper}
+use Rattle.s3_cycle.specs.Rest.{rest}
+use Rattle.s3_cycle.specs.Inner.Environment.{environment}
+use Rattle.s3_cycle.specs.Inner.Going.{AreSound, CanBegin, IsHeadWithin, IsWaiting}
+
+pub record BeginsState (program : Program) (switches : ℕ) (date : List ℕ) (state : State) : Type 0 where
+  pub sound : AreSound program state
+  pub held : environment program state ≡ at_first (source_named program) switches date
+
+pub record BeginsProgress (program : Program) (switches : ℕ) (progress : Progress) : Type 0 where
+  pub reading : IsReading program progress.reading
+  pub heads : All (IsHeadWithin program) progress.reading.files.items
+  pub begins : CanBegin program progress
+  pub first : (date : List ℕ) → reading_in program progress.reading ≡ first_reading (source_named program) (at_first (source_named program) switches date)
+
+-- a job at its first request
+pub record Starts (program : Program) (switches : ℕ) (date : List ℕ) (c : Stepper) : Type 0 where
+  pub same : c.program ≡ program
+  pub sound : IsWaiting c
+  pub runs : rest (source_named program) c ≡ Req (source_named program) switches date

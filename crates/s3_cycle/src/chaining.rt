@@ -1,0 +1,173 @@
+//! CHAIN: what it looks for, and what becomes of the record.
+ghost use Rattle.std.specs.Prelude.{◌≡◌, ◌≤◌, ◌<◌, true, None, Some, IsTrue, length, slice_get};
+ghost use Rattle.s3_lines.specs.declared.sheet.CalculationLine.{CalculationLine};
+ghost use Rattle.s3_program.specs.declared.program.Reference.{Reference};
+ghost use Rattle.s3_lines.specs.declared.sheet.Operation.TheVariants as op;
+ghost use Rattle.s3_meaning.specs.Requests.{Found, LastChained, Nothing};
+ghost use Rattle.s3_meaning.specs.Environment.{put_current};
+ghost use Rattle.s3_meaning.specs.Selection.{type_of as type_of_spec};
+ghost use Rattle.s3_meaning.specs.Cycle.{again};
+ghost use Rattle.s3_meaning.specs.Calculating.{chained_to, first_indicator as first_indicator_spec, forgotten, sought_in};
+ghost use Rattle.s3_operations.specs.Fits.{named_line};
+ghost use Rattle.s3_match.specs.Heads.{file_at};
+ghost use Rattle.s3_match.specs.Types.{is_type_start, kind_at, name_of_file};
+ghost use Rattle.s3_cycle.specs.Requests.{sought_of};
+ghost use Rattle.s3_cycle.specs.Rest.{calculating, chain_answered};
+ghost use Rattle.s3_cycle.specs.Inner.Going.{AreSound, IsRunning, CanCalculate, IsChainOf, IsLineAt, Changes, GoesOn, own, held_by, here};
+ghost use Rattle.s3_cycle.specs.Inner.Heads.{IsRecordOf};
+ghost use Rattle.s3_cycle.specs.Inner.Chaining.{KeepsRecord};
+ghost use Rattle.s3_cycle.specs.Inner.Calculating.{Does, IsPerformed, Misses};
+
+use crate::progress::{Continuation, Point};
+use crate::request::{Current, Request, Sought};
+use crate::stepper::Stepper;
+use crate::went::Calculated;
+use s3_lines::indicator::Indicator;
+use s3_match::fields::indicator_of;
+use s3_match::type_of;
+use s3_operations::chaining::chained_file;
+use s3_operator::HaltCode;
+use s3_program::starts::TypeStart;
+
+impl Stepper {
+    /// CHAIN: its file has no current record, its indicators go off, and a record is asked for.
+    pub fn chain(&mut self, place: usize) -> Calculated
+        requires { IsPerformed self.old place op.Chain }
+        ensures { Does self.old self.new result }
+    {
+        self.progress.course.move_to(place + 1);
+        let program = &self.program;
+        let file = chained_file(program, &program.calculations[place]);
+        let is_served = self.state.values.is_served(program, &program.files[file]);
+        let request = Request::Chain {
+            file,
+            length: program.files[file].record_length,
+            sought: self.sought(place, file),
+        };
+        self.forget(file);
+        if !is_served {
+            return self.miss(place);
+        }
+        self.wait(request, Point::Chained { place, file });
+        Calculated::Waits
+    }
+
+    /// A file has no current record, and its record identifying indicators go off.
+    fn forget(&mut self, file: usize)
+        requires sound { AreSound self.old.program self.old.state }
+        requires within { file < length self.old.program.files.items }
+        ensures { Changes self.old self.new (λ source. forgotten source (name_of_file self.old.program file)) }
+    {
+        self.state.current[file] = None;
+        self.state.values.clear_types_of(&self.program, file);
+    }
+
+    /// The key, or the record number, that factor 1 has.
+    fn sought(&self, place: usize, file: usize) -> Sought
+        requires running { IsRunning self.now }
+        requires chain { IsChainOf self.now.program place file }
+        ensures { (line : CalculationLine Reference) → slice_get self.now.program.calculations.items place ≡ Some line
+            → sought_of result ≡ sought_in (own self.now) (held_by self.now) (named_line self.now.program line) (file_at self.now.program file) }
+    {
+        let line = &self.program.calculations[place];
+        match self.program.files[file].key {
+            Some(_) => Sought::Key(self.state.values.key(&self.program, line)),
+            None => Sought::RecordNumber(self.state.values.record_number(&self.program, line)),
+        }
+    }
+
+    /// The indicator in 54-55 of a line.
+    fn first_indicator(&self, place: usize) -> Option<Indicator>
+        requires { place < length self.now.program.calculations.items }
+        ensures { (line : CalculationLine Reference) → slice_get self.now.program.calculations.items place ≡ Some line → result ≡ first_indicator_spec line.indicators }
+    {
+        self.program.calculations[place].indicators[0]
+    }
+
+    /// No record is found: the indicator goes on, or the run halts.
+    fn miss(&mut self, place: usize) -> Calculated
+        requires running { IsRunning self.old }
+        requires calculates { CanCalculate self.old.program self.old.progress }
+        requires chain { IsLineAt self.old.program place op.Chain }
+        ensures { (line : CalculationLine Reference) → slice_get self.old.program.calculations.items place ≡ Some line → Misses self.old self.new line result }
+    {
+        match self.first_indicator(place) {
+            Some(indicator) => {
+                self.turn(indicator, true);
+                Calculated::GoesOn
+            }
+            None => {
+                self.halt(HaltCode::NoRecordFound, Continuation::Calculations);
+                Calculated::Waits
+            }
+        }
+    }
+
+    /// Goes on where no record is found.
+    pub fn chain_missed(&mut self, place: usize)
+        requires running { IsRunning self.old }
+        requires calculates { CanCalculate self.old.program self.old.progress }
+        requires chain { IsLineAt self.old.program place op.Chain }
+        ensures { GoesOn self.old self.new (here self.old (λ source program progress. chain_answered source program progress place Nothing)) }
+    {
+        match self.first_indicator(place) {
+            Some(indicator) => {
+                self.turn(indicator, true);
+                self.calculate_on();
+            }
+            None => self.halt(HaltCode::NoRecordFound, Continuation::Calculations),
+        }
+    }
+
+    /// Goes on with the record that is found: it is typed, and its fields are moved.
+    pub fn chain_found(&mut self, place: usize, file: usize, bytes: &[u8])
+        requires running { IsRunning self.old }
+        requires calculates { CanCalculate self.old.program self.old.progress }
+        requires chain { IsChainOf self.old.program place file }
+        requires record { IsRecordOf (file_at self.old.program file) bytes.now }
+        ensures { GoesOn self.old self.new (here self.old (λ source program progress. chain_answered source program progress place (Found bytes.now))) }
+    {
+        self.turn_entry(self.first_indicator(place), false);
+        match type_of(&self.program, file, bytes) {
+            Some(start) => self.take_chained(file, start, bytes),
+            None => self.halt(HaltCode::UnidentifiedRecord, Continuation::Calculations),
+        }
+    }
+
+    /// The record that is found is the current one of its file, and its fields are moved.
+    fn take_chained(&mut self, file: usize, start: TypeStart, bytes: &[u8])
+        requires running { IsRunning self.old }
+        requires calculates { CanCalculate self.old.program self.old.progress }
+        requires within { file < length self.old.program.files.items }
+        requires starts { IsTrue (is_type_start self.old.program start) }
+        requires record { IsRecordOf (file_at self.old.program file) bytes.now }
+        requires typed { type_of_spec (own self.old) (name_of_file self.old.program file) bytes.now ≡ Some (kind_at self.old.program start) }
+        ensures { GoesOn self.old self.new (here self.old (λ source program progress. chained_to (again source) (name_of_file program file) bytes.now (Some (kind_at program start)) (calculating source program progress))) }
+    {
+        let indicator = indicator_of(&self.program, start);
+        self.turn(indicator, true);
+        self.make_chained_current(file);
+        self.keep(bytes);
+        self.move_chained(start.fields);
+    }
+
+    /// The record that is found is the current one of its file.
+    fn make_chained_current(&mut self, file: usize)
+        requires running { IsRunning self.old }
+        requires within { file < length self.old.program.files.items }
+        ensures { Changes self.old self.new (λ source. put_current (name_of_file self.old.program file) (Some LastChained)) }
+    {
+        self.state.current[file] = Some(Current::LastChained);
+    }
+
+    /// Keeps the record that is found.
+    fn keep(&mut self, bytes: &[u8])
+        requires { length bytes.now ≤ 1024 }
+        ensures { KeepsRecord self.old self.new bytes.now }
+    {
+        self.progress.record.clear();
+        if self.progress.record.try_extend_from_slice(bytes).is_err() {
+            unreachable!()
+        }
+    }
+}

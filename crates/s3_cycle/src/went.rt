@@ -1,0 +1,21 @@
+//! How far a run went.
+
+/// How far a run went on.
+#[derive(Clone, Copy)]
+pub enum Went {
+    /// To a request, at which it waits.
+    ToRequest,
+    /// To the end of these lines or calculations.
+    ToEnd,
+}
+
+/// What one calculation came to.
+#[derive(Clone, Copy)]
+pub enum Calculated {
+    /// The calculations go on.
+    GoesOn,
+    /// A request, at which the run waits.
+    Waits,
+    /// There was none: all sections that were open have ended.
+    Over,
+}
