@@ -1,21 +1,18 @@
 -- A source without diagnostics goes into the library, if all its cards are built.
 use Rattle.std.specs.Prelude.{Bool, true, false, if◌then◌else◌}
-use Rattle.std.proofs.Common.{◌≡◌, ℕ, List, [], sym, ◌∙◌, ap, subst, Option, Some, None, Result, Ok, Err, OnOk}
+use Rattle.std.proofs.Common.{◌≡◌, ℕ, List, [], sym, subst, Option, Some, None, Result, Ok, Err, OnOk}
 use Rattle.s3_cards.specs.declared.name.Name.{Name}
 use Rattle.s3_lines.specs.declared.sheet.Line.{Line}
 use Rattle.s3_sheets.specs.Lines.{lines_of}
 use Rattle.s3_sheets.specs.Sheets.{sheet_diagnostics}
 use Rattle.s3_meaning.specs.Source.{Source, source_of}
 use Rattle.s3_program.specs.declared.program.Program.{Program}
-use Rattle.s3_program.specs.Stands.{Stands, source_named}
+use Rattle.s3_program.specs.Stands.{Stands}
 use Rattle.s3_program.specs.Translation.{StandsFor}
 use Rattle.s3_diagnose.specs.Diagnostics.{compile_diagnostics}
-use Rattle.s3_cycle.specs.Built.{is_built, unbuilt_cards}
-use Rattle.s3_cycle.specs.Serves.{serves}
-use Rattle.s3_cycle.proofs.ServesLemmas.{built_serves}
-use Rattle.s3_level.specs.declared.stocked.Stocked.{Stocked}
+use Rattle.s3_level.specs.Built.{is_built, unbuilt_details}
 use Rattle.s3_operator.specs.declared.halt_code.HaltCode.TheVariants.{FaultySource}
-use Rattle.s3_level.specs.Serving.{accepted, compiled, compiled_data, first_else, halting, stocked, unbuilt_details}
+use Rattle.s3_level.specs.Serving.{accepted, compiled, compiled_data, first_else, halting, stocked}
 use Rattle.s3_level.specs.declared.job.OpenJob.{OpenJob}
 use Rattle.s3_level.specs.World.{World, JobAtWork}
 use Rattle.s3_level.specs.Holds.{HoldsAtWork, Stocks, Becomes}
@@ -33,14 +30,10 @@ built_source (Err _) number lines program old new built stands stocks = tt
 
 pub unbuilt_source : {T E : Type 0} (result : Result T E) (number : ℕ) (lines : List Line) (old new : World → Type 0)
     → is_built lines ≡ false
-    → OnOk result (Becomes (halting number FaultySource (unbuilt_details (unbuilt_cards lines))) old new)
+    → OnOk result (Becomes (halting number FaultySource (unbuilt_details lines)) old new)
     → OnOk result (Becomes (accepted number lines) old new)
 unbuilt_source (Ok _) number lines old new unbuilt shows = λ w held. rw unbuilt (shows w held)
 unbuilt_source (Err _) number lines old new unbuilt shows = tt
-
--- the cycle serves it
-pub stocked_served : (lines : List Line) (program : Program) → is_built lines ≡ true → StandsFor program lines → serves (source_named program) ≡ true
-stocked_served lines program built stands = ap serves stands.meaning ∙ built_serves lines built
 
 -- a source without diagnostics is accepted
 pub accepted_source : {T E : Type 0} (result : Result T E) (number run_card : ℕ) (lines : List Line) (old new : World → Type 0)
@@ -63,13 +56,13 @@ compiled_source (Ok _) number run_card from cards lines old new no_faults are_li
 compiled_source (Err _) number run_card from cards lines old new no_faults are_lines compiles = tt
 
 -- what is found under a name, once a program was put into the library
-pub found_in_library : (stocked : Stocked) (source : Source) (before after : Option Stocked) (meant : Option Source) (is_it : Bool)
-    → after ≡ (if is_it then Some stocked else before)
-    → Stands stocked.program source
+pub found_in_library : (program : Program) (source : Source) (before after : Option Program) (meant : Option Source) (is_it : Bool)
+    → after ≡ (if is_it then Some program else before)
+    → Stands program source
     → Stocks before meant
     → Stocks after (if is_it then Some source else meant)
-found_in_library stocked source before after meant true found stands held = subst (λ (of : Option Stocked). Stocks of (Some source)) (sym found) stands
-found_in_library stocked source before after meant false found stands held = subst (λ (of : Option Stocked). Stocks of meant) (sym found) held
+found_in_library program source before after meant true found stands held = subst (λ (of : Option Program). Stocks of (Some source)) (sym found) stands
+found_in_library program source before after meant false found stands held = subst (λ (of : Option Program). Stocks of meant) (sym found) held
 
 -- and a job at work stays as it is
 pub still_at_work : (deck : List (List ℕ)) (job : Option OpenJob) (name : Name) (source : Source) (w : World) (meant : Option JobAtWork)

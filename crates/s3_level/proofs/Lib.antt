@@ -1,5 +1,11 @@
 pub mod Cards
+pub mod Unbuilt
 pub mod Running
+pub mod Fitting
+pub mod Asking
+pub mod Turns
+pub mod Replies
+pub mod Dates
 pub mod Starting
 pub mod Compiling
 pub mod Lister

@@ -1,58 +1,271 @@
 -- A job at work: its cycle follows the world's run.
-use Rattle.std.proofs.Common.{◌≡◌, ℕ, List, [], ◌∷◌, ◌++◌, refl, sym, ◌∙◌, ap, subst, append_assoc, Bool, true, if◌then◌else◌, Some, Result, Ok, Err, OnOk}
-use Rattle.s3_cards.specs.Printed.{Printed}
+use Rattle.std.proofs.Common.{◌≡◌, ◌≤◌, ℕ, length, List, [], ◌∷◌, ◌++◌, refl, sym, ◌∙◌, ap, subst, Bool, true, false, if◌then◌else◌, Option, Some, None, Result, Ok, Err, OnOk, drop, slice_range}
+use Rattle.std.proofs.lemmas.Option.{none-some}
 use Rattle.s3_meaning.specs.Source.{Source}
-use Rattle.s3_meaning.specs.Requests.{Answer, Done}
-use Rattle.s3_meaning.specs.Cycle.{Req}
-use Rattle.s3_cycle.specs.declared.stepper.Stepper.{Stepper}
-use Rattle.s3_cycle.specs.Rest.{rest, StandsFor, Follows}
+use Rattle.s3_cards.specs.Printed.{Printed}
+use Rattle.s3_meaning.specs.Output.{filled}
+use Rattle.s3_meaning.specs.Requests.{Answer, Request, Card, Read, Chain, Append, Add, Update, Print, Jump, Ask, End, Done}
+use Rattle.s3_operator.specs.declared.halt_code.HaltCode.{HaltCode}
+use Rattle.s3_cycle.specs.declared.request.Request as code
+use Rattle.s3_cycle.specs.declared.request.Request.TheVariants as asks
+use Rattle.s3_cycle.specs.Requests.{IsLine}
+use Rattle.s3_cycle.specs.Following.{Follows, Resumes, asked, put, waits}
+use Rattle.s3_cycle.proofs.FollowLemmas.{follows_on, waits_as, waits_card, waits_read, waits_chain, waits_append, waits_add, waits_update, waits_print, waits_jump, waits_ask, waits_end}
+use Rattle.s3_level.specs.declared.job.OpenJob.{OpenJob}
 use Rattle.s3_level.specs.declared.level.Level.{Level}
-use Rattle.s3_level.specs.declared.action.Did.TheVariants.{Acted}
-use Rattle.s3_level.specs.Lines.{has_room, with_line}
+use Rattle.s3_level.specs.declared.next.Next.TheVariants.{Halts, IsOver, GoesOn}
+use Rattle.s3_level.specs.declared.action.Did.TheVariants.{Acted, Idle}
+use Rattle.s3_level.specs.Lines.{Lines, has_room, with_line}
 use Rattle.s3_level.specs.World.{World, JobAtWork}
-use Rattle.s3_level.specs.Serving.{acted, answered, asking, at_work, card_answer, idle, line_printed, pending, with_card_read}
-use Rattle.s3_level.specs.Holds.{Holds, Becomes}
-use Rattle.s3_level.specs.Inner.Turning.{AtWorkBecomes}
+use Rattle.s3_level.specs.Serving.{acted, answered, at_work, card_answer, halting, idle, job_ended, line_put, pending, served, standing_at, with_answer, with_card_read}
+use Rattle.s3_level.specs.Holds.{HoldsParts, HoldsJob, HoldsAtWork, Becomes}
+use Rattle.s3_level.specs.Inner.Turning.{AtWorkBecomes, Comes, Pends, request_by, waits_by}
 
--- after one answer more it follows the answers so far with that one
-pub resumed : (source : Source) (switches : ℕ) (date : List ℕ) (past : List Answer) (old new : Stepper) (answer : Answer)
-    → Follows source switches date past old
-    → ((source : Source) → StandsFor old source → StandsFor new source × ((answers : List Answer) → rest source new answers ≡ rest source old (answer ∷ answers)))
-    → Follows source switches date (past ++ answer ∷ []) new
-resumed source switches date past old new answer follows goes_on =
-    let next = goes_on source follows.stands in
+-- ---- the open job and the world's
+-- where the level has a job at work, so has the world
+job_held : (deck : List (List ℕ)) (open_job : OpenJob) (w : World) (job : JobAtWork) (o : Option OpenJob) (meant : Option JobAtWork) → o ≡ Some open_job → meant ≡ Some job
+    → HoldsAtWork deck o w meant → HoldsJob deck open_job w job
+job_held deck open_job w job o meant is_open is_job held =
+    let P : Option OpenJob → Type 0 = λ k. HoldsAtWork deck k w (Some job) in
+    subst P is_open (let Q : Option JobAtWork → Type 0 = λ m. HoldsAtWork deck o w m in subst Q is_job held)
+
+-- the level has it where the world has one
+level_has : (level : Level) (w : World) (job : JobAtWork) → w.job ≡ Some job → HoldsParts level w → (open_job : OpenJob) × (level.job ≡ Some open_job)
+level_has level w job is_job held = by level.job refl (let Q : Option JobAtWork → Type 0 = λ m. HoldsAtWork level.deck level.job w m in subst Q is_job held.job)
+  where
+    by : (o : Option OpenJob) → level.job ≡ o → HoldsAtWork level.deck level.job w (Some job) → (open_job : OpenJob) × (level.job ≡ Some open_job)
+    by None is h = absurd (let P : Option OpenJob → Type 0 = λ k. HoldsAtWork level.deck k w (Some job) in subst P is h)
+    by (Some open_job) is h = (open_job, is)
+
+-- the pending request of the open job is that of the world's job
+pub pends : (level : Level) (w : World) → HoldsParts level w → Pends (waits_by level.job) w
+pends level w held = by level.job w.job refl held.job
+  where
+    by : (o : Option OpenJob) (meant : Option JobAtWork) → w.job ≡ meant → HoldsAtWork level.deck o w meant → Pends (waits_by o) w
+    by None None is h = is
+    by None (Some job) is h = absurd h
+    by (Some open_job) None is h = absurd h
+    by (Some open_job) (Some job) is h = (job, is, sym (waits_as job.source w.switches w.date job.past open_job.cycle h.follows))
+
+-- a job at work goes on with the answer to its request: it holds the world's with that answer
+goes_on : (old : Level) (job after : OpenJob) (cards : JobAtWork → JobAtWork) (answer : Answer) → old.job ≡ Some job → after.number ≡ job.number
+    → Resumes job.cycle after.cycle answer
+    → ((meant : JobAtWork) → meant.cards ≡ slice_range old.deck job.next job.end → (cards meant).cards ≡ slice_range old.deck after.next after.end)
+    → ((meant : JobAtWork) → ((cards meant).number ≡ meant.number) × ((cards meant).source ≡ meant.source) × ((cards meant).past ≡ meant.past))
+    → AtWorkBecomes (λ meant w. record w { job = Some (with_answer answer (cards meant)) }) (HoldsParts old) (HoldsParts (record old { job = Some after }))
+goes_on old job after cards answer is_open number resumes read same = λ w meant is_job held.
+    let h : HoldsJob old.deck job w meant = job_held old.deck job w meant old.job w.job is_open is_job held.job in
     record {
-      stands = next.0;
-      runs = λ answers. next.1 answers ∙ follows.runs (answer ∷ answers) ∙ ap (Req source switches date) (sym (append_assoc past (answer ∷ []) answers));
+      cards = held.cards;
+      jobs = held.jobs;
+      number = held.number;
+      library = held.library;
+      switches = held.switches;
+      date = held.date;
+      job = record {
+        number = (same meant).0 ∙ (h.number ∙ sym number);
+        cards = read meant h.cards;
+        follows =
+            let followed : Follows meant.source w.switches w.date (meant.past ++ answer ∷ []) after.cycle = follows_on meant.source w.switches w.date meant.past job.cycle after.cycle answer h.follows resumes in
+            subst (λ (s : Source). Follows s w.switches w.date ((cards meant).past ++ answer ∷ []) after.cycle) (sym (same meant).1)
+            (subst (λ (past : List Answer). Follows meant.source w.switches w.date (past ++ answer ∷ []) after.cycle) (sym (same meant).2) followed);
+      };
+      lines = held.lines;
+      halts = held.halts;
     }
 
--- a job at work that was changed asks as it then stands
-pub then_asked : {T E : Type 0} (result : Result T E) (change : JobAtWork → JobAtWork) (old middle new : World → Type 0)
-    → AtWorkBecomes (λ job w. record w { job = Some (change job) }) old middle
-    → OnOk result (AtWorkBecomes (λ job w. asking job.number (pending job w) w) middle new)
-    → OnOk result (AtWorkBecomes (λ job w. at_work (change job) w) old new)
-then_asked (Ok _) change old middle new changes asks = λ w job is_job held. asks (record w { job = Some (change job) }) (change job) refl (changes w job is_job held)
-then_asked (Err _) change old middle new changes asks = tt
+pub answer_taken : (old : Level) (job after : OpenJob) (answer : Answer) → old.job ≡ Some job → after.number ≡ job.number → after.next ≡ job.next → after.end ≡ job.end
+    → Resumes job.cycle after.cycle answer
+    → AtWorkBecomes (λ meant w. record w { job = Some (with_answer answer meant) }) (HoldsParts old) (HoldsParts (record old { job = Some after }))
+answer_taken old job after answer is_open number next end resumes =
+    goes_on old job after (λ meant. meant) answer is_open number resumes
+    (λ meant has. has ∙ (λ i. slice_range old.deck (sym next i) (sym end i)))
+    (λ meant. (refl, refl, refl))
 
--- a card is read, and the job goes on with it
-pub card_served : (old middle new : World → Type 0) (answer : Answer)
-    → ((w : World) (job : JobAtWork) → w.job ≡ Some job → old w → answer ≡ card_answer job.cards)
-    → AtWorkBecomes (λ job w. record w { job = Some (with_card_read job) }) old middle
-    → AtWorkBecomes (answered answer) middle new
-    → (w : World) (job : JobAtWork) → w.job ≡ Some job → old w
-    → new (answered (card_answer job.cards) (with_card_read job) w)
-card_served old middle new answer is_answer reads goes_on w job is_job held =
-    subst (λ a. new (answered a (with_card_read job) w)) (is_answer w job is_job held)
-    (goes_on (record w { job = Some (with_card_read job) }) (with_card_read job) refl (reads w job is_job held))
+-- a card is read
+pub card_taken : (old : Level) (job after : OpenJob) → old.job ≡ Some job → after.number ≡ job.number
+    → Resumes job.cycle after.cycle (card_answer (slice_range old.deck job.next job.end))
+    → slice_range old.deck after.next after.end ≡ drop 1 (slice_range old.deck job.next job.end)
+    → AtWorkBecomes (λ meant w. record w { job = Some (with_answer (card_answer meant.cards) (with_card_read meant)) }) (HoldsParts old) (HoldsParts (record old { job = Some after }))
+card_taken old job after is_open number resumes read = λ w meant is_job held.
+    let h : HoldsJob old.deck job w meant = job_held old.deck job w meant old.job w.job is_open is_job held.job in
+    let goes = goes_on old job after with_card_read (card_answer (slice_range old.deck job.next job.end)) is_open number resumes
+    (λ other has. ap (drop 1) has ∙ sym read) (λ other. (refl, refl, refl)) w meant is_job held in
+    subst (λ (cards : List (List ℕ)). HoldsParts (record old { job = Some after }) (record w { job = Some (with_answer (card_answer cards) (with_card_read meant)) })) (sym h.cards) goes
+
+-- ---- what it comes to
+-- where it stands says nothing of what else is there
+pub standing_same : (request : Request) (job : JobAtWork) (w : World) (other : Option JobAtWork) → standing_at request job (record w { job = other }) ≡ standing_at request job w
+standing_same Card job w other = refl
+standing_same (Read file size) job w other = refl
+standing_same (Chain file size sought) job w other = refl
+standing_same (Append file bytes) job w other = refl
+standing_same (Add file bytes) job w other = refl
+standing_same (Update file current changes) job w other = refl
+standing_same (Print page line text) job w other = refl
+standing_same Jump job w other = refl
+standing_same (Ask code) job w other = refl
+standing_same (End true) job w other = refl
+standing_same (End false) job w other = refl
+
+-- a job that was changed stands as it then asks
+pub then_stands : {T E : Type 0} (result : Result T E) (change : JobAtWork → JobAtWork) (old middle new : World → Type 0)
+    → AtWorkBecomes (λ job w. record w { job = Some (change job) }) old middle
+    → OnOk result (AtWorkBecomes at_work middle new)
+    → OnOk result (AtWorkBecomes (λ job w. at_work (change job) w) old new)
+then_stands (Ok _) change old middle new changes stands = λ w job is_job held.
+    subst new (standing_same (pending (change job) w) (change job) w (Some (change job))) (stands (record w { job = Some (change job) }) (change job) refl (changes w job is_job held))
+then_stands (Err _) change old middle new changes stands = tt
+
+-- the world with the job that it has
+same_world : (w : World) (job : JobAtWork) → w.job ≡ Some job → record w { job = Some job } ≡ w
+same_world w job is_job = ap (λ (o : Option JobAtWork). record w { job = o }) (sym is_job)
+
+pub halt_shown : {T E : Type 0} (result : Result T E) (number : ℕ) (code : HaltCode) (old : Level) (new : World → Type 0)
+    → ((w : World) (job : JobAtWork) → w.job ≡ Some job → HoldsParts old w → Comes (Halts number code) job w)
+    → OnOk result (Becomes (halting number code []) (HoldsParts old) new)
+    → OnOk result (AtWorkBecomes at_work (HoldsParts old) new)
+halt_shown (Ok _) number code old new comes shows = λ w job is_job held.
+    let here = comes w job is_job held in
+    let stands : at_work job w ≡ halting number code [] w =
+    ap (λ (request : Request). standing_at request job w) here.1
+    ∙ (ap (λ (k : World). halting job.number code [] k) (same_world w job is_job) ∙ ap (λ (n : ℕ). halting n code [] w) (sym here.0)) in
+    subst new (sym stands) (shows w held)
+halt_shown (Err _) number code old new comes shows = tt
+
+pub job_over : (old : Level) (new : World → Type 0)
+    → ((w : World) (job : JobAtWork) → w.job ≡ Some job → HoldsParts old w → Comes IsOver job w)
+    → Becomes job_ended (HoldsParts old) new
+    → AtWorkBecomes at_work (HoldsParts old) new
+job_over old new comes ends = λ w job is_job held.
+    subst new (sym (ap (λ (request : Request). standing_at request job w) (comes w job is_job held))) (ends w held)
+
+pub job_goes_on : (old : Level)
+    → ((w : World) (job : JobAtWork) → w.job ≡ Some job → HoldsParts old w → Comes GoesOn job w)
+    → AtWorkBecomes at_work (HoldsParts old) (HoldsParts old)
+job_goes_on old comes = λ w job is_job held. subst (HoldsParts old) (sym (comes w job is_job held ∙ same_world w job is_job)) held
+
+-- ---- what it waits for
+-- the pending request of the world's job is what the open one waits for
+as_waits : (level : Level) (open_job : OpenJob) (w : World) (job : JobAtWork) → level.job ≡ Some open_job → w.job ≡ Some job → HoldsParts level w
+    → (pending job w ≡ waits open_job.cycle) × (open_job.number ≡ job.number)
+as_waits level open_job w job is_open is_job held =
+    let h : HoldsJob level.deck open_job w job = job_held level.deck open_job w job level.job w.job is_open is_job held.job in
+    (sym (waits_as job.source w.switches w.date job.past open_job.cycle h.follows), sym h.number)
+
+pub comes_halt : (level : Level) (open_job : OpenJob) (code : HaltCode) → level.job ≡ Some open_job → asked open_job.cycle ≡ asks.Ask code
+    → (w : World) (job : JobAtWork) → w.job ≡ Some job → HoldsParts level w → Comes (Halts open_job.number code) job w
+comes_halt level open_job code is_open is w job is_job held =
+    let here = as_waits level open_job w job is_open is_job held in
+    (here.1, here.0 ∙ waits_ask open_job.cycle code is)
+
+pub comes_over : (level : Level) (open_job : OpenJob) → level.job ≡ Some open_job → asked open_job.cycle ≡ asks.End true
+    → (w : World) (job : JobAtWork) → w.job ≡ Some job → HoldsParts level w → Comes IsOver job w
+comes_over level open_job is_open is w job is_job held = (as_waits level open_job w job is_open is_job held).0 ∙ waits_end open_job.cycle true is
+
+-- neither a halt nor the end by a reply
+abbrev pub goes : code.Request → Bool
+goes (asks.Ask code) = false
+goes (asks.End at_once) = if at_once then false else true
+goes _ = true
+
+goes_at : (c : _) (request : code.Request) (job : JobAtWork) (w : World) → asked c ≡ request → goes request ≡ true → standing_at (waits c) job w ≡ record w { job = Some job }
+goes_at c asks.Card job w is g = ap (λ r. standing_at r job w) (waits_card c is)
+goes_at c (asks.Read file size) job w is g = ap (λ r. standing_at r job w) (waits_read c file size is)
+goes_at c (asks.Chain file size sought) job w is g = ap (λ r. standing_at r job w) (waits_chain c file size sought is)
+goes_at c (asks.Append file) job w is g = ap (λ r. standing_at r job w) (waits_append c file is)
+goes_at c (asks.Add file) job w is g = ap (λ r. standing_at r job w) (waits_add c file is)
+goes_at c (asks.Update file current) job w is g = ap (λ r. standing_at r job w) (waits_update c file current is)
+goes_at c (asks.Print page line) job w is g = ap (λ r. standing_at r job w) (waits_print c page line is)
+goes_at c asks.Jump job w is g = ap (λ r. standing_at r job w) (waits_jump c is)
+goes_at c (asks.Ask code) job w is g = cc
+goes_at c (asks.End true) job w is g = cc
+goes_at c (asks.End false) job w is g = ap (λ r. standing_at r job w) (waits_end c false is)
+
+pub comes_on : (level : Level) (open_job : OpenJob) (request : code.Request) → level.job ≡ Some open_job → asked open_job.cycle ≡ request → goes request ≡ true
+    → (w : World) (job : JobAtWork) → w.job ≡ Some job → HoldsParts level w → Comes GoesOn job w
+comes_on level open_job request is_open is g w job is_job held =
+    ap (λ (r : Request). standing_at r job w) (as_waits level open_job w job is_open is_job held).0 ∙ goes_at open_job.cycle request job w is g
+
+-- without an open job the world has none
+pub comes_nowhere : (level : Level) → level.job ≡ None → (w : World) (job : JobAtWork) → w.job ≡ Some job → HoldsParts level w → Comes GoesOn job w
+comes_nowhere level none w job is_job held = absurd (none-some (level_has level w job is_job held).0 (sym none ∙ (level_has level w job is_job held).1))
+
+-- ---- requests that are served
+pub card_served : (old middle new : World → Type 0)
+    → AtWorkBecomes (λ job w. record w { job = Some (with_answer (card_answer job.cards) (with_card_read job)) }) old middle
+    → AtWorkBecomes at_work middle new
+    → (w : World) (job : JobAtWork) → w.job ≡ Some job → old w → (Acted ≡ (served Card job w).did) × new (served Card job w).world
+card_served old middle new takes stands w job is_job held = (
+  refl,
+  subst new (standing_same (pending (with_answer (card_answer job.cards) (with_card_read job)) w) (with_answer (card_answer job.cards) (with_card_read job)) w
+      (Some (with_answer (card_answer job.cards) (with_card_read job))))
+      (stands (record w { job = Some (with_answer (card_answer job.cards) (with_card_read job)) }) (with_answer (card_answer job.cards) (with_card_read job)) refl (takes w job is_job held)),
+)
+
+pub jump_served : (old new : World → Type 0)
+    → AtWorkBecomes (answered Done) old new
+    → (w : World) (job : JobAtWork) → w.job ≡ Some job → old w → (Acted ≡ (served Jump job w).did) × new (served Jump job w).world
+jump_served old new resumes w job is_job held = (refl, resumes w job is_job held)
+
+-- a job at work stays as it is while a line is put
+still : (page line : ℕ) (text : List ℕ) (w : World) (deck : List (List ℕ)) (o : Option OpenJob) (meant : Option JobAtWork) → HoldsAtWork deck o w meant → HoldsAtWork deck o (line_put page line text w) meant
+still page line text w deck None None h = h
+still page line text w deck None (Some job) h = h
+still page line text w deck (Some job) None h = h
+still page line text w deck (Some job) (Some meant) h = record { number = h.number; cards = h.cards; follows = h.follows }
+
+-- what the open job asks for
+asks_it : (o : Option OpenJob) (open_job : OpenJob) (page line : ℕ) → o ≡ Some open_job → request_by o ≡ Some (asks.Print page line) → asked open_job.cycle ≡ asks.Print page line
+asks_it o open_job page line is_open is = let same : Some (asked open_job.cycle) ≡ Some (asks.Print page line) = sym (ap request_by is_open) ∙ is in cc
+
+-- its line is no longer than a print line
+pub line_short : (o : Option OpenJob) (open_job : OpenJob) (page line : ℕ) (text : List ℕ) → o ≡ Some open_job → request_by o ≡ Some (asks.Print page line) → IsLine (asked open_job.cycle) text
+    → (1 ≤ length text) × (length text ≤ 132)
+line_short o open_job page line text is_open is fits = subst (λ (r : code.Request). IsLine r text) (asks_it o open_job page line is_open is) fits
+
+-- the line of the open job is put last
+pub line_last : {T E : Type 0} (result : Result T E) (old : Level) (lines : Lines) (open_job : OpenJob) (page line : ℕ) (line_text : List ℕ) (printed : Printed) → old.job ≡ Some open_job
+    → request_by old.job ≡ Some (asks.Print page line)
+    → line_text ≡ filled (put open_job.cycle)
+    → printed ≡ record { page = page; line = line; text = line_text }
+    → OnOk result (lines ≡ with_line printed old.lines)
+    → OnOk result ((text : List ℕ) → waits_by old.job ≡ Some (Print page line text) → Becomes (line_put page line text) (HoldsParts old) (HoldsParts (record old { lines = lines })))
+line_last (Ok _) old lines open_job page line line_text printed is_open is composed is_line same = λ text waits' w held.
+    let meant : Some (Print page line (filled (put open_job.cycle))) ≡ Some (Print page line text) =
+    sym (ap waits_by is_open ∙ ap (λ r. Some r) (waits_print open_job.cycle page line (asks_it old.job open_job page line is_open is))) ∙ waits' in
+    let is_text : line_text ≡ text = (let e : filled (put open_job.cycle) ≡ text = cc in composed ∙ e) in
+    let line_of : List ℕ → Printed = λ t. record { page = page; line = line; text = t } in
+    record {
+      cards = held.cards;
+      jobs = held.jobs;
+      number = held.number;
+      library = held.library;
+      switches = held.switches;
+      date = held.date;
+      job = still page line text w old.deck old.job w.job held.job;
+      lines = ap (with_line (line_of text)) held.lines ∙ (ap (λ t. with_line (line_of t) old.lines) (sym is_text) ∙ (ap (λ (l : Printed). with_line l old.lines) (sym is_line) ∙ sym same));
+      halts = held.halts;
+    }
+line_last (Err _) old lines open_job page line line_text printed is_open is composed is_line same = tt
 
 -- a line is printed, and the job goes on
-pub line_served : (line : Printed) (old : Level) (middle new : World → Type 0)
+pub line_served : (page line : ℕ) (text : List ℕ) (old : Level) (middle new : World → Type 0)
     → has_room old.lines ≡ true
-    → Becomes (λ w. record w { lines = with_line line w.lines }) (Holds old) middle
+    → Becomes (line_put page line text) (HoldsParts old) middle
     → AtWorkBecomes (answered Done) middle new
-    → (w : World) (job : JobAtWork) → w.job ≡ Some job → Holds old w
-    → (Acted ≡ (line_printed line job w).did) × new (line_printed line job w).world
-line_served line old middle new room puts goes_on w job is_job held =
-    let printed : World = record w { lines = with_line line w.lines } in
-    subst (λ (has : Bool). (Acted ≡ (if has then acted (answered Done job printed) else idle w).did) × new (if has then acted (answered Done job printed) else idle w).world)
-    (sym (ap has_room held.lines ∙ room)) (refl, goes_on printed job is_job (puts w held))
+    → (w : World) (job : JobAtWork) → w.job ≡ Some job → HoldsParts old w
+    → (Acted ≡ (served (Print page line text) job w).did) × new (served (Print page line text) job w).world
+line_served page line text old middle new room puts goes_on' w job is_job held =
+    let put' : World = line_put page line text w in
+    subst (λ (has : Bool). (Acted ≡ (if has then acted (answered Done job put') else idle w).did) × new (if has then acted (answered Done job put') else idle w).world)
+    (sym (ap has_room held.lines ∙ room)) (refl, goes_on' put' job is_job (puts w held))
+
+-- unless 64 are queued
+pub line_waits : (page line : ℕ) (text : List ℕ) (old : Level) → has_room old.lines ≡ false
+    → (w : World) (job : JobAtWork) → w.job ≡ Some job → HoldsParts old w
+    → (Idle ≡ (served (Print page line text) job w).did) × HoldsParts old (served (Print page line text) job w).world
+line_waits page line text old full w job is_job held =
+    let put' : World = line_put page line text w in
+    subst (λ (has : Bool). (Idle ≡ (if has then acted (answered Done job put') else idle w).did) × HoldsParts old (if has then acted (answered Done job put') else idle w).world)
+    (sym (ap has_room held.lines ∙ full)) (refl, held)

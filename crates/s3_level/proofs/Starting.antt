@@ -9,11 +9,11 @@ use Rattle.s3_cards.specs.Names.{same_name}
 use Rattle.s3_meaning.specs.Requests.{Answer}
 use Rattle.s3_meaning.specs.Cycle.{Req}
 use Rattle.s3_cycle.specs.declared.stepper.Stepper.{Stepper}
-use Rattle.s3_cycle.specs.Rest.{rest, StandsFor as RunsFor}
+use Rattle.s3_cycle.specs.Rest.{rest}
+use Rattle.s3_cycle.specs.Following.{StandsFor as RunsFor}
 use Rattle.s3_level.specs.World.{World, JobAtWork}
 use Rattle.s3_meaning.specs.Source.{Source}
 use Rattle.s3_program.specs.declared.program.Program.{Program}
-use Rattle.s3_level.specs.declared.stocked.Stocked.{Stocked}
 use Rattle.s3_program.specs.Stands.{Stands, parts_of}
 use Rattle.s3_program.specs.Valid.{named}
 use Rattle.s3_ocl.specs.declared.faults.FaultyJob.{FaultyJob}
@@ -24,15 +24,16 @@ use Rattle.s3_ocl.specs.Streams.{jobs_from}
 use Rattle.s3_ocl.proofs.StreamLemmas.{jobs_from-none, jobs_from-next}
 use Rattle.s3_level.specs.declared.job.OpenJob.{OpenJob}
 use Rattle.s3_level.specs.declared.level.Level.{Level}
-use Rattle.s3_level.specs.Serving.{asking, pending, run, compiled_data, data_of, performed, run_card_of, started, switches_after, with_jobs, with_settings}
-use Rattle.s3_level.specs.Holds.{Holds, HoldsAtWork, Stocks, Becomes}
+use Rattle.s3_level.specs.Serving.{at_work, pending, run, compiled_data, data_of, performed, run_card_of, started, switches_after, with_jobs, with_settings}
+use Rattle.s3_level.specs.Holds.{HoldsParts, HoldsAtWork, Stocks, Becomes}
 use Rattle.s3_level.specs.Inner.Turning.{AtWorkBecomes, NextIs, Starts}
+use Rattle.s3_level.proofs.Running.{standing_same}
 
 pub taken_then_started : {T E : Type 0} (result : Result T E) (old : Level) (taken new : World → Type 0) (job : Result Job FaultyJob) (behind : List (Result Job FaultyJob)) (number : ℕ)
     → number ≡ old.number
-    → Becomes (with_jobs behind) (Holds old) taken
+    → Becomes (with_jobs behind) (HoldsParts old) taken
     → OnOk result (Becomes (started number job) taken new)
-    → OnOk result (Starts job behind (Holds old) new)
+    → OnOk result (Starts job behind (HoldsParts old) new)
 taken_then_started (Ok _) old taken new job behind number is_number takes starts =
     λ w at_rest held. subst (λ n. new (started n job (with_jobs behind w))) (is_number ∙ sym held.number) (starts _ (takes w held))
 taken_then_started (Err _) old taken new job behind number is_number takes starts = tt
@@ -48,9 +49,9 @@ between_jobs deck (Some job) before after (Some meant) at_rest held = absurd (no
 -- the settings of a job are made where no job is at work
 settings_held : (old new : Level) (job : Job)
     → new ≡ record old { switches = switches_after job.switches old.switches; date = unwrap_or job.date old.date }
-    → (w : World) → w.job ≡ None → Holds old w → Holds new (with_settings job w)
+    → (w : World) → w.job ≡ None → HoldsParts old w → HoldsParts new (with_settings job w)
 settings_held old new job is_new w at_rest held =
-    subst (λ level. Holds level (with_settings job w)) (sym is_new)
+    subst (λ level. HoldsParts level (with_settings job w)) (sym is_new)
     (record {
       cards = held.cards;
       jobs = held.jobs;
@@ -66,14 +67,14 @@ settings_held old new job is_new w at_rest held =
 -- a job that isn't faulty is taken, its settings are made, and it is performed under its number
 pub set_then_performed : {T E : Type 0} (result : Result T E) (old taken set : Level) (new : World → Type 0) (job : Job) (behind : List (Result Job FaultyJob)) (number : ℕ)
     → number ≡ old.number
-    → Becomes (with_jobs behind) (Holds old) (Holds taken)
+    → Becomes (with_jobs behind) (HoldsParts old) (HoldsParts taken)
     → set ≡ record taken { switches = switches_after job.switches taken.switches; date = unwrap_or job.date taken.date }
-    → OnOk result (Becomes (performed number job (data_of set.deck job)) (Holds set) new)
-    → OnOk result (Starts (Ok job) behind (Holds old) new)
+    → OnOk result (Becomes (performed number job (data_of set.deck job)) (HoldsParts set) new)
+    → OnOk result (Starts (Ok job) behind (HoldsParts old) new)
 set_then_performed (Ok _) old taken set new job behind number is_number takes sets performs =
     λ w at_rest held.
     let begun : World = with_settings job (with_jobs behind w) in
-    let ready : Holds set begun = settings_held taken set job sets (with_jobs behind w) at_rest (takes w held) in
+    let ready : HoldsParts set begun = settings_held taken set job sets (with_jobs behind w) at_rest (takes w held) in
     subst (λ n. new (performed n job (data_of w.deck.cards job) begun)) (is_number ∙ sym held.number)
     (subst (λ cards. new (performed number job (data_of cards job) begun)) (sym ready.cards) (performs begun ready))
 set_then_performed (Err _) old taken set new job behind number is_number takes sets performs = tt
@@ -112,8 +113,8 @@ pub program_performed : {T E : Type 0} (result : Result T E) (number : ℕ) (job
     → program ≡ job.program
     → from ≡ job.data_from
     → to ≡ job.data_to
-    → OnOk result (Becomes (λ w. run number (slice_range old.deck from to) (w.library program) w) (Holds old) new)
-    → OnOk result (Becomes (performed number job (data_of old.deck job)) (Holds old) new)
+    → OnOk result (Becomes (λ w. run number (slice_range old.deck from to) (w.library program) w) (HoldsParts old) new)
+    → OnOk result (Becomes (performed number job (data_of old.deck job)) (HoldsParts old) new)
 program_performed (Ok _) number job program from to old new runs is_program is_from is_to performs =
     λ w held.
     let over : List (List ℕ) = data_of old.deck job in
@@ -124,20 +125,21 @@ program_performed (Ok _) number job program from to old new runs is_program is_f
 program_performed (Err _) number job program from to old new runs is_program is_from is_to performs = tt
 
 -- a program of the library is started: its copy's cycle is at the beginning of the whole run
-pub started_program : {T E : Type 0} (result : Result T E) (number first end : ℕ) (name : Name) (program : Stocked) (copy : Program) (cycle : Stepper) (old middle : Level) (new : World → Type 0)
+pub started_program : {T E : Type 0} (result : Result T E) (number first end : ℕ) (name : Name) (program copy : Program) (cycle : Stepper) (date : List ℕ) (old middle : Level) (new : World → Type 0)
     → get same_name old.library name ≡ Some program
-    → parts_of copy ≡ parts_of program.program
-    → ((source : Source) → Stands copy source → RunsFor cycle source × ((answers : List Answer) → rest source cycle answers ≡ Req source old.switches old.date answers))
+    → parts_of copy ≡ parts_of program
+    → date ≡ old.date
+    → ((source : Source) → Stands copy source → RunsFor cycle source × ((answers : List Answer) → rest source cycle answers ≡ Req source old.switches date answers))
     → middle ≡ record old { job = Some (record { number = number; cycle = cycle; next = first; end = end }) }
-    → OnOk result (AtWorkBecomes (λ job w. asking job.number (pending job w) w) (Holds middle) new)
-    → OnOk result (Becomes (λ w. run number (slice_range old.deck first end) (w.library name) w) (Holds old) new)
-started_program (Ok _) number first end name program copy cycle old middle new found copies starts opens asks =
-    λ w held. by w held (w.library name) (subst (λ stocked'. Stocks stocked' (w.library name)) found (held.library name))
+    → OnOk result (AtWorkBecomes at_work (HoldsParts middle) new)
+    → OnOk result (Becomes (λ w. run number (slice_range old.deck first end) (w.library name) w) (HoldsParts old) new)
+started_program (Ok _) number first end name program copy cycle date old middle new found copies is_date starts opens asks =
+    λ w held. by w held (w.library name) (subst (λ (of : Option Program). Stocks of (w.library name)) found (held.library name))
   where
     at : Source → JobAtWork
     at source = record { number = number; source = source; cards = slice_range old.deck first end; past = [] }
 
-    opened : (source : Source) → Stands program.program source → (w : World) → Holds old w → Holds (record old { job = Some (record { number = number; cycle = cycle; next = first; end = end }) }) (record w { job = Some (at source) })
+    opened : (source : Source) → Stands program source → (w : World) → HoldsParts old w → HoldsParts (record old { job = Some (record { number = number; cycle = cycle; next = first; end = end }) }) (record w { job = Some (at source) })
     opened source stands w held =
         let runs = starts source (ap named copies ∙ stands) in
         record {
@@ -152,14 +154,14 @@ started_program (Ok _) number first end name program copy cycle old middle new f
             cards = refl;
             follows = record {
               stands = runs.0;
-              runs = λ answers. runs.1 answers ∙ ap (λ s. Req source s old.date answers) (sym held.switches) ∙ ap (λ d. Req source w.switches d answers) (sym held.date);
+              runs = λ answers. runs.1 answers ∙ ap (λ d. Req source old.switches d answers) (is_date ∙ sym held.date) ∙ ap (λ s. Req source s w.date answers) (sym held.switches);
             };
           };
           lines = held.lines;
           halts = held.halts;
         }
 
-    by : (w : World) → Holds old w → (source : Option Source) → Stocks (Some program) source → new (run number (slice_range old.deck first end) source w)
+    by : (w : World) → HoldsParts old w → (source : Option Source) → Stocks (Some program) source → new (run number (slice_range old.deck first end) source w)
     by w held None stands = absurd stands
-    by w held (Some source) stands = asks (record w { job = Some (at source) }) (at source) refl (subst (λ level. Holds level (record w { job = Some (at source) })) (sym opens) (opened source stands w held))
-started_program (Err _) number first end name program copy cycle old middle new found copies starts opens asks = tt
+    by w held (Some source) stands = subst new (standing_same (pending (at source) w) (at source) w (Some (at source))) (asks (record w { job = Some (at source) }) (at source) refl (subst (λ level. HoldsParts level (record w { job = Some (at source) })) (sym opens) (opened source stands w held)))
+started_program (Err _) number first end name program copy cycle date old middle new found copies is_date starts opens asks = tt

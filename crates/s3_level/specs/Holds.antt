@@ -5,8 +5,8 @@ use Rattle.s3_cards.specs.declared.name.Name.{Name}
 use Rattle.s3_cards.specs.Names.{same_name}
 use Rattle.s3_meaning.specs.Source.{Source}
 use Rattle.s3_program.specs.Stands.{Stands}
-use Rattle.s3_level.specs.declared.stocked.Stocked.{Stocked}
-use Rattle.s3_cycle.specs.Rest.{Follows}
+use Rattle.s3_program.specs.declared.program.Program.{Program}
+use Rattle.s3_cycle.specs.Following.{Follows}
 use Rattle.s3_ocl.specs.Streams.{jobs_from}
 use Rattle.s3_level.specs.declared.action.Action.{Action}
 use Rattle.s3_level.specs.declared.action.Did.{Did}
@@ -14,12 +14,16 @@ use Rattle.s3_level.specs.declared.job.OpenJob.{OpenJob}
 use Rattle.s3_level.specs.declared.level.Level.{Level}
 use Rattle.s3_level.specs.Lines.{drained_lines}
 use Rattle.s3_level.specs.World.{World, JobAtWork}
+use Rattle.s3_meaning.specs.Requests.{Request, Ask}
+use Rattle.s3_operator.specs.declared.halt_code.HaltCode.{HaltCode}
+use Rattle.s3_operator.specs.Halts.{waiting}
+use Rattle.s3_level.specs.Serving.{pending}
 use Rattle.s3_level.specs.Solo.{step_of}
 
 -- a program stands for the world's source of its name, where there is one
-abbrev pub Stocks : Option Stocked → Option Source → Type 0
+abbrev pub Stocks : Option Program → Option Source → Type 0
 Stocks None None = Unit {0}
-Stocks (Some stocked) (Some source) = Stands stocked.program source
+Stocks (Some program) (Some source) = Stands program source
 Stocks _ _ = ⊥
 
 -- an open job is the world's job at work. No answer is stored: its cycle goes on as the whole run does after the past
@@ -34,8 +38,8 @@ HoldsAtWork deck None w None = Unit {0}
 HoldsAtWork deck (Some job) w (Some meant) = HoldsJob deck job w meant
 HoldsAtWork _ _ _ _ = ⊥
 
--- The level holds the world. It is a relation: programs and cycles stand for sources, and no answer is stored.
-pub record Holds (level : Level) (w : World) : Type 0 where
+-- the parts of a level are those of the world. It is a relation: programs and cycles stand for sources, and no answer is stored.
+pub record HoldsParts (level : Level) (w : World) : Type 0 where
   pub cards : w.deck.cards ≡ level.deck
   pub jobs : w.deck.jobs ≡ jobs_from level.deck level.next
   pub number : w.deck.number ≡ level.number
@@ -45,6 +49,20 @@ pub record Holds (level : Level) (w : World) : Type 0 where
   pub job : HoldsAtWork level.deck level.job w w.job
   pub lines : w.lines ≡ level.lines
   pub halts : w.halts ≡ level.halts
+
+-- the halt for which a request asks for a reply, if it does
+abbrev pub halt_asked : Request → Option HaltCode
+halt_asked (Ask code) = Some code
+halt_asked _ = None
+
+-- while a job is at work a halt waits where, and only where, the job asks for a reply, and it is that halt
+abbrev pub IsAsked : World → Type 0
+IsAsked w = (job : JobAtWork) → w.job ≡ Some job → waiting w.halts ≡ halt_asked (pending job w)
+
+-- the level holds the world
+pub record Holds (level : Level) (w : World) : Type 0 where
+  pub parts : HoldsParts level w
+  pub asked : IsAsked w
 
 -- What is said of an entry is said of two conditions on worlds, what was held before it and what is held after it, whatever
 -- it is that holds them.

@@ -1,4 +1,5 @@
 pub mod Lines
+pub mod Built
 pub mod World
 pub mod Serving
 pub mod Solo

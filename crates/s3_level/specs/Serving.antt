@@ -1,6 +1,5 @@
 -- What the start of a job and each request of a job do to the world.
 use Rattle.std.specs.Prelude.{ℕ, ◌-◌, ◌^◌, Bool, true, false, List, [], ◌∷◌, ◌++◌, drop, map, slice_range, slice_index_or, sum_by, Option, Some, None, unwrap_or, Result, Ok, Err, if◌then◌else◌}
-use Rattle.s3_cards.specs.Printed.{Printed}
 use Rattle.s3_cards.specs.declared.name.Name.{Name}
 use Rattle.s3_lines.specs.declared.sheet.Line.{Line}
 use Rattle.s3_lines.specs.declared.diagnostic.Diagnostic.{Diagnostic}
@@ -11,7 +10,7 @@ use Rattle.s3_meaning.specs.Source.{Source, source_of, program_name}
 use Rattle.s3_meaning.specs.Requests.{Request, Card, Read, Chain, Append, Add, Update, Print, Jump, Ask, End, Answer, Found, Nothing, Done}
 use Rattle.s3_meaning.specs.Environment.{switch_on}
 use Rattle.s3_meaning.specs.Cycle.{Req}
-use Rattle.s3_cycle.specs.Built.{is_built, unbuilt_cards}
+use Rattle.s3_level.specs.Built.{is_built, unbuilt_details}
 use Rattle.s3_diagnose.specs.Diagnostics.{compile_diagnostics}
 use Rattle.s3_ocl.specs.declared.values.Switch.{Switch}
 use Rattle.s3_ocl.specs.declared.values.Switch.TheVariants.{On, Off, Leave}
@@ -41,18 +40,22 @@ acted w = record { did = Acted; world = w }
 abbrev pub halting : ℕ → HaltCode → List (ℕ × ℕ) → World → World
 halting number code details w = record w { halts = with_halt number code details w.halts }
 
--- where a job asks for a reply, its halt is shown
-abbrev pub asking : ℕ → Request → World → World
-asking number (Ask code) w = halting number code [] w
-asking number _ w = w
-
 -- ---- the job at work
 -- the request that stands
 abbrev pub pending : JobAtWork → World → Request
 pending job w = Req job.source w.switches w.date job.past
 
+abbrev pub job_ended : World → World
+job_ended w = record w { job = None }
+
+-- where the job asks for a reply, its halt is shown; where a reply has ended it, it is over at once
+abbrev pub standing_at : Request → JobAtWork → World → World
+standing_at (Ask code) job w = halting job.number code [] (record w { job = Some job })
+standing_at (End true) job w = job_ended w
+standing_at _ job w = record w { job = Some job }
+
 abbrev pub at_work : JobAtWork → World → World
-at_work job w = asking job.number (pending job w) (record w { job = Some job })
+at_work job w = standing_at (pending job w) job w
 
 -- the pending request has this answer
 abbrev pub with_answer : Answer → JobAtWork → JobAtWork
@@ -69,17 +72,18 @@ card_answer (card ∷ cards) = Found card
 abbrev pub with_card_read : JobAtWork → JobAtWork
 with_card_read job = record job { cards = drop 1 job.cards }
 
--- a line is printed, unless 64 are queued
-abbrev pub line_printed : Printed → JobAtWork → World → Outcome
-line_printed line job w = if has_room w.lines then acted (answered Done job (record w { lines = with_line line w.lines })) else idle w
+-- a line is put last
+abbrev pub line_put : (page line : ℕ) → List ℕ → World → World
+line_put page line text w = record w { lines = with_line (record { page = page; line = line; text = text }) w.lines }
 
-abbrev pub job_ended : World → World
-job_ended w = record w { job = None }
+-- a line is printed, unless 64 are queued
+abbrev pub line_printed : (page line : ℕ) → List ℕ → JobAtWork → World → Outcome
+line_printed page line text job w = if has_room w.lines then acted (answered Done job (line_put page line text w)) else idle w
 
 -- the pending request is served: those to files on the pack once packs are, until then they wait; so does one for a reply
 abbrev pub served : Request → JobAtWork → World → Outcome
 served Card job w = acted (answered (card_answer job.cards) (with_card_read job) w)
-served (Print page line text) job w = line_printed (record { page = page; line = line; text = text }) job w
+served (Print page line text) job w = line_printed page line text job w
 served Jump job w = acted (answered Done job w)
 served (End at_once) job w = acted (job_ended w)
 served (Ask code) job w = idle w
@@ -106,15 +110,11 @@ details_of diagnostics = map (λ diagnostic. (diagnostic.card, diagnostic.number
 abbrev pub stocked : Name → Source → World → World
 stocked name source w = record w { library = λ other. if same_name name other then Some source else w.library other }
 
--- 2 on each of these cards, which aren't built
-abbrev pub unbuilt_details : List ℕ → List (ℕ × ℕ)
-unbuilt_details cards = map (λ card. (card, 2)) cards
-
 -- the source of lines goes into the library, if all its cards are built
 abbrev pub accepted : ℕ → List Line → World → World
 accepted number lines w =
     if is_built lines then stocked (program_name lines) (source_of lines) w
-    else halting number FaultySource (unbuilt_details (unbuilt_cards lines)) w
+    else halting number FaultySource (unbuilt_details lines) w
 
 -- a source without diagnostics is accepted
 abbrev pub compiled : ℕ → List Line → List Diagnostic → World → World

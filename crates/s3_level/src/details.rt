@@ -1,6 +1,6 @@
 //! The details of a halt: numbers of cards, each with the number of what is wrong there.
 ghost use Rattle.std.specs.Prelude.{◌≡◌, [], ◌∷◌, IfOk};
-ghost use Rattle.s3_level.specs.Serving.{details_of, unbuilt_details};
+ghost use Rattle.s3_level.specs.Serving.{details_of};
 
 use s3_lines::Diagnostic;
 use std::alloc::{AllocError, Global};
@@ -23,14 +23,4 @@ pub fn details_of(alloc: Global, diagnostics: &[Diagnostic]) -> Result<Vec<(u16,
         details.push((diagnostic.card, diagnostic.number))?;
     }
     Ok(details)
-}
-
-/// The number of a card that isn't built.
-const UNBUILT: u8 = 2;
-
-/// The details of cards that aren't built.
-pub fn unbuilt_details(alloc: Global, cards: &[u16]) -> Result<Vec<(u16, u8)>, AllocError>
-    ensures { IfOk result (λ details. details.items ≡ unbuilt_details cards.now) }
-{
-    cards.iter().map(|card| (*card, UNBUILT)).collect(alloc)
 }

@@ -3,12 +3,15 @@
 #![tactic(auto)]
 
 mod action;
+mod built;
+mod date;
 mod details;
 mod job;
+mod job_number;
 mod laws;
 mod level;
+mod next;
 mod printed_lines;
-mod stocked;
 mod switches;
 
 pub use action::{Action, Did};

@@ -1,48 +1,63 @@
 -- How a turn goes on, step by step. These words serve the contracts of private functions alone: what a turn does to a world
 -- is said in Serving and Solo, and what it is to hold one in Holds.
-use Rattle.std.specs.Prelude.{◌≡◌, ℕ, List, ◌∷◌, IsTrue, Option, Some, None, Result, Ok, Err}
+use Rattle.std.specs.Prelude.{◌≡◌, ℕ, List, ◌∷◌, true, IsTrue, Option, Some, None, Result, Ok, Err}
 use Rattle.s3_operator.specs.declared.halt_code.HaltCode.{HaltCode}
-use Rattle.s3_operator.specs.declared.reply_fault.ReplyFault.{ReplyFault}
-use Rattle.s3_operator.specs.Halts.{fault_number}
-use Rattle.s3_meaning.specs.Requests.{Ask}
-use Rattle.s3_cycle.specs.Rest.{asked}
+use Rattle.s3_operator.specs.Replies.{is_allowed}
+use Rattle.s3_meaning.specs.Requests.{Request, Ask, End}
+use Rattle.s3_cycle.specs.Following.{asked, waits, is_fit}
 use Rattle.s3_cycle.specs.declared.request.Request.{Request as ProgramRequest}
+use Rattle.s3_cycle.specs.declared.request.Request.TheVariants as asks
 use Rattle.s3_cycle.specs.declared.request.Answer.{Answer as ProgramAnswer}
-use Rattle.s3_cycle.specs.Requests.{request_of, is_fit}
 use Rattle.s3_ocl.specs.declared.faults.FaultyJob.{FaultyJob}
 use Rattle.s3_ocl.specs.declared.jobs.OclFault.{OclFault}
 use Rattle.s3_ocl.specs.declared.jobs.OclFault.TheVariants.{NoMemory, Faulty}
 use Rattle.s3_ocl.specs.Jobs.{Job}
 use Rattle.s3_ocl.specs.Streams.{jobs_from}
-use Rattle.s3_level.specs.declared.action.Action.TheVariants.{Turn, Reply}
+use Rattle.s3_level.specs.declared.action.Action.TheVariants.{Turn}
 use Rattle.s3_level.specs.declared.action.Did.{Did}
-use Rattle.s3_level.specs.declared.action.Did.TheVariants.{Acted, Refused}
+use Rattle.s3_level.specs.declared.action.Did.TheVariants.{Acted}
 use Rattle.s3_level.specs.declared.job.OpenJob.{OpenJob}
+use Rattle.s3_level.specs.declared.next.Next.{Next}
+use Rattle.s3_level.specs.declared.next.Next.TheVariants.{Halts, IsOver, GoesOn}
 use Rattle.s3_level.specs.World.{World, JobAtWork}
-use Rattle.s3_level.specs.Serving.{Outcome, asking, pending, started, with_jobs, begun}
+use Rattle.s3_level.specs.Serving.{Outcome, pending, standing_at, started, with_jobs, begun}
 use Rattle.s3_level.specs.Solo.{step_of}
 use Rattle.s3_level.specs.Holds.{Steps}
 
 -- ---- a job at work
--- where a job is at work, the pending request of its program is that of the world's job
-abbrev pub Pends : Option ProgramRequest → World → Type 0
-Pends None w = w.job ≡ None
-Pends (Some request) w = (job : JobAtWork) × (w.job ≡ Some job) × (pending job w ≡ request_of request)
-
--- the pending request of an open job
+-- the pending request of an open job, and as the meaning has it
 abbrev pub request_by : Option OpenJob → Option ProgramRequest
 request_by None = None
 request_by (Some job) = Some (asked job.cycle)
 
--- an answer that the pending request of an open job can have
-abbrev pub FitsJob : Option OpenJob → ProgramAnswer → Type 0
-FitsJob None answer = Unit {0}
-FitsJob (Some job) answer = IsTrue (is_fit (asked job.cycle) answer)
+abbrev pub waits_by : Option OpenJob → Option Request
+waits_by None = None
+waits_by (Some job) = Some (waits job.cycle)
 
--- the halt that the world's job asks for, if it does, with the job's number
-abbrev pub AsksFor : Option (ℕ × HaltCode) → JobAtWork → World → Type 0
-AsksFor None job w = asking job.number (pending job w) w ≡ w
-AsksFor (Some (number, code)) job w = (number ≡ job.number) × (pending job w ≡ Ask code)
+-- the halt for which a request asks for a reply, if it does
+abbrev pub code_asked : ProgramRequest → Option HaltCode
+code_asked (asks.Ask code) = Some code
+code_asked _ = None
+
+-- where a job is at work, this is the pending request of the world's job
+abbrev pub Pends : Option Request → World → Type 0
+Pends None w = w.job ≡ None
+Pends (Some request) w = (job : JobAtWork) × (w.job ≡ Some job) × (pending job w ≡ request)
+
+-- an answer that the pending request of the open job can have
+abbrev pub FitsJob : Option OpenJob → ProgramAnswer → Type 0
+FitsJob None answer = ⊥
+FitsJob (Some job) answer = IsTrue (is_fit job.cycle answer)
+
+-- what the world's job comes to: its halt is shown, it is over, or it waits for a turn
+abbrev pub Comes : Next → JobAtWork → World → Type 0
+Comes (Halts number code) job w = (number ≡ job.number) × (pending job w ≡ Ask code)
+Comes IsOver job w = pending job w ≡ End true
+Comes GoesOn job w = standing_at (pending job w) job w ≡ record w { job = Some job }
+
+-- the world's job, if there is one, asks for a reply that allows this digit
+abbrev pub MayReply : (digit : ℕ) → World → Type 0
+MayReply digit w = (job : JobAtWork) → w.job ≡ Some job → (code : HaltCode) × (pending job w ≡ Ask code) × (is_allowed code digit ≡ true)
 
 -- each world that was held with a job at work becomes this one
 abbrev pub AtWorkBecomes : (JobAtWork → World → World) → (World → Type 0) → (World → Type 0) → Type 0
@@ -78,8 +93,3 @@ Starts job behind old new = AtRestBecomes (λ w. started w.deck.number job (with
 abbrev pub Turns : {E : Type 0} → Result Did E → (World → Type 0) → (World → Type 0) → Type 0
 Turns (Ok did) old new = Steps Turn did old new
 Turns (Err _) old new = (w : World) → old w → (step_of w Turn).did ≡ Acted
-
--- each world that was held takes this reply, or refuses it
-abbrev pub Replies : (digit : ℕ) → Result (Unit {0}) ReplyFault → (World → Type 0) → (World → Type 0) → Type 0
-Replies digit (Ok _) old new = Steps (Reply digit) Acted old new
-Replies digit (Err fault) old new = Steps (Reply digit) (Refused (fault_number fault)) old new

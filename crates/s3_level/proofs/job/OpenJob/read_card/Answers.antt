@@ -1,0 +1,21 @@
+use Rattle.std.proofs.Common.{rules, sym, ap, subst}
+use Rattle.s3_meaning.specs.Requests.{Answer}
+use Rattle.s3_cycle.specs.Requests.{answer_of}
+use Rattle.s3_cycle.specs.Following.{Resumes}
+use Rattle.s3_level.specs.Serving.{card_answer}
+use Rattle.s3_level.proofs.Fitting.{card_fits, nothing_fits}
+use Rattle.s3_level.proofs.job.OpenJob.read_card.Goals as goal
+
+pub resume-requires : goal.resume-requires
+resume-requires c = card_fits c.args.self.now.cycle c.in-Some.card c.requires (search rules)
+
+pub resume-requires-in-None : goal.resume-requires-in-None
+resume-requires-in-None c = nothing_fits c.args.self.now.cycle c.requires
+
+pub returns-in-Some-clause-resumes : goal.returns-in-Some-clause-resumes
+unfolding answer_of
+returns-in-Some-clause-resumes c = subst (λ (a : Answer). Resumes c.args.self.now.cycle c.resume.new.self a) (sym (ap card_answer c.in-Some.ensures.1)) c.resume.ensures
+
+pub returns-in-None-clause-resumes : goal.returns-in-None-clause-resumes
+unfolding answer_of
+returns-in-None-clause-resumes c = subst (λ (a : Answer). Resumes c.args.self.now.cycle c.resume-in-None.new.self a) (sym (ap card_answer c.in-None.ensures)) c.resume-in-None.ensures

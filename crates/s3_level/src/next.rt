@@ -1,0 +1,28 @@
+//! What a job at work comes to.
+
+ghost use Rattle.std.specs.Prelude.{◌≡◌};
+ghost use Rattle.s3_level.specs.Inner.Turning.{code_asked};
+
+use s3_cycle::Request;
+use s3_operator::HaltCode;
+
+/// What a job at work comes to, once its request has its answer.
+#[derive(Clone, Copy)]
+pub enum Next {
+    /// The job of this number halts and asks for a reply.
+    Halts(u16, HaltCode),
+    /// A reply has ended it.
+    IsOver,
+    /// It waits for a turn.
+    GoesOn,
+}
+
+/// What a request asks a reply for, if it does.
+pub fn code_asked(request: &Request) -> Option<HaltCode>
+    ensures { result ≡ code_asked request.now }
+{
+    match request {
+        Request::Ask(code) => Some(*code),
+        _ => None,
+    }
+}
