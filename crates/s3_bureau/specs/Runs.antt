@@ -47,17 +47,17 @@ run_alone cards actions = closed (solo (at_start cards) actions)
 unfoldable pub level_texts : List ℕ → List Action → Texts
 level_texts deck actions = texts_of (refusal_of (deck_of deck)) (run_alone (cards_of (deck_of deck)) actions)
 
--- the texts of both levels after these entries; level two isn't served yet, and its deck counts as empty
-abbrev pub entries_texts : List ℕ → List Entry → RunTexts
-entries_texts deck1 entries = record { one = level_texts deck1 (own One entries); two = level_texts [] (own Two entries) }
+-- the texts of both levels after these entries
+abbrev pub entries_texts : (deck1 deck2 : List ℕ) → List Entry → RunTexts
+entries_texts deck1 deck2 entries = record { one = level_texts deck1 (own One entries); two = level_texts deck2 (own Two entries) }
 
-abbrev pub texts_after : List ℕ → Result (List Entry) ℕ → Result RunTexts RunFault
-texts_after deck1 (Ok entries) = Ok (entries_texts deck1 entries)
-texts_after deck1 (Err line) = Err (Script line)
+abbrev pub texts_after : (deck1 deck2 : List ℕ) → Result (List Entry) ℕ → Result RunTexts RunFault
+texts_after deck1 deck2 (Ok entries) = Ok (entries_texts deck1 deck2 entries)
+texts_after deck1 deck2 (Err line) = Err (Script line)
 
 -- the texts of a run over two decks, or the fault of its script
 abbrev pub run_texts : (deck1 deck2 script : List ℕ) → Result RunTexts RunFault
-run_texts deck1 deck2 script = texts_after deck1 (entries_of script)
+run_texts deck1 deck2 script = texts_after deck1 deck2 (entries_of script)
 
 -- what a clause sees of an outcome
 abbrev pub texts_in : LevelTexts → Texts

@@ -32,7 +32,7 @@ pub struct Bureau {
 }
 
 impl Bureau {
-    ghost use Rattle.std.specs.Prelude.{◌≡◌, ◌≢◌, true, false, [], Ok, Err, map, IfOk, OnOk, OnErr};
+    ghost use Rattle.std.specs.Prelude.{◌≡◌, ◌≢◌, true, false, Ok, Err, map, IfOk, OnOk, OnErr};
     ghost use Rattle.s3_cards.specs.Levels.{other};
     ghost use Rattle.s3_cards.specs.declared.levels.LevelId.{LevelId};
     ghost use Rattle.s3_level.specs.declared.action.Did.{Did};
@@ -43,16 +43,15 @@ impl Bureau {
     ghost use Rattle.s3_level.specs.Holds.{Holds, Steps};
     ghost use Rattle.s3_bureau.specs.Held.{HoldsFor, halts_at, is_open, level_of, lines_at};
 
-    /// A bureau with a deck for each level, before its first entry. Level two isn't served yet: for now its deck counts as
-    /// empty.
+    /// A bureau with a deck for each level, before its first entry.
     pub fn open(alloc: Global, deck1: Deck, deck2: Deck) -> Result<Bureau, AllocError>
         ensures one { IfOk result (λ bureau. HoldsFor LevelId.One bureau (at_start deck1)) }
-        ensures two { IfOk result (λ bureau. HoldsFor LevelId.Two bureau (at_start [])) }
+        ensures two { IfOk result (λ bureau. HoldsFor LevelId.Two bureau (at_start deck2)) }
         ensures entries { IfOk result (λ bureau. is_open bureau ≡ true) }
     {
         Ok(Bureau {
             one: Level::new(alloc, LevelId::One, deck1)?,
-            two: Level::new(alloc, LevelId::Two, Deck::empty(alloc))?,
+            two: Level::new(alloc, LevelId::Two, deck2)?,
             phase: Phase::Open,
         })
     }
@@ -153,7 +152,7 @@ impl Bureau {
 }
 
 /// One entry of a level. It is proved once, for either level.
-#[tactic(auto, using(crate::proofs::Memory::turn_that_acts))]
+#[tactic(auto, using(crate::proofs::Memory::turn_that_acts, crate::proofs::Memory::reply_that_acts))]
 fn act(level: &mut Level, action: Action) -> Result<Did, AllocError>
     ensures step { IfOk result (λ did. Steps action did (Holds level.old) (Holds level.new)) }
     ensures memory { OnErr result ((w : World) → Holds level.old w → (step_of w action).did ≡ Did.Acted) }

@@ -26,8 +26,7 @@ use std::alloc::{AllocError, Global};
 /// A script with an ill-formed line is refused before anything else. A deck that can't be read counts as empty, and its
 /// level's halt text begins with its fault, as of job 000.
 ///
-/// Level two isn't served yet: for now its deck isn't read and counts as empty, whatever it is. Nor is a pack read yet: its
-/// bytes are handed back as they came, in a copy.
+/// A pack isn't read yet: its bytes are handed back as they came, in a copy.
 pub fn run(
     alloc: Global,
     pack: &[u8],
@@ -38,7 +37,7 @@ pub fn run(
     ensures { Runs pack.now deck1.now deck2.now script.now result }
 {
     let commands = read_script(alloc, script)?;
-    Ok(outcome(alloc, pack, deck1, commands.as_slice())?)
+    Ok(outcome(alloc, pack, deck1, deck2, commands.as_slice())?)
 }
 
 /// The texts of both levels after the entries of all commands, and the pack.
@@ -46,33 +45,36 @@ fn outcome(
     alloc: Global,
     pack: &[u8],
     deck1: &[u8],
+    deck2: &[u8],
     commands: &[Command],
 ) -> Result<Outcome, AllocError>
-    ensures texts { IfOk result (λ outcome. outcome_texts outcome ≡ entries_texts deck1.now (flat_map entries_by commands.now)) }
+    ensures texts { IfOk result (λ outcome. outcome_texts outcome ≡ entries_texts deck1.now deck2.now (flat_map entries_by commands.now)) }
     ensures pack { IfOk result (λ outcome. outcome.pack.items ≡ pack.now) }
 {
-    let (cards, refusal) = read_deck(alloc, deck1)?;
-    let mut bureau = Bureau::open(alloc, cards, Deck::empty(alloc))?;
-    served(alloc, &mut bureau, pack, commands, refusal)
+    let (cards1, refusal1) = read_deck(alloc, deck1)?;
+    let (cards2, refusal2) = read_deck(alloc, deck2)?;
+    let mut bureau = Bureau::open(alloc, cards1, cards2)?;
+    served(alloc, &mut bureau, pack, commands, refusal1, refusal2)
 }
 
-/// The texts of both levels after the entries of all commands, and the pack, where the deck of level one was refused or not.
+/// The texts of both levels after the entries of all commands, and the pack, where each level's deck was refused or not.
 fn served(
     alloc: Global,
     bureau: &mut Bureau,
     pack: &[u8],
     commands: &[Command],
-    refusal: Option<(u16, u8)>,
+    refusal1: Option<(u16, u8)>,
+    refusal2: Option<(u16, u8)>,
 ) -> Result<Outcome, AllocError>
     requires { is_open bureau.old ≡ true }
-    ensures texts { IfOk result (λ outcome. HasTexts refusal (flat_map entries_by commands.now) (held_by bureau.old) (outcome_texts outcome)) }
+    ensures texts { IfOk result (λ outcome. HasTexts refusal1 refusal2 (flat_map entries_by commands.now) (held_by bureau.old) (outcome_texts outcome)) }
     ensures pack { IfOk result (λ outcome. outcome.pack.items ≡ pack.now) }
 {
     perform(bureau, commands)?;
     finish(bureau)?;
     Ok(Outcome {
-        one: level_texts(alloc, bureau, LevelId::One, refusal)?,
-        two: level_texts(alloc, bureau, LevelId::Two, None)?,
+        one: level_texts(alloc, bureau, LevelId::One, refusal1)?,
+        two: level_texts(alloc, bureau, LevelId::Two, refusal2)?,
         pack: Vec::from_slice(alloc, pack)?,
     })
 }

@@ -1,6 +1,6 @@
 -- What is known in the middle of a run. These words serve the contracts of private functions alone: what a run gives is
 -- said in Runs.
-use Rattle.std.specs.Prelude.{◌≡◌, ◌<◌, ℕ, List, Option, None, slice_index}
+use Rattle.std.specs.Prelude.{◌≡◌, ◌<◌, ℕ, List, Option, slice_index}
 use Rattle.s3_cards.specs.declared.levels.LevelId.{LevelId}
 use Rattle.s3_cards.specs.declared.levels.LevelId.TheVariants.{One, Two}
 use Rattle.s3_cards.specs.Deck.{deck_of}
@@ -26,9 +26,9 @@ abbrev pub drained_texts : Option (ℕ × ℕ) → World → Texts
 drained_texts refusal w = record { report = report_of (drained_lines w.lines); halts = halt_text_of refusal w.halts }
 
 -- these are the texts of each world that was held for a level, after that level's own entries and once it is closed
-pub record HasTexts (refusal : Option (ℕ × ℕ)) (entries : List Entry) (held : LevelId → World → Type 0) (texts : RunTexts) : Type 0 where
-  pub one : (w : World) → held One w → texts.one ≡ drained_texts refusal (closed (solo w (own One entries)))
-  pub two : (w : World) → held Two w → texts.two ≡ drained_texts None (closed (solo w (own Two entries)))
+pub record HasTexts (refusal1 refusal2 : Option (ℕ × ℕ)) (entries : List Entry) (held : LevelId → World → Type 0) (texts : RunTexts) : Type 0 where
+  pub one : (w : World) → held One w → texts.one ≡ drained_texts refusal1 (closed (solo w (own One entries)))
+  pub two : (w : World) → held Two w → texts.two ≡ drained_texts refusal2 (closed (solo w (own Two entries)))
 
 -- the table has the byte that shows each code
 abbrev pub ShowsCodes : List ℕ → Type 0
