@@ -1,10 +1,17 @@
 pub mod Blanks
 pub mod Changes
 pub mod Copies
+pub mod Headers
 pub mod Makes
 pub mod Migrated
+pub mod MigratedPacks
 pub mod Mounts
+pub mod Moved
+pub mod NewFiles
+pub mod NewPacks
+pub mod NewSlots
 pub mod Outcomes
 pub mod Parts
 pub mod Regions
+pub mod Sectors
 pub mod Ways

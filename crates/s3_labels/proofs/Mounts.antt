@@ -18,7 +18,7 @@ abbrev pub tested : Bool → Bool → Bool → Header → Result Header MountFau
 tested quotas regions few header =
     if not quotas then Err BadHeader else (if not regions then Err BadRegions else (if few then Err Short else Ok header))
 
-tested_same : (q r f : Bool) (header other : Header) → tested q r f header ≡ Ok other → header ≡ other
+pub tested_same : (q r f : Bool) (header other : Header) → tested q r f header ≡ Ok other → header ≡ other
 tested_same false r f header other h = absurd cc
 tested_same true false f header other h = absurd cc
 tested_same true true true header other h = absurd cc

@@ -101,7 +101,7 @@ take_length (suc n) [] [] h = absurd (omega (arith, h))
 take_length (suc n) [] (y ∷ ys) h = let e = take_length n [] ys (omega (arith, h)) in omega (arith, e)
 take_length (suc n) (x ∷ xs) ys h = let e = take_length n xs ys (omega (arith, h)) in omega (arith, e)
 
-sector_length : (contents : List (List ℕ)) (n : ℕ) → length (sector_bytes contents n) ≡ 256
+pub sector_length : (contents : List (List ℕ)) (n : ℕ) → length (sector_bytes contents n) ≡ 256
 unfolding sector_bytes
 sector_length contents n = take_length 256 (unwrap_or (slice_get contents n) []) (replicate 256 0) (omega arith)
 

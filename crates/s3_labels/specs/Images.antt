@@ -15,6 +15,7 @@ use Rattle.s3_slots.specs.declared.header.MountFault.{MountFault}
 use Rattle.s3_slots.specs.declared.label.FileLabel.{FileLabel}
 use Rattle.s3_slots.specs.declared.slot.Slot.{Slot}
 use Rattle.s3_slots.specs.declared.slot.Slot.TheVariants.{Damaged, Free, Sound}
+use Rattle.s3_labels.specs.Areas.{Areas}
 use Rattle.s3_labels.specs.declared.fault.ImageFault.{ImageFault}
 use Rattle.s3_labels.specs.declared.fault.ImageFault.TheVariants.{Mount, TooLarge, NoMemory, BadQuota}
 use Rattle.s3_labels.specs.declared.fault.MigrateFault.{MigrateFault}
@@ -37,6 +38,10 @@ regions_of masters level_one level_two quota_one quota_two =
       quota_one = quota_one;
       quota_two = quota_two;
     }
+
+-- the same where the masters' region is as large as the level 1 of a pack with this header
+abbrev pub regions_from : Header → (level_one level_two quota_one quota_two : ℕ) → Header
+regions_from old level_one level_two quota_one quota_two = regions_of (old.level_one.sectors / 24) level_one level_two quota_one quota_two
 
 -- the regions and quotas, if there is room for so many tracks
 abbrev pub new_header : (masters level_one level_two quota_one quota_two : ℕ) → Result Header ImageFault
@@ -82,6 +87,20 @@ abbrev pub master_bytes : Stretch → Slot → List ℕ
 master_bytes region (Sound label) = label_bytes (moved_label region label)
 master_bytes region Free = []
 master_bytes region (Damaged name) = []
+
+-- the slot that it has there
+abbrev pub master_slot : Stretch → Slot → List Slot
+master_slot region (Sound label) = Sound (moved_label region label) ∷ []
+master_slot region Free = []
+master_slot region (Damaged name) = []
+
+-- 32 slots of an area: these, and free ones behind
+abbrev pub with_free : List Slot → List Slot
+with_free slots = slots ++ replicate (32 - length slots) Free
+
+-- the areas of a new pack with these masters
+abbrev pub new_areas : Header → List Slot → Areas
+new_areas header masters = record { header = header; masters = with_free masters; level_one = with_free []; level_two = with_free [] }
 
 -- the sound files of level 1 in slot order, and a copy of its region
 unfoldable pub masters_from : Header → List (List ℕ) → Masters
@@ -129,6 +148,10 @@ migrated_byte at byte =
 abbrev pub migrated_bytes : ℕ → List ℕ → List ℕ
 migrated_bytes at [] = []
 migrated_bytes at (byte ∷ bytes) = migrated_byte at byte ∷ migrated_bytes (at + 1) bytes
+
+-- its header, with 64 lines a level
+abbrev pub in_second : Header → Header
+in_second header = record header { format = Second; quota_one = 64; quota_two = 64 }
 
 abbrev pub migrated_from : List ℕ → Format → Result (List ℕ) MigrateFault
 migrated_from bytes First = Ok (migrated_bytes 0 bytes)

@@ -1,9 +1,17 @@
-//! Worked rows of new packs and migrated ones.
-ghost use Rattle.std.specs.Prelude.{ℕ, ◌≡◌, ◌≤◌, [], ◌∷◌, Ok, Err};
+//! Laws and worked rows of new packs and migrated ones.
+ghost use Rattle.std.specs.Prelude.{ℕ, List, ◌≡◌, ◌≤◌, ◌/◌, [], ◌∷◌, slice_get, Some, None, Ok, Err};
+ghost use Rattle.std.specs.List.{flat_map};
 ghost use Rattle.s3_slots.specs.Samples.{ten_bytes, extents_under, named};
+ghost use Rattle.s3_slots.specs.Header.{mounted};
+ghost use Rattle.s3_slots.specs.Labels.{file_bytes};
 ghost use Rattle.s3_slots.specs.Slots.{slots_of, standing};
+ghost use Rattle.s3_slots.specs.declared.header.Header.{Header};
+ghost use Rattle.s3_slots.specs.declared.label.FileLabel.{FileLabel};
+ghost use Rattle.s3_slots.specs.declared.slot.Slot.TheVariants.{Sound};
+ghost use Rattle.s3_slots.specs.declared.slot.Standing.TheVariants.{Present};
 ghost use Rattle.s3_slots.specs.declared.header.Format.TheVariants.{First, Second};
-ghost use Rattle.s3_labels.specs.Images.{header_bytes, migrated_byte, migrated_bytes, new_header, regions_of};
+ghost use Rattle.s3_labels.specs.Areas.{areas_on, slots_in};
+ghost use Rattle.s3_labels.specs.Images.{contents_of, header_bytes, image_bytes, in_second, master_slot, migrated, migrated_byte, migrated_bytes, moved_label, new_areas, new_header, regions_from, regions_of};
 ghost use Rattle.s3_labels.specs.Samples.{bytes_of, first_sectors, labels_in, second_track};
 ghost use Rattle.s3_labels.specs.declared.fault.ImageFault.TheVariants.{BadQuota, TooLarge};
 
@@ -25,4 +33,27 @@ pub fn files_stay_where_a_pack_is_migrated()
     ensures format { migrated_byte 7 0x31 ≡ 0x32 }
     ensures slot { slots_of Second second_track 1 (labels_in (migrated_bytes 0 (bytes_of first_sectors))) ≡ slots_of First second_track 1 first_sectors }
     ensures sound { extents_under (standing (named 0xc1) (slots_of First second_track 1 first_sectors)) ≡ second_track ∷ [] }
+{}
+
+/// A mount of a migrated pack finds the same regions with 64 lines a level, and each slot as it was; the bytes of each
+/// file are the same.
+pub fn a_migrated_pack_keeps_its_files()
+    ensures header { (old new : List ℕ) (header : Header) → mounted (contents_of old) ≡ Ok header → migrated old ≡ Ok new → mounted (contents_of new) ≡ Ok (in_second header) }
+    ensures slots { (old new : List ℕ) (header : Header) → mounted (contents_of old) ≡ Ok header → migrated old ≡ Ok new → areas_on (in_second header) (contents_of new) ≡ record (areas_on header (contents_of old)) { header = in_second header } }
+    ensures files { (old new : List ℕ) (header : Header) (area i : ℕ) (label : FileLabel) → mounted (contents_of old) ≡ Ok header → migrated old ≡ Ok new → slice_get (slots_in area (areas_on header (contents_of old))) i ≡ Some (Sound label) → file_bytes label (contents_of new) ≡ file_bytes label (contents_of old) }
+{}
+
+/// A mount of a new pack finds its regions, and all slots free.
+pub fn a_new_pack_is_empty()
+    ensures header { (new : List ℕ) (masters level_one level_two quota_one quota_two : ℕ) → image_bytes None masters level_one level_two quota_one quota_two ≡ Ok new → mounted (contents_of new) ≡ Ok (regions_of masters level_one level_two quota_one quota_two) }
+    ensures slots { (new : List ℕ) (masters level_one level_two quota_one quota_two : ℕ) → image_bytes None masters level_one level_two quota_one quota_two ≡ Ok new → areas_on (regions_of masters level_one level_two quota_one quota_two) (contents_of new) ≡ new_areas (regions_of masters level_one level_two quota_one quota_two) [] }
+{}
+
+/// A mount of a new pack from an old one finds as masters the sound files of that one's level 1, in slot order and with the
+/// same bytes, and the slots of both levels free.
+pub fn a_new_pack_has_an_old_ones_files()
+    ensures header { (old new : List ℕ) (from : Header) (masters level_one level_two quota_one quota_two : ℕ) → mounted (contents_of old) ≡ Ok from → image_bytes (Some old) masters level_one level_two quota_one quota_two ≡ Ok new → mounted (contents_of new) ≡ Ok (regions_from from level_one level_two quota_one quota_two) }
+    ensures slots { (old new : List ℕ) (from : Header) (masters level_one level_two quota_one quota_two : ℕ) → mounted (contents_of old) ≡ Ok from → image_bytes (Some old) masters level_one level_two quota_one quota_two ≡ Ok new → areas_on (regions_from from level_one level_two quota_one quota_two) (contents_of new) ≡ new_areas (regions_from from level_one level_two quota_one quota_two) (flat_map (master_slot from.level_one) (areas_on from (contents_of old)).level_one) }
+    ensures masters { (old new : List ℕ) (from : Header) (masters level_one level_two quota_one quota_two i : ℕ) (label : FileLabel) → mounted (contents_of old) ≡ Ok from → image_bytes (Some old) masters level_one level_two quota_one quota_two ≡ Ok new → slice_get (areas_on from (contents_of old)).level_one i ≡ Some (Sound label) → standing label.name (areas_on (regions_from from level_one level_two quota_one quota_two) (contents_of new)).masters ≡ Present (moved_label from.level_one label) }
+    ensures files { (old new : List ℕ) (from : Header) (masters level_one level_two quota_one quota_two i : ℕ) (label : FileLabel) → mounted (contents_of old) ≡ Ok from → image_bytes (Some old) masters level_one level_two quota_one quota_two ≡ Ok new → slice_get (areas_on from (contents_of old)).level_one i ≡ Some (Sound label) → file_bytes (moved_label from.level_one label) (contents_of new) ≡ file_bytes label (contents_of old) }
 {}
