@@ -1,0 +1,95 @@
+"""The printer, editing and numbers on cards, for the programs that make the outputs wanted of the samples."""
+
+import sys
+from decimal import ROUND_HALF_UP, Decimal
+
+PAGE_LINES = 66
+OVERFLOW_LINE = 60
+MINUS = "}JKLMNOPQR"
+EDITED = {code: (commas, zero, sign) for codes, commas, zero in (("1AJ", True, True), ("2BK", True, False), ("3CL", False, True), ("4DM", False, False))
+          for code, sign in zip(codes, ("", "CR", "-"))}
+
+
+class Printer:
+    """Lines with their pages and places on them, from page 1 line 1. `overflow` comes on where line 60 is printed or passed."""
+
+    def __init__(self):
+        self.page, self.line, self.overflow = 1, 1, False
+        self.report = []
+
+    def space(self, lines):
+        before = self.line
+        self.line += lines
+        if self.line > PAGE_LINES:
+            self.line -= PAGE_LINES
+            self.page = (self.page + 1) % 10000
+        elif before <= OVERFLOW_LINE < self.line:
+            self.overflow = True
+
+    def skip(self, line):
+        if line >= self.line:
+            self.space(line - self.line)
+        else:
+            self.page, self.line = (self.page + 1) % 10000, line
+
+    def put(self, *pieces, skip=None, before=0, after=0):
+        """Prints pieces, each a text and the column in which it ends; a later one lies over an earlier one."""
+        columns = [" "] * 132
+        for text, end in pieces:
+            columns[end - len(text):end] = text
+        if skip:
+            self.skip(skip)
+        self.space(before)
+        self.overflow = self.overflow or self.line == OVERFLOW_LINE
+        self.report.append("%04d %02d %s" % (self.page, self.line, "".join(columns).rstrip(" ")))
+        self.space(after)
+
+
+def grouped(whole):
+    """Digits with a comma before each three from the right."""
+    return whole if len(whole) <= 3 else grouped(whole[:-3]) + "," + whole[-3:]
+
+
+def edited(number, digits, decimals, code):
+    """A number of so many digits and decimals under an edit code."""
+    units = int(number.scaleb(decimals))
+    plain = "%0*d" % (digits, abs(units))
+    if code == "Z":
+        return (str(units) if units else "").rjust(digits)
+    if code == "Y":
+        return (" " if plain[0] == "0" else plain[0]) + plain[1:2] + "/" + plain[2:4] + "/" + plain[4:6]
+    commas, shows_zero, sign = EDITED[code]
+    whole = plain[:digits - decimals]
+    width = len(grouped(whole) if commas else whole)
+    shown = whole.lstrip("0")
+    text = (grouped(shown) if commas else shown).rjust(width) + ("." + plain[digits - decimals:] if decimals else "")
+    if units == 0 and not shows_zero:
+        text = " " * len(text)
+    elif units == 0 and decimals == 0:
+        text = text[:-1] + "0"
+    return text + (sign if units < 0 else " " * len(sign))
+
+
+def punched(columns, decimals):
+    """The number of columns of a card."""
+    minus = columns[-1] in MINUS
+    last = str(MINUS.index(columns[-1])) if minus else columns[-1]
+    return Decimal((columns[:-1] + last).replace(" ", "0")).scaleb(-decimals) * (-1 if minus else 1)
+
+
+def half_adjusted(number, decimals):
+    return number.quantize(Decimal(1).scaleb(-decimals), ROUND_HALF_UP)
+
+
+def last_job(text):
+    """The data cards of the last job of level 1, and the date that is set for it."""
+    deck = text.split(":deck2\n")[0].splitlines()
+    start = max(place for place, card in enumerate(deck) if card.startswith("// LOAD"))
+    run = deck.index("// RUN", start)
+    dates = [card[8:].replace("/", "") for card in deck[:run] if card.startswith("// DATE ")]
+    return deck[run + 1:deck.index("/*", run)], Decimal(dates[-1])
+
+
+def show(report, halts):
+    """The whole output of a session whose level 2 has no cards."""
+    sys.stdout.write("".join(line + "\n" for line in [":report1"] + report + [":halts1"] + halts + [":report2", ":halts2"]))
