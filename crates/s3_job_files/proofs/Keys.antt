@@ -1,0 +1,60 @@
+-- What a call on a file with keys leaves where it is refused.
+use Rattle.std.proofs.Common.{◌≡◌, Bool, true, false, refl, subst, sym}
+use Rattle.std.specs.Prelude.{List, ℕ, Result, Ok, Err, if◌then◌else◌}
+use Rattle.s3_store.specs.State.{PoolState}
+use Rattle.s3_keyed.specs.declared.fault.KeyedFault.{KeyedFault}
+use Rattle.s3_keyed.specs.declared.fault.KeyedFault.TheVariants.{NoKey, Duplicate, Full, KeyChanged, BadIndex, NotAscending, Pool}
+use Rattle.s3_keyed.specs.Keyed.{KeyedFile, HasKeyOrder, IsUntouched}
+use Rattle.s3_keyed.specs.KeyOrder.{Entry, is_good_index}
+use Rattle.s3_keyed.specs.Calls.{Answers, IsOfSectors, OnRefusal, index_answer}
+use Rattle.s3_job_files.specs.Inner.Refusals.{pool_refusal}
+
+plainly : (T P : Type 0) (fault : KeyedFault) → pool_refusal fault ≡ Ok tt → OnRefusal {T = T} (Err fault) P → P
+plainly T P NoKey plain p = p
+plainly T P Duplicate plain p = p
+plainly T P Full plain p = p
+plainly T P KeyChanged plain p = p
+plainly T P BadIndex plain p = p
+plainly T P NotAscending plain p = p
+plainly T P (Pool fault) plain p = absurd cc
+
+pub order_left : (old new : KeyedFile) (s t : PoolState) (fault : KeyedFault) → pool_refusal fault ≡ Ok tt → OnRefusal {T = Unit {0}} (Err fault) (IsUntouched old new s t)
+    → HasKeyOrder old s.contents → HasKeyOrder new t.contents
+order_left old new s t fault plain left order =
+    let untouched : IsUntouched old new s t = plainly (Unit {0}) (IsUntouched old new s t) fault plain left in
+    subst (λ (f : KeyedFile). HasKeyOrder f t.contents) (sym untouched.file)
+    (subst (λ (c : List (List ℕ)). HasKeyOrder old c) (sym untouched.sectors.contents) order)
+
+-- a refusal of the sectors is passed on
+pub not_of_sectors : (fault : KeyedFault) → IsOfSectors fault → pool_refusal fault ≡ Ok tt → ⊥
+not_of_sectors NoKey of plain = of
+not_of_sectors Duplicate of plain = of
+not_of_sectors Full of plain = of
+not_of_sectors KeyChanged of plain = of
+not_of_sectors BadIndex of plain = of
+not_of_sectors NotAscending of plain = of
+not_of_sectors (Pool fault) of plain = cc
+
+-- ---- an index that is checked
+pub is_good : (entries : List Entry) (keys : List ℕ) → index_answer entries keys ≡ Ok tt → is_good_index entries keys ≡ true
+is_good entries keys ok = by (is_good_index entries keys) ok
+  where
+    by : (b : Bool) → (let answer : Result (Unit {0}) KeyedFault = if b then Ok tt else Err BadIndex in answer) ≡ Ok tt → b ≡ true
+    by true e = refl
+    by false e = absurd cc
+
+pub is_not_good : (entries : List Entry) (keys : List ℕ) (fault : KeyedFault) → pool_refusal fault ≡ Ok tt → Answers (index_answer entries keys) (Err fault) → is_good_index entries keys ≡ false
+is_not_good entries keys fault plain refused = by (is_good_index entries keys) (refuses fault plain refused)
+  where
+    refuses : (f : KeyedFault) → pool_refusal f ≡ Ok tt → Answers (index_answer entries keys) (Err f) → index_answer entries keys ≡ Err f
+    refuses NoKey p r = r
+    refuses Duplicate p r = r
+    refuses Full p r = r
+    refuses KeyChanged p r = r
+    refuses BadIndex p r = r
+    refuses NotAscending p r = r
+    refuses (Pool pool) p r = absurd cc
+
+    by : (b : Bool) → (let answer : Result (Unit {0}) KeyedFault = if b then Ok tt else Err BadIndex in answer) ≡ Err fault → b ≡ false
+    by true e = absurd cc
+    by false e = refl

@@ -1,0 +1,17 @@
+pub mod Plain
+pub mod Keys
+pub mod OneFile
+pub mod Lists
+pub mod Standings
+pub mod Frames
+pub mod Held
+pub mod Reading
+pub mod Putting
+pub mod Slots
+pub mod Labels
+pub mod Closed
+pub mod Fitting
+pub mod Opened
+pub mod Checked
+pub mod Staying
+pub mod Starting

@@ -1,0 +1,5 @@
+use Rattle.s3_job_files.proofs.OneFile.{by_key_stored}
+use Rattle.s3_job_files.proofs.file.OpenFile.place_read.Goals as goal
+
+pub nth-requires-clause-stored : goal.nth-requires-clause-stored
+nth-requires-clause-stored g c = by_key_stored _ c.args.self.now.label c.args.self.now.records c.in-ByKey.file c.requires.usable c.in-ByKey.is

@@ -1,0 +1,47 @@
+use Rattle.std.proofs.Common.{refl}
+use Rattle.std.proofs.lemmas.Option.{slice_get_read}
+use Rattle.std.specs.Prelude.{option_map}
+use Rattle.s3_job_files.specs.Records.{place_current, updated}
+use Rattle.s3_job_files.specs.Holds.{current_of, records_of}
+use Rattle.s3_meaning.specs.Requests.{refuses_update}
+use Rattle.s3_job_files.proofs.Fitting.{updated_within, fits_puts}
+use Rattle.s3_job_files.proofs.Held.{usable_at}
+use Rattle.s3_job_files.proofs.Putting.{file_spares, own_sound, update_ready_if, update_serves}
+use Rattle.s3_job_files.proofs.job_files.JobFiles.update.Goals as goal
+
+pub update-requires : goal.update-requires
+update-requires g c = record {
+  usable = usable_at c.args.self.now.level c.args.self.now.files.items _ c.args.place c.index.result.now c.requires.ready
+      (slice_get_read _ _ c.args.place c.index.result.now refl c.requires.there c.index.ensures);
+}
+
+pub returns-clause-serves : goal.returns-clause-serves
+returns-clause-serves g c =
+    update_serves c.args.self.now.level c.args.self.now.files.items c.args.pack.now.areas _ _ c.args.place c.index.result.now
+    (λ at. updated at.label c.args.changes.now (place_current at.label at.records at.file.chained (option_map current_of c.args.current)) at.records) c.update.result
+    c.requires.ready (slice_get_read _ _ c.args.place c.index.result.now refl c.requires.there c.index.ensures)
+    (c.requires.own c.index.result.now (slice_get_read _ _ c.args.place c.index.result.now refl c.requires.there c.index.ensures))
+    c.update.ensures.within c.update.ensures.puts
+
+pub returns-clause-ready : goal.returns-clause-ready
+returns-clause-ready g c =
+    update_ready_if c.args.self.now.level c.args.self.now.files.items c.args.pack.now.areas _ _ c.args.place c.index.result.now c.update.result
+    c.requires.ready (slice_get_read _ _ c.args.place c.index.result.now refl c.requires.there c.index.ensures)
+    (c.requires.own c.index.result.now (slice_get_read _ _ c.args.place c.index.result.now refl c.requires.there c.index.ensures))
+    c.update.ensures.within c.update.ensures.of_label
+
+pub returns-clause-spares : goal.returns-clause-spares
+returns-clause-spares g c =
+    file_spares c.args.self.now.level c.args.pack.now.areas _ _ c.index.result.now.label c.requires.ready.pack
+    (own_sound c.args.self.now.level _ c.index.result.now
+    (c.requires.ready.files.stands c.args.place c.index.result.now (slice_get_read _ _ c.args.place c.index.result.now refl c.requires.there c.index.ensures))
+    (c.requires.own c.index.result.now (slice_get_read _ _ c.args.place c.index.result.now refl c.requires.there c.index.ensures)))
+    c.update.ensures.within
+
+pub returns-clause-fits : goal.returns-clause-fits
+returns-clause-fits g c =
+    fits_puts refuses_update _ (records_of c.index.result.now.records (g.P.Sectors.state c.args.pack.now.pool).contents) (records_of c.index.result.now.records (g.P.Sectors.state c.update.new.pool).contents) c.update.result
+    (updated_within c.index.result.now.label c.args.changes.now
+    (place_current c.index.result.now.label (records_of c.index.result.now.records (g.P.Sectors.state c.args.pack.now.pool).contents) c.index.result.now.chained (option_map current_of c.args.current))
+    (records_of c.index.result.now.records (g.P.Sectors.state c.args.pack.now.pool).contents))
+    c.update.ensures.puts

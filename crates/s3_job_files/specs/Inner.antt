@@ -1,0 +1,2 @@
+-- Words of inner functions and of proofs: none of them says what the product means.
+pub mod Refusals

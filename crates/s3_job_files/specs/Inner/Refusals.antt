@@ -1,0 +1,26 @@
+-- What calls on files and labels are refused for, passed on; and a file that has grown.
+use Rattle.std.specs.Prelude.{◌≡◌, ◌≤◌, Result, Ok, Err}
+use Rattle.s3_store.specs.declared.pool_fault.PoolFault.{PoolFault}
+use Rattle.s3_labels.specs.declared.fault.ChangeFault.{ChangeFault}
+use Rattle.s3_labels.specs.declared.fault.ChangeFault.TheVariants.{Label, Sectors}
+use Rattle.s3_files.specs.Files.{FileShape}
+use Rattle.s3_keyed.specs.declared.fault.KeyedFault.{KeyedFault}
+use Rattle.s3_keyed.specs.declared.fault.KeyedFault.TheVariants.{Pool}
+
+-- it is the same file, with as many records or more
+pub record IsGrown (old new : FileShape) : Type 0 where
+  pub sectors : new.sectors ≡ old.sectors
+  pub record_length : new.record_length ≡ old.record_length
+  pub capacity : new.capacity ≡ old.capacity
+  pub more : old.count ≤ new.count
+
+-- a refusal of the sectors is passed on
+abbrev pub pool_refusal : KeyedFault → Result (Unit {0}) PoolFault
+pool_refusal (Pool fault) = Err fault
+pool_refusal _ = Ok tt
+
+-- a change of a label that is there is refused by the sectors alone
+abbrev pub sectors_answer : Result (Unit {0}) ChangeFault → Result (Unit {0}) PoolFault
+sectors_answer (Ok done) = Ok done
+sectors_answer (Err (Sectors fault)) = Err fault
+sectors_answer (Err (Label fault)) = Ok tt

@@ -1,0 +1,9 @@
+pub mod Kept
+pub mod Files
+pub mod Records
+pub mod Requests
+pub mod Closing
+pub mod Samples
+pub mod Holds
+pub mod Calls
+pub mod Inner
