@@ -5,7 +5,7 @@ ghost use Rattle.s3_decimal.specs.declared.rounding.Rounding.TheVariants.{Trunca
 
 use crate::number::{Dec, Form};
 use crate::rounding::Rounding;
-use crate::scale::{kept, magnitude_at, store, whole_units, wide_with_sign};
+use crate::scale::{kept, left_over, magnitude_at, store, whole_units, wide_with_sign};
 use thiserror::Error;
 
 /// The divisor is zero.
@@ -54,7 +54,7 @@ pub fn div_mvr(
     let unit = magnitude_at(divisor, dividend.decimals);
     let count = whole_units(parts, unit, rounding);
     let negative = dividend.is_negative() != divisor.is_negative();
-    let left = wide_with_sign(dividend.is_negative(), parts % unit);
+    let left = wide_with_sign(dividend.is_negative(), left_over(parts, unit));
     let decimals = dividend.decimals + divisor.decimals + quotient.decimals;
     Ok(Division {
         quotient: kept(negative, count, quotient),

@@ -5,7 +5,7 @@ ghost use Rattle.s3_decimal.specs.Records.{moved_number, zoned_bytes};
 
 use crate::digits::MINUS;
 use crate::number::Dec;
-use crate::scale::{power_of_ten, with_sign};
+use crate::scale::{short_power_of_ten, with_sign};
 use crate::zoned::digits_of;
 
 /// `target` with its `places` low digits replaced, and with this sign.
@@ -17,7 +17,7 @@ fn replaced(target: Dec, places: u8, negative: bool, low: u64) -> Dec
     ensures digits { result.digits ≡ target.digits }
     ensures decimals { result.decimals ≡ target.decimals }
 {
-    let unit = power_of_ten(places) as u64;
+    let unit = short_power_of_ten(places);
     let high = target.value.unsigned_abs() / unit * unit;
     Dec {
         value: with_sign(negative, high + low),
@@ -36,7 +36,7 @@ pub fn move_to(source: Dec, target: Dec) -> Dec
     ensures decimals { result.decimals ≡ target.decimals }
 {
     let places = source.digits.min(target.digits);
-    let low = source.value.unsigned_abs() % power_of_ten(places) as u64;
+    let low = source.value.unsigned_abs() % short_power_of_ten(places);
     replaced(target, places, source.is_negative(), low)
 }
 

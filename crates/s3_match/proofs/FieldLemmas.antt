@@ -43,7 +43,7 @@ group_ends indicator key level inputs from k d begins within before e is =
     sym (field_here indicator key level inputs from k d within before
     ∙ ap (λ (b : Bool). if b then None else option_or (field_on indicator key level (get_or inputs k d)) (first_field indicator key level (drop (k + 1) inputs))) (sym e ∙ is))
 
-no_end : (indicator : Indicator) (key : Key) (level : Option ℕ) (inputs : List (InputLine Reference)) (from k : ℕ) (d : InputLine Reference) (begins : Bool) (field : Option (FieldLine Reference)) → k < length inputs
+pub no_end : (indicator : Indicator) (key : Key) (level : Option ℕ) (inputs : List (InputLine Reference)) (from k : ℕ) (d : InputLine Reference) (begins : Bool) (field : Option (FieldLine Reference)) → k < length inputs
     → first_field indicator key level (drop from inputs) ≡ first_field indicator key level (drop k inputs)
     → begins ≡ begins_group (get_or inputs k d) → begins ≡ false → field ≡ field_on indicator key level (get_or inputs k d)
     → first_field indicator key level (drop from inputs) ≡ option_or field (first_field indicator key level (drop (k + 1) inputs))

@@ -15,7 +15,7 @@ use Rattle.s3_lines.specs.declared.sheet.InputLine.TheVariants.{Record, And as A
 use Rattle.s3_lines.specs.Ranges.{is_between, if_given, field_in_range}
 use Rattle.s3_meaning.specs.RecordTypes.{RecordType, group_fields, types_from}
 use Rattle.s3_meaning.specs.Source.{own_fields, has_control_fields, has_levels}
-use Rattle.s3_meaning.specs.Selection.{compared_field, control_field, control_value}
+use Rattle.s3_meaning.specs.Selection.{compared_field, control_value}
 use Rattle.s3_program.specs.declared.mark.Key.TheVariants as key
 use Rattle.s3_program.specs.declared.program.Program.{Program}
 use Rattle.s3_program.specs.declared.program.Reference.{Reference}
@@ -32,11 +32,7 @@ use Rattle.s3_match.specs.Inner.Holding.{AreHeldTo}
 use Rattle.s3_match.proofs.FieldLemmas.{field_is, field_ranged}
 use Rattle.s3_match.proofs.KeyLemmas.{control_is, level_any, any_found, is_some_map}
 
--- ---- whether a level is named
-pub level_named : (program : Program) (start : TypeStart) (n : ℕ) (field : Option (FieldLine Reference)) (found : Bool) → found ≡ is_some field
-    → option_map (named_field program) field ≡ field_at program start key.Control (Some n) → found ≡ is_some (control_field (kind_at program start) n)
-level_named program start n field found is e = is ∙ sym (is_some_map (named_field program) field) ∙ ap is_some (e ∙ control_is program start n)
-
+-- ---- whether some level is named
 pub any_named : (program : Program) (start : TypeStart) (field : Option (FieldLine Reference)) (found : Bool) → found ≡ is_some field
     → option_map (named_field program) field ≡ field_at program start key.Control None → found ≡ has_control_fields (kind_at program start)
 any_named program start field found is e =

@@ -6,7 +6,7 @@ use Rattle.std.proofs.lemmas.List.{at_drop_more}
 use Rattle.s3_cards.specs.declared.name.Name.{Name}
 use Rattle.s3_lines.specs.declared.sheet.FieldLine.{FieldLine}
 use Rattle.s3_meaning.specs.Source.{own_fields}
-use Rattle.s3_meaning.specs.Selection.{levels, is_at, compared_field, match_field, match_key, control_field, control_value}
+use Rattle.s3_meaning.specs.Selection.{levels, is_at, compared_field, match_field, match_key, control_field}
 use Rattle.s3_program.specs.declared.mark.Key.TheVariants as key
 use Rattle.s3_program.specs.declared.program.Program.{Program}
 use Rattle.s3_program.specs.declared.program.Reference.{Reference}
@@ -109,16 +109,3 @@ pub whole_key : (program : Program) (start : TypeStart) (bytes items : List ℕ)
     → Some items ≡ match_key (kind_at program start) bytes
 whole_key program start bytes items given field e f on same =
     ap Some same ∙ ap (λ (b : Bool). if b then Some (match_values program start bytes levels) else None) (sym on ∙ key_is program start bytes items given field e f)
-
--- ---- a control field
-some_or_none : (o : Option (List ℕ)) → (if is_some o then Some ([] ++ unwrap_or o []) else None) ≡ o
-some_or_none None = refl
-some_or_none (Some x) = refl
-
-pub control_read : (program : Program) (start : TypeStart) (bytes old items : List ℕ) (n : ℕ) (found : Bool)
-    → old ≡ [] → found ≡ is_some (value_at program start key.Control n bytes) → items ≡ old ++ unwrap_or (value_at program start key.Control n bytes) []
-    → (if found then Some items else None) ≡ control_value (kind_at program start) bytes n
-control_read program start bytes old items n found none e more =
-    (λ i. if e i then Some ((more ∙ ap (λ (xs : List ℕ). xs ++ unwrap_or (value_at program start key.Control n bytes) []) none) i) else None)
-    ∙ some_or_none (value_at program start key.Control n bytes)
-    ∙ ap (option_map (compared_field bytes)) (control_is program start n)

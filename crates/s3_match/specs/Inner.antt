@@ -1,3 +1,4 @@
 -- Words of inner functions and of proofs: none of them says what the product means.
+pub mod ControlFields
 pub mod Beginning
 pub mod Holding

@@ -1,18 +1,22 @@
 //! Control breaks: the control field that is held for each level.
 
-ghost use Rattle.std.specs.Prelude.{◌≡◌, ◌≤◌, ◌==◌, ℕ, IsTrue, None, is_some, length, if◌then◌else◌};
+ghost use Rattle.std.specs.Prelude.{◌≡◌, ◌≤◌, ◌==◌, ℕ, IsTrue, IfSome, None, length, option_map, if◌then◌else◌};
 ghost use Rattle.std.specs.Option.{option_or};
 ghost use Rattle.std.specs.List.{list_any};
-ghost use Rattle.s3_meaning.specs.Selection.{control_field, control_value};
+ghost use Rattle.s3_lines.specs.Ranges.{field_in_range};
+ghost use Rattle.s3_meaning.specs.RecordTypes.{RecordType};
+ghost use Rattle.s3_meaning.specs.Selection.{control_value};
 ghost use Rattle.s3_meaning.specs.Source.{has_control_fields as has_control_fields_spec, has_levels as has_levels_spec};
 ghost use Rattle.s3_program.specs.Stands.{source_named};
 ghost use Rattle.s3_program.specs.Starts.{is_type};
 ghost use Rattle.s3_match.specs.Types.{is_type_start, kind_at};
 ghost use Rattle.s3_match.specs.Controls as spec;
+ghost use Rattle.s3_match.specs.Inner.ControlFields.{compared_on};
 
+use crate::control_fields::control_fields;
 use crate::fields::field_at;
 use crate::keys::{LEVELS, RecordKey};
-use s3_lines::sheet::InputLine;
+use s3_lines::sheet::{FieldLine, InputLine};
 use s3_program::mark::Key;
 use s3_program::program::{Program, Reference};
 use s3_program::starts::TypeStart;
@@ -21,21 +25,21 @@ use s3_program::starts::TypeStart;
 fn breaks_at(
     held: &[RecordKey],
     value: &mut RecordKey,
-    program: &Program,
-    start: TypeStart,
     level: u8,
+    field: &Option<FieldLine<Reference>>,
     bytes: &[u8],
 ) -> bool
-    requires starts { IsTrue (is_type_start program.now start) }
     requires nine { length held.now ≡ 9 }
     requires from_one { 1 ≤ level }
     requires to_nine { level ≤ 9 }
-    ensures { result ≡ spec.breaks_at (spec.held_in held.now) (kind_at program.now start) bytes.now level }
+    requires ranged { IfSome field.now (λ field. IsTrue (field_in_range field)) }
+    ensures { (kind : RecordType) → option_map (compared_on bytes.now) field.now ≡ control_value kind bytes.now level
+        → result ≡ spec.breaks_at (spec.held_in held.now) kind bytes.now level }
 {
-    value.read_control(program, start, level, bytes);
-    if !value.is_given {
+    if field.is_none() {
         return false;
     }
+    value.read_field(field, bytes);
     !value.is_same(&held[(level - 1) as usize])
 }
 
@@ -51,22 +55,17 @@ pub fn break_level(
     requires nine { length held.now ≡ 9 }
     ensures { result ≡ spec.break_of (spec.held_in held.now) (kind_at program.now start) bytes.now }
 {
+    if !has_control_fields(program, start) {
+        return 0;
+    }
+    let fields = control_fields(program, start);
     for step in 0..LEVELS {
         let level = LEVELS - step;
-        if breaks_at(held, value, program, start, level, bytes) {
+        if breaks_at(held, value, level, &fields[(level - 1) as usize], bytes) {
             return level;
         }
     }
     0
-}
-
-/// Whether a type names a level.
-#[tactic(auto, using(crate::proofs::HoldLemmas::level_named))]
-fn names_level(program: &Program, start: TypeStart, level: u8) -> bool
-    requires { IsTrue (is_type_start program.now start) }
-    ensures { result ≡ is_some (control_field (kind_at program.now start) level) }
-{
-    field_at(program, start, Key::Control, Some(level)).is_some()
 }
 
 /// Whether a type has control fields.
@@ -126,16 +125,16 @@ pub fn has_levels(program: &Program) -> bool
 }
 
 /// Holds the control field of a level, if the type names it.
-fn hold_level(held: &mut [RecordKey], program: &Program, start: TypeStart, level: u8, bytes: &[u8])
-    requires starts { IsTrue (is_type_start program.now start) }
+fn hold_level(held: &mut [RecordKey], level: u8, field: &Option<FieldLine<Reference>>, bytes: &[u8])
     requires nine { length held.old ≡ 9 }
     requires from_one { 1 ≤ level }
     requires to_nine { level ≤ 9 }
+    requires ranged { IfSome field.now (λ field. IsTrue (field_in_range field)) }
     ensures { (other : ℕ) → spec.held_in held.new other
-        ≡ (if other == level then option_or (control_value (kind_at program.now start) bytes.now level) (spec.held_in held.old level) else spec.held_in held.old other) }
+        ≡ (if other == level then option_or (option_map (compared_on bytes.now) field.now) (spec.held_in held.old level) else spec.held_in held.old other) }
 {
-    if names_level(program, start, level) {
-        held[(level - 1) as usize].read_control(program, start, level, bytes);
+    if field.is_some() {
+        held[(level - 1) as usize].read_field(field, bytes);
     }
 }
 
@@ -146,8 +145,12 @@ fn hold_levels(held: &mut [RecordKey], program: &Program, start: TypeStart, byte
     requires nine { length held.old ≡ 9 }
     ensures { (level : ℕ) → spec.held_in held.new level ≡ option_or (control_value (kind_at program.now start) bytes.now level) (spec.held_in held.old level) }
 {
+    if !has_control_fields(program, start) {
+        return;
+    }
+    let fields = control_fields(program, start);
     for step in 0..LEVELS {
-        hold_level(held, program, start, step + 1, bytes);
+        hold_level(held, step + 1, &fields[step as usize], bytes);
     }
 }
 

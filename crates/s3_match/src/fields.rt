@@ -44,7 +44,7 @@ fn level_of(key: Key, field: &FieldLine<Reference>) -> Option<u8>
 }
 
 /// The field on a line, if the type with that indicator has it at the level.
-fn field_on(
+pub(crate) fn field_on(
     line: &InputLine<Reference>,
     indicator: Indicator,
     key: Key,
@@ -64,7 +64,8 @@ fn field_on(
     }
 }
 
-fn begins_group(line: &InputLine<Reference>) -> bool
+/// Whether the fields above it end at a line.
+pub(crate) fn begins_group(line: &InputLine<Reference>) -> bool
     ensures { result ≡ spec.begins_group line.now }
 {
     match line {

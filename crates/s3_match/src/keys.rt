@@ -1,16 +1,19 @@
 //! Keys: what the match fields of a record compare, and the control field of a level.
 
-ghost use Rattle.std.specs.Prelude.{◌≡◌, ◌+◌, ◌≤◌, ◌++◌, [], None, IsTrue, is_some, unwrap_or};
+ghost use Rattle.std.specs.Prelude.{◌≡◌, ◌+◌, ◌≤◌, ◌++◌, [], None, IsTrue, IfSome, is_some, option_map, unwrap_or};
 ghost use Rattle.arrayvec.specs.ArrayVec.{array_vec_len};
+ghost use Rattle.s3_lines.specs.Ranges.{field_in_range};
 ghost use Rattle.s3_meaning.specs.Selection as meaning;
 ghost use Rattle.s3_match.specs.Types.{is_type_start, kind_at};
 ghost use Rattle.s3_match.specs.Keys as spec;
+ghost use Rattle.s3_match.specs.Inner.ControlFields.{compared_on};
 
 use crate::compared::{KEY_BYTES, field_bytes, is_below, push_compared};
 use crate::fields::field_at;
 use arrayvec::ArrayVec;
+use s3_lines::sheet::FieldLine;
 use s3_program::mark::Key;
-use s3_program::program::Program;
+use s3_program::program::{Program, Reference};
 use s3_program::starts::TypeStart;
 
 /// M1 to M9, and L1 to L9.
@@ -89,13 +92,16 @@ impl RecordKey {
         push_match_fields(&mut self.bytes, program, start, bytes);
     }
 
-    /// Becomes what the control field of a level compares.
-    pub fn read_control(&mut self, program: &Program, start: TypeStart, level: u8, bytes: &[u8])
-        requires { IsTrue (is_type_start program.now start) }
-        ensures { spec.key_in self.new ≡ meaning.control_value (kind_at program.now start) bytes.now level }
+    /// Becomes what a control field compares; no key without one.
+    pub fn read_field(&mut self, field: &Option<FieldLine<Reference>>, bytes: &[u8])
+        requires { IfSome field.now (λ field. IsTrue (field_in_range field)) }
+        ensures { spec.key_in self.new ≡ option_map (compared_on bytes.now) field.now }
     {
         self.bytes.clear();
-        self.is_given = push_field(&mut self.bytes, program, start, Key::Control, level, bytes);
+        self.is_given = field.is_some();
+        if let Some(field) = field {
+            push_compared(&mut self.bytes, field.form, field_bytes(field, bytes));
+        }
     }
 
     /// Becomes the same key.

@@ -3,6 +3,7 @@
 
 pub mod choice;
 mod compared;
+mod control_fields;
 pub mod controls;
 pub mod fields;
 pub mod heads;

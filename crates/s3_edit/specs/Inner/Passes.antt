@@ -1,18 +1,21 @@
 -- What one pass from the right writes at each place, where `rest` is what is left of the number from there on.
-use Rattle.std.specs.Prelude.{ℕ, ◌+◌, ◌-◌, ◌/◌, ◌%◌, Bool, ◌&&◌, ◌==◌, if◌then◌else◌}
+use Rattle.std.specs.Prelude.{ℕ, ◌+◌, ◌-◌, ◌/◌, ◌%◌, ◌^◌, Bool, ◌&&◌, ◌==◌, nat_lt, if◌then◌else◌}
 use Rattle.s3_cards.specs.declared.ebcdic.TheConstants.{BLANK, SLASH}
-use Rattle.s3_decimal.specs.Records.{zone_at, zoned_byte}
+use Rattle.s3_decimal.specs.Records.{digit_at, zone_at, zoned_byte}
 use Rattle.s3_edit.specs.declared.amount.Place.{Place}
-use Rattle.s3_edit.specs.declared.amount.Place.TheVariants.{Point, Comma, Digit}
+use Rattle.s3_edit.specs.declared.amount.Place.TheVariants.{Comma, Digit}
 use Rattle.s3_edit.specs.declared.plain.Plain.{Plain}
 use Rattle.s3_edit.specs.declared.plain.Plain.TheVariants.{Zoned, Date, Suppressed}
-use Rattle.s3_edit.specs.Picture.{date_at, digit_character, suppressed_at}
+use Rattle.s3_edit.specs.Picture.{character_of, date_at, digit_character, suppressed_at, whole_digits}
 
--- what is left of a number once a place is written
-abbrev pub after : Place → ℕ → ℕ
-after Point rest = rest
-after Comma rest = rest
-after Digit rest = rest / 10
+-- ---- the whole part of an amount
+abbrev pub whole_kind : Bool → ℕ → Place
+whole_kind commas place = if commas && place % 4 == 3 then Comma else Digit
+
+-- the character at a place of a whole part, counted from its own right
+abbrev pub whole_at : Bool → ℕ → ℕ → ℕ
+whole_at commas n place =
+    character_of (whole_kind commas place) (nat_lt 0 (n / 10 ^ whole_digits commas place)) (digit_at (whole_digits commas place) n)
 
 -- ---- numbers without point and commas
 abbrev pub plain_picture : Plain → Bool → ℕ → ℕ → ℕ

@@ -21,7 +21,7 @@ returns-clause-remainder_value c =
     let w = c.args.divisor in
     let fits : FitsSigned w128 c.wide_with_sign-left.result = search rules in
     let positive : 0 < unsigned_abs w.value * 10 ^ v.decimals = rw (← c.magnitude_at-unit.ensures.value) (c.magnitude_at-unit.ensures.positive (λ e. omega (arith, ints))) in
-    rw (c.store.ensures.value, wide_value c.wide_with_sign-left.result c.is_negative-3.result (c.magnitude_at-parts.result % c.magnitude_at-unit.result) fits c.wide_with_sign-left.ensures, c.is_negative-3.ensures, c.magnitude_at-parts.ensures.value, c.magnitude_at-unit.ensures.value)
+    rw (c.store.ensures.value, wide_value c.wide_with_sign-left.result c.is_negative-3.result c.left_over.result fits c.wide_with_sign-left.ensures, c.left_over.ensures, c.is_negative-3.ensures, c.magnitude_at-parts.ensures.value, c.magnitude_at-unit.ensures.value)
     (stored_remainder c.args.remainder.digits c.args.quotient.decimals c.args.remainder.decimals v.value w.value v.decimals w.decimals positive)
 
 pub whole_units-count-requires-clause-small : goal.whole_units-count-requires-clause-small
@@ -35,4 +35,4 @@ store-requires-clause-small c =
     let fits : FitsSigned w128 c.wide_with_sign-left.result = search rules in
     let unit : 10 ^ c.args.dividend.decimals ≤ 10 ^ 9 = ten_le c.args.dividend.decimals 9 (omega arith) in
     let rest : c.magnitude_at-parts.result % c.magnitude_at-unit.result < c.magnitude_at-unit.result = mod_below c.magnitude_at-parts.result c.magnitude_at-unit.result (c.magnitude_at-unit.ensures.positive (λ e. omega (arith, ints))) in
-    wide_below c.wide_with_sign-left.result c.is_negative-3.result (c.magnitude_at-parts.result % c.magnitude_at-unit.result) (10 ^ 30) fits c.wide_with_sign-left.ensures (omega arith)
+    wide_below c.wide_with_sign-left.result c.is_negative-3.result c.left_over.result (10 ^ 30) fits c.wide_with_sign-left.ensures (omega arith)

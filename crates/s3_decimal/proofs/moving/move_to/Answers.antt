@@ -16,4 +16,4 @@ returns-clause-value c =
     let number = moved_is (zoned_bytes (is_negative s.value) s.digits (unsigned_abs s.value)) t.digits t.value places (unsigned_abs s.value % 10 ^ places) shorter t.within_digits low in
     let magnitude : c.unsigned_abs.result ≡ unsigned_abs s.value = grind arith in
     rw (zoned_last (is_negative s.value) s.digits (unsigned_abs s.value) s.has_digits, ← number)
-    (rw (c.replaced.ensures.value, c.is_negative.ensures, magnitude, c.power_of_ten.ensures.value) refl)
+    (rw (c.replaced.ensures.value, c.is_negative.ensures, magnitude, c.short_power_of_ten.ensures.value) refl)
