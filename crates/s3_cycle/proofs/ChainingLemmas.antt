@@ -21,9 +21,10 @@ use Rattle.s3_meaning.specs.Calculations.{name_in}
 use Rattle.s3_meaning.specs.Calculating.{bytes_in, number_in, sought_in, first_indicator, forgotten, not_found, on_chain, performed, chained}
 use Rattle.s3_meaning.specs.Cycle.{again}
 use Rattle.s3_program.specs.declared.program.Program.{Program}
+use Rattle.s3_program.specs.FileTable.{is_chained}
 use Rattle.s3_program.specs.declared.program.Reference.{Reference}
 use Rattle.s3_program.specs.declared.program.Reference.TheVariants.{File}
-use Rattle.s3_operations.specs.Chaining.{file_sought}
+use Rattle.s3_operations.specs.Chaining.{file_sought, is_chained_file, key_field}
 use Rattle.s3_operations.specs.Fits.{IsLineOf, named_line, named_factor}
 use Rattle.s3_operations.specs.Indicators.{is_settable_entry}
 use Rattle.s3_operations.proofs.FitLemmas.{brings}
@@ -39,7 +40,7 @@ use Rattle.s3_cycle.specs.declared.request.Request.TheVariants as asks
 use Rattle.s3_cycle.specs.declared.request.Sought.{Sought}
 use Rattle.s3_cycle.specs.declared.went.Calculated.{Calculated}
 use Rattle.s3_cycle.specs.declared.went.Calculated.TheVariants as one
-use Rattle.s3_cycle.specs.Requests.{request_of, sought_of}
+use Rattle.s3_cycle.specs.Requests.{IsSoughtBy, IsDiskFile, IsChainedBy, request_of, sought_of}
 use Rattle.s3_cycle.specs.declared.stepper.Stepper.{Stepper}
 use Rattle.s3_cycle.specs.Rest.{calculating, answered, chain_answered}
 use Rattle.s3_cycle.specs.Inner.Going.{own, held_by, here, IsRunning, CanCalculate, IsChainOf, GoesOn, Changes}
@@ -48,6 +49,7 @@ use Rattle.s3_cycle.proofs.GoingLemmas.{changed_running, changed_program, change
 use Rattle.s3_cycle.proofs.CourseLemmas.{at_place, moved, moved_course, performs, fewer_left}
 use Rattle.s3_cycle.proofs.CalculatingLemmas.{with_course, moved_running, moved_calculates, calculating_from, calculating_here, line_read}
 use Rattle.s3_cycle.proofs.PerformingLemmas.{behind}
+use Rattle.s3_cycle.proofs.FileLemmas.{file_tabled, chained_on_disk}
 
 -- ---- its indicator
 first_settable : (entries : List (Option Indicator)) → list_all is_settable_entry entries ≡ true → is_settable_entry (first_indicator entries) ≡ true
@@ -82,6 +84,24 @@ seeks_key source e line f key bytes is same = rw is (ap (λ (b : List ℕ). Key 
 
 pub seeks_number : (source : Source) (e : Environment) (line : CalculationLine Name) (f : FileLine) (number : ℤ) → f.key ≡ None → number ≡ (number_in source e line.factor1).numerator → RecordNumber number ≡ sought_in source e line f
 seeks_number source e line f number is same = rw is (ap (λ (n : ℤ). RecordNumber n) same)
+
+-- what is sought fits the file
+pub key_sought : (p : Program) (place file : ℕ) (read : CalculationLine Reference) (f : FileLine) (field : KeyField) → IsChainOf p place file → read ≡ get_or p.calculations.items place read → f ≡ get_or p.files.items file f
+    → f.key ≡ Some field → key_field (file_sought p read) ≡ Some field
+key_sought p place file read f field chain found file_found is = ap key_field (sought_read p place file read f chain found file_found) ∙ is
+
+pub chain_fits : (p : Program) (line : CalculationLine Reference) (place file size : ℕ) (sought_there : Sought) → slice_get p.calculations.items place ≡ Some line → line.operation ≡ Some op.Chain → line.factor2 ≡ Some (Named (File file))
+    → file < length p.files.items → size ≡ (file_at p file).record_length → IsSoughtBy (file_at p file).key sought_there → IsDiskFile p.files.items file (IsChainedBy size sought_there)
+chain_fits p line place file size sought_there there bears names within sized fits =
+    let listed : slice_get p.files.items file ≡ Some (file_at p file) = file_there p file within in
+    let chained : is_chained (file_at p file).designation ≡ true =
+    ap is_chained_file (sym (sought_file p place file line there bears names within)) ∙ (sought p line file (record { place = place; there = there; bears = bears }) names).chained in
+    record {
+      line = file_at p file;
+      there = listed;
+      on_disk = chained_on_disk (file_at p file) (file_tabled p file (file_at p file) listed) chained;
+      suits = record { long = sized; chained = chained; sought_by = fits };
+    }
 
 -- ---- no record is found
 pub shows_miss : (c new : Stepper) (indicator : Indicator) (line : CalculationLine Reference) → first_indicator line.indicators ≡ Some indicator → IsRunning c → Changes c new (λ source. turn indicator true) → ShowsMiss c new line
@@ -191,10 +211,11 @@ chain_at source p progress place line answer there = rw there refl
 -- a record is sought
 pub chains_waiting : (c mid new : Stepper) (course : Course) (place file size : ℕ) (seeks : Sought) (performs_it : IsPerformed c place op.Chain) → Chains c place file performs_it
     → course ≡ moved c.progress.course (suc place) → Changes (with_course c c.state course) mid (λ source. forgotten source (name_of_file c.program file)) → true ≡ is_served (held_by c) (file_at c.program file)
-    → size ≡ (file_at c.program file).record_length → sought_of seeks ≡ sought_in (own c) (held_by c) (named_line c.program performs_it.next.line) (file_at c.program file)
+    → size ≡ (file_at c.program file).record_length → IsSoughtBy (file_at c.program file).key seeks
+    → sought_of seeks ≡ sought_in (own c) (held_by c) (named_line c.program performs_it.next.line) (file_at c.program file)
     → new ≡ record mid { request = asks.Chain file size seeks; point = at.Chained place file } → GoesOn c new (here c calculating)
 unfolding request_of
-chains_waiting c mid new course place file size seeks performs_it it there changes served sized same_sought same =
+chains_waiting c mid new course place file size seeks performs_it it there changes served sized fits same_sought same =
     goes_then c mid new _ _ (changed_program (with_course c c.state course) mid change changes) refl
     (goes_wait mid new (asks.Chain file size seeks) (at.Chained place file) (here c calculating) same
     (changed_running (with_course c c.state course) mid change changes (moved_running c c.state course performs_it.running performs_it.running.state))
@@ -205,6 +226,8 @@ chains_waiting c mid new course place file size seeks performs_it it there chang
           (moved_course c.program c.progress.course (suc place) performs_it.calculates.course performs_it.next.behind)),
     ))
     tt
+    (changed_stays (λ p progress. IsDiskFile p.files.items file (IsChainedBy size seeks)) (with_course c c.state course) mid change changes
+    (chain_fits c.program performs_it.next.line place file size seeks performs_it.next.there performs_it.bears it.names it.within sized fits))
     (chains_so c place file performs_it it true served ∙ asked))
   where
     change : Source → Environment → Environment

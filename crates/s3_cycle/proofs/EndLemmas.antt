@@ -23,4 +23,4 @@ ended_asks at_once e = fun_ext by
 
 pub ends : (old new : Stepper) (at_once : Bool) → new ≡ record old { request = asks.End at_once; point = at.End at_once } → IsRunning old → GoesOn old new (here old (λ source program progress. ended at_once))
 unfolding request_of
-ends old new at_once same running = goes_wait old new (asks.End at_once) (at.End at_once) _ same running refl tt (ended_asks at_once _)
+ends old new at_once same running = goes_wait old new (asks.End at_once) (at.End at_once) _ same running refl tt tt (ended_asks at_once _)

@@ -1,27 +1,32 @@
 -- The law of a suspended run: its pending request, and what an answer makes of it.
-use Rattle.std.proofs.Common.{◌≡◌, ◌≤◌, Bool, ℕ, unwrap_or, List, [], ◌∷◌, ◌++◌, Option, option_map, refl, sym, ap, ◌∙◌, subst, append-nil, append_assoc}
+use Rattle.std.proofs.Common.{◌≡◌, ◌≤◌, length, Bool, ℕ, Some, unwrap_or, List, [], ◌∷◌, ◌++◌, Option, option_map, refl, sym, ap, ◌∙◌, subst, append-nil, append_assoc}
+use Rattle.std.specs.Prelude.{slice_get}
 use Rattle.std.proofs.lemmas.List.{length-map}
+use Rattle.s3_lines.specs.declared.sheet.FileLine.{FileLine}
 use Rattle.s3_meaning.specs.Source.{Source}
 use Rattle.s3_meaning.specs.Requests as Meant
 use Rattle.s3_meaning.specs.Requests.{Answer}
 use Rattle.s3_meaning.specs.Output.{filled}
+use Rattle.s3_match.specs.Heads.{no_file}
 use Rattle.s3_match.specs.Types.{name_of_file}
 use Rattle.s3_operator.specs.declared.halt_code.HaltCode.{HaltCode}
 use Rattle.s3_meaning.specs.Runs.{Run, ask}
 use Rattle.s3_meaning.specs.Cycle.{Req}
 use Rattle.s3_program.specs.declared.program.Program.{Program}
 use Rattle.s3_program.specs.Stands.{Stands, source_named}
+use Rattle.s3_program.specs.Valid.{named}
 use Rattle.s3_cycle.specs.declared.request.Answer as Code
 use Rattle.s3_cycle.specs.declared.request.Current.{Current}
 use Rattle.s3_cycle.specs.declared.request.Request.{Request}
 use Rattle.s3_cycle.specs.declared.request.Request.TheVariants as asks
 use Rattle.s3_cycle.specs.declared.request.Sought.{Sought}
 use Rattle.s3_cycle.specs.declared.stepper.Stepper.{Stepper}
-use Rattle.s3_cycle.specs.Requests.{IsLine, answer_of, current_of, request_of, sought_of}
+use Rattle.s3_cycle.specs.Requests.{FitsFile, IsDiskFile, TakesRecord, TakesAddition, TakesChanges, IsLine, answer_of, current_of, request_of, sought_of}
 use Rattle.s3_cycle.specs.Rest.{rest, answered}
-use Rattle.s3_cycle.specs.Following.{Follows, Resumes, StandsFor, asked, put, waits}
+use Rattle.s3_cycle.specs.Following.{Follows, Resumes, StandsFor, asked, files, put, waits}
 use Rattle.s3_cycle.specs.Inner.Going.{own, held_by, here, GoesOn}
 use Rattle.s3_cycle.specs.Inner.Starting.{Starts}
+use Rattle.s3_cycle.proofs.PrintLemmas.{file_name}
 
 pub waits_first : (c : Stepper) (source : Source) → waits c ≡ rest source c []
 unfolding waits rest ask
@@ -126,3 +131,36 @@ line_filled (asks.Update file current) positions is = tt
 line_filled asks.Jump positions is = tt
 line_filled (asks.Ask code) positions is = tt
 line_filled (asks.End at_once) positions is = tt
+
+-- ---- the files of requests
+pub slot_named : (c : Stepper) (slot : ℕ) (line : FileLine) → slice_get (files c) slot ≡ Some line → name_of_file c.program slot ≡ line.name
+unfolding files
+slot_named c slot line there = file_name c.program slot ∙ ap (λ o. (unwrap_or o no_file).name) there
+
+-- they are those of the source, so no answer changes them
+pub files_stand : (c : Stepper) (source : Source) → StandsFor c source → files c ≡ source.files
+unfolding StandsFor files named
+files_stand c source stands = ap (λ (s : Source). s.files) stands
+
+pub files_stay : (old new : Stepper) → ((source : Source) → StandsFor old source → StandsFor new source) → files new ≡ files old
+unfolding StandsFor
+files_stay old new stays = files_stand new (own old) (stays (own old) refl) ∙ sym (files_stand old (own old) refl)
+
+-- a record is as long as its positions
+pub file_filled : (files_of : List FileLine) (request : Request) (positions : List (Option ℕ)) → FitsFile files_of request positions → FitsFile files_of request (filled positions)
+file_filled files_of request positions fits = by request fits
+  where
+    size : length positions ≡ length (filled positions)
+    size = sym (length-map positions (λ position. unwrap_or position 0x40))
+
+    by : (r : Request) → FitsFile files_of r positions → FitsFile files_of r (filled positions)
+    by asks.Card is = tt
+    by (asks.Read file n) is = is
+    by (asks.Chain file n sought) is = is
+    by (asks.Append file) is = let P : ℕ → Type 0 = λ n. IsDiskFile files_of file (TakesRecord n) in subst P size is
+    by (asks.Add file) is = let P : ℕ → Type 0 = λ n. IsDiskFile files_of file (TakesAddition n) in subst P size is
+    by (asks.Update file current) is = let P : ℕ → Type 0 = λ n. IsDiskFile files_of file (TakesChanges n) in subst P size is
+    by (asks.Print page line) is = tt
+    by asks.Jump is = tt
+    by (asks.Ask code) is = tt
+    by (asks.End at_once) is = tt

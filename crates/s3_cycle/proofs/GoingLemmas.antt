@@ -15,7 +15,7 @@ use Rattle.s3_cycle.specs.declared.progress.Point.TheVariants as at
 use Rattle.s3_cycle.specs.declared.request.Request.{Request}
 use Rattle.s3_cycle.specs.declared.request.Request.TheVariants as asks
 use Rattle.s3_cycle.specs.declared.stepper.Stepper.{Stepper}
-use Rattle.s3_cycle.specs.Requests.{IsLine, request_of}
+use Rattle.s3_cycle.specs.Requests.{IsLine, FitsFile, request_of}
 use Rattle.s3_cycle.specs.Rest.{rest, answered, continued}
 use Rattle.s3_cycle.specs.Inner.Environment.{environment, others}
 use Rattle.s3_cycle.specs.Inner.Going.{own, held_by, here, AreSound, IsRunning, Continues, Waits, GoesOn, Changes}
@@ -26,18 +26,18 @@ pub waiting_running : (c : Stepper) (request : Request) (point : Point) → IsRu
 waiting_running c request point running = record { overflow = running.overflow; state = running.state; reading = running.reading; heads = running.heads }
 
 -- a run waits where it asks
-pub goes_wait : (old new : Stepper) (request : Request) (point : Point) (run : Run) → new ≡ record old { request = request; point = point } → IsRunning old → Waits old.program old.progress request point → IsLine request old.composition
+pub goes_wait : (old new : Stepper) (request : Request) (point : Point) (run : Run) → new ≡ record old { request = request; point = point } → IsRunning old → Waits old.program old.progress request point → IsLine request old.composition → FitsFile old.program.files.items request old.composition
     → run ≡ ask (request_of old.program old.composition request) (λ answer. answered (own old) old.program old.progress point answer (held_by old)) → GoesOn old new run
 unfolding rest
-goes_wait old new request point run same running waits line asks =
+goes_wait old new request point run same running waits line fits asks =
     let P : Stepper → Type 0 = λ k. GoesOn old k run in
-    subst P (sym same) (record { program = refl; sound = record { running = waiting_running old request point running; waits = waits; line = line }; runs = sym asks })
+    subst P (sym same) (record { program = refl; sound = record { running = waiting_running old request point running; waits = waits; line = line; fits = fits }; runs = sym asks })
 
 -- a halt, with what follows reply 0
 pub halts : (old new : Stepper) (code : HaltCode) (then : Continuation) → new ≡ record old { request = asks.Ask code; point = at.Reply then } → IsRunning old → Continues old.program old.progress then
     → GoesOn old new (here old (λ source program progress. halted (again source) code (continued source program progress then)))
 unfolding halted request_of
-halts old new code then same running can = goes_wait old new (asks.Ask code) (at.Reply then) _ same running (refl, can) tt refl
+halts old new code then same running can = goes_wait old new (asks.Ask code) (at.Reply then) _ same running (refl, can) tt tt refl
 
 -- ---- one step, and another behind it
 -- a step that is followed by another

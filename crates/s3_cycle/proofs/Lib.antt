@@ -1,4 +1,5 @@
 pub mod GoingLemmas
+pub mod FileLemmas
 pub mod EndLemmas
 pub mod LineLemmas
 pub mod PrintLemmas

@@ -1,6 +1,6 @@
 -- The request that an output line makes.
 use Rattle.std.proofs.Common.{◌≡◌, ℕ, ◌+◌, ◌<◌, ◌≤◌, Bool, true, false, if◌then◌else◌, List, [], ◌∷◌, length, get_or, Option, Some, None, Fits, w64, ◌⊎◌, inl, inr, refl, sym, ◌∙◌, ap, subst, true≢false, arith}
-use Rattle.std.specs.Prelude.{◌&&◌, nat_le, slice_get, unwrap_or, option_map, option_and_then, replicate}
+use Rattle.std.specs.Prelude.{not, ◌&&◌, nat_le, slice_get, is_some, unwrap_or, option_map, option_and_then, replicate}
 use Rattle.std.specs.List.{list_all}
 use Rattle.std.specs.Option.{option_or}
 use Rattle.std.proofs.lemmas.Bool.{and_parts}
@@ -14,7 +14,7 @@ use Rattle.s3_lines.specs.declared.sheet.Device.{Device}
 use Rattle.s3_lines.specs.declared.sheet.Device.TheVariants.{CardReader, Printer, Disk}
 use Rattle.s3_lines.specs.declared.sheet.FileLine.{FileLine}
 use Rattle.s3_lines.specs.declared.sheet.Spacing.{Spacing}
-use Rattle.s3_meaning.specs.Source.{Source, overflow_of, is_printer}
+use Rattle.s3_meaning.specs.Source.{Source, overflow_of, is_printer, is_updated}
 use Rattle.s3_meaning.specs.Environment.{Environment}
 use Rattle.s3_meaning.specs.OutputLines.{Output}
 use Rattle.s3_meaning.specs.Carriage.{Carriage as Place, to_print, after_print}
@@ -51,15 +51,16 @@ use Rattle.s3_cycle.specs.declared.request.Request.TheVariants as asks
 use Rattle.s3_cycle.specs.declared.request.Current.{Current}
 use Rattle.s3_cycle.specs.declared.state.State.{State}
 use Rattle.s3_cycle.specs.declared.stepper.Stepper.{Stepper}
-use Rattle.s3_cycle.specs.Requests.{IsLine, request_of, current_of}
+use Rattle.s3_cycle.specs.Requests.{IsLine, FitsFile, IsDiskFile, TakesRecord, request_of, current_of}
 use Rattle.s3_cycle.specs.Rest.{lines_from, after_lines, starts_of}
 use Rattle.s3_cycle.specs.Inner.Environment.{environment, others}
 use Rattle.s3_cycle.specs.Inner.Going.{own, held_by, here, AreSound, IsRunning, IsWalk, GoesOn, Changes, is_record_request}
 use Rattle.s3_cycle.specs.Inner.Entries.{turn_entry}
 use Rattle.s3_cycle.specs.Inner.Lines.{is_used, is_held, is_due, IsDue, PassesTo}
-use Rattle.s3_cycle.specs.Inner.Printing.{ComposesLine}
+use Rattle.s3_cycle.specs.Inner.Printing.{CanStore, ComposesLine}
 use Rattle.s3_cycle.proofs.GoingLemmas.{goes_wait, goes_then, goes_as, changed_running, changed_program, changes_both}
 use Rattle.s3_cycle.proofs.AnswerLemmas.{at_most, file_ranged}
+use Rattle.s3_cycle.proofs.FileLemmas.{IsPutOnDisk, file_tabled, line_taken, put_on_disk}
 use Rattle.s3_cycle.proofs.LineLemmas.{IsLineOf, line_of, line_due}
 
 -- ---- the carriage
@@ -145,7 +146,7 @@ prints old mid new line spacing there after w next running walk spaced is_there 
     ap (λ one. asks_at one (after_print line.spacing (to_print line.spacing (carriage (held_by old))))) to ∙ ap (asks_at (place_moved there)) on in
     goes_then old mid new (asks_in mid) _ (changed_program old mid _ moves) (meant ∙ sym before)
     (goes_wait mid new (asks.Print there.carriage.page there.carriage.line) (at.Lines w next) (asks_in mid) same (changed_running old mid _ moves running)
-    (refl, walks_on moves.stays walk) (printable_on moves.stays) refl)
+    (refl, walks_on moves.stays walk) (printable_on moves.stays) tt refl)
   where
     walks_on : mid ≡ record old { state = mid.state } → IsWalk old.program old.progress w → IsWalk mid.program mid.progress w
     walks_on stays walks = let P : Stepper → Type 0 = λ k. IsWalk k.program k.progress w in subst P (sym stays) walks
@@ -154,7 +155,7 @@ prints old mid new line spacing there after w next running walk spaced is_there 
     printable_on stays = let P : Stepper → Type 0 = λ k. IsLine (asks.Print there.carriage.page there.carriage.line) k.composition in subst P (sym stays) printable
 
 -- ---- a record is put into its file
-file_name : (p : Program) (k : ℕ) → name_of_file p k ≡ (file_at p k).name
+pub file_name : (p : Program) (k : ℕ) → name_of_file p k ≡ (file_at p k).name
 file_name p k = ap (λ (o : Option (Name × FileLine)). unwrap_or (option_map (λ (e : Name × FileLine). e.0) o) no_name) (slice_get-map file_entry p.files.items k) ∙ by (slice_get p.files.items k)
   where
     by : (o : Option FileLine) → unwrap_or (option_map (λ (e : Name × FileLine). e.0) (option_map file_entry o)) no_name ≡ (unwrap_or o no_file).name
@@ -227,6 +228,67 @@ updates c start asked is_added file current sound within read stands is meant ad
     ∙ ap (λ o. Meant.Update (file_at c.program start.file).name o c.composition) (sym (current_there c start.file current within there)))
     meant added
 
+-- ---- what its file allows
+abbrev is_add : Meant.Request → Bool
+is_add (Meant.Add name record_bytes) = true
+is_add request = false
+
+abbrev is_update : Meant.Request → Bool
+is_update (Meant.Update name current positions) = true
+is_update request = false
+
+add_keyed : (file : FileLine) (line : Output) (positions : List (Option ℕ)) (e : Environment) → is_add (disk_request file line positions e) ≡ true → is_some file.key ≡ true
+add_keyed file line positions e is = (and_parts line.is_addition (is_some file.key) (by (is_updated file && not line.is_addition) (line.is_addition && is_some file.key) is)).1
+  where
+    by : (one two : Bool) → is_add (if one then Meant.Update file.name (e.current file.name) positions else (if two then Meant.Add file.name (filled positions) else Meant.Append file.name (filled positions))) ≡ true
+        → two ≡ true
+    by true two h = absurd (true≢false (sym h))
+    by false true h = refl
+    by false false h = absurd (true≢false (sym h))
+
+update_changes : (file : FileLine) (line : Output) (positions : List (Option ℕ)) (e : Environment) → is_update (disk_request file line positions e) ≡ true → is_updated file ≡ true
+update_changes file line positions e is = (and_parts (is_updated file) (not line.is_addition) (by (is_updated file && not line.is_addition) (line.is_addition && is_some file.key) is)).0
+  where
+    by : (one two : Bool) → is_update (if one then Meant.Update file.name (e.current file.name) positions else (if two then Meant.Add file.name (filled positions) else Meant.Append file.name (filled positions))) ≡ true
+        → one ≡ true
+    by true two h = refl
+    by false true h = absurd (true≢false (sym h))
+    by false false h = absurd (true≢false (sym h))
+
+-- the F line of a file, as it is read, is that at its slot
+same_line : (p : Program) (slot : ℕ) (line file : FileLine) → slot < length p.files.items → file ≡ get_or p.files.items slot file → slice_get p.files.items slot ≡ Some line → file ≡ line
+same_line p slot line file within read there = ap (λ o. unwrap_or o no_file) (ap (λ (f : FileLine). Some f) read ∙ (sym (slice_get-get_or p.files.items slot file within) ∙ there))
+
+pub add_fits : (c : Stepper) (start : OutputStart) (asked : DiskRequest) (is_added : Bool) (file : FileLine) → start.file < length c.program.files.items
+    → file ≡ get_or c.program.files.items start.file file → asked ≡ disk.Add → AsksFor file asked is_added → IsAdded c start is_added → CanStore c start
+    → FitsFile c.program.files.items (asks.Add start.file) c.composition
+add_fits c start asked is_added file within read is meant added stores =
+    let same : file ≡ stores.fits.line = same_line c.program start.file stores.fits.line file within read stores.fits.there in
+    let keyed : is_some file.key ≡ true =
+    add_keyed file stores.line c.composition (held_by c)
+    (ap is_add (meant stores.line c.composition (held_by c) (added stores.line stores.is_line)) ∙ ap (λ (d : DiskRequest). is_add (disk_spec.request_of d file c.composition (held_by c))) is) in
+    record {
+      line = stores.fits.line;
+      there = stores.fits.there;
+      on_disk = stores.fits.on_disk;
+      suits = record { takes = stores.fits.suits; keyed = ap (λ (f : FileLine). is_some f.key) (sym same) ∙ keyed };
+    }
+
+pub update_fits : (c : Stepper) (start : OutputStart) (asked : DiskRequest) (is_added : Bool) (file : FileLine) (current : Option Current) → start.file < length c.program.files.items
+    → file ≡ get_or c.program.files.items start.file file → asked ≡ disk.Update → AsksFor file asked is_added → IsAdded c start is_added → CanStore c start
+    → FitsFile c.program.files.items (asks.Update start.file current) c.composition
+update_fits c start asked is_added file current within read is meant added stores =
+    let same : file ≡ stores.fits.line = same_line c.program start.file stores.fits.line file within read stores.fits.there in
+    let updated : is_updated file ≡ true =
+    update_changes file stores.line c.composition (held_by c)
+    (ap is_update (meant stores.line c.composition (held_by c) (added stores.line stores.is_line)) ∙ ap (λ (d : DiskRequest). is_update (disk_spec.request_of d file c.composition (held_by c))) is) in
+    record {
+      line = stores.fits.line;
+      there = stores.fits.there;
+      on_disk = stores.fits.on_disk;
+      suits = record { takes = stores.fits.suits; updated = ap is_updated (sym same) ∙ updated };
+    }
+
 -- a record is no line
 no_line : (request : Request) (positions : List (Option ℕ)) → is_record_request request ≡ true → IsLine request positions
 no_line (asks.Append slot) positions is = tt
@@ -242,10 +304,10 @@ no_line (asks.End at_once) positions is = tt
 
 pub stores : (old new : Stepper) (line : Output) (k : ℕ) (request : Request) (w : Walk) (next : ℕ) → IsRunning old → IsWalk old.program old.progress w → is_record_request request ≡ true
     → request_of old.program old.composition request ≡ disk_request (file_at old.program k) line old.composition (held_by old)
-    → new ≡ record old { request = request; point = at.Records w next }
+    → FitsFile old.program.files.items request old.composition → new ≡ record old { request = request; point = at.Records w next }
     → GoesOn old new (here old (λ source program progress e. ask (disk_request (file_at program k) line old.composition e) (λ answer. stored_or_halted (again source) (lines_from source program progress w next) answer e)))
-stores old new line k request w next running walk is asks same =
-    goes_wait old new request (at.Records w next) _ same running (is, walk) (no_line request old.composition is)
+stores old new line k request w next running walk is asks fits same =
+    goes_wait old new request (at.Records w next) _ same running (is, walk) (no_line request old.composition is) fits
     (ap (λ r. ask r (λ answer. stored_or_halted (again (own old)) (lines_from (own old) old.program old.progress w next) answer (held_by old))) (sym asks))
 
 -- ---- a line is put out
@@ -364,6 +426,23 @@ composed_line old mid start page line composes within is =
 
 pub composed_within : (old mid : Stepper) (start : OutputStart) → ComposesLine old mid start → start.file < length old.program.files.items → start.file < length mid.program.files.items
 composed_within old mid start composes inside = let P : Stepper → Type 0 = λ k. start.file < length k.program.files.items in subst P (sym composes.same) inside
+
+-- its file on disk takes it
+pub composed_stores : (old mid : Stepper) (w : Walk) (place : ℕ) (start : OutputStart) (line : Output) → IsPut old w place start line → ComposesLine old mid start
+    → is_printer (file_at mid.program start.file).device ≡ false → CanStore mid start
+composed_stores old mid w place start line put composes printer =
+    let program : mid.program ≡ old.program = composed_program old mid start composes in
+    let listed : slice_get old.program.files.items start.file ≡ Some (file_at old.program start.file) = file_within old.program start.file put.within in
+    let device : is_printer (file_at old.program start.file).device ≡ false = ap (λ (p : Program). is_printer (file_at p start.file).device) (sym program) ∙ printer in
+    let takes : IsPutOnDisk (file_at old.program start.file) =
+    put_on_disk (file_at old.program start.file) line.is_addition (file_tabled old.program start.file (file_at old.program start.file) listed)
+    (line_taken old.program start line (file_at old.program start.file) put.is_line.starts put.is_line.there listed) device in
+    record {
+      line = line;
+      is_line = let P : Program → Type 0 = λ p. IsLineAt p start line in subst P (sym program) put.is_line.there;
+      fits = let P : Program → Type 0 = λ p. IsDiskFile p.files.items start.file (TakesRecord (length mid.composition)) in
+          subst P (sym program) (record { line = file_at old.program start.file; there = listed; on_disk = takes.on_disk; suits = record { long = composes.sized; put_out = takes.put_out } });
+    }
 
 pub line_printed : (old mid new : Stepper) (w : Walk) (place : ℕ) (start : OutputStart) (line : Output) → IsPut old w place start line → ComposesLine old mid start
     → is_printer (file_at mid.program start.file).device ≡ true

@@ -1,5 +1,6 @@
 -- A suspended run, as those above it see it.
 use Rattle.std.specs.Prelude.{◌≡◌, ℕ, Bool, List, ◌∷◌, ◌++◌, Option}
+use Rattle.s3_lines.specs.declared.sheet.FileLine.{FileLine}
 use Rattle.s3_meaning.specs.Source.{Source}
 use Rattle.s3_meaning.specs.Requests as Meant
 use Rattle.s3_meaning.specs.Requests.{Answer}
@@ -15,6 +16,10 @@ use Rattle.s3_cycle.specs.Rest.{rest}
 -- its program is that of the source
 unfoldable pub StandsFor : Stepper → Source → Type 0
 StandsFor c source = Stands c.program source
+
+-- the F lines of its files, by slot
+unfoldable pub files : Stepper → List FileLine
+files c = c.program.files.items
 
 -- the pending request, and what is put at the positions of the line or record that it puts out
 unfoldable pub asked : Stepper → Request

@@ -11,7 +11,7 @@ ghost use Rattle.s3_meaning.specs.Calculating.{chained_to, first_indicator as fi
 ghost use Rattle.s3_operations.specs.Fits.{named_line};
 ghost use Rattle.s3_match.specs.Heads.{file_at};
 ghost use Rattle.s3_match.specs.Types.{is_type_start, kind_at, name_of_file};
-ghost use Rattle.s3_cycle.specs.Requests.{sought_of};
+ghost use Rattle.s3_cycle.specs.Requests.{IsSoughtBy, sought_of};
 ghost use Rattle.s3_cycle.specs.Rest.{calculating, chain_answered};
 ghost use Rattle.s3_cycle.specs.Inner.Going.{AreSound, IsRunning, CanCalculate, IsChainOf, IsLineAt, Changes, GoesOn, own, held_by, here};
 ghost use Rattle.s3_cycle.specs.Inner.Heads.{IsRecordOf};
@@ -66,7 +66,8 @@ impl Stepper {
     fn sought(&self, place: usize, file: usize) -> Sought
         requires running { IsRunning self.now }
         requires chain { IsChainOf self.now.program place file }
-        ensures { (line : CalculationLine Reference) → slice_get self.now.program.calculations.items place ≡ Some line
+        ensures by { IsSoughtBy (file_at self.now.program file).key result }
+        ensures value { (line : CalculationLine Reference) → slice_get self.now.program.calculations.items place ≡ Some line
             → sought_of result ≡ sought_in (own self.now) (held_by self.now) (named_line self.now.program line) (file_at self.now.program file) }
     {
         let line = &self.program.calculations[place];

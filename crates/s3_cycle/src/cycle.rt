@@ -2,6 +2,7 @@
 
 use crate::request::{Answer, Request};
 use crate::stepper::Stepper;
+use s3_lines::sheet::FileLine;
 use s3_output::composition::Composition;
 use s3_program::program::Program;
 use std::alloc::{AllocError, Global};
@@ -25,15 +26,18 @@ impl Model for Cycle {
 }
 
 impl Cycle {
-    ghost use Rattle.std.specs.Prelude.{◌≡◌, IfOk, IsTrue, List, [], ◌∷◌};
+    ghost use Rattle.std.specs.Prelude.{◌≡◌, IfOk, IsTrue, List, [], ◌∷◌, Some, slice_get};
+    ghost use Rattle.std.specs.Option.{option_copied};
+    ghost use Rattle.s3_lines.specs.declared.sheet.FileLine.{FileLine};
     ghost use Rattle.s3_meaning.specs.Source.{Source};
     ghost use Rattle.s3_meaning.specs.Requests.{Answer as MeantAnswer};
     ghost use Rattle.s3_meaning.specs.Output.{filled};
     ghost use Rattle.s3_meaning.specs.Cycle.{Req};
     ghost use Rattle.s3_program.specs.Stands.{Stands};
+    ghost use Rattle.s3_match.specs.Types.{name_of_file};
     ghost use Rattle.s3_operations.specs.Beginning.{IsDate};
-    ghost use Rattle.s3_cycle.specs.Requests.{IsLine, answer_of};
-    ghost use Rattle.s3_cycle.specs.Following.{StandsFor, asked, is_fit, put, waits};
+    ghost use Rattle.s3_cycle.specs.Requests.{FitsFile, IsLine, answer_of};
+    ghost use Rattle.s3_cycle.specs.Following.{StandsFor, asked, files, is_fit, put, waits};
     ghost use Rattle.s3_cycle.specs.Rest.{rest};
 
     /// A job at its first request, with its switches, U1 the highest bit, and its date, six EBCDIC digits. All memory of the
@@ -52,10 +56,19 @@ impl Cycle {
         })
     }
 
-    /// The request that waits for an answer.
+    /// The F line at a slot, if there is one. By its name the requests to its file are meant.
+    pub fn file_line(&self, file: usize) -> Option<&FileLine>
+        ensures line { option_copied result ≡ slice_get (files self.now) file }
+        ensures name { (line : FileLine) → slice_get (files self.now) file ≡ Some line → name_of_file self.now.program file ≡ line.name }
+    {
+        self.stepper.file_line(file)
+    }
+
+    /// The request that waits for an answer. Its file is on disk, and its F line allows it.
     pub fn pending(&self) -> &Request
         ensures request { result.now ≡ asked self.now }
         ensures next { (source : Source) → waits self.now ≡ rest source self.now [] }
+        ensures file { FitsFile (files self.now) (asked self.now) (put self.now) }
     {
         &self.stepper.request
     }
@@ -64,6 +77,7 @@ impl Cycle {
     pub fn record(&self) -> &[u8]
         ensures value { result.now ≡ filled (put self.now) }
         ensures line { IsLine (asked self.now) result.now }
+        ensures file { FitsFile (files self.now) (asked self.now) result.now }
     {
         self.stepper.composition.codes()
     }

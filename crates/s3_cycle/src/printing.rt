@@ -7,10 +7,10 @@ ghost use Rattle.s3_meaning.specs.Output.{disk_request as disk_request_spec, fil
 ghost use Rattle.s3_output.specs.Carriages.{place_moved};
 ghost use Rattle.s3_output.specs.Lines.{IsLineAt, IsStart};
 ghost use Rattle.s3_match.specs.Heads.{file_at};
-ghost use Rattle.s3_cycle.specs.Requests.{request_of};
+ghost use Rattle.s3_cycle.specs.Requests.{FitsFile, request_of};
 ghost use Rattle.s3_cycle.specs.Rest.{lines_from};
 ghost use Rattle.s3_cycle.specs.Inner.Going.{AreSound, Changes, IsRunning, IsWalk, GoesOn, held_by, here, is_record_request};
-ghost use Rattle.s3_cycle.specs.Inner.Printing.{ComposesLine};
+ghost use Rattle.s3_cycle.specs.Inner.Printing.{CanStore, ComposesLine};
 
 use crate::progress::Point;
 use crate::request::Request;
@@ -80,6 +80,7 @@ impl Stepper {
         requires running { IsRunning self.old }
         requires walk { IsWalk self.old.program self.old.progress walk }
         requires file { start.now.file < length self.old.program.files.items }
+        requires stores { CanStore self.old start.now }
         ensures { (line : Output) → IsLineAt self.old.program start.now line
             → GoesOn self.old self.new (here self.old (λ source program progress e. ask (disk_request_spec (file_at program start.now.file) line self.old.composition e)
             (λ answer. stored_or_halted (again source) (lines_from source program progress walk next) answer e))) }
@@ -91,6 +92,8 @@ impl Stepper {
     fn record_request(&self, start: &OutputStart) -> Request
         requires sound { AreSound self.now.program self.now.state }
         requires file { start.now.file < length self.now.program.files.items }
+        requires stores { CanStore self.now start.now }
+        ensures fits { FitsFile self.now.program.files.items result self.now.composition }
         ensures kind { is_record_request result ≡ true }
         ensures request { (line : Output) → IsLineAt self.now.program start.now line
             → request_of self.now.program self.now.composition result ≡ disk_request_spec (file_at self.now.program start.now.file) line self.now.composition (held_by self.now) }

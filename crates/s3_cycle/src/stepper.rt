@@ -1,9 +1,12 @@
 //! A suspended run.
+ghost use Rattle.std.specs.Prelude.{◌≡◌, slice_get};
+ghost use Rattle.std.specs.Option.{option_copied};
 
 use crate::progress::{Point, Progress};
 use crate::request::Request;
 use crate::state::State;
 use s3_lines::indicator::Indicator;
+use s3_lines::sheet::FileLine;
 use s3_output::composition::Composition;
 use s3_program::program::Program;
 
@@ -24,4 +27,13 @@ pub struct Stepper {
     pub progress: Progress,
     /// The line that is put out, as it is composed.
     pub composition: Composition,
+}
+
+impl Stepper {
+    /// The F line at a slot.
+    pub fn file_line(&self, file: usize) -> Option<&FileLine>
+        ensures { option_copied result ≡ slice_get self.now.program.files.items file }
+    {
+        self.program.files.get(file)
+    }
 }

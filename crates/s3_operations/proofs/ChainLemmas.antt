@@ -6,7 +6,6 @@ use Rattle.std.specs.Map.{keys_of}
 use Rattle.std.proofs.lemmas.Bool.{and_parts, true≢false, cases_Bool}
 use Rattle.std.proofs.lemmas.Bool.Decides.{nat_tests}
 use Rattle.std.proofs.lemmas.Option.{slice_get-map, slice_get_within}
-use Rattle.std.proofs.lemmas.List.{length-take}
 use Rattle.s3_decimal.specs.Exact.{is_negative}
 use Rattle.s3_decimal.proofs.DigitsWritten.{length-zoned_bytes}
 use Rattle.s3_cards.specs.declared.name.Name.{Name}
@@ -20,7 +19,7 @@ use Rattle.s3_lines.specs.declared.sheet.Factor.{Factor}
 use Rattle.s3_lines.specs.declared.sheet.Factor.TheVariants.{Named, Number, Text}
 use Rattle.s3_lines.specs.declared.sheet.Operation.TheVariants as op
 use Rattle.s3_lines.specs.declared.sheet.CalculationLine.{CalculationLine}
-use Rattle.s3_lines.specs.Ranges.{file_in_range, key_in_range, if_given}
+use Rattle.s3_lines.specs.Ranges.{factor_in_range, file_in_range, key_in_range, if_given}
 use Rattle.s3_meaning.specs.Source.{file_named}
 use Rattle.s3_meaning.specs.Environment.{Environment, at_first}
 use Rattle.s3_meaning.specs.Calculations.{name_in as name_in_factor}
@@ -43,7 +42,7 @@ use Rattle.s3_program.specs.Tables.{name_in, name_of, or_undefined, item_in}
 use Rattle.s3_program.specs.Valid.{file_entry, named}
 use Rattle.s3_program.proofs.SlotLemmas.{Kept, kept, not_among, opposite}
 use Rattle.s3_operations.specs.declared.values.Values.{Values}
-use Rattle.s3_operations.specs.Chaining.{file_sought, has_key, is_chained_file}
+use Rattle.s3_operations.specs.Chaining.{IsLiteral, file_sought, has_key, is_chained_file, is_literal, key_field}
 use Rattle.s3_operations.specs.Fits.{tables, IsLineOf, meant_factor, named_factor, is_value, is_number}
 use Rattle.s3_operations.specs.Held.{held, IsSound, length_in, text_at}
 use Rattle.s3_operations.proofs.FitLemmas.{Brings, brings, some_same, value_factor}
@@ -180,7 +179,7 @@ chain_number p line is unkeyed =
     on None e fits none = number_of_shape (meant_factor p line.factor1) (chain_value p line is) (sym (ap (λ k. is_key k (meant_factor p line.factor1)) e) ∙ fits)
     on (Some key) e fits none = absurd (true≢false (sym (ap (λ (k : Option KeyField). is_some k) e) ∙ none))
 
--- ---- a key has at most 29 bytes
+-- ---- a key is as long as that of the file, and has at most 29 bytes
 few_of_key : (file : FileLine) (key : KeyField) → file_in_range file ≡ true → file.key ≡ Some key → key.length ≤ 29
 few_of_key file key ranged is =
     let parts = and_parts _ _ (and_parts _ _ (and_parts _ _ (and_parts _ _ ranged).0).0).0 in
@@ -214,18 +213,18 @@ no_value : {X : Type 0} (known : X → Meaning) → ((x : X) → is_value (Some 
 no_value known never None value = true≢false (sym value)
 no_value known never (Some x) value = true≢false (sym value ∙ never x)
 
-pub bytes_few : (p : Program) (s : Values) (rest : Environment) (one : Option (Factor Reference)) (key : KeyField) → IsSound p s → is_value (meant_factor p one) ≡ true → is_key (Some key) (meant_factor p one) ≡ true
-    → length (bytes_in (source_named p) (held p s rest) (named_factor p one)) ≤ key.length
-bytes_few p s rest None key sound value fits = absurd (true≢false (sym value))
-bytes_few p s rest (Some (Number literal)) key sound value fits = omega (arith, zoned_length literal.digits literal.value, same_length literal.digits key.length fits)
-bytes_few p s rest (Some (Text literal)) key sound value fits = grind (arith, length-take literal.length literal.codes, same_length literal.length key.length fits)
-bytes_few p s rest (Some (Named (FileSlot k))) key sound value fits = absurd (no_value (λ x. meaning.File x) (λ x. refl) (item_in (tables p).files k) value)
-bytes_few p s rest (Some (Named (TagSlot k))) key sound value fits = absurd (no_value (λ x. meaning.Tag x) (λ x. refl) (item_in (tables p).tags k) value)
-bytes_few p s rest (Some (Named (SubroutineSlot k))) key sound value fits = absurd (no_value (λ x. meaning.Subroutine x) (λ x. refl) (item_in (tables p).subroutines k) value)
-bytes_few p s rest (Some (Named (FieldSlot k))) key sound value fits = step (slice_get (tables p).fields k) refl value fits
+bytes_long : (p : Program) (s : Values) (rest : Environment) (one : Option (Factor Reference)) (key : KeyField) → IsSound p s → is_value (meant_factor p one) ≡ true → is_key (Some key) (meant_factor p one) ≡ true
+    → is_literal one ≡ false → length (bytes_in (source_named p) (held p s rest) (named_factor p one)) ≡ key.length
+bytes_long p s rest None key sound value fits plain = absurd (true≢false (sym value))
+bytes_long p s rest (Some (Number literal)) key sound value fits plain = omega (arith, zoned_length literal.digits literal.value, same_length literal.digits key.length fits)
+bytes_long p s rest (Some (Text literal)) key sound value fits plain = absurd (true≢false plain)
+bytes_long p s rest (Some (Named (FileSlot k))) key sound value fits plain = absurd (no_value (λ x. meaning.File x) (λ x. refl) (item_in (tables p).files k) value)
+bytes_long p s rest (Some (Named (TagSlot k))) key sound value fits plain = absurd (no_value (λ x. meaning.Tag x) (λ x. refl) (item_in (tables p).tags k) value)
+bytes_long p s rest (Some (Named (SubroutineSlot k))) key sound value fits plain = absurd (no_value (λ x. meaning.Subroutine x) (λ x. refl) (item_in (tables p).subroutines k) value)
+bytes_long p s rest (Some (Named (FieldSlot k))) key sound value fits plain = step (slice_get (tables p).fields k) refl value fits
   where
     shaped : (name : Name) (shape : Shape) → slice_get (tables p).fields k ≡ Some (name, shape) → is_key (Some key) (Some (Named (meaning.Field (record { name = name; meaning = shape })))) ≡ true
-        → length (bytes_in (source_named p) (held p s rest) (Some (Named (name_of (tables p) (FieldSlot k))))) ≤ key.length
+        → length (bytes_in (source_named p) (held p s rest) (Some (Named (name_of (tables p) (FieldSlot k))))) ≡ key.length
     shaped name (Alphanumeric size) at fits =
         let f : FieldAt p k name (Alphanumeric size) = field_entry p k name (Alphanumeric size) p.valid at in
         rw (f.named, text_when (source_named p) name size f.shaped) (omega (arith, text_length p s k size name rest sound f, same_length size key.length fits))
@@ -237,24 +236,72 @@ bytes_few p s rest (Some (Named (FieldSlot k))) key sound value fits = step (sli
     step : (o : Option (Name × Shape)) → slice_get (tables p).fields k ≡ o
         → is_value (Some (Named (or_undefined (λ (e : Name × Shape). meaning.Field (record { name = e.0; meaning = e.1 })) o))) ≡ true
         → is_key (Some key) (Some (Named (or_undefined (λ (e : Name × Shape). meaning.Field (record { name = e.0; meaning = e.1 })) o))) ≡ true
-        → length (bytes_in (source_named p) (held p s rest) (Some (Named (name_of (tables p) (FieldSlot k))))) ≤ key.length
+        → length (bytes_in (source_named p) (held p s rest) (Some (Named (name_of (tables p) (FieldSlot k))))) ≡ key.length
     step None at value fits = absurd (true≢false (sym value))
     step (Some e) at value fits = shaped e.0 e.1 at fits
 
-pub key_few : (p : Program) (s : Values) (line : CalculationLine Reference) (count : ℕ) (buffer : List ℕ) → IsSound p s → IsLineOf p line op.Chain → has_key (file_sought p line) ≡ true
+-- ---- the key that a CHAIN seeks
+keyed_fits : (p : Program) (line : CalculationLine Reference) (field : KeyField) (is : IsLineOf p line op.Chain) → key_field (file_sought p line) ≡ Some field → is_key (Some field) (meant_factor p line.factor1) ≡ true
+keyed_fits p line field is keyed =
+    let c : Chains p line.factor1 line.factor2 = chains p line is in
+    sym (ap (λ (k : Option KeyField). is_key k (meant_factor p line.factor1)) (sym (ap key_field c.found) ∙ keyed)) ∙ c.fits
+
+pub key_long : (p : Program) (s : Values) (line : CalculationLine Reference) (count : ℕ) (buffer : List ℕ) (field : KeyField) → IsSound p s → IsLineOf p line op.Chain → is_literal line.factor1 ≡ false
+    → ((rest : Environment) → take count buffer ≡ bytes_in (source_named p) (held p s rest) (named_factor p line.factor1)) → key_field (file_sought p line) ≡ Some field → length (take count buffer) ≡ field.length
+key_long p s line count buffer field sound is plain bytes keyed =
+    let rest : Environment = at_first (source_named p) 0 [] in
+    ap (λ (xs : List ℕ). length xs) (bytes rest) ∙ bytes_long p s rest line.factor1 field sound (chain_value p line is) (keyed_fits p line field is keyed) plain
+
+pub key_few : (p : Program) (s : Values) (line : CalculationLine Reference) (count : ℕ) (buffer : List ℕ) → IsSound p s → IsLineOf p line op.Chain → has_key (file_sought p line) ≡ true → is_literal line.factor1 ≡ false
     → ((rest : Environment) → take count buffer ≡ bytes_in (source_named p) (held p s rest) (named_factor p line.factor1)) → length (take count buffer) ≤ 29
 unfolding are_in_range
-key_few p s line count buffer sound is keyed bytes =
+key_few p s line count buffer sound is keyed plain bytes =
     let c : Chains p line.factor1 line.factor2 = chains p line is in
     let keeps : Kept (parts_of p) = kept (parts_of p) p.valid in
     let ranged : file_in_range c.file ≡ true = all_at file_in_range p.files.items c.slot c.file (and_parts _ _ (and_parts _ _ (and_parts _ _ keeps.ranged).0).0).0 c.there in
-    on c.file.key refl ranged c.fits (sym (ap has_key c.found) ∙ keyed)
+    on c.file.key refl ranged (sym (ap has_key c.found) ∙ keyed)
   where
-    on : (key : Option KeyField) → (chains p line is).file.key ≡ key → file_in_range (chains p line is).file ≡ true → is_key (chains p line is).file.key (meant_factor p line.factor1) ≡ true
-        → is_some (chains p line is).file.key ≡ true → length (take count buffer) ≤ 29
-    on None e ranged fits some = absurd (true≢false (sym some ∙ ap (λ (k : Option KeyField). is_some k) e))
-    on (Some key) e ranged fits some =
+    on : (key : Option KeyField) → (chains p line is).file.key ≡ key → file_in_range (chains p line is).file ≡ true → is_some (chains p line is).file.key ≡ true → length (take count buffer) ≤ 29
+    on None e ranged some = absurd (true≢false (sym some ∙ ap (λ (k : Option KeyField). is_some k) e))
+    on (Some key) e ranged some =
         let few : key.length ≤ 29 = few_of_key (chains p line is).file key ranged e in
-        let rest : Environment = at_first (source_named p) 0 [] in
-        let size = bytes_few p s rest line.factor1 key sound (chain_value p line is) (sym (ap (λ k. is_key k (meant_factor p line.factor1)) e) ∙ fits) in
-        omega (arith, few, size, ap (λ (xs : List ℕ). length xs) (bytes rest))
+        let size = key_long p s line count buffer key sound is plain bytes (ap key_field (chains p line is).found ∙ e) in
+        omega (arith, few, size)
+
+-- a literal text that is one
+pub chain_ranged : (p : Program) (line : CalculationLine Reference) → IsLineOf p line op.Chain → if_given factor_in_range line.factor1 ≡ true
+chain_ranged p line is = by line.factor1 (brings p line op.Chain is refl).first_range
+  where
+    by : (one : Option (Factor Reference)) → if_given factor_in_range (meant_factor p one) ≡ true → if_given factor_in_range one ≡ true
+    by None h = refl
+    by (Some (Named name)) h = refl
+    by (Some (Number literal)) h = h
+    by (Some (Text literal)) h = h
+
+pub literal_few : (one : Option (Factor Reference)) (text : List ℕ) → if_given factor_in_range one ≡ true → IsLiteral one text → length text ≤ 29
+literal_few None text h is = absurd is
+literal_few (Some (Named name)) text h is = absurd is
+literal_few (Some (Number literal)) text h is = absurd is
+literal_few (Some (Text literal)) text h is =
+    let long : length text ≡ literal.length = is.1 in
+    let few = at_most literal.length (and_parts (nat_le 1 literal.length) (nat_le literal.length 8) h).1 in
+    omega (arith, long, few)
+  where
+    at_most : (n : ℕ) → nat_le n 8 ≡ true → n ≤ 8
+    at_most n h = grind (arith, nat_tests, h)
+
+pub literal_bytes : (p : Program) (e : Environment) (one : Option (Factor Reference)) (text : List ℕ) → IsLiteral one text → text ≡ bytes_in (source_named p) e (named_factor p one)
+literal_bytes p e None text is = absurd is
+literal_bytes p e (Some (Named name)) text is = absurd is
+literal_bytes p e (Some (Number literal)) text is = absurd is
+literal_bytes p e (Some (Text literal)) text is = is.0
+
+pub literal_long : (p : Program) (line : CalculationLine Reference) (text : List ℕ) (field : KeyField) → IsLineOf p line op.Chain → IsLiteral line.factor1 text → key_field (file_sought p line) ≡ Some field
+    → length text ≡ field.length
+literal_long p line text field is literal keyed = by line.factor1 literal (keyed_fits p line field is keyed)
+  where
+    by : (one : Option (Factor Reference)) → IsLiteral one text → is_key (Some field) (meant_factor p one) ≡ true → length text ≡ field.length
+    by None l fits = absurd l
+    by (Some (Named name)) l fits = absurd l
+    by (Some (Number literal)) l fits = absurd l
+    by (Some (Text literal)) l fits = let long : length text ≡ literal.length = l.1 in long ∙ same_length literal.length field.length fits

@@ -1,10 +1,12 @@
 //! CHAIN: the file that it names, and what it seeks there.
-ghost use Rattle.std.specs.Prelude.{◌≡◌, ◌<◌, ◌≤◌, true, false, Some, length, slice_get};
+ghost use Rattle.std.specs.Prelude.{◌≡◌, ◌<◌, ◌≤◌, true, false, Some, IfSome, IfNone, length, slice_get};
+ghost use Rattle.s3_lines.specs.Ranges.{factor_in_range, if_given};
+ghost use Rattle.s3_lines.specs.declared.sheet.KeyField.{KeyField};
 ghost use Rattle.s3_lines.specs.declared.sheet.Operation.TheVariants as op;
 ghost use Rattle.s3_meaning.specs.Calculating.{bytes_in, number_in};
 ghost use Rattle.s3_meaning.specs.Environment.{Environment};
 ghost use Rattle.s3_program.specs.Stands.{source_named};
-ghost use Rattle.s3_operations.specs.Chaining.{file_sought, has_key, is_chained_file, names_file};
+ghost use Rattle.s3_operations.specs.Chaining.{IsLiteral, file_sought, has_key, is_chained_file, is_literal, key_field, names_file};
 ghost use Rattle.s3_operations.specs.Fits.{IsLineOf, named_factor};
 ghost use Rattle.s3_operations.specs.Held.{IsSound, held};
 
@@ -50,8 +52,39 @@ fn key_of(bytes: &[u8]) -> ArrayVec<u8, KEY_BYTES>
     }
 }
 
+/// The characters of a factor that is a literal text.
+fn literal_text(factor: &Option<Factor<Reference>>) -> Option<&[u8]>
+    requires { if_given factor_in_range factor.now ≡ true }
+    ensures some { IfSome result (λ text. IsLiteral factor.now text.now) }
+    ensures none { IfNone result (is_literal factor.now ≡ false) }
+{
+    match factor {
+        Some(Factor::Text(literal)) => Some(&literal.codes[..usize::from(literal.length)]),
+        _ => None,
+    }
+}
+
 impl Values {
-    /// The key that a CHAIN to an indexed file seeks: the characters of a text, the zoned bytes of a number.
+    /// The key that a factor gives that isn't a literal text.
+    fn key_of_value(
+        &self,
+        program: &Program,
+        line: &CalculationLine<Reference>,
+    ) -> ArrayVec<u8, KEY_BYTES>
+        requires sound { IsSound program.now self.now }
+        requires line { IsLineOf program.now line.now op.Chain }
+        requires keyed { has_key (file_sought program.now line.now) ≡ true }
+        requires plain { is_literal line.now.factor1 ≡ false }
+        ensures bytes { (rest : Environment) → result.items ≡ bytes_in (source_named program.now) (held program.now self.now rest) (named_factor program.now line.now.factor1) }
+        ensures long { (field : KeyField) → key_field (file_sought program.now line.now) ≡ Some field → length result.items ≡ field.length }
+    {
+        let mut buffer = [0; LONGEST];
+        let count = self.bytes(program, &line.factor1, &mut buffer);
+        key_of(&buffer[..count])
+    }
+
+    /// The key that a CHAIN to an indexed file seeks: the characters of a text, the zoned bytes of a number. It is as long as
+    /// the key of the file.
     pub fn key(
         &self,
         program: &Program,
@@ -60,11 +93,13 @@ impl Values {
         requires sound { IsSound program.now self.now }
         requires line { IsLineOf program.now line.now op.Chain }
         requires keyed { has_key (file_sought program.now line.now) ≡ true }
-        ensures { (rest : Environment) → result.items ≡ bytes_in (source_named program.now) (held program.now self.now rest) (named_factor program.now line.now.factor1) }
+        ensures bytes { (rest : Environment) → result.items ≡ bytes_in (source_named program.now) (held program.now self.now rest) (named_factor program.now line.now.factor1) }
+        ensures long { (field : KeyField) → key_field (file_sought program.now line.now) ≡ Some field → length result.items ≡ field.length }
     {
-        let mut buffer = [0; LONGEST];
-        let count = self.bytes(program, &line.factor1, &mut buffer);
-        key_of(&buffer[..count])
+        match literal_text(&line.factor1) {
+            Some(text) => key_of(text),
+            None => self.key_of_value(program, line),
+        }
     }
 
     /// The record number that a CHAIN to a file without a key seeks.

@@ -41,7 +41,7 @@ use Rattle.s3_cycle.specs.declared.request.Request.{Request}
 use Rattle.s3_cycle.specs.declared.request.Request.TheVariants as asks
 use Rattle.s3_cycle.specs.declared.state.State.{State}
 use Rattle.s3_cycle.specs.declared.stepper.Stepper.{Stepper}
-use Rattle.s3_cycle.specs.Requests.{IsLine}
+use Rattle.s3_cycle.specs.Requests.{IsLine, FitsFile}
 use Rattle.s3_cycle.specs.Rest.{rest, inputs_in, moved_bytes, fields_at}
 use Rattle.s3_cycle.specs.Inner.Environment.{environment}
 
@@ -200,6 +200,7 @@ pub record IsWaiting (c : Stepper) : Type 0 where
   pub running : IsRunning c
   pub waits : Waits c.program c.progress c.request c.point
   pub line : IsLine c.request c.composition
+  pub fits : FitsFile c.program.files.items c.request c.composition
 
 -- it goes on with this run, over the same program, to its next request
 pub record GoesOn (old new : Stepper) (run : Run) : Type 0 where

@@ -1,4 +1,4 @@
--- The line that is composed.
+-- The line that is composed, and the record that is put into its file.
 use Rattle.std.specs.Prelude.{◌≡◌, length, replicate, None}
 use Rattle.s3_meaning.specs.OutputLines.{Output}
 use Rattle.s3_meaning.specs.Output.{composed}
@@ -6,6 +6,7 @@ use Rattle.s3_program.specs.declared.starts.OutputStart.{OutputStart}
 use Rattle.s3_output.specs.Lines.{IsLineAt}
 use Rattle.s3_match.specs.Heads.{file_at}
 use Rattle.s3_cycle.specs.declared.stepper.Stepper.{Stepper}
+use Rattle.s3_cycle.specs.Requests.{IsDiskFile, TakesRecord}
 use Rattle.s3_cycle.specs.Inner.Environment.{environment}
 use Rattle.s3_cycle.specs.Inner.Going.{AreSound, own, held_by}
 
@@ -17,3 +18,9 @@ pub record ComposesLine (old new : Stepper) (start : OutputStart) : Type 0 where
   pub composes : (line : Output) → IsLineAt old.program start line
       → composed (own old) line.fields (record { positions = replicate (file_at old.program start.file).record_length None; after = held_by old })
       ≡ record { positions = new.composition; after = environment old.program new.state }
+
+-- the record of the line that starts there is composed, and its file takes it
+pub record CanStore (c : Stepper) (start : OutputStart) : Type 0 where
+  pub line : Output
+  pub is_line : IsLineAt c.program start line
+  pub fits : IsDiskFile c.program.files.items start.file (TakesRecord (length c.composition))

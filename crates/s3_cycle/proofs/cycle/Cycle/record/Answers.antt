@@ -1,9 +1,9 @@
 use Rattle.std.proofs.Common.{ap, ◌∙◌, sym, subst, List, ℕ}
 use Rattle.s3_meaning.specs.Output.{filled}
 use Rattle.s3_cycle.specs.declared.stepper.Stepper.{Stepper}
-use Rattle.s3_cycle.specs.Requests.{IsLine}
-use Rattle.s3_cycle.specs.Following.{asked, put}
-use Rattle.s3_cycle.proofs.FollowLemmas.{line_filled}
+use Rattle.s3_cycle.specs.Requests.{FitsFile, IsLine}
+use Rattle.s3_cycle.specs.Following.{asked, files, put}
+use Rattle.s3_cycle.proofs.FollowLemmas.{file_filled, line_filled}
 use Rattle.s3_cycle.proofs.cycle.Cycle.record.Goals as goal
 
 pub returns-clause-value : goal.returns-clause-value
@@ -16,3 +16,11 @@ returns-clause-line c =
     let P : Stepper → Type 0 = λ k. IsLine k.request c.codes.result.now in
     let Q : List ℕ → Type 0 = λ text. IsLine c.self.inside.stepper.request text in
     subst P c.self.view_is (subst Q (sym c.codes.ensures) (line_filled c.self.inside.stepper.request c.self.inside.stepper.composition c.self.invariant.line))
+
+pub returns-clause-file : goal.returns-clause-file
+unfolding asked files
+returns-clause-file c =
+    let inside : Stepper = c.self.inside.stepper in
+    let P : Stepper → Type 0 = λ k. FitsFile k.program.files.items k.request c.codes.result.now in
+    let Q : List ℕ → Type 0 = λ text. FitsFile inside.program.files.items inside.request text in
+    subst P c.self.view_is (subst Q (sym c.codes.ensures) (file_filled inside.program.files.items inside.request inside.composition c.self.invariant.fits))

@@ -44,4 +44,4 @@ returns c =
     (sym c.if-not-is_served.false
     ∙ (c.is_served-is_served.ensures (others s.program s.state) ∙ ap (λ (f : FileLine). is_served (held_by s) f) (sym (file_is s.program file c.index-2.result.now within c.index-2.ensures))))
     (ap (λ (f : FileLine). f.record_length) (sym (file_is s.program file c.index-3.result.now within c.index-3.ensures)))
-    (c.sought.ensures c.requires.next.line c.requires.next.there) c.wait.ensures
+    c.sought.ensures.by (c.sought.ensures.value c.requires.next.line c.requires.next.there) c.wait.ensures
