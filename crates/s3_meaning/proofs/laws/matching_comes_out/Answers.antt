@@ -6,25 +6,10 @@ use Rattle.s3_meaning.specs.Moving.{number_moved, field_moved, fields_moved}
 use Rattle.s3_meaning.specs.Output.{printed, stored_or_halted, file_line_put, line_put, lines_put}
 use Rattle.s3_meaning.specs.Calculating.{divided, not_found, chained_to, on_chain, chained, performed, calculated}
 use Rattle.s3_meaning.specs.Cycle.{halts_shown, headings, cleared, headed, typed, on_read, file_read, files_read, totals, last_time, total_time, overflow_lines, detail_time, record_time, selected_or_last, reading_time, one_cycle, anew_within, again}
-use Rattle.s3_meaning.specs.Corners.{asked}
+use Rattle.s3_meaning.specs.SheetWords.{asked}
+use Rattle.s3_meaning.specs.MatchingCorners.{matching_corners}
 use Rattle.s3_meaning.proofs.laws.matching_comes_out.Goals as goal
 
-pub returns-clause-with_end : goal.returns-clause-with_end
-unfolding asked ask ended to_totals replied halted number_moved field_moved fields_moved printed stored_or_halted file_line_put line_put lines_put divided not_found chained_to on_chain chained performed calculated halts_shown headings cleared headed typed on_read file_read files_read totals last_time total_time overflow_lines detail_time record_time selected_or_last reading_time one_cycle anew_within again stored ebcdic code_page
-returns-clause-with_end c = refl
-
-pub returns-clause-without_end : goal.returns-clause-without_end
-unfolding asked ask ended to_totals replied halted number_moved field_moved fields_moved printed stored_or_halted file_line_put line_put lines_put divided not_found chained_to on_chain chained performed calculated halts_shown headings cleared headed typed on_read file_read files_read totals last_time total_time overflow_lines detail_time record_time selected_or_last reading_time one_cycle anew_within again stored ebcdic code_page
-returns-clause-without_end c = refl
-
-pub returns-clause-without_key : goal.returns-clause-without_key
-unfolding asked ask ended to_totals replied halted number_moved field_moved fields_moved printed stored_or_halted file_line_put line_put lines_put divided not_found chained_to on_chain chained performed calculated halts_shown headings cleared headed typed on_read file_read files_read totals last_time total_time overflow_lines detail_time record_time selected_or_last reading_time one_cycle anew_within again stored ebcdic code_page
-returns-clause-without_key c = refl
-
-pub returns-clause-out_of_sequence : goal.returns-clause-out_of_sequence
-unfolding asked ask ended to_totals replied halted number_moved field_moved fields_moved printed stored_or_halted file_line_put line_put lines_put divided not_found chained_to on_chain chained performed calculated halts_shown headings cleared headed typed on_read file_read files_read totals last_time total_time overflow_lines detail_time record_time selected_or_last reading_time one_cycle anew_within again stored ebcdic code_page
-returns-clause-out_of_sequence c = refl
-
-pub returns-clause-highest_first : goal.returns-clause-highest_first
-unfolding asked ask ended to_totals replied halted number_moved field_moved fields_moved printed stored_or_halted file_line_put line_put lines_put divided not_found chained_to on_chain chained performed calculated halts_shown headings cleared headed typed on_read file_read files_read totals last_time total_time overflow_lines detail_time record_time selected_or_last reading_time one_cycle anew_within again stored ebcdic code_page
-returns-clause-highest_first c = refl
+pub returns : goal.returns
+unfolding asked ask ended to_totals replied halted number_moved field_moved fields_moved printed stored_or_halted file_line_put line_put lines_put divided not_found chained_to on_chain chained performed calculated halts_shown headings cleared headed typed on_read file_read files_read totals last_time total_time overflow_lines detail_time record_time selected_or_last reading_time one_cycle anew_within again stored ebcdic code_page matching_corners
+returns c = refl
