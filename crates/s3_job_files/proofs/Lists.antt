@@ -13,6 +13,12 @@ map_set f [] i x = refl
 map_set f (y ∷ xs) zero x = refl
 map_set f (y ∷ xs) (suc i) x = ap (λ zs. f y ∷ zs) (map_set f xs i x)
 
+-- where an element is set to one that gives the same
+pub map_stays : {X Y : Type 0} (f : X → Y) (xs : List X) (p : ℕ) (x y : X) → slice_get xs p ≡ Some x → f y ≡ f x → map f (slice_set xs p y) ≡ map f xs
+map_stays f [] p x y there same = refl
+map_stays f (z ∷ xs) zero x y there same = ap (λ w. w ∷ map f xs) (same ∙ ap f (let e : x ≡ z = cc in e))
+map_stays f (z ∷ xs) (suc p) x y there same = ap (λ ws. f z ∷ ws) (map_stays f xs p x y there same)
+
 pub any_set : {X : Type 0} (t : X → Bool) (xs : List X) (i : ℕ) (x y : X) → slice_get xs i ≡ Some x → t y ≡ t x → list_any t (slice_set xs i y) ≡ list_any t xs
 any_set t [] i x y h same = refl
 any_set t (z ∷ xs) zero x y h same = ap (λ b. b || list_any t xs) (same ∙ ap t (let e : x ≡ z = cc in e))

@@ -165,6 +165,16 @@ pub record TakesRecord (bytes : List ℕ) (file : OpenFile) : Type 0 where
   pub own : file.is_master ≡ false
   pub long : length bytes ≡ file.label.record_length
 
+-- ---- what no request changes
+-- of an open file: its name, its label as it was opened, and whose it is
+pub record OpenedAs : Type 0 where
+  pub name : Name
+  pub label : FileLabel
+  pub is_master : Bool
+
+abbrev pub opened_as : OpenFile → OpenedAs
+opened_as file = record { name = file.name; label = file.label; is_master = file.is_master }
+
 -- ---- what is out of reach of a level
 -- a sector neither of the labels of a level nor of its region
 pub record IsOutOfReach (level : LevelId) (header : Header) (n : ℕ) : Type 0 where

@@ -38,7 +38,7 @@ fn position_of(files: &Vec<OpenFile>, name: Name) -> Option<usize>
 impl JobFiles {
     ghost use Rattle.s3_job_files.specs.Files.{FilesInUse, area_by, place_named};
     ghost use Rattle.s3_job_files.specs.Closing.{files_closed};
-    ghost use Rattle.s3_job_files.specs.Holds.{AllAt, HoldsRecords, Seen, Stands, seen, IsReady, IsOutOfReach, Holds, Serves, TakesRecord, current_of, job_file_of};
+    ghost use Rattle.s3_job_files.specs.Holds.{AllAt, HoldsRecords, Seen, Stands, seen, IsReady, IsOutOfReach, Holds, Serves, TakesRecord, current_of, job_file_of, opened_as};
 
     /// No files yet.
     pub fn new(alloc: Global, level: LevelId) -> Self
@@ -101,6 +101,7 @@ impl JobFiles {
         ensures areas { pack.new.areas ≡ pack.old.areas }
         ensures failures { (P.state pack.new.pool).failures ≡ (P.state pack.old.pool).failures + failed_transfers result }
         ensures level { self.new.level ≡ self.old.level }
+        ensures opened { map opened_as self.new.files.items ≡ map opened_as self.old.files.items }
     {
         self.files[place].read_next(&mut pack.pool, bytes)
     }
@@ -124,6 +125,7 @@ impl JobFiles {
         ensures areas { pack.new.areas ≡ pack.old.areas }
         ensures failures { (P.state pack.new.pool).failures ≡ (P.state pack.old.pool).failures + failed_transfers result }
         ensures level { self.new.level ≡ self.old.level }
+        ensures opened { map opened_as self.new.files.items ≡ map opened_as self.old.files.items }
     {
         self.files[place].chain_key(&mut pack.pool, key, bytes)
     }
@@ -145,6 +147,7 @@ impl JobFiles {
         ensures areas { pack.new.areas ≡ pack.old.areas }
         ensures failures { (P.state pack.new.pool).failures ≡ (P.state pack.old.pool).failures + failed_transfers result }
         ensures level { self.new.level ≡ self.old.level }
+        ensures opened { map opened_as self.new.files.items ≡ map opened_as self.old.files.items }
     {
         self.files[place].chain_number(&mut pack.pool, number, bytes)
     }
@@ -169,6 +172,7 @@ impl JobFiles {
         ensures areas { pack.new.areas ≡ pack.old.areas }
         ensures failures { (P.state pack.new.pool).failures ≡ (P.state pack.old.pool).failures + failed_transfers result }
         ensures level { self.new.level ≡ self.old.level }
+        ensures opened { map opened_as self.new.files.items ≡ map opened_as self.old.files.items }
     {
         self.files[place].append(&mut pack.pool, bytes)
     }
@@ -194,6 +198,7 @@ impl JobFiles {
         ensures areas { pack.new.areas ≡ pack.old.areas }
         ensures failures { (P.state pack.new.pool).failures ≡ (P.state pack.old.pool).failures + failed_transfers result }
         ensures level { self.new.level ≡ self.old.level }
+        ensures opened { map opened_as self.new.files.items ≡ map opened_as self.old.files.items }
     {
         self.files[place].add(&mut pack.pool, bytes)
     }

@@ -12,7 +12,8 @@ use Rattle.s3_store.specs.State.{PoolState, ChangesWithin}
 use Rattle.s3_cards.specs.Printed.{Printed}
 use Rattle.s3_cards.specs.declared.levels.LevelId.{LevelId}
 use Rattle.s3_cards.specs.declared.levels.LevelId.TheVariants.{One, Two}
-use Rattle.s3_spool.specs.Queues.{AreBlocks, Blocks, IsFreeSector, quota_of, times, block_sector, line_of_block, lines_in, queue_of, blocks_of, other_level, with_queued, with_taken}
+use Rattle.s3_cards.specs.Levels.{other}
+use Rattle.s3_spool.specs.Queues.{AreBlocks, Blocks, IsFreeSector, quota_of, times, block_sector, line_of_block, lines_in, queue_of, blocks_of, with_queued, with_taken}
 use Rattle.std.proofs.lemmas.Bool.Decides.{nat_tests, eqb_tells, leb_tells}
 use Rattle.std.specs.Prelude.{true, false, eqb, leb, slice_set}
 
@@ -40,7 +41,7 @@ read_sector_bytes contents n bytes there whole =
     ap (λ found. take 256 (unwrap_or found [] ++ replicate 256 0)) there ∙ ap (λ k. take k (bytes ++ replicate 256 0)) (sym whole) ∙ take-append_seam bytes (replicate 256 0)
 
 -- ---- how often a block stands among some
-times-same : (block other : ℕ) (blocks : List ℕ) → block ≡ other → times block (other ∷ blocks) ≡ 1 + times block blocks
+pub times-same : (block other : ℕ) (blocks : List ℕ) → block ≡ other → times block (other ∷ blocks) ≡ 1 + times block blocks
 times-same block other blocks same = grind (arith, nat_tests)
 
 times-other : (block other : ℕ) (blocks : List ℕ) → block ≢ other → times block (other ∷ blocks) ≡ times block blocks
@@ -203,7 +204,7 @@ queued_last Two blocks b bytes contents line elsewhere whole there reads = put_l
 
 pub queued_other : (level : LevelId) (blocks : Blocks) (b : ℕ) (bytes : List ℕ) (contents : List (List ℕ))
     → times b blocks.one + times b blocks.two ≡ 0
-    → queue_of (other_level level) (with_queued level b blocks) (slice_set contents (block_sector b) bytes) ≡ queue_of (other_level level) blocks contents
+    → queue_of (other level) (with_queued level b blocks) (slice_set contents (block_sector b) bytes) ≡ queue_of (other level) blocks contents
 queued_other One blocks b bytes contents elsewhere = kept_lines blocks.two b bytes contents (omega arith)
 queued_other Two blocks b bytes contents elsewhere = kept_lines blocks.one b bytes contents (omega arith)
 
@@ -219,15 +220,15 @@ taken_quota One Two blocks b = refl
 taken_quota Two One blocks b = refl
 taken_quota Two Two blocks b = refl
 
-pub taken_other : (level : LevelId) (blocks : Blocks) (b : ℕ) → blocks_of (other_level level) (with_taken level b blocks) ≡ blocks_of (other_level level) blocks
+pub taken_other : (level : LevelId) (blocks : Blocks) (b : ℕ) → blocks_of (other level) (with_taken level b blocks) ≡ blocks_of (other level) blocks
 taken_other One blocks b = refl
 taken_other Two blocks b = refl
 
 -- what changes in the sector of a free block alone
-pub within_free : (blocks : Blocks) (b : ℕ) (old new : PoolState) → times b blocks.one + times b blocks.two ≡ 0
+pub within_free : (blocks : Blocks) (b : ℕ) (old new : PoolState) → b < 128 → times b blocks.one + times b blocks.two ≡ 0
     → ChangesWithin (λ i. i ≡ block_sector b) old new → ChangesWithin (IsFreeSector blocks) old new
-within_free blocks b old new elsewhere within =
-    within_weaker (λ i. i ≡ block_sector b) (IsFreeSector blocks) old new (λ i here. record { block = b; place = here; free = elsewhere }) within
+within_free blocks b old new few elsewhere within =
+    within_weaker (λ i. i ≡ block_sector b) (IsFreeSector blocks) old new (λ i here. record { block = b; few = few; place = here; free = elsewhere }) within
 
 pub one_below : (free one two : List ℕ) (b : ℕ) → AreBlocks free one two → slice_get one 0 ≡ Some b → b < 128
 one_below free one two b are first = first_below one free two b (turned free one two are) first

@@ -65,10 +65,6 @@ lines_in blocks contents = map (λ block. line_of_block (sector_bytes contents (
 abbrev pub queue_of : LevelId → Blocks → (contents : List (List ℕ)) → List Printed
 queue_of level blocks contents = lines_in (blocks_of level blocks) contents
 
-abbrev pub other_level : LevelId → LevelId
-other_level One = Two
-other_level Two = One
-
 -- the first free block becomes a level's last
 abbrev pub with_queued : LevelId → ℕ → Blocks → Blocks
 with_queued One block blocks = record blocks { free = drop 1 blocks.free; one = blocks.one ++ block ∷ [] }
@@ -82,6 +78,7 @@ with_taken Two block blocks = record blocks { free = blocks.free ++ block ∷ []
 -- a sector of a block that holds no line
 pub record IsFreeSector (blocks : Blocks) (n : ℕ) : Type 0 where
   pub block : ℕ
+  pub few : block < 128
   pub place : n ≡ block_sector block
   pub free : times block blocks.one + times block blocks.two ≡ 0
 

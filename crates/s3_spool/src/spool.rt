@@ -1,10 +1,11 @@
 //! The queues of both levels.
 ghost use Rattle.std.specs.Prelude.{◌≡◌, ◌≢◌, ◌<◌, ◌≤◌, ◌+◌, ◌++◌, ◌∷◌, [], ◌↔◌, Err, length, slice_get, IfOk, OnOk, OnErr, IfErr, slice_set};
 ghost use Rattle.std.specs.List.{range_with_len};
+ghost use Rattle.s3_cards.specs.Levels.{other};
 ghost use Rattle.s3_store.specs.Failures.{failed_transfers};
 ghost use Rattle.s3_store.specs.Bytes.{sector_bytes};
 ghost use Rattle.s3_store.specs.State.{KeepsContents, ChangesWithin};
-ghost use Rattle.s3_spool.specs.Queues.{times, blocks_of, quota_of, queue_of, other_level, with_queued, with_taken, IsFreeSector, failed_by, line_of_block as line_of_block_spec, block_bytes as block_bytes_spec, block_sector};
+ghost use Rattle.s3_spool.specs.Queues.{times, blocks_of, quota_of, queue_of, with_queued, with_taken, AreBlocks, IsFreeSector, failed_by, line_of_block as line_of_block_spec, block_bytes as block_bytes_spec, block_sector};
 
 use crate::block::{block_bytes, line_of_block};
 use crate::fault::SpoolFault;
@@ -99,6 +100,7 @@ impl Spool {
         requires { quota_one + quota_two ≤ 128 }
         ensures one { IfOk result (λ spool. (spool.one ≡ []) × (spool.quota_one ≡ quota_one)) }
         ensures two { IfOk result (λ spool. (spool.two ≡ []) × (spool.quota_two ≡ quota_two)) }
+        ensures blocks { IfOk result (λ spool. AreBlocks spool.free spool.one spool.two) }
     {
         Ok(Spool {
             free: all_blocks(alloc)?,
@@ -152,7 +154,8 @@ impl Spool {
     fn enqueue(&mut self, level: LevelId, block: u8)
         requires first { slice_get self.old.free 0 ≡ Some block }
         requires room { length (blocks_of level self.old) < quota_of level self.old }
-        ensures { self.new ≡ with_queued level block self.old }
+        ensures queued { self.new ≡ with_queued level block self.old }
+        ensures blocks { AreBlocks self.new.free self.new.one self.new.two }
     {
         self.free.pop_front();
         match level {
@@ -165,7 +168,8 @@ impl Spool {
     #[tactic(auto, using(crate::proofs::BlocksLemmas::kept_all, crate::proofs::BlocksLemmas::back_from_one, crate::proofs::BlocksLemmas::back_from_two))]
     fn dequeue(&mut self, level: LevelId, block: u8)
         requires { slice_get (blocks_of level self.old) 0 ≡ Some block }
-        ensures { self.new ≡ with_taken level block self.old }
+        ensures taken { self.new ≡ with_taken level block self.old }
+        ensures blocks { AreBlocks self.new.free self.new.one self.new.two }
     {
         match level {
             LevelId::One => self.one.pop_front(),
@@ -187,15 +191,18 @@ impl Spool {
     ) -> Result<(), SpoolFault>
         requires { 153 ≤ length (P.state sectors.old).contents }
         ensures queued { OnOk result (queue_of level self.new (P.state sectors.new).contents ≡ queue_of level self.old (P.state sectors.old).contents ++ line.now ∷ []) }
-        ensures other { queue_of (other_level level) self.new (P.state sectors.new).contents ≡ queue_of (other_level level) self.old (P.state sectors.old).contents }
+        ensures other { queue_of (other level) self.new (P.state sectors.new).contents ≡ queue_of (other level) self.old (P.state sectors.old).contents }
         ensures quotas { (one_or_two : LevelId) → quota_of one_or_two self.new ≡ quota_of one_or_two self.old }
         ensures full { (result ≡ Err SpoolFault.QuotaFull) ↔ (length (blocks_of level self.old) ≡ quota_of level self.old) }
         ensures not_empty { result ≢ Err SpoolFault.Empty }
         ensures err { OnErr result (self.new ≡ self.old) }
+        ensures blocks { AreBlocks self.new.free self.new.one self.new.two }
         ensures within { ChangesWithin (IsFreeSector self.old) (P.state sectors.old) (P.state sectors.new) }
         ensures failures { (P.state sectors.new).failures ≡ (P.state sectors.old).failures + failed_by result }
         ensures fault { result ≢ Err (SpoolFault.Sectors PoolFault.NoSector) }
     {
+        // for what is always true of the blocks
+        let _ = &self.free;
         if self.is_full(level) {
             return Err(SpoolFault::QuotaFull);
         }
@@ -216,15 +223,18 @@ impl Spool {
     ) -> Result<PrintLine, SpoolFault>
         requires { 153 ≤ length (P.state sectors.old).contents }
         ensures first { IfOk result (λ line. queue_of level self.old (P.state sectors.old).contents ≡ line ∷ queue_of level self.new (P.state sectors.new).contents) }
-        ensures other { blocks_of (other_level level) self.new ≡ blocks_of (other_level level) self.old }
+        ensures other { blocks_of (other level) self.new ≡ blocks_of (other level) self.old }
         ensures quotas { (one_or_two : LevelId) → quota_of one_or_two self.new ≡ quota_of one_or_two self.old }
         ensures empty { (result ≡ Err SpoolFault.Empty) ↔ (blocks_of level self.old ≡ []) }
         ensures not_full { result ≢ Err SpoolFault.QuotaFull }
         ensures err { OnErr result (self.new ≡ self.old) }
+        ensures blocks { AreBlocks self.new.free self.new.one self.new.two }
         ensures keeps { KeepsContents (P.state sectors.old) (P.state sectors.new) }
         ensures failures { (P.state sectors.new).failures ≡ (P.state sectors.old).failures + failed_by result }
         ensures fault { result ≢ Err (SpoolFault.Sectors PoolFault.NoSector) }
     {
+        // for what is always true of the blocks
+        let _ = &self.free;
         let Some(block) = self.first_queued(level) else {
             return Err(SpoolFault::Empty);
         };

@@ -1,9 +1,11 @@
-use Rattle.std.proofs.Common.{refl}
+use Rattle.std.proofs.Common.{ap, refl}
 use Rattle.std.proofs.lemmas.Option.{slice_get_read}
 use Rattle.s3_job_files.specs.Records.{added}
 use Rattle.s3_meaning.specs.Requests.{refuses_add}
 use Rattle.s3_job_files.proofs.Fitting.{added_within, fits_puts}
+use Rattle.s3_job_files.specs.Holds.{opened_as}
 use Rattle.s3_job_files.proofs.Held.{usable_at}
+use Rattle.s3_job_files.proofs.Lists.{map_stays}
 use Rattle.s3_job_files.proofs.Putting.{file_spares, of_put, own_sound, put_ready_if, put_serves}
 use Rattle.s3_job_files.proofs.job_files.JobFiles.add.Goals as goal
 
@@ -42,3 +44,8 @@ add-requires-clause-indexed g c = c.requires.indexed c.index_mut.result.now (sli
 
 pub returns-clause-fits : goal.returns-clause-fits
 returns-clause-fits g c = fits_puts refuses_add _ _ _ c.add.result (added_within c.index_mut.result.now.label c.args.bytes.now _) c.add.ensures.puts
+
+pub returns-clause-opened : goal.returns-clause-opened
+returns-clause-opened g c =
+    map_stays opened_as c.args.self.now.files.items c.args.place c.index_mut.result.now c.add.new.self
+    (slice_get_read _ _ c.args.place c.index_mut.result.now refl c.requires.there c.index_mut.ensures.value) (ap opened_as c.add.ensures.alone)

@@ -1,9 +1,11 @@
-use Rattle.std.proofs.Common.{refl}
+use Rattle.std.proofs.Common.{ap, refl}
 use Rattle.std.proofs.lemmas.Option.{slice_get_read}
 use Rattle.s3_job_files.specs.Records.{appended}
 use Rattle.s3_meaning.specs.Requests.{refuses_append}
 use Rattle.s3_job_files.proofs.Fitting.{appended_within, fits_puts}
+use Rattle.s3_job_files.specs.Holds.{opened_as}
 use Rattle.s3_job_files.proofs.Held.{usable_at}
+use Rattle.s3_job_files.proofs.Lists.{map_stays}
 use Rattle.s3_job_files.proofs.Putting.{file_spares, of_put, own_sound, put_ready_if, put_serves}
 use Rattle.s3_job_files.proofs.job_files.JobFiles.append.Goals as goal
 
@@ -39,3 +41,8 @@ returns-clause-spares g c =
 
 pub returns-clause-fits : goal.returns-clause-fits
 returns-clause-fits g c = fits_puts refuses_append _ _ _ c.append.result (appended_within c.index_mut.result.now.label c.args.bytes.now _) c.append.ensures.puts
+
+pub returns-clause-opened : goal.returns-clause-opened
+returns-clause-opened g c =
+    map_stays opened_as c.args.self.now.files.items c.args.place c.index_mut.result.now c.append.new.self
+    (slice_get_read _ _ c.args.place c.index_mut.result.now refl c.requires.there c.index_mut.ensures.value) (ap opened_as c.append.ensures.alone)

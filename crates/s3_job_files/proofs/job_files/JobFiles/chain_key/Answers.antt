@@ -1,7 +1,9 @@
-use Rattle.std.proofs.Common.{refl}
+use Rattle.std.proofs.Common.{ap, refl}
 use Rattle.std.proofs.lemmas.Option.{slice_get_read}
 use Rattle.s3_meaning.specs.Requests.{Key}
+use Rattle.s3_job_files.specs.Holds.{opened_as}
 use Rattle.s3_job_files.proofs.Held.{usable_at}
+use Rattle.s3_job_files.proofs.Lists.{map_stays}
 use Rattle.s3_job_files.proofs.Reading.{of_chained, read_ready, chain_serves}
 use Rattle.s3_job_files.proofs.job_files.JobFiles.chain_key.Goals as goal
 
@@ -30,3 +32,8 @@ chain_key-requires-clause-indexed g c = c.requires.indexed c.index_mut.result.no
 
 pub chain_key-requires-clause-key : goal.chain_key-requires-clause-key
 chain_key-requires-clause-key g c = c.requires.key c.index_mut.result.now (slice_get_read _ _ c.args.place c.index_mut.result.now refl c.requires.there c.index_mut.ensures.value)
+
+pub returns-clause-opened : goal.returns-clause-opened
+returns-clause-opened g c =
+    map_stays opened_as c.args.self.now.files.items c.args.place c.index_mut.result.now c.chain_key.new.self
+    (slice_get_read _ _ c.args.place c.index_mut.result.now refl c.requires.there c.index_mut.ensures.value) (ap opened_as c.chain_key.ensures.alone)

@@ -1,4 +1,4 @@
-use Rattle.std.proofs.Common.{◌≡◌, length, refl, subst, w64}
+use Rattle.std.proofs.Common.{ap, ◌≡◌, length, refl, subst, w64}
 use Rattle.std.specs.Prelude.{IfOk, OnOk}
 use Rattle.std.proofs.lemmas.Int.{to_z-of_z}
 use Rattle.std.proofs.lemmas.Option.{slice_get_read}
@@ -7,7 +7,9 @@ use Rattle.s3_job_files.specs.Records.{place_numbered}
 use Rattle.s3_job_files.specs.Requests.{answer_at, with_chained}
 use Rattle.s3_job_files.specs.Calls.{found_answer}
 use Rattle.s3_job_files.specs.Holds.{job_file_of, records_of}
+use Rattle.s3_job_files.specs.Holds.{opened_as}
 use Rattle.s3_job_files.proofs.Held.{usable_at}
+use Rattle.s3_job_files.proofs.Lists.{map_stays}
 use Rattle.s3_job_files.proofs.Reading.{of_chained, read_ready, chain_serves}
 use Rattle.s3_job_files.proofs.job_files.JobFiles.chain_number.Goals as goal
 
@@ -34,3 +36,8 @@ returns-clause-ready g c =
     read_ready c.args.self.now.level c.args.self.now.files.items c.args.pack.now.areas _ _ c.args.place c.index_mut.result.now c.chain_number.new.self
     c.requires.ready (slice_get_read _ _ c.args.place c.index_mut.result.now refl c.requires.there c.index_mut.ensures.value)
     (of_chained c.index_mut.result.now c.chain_number.new.self c.chain_number.ensures.alone) c.chain_number.ensures.keeps.contents
+
+pub returns-clause-opened : goal.returns-clause-opened
+returns-clause-opened g c =
+    map_stays opened_as c.args.self.now.files.items c.args.place c.index_mut.result.now c.chain_number.new.self
+    (slice_get_read _ _ c.args.place c.index_mut.result.now refl c.requires.there c.index_mut.ensures.value) (ap opened_as c.chain_number.ensures.alone)

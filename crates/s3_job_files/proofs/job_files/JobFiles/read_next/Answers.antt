@@ -1,6 +1,8 @@
-use Rattle.std.proofs.Common.{refl}
+use Rattle.std.proofs.Common.{ap, refl}
 use Rattle.std.proofs.lemmas.Option.{slice_get_read}
+use Rattle.s3_job_files.specs.Holds.{opened_as}
 use Rattle.s3_job_files.proofs.Held.{usable_at}
+use Rattle.s3_job_files.proofs.Lists.{map_stays}
 use Rattle.s3_job_files.proofs.Reading.{of_read, read_ready, read_serves}
 use Rattle.s3_job_files.proofs.job_files.JobFiles.read_next.Goals as goal
 
@@ -23,3 +25,8 @@ returns-clause-ready g c =
     read_ready c.args.self.now.level c.args.self.now.files.items c.args.pack.now.areas _ _ c.args.place c.index_mut.result.now c.read_next.new.self
     c.requires.ready (slice_get_read _ _ c.args.place c.index_mut.result.now refl c.requires.there c.index_mut.ensures.value)
     (of_read c.index_mut.result.now c.read_next.new.self c.read_next.ensures.alone) c.read_next.ensures.keeps.contents
+
+pub returns-clause-opened : goal.returns-clause-opened
+returns-clause-opened g c =
+    map_stays opened_as c.args.self.now.files.items c.args.place c.index_mut.result.now c.read_next.new.self
+    (slice_get_read _ _ c.args.place c.index_mut.result.now refl c.requires.there c.index_mut.ensures.value) (ap opened_as c.read_next.ensures.alone)
