@@ -1,0 +1,13 @@
+pub mod NewFiles
+pub mod Refusals
+pub mod Steps
+pub mod Lines
+pub mod Made
+pub mod Worlds
+pub mod Plans
+pub mod NewKept
+pub mod MadeFiles
+pub mod OneByOne
+pub mod OfLines
+pub mod Started
+pub mod FilesOfLines

@@ -1,0 +1,11 @@
+use Rattle.s3_opening.proofs.MadeFiles.{made_good}
+use Rattle.s3_opening.proofs.OneByOne.{readies_if_made}
+use Rattle.s3_opening.proofs.starting.make_file.Goals as goal
+
+pub open_made-requires-clause-good : goal.open_made-requires-clause-good
+open_made-requires-clause-good g c = made_good c.args.level c.args.new.now c.in_ok-label.label c.args.pack.now.areas c.make_label.new.pack.areas _ _ c.in_ok-label.ensures.made
+
+pub returns-clause-readies : goal.returns-clause-readies
+returns-clause-readies g c =
+    readies_if_made c.args.level c.args.name c.args.new.now c.in_ok-label.label c.args.pack.now.areas c.make_label.new.pack.areas _ _ _ c.open_made.result
+    c.in_ok-label.ensures.made c.open_made.ensures.keeps c.open_made.ensures.opened

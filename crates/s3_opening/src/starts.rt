@@ -1,0 +1,48 @@
+//! A file of a job that passed its tests.
+ghost use Rattle.std.specs.Prelude.{◌≡◌};
+ghost use Rattle.std.specs.List.{list_any};
+ghost use Rattle.s3_cards.specs.Names.{same_name};
+ghost use Rattle.s3_opening.specs.Starts.{step_in};
+ghost use Rattle.s3_opening.specs.Tests.{label_of, new_of};
+
+use s3_cards::Name;
+use s3_job_files::OpenFile;
+use s3_slots::NewFile;
+
+/// What a file of a job comes to at its start.
+#[derive(Drop)]
+pub enum Start {
+    /// It is opened.
+    Opened(OpenFile),
+    /// It is made, under the name by which the program knows it.
+    ToMake(Name, NewFile),
+}
+
+impl Start {
+    /// The label of the file.
+    pub fn label(&self) -> Name
+        ensures { result ≡ label_of (step_in self.now) }
+    {
+        match self {
+            Start::Opened(file) => file.label.name,
+            Start::ToMake(_, new) => new.name,
+        }
+    }
+
+    /// The file that is to be made, if it is one.
+    pub fn to_make(&self) -> Option<NewFile>
+        ensures { result ≡ new_of (step_in self.now) }
+    {
+        match self {
+            Start::Opened(_) => None,
+            Start::ToMake(_, new) => Some(*new),
+        }
+    }
+}
+
+/// Whether one of these files has this label.
+pub fn is_taken(label: Name, starts: &[Start]) -> bool
+    ensures { result ≡ list_any (λ start. same_name (label_of (step_in start)) label) starts.now }
+{
+    starts.iter().any(|start| start.label() == label)
+}

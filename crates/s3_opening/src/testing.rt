@@ -1,0 +1,193 @@
+//! The tests of a job's files, which change nothing.
+ghost use Rattle.std.specs.Prelude.{◌≡◌, ◌+◌, [], ◌∷◌, true, length, map, IfOk};
+ghost use Rattle.std.specs.List.{list_all};
+ghost use Rattle.s3_lines.specs.Ranges.{file_in_range};
+ghost use Rattle.s3_ocl.specs.Sound.{is_sound_file};
+ghost use Rattle.s3_slots.specs.Kept.{IsOfPack};
+ghost use Rattle.s3_store.specs.State.{KeepsContents};
+ghost use Rattle.s3_labels.specs.Areas.{IsReady as IsPackReady};
+ghost use Rattle.s3_job_files.specs.Holds.{seen, job_file_of};
+ghost use Rattle.s3_opening.specs.Asked.{is_disk};
+ghost use Rattle.s3_opening.specs.Tests.{line_refusal as line_refusal_spec, halt_of_find as halt_of_find_spec, tested_standing, tested_file, step_of, tested_lines};
+ghost use Rattle.s3_opening.specs.Starts.{settings_of, step_in, Gives, TestsTo, failed_opening, IsOpened, IsRight, AreRight, IsKeptFile};
+
+use crate::asked::{is_new, is_of_layout, is_only_read, is_used, new_file, statement_of};
+use crate::fault::OpeningFault;
+use crate::settings::JobSettings;
+use crate::starts::{Start, is_taken};
+use s3_cards::{LevelId, Name};
+use s3_job_files::OpenFile;
+use s3_labels::Pack;
+use s3_lines::sheet::FileLine;
+use s3_operator::HaltCode;
+use s3_slots::{FileLabel, LabelFault};
+use s3_store::Sectors;
+use std::alloc::Global;
+
+/// What the level halts for where a line doesn't allow a file that stands, whatever its index is.
+#[tactic(auto, unfolding(crate::specs::Tests::line_refusal))]
+fn line_refusal(line: &FileLine, is_master: bool, label: &FileLabel) -> Option<HaltCode>
+    ensures { result ≡ line_refusal_spec line.now is_master label.now }
+{
+    if is_master && !is_only_read(line) {
+        return Some(HaltCode::MasterForUpdate);
+    }
+    if is_of_layout(line, label) {
+        None
+    } else {
+        Some(HaltCode::LabelMismatch)
+    }
+}
+
+/// A file that stands, if the line may have it.
+fn open_standing<P: Sectors>(
+    alloc: Global,
+    pool: &mut P,
+    line: &FileLine,
+    label: FileLabel,
+    is_master: bool,
+) -> Result<OpenFile, OpeningFault>
+    requires on_pack { IsOfPack (length (P.state pool.old).contents) label }
+    ensures file { Gives job_file_of (tested_standing line.now is_master label (P.state pool.old).contents) result }
+    ensures is { IfOk result (λ file. (file.label ≡ label) × (file.is_master ≡ is_master)) }
+    ensures kept { IfOk result (λ file. IsKeptFile (P.state pool.old).contents label file.records) }
+    ensures keeps { KeepsContents (P.state pool.old) (P.state pool.new) }
+    ensures failures { (P.state pool.new).failures ≡ (P.state pool.old).failures + failed_opening result }
+{
+    if let Some(code) = line_refusal(line, is_master, &label) {
+        return Err(OpeningFault::Halted(code));
+    }
+    match OpenFile::open(alloc, pool, line.name, label, is_master, false)? {
+        Some(file) => Ok(file),
+        None => Err(OpeningFault::Halted(HaltCode::BadIndex)),
+    }
+}
+
+/// A file that stands for a level under a label, if the line may have it.
+fn open_file<P: Sectors>(
+    alloc: Global,
+    level: LevelId,
+    pack: &mut Pack<P>,
+    line: &FileLine,
+    name: Name,
+) -> Result<OpenFile, OpeningFault>
+    requires ready { IsPackReady pack.old.areas (P.state pack.old.pool).contents }
+    ensures file { Gives job_file_of (tested_file level (seen pack.old.areas (P.state pack.old.pool).contents) line.now name) result }
+    ensures opened { IfOk result (IsOpened level (seen pack.old.areas (P.state pack.old.pool).contents)) }
+    ensures keeps { KeepsContents (P.state pack.old.pool) (P.state pack.new.pool) }
+    ensures areas { pack.new.areas ≡ pack.old.areas }
+    ensures failures { (P.state pack.new.pool).failures ≡ (P.state pack.old.pool).failures + failed_opening result }
+{
+    match pack.find(level, name) {
+        Ok((label, is_master)) => open_standing(alloc, &mut pack.pool, line, label, is_master),
+        Err(fault) => Err(OpeningFault::Halted(halt_of_find(fault))),
+    }
+}
+
+/// What the level halts for where no file is found.
+fn halt_of_find(fault: LabelFault) -> HaltCode
+    ensures { result ≡ halt_of_find_spec fault }
+{
+    match fault {
+        LabelFault::NotFound => HaltCode::NoLabel,
+        LabelFault::DamagedLabel
+        | LabelFault::Master
+        | LabelFault::NoSpace
+        | LabelFault::Retained
+        | LabelFault::NoSlot => HaltCode::DamagedLabel,
+    }
+}
+
+#[tactic(auto, using(crate::proofs::Steps::stated_sound, crate::proofs::Steps::any_mapped), unfolding(crate::specs::Tests::step_of))]
+/// What a file that the job uses comes to, behind those that passed so far.
+fn start_of<P: Sectors>(
+    alloc: Global,
+    level: LevelId,
+    pack: &mut Pack<P>,
+    settings: &JobSettings<'_>,
+    line: &FileLine,
+    starts: &[Start],
+) -> Result<Start, OpeningFault>
+    requires ready { IsPackReady pack.old.areas (P.state pack.old.pool).contents }
+    requires line { file_in_range line.now ≡ true }
+    requires disk { is_disk line.now.device ≡ true }
+    requires statements { list_all is_sound_file settings.now.statements.now ≡ true }
+    ensures step { Gives step_in (step_of level (seen pack.old.areas (P.state pack.old.pool).contents) (settings_of settings.now) (map step_in starts.now) line.now) result }
+    ensures right { IfOk result (IsRight level (seen pack.old.areas (P.state pack.old.pool).contents)) }
+    ensures keeps { KeepsContents (P.state pack.old.pool) (P.state pack.new.pool) }
+    ensures areas { pack.new.areas ≡ pack.old.areas }
+    ensures failures { (P.state pack.new.pool).failures ≡ (P.state pack.old.pool).failures + failed_opening result }
+{
+    let Some(statement) = statement_of(line.name, settings.statements) else {
+        return Err(OpeningFault::Halted(HaltCode::NoLabel));
+    };
+    if is_taken(statement.label, starts) {
+        return Err(OpeningFault::Halted(HaltCode::DuplicateLabel));
+    }
+    if is_new(line) {
+        return Ok(Start::ToMake(line.name, new_file(settings.date, line, statement)));
+    }
+    match open_file(alloc, level, pack, line, statement.label) {
+        Ok(file) => Ok(Start::Opened(file)),
+        Err(fault) => Err(fault),
+    }
+}
+
+/// Tests the file of one line, behind those that passed so far.
+fn test_line<P: Sectors>(
+    alloc: Global,
+    level: LevelId,
+    pack: &mut Pack<P>,
+    settings: &JobSettings<'_>,
+    line: &FileLine,
+    starts: &mut Vec<Start>,
+) -> Result<(), OpeningFault>
+    requires ready { IsPackReady pack.old.areas (P.state pack.old.pool).contents }
+    requires line { file_in_range line.now ≡ true }
+    requires statements { list_all is_sound_file settings.now.statements.now ≡ true }
+    requires right { AreRight level (seen pack.old.areas (P.state pack.old.pool).contents) starts.old.items }
+    ensures tested { TestsTo (tested_lines level (seen pack.old.areas (P.state pack.old.pool).contents) (settings_of settings.now) (line.now ∷ []) (map step_in starts.old.items)) (map step_in starts.new.items) result }
+    ensures right { AreRight level (seen pack.old.areas (P.state pack.old.pool).contents) starts.new.items }
+    ensures keeps { KeepsContents (P.state pack.old.pool) (P.state pack.new.pool) }
+    ensures areas { pack.new.areas ≡ pack.old.areas }
+    ensures failures { (P.state pack.new.pool).failures ≡ (P.state pack.old.pool).failures + failed_opening result }
+{
+    if !is_used(settings.switches, line) {
+        return Ok(());
+    }
+    match start_of(alloc, level, pack, settings, line, starts) {
+        Ok(start) => {
+            starts.push(start)?;
+            Ok(())
+        }
+        Err(fault) => Err(fault),
+    }
+}
+
+/// Tests the files of some lines one after another, behind those that passed so far, up to the first that is refused.
+pub fn test_lines<P: Sectors>(
+    alloc: Global,
+    level: LevelId,
+    pack: &mut Pack<P>,
+    settings: &JobSettings<'_>,
+    lines: &[FileLine],
+    starts: &mut Vec<Start>,
+) -> Result<(), OpeningFault>
+    requires ready { IsPackReady pack.old.areas (P.state pack.old.pool).contents }
+    requires lines { list_all file_in_range lines.now ≡ true }
+    requires statements { list_all is_sound_file settings.now.statements.now ≡ true }
+    requires right { AreRight level (seen pack.old.areas (P.state pack.old.pool).contents) starts.old.items }
+    ensures tested { TestsTo (tested_lines level (seen pack.old.areas (P.state pack.old.pool).contents) (settings_of settings.now) lines.now (map step_in starts.old.items)) (map step_in starts.new.items) result }
+    ensures right { AreRight level (seen pack.old.areas (P.state pack.old.pool).contents) starts.new.items }
+    ensures keeps { KeepsContents (P.state pack.old.pool) (P.state pack.new.pool) }
+    ensures areas { pack.new.areas ≡ pack.old.areas }
+    ensures failures { (P.state pack.new.pool).failures ≡ (P.state pack.old.pool).failures + failed_opening result }
+{
+    for line in lines {
+        match test_line(alloc, level, pack, settings, line, starts) {
+            Ok(()) => {}
+            Err(fault) => return Err(fault),
+        }
+    }
+    Ok(())
+}
