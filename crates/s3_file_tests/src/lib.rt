@@ -1,7 +1,10 @@
-//! Tests that call files: records in order, by number and by key, and a run over a store that fails once.
+//! Tests that call files: records in order, by number and by key, a run over a store
+//! that fails once, and each byte of a header, a label and an index spoilt.
 
 #![tactic(auto)]
 
+#[cfg(test)]
+mod damage_rows;
 #[cfg(test)]
 mod fixtures;
 #[cfg(test)]

@@ -1,5 +1,4 @@
-//! The typed lines of the sheets. What an entry may be is said here for the whole language; which of it is built is said by the
-//! rules of the cards.
+//! The typed lines of the sheets. What an entry may be is said here for the whole language.
 //!
 //! A line is generic over `N`, by which it names a file, a field, a tag or a subroutine: on a sheet that is the name.
 

@@ -1,13 +1,13 @@
 //! What columns of a card spell.
 
 ghost use Rattle.std.specs.Prelude.{◌≡◌, ◌<◌, ◌≤◌, ◌+◌, ◌-◌, ◌*◌, ◌^◌, length, map, true, IfSome};
-ghost use Rattle.std.specs.List.{prefix_len, list_all};
+ghost use Rattle.std.specs.List.{list_all};
 ghost use Rattle.std.specs.Int.Digits.{number_from_digits_after};
-ghost use Rattle.s3_cards.specs.Names.{is_blank as blank_spec, is_digit as digit_spec};
-ghost use Rattle.s3_sheets.specs.Columns.{columns as columns_spec, are_blank as are_blank_spec, digit, number_of, number_between as number_between_spec};
+ghost use Rattle.s3_cards.specs.Names.{is_digit as digit_spec};
+ghost use Rattle.s3_sheets.specs.Columns.{columns as columns_spec, digit, number_of, number_between as number_between_spec};
 
-use s3_cards::ebcdic::{BLANK, DIGIT_0};
-use s3_cards::{Card, is_digit};
+use s3_cards::ebcdic::DIGIT_0;
+use s3_cards::{Card, blanks_in_front, is_digit};
 
 /// The columns from one to another, both counted from 1.
 pub fn columns(card: &Card, from: usize, to: usize) -> &[u8]
@@ -20,26 +20,11 @@ pub fn columns(card: &Card, from: usize, to: usize) -> &[u8]
     &card[from - 1..to]
 }
 
-/// Whether all columns are blank.
-pub fn are_blank(columns: &[u8]) -> bool
-    ensures { result ≡ are_blank_spec columns.now }
-{
-    columns.iter().all(|code| *code == BLANK)
-}
-
 /// Whether all columns are digits.
 fn are_digits(columns: &[u8]) -> bool
     ensures { result ≡ list_all digit_spec columns.now }
 {
     columns.iter().all(|code| is_digit(*code))
-}
-
-/// How many blanks stand in front.
-fn blanks_in_front(columns: &[u8]) -> usize
-    ensures within { result ≤ length columns.now }
-    ensures value { result ≡ prefix_len blank_spec columns.now }
-{
-    columns.iter().take_while(|code| **code == BLANK).count()
 }
 
 /// The number that digits spell behind another one.

@@ -5,12 +5,12 @@ ghost use Rattle.s3_lines.specs.Ranges.{longest_record as longest_record_spec, i
 ghost use Rattle.s3_sheets.specs.Combinations.{are_filled as are_filled_spec, is_with_index as with_index_spec, has_stray_entry as stray_spec, is_key_within as key_within_spec, has_bad_extent as bad_extent_spec, has_bad_positions as bad_positions_spec, has_bad_factor as bad_factor_spec, has_bad_definition as bad_definition_spec, has_bad_addition as bad_addition_spec, has_bad_space as bad_space_spec, is_of_date as of_date_spec, has_bad_content as bad_content_spec, has_no_content as no_content_spec, begins_too_early as too_early_spec, has_early_constant as early_constant_spec, combined_faults as combined_faults_spec};
 ghost use Rattle.s3_sheets.specs.Entries.{constant_text};
 
-use crate::columns::{are_blank, columns, number, small_between};
+use crate::columns::{columns, number, small_between};
 use crate::entries::{constant, factor};
 use crate::faults::Faults;
 use crate::kind::CardKind;
 use crate::lines::{definition, field_line, file_line, is_addition, longest_name};
-use s3_cards::{Card, Name};
+use s3_cards::{Card, Name, are_blank};
 use s3_lines::is_reserved;
 use s3_lines::reserved::PAGE;
 use s3_lines::sheet::{Designation, Device, FieldForm, FileLine, KeyField, Shape};

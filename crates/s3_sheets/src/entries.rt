@@ -8,13 +8,13 @@ ghost use Rattle.s3_sheets.specs.Inner.Literals.{with_code, with_next_code, is_b
 ghost use Rattle.s3_sheets.specs.Columns.{are_blank as are_blank_spec, digit};
 ghost use Rattle.s3_sheets.specs.Entries.{constant_text, constant as constant_spec, text_of, without_sign as without_sign_spec, is_negative as negative_spec, without_point as without_point_spec, signed as signed_spec, number_literal_of, text_literal as text_literal_spec, name_within as name_within_spec, factor_of, part_of as part_of_spec, code_of, time_of};
 
-use crate::columns::{are_blank, number_between, number_onto};
+use crate::columns::{number_between, number_onto};
 use crate::indicators::{IndicatorList, listed};
 use crate::words::{AN, OR_IN_LEVEL, SR};
 use s3_cards::ebcdic::{
     APOSTROPHE, BLANK, LETTER_C, LETTER_D, LETTER_N, LETTER_Z, MINUS, PERIOD, PLUS,
 };
-use s3_cards::{Name, is_digit, is_name};
+use s3_cards::{Name, are_blank, is_digit, is_name};
 use s3_lines::sheet::{
     CalculationTime, CodePart, Constant, Factor, NumberLiteral, RecordCode, TextLiteral,
 };

@@ -3,10 +3,10 @@
 ghost use Rattle.std.specs.Prelude.{◌≡◌};
 ghost use Rattle.s3_sheets.specs.Kinds.{says_and as says_and_spec, says_or as says_or_spec, input_kind as input_kind_spec, output_kind as output_kind_spec, kind_of as kind_of_spec, sheet_of as sheet_of_spec, is_record as is_record_spec, is_output_line as is_output_line_spec};
 
-use crate::columns::{are_blank, columns};
+use crate::columns::columns;
 use crate::words::{AND, OR};
-use s3_cards::Card;
 use s3_cards::ebcdic::{ASTERISK, LETTER_C, LETTER_F, LETTER_H, LETTER_I, LETTER_O};
+use s3_cards::{Card, are_blank};
 
 /// What a card of a source is, by its columns 6 to 16.
 #[derive(Clone, Copy)]

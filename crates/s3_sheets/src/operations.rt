@@ -4,7 +4,7 @@ ghost use Rattle.std.specs.Prelude.{◌≡◌, map};
 ghost use Rattle.s3_sheets.specs.Entries.{operations as operations_spec, operation_in as operation_in_spec, operation_of};
 ghost use Rattle.s3_sheets.specs.Inner.RuleViews.{row_view};
 
-use crate::columns::are_blank;
+use s3_cards::are_blank;
 use s3_cards::ebcdic::{
     BLANK, LETTER_A, LETTER_B, LETTER_C, LETTER_D, LETTER_E, LETTER_F, LETTER_G, LETTER_H,
     LETTER_I, LETTER_L, LETTER_M, LETTER_N, LETTER_O, LETTER_P, LETTER_R, LETTER_S, LETTER_T,

@@ -7,12 +7,12 @@ ghost use Rattle.s3_sheets.specs.Columns.{same_codes};
 ghost use Rattle.s3_sheets.specs.Rules.{allows as allows_spec, fault_of, rule_faults as rule_faults_spec, is_on_card, fits, CodeTest, CodePosition};
 ghost use Rattle.s3_sheets.specs.Inner.RuleViews.{rule_view, entry_view};
 
-use crate::columns::{are_blank, columns, number_between};
+use crate::columns::{columns, number_between};
 use crate::entries::{constant, factor, part_of, time};
 use crate::faults::{Fault, Faults};
 use crate::indicators::{IndicatorList, condition, level_behind, listed};
 use s3_cards::ebcdic::{BLANK, LETTER_N};
-use s3_cards::{Card, is_letter, is_name};
+use s3_cards::{Card, are_blank, is_letter, is_name};
 use s3_edit::EditCode;
 
 /// What may stand in some columns.
