@@ -241,21 +241,6 @@ held_overwritten {b} {b'} {f} {f'} n x w keeps held = record {
   stored = keeps.stored;
 }
 
-chosen : (o : Option Buffer) (P : Buffer → Type 0) → IsSomeAnd o P → (x : Buffer) × P x
-chosen None P h = absurd h
-chosen (Some x) P h = (x, h)
-
-some_and : (o : Option Buffer) (P : Buffer → Type 0) → IsSomeAnd o P → IsSome o
-some_and None P h = absurd h
-some_and (Some x) P h = refl
-
-pub set_overwritten : {b b' : List (List ℕ)} {f f' : Buffers} (n : ℕ) (w : List ℕ) (later : Buffers) → KeepsLaid b f b' f' → IsSomeAnd (lookup (nat_eq n) f'.cache.entries) (λ x. later ≡ with_buffer f' n (dirty x w)) → Overwrites n w b f b' later
-set_overwritten {b} {b'} {f} {f'} n w later keeps h =
-    let o = lookup (nat_eq n) f'.cache.entries in
-    let x = chosen o (λ x. later ≡ with_buffer f' n (dirty x w)) h in
-    let is : later ≡ with_buffer f' n (dirty x.0 w) = x.1 in
-    rw is (held_overwritten n x.0 w keeps (some_and o (λ x. later ≡ with_buffer f' n (dirty x w)) h))
-
 -- a new buffer has them, which the store has not yet
 pub missed_overwritten : {b b' : List (List ℕ)} {f f' : Buffers} (n : ℕ) (x : Buffer) → KeepsLaid b f b' f' → lookup (nat_eq n) f'.cache.entries ≡ None → length f'.cache.entries < 16 → n < length b → x.is_dirty ≡ true → Overwrites n x.bytes.value b f b' (with_new f' n x)
 missed_overwritten {b} {b'} {f} {f'} n x keeps none short within is_dirty =
@@ -278,21 +263,6 @@ missed_overwritten {b} {b'} {f} {f'} n x keeps none short within is_dirty =
       stored = keeps.stored;
     }
 
-pub overwritten_after : {b b' b'' : List (List ℕ)} {f f' f'' : Buffers} (n : ℕ) (w : List ℕ) → KeepsLaid b f b' f' → Overwrites n w b' f' b'' f'' → Overwrites n w b f b'' f''
-overwritten_after {b} {b'} {b''} {f} {f'} {f''} n w keeps o = record {
-  sound = o.sound;
-  contents = o.contents ∙ ap (λ l. slice_set l n w) keeps.contents;
-  stored = record {
-    each = λ i. elim (o.stored.each i) [
-      | inl same ↦ elim (keeps.stored.each i) [
-        | inl first ↦ inl (same ∙ first)
-        | inr first ↦ inr (same ∙ first)
-      ]
-      | inr seen ↦ inr (seen ∙ ap (λ l. slice_get l i) keeps.contents)
-    ];
-  };
-}
-
 pub overwritten_within : {b b' : List (List ℕ)} {f f' : Buffers} (m m' : ℕ) (n : ℕ) (w : List ℕ) → Overwrites n w b f b' f' → ChangesWithin (λ i. i ≡ n) (pool_state b m f) (pool_state b' m' f')
 overwritten_within {b} {b'} {f} {f'} m m' n w o = record {
   count = ap length o.contents ∙ length-set (laid f.cache.entries b) n w;
@@ -301,14 +271,6 @@ overwritten_within {b} {b'} {f} {f'} m m' n w o = record {
 }
 
 -- ---- what an answer says of it
-
-pub ok_after : {b b' : List (List ℕ)} {f f' : Buffers} {T : Type 0} (b'' : List (List ℕ)) (f'' : Buffers) (n : ℕ) (w : List ℕ) (r : Result T PoolFault) → KeepsLaid b f b' f' → OnOk r (Overwrites n w b' f' b'' f'') → OnOk r (Overwrites n w b f b'' f'')
-ok_after b'' f'' n w (Ok x) keeps o = overwritten_after n w keeps o
-ok_after b'' f'' n w (Err fault) keeps o = tt
-
-pub err_after : {b b' : List (List ℕ)} {f f' : Buffers} {T : Type 0} (b'' : List (List ℕ)) (f'' : Buffers) (r : Result T PoolFault) → KeepsLaid b f b' f' → OnErr r (KeepsLaid b' f' b'' f'') → OnErr r (KeepsLaid b f b'' f'')
-err_after b'' f'' (Ok x) keeps k = tt
-err_after b'' f'' (Err fault) keeps k = laid_trans keeps k
 
 pub changes_one : {T : Type 0} (b b' : List (List ℕ)) (f f' : Buffers) (m m' : ℕ) (n : ℕ) (w : List ℕ) (r : Result T PoolFault) → OnOk r (Overwrites n w b f b' f') → OnErr r (KeepsLaid b f b' f') → ChangesWithin (λ i. i ≡ n) (pool_state b m f) (pool_state b' m' f')
 changes_one b b' f f' m m' n w (Ok x) o k = overwritten_within m m' n w o

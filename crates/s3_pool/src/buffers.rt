@@ -5,7 +5,7 @@ ghost use Rattle.std.specs.Borrow.{sem};
 ghost use Rattle.lru.specs.LruCache.{IsValid};
 ghost use Rattle.s3_store.specs.Failures.{failed_calls, failed_transfers};
 ghost use Rattle.s3_pool.specs.Buffers.{IsSound, KeepsLaid, Overwrites};
-ghost use Rattle.s3_pool.specs.Inner.BufferLending.{LendsBytes, LendsBuffer, dirty, with_buffer};
+ghost use Rattle.s3_pool.specs.Inner.BufferLending.{LendsBytes, LendsBuffer};
 
 use lru::LruCache;
 use s3_store::{PackStore, PoolFault, StoreFault};
@@ -61,14 +61,6 @@ impl Buffers {
         }
     }
 
-    /// Has the buffer of a sector that is held have these bytes, which the store has not yet.
-    fn set(&mut self, n: u16, bytes: &[u8; 256])
-        requires { IsSome (lookup (nat_eq n) self.old.cache.entries) }
-        ensures { IsSomeAnd (lookup (nat_eq n) self.old.cache.entries) (λ buffer. self.new ≡ with_buffer self.old n (dirty buffer bytes.now)) }
-    {
-        *self.buffer_mut(n).bytes_mut() = *bytes;
-    }
-
     /// The buffer of a sector that is held.
     pub(crate) fn buffer_mut(&mut self, n: u16) -> &mut Buffer
         requires { IsSome (lookup (nat_eq n) self.old.cache.entries) }
@@ -96,8 +88,11 @@ fn write_back<S: PackStore>(store: &mut S, n: u16, buffer: &Buffer) -> Result<()
     store.write(n, &buffer.bytes)
 }
 
-/// Gives up the least recently used buffer, once the store has it.
-fn evict<S: PackStore>(store: &mut S, buffers: &mut Buffers) -> Result<(), StoreFault>
+/// Gives up the least recently used buffer, once the store has it. Its box is for the next one.
+fn evict<S: PackStore>(
+    store: &mut S,
+    buffers: &mut Buffers,
+) -> Result<Option<Box<[u8; 256]>>, StoreFault>
     requires sound { IsSound (S.contents store.old) buffers.old }
     requires valid { IsValid nat_eq buffers.old.cache }
     requires some { 0 < length buffers.old.cache.entries }
@@ -109,12 +104,15 @@ fn evict<S: PackStore>(store: &mut S, buffers: &mut Buffers) -> Result<(), Store
         Some((n, buffer)) => write_back(store, *n, buffer)?,
         None => unreachable!(),
     }
-    let _ = buffers.cache.pop_lru();
-    Ok(())
+    let given_up = buffers.cache.pop_lru();
+    Ok(given_up.map(|(_, buffer)| buffer.bytes))
 }
 
-/// Has room for one more buffer.
-fn make_room<S: PackStore>(store: &mut S, buffers: &mut Buffers) -> Result<(), StoreFault>
+/// Has room for one more buffer, and the box of the one that was given up for it, if one was.
+fn make_room<S: PackStore>(
+    store: &mut S,
+    buffers: &mut Buffers,
+) -> Result<Option<Box<[u8; 256]>>, StoreFault>
     requires sound { IsSound (S.contents store.old) buffers.old }
     ensures keeps { KeepsLaid (S.contents store.old) buffers.old (S.contents store.new) buffers.new }
     ensures room { OnOk result (length buffers.new.cache.entries < 16) }
@@ -122,9 +120,20 @@ fn make_room<S: PackStore>(store: &mut S, buffers: &mut Buffers) -> Result<(), S
     ensures failures { S.failures store.new ≡ S.failures store.old + failed_calls result }
 {
     if buffers.cache.len() < ROOM {
-        return Ok(());
+        return Ok(None);
     }
     evict(store, buffers)
+}
+
+/// A box to be read over: the one that was given up, as it is, or a new one.
+fn given_up_or_new(
+    given_up: Option<Box<[u8; 256]>>,
+    alloc: Global,
+) -> Result<Box<[u8; 256]>, AllocError> {
+    match given_up {
+        Some(bytes) => Ok(bytes),
+        None => Ok(Box::new(alloc, [0; 256])?),
+    }
 }
 
 /// Reads sector `n`, which no buffer holds, into a new one.
@@ -137,8 +146,8 @@ fn fetch<S: PackStore>(store: &mut S, buffers: &mut Buffers, n: u16) -> Result<(
     ensures failures { S.failures store.new ≡ S.failures store.old + failed_transfers result }
     ensures fault { IfErr result (λ fault. fault ≢ PoolFault.NoSector) }
 {
-    make_room(store, buffers)?;
-    let mut bytes = Box::new(*buffers.cache.allocator(), [0; 256])?;
+    let given_up = make_room(store, buffers)?;
+    let mut bytes = given_up_or_new(given_up, *buffers.cache.allocator())?;
     store.read(n, &mut bytes)?;
     let read = Buffer {
         bytes,
@@ -170,6 +179,23 @@ pub(crate) fn load<S: PackStore>(
     fetch(store, buffers, n)
 }
 
+/// These bytes in the box that was given up, or in a new one.
+fn copied_into(
+    given_up: Option<Box<[u8; 256]>>,
+    alloc: Global,
+    bytes: &[u8; 256],
+) -> Result<Box<[u8; 256]>, AllocError>
+    ensures { IfOk result (λ copy. copy.value ≡ bytes.now) }
+{
+    match given_up {
+        Some(mut copy) => {
+            *copy = *bytes;
+            Ok(copy)
+        }
+        None => Ok(Box::new(alloc, *bytes)?),
+    }
+}
+
 /// Has a new buffer of sector `n`, which no buffer holds, have these bytes. The sector isn't read.
 fn cover<S: PackStore>(
     store: &mut S,
@@ -185,8 +211,8 @@ fn cover<S: PackStore>(
     ensures failures { S.failures store.new ≡ S.failures store.old + failed_transfers result }
     ensures fault { IfErr result (λ fault. fault ≢ PoolFault.NoSector) }
 {
-    make_room(store, buffers)?;
-    let bytes = Box::new(*buffers.cache.allocator(), *bytes)?;
+    let given_up = make_room(store, buffers)?;
+    let bytes = copied_into(given_up, *buffers.cache.allocator(), bytes)?;
     let new = Buffer {
         bytes,
         is_dirty: true,
@@ -209,8 +235,8 @@ pub(crate) fn overwrite<S: PackStore>(
     ensures failures { S.failures store.new ≡ S.failures store.old + failed_transfers result }
     ensures fault { IfErr result (λ fault. fault ≢ PoolFault.NoSector) }
 {
-    if buffers.cache.promote(&n) {
-        buffers.set(n, bytes);
+    if let Some(buffer) = buffers.cache.get_mut(&n) {
+        *buffer.bytes_mut() = *bytes;
         return Ok(());
     }
     cover(store, buffers, n, bytes)

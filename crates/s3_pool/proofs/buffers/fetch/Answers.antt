@@ -11,7 +11,7 @@ pub returns-clause-keeps : goal.returns-clause-keeps
 returns-clause-keeps g c =
     let sectors = g.S.PackStore.contents c.make_room.new.store in
     let within : c.args.n < length sectors = omega (arith, c.requires.in_range, same_length c.make_room.ensures.keeps) in
-    let missed = c.in_ok-make_room.ensures.missed c.args.n c.requires.missed in
+    let missed = c.in_ok-given_up.ensures.missed c.args.n c.requires.missed in
     let new : Buffer = record { bytes = with_value c.in_ok-bytes.bytes c.read.new.bytes; is_dirty = false } in
     rw (c.in_ok-read.ensures.contents, c.in_ok-put.ensures.entries)
-    (laid_trans c.make_room.ensures.keeps (was_read sectors c.make_room.new.buffers c.args.n new missed c.in_ok-make_room.ensures.room c.in_ok-read.ensures.ok within c.make_room.ensures.keeps.sound))
+    (laid_trans c.make_room.ensures.keeps (was_read sectors c.make_room.new.buffers c.args.n new missed c.in_ok-given_up.ensures.room c.in_ok-read.ensures.ok within c.make_room.ensures.keeps.sound))
