@@ -6,7 +6,7 @@ use crate::words::command;
 use clap::error::ErrorKind;
 use clap::{ArgMatches, Error};
 use s3_cli::{
-    CliFault, RunFault, SessionFault, image_with, list, migrate, session, tell, write_table,
+    CliFault, RunFault, SessionFault, image, image_with, list, migrate, session, tell, write_table,
 };
 use std::io::Write;
 use std::{env, io};
@@ -17,6 +17,9 @@ const USAGE: u8 = 2;
 const OUT_OF_MEMORY: CliFault = CliFault::Session(SessionFault::Run(RunFault::NoMemory));
 
 const FILE: CliFault = CliFault::Session(SessionFault::File);
+
+/// A run without a pack has a new one, each of whose regions has so many tracks.
+const TRACKS: u16 = 10;
 
 /// Does what the process's words ask, and gives the exit status: 0 where it is done, 2 where the words can't be read,
 /// else that of the refusal whose line it wrote on standard error.
@@ -83,7 +86,7 @@ fn perform(rt: &HostRuntime, matches: &ArgMatches<'_>) -> u8
     ensures { result ≤ 3 }
 {
     let done = match matches.subcommand() {
-        Some(("run", _)) => run(rt),
+        Some(("run", matches)) => run(rt, matches),
         Some(("init", matches)) => init(rt, matches),
         Some(("list", matches)) => list_files(rt, matches),
         Some(("migrate", matches)) => migrate_pack(rt, matches),
@@ -97,11 +100,23 @@ fn perform(rt: &HostRuntime, matches: &ArgMatches<'_>) -> u8
 }
 
 /// `bureau run`.
-fn run(rt: &HostRuntime) -> Result<(), CliFault> {
-    let _pack = session(rt.alloc(), &[], &mut rt.stdin(), &mut rt.stdout()).map_err(
+fn run(rt: &HostRuntime, matches: &ArgMatches<'_>) -> Result<(), CliFault> {
+    let pack = pack_to_run(rt, matches)?;
+    let saved = session(rt.alloc(), &pack, &mut rt.stdin(), &mut rt.stdout()).map_err(
         CliFault::Session,
     )?;
-    Ok(())
+    match matches.get_str("save") {
+        Some(path) => save_to(rt, path, &saved),
+        None => Ok(()),
+    }
+}
+
+/// The pack that a run is given, or a new one.
+fn pack_to_run(rt: &HostRuntime, matches: &ArgMatches<'_>) -> Result<Vec<u8>, CliFault> {
+    match matches.get_str("pack") {
+        Some(path) => read(rt, path),
+        None => image(rt.alloc(), None, TRACKS, TRACKS, TRACKS).map_err(CliFault::Image),
+    }
 }
 
 /// `bureau init`.
@@ -161,7 +176,11 @@ fn read(rt: &HostRuntime, path: &str) -> Result<Vec<u8>, CliFault> {
 }
 
 fn save(rt: &HostRuntime, matches: &ArgMatches<'_>, pack: &[u8]) -> Result<(), CliFault> {
-    save_pack(rt, file(matches, "save"), pack).map_err(|error| fault_of(&error))
+    save_to(rt, file(matches, "save"), pack)
+}
+
+fn save_to(rt: &HostRuntime, path: &str, pack: &[u8]) -> Result<(), CliFault> {
+    save_pack(rt, path, pack).map_err(|error| fault_of(&error))
 }
 
 /// What a failed call on a file is to a command.

@@ -14,14 +14,19 @@ pub fn command<'a>(alloc: Global) -> Result<Command<'a>, AllocError> {
     Command::new(alloc, "bureau")
         .about("A dual-program RPG II job shop")
         .subcommand_required(true)
-        .subcommand(run_command(alloc))?
+        .subcommand(run_command(alloc)?)?
         .subcommand(init_command(alloc)?)?
         .subcommand(list_command(alloc)?)?
         .subcommand(migrate_command(alloc)?)
 }
 
-fn run_command<'a>(alloc: Global) -> Command<'a> {
-    Command::new(alloc, "run").about("Runs the decks and the script of standard input")
+fn run_command<'a>(alloc: Global) -> Result<Command<'a>, AllocError> {
+    Command::new(alloc, "run")
+        .about("Runs the decks and the script of standard input")
+        .arg(file_word(alloc, "pack").help(
+            "The pack; a new one with 10 tracks a region if none is given",
+        ))?
+        .arg(file_word(alloc, "save").help("Where the pack is written as the run leaves it"))
 }
 
 fn init_command<'a>(alloc: Global) -> Result<Command<'a>, AllocError> {

@@ -1,13 +1,177 @@
--- Both levels are closed.
-use Rattle.std.proofs.Common.{◌≡◌, true}
+-- Levels are closed, one after the other, and the pool is flushed.
+use Rattle.std.proofs.Common.{◌≡◌, ℕ, ◌+◌, List, Option, Some, None, Result, Ok, Err, refl, sym, ap, subst, ◌∙◌, arith}
+use Rattle.std.specs.Prelude.{OnOk}
 use Rattle.s3_cards.specs.declared.levels.LevelId.{LevelId}
 use Rattle.s3_cards.specs.declared.levels.LevelId.TheVariants.{One, Two}
-use Rattle.s3_level.specs.World.{World}
-use Rattle.s3_level.specs.Solo.{closed}
-use Rattle.s3_level.specs.Holds.{Holds, Becomes}
-use Rattle.s3_bureau.specs.declared.bureau.Bureau.{Bureau}
-use Rattle.s3_bureau.specs.Held.{HoldsFor, has_worlds}
+use Rattle.s3_store.specs.Failures.{failed_transfers}
+use Rattle.s3_store.specs.State.{PoolState, KeepsContents, KeepsInStep}
+use Rattle.s3_store.specs.declared.pool_fault.PoolFault.{PoolFault}
+use Rattle.s3_store.proofs.Frames.{keeps_refl, keeps_trans, step_from_keeps, step_trans}
+use Rattle.s3_slots.specs.declared.header.Header.{Header}
+use Rattle.s3_labels.specs.Areas.{Areas, IsReady as IsPackReady}
+use Rattle.s3_spool.specs.Queues.{Blocks, queue_of, quota_of}
+use Rattle.s3_job_files.specs.Holds.{seen}
+use Rattle.s3_solo.specs.Lines.{Lines, all_drained}
+use Rattle.s3_solo.specs.Serving.{job_ended, over}
+use Rattle.s3_solo.specs.Solo.{closed}
+use Rattle.s3_solo.specs.World.{World, JobAtWork}
+use Rattle.s3_level.specs.declared.level.Level.{Level}
+use Rattle.s3_level.specs.Holds.{AreAll, Around, Becomes, Holds, HoldsParts, IsReady, KeepsOthers, Spares, Stays, around}
+use Rattle.s3_level.proofs.Beside.{spares_files, spares_then}
+use Rattle.s3_bureau.specs.Held.{IsCommon, IsOwn, IsReadyFor}
+use Rattle.s3_bureau.specs.Inner.Calls.{BothTo, ClosesBoth, ClosesLevel, ClosesTo}
+use Rattle.s3_bureau.proofs.OtherLevel.{common_spared, header_spared, other_spared, ready_stays, worlds_stay}
 
-pub both_closed : (old new : Bureau) → Becomes closed (Holds old.one) (Holds new.one) → Becomes closed (Holds old.two) (Holds new.two) → has_worlds new.phase ≡ true → (level : LevelId) (w : World) → HoldsFor level old w → HoldsFor level new (closed w)
-both_closed old new one two goes_on One w held = record { goes_on = goes_on; world = one w held.world }
-both_closed old new one two goes_on Two w held = record { goes_on = goes_on; world = two w held.world }
+-- ---- one level
+-- the end of a job leaves the lines
+lines_stay : (w : World) → (job_ended w).lines ≡ w.lines
+lines_stay w = by w.job
+  where
+    by : (job : Option JobAtWork) → (over job w).lines ≡ w.lines
+    by None = refl
+    by (Some job) = refl
+
+-- its files couldn't be closed
+pub level_stopped : (fault : PoolFault) (old new : Level) (areas new_areas : Areas) (s t : PoolState) (blocks : Blocks)
+    → IsPackReady areas s.contents → AreAll blocks
+    → KeepsOthers old.id areas new_areas s t
+    → (old.job ≡ None → (new_areas ≡ areas) × KeepsContents s t)
+    → t.failures ≡ s.failures + failed_transfers {T = Unit {0}} (Err fault)
+    → Stays old new
+    → ClosesLevel (Err fault) old new (around areas s blocks) (around new_areas t blocks)
+level_stopped fault old new areas new_areas s t blocks pack are others rests failures stays = record {
+  id = stays.id;
+  spares = spares_files old.id areas new_areas blocks s t pack are others;
+  rests = λ none. (rests none).1;
+  failures = failures;
+  comes = tt;
+}
+
+-- they were closed, and then its lines drained, or it stopped at that
+pub level_closed : (result : Result (Unit {0}) PoolFault) (old middle new : Level) (areas middle_areas : Areas) (s t : PoolState) (blocks : Blocks) (after : Around)
+    → IsPackReady areas s.contents → AreAll blocks
+    → ((blocks : Blocks) → AreAll blocks → Becomes job_ended (Holds old (around areas s blocks)) (Holds middle (around middle_areas t blocks)))
+    → KeepsOthers old.id areas middle_areas s t
+    → (old.job ≡ None → (middle_areas ≡ areas) × KeepsContents s t)
+    → t.failures ≡ s.failures + 0
+    → Stays old middle
+    → OnOk result (Becomes (λ w. record w { lines = all_drained w.lines }) (Holds middle (around middle_areas t blocks)) (Holds new after))
+    → OnOk result (IsReady new (seen after.areas after.state.contents))
+    → Spares middle.id (around middle_areas t blocks) after
+    → KeepsContents t after.state
+    → after.state.failures ≡ t.failures + failed_transfers result
+    → new.id ≡ middle.id
+    → ClosesLevel result old new (around areas s blocks) after
+level_closed result old middle new areas middle_areas s t blocks after pack are ends others rests first stays drains ready spares keeps second id = record {
+  id = id ∙ stays.id;
+  spares = spares_then old.id (around areas s blocks) (around middle_areas t blocks) after
+      (spares_files old.id areas middle_areas blocks s t pack are others)
+      (subst (λ (l : LevelId). Spares l (around middle_areas t blocks) after) stays.id spares);
+  rests = λ none. keeps_trans s t after.state (rests none).1 keeps;
+  failures = omega (arith, first, second);
+  comes = by result drains ready;
+}
+  where
+    by : (result : Result (Unit {0}) PoolFault) → OnOk result (Becomes (λ w. record w { lines = all_drained w.lines }) (Holds middle (around middle_areas t blocks)) (Holds new after))
+        → OnOk result (IsReady new (seen after.areas after.state.contents)) → ClosesTo result old new (around areas s blocks) after
+    by (Ok done) drains ready = (
+      ready,
+      λ w held.
+          subst (λ (lines : Lines). Holds new after (record (job_ended w) { lines = all_drained lines })) (lines_stay w) (drains (job_ended w) (ends blocks are w held)),
+    )
+    by (Err fault) drains ready = tt
+
+-- ---- both levels
+-- what the first level spares as it is closed, whether it stops or not
+pub first_stopped : (fault : PoolFault) (one two new_one : Level) (before after : Around) → IsReadyFor one two before
+    → ClosesLevel (Err fault) one new_one before after → ClosesBoth (Err fault) one two new_one two before after
+first_stopped fault one two new_one before after ready first = record {
+  header = header_spared One before after spares;
+  common = common_spared One before after ready.one_ready.files.pack spares;
+  one_rests = λ none. step_from_keeps (IsOwn One before.areas.header) before.state after.state (first.rests none);
+  two_rests = λ none. other_spared One before after ready.one_ready.files.pack spares;
+  failures = first.failures;
+  comes = tt;
+}
+  where
+    spares : Spares One before after
+    spares = subst (λ (l : LevelId). Spares l before after) ready.one_is first.spares
+
+-- the second level is ready once the first is closed
+pub second_ready : (one two new_one : Level) (before middle : Around) → IsReadyFor one two before → ClosesLevel (Ok tt) one new_one before middle
+    → IsReady two (seen middle.areas middle.state.contents)
+second_ready one two new_one before middle ready first =
+    ready_stays One two before middle ready.two_is ready.one_ready.files.pack (subst (λ (l : LevelId). Spares l before middle) ready.one_is first.spares) ready.two_ready
+
+pub second_blocks : (one two new_one : Level) (before middle : Around) → ClosesLevel (Ok tt) one new_one before middle → AreAll middle.blocks
+second_blocks one two new_one before middle first = first.spares.blocks
+
+-- what both spare, whatever it comes to
+both_spared : (result both : Result (Unit {0}) PoolFault) (one two new_one new_two : Level) (before middle after last : Around) → IsReadyFor one two before
+    → ClosesLevel (Ok tt) one new_one before middle → ClosesLevel result two new_two middle after
+    → last.areas ≡ after.areas → KeepsContents after.state last.state
+    → last.state.failures ≡ before.state.failures + failed_transfers both
+    → BothTo both one two new_one new_two before last
+    → ClosesBoth both one two new_one new_two before last
+both_spared result both one two new_one new_two before middle after last ready first second areas flushed failures comes = record {
+  header = ap (λ (a : Areas). a.header) areas ∙ header_spared Two middle after spares_two ∙ header_spared One before middle spares_one;
+  common = along IsCommon (common_spared One before middle ready.one_ready.files.pack spares_one) (common_spared Two middle after spares_one.pack spares_two);
+  one_rests = λ none. along (IsOwn One) (step_from_keeps (IsOwn One before.areas.header) before.state middle.state (first.rests none)) (other_spared Two middle after spares_one.pack spares_two);
+  two_rests = λ none. along (IsOwn Two) (other_spared One before middle ready.one_ready.files.pack spares_one) (step_from_keeps (IsOwn Two middle.areas.header) middle.state after.state (second.rests none));
+  failures = failures;
+  comes = comes;
+}
+  where
+    spares_one : Spares One before middle
+    spares_one = subst (λ (l : LevelId). Spares l before middle) ready.one_is first.spares
+
+    spares_two : Spares Two middle after
+    spares_two = subst (λ (l : LevelId). Spares l middle after) ready.two_is second.spares
+
+    along : (K : Header → ℕ → Type 0) → KeepsInStep (K before.areas.header) before.state middle.state → KeepsInStep (K middle.areas.header) middle.state after.state
+        → KeepsInStep (K before.areas.header) before.state last.state
+    along K before_middle middle_after =
+        step_trans (K before.areas.header) before.state after.state last.state
+        (step_trans (K before.areas.header) before.state middle.state after.state before_middle
+        (subst (λ (k : Header). KeepsInStep (K k) middle.state after.state) (header_spared One before middle spares_one) middle_after))
+        (step_from_keeps (K before.areas.header) after.state last.state flushed)
+
+pub second_stopped : (fault : PoolFault) (one two new_one new_two : Level) (before middle after : Around) → IsReadyFor one two before
+    → ClosesLevel (Ok tt) one new_one before middle → ClosesLevel (Err fault) two new_two middle after → ClosesBoth (Err fault) one two new_one new_two before after
+second_stopped fault one two new_one new_two before middle after ready first second =
+    both_spared (Err fault) (Err fault) one two new_one new_two before middle after after ready first second refl (keeps_refl after.state) (omega (arith, first.failures, second.failures)) tt
+
+-- a flush leaves what levels hold
+flush_holds : (level : Level) (areas : Areas) (s t : PoolState) (blocks : Blocks) (w : World) → KeepsContents s t → Holds level (around areas s blocks) w → Holds level (around areas t blocks) w
+flush_holds level areas s t blocks w keeps held = record {
+  parts = subst (λ (c : List (List ℕ)). HoldsParts level (record { seen = seen areas c; queue = queue_of level.id blocks c; quota = quota_of level.id blocks }) w) (sym keeps.contents) held.parts;
+  asked = held.asked;
+}
+
+-- both levels were closed, and the pool flushed, or it stopped at that
+pub both_closed : (result : Result (Unit {0}) PoolFault) (one two new_one new_two : Level) (before middle : Around) (areas : Areas) (s t : PoolState) (blocks : Blocks) → IsReadyFor one two before
+    → ClosesLevel (Ok tt) one new_one before middle → ClosesLevel (Ok tt) two new_two middle (around areas s blocks)
+    → OnOk result (t.stored ≡ s.contents)
+    → KeepsContents s t
+    → t.failures ≡ s.failures + failed_transfers result
+    → ClosesBoth result one two new_one new_two before (around areas t blocks)
+both_closed result one two new_one new_two before middle areas s t blocks ready first second flushed keeps failures =
+    both_spared (Ok tt) result one two new_one new_two before middle (around areas s blocks) (around areas t blocks) ready first second refl keeps (omega (arith, first.failures, second.failures, failures)) (by result flushed)
+  where
+    spares_one : Spares One before middle
+    spares_one = subst (λ (l : LevelId). Spares l before middle) ready.one_is first.spares
+
+    spares_two : Spares Two middle (around areas s blocks)
+    spares_two = subst (λ (l : LevelId). Spares l middle (around areas s blocks)) ready.two_is second.spares
+
+    one_held : Becomes closed (Holds one before) (Holds new_one (around areas t blocks))
+    one_held = λ w held. flush_holds new_one areas s t blocks (closed w) keeps
+        (worlds_stay Two new_one middle (around areas s blocks) (closed w) (first.id ∙ ready.one_is) first.comes.0 spares_two (first.comes.1 w held))
+
+    two_held : Becomes closed (Holds two before) (Holds new_two (around areas t blocks))
+    two_held = λ w held. flush_holds new_two areas s t blocks (closed w) keeps
+        (second.comes.1 w (worlds_stay One two before middle w ready.two_is ready.two_ready spares_one held))
+
+    by : (result : Result (Unit {0}) PoolFault) → OnOk result (t.stored ≡ s.contents) → BothTo result one two new_one new_two before (around areas t blocks)
+    by (Ok done) flushed = (flushed ∙ sym keeps.contents, (one_held, two_held))
+    by (Err fault) flushed = tt

@@ -1,7 +1,12 @@
+pub mod Acting
+pub mod Agreeing
 pub mod Closing
 pub mod Counts
 pub mod Digits
+pub mod Entering
 pub mod Memory
+pub mod Opening
+pub mod OtherLevel
 pub mod Performing
 pub mod Running
 pub mod Scripts

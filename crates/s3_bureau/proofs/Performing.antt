@@ -1,19 +1,24 @@
 -- Entries, one after the other.
-use Rattle.std.proofs.Common.{◌≡◌, ◌+◌, ℕ, List, [], ◌∷◌, ◌++◌, refl, sym, ap, ◌∙◌, subst, replicate}
+use Rattle.std.proofs.Common.{◌≡◌, ◌+◌, ◌-◌, ◌≤◌, ℕ, List, [], ◌∷◌, ◌++◌, take, drop, refl, sym, ap, ◌∙◌, subst, replicate, inl, inr, arith}
 use Rattle.std.specs.List.{flat_map}
-use Rattle.std.proofs.lemmas.List.{replicate-append-replicate, append-nil}
+use Rattle.std.proofs.lemmas.List.{replicate-append-replicate, append-nil, take-append-drop}
 use Rattle.std.proofs.lemmas.Grind.{flat_map-append}
 use Rattle.s3_cards.specs.declared.levels.LevelId.{LevelId}
 use Rattle.s3_cards.specs.declared.levels.LevelId.TheVariants.{One, Two}
 use Rattle.s3_cards.specs.Levels.{other}
-use Rattle.s3_level.specs.declared.action.Action.{Action}
-use Rattle.s3_level.specs.World.{World}
-use Rattle.s3_level.specs.Solo.{step_of, solo}
+use Rattle.s3_solo.specs.declared.action.Action.{Action}
+use Rattle.s3_solo.specs.World.{World}
+use Rattle.s3_solo.specs.Solo.{step_of, solo}
 use Rattle.s3_bureau.specs.declared.entry.Entry.{Entry}
 use Rattle.s3_bureau.specs.declared.script.Command.{Command}
 use Rattle.s3_bureau.specs.Entries.{with_action, own}
 use Rattle.s3_bureau.specs.Script.{entries_by}
-use Rattle.s3_bureau.specs.Inner.Underway.{Performs}
+use Rattle.s3_store.specs.State.{KeepsInStep}
+use Rattle.s3_store.proofs.Frames.{step_refl, step_trans}
+use Rattle.s3_slots.specs.declared.header.Header.{Header}
+use Rattle.s3_level.specs.declared.level.Level.{Level}
+use Rattle.s3_bureau.specs.Held.{IsCommon, IsForeign, IsOwn, State, header_of, level_of, rests}
+use Rattle.s3_bureau.specs.Inner.Underway.{Leaves, LeavesSectors, Performs}
 
 with_action-append : (level from : LevelId) (action : Action) (xs ys : List Action) → with_action level from action (xs ++ ys) ≡ with_action level from action xs ++ ys
 with_action-append One One action xs ys = refl
@@ -60,3 +65,112 @@ command_more front all command first middle last more before after =
     subst (λ (entries : List Entry). Performs entries first last)
     (sym (ap (flat_map entries_by) more ∙ flat_map-append entries_by front (command ∷ []) ∙ ap (λ entries. flat_map entries_by front ++ entries) (append-nil (entries_by command))))
     (performs_then (flat_map entries_by front) (entries_by command) first middle last before after)
+
+-- ---- what entries leave
+pub leaves_none : (bureau : State) → Leaves [] bureau bureau
+leaves_none bureau = record {
+  header = refl;
+  common = step_refl (IsCommon (header_of bureau)) bureau.beside.state;
+  level = λ level none. refl;
+  idle = λ level none. step_refl (IsOwn level (header_of bureau)) bureau.beside.state;
+}
+
+front_empty : (xs ys : List Action) → xs ++ ys ≡ [] → xs ≡ []
+front_empty [] ys none = refl
+front_empty (x ∷ xs) ys none = absurd cc
+
+back_empty : (xs ys : List Action) → xs ++ ys ≡ [] → ys ≡ []
+back_empty [] ys none = none
+back_empty (x ∷ xs) ys none = absurd cc
+
+pub leaves_then : (xs ys : List Entry) (first middle last : State) → Leaves xs first middle → Leaves ys middle last → Leaves (xs ++ ys) first last
+leaves_then xs ys first middle last before after = record {
+  header = after.header ∙ before.header;
+  common = step_trans (IsCommon (header_of first)) first.beside.state middle.beside.state last.beside.state before.common
+      (subst (λ (h : Header). KeepsInStep (IsCommon h) middle.beside.state last.beside.state) before.header after.common);
+  level = λ level none. after.level level (behind level none) ∙ before.level level (ahead level none);
+  idle = λ level none. step_trans (IsOwn level (header_of first)) first.beside.state middle.beside.state last.beside.state (before.idle level (ahead level none))
+      (subst (λ (h : Header). KeepsInStep (IsOwn level h) middle.beside.state last.beside.state) before.header (after.idle level (behind level none)));
+}
+  where
+    ahead : (level : LevelId) → own level (xs ++ ys) ≡ [] → own level xs ≡ []
+    ahead level none = front_empty (own level xs) (own level ys) (sym (own-append level xs ys) ∙ none)
+
+    behind : (level : LevelId) → own level (xs ++ ys) ≡ [] → own level ys ≡ []
+    behind level none = back_empty (own level xs) (own level ys) (sym (own-append level xs ys) ∙ none)
+
+-- where a level has no entry among more, it has none among fewer
+pub leaves_fewer : (xs ys : List Entry) (first last : State) → Leaves xs first last → Leaves (xs ++ ys) first last
+leaves_fewer xs ys first last leaves = record {
+  header = leaves.header;
+  common = leaves.common;
+  level = λ level none. leaves.level level (front_empty (own level xs) (own level ys) (sym (own-append level xs ys) ∙ none));
+  idle = λ level none. leaves.idle level (front_empty (own level xs) (own level ys) (sym (own-append level xs ys) ∙ none));
+}
+
+-- one entry leaves what is foreign to its level
+pub leaves_entry : (entry : Entry) (old new : State) → level_of (other entry.level) new ≡ level_of (other entry.level) old
+    → KeepsInStep (IsForeign entry.level (header_of old)) old.beside.state new.beside.state → header_of new ≡ header_of old
+    → Leaves (entry ∷ []) old new
+leaves_entry entry old new stays unchanged header = record {
+  header = header;
+  common = record { count = unchanged.count; contents = λ n is. unchanged.contents n (inl is); stored = λ n is in_step. unchanged.stored n (inl is) in_step };
+  level = λ level none. level_by entry.level level none stays;
+  idle = λ level none. idle_by entry.level level none unchanged;
+}
+  where
+    level_by : (from level : LevelId) → with_action level from entry.action [] ≡ [] → level_of (other from) new ≡ level_of (other from) old → level_of level new ≡ level_of level old
+    level_by One One none same = absurd cc
+    level_by One Two none same = same
+    level_by Two One none same = same
+    level_by Two Two none same = absurd cc
+
+    idle_by : (from level : LevelId) → with_action level from entry.action [] ≡ [] → KeepsInStep (IsForeign from (header_of old)) old.beside.state new.beside.state → KeepsInStep (IsOwn level (header_of old)) old.beside.state new.beside.state
+    idle_by One One none keeps = absurd cc
+    idle_by One Two none keeps = record { count = keeps.count; contents = λ n is. keeps.contents n (inr is); stored = λ n is in_step. keeps.stored n (inr is) in_step }
+    idle_by Two One none keeps = record { count = keeps.count; contents = λ n is. keeps.contents n (inr is); stored = λ n is in_step. keeps.stored n (inr is) in_step }
+    idle_by Two Two none keeps = absurd cc
+
+-- one entry more, so many times
+pub leaves_more : (entry : Entry) (n : ℕ) (first middle last : State) → Leaves (replicate n entry) first middle → Leaves (entry ∷ []) middle last → Leaves (replicate (n + 1) entry) first last
+leaves_more entry n first middle last before after =
+    subst (λ (entries : List Entry). Leaves entries first last) (replicate-append-replicate n 1 entry) (leaves_then (replicate n entry) (entry ∷ []) first middle last before after)
+
+-- it stopped at one of them
+pub leaves_stopped : (entry : Entry) (n count : ℕ) (first middle last : State) → n + 1 ≤ count → Leaves (replicate n entry) first middle → Leaves (entry ∷ []) middle last → Leaves (replicate count entry) first last
+leaves_stopped entry n count first middle last few before after =
+    subst (λ (entries : List Entry). Leaves entries first last)
+    (replicate-append-replicate (n + 1) (count - (n + 1)) entry ∙ ap (λ (k : ℕ). replicate k entry) (omega (arith, few)))
+    (leaves_fewer (replicate (n + 1) entry) (replicate (count - (n + 1)) entry) first last (leaves_more entry n first middle last before after))
+
+-- one command more
+pub commands_leave : (front all : List Command) (command : Command) (first middle last : State) → all ≡ front ++ command ∷ [] → Leaves (flat_map entries_by front) first middle → Leaves (entries_by command) middle last
+    → Leaves (flat_map entries_by all) first last
+commands_leave front all command first middle last more before after =
+    subst (λ (entries : List Entry). Leaves entries first last)
+    (sym (ap (flat_map entries_by) more ∙ flat_map-append entries_by front (command ∷ []) ∙ ap (λ entries. flat_map entries_by front ++ entries) (append-nil (entries_by command))))
+    (leaves_then (flat_map entries_by front) (entries_by command) first middle last before after)
+
+-- it stopped among those of one
+pub commands_stopped : (n : ℕ) (all : List Command) (command : Command) (first middle last : State) → take (n + 1) all ≡ take n all ++ command ∷ [] → Leaves (flat_map entries_by (take n all)) first middle
+    → Leaves (entries_by command) middle last → Leaves (flat_map entries_by all) first last
+commands_stopped n all command first middle last more before after =
+    subst (λ (entries : List Entry). Leaves entries first last)
+    (sym (flat_map-append entries_by (take (n + 1) all) (drop (n + 1) all)) ∙ ap (flat_map entries_by) (take-append-drop (n + 1) all))
+    (leaves_fewer (flat_map entries_by (take (n + 1) all)) (flat_map entries_by (drop (n + 1) all)) first last (commands_leave (take n all) (take (n + 1) all) command first middle last more before after))
+
+-- ---- both levels are closed behind them
+pub sectors_left : (entries : List Entry) (first middle last : State) → Leaves entries first middle
+    → KeepsInStep (IsCommon (header_of middle)) middle.beside.state last.beside.state
+    → ((level : LevelId) → rests level middle → KeepsInStep (IsOwn level (header_of middle)) middle.beside.state last.beside.state)
+    → LeavesSectors entries first last
+sectors_left entries first middle last before common rest = record {
+  common = step_trans (IsCommon (header_of first)) first.beside.state middle.beside.state last.beside.state before.common
+      (subst (λ (h : Header). KeepsInStep (IsCommon h) middle.beside.state last.beside.state) before.header common);
+  idle = λ level none rests_first. step_trans (IsOwn level (header_of first)) first.beside.state middle.beside.state last.beside.state (before.idle level none)
+      (subst (λ (h : Header). KeepsInStep (IsOwn level h) middle.beside.state last.beside.state) before.header
+      (rest level (ap (λ (l : Level). l.job) (before.level level none) ∙ rests_first)));
+}
+
+pub sectors_stopped : (entries : List Entry) (first last : State) → Leaves entries first last → LeavesSectors entries first last
+sectors_stopped entries first last before = record { common = before.common; idle = λ level none rests_first. before.idle level none }

@@ -1,36 +1,53 @@
--- The texts of a run.
-use Rattle.std.proofs.Common.{◌≡◌, ℕ, List, Option, refl, ◌∙◌, arith, length}
-use Rattle.std.proofs.lemmas.List.{take_all}
+-- The texts of a run, and what it leaves of its pack.
+use Rattle.std.proofs.Common.{◌≡◌, ℕ, ◌≤◌, false, List, [], Option, Some, None, Result, Ok, Err, refl, sym, ap, subst, ◌∙◌, arith, length, slice_get}
+use Rattle.std.proofs.lemmas.List.{take_all, length-take}
 use Rattle.s3_cards.specs.declared.levels.LevelId.{LevelId}
 use Rattle.s3_cards.specs.declared.levels.LevelId.TheVariants.{One, Two}
-use Rattle.s3_level.specs.declared.action.Action.{Action}
-use Rattle.s3_level.specs.World.{World, at_start}
-use Rattle.s3_level.specs.Solo.{solo, closed}
+use Rattle.s3_store.specs.Contents.{sectors_of}
+use Rattle.s3_slots.specs.Header.{mounted}
+use Rattle.s3_slots.specs.declared.header.Header.{Header}
+use Rattle.s3_slots.specs.declared.header.MountFault.{MountFault}
+use Rattle.s3_labels.specs.Images.{contents_of}
+use Rattle.s3_solo.specs.declared.action.Action.{Action}
+use Rattle.s3_cards.specs.Deck.{deck_of}
+use Rattle.s3_job_files.specs.declared.file.OpenFile.{OpenFile}
+use Rattle.s3_job_files.specs.Holds.{is_open}
+use Rattle.s3_solo.specs.Serving.{over}
+use Rattle.s3_solo.specs.World.{World, JobAtWork, at_start}
+use Rattle.s3_level.specs.declared.job.OpenJob.{OpenJob}
+use Rattle.s3_level.specs.declared.level.Level.{Level}
+use Rattle.s3_level.specs.Holds.{Around, Holds, HoldsAtWork, open_files}
+use Rattle.s3_solo.specs.Solo.{solo, closed}
 use Rattle.s3_bureau.specs.declared.entry.Entry.{Entry}
+use Rattle.s3_bureau.specs.declared.outcome.Outcome.{Outcome}
+use Rattle.s3_bureau.specs.declared.run_fault.RunFault.{RunFault}
+use Rattle.s3_bureau.specs.declared.run_fault.RunFault.TheVariants.{Script, Mount, Device as DeviceFault, NoMemory}
 use Rattle.s3_bureau.specs.Entries.{own}
-use Rattle.s3_bureau.specs.Runs.{RunTexts, texts_of, run_alone, level_texts, entries_texts}
-use Rattle.s3_bureau.specs.Inner.Underway.{ReadsDeck, Performs, HasTexts, drained_texts}
+use Rattle.s3_bureau.specs.Held.{HoldsFor, IsCommon, IsOwn, State, header_of, held_by, level_of, rests}
+use Rattle.s3_bureau.specs.Script.{entries_of}
+use Rattle.s3_bureau.specs.Runs.{HasFiles, LeavesSo, RunTexts, Runs, outcome_texts, cards_of, texts_of, run_alone, run_texts, level_texts, entries_texts, texts_after, texts_over}
+use Rattle.s3_bureau.specs.Inner.Underway.{HaveFiles, LeavesSectors, ReadsDeck, Performs, RunsOver, HasTexts, drained_texts}
 
 -- all lines of a closed world were drained
 drained_closed : (refusal : Option (ℕ × ℕ)) (w : World) → drained_texts refusal (closed w) ≡ texts_of refusal (closed w)
 drained_closed refusal w = rw (take_all (length w.lines.printed) w.lines.printed (omega arith)) refl
 
 -- the texts of a level with this deck
-level_given : (deck : List ℕ) (cards : List (List ℕ)) (refusal : Option (ℕ × ℕ)) (actions : List Action) → ReadsDeck deck cards refusal
-    → drained_texts refusal (run_alone cards actions) ≡ level_texts deck actions
+level_given : (level : LevelId) (header : Header) (contents : List (List ℕ)) (deck : List ℕ) (cards : List (List ℕ)) (refusal : Option (ℕ × ℕ)) (actions : List Action) → ReadsDeck deck cards refusal
+    → drained_texts refusal (run_alone level header contents cards actions) ≡ level_texts level header contents deck actions
 unfolding level_texts
-level_given deck cards refusal actions reads =
-    drained_closed refusal (solo (at_start cards) actions) ∙ rw (reads.read, reads.refused) refl
+level_given level header contents deck cards refusal actions reads =
+    drained_closed refusal (solo (at_start level header contents cards) actions) ∙ rw (reads.read, reads.refused) refl
 
 -- the texts of both levels after these entries
-pub texts_given : (deck1 deck2 : List ℕ) (cards1 cards2 : List (List ℕ)) (refusal1 refusal2 : Option (ℕ × ℕ)) (entries : List Entry) (opened : LevelId → World → Type 0) (texts : RunTexts)
+pub texts_given : (header : Header) (contents : List (List ℕ)) (deck1 deck2 : List ℕ) (cards1 cards2 : List (List ℕ)) (refusal1 refusal2 : Option (ℕ × ℕ)) (entries : List Entry) (opened : LevelId → World → Type 0) (texts : RunTexts)
     → ReadsDeck deck1 cards1 refusal1 → ReadsDeck deck2 cards2 refusal2
-    → opened One (at_start cards1) → opened Two (at_start cards2)
+    → opened One (at_start One header contents cards1) → opened Two (at_start Two header contents cards2)
     → HasTexts refusal1 refusal2 entries opened texts
-    → texts ≡ entries_texts deck1 deck2 entries
-texts_given deck1 deck2 cards1 cards2 refusal1 refusal2 entries opened texts reads1 reads2 held_one held_two has =
-    let one : texts.one ≡ level_texts deck1 (own One entries) = has.one (at_start cards1) held_one ∙ level_given deck1 cards1 refusal1 (own One entries) reads1 in
-    let two : texts.two ≡ level_texts deck2 (own Two entries) = has.two (at_start cards2) held_two ∙ level_given deck2 cards2 refusal2 (own Two entries) reads2 in
+    → texts ≡ entries_texts header contents deck1 deck2 entries
+texts_given header contents deck1 deck2 cards1 cards2 refusal1 refusal2 entries opened texts reads1 reads2 held_one held_two has =
+    let one : texts.one ≡ level_texts One header contents deck1 (own One entries) = has.one (at_start One header contents cards1) held_one ∙ level_given One header contents deck1 cards1 refusal1 (own One entries) reads1 in
+    let two : texts.two ≡ level_texts Two header contents deck2 (own Two entries) = has.two (at_start Two header contents cards2) held_two ∙ level_given Two header contents deck2 cards2 refusal2 (own Two entries) reads2 in
     λ i. record { one = one i; two = two i }
 
 -- the texts that both levels show once they are closed
@@ -44,3 +61,103 @@ texts_shown refusal1 refusal2 entries opened performed finished texts performs c
   one = λ w held. shown_one (closed (solo w (own One entries))) (closes One (solo w (own One entries)) (performs One w held));
   two = λ w held. shown_two (closed (solo w (own Two entries))) (closes Two (solo w (own Two entries)) (performs Two w held));
 }
+
+-- ---- a run
+-- a world that is closed has no job at work
+none_at_work : (w : World) → (closed w).job ≡ None
+none_at_work w = by w.job refl
+  where
+    by : (job : Option JobAtWork) → w.job ≡ job → (over job w).job ≡ None
+    by None is = is
+    by (Some job) is = refl
+
+none_open : (deck : List (List ℕ)) (job : Option OpenJob) (w : World) (meant : Option JobAtWork) → meant ≡ None → HoldsAtWork deck job w meant → open_files job ≡ []
+none_open deck None w meant is held = refl
+none_open deck (Some job) w None is held = absurd held
+none_open deck (Some job) w (Some meant) is held = absurd cc
+
+has_files : (level : Level) (beside : Around) (w : World) → Holds level beside (closed w) → HasFiles beside.state.contents (closed w)
+has_files level beside w held label is =
+    held.parts.pack.own_files label is
+    (subst (λ (items : List OpenFile). is_open label.name items ≡ false) (sym (none_open level.deck level.job (closed w) (closed w).job (none_at_work w) held.parts.job)) refl)
+
+pub files_stand : (entries : List Entry) (first middle last : State) → Performs entries (held_by first) (held_by middle)
+    → ((level : LevelId) (w : World) → HoldsFor level middle w → HoldsFor level last (closed w))
+    → HaveFiles entries (held_by first) last.beside.state.contents
+files_stand entries first middle last performs closes level w held =
+    has_files (level_of level last) last.beside (solo w (own level entries)) (closes level (solo w (own level entries)) (performs level w held)).world
+
+-- what the outcome's pack has: entries and the end leave the rest, in a store that has what the pool has
+pub left_so : (header : Header) (deck1 deck2 : List ℕ) (cards1 cards2 : List (List ℕ)) (refusal1 refusal2 : Option (ℕ × ℕ)) (entries : List Entry) (first last : State) (contents saved : List (List ℕ))
+    → header_of first ≡ header → first.beside.state.contents ≡ contents
+    → ((level : LevelId) → rests level first) → LeavesSectors entries first last
+    → ReadsDeck deck1 cards1 refusal1 → ReadsDeck deck2 cards2 refusal2
+    → HoldsFor One first (at_start One header contents cards1) → HoldsFor Two first (at_start Two header contents cards2)
+    → HaveFiles entries (held_by first) last.beside.state.contents
+    → last.beside.state.stored ≡ last.beside.state.contents → saved ≡ last.beside.state.stored
+    → LeavesSo header deck1 deck2 entries contents saved
+left_so header deck1 deck2 cards1 cards2 refusal1 refusal2 entries first last contents saved header_is contents_are rest leaves reads1 reads2 held1 held2 files flushed saved_are = record {
+  count = ap length same ∙ leaves.common.count ∙ ap length contents_are;
+  common = λ n is. ap (λ (c : List (List ℕ)). slice_get c n) same ∙ leaves.common.contents n (subst (λ (h : Header). IsCommon h n) (sym header_is) is) ∙ ap (λ (c : List (List ℕ)). slice_get c n) contents_are;
+  idle = λ level none n is. ap (λ (c : List (List ℕ)). slice_get c n) same
+      ∙ (leaves.idle level none (rest level)).contents n (subst (λ (h : Header). IsOwn level h n) (sym header_is) is) ∙ ap (λ (c : List (List ℕ)). slice_get c n) contents_are;
+  one = subst (λ (c : List (List ℕ)). HasFiles c (run_alone One header contents (cards_of (deck_of deck1)) (own One entries))) (sym same)
+      (subst (λ (cards : List (List ℕ)). HasFiles last.beside.state.contents (run_alone One header contents cards (own One entries))) reads1.read (files One (at_start One header contents cards1) held1));
+  two = subst (λ (c : List (List ℕ)). HasFiles c (run_alone Two header contents (cards_of (deck_of deck2)) (own Two entries))) (sym same)
+      (subst (λ (cards : List (List ℕ)). HasFiles last.beside.state.contents (run_alone Two header contents cards (own Two entries))) reads2.read (files Two (at_start Two header contents cards2) held2));
+}
+  where
+    same : saved ≡ last.beside.state.contents
+    same = saved_are ∙ flushed
+
+-- the run over a store in memory is the run over the pack's bytes
+pub runs_by : (pack deck1 deck2 script : List ℕ) (entries : List Entry) (contents : List (List ℕ)) (result : Result Outcome RunFault) → contents ≡ contents_of pack → entries_of script ≡ Ok entries
+    → RunsOver contents deck1 deck2 entries result → Runs pack deck1 deck2 script result
+runs_by pack deck1 deck2 script entries contents result contents_are entries_are given = by result (subst (λ (c : List (List ℕ)). RunsOver c deck1 deck2 entries result) contents_are given)
+  where
+    texts : texts_over (mounted (contents_of pack)) (contents_of pack) deck1 deck2 entries ≡ run_texts pack deck1 deck2 script
+    texts = sym (ap (texts_after (contents_of pack) deck1 deck2) entries_are)
+
+    by : (result : Result Outcome RunFault) → RunsOver (contents_of pack) deck1 deck2 entries result → Runs pack deck1 deck2 script result
+    by (Ok outcome) given = (sym texts ∙ given.0, λ header others mount read. left header others mount (same entries others (entries_of script) entries_are read) (given.1 header mount))
+      where
+        same : (one two : List Entry) (read : Result (List Entry) ℕ) → read ≡ Ok one → read ≡ Ok two → one ≡ two
+        same one two read first second = cc
+
+        few : length (sectors_of outcome.pack.items) ≡ length (contents_of pack) → length (sectors_of outcome.pack.items) ≤ 65535
+        few count = subst (λ (n : ℕ). n ≤ 65535) (sym count) (omega (arith, length-take 65535 (sectors_of pack)))
+
+        left : (header : Header) (others : List Entry) → mounted (contents_of pack) ≡ Ok header → entries ≡ others
+            → LeavesSo header deck1 deck2 entries (contents_of pack) (sectors_of outcome.pack.items) → LeavesSo header deck1 deck2 others (contents_of pack) (contents_of outcome.pack.items)
+        left header others mount are rest =
+            subst (λ (c : List (List ℕ)). LeavesSo header deck1 deck2 others (contents_of pack) c)
+            (sym (take_all 65535 (sectors_of outcome.pack.items) (few rest.count)))
+            (subst (λ (e : List Entry). LeavesSo header deck1 deck2 e (contents_of pack) (sectors_of outcome.pack.items)) are rest)
+    by (Err NoMemory) given = tt
+    by (Err DeviceFault) given = given
+    by (Err (Script line)) given = absurd given
+    by (Err (Mount fault)) given = sym texts ∙ given
+
+same_header : (one two : Header) (mount : Result Header MountFault) → mount ≡ Ok one → mount ≡ Ok two → one ≡ two
+same_header one two mount first second = cc
+
+-- what it gives where the bureau was opened, performed all entries and was finished
+pub outcome_over : (contents : List (List ℕ)) (deck1 deck2 : List ℕ) (cards1 cards2 : List (List ℕ)) (refusal1 refusal2 : Option (ℕ × ℕ)) (entries : List Entry) (first last : State) (outcome : Outcome)
+    → mounted contents ≡ Ok (header_of first) → first.beside.state.contents ≡ contents
+    → HoldsFor One first (at_start One (header_of first) contents cards1) → HoldsFor Two first (at_start Two (header_of first) contents cards2)
+    → ((level : LevelId) → rests level first)
+    → ReadsDeck deck1 cards1 refusal1 → ReadsDeck deck2 cards2 refusal2
+    → HasTexts refusal1 refusal2 entries (held_by first) (outcome_texts outcome)
+    → HaveFiles entries (held_by first) last.beside.state.contents
+    → last.beside.state.stored ≡ last.beside.state.contents
+    → LeavesSectors entries first last
+    → sectors_of outcome.pack.items ≡ last.beside.state.stored
+    → RunsOver contents deck1 deck2 entries (Ok outcome)
+outcome_over contents deck1 deck2 cards1 cards2 refusal1 refusal2 entries first last outcome mount contents_are held1 held2 rest reads1 reads2 texts files flushed leaves saved = (
+  ap (λ (m : Result Header MountFault). texts_over m contents deck1 deck2 entries) mount
+      ∙ ap (λ (t : RunTexts). Ok t) (sym (texts_given (header_of first) contents deck1 deck2 cards1 cards2 refusal1 refusal2 entries (held_by first) (outcome_texts outcome) reads1 reads2 held1 held2 texts)),
+  λ header is. left_so header deck1 deck2 cards1 cards2 refusal1 refusal2 entries first last contents (sectors_of outcome.pack.items) (same_header (header_of first) header (mounted contents) mount is) contents_are rest leaves reads1 reads2
+      (subst (λ (h : Header). HoldsFor One first (at_start One h contents cards1)) (same_header (header_of first) header (mounted contents) mount is) held1)
+      (subst (λ (h : Header). HoldsFor Two first (at_start Two h contents cards2)) (same_header (header_of first) header (mounted contents) mount is) held2)
+      files flushed saved,
+)

@@ -2,7 +2,7 @@
 use Rattle.std.specs.Prelude.{List, [], ◌∷◌}
 use Rattle.s3_cards.specs.declared.levels.LevelId.{LevelId}
 use Rattle.s3_cards.specs.declared.levels.LevelId.TheVariants.{One, Two}
-use Rattle.s3_level.specs.declared.action.Action.{Action}
+use Rattle.s3_solo.specs.declared.action.Action.{Action}
 use Rattle.s3_bureau.specs.declared.entry.Entry.{Entry}
 
 -- the action of an entry before those, where the entry names the level

@@ -1,15 +1,31 @@
--- What a script's fault is to a run, and the number of a mount's.
+-- What a script's fault, a mount's refusal and a stop are to a run, and the number of a mount's.
 use Rattle.std.specs.Prelude.{ℕ}
 use Rattle.s3_slots.specs.declared.header.MountFault.{MountFault}
 use Rattle.s3_slots.specs.declared.header.MountFault.TheVariants.{BadHeader, BadRegions, Short}
+use Rattle.s3_store.specs.declared.pool_fault.PoolFault.TheVariants.{Device as DeviceFault, NoMemory as NoMemoryFault, NoSector}
+use Rattle.s3_labels.specs.declared.fault.Refusal.{Refusal}
+use Rattle.s3_labels.specs.declared.fault.Refusal.TheVariants.{BadPack, Sectors}
 use Rattle.s3_bureau.specs.declared.script.ScriptFault.{ScriptFault}
 use Rattle.s3_bureau.specs.declared.script.ScriptFault.TheVariants.{NoMemory as ScriptNoMemory, Line}
+use Rattle.s3_bureau.specs.declared.stop.Stop.{Stop}
+use Rattle.s3_bureau.specs.declared.stop.Stop.TheVariants.{NoMemory as StopNoMemory, Device as StopDevice, Stopped}
 use Rattle.s3_bureau.specs.declared.run_fault.RunFault.{RunFault}
-use Rattle.s3_bureau.specs.declared.run_fault.RunFault.TheVariants.{NoMemory, Script}
+use Rattle.s3_bureau.specs.declared.run_fault.RunFault.TheVariants.{NoMemory, Device, Mount, Script}
 
 abbrev pub fault_of_script : ScriptFault → RunFault
 fault_of_script ScriptNoMemory = NoMemory
 fault_of_script (Line n) = Script n
+
+abbrev pub fault_of_refusal : Refusal → RunFault
+fault_of_refusal (BadPack fault) = Mount fault
+fault_of_refusal (Sectors DeviceFault) = Device
+fault_of_refusal (Sectors NoMemoryFault) = NoMemory
+fault_of_refusal (Sectors NoSector) = NoMemory
+
+abbrev pub fault_of_stop : Stop → RunFault
+fault_of_stop StopDevice = Device
+fault_of_stop StopNoMemory = NoMemory
+fault_of_stop Stopped = NoMemory
 
 abbrev pub mount_number : MountFault → ℕ
 mount_number BadHeader = 1

@@ -1,28 +1,39 @@
--- What it is that a bureau holds a level's world.
-use Rattle.std.specs.Prelude.{◌≡◌, Bool, true, false, List}
+-- What it is that a bureau holds a level's world, and what is true of a bureau whatever it holds.
+use Rattle.std.specs.Prelude.{◌≡◌, ◌⊎◌, ℕ, Bool, true, false, List, None}
 use Rattle.s3_cards.specs.declared.levels.LevelId.{LevelId}
 use Rattle.s3_cards.specs.declared.levels.LevelId.TheVariants.{One, Two}
+use Rattle.s3_cards.specs.Levels.{other}
 use Rattle.s3_cards.specs.Printed.{Printed}
-use Rattle.s3_level.specs.declared.level.Level.{Level}
+use Rattle.s3_slots.specs.Header.{region_of}
+use Rattle.s3_slots.specs.Stretches.{IsIn}
+use Rattle.s3_slots.specs.declared.header.Header.{Header}
+use Rattle.s3_labels.specs.Areas.{IsLabelSector, area_of}
+use Rattle.s3_job_files.specs.Holds.{seen}
 use Rattle.s3_operator.specs.Halts.{ShownHalt}
-use Rattle.s3_level.specs.Lines.{drained_lines}
-use Rattle.s3_level.specs.World.{World}
-use Rattle.s3_level.specs.Holds.{Holds}
+use Rattle.s3_solo.specs.World.{World}
+use Rattle.s3_level.specs.declared.level.Level.{Level}
+use Rattle.s3_level.specs.Holds.{AreAll, Around, Holds, IsReady}
 use Rattle.s3_bureau.specs.declared.bureau.Phase.{Phase}
 use Rattle.s3_bureau.specs.declared.bureau.Phase.TheVariants.{Open, Finished, Stopped}
-use Rattle.s3_bureau.specs.declared.bureau.Bureau.{Bureau}
+
+-- what a clause sees of a bureau: the pack and the queues, both levels, and how far it has come
+pub record State : Type 0 where
+  pub beside : Around
+  pub one : Level
+  pub two : Level
+  pub phase : Phase
 
 -- one of the two levels
-abbrev pub level_of : LevelId → Bureau → Level
+abbrev pub level_of : LevelId → State → Level
 level_of One bureau = bureau.one
 level_of Two bureau = bureau.two
 
 -- the lines that a level has drained
-abbrev pub lines_at : LevelId → Bureau → List Printed
-lines_at level bureau = drained_lines (level_of level bureau).lines
+abbrev pub lines_at : LevelId → State → List Printed
+lines_at level bureau = (level_of level bureau).lines.items
 
 -- the halts that a level has shown
-abbrev pub halts_at : LevelId → Bureau → List ShownHalt
+abbrev pub halts_at : LevelId → State → List ShownHalt
 halts_at level bureau = (level_of level bureau).halts
 
 abbrev pub takes_entries : Phase → Bool
@@ -36,14 +47,48 @@ has_worlds Finished = true
 has_worlds Stopped = false
 
 -- the bureau takes entries: it is neither finished nor stopped
-abbrev pub is_open : Bureau → Bool
+abbrev pub is_open : State → Bool
 is_open bureau = takes_entries bureau.phase
 
 -- The bureau holds this world for the level. One that was stopped holds none.
-pub record HoldsFor (level : LevelId) (bureau : Bureau) (w : World) : Type 0 where
+pub record HoldsFor (level : LevelId) (bureau : State) (w : World) : Type 0 where
   pub goes_on : has_worlds bureau.phase ≡ true
-  pub world : Holds (level_of level bureau) w
+  pub world : Holds (level_of level bureau) bureau.beside w
 
 -- the worlds that it holds, by level
-abbrev pub held_by : Bureau → LevelId → World → Type 0
+abbrev pub held_by : State → LevelId → World → Type 0
 held_by bureau level w = HoldsFor level bureau w
+
+-- ---- whatever it holds
+-- both levels can take entries, each in its place
+pub record IsReadyFor (one two : Level) (beside : Around) : Type 0 where
+  pub one_is : one.id ≡ One
+  pub two_is : two.id ≡ Two
+  pub one_ready : IsReady one (seen beside.areas beside.state.contents)
+  pub two_ready : IsReady two (seen beside.areas beside.state.contents)
+  pub blocks : AreAll beside.blocks
+
+-- a bureau that takes entries can
+abbrev pub IsLaidOut : State → Type 0
+IsLaidOut bureau = is_open bureau ≡ true → IsReadyFor bureau.one bureau.two bureau.beside
+
+-- no job is at work in the level
+abbrev pub rests : LevelId → State → Type 0
+rests level bureau = (level_of level bureau).job ≡ None
+
+-- ---- the sectors of a pack
+-- a sector of the header, of the masters' labels or of their region
+abbrev pub IsCommon : Header → ℕ → Type 0
+IsCommon header n = (n ≡ 0) ⊎ (IsLabelSector 0 n ⊎ IsIn header.masters n)
+
+-- a sector of a level's labels or of its region
+abbrev pub IsOwn : LevelId → Header → ℕ → Type 0
+IsOwn level header n = IsLabelSector (area_of level) n ⊎ IsIn (region_of level header) n
+
+-- a sector of the header, the masters or the other level
+abbrev pub IsForeign : LevelId → Header → ℕ → Type 0
+IsForeign level header n = IsCommon header n ⊎ IsOwn (other level) header n
+
+-- the header that the pack was mounted with
+abbrev pub header_of : State → Header
+header_of bureau = bureau.beside.areas.header

@@ -1,19 +1,29 @@
--- What a run makes of two decks and a script.
-use Rattle.std.specs.Prelude.{◌≡◌, ℕ, List, [], Option, None, Result, Ok, Err}
+-- What a run makes of a pack, two decks and a script.
+use Rattle.std.specs.Prelude.{◌≡◌, ℕ, List, [], length, slice_get, Option, None, Result, Ok, Err}
+use Rattle.s3_cards.specs.declared.levels.LevelId.{LevelId}
 use Rattle.s3_cards.specs.declared.levels.LevelId.TheVariants.{One, Two}
 use Rattle.s3_cards.specs.declared.deck.DeckFault.{DeckFault}
 use Rattle.s3_cards.specs.Deck.{deck_of, detail_of}
-use Rattle.s3_level.specs.declared.action.Action.{Action}
-use Rattle.s3_level.specs.World.{World, at_start}
-use Rattle.s3_level.specs.Solo.{solo, closed}
+use Rattle.s3_slots.specs.Header.{mounted}
+use Rattle.s3_slots.specs.declared.header.Header.{Header}
+use Rattle.s3_slots.specs.declared.header.MountFault.{MountFault}
+use Rattle.s3_slots.specs.Slots.{standing}
+use Rattle.s3_slots.specs.declared.label.FileLabel.{FileLabel}
+use Rattle.s3_slots.specs.declared.slot.Standing.TheVariants.{Present}
+use Rattle.s3_labels.specs.Images.{contents_of}
+use Rattle.s3_job_files.specs.Kept.{kept_on}
+use Rattle.s3_solo.specs.declared.action.Action.{Action}
+use Rattle.s3_solo.specs.World.{World, at_start}
+use Rattle.s3_solo.specs.Solo.{solo, closed}
 use Rattle.s3_bureau.specs.declared.entry.Entry.{Entry}
 use Rattle.s3_bureau.specs.declared.outcome.LevelTexts.{LevelTexts}
 use Rattle.s3_bureau.specs.declared.outcome.Outcome.{Outcome}
 use Rattle.s3_bureau.specs.declared.run_fault.RunFault.{RunFault}
-use Rattle.s3_bureau.specs.declared.run_fault.RunFault.TheVariants.{Script, Mount, NoMemory}
+use Rattle.s3_bureau.specs.declared.run_fault.RunFault.TheVariants.{Script, Mount, Device, NoMemory}
 use Rattle.s3_bureau.specs.Texts.{report_of, halt_text_of}
 use Rattle.s3_bureau.specs.Script.{entries_of}
 use Rattle.s3_bureau.specs.Entries.{own}
+use Rattle.s3_bureau.specs.Held.{IsCommon, IsOwn}
 
 -- a level's report and its halt text
 pub record Texts : Type 0 where
@@ -39,25 +49,31 @@ refusal_of (Err fault) = detail_of fault
 abbrev pub texts_of : Option (ℕ × ℕ) → World → Texts
 texts_of refusal w = record { report = report_of w.lines.printed; halts = halt_text_of refusal w.halts }
 
--- the world of a level after its own entries over its own deck, closed
-abbrev pub run_alone : List (List ℕ) → List Action → World
-run_alone cards actions = closed (solo (at_start cards) actions)
+-- the world of a level after its own entries over a mounted pack and its own deck, closed
+abbrev pub run_alone : LevelId → Header → (contents : List (List ℕ)) → (cards : List (List ℕ)) → List Action → World
+run_alone level header contents cards actions = closed (solo (at_start level header contents cards) actions)
 
--- the texts of a level with this deck and its own entries
-unfoldable pub level_texts : List ℕ → List Action → Texts
-level_texts deck actions = texts_of (refusal_of (deck_of deck)) (run_alone (cards_of (deck_of deck)) actions)
+-- the texts of a level over a mounted pack, with this deck and its own entries
+unfoldable pub level_texts : LevelId → Header → (contents : List (List ℕ)) → (deck : List ℕ) → List Action → Texts
+level_texts level header contents deck actions = texts_of (refusal_of (deck_of deck)) (run_alone level header contents (cards_of (deck_of deck)) actions)
 
 -- the texts of both levels after these entries
-abbrev pub entries_texts : (deck1 deck2 : List ℕ) → List Entry → RunTexts
-entries_texts deck1 deck2 entries = record { one = level_texts deck1 (own One entries); two = level_texts deck2 (own Two entries) }
+abbrev pub entries_texts : Header → (contents : List (List ℕ)) → (deck1 deck2 : List ℕ) → List Entry → RunTexts
+entries_texts header contents deck1 deck2 entries =
+    record { one = level_texts One header contents deck1 (own One entries); two = level_texts Two header contents deck2 (own Two entries) }
 
-abbrev pub texts_after : (deck1 deck2 : List ℕ) → Result (List Entry) ℕ → Result RunTexts RunFault
-texts_after deck1 deck2 (Ok entries) = Ok (entries_texts deck1 deck2 entries)
-texts_after deck1 deck2 (Err line) = Err (Script line)
+-- the pack is mounted, or refused
+abbrev pub texts_over : Result Header MountFault → (contents : List (List ℕ)) → (deck1 deck2 : List ℕ) → List Entry → Result RunTexts RunFault
+texts_over (Ok header) contents deck1 deck2 entries = Ok (entries_texts header contents deck1 deck2 entries)
+texts_over (Err fault) contents deck1 deck2 entries = Err (Mount fault)
 
--- the texts of a run over two decks, or the fault of its script
-abbrev pub run_texts : (deck1 deck2 script : List ℕ) → Result RunTexts RunFault
-run_texts deck1 deck2 script = texts_after deck1 deck2 (entries_of script)
+abbrev pub texts_after : (contents : List (List ℕ)) → (deck1 deck2 : List ℕ) → Result (List Entry) ℕ → Result RunTexts RunFault
+texts_after contents deck1 deck2 (Ok entries) = texts_over (mounted contents) contents deck1 deck2 entries
+texts_after contents deck1 deck2 (Err line) = Err (Script line)
+
+-- the texts of a run over a pack and two decks; or the fault of its script, else the pack's
+abbrev pub run_texts : (pack deck1 deck2 script : List ℕ) → Result RunTexts RunFault
+run_texts pack deck1 deck2 script = texts_after (contents_of pack) deck1 deck2 (entries_of script)
 
 -- what a clause sees of an outcome
 abbrev pub texts_in : LevelTexts → Texts
@@ -66,10 +82,29 @@ texts_in texts = record { report = texts.report.items; halts = texts.halts.items
 abbrev pub outcome_texts : Outcome → RunTexts
 outcome_texts outcome = record { one = texts_in outcome.one; two = texts_in outcome.two }
 
--- The answer of a run is what its decks and its script give, unless memory ran out. The pack is handed back as it came: it
--- isn't mounted yet.
+-- The files of the level's own that a world has stand so in these sectors, each under the label that the world has for it.
+abbrev pub HasFiles : (contents : List (List ℕ)) → World → Type 0
+HasFiles contents w = (label : FileLabel) → standing label.name w.pack.own.slots ≡ Present label → w.pack.own.kept label.name ≡ kept_on label contents
+
+-- What a run makes of a mounted pack: it has as many sectors, those of its header and its masters and all of a level without an entry
+-- are as they were, and it has the files of each level's world.
+pub record LeavesSo (header : Header) (deck1 deck2 : List ℕ) (entries : List Entry) (old new : List (List ℕ)) : Type 0 where
+  pub count : length new ≡ length old
+  pub common : (n : ℕ) → IsCommon header n → slice_get new n ≡ slice_get old n
+  pub idle : (level : LevelId) → own level entries ≡ [] → (n : ℕ) → IsOwn level header n → slice_get new n ≡ slice_get old n
+  pub one : HasFiles new (run_alone One header old (cards_of (deck_of deck1)) (own One entries))
+  pub two : HasFiles new (run_alone Two header old (cards_of (deck_of deck2)) (own Two entries))
+
+-- the pack of an outcome
+abbrev pub LeavesPack : (pack deck1 deck2 script saved : List ℕ) → Type 0
+LeavesPack pack deck1 deck2 script saved =
+    (header : Header) (entries : List Entry) → mounted (contents_of pack) ≡ Ok header → entries_of script ≡ Ok entries
+    → LeavesSo header deck1 deck2 entries (contents_of pack) (contents_of saved)
+
+-- The answer of a run is what its pack, its decks and its script give, unless memory ran out. No device fails: the pack is in memory.
 abbrev pub Runs : (pack deck1 deck2 script : List ℕ) → Result Outcome RunFault → Type 0
-Runs pack deck1 deck2 script (Ok outcome) = (run_texts deck1 deck2 script ≡ Ok (outcome_texts outcome)) × (outcome.pack.items ≡ pack)
+Runs pack deck1 deck2 script (Ok outcome) = (run_texts pack deck1 deck2 script ≡ Ok (outcome_texts outcome)) × LeavesPack pack deck1 deck2 script outcome.pack.items
 Runs pack deck1 deck2 script (Err NoMemory) = Unit {0}
-Runs pack deck1 deck2 script (Err (Script line)) = run_texts deck1 deck2 script ≡ Err (Script line)
-Runs pack deck1 deck2 script (Err (Mount fault)) = ⊥
+Runs pack deck1 deck2 script (Err Device) = ⊥
+Runs pack deck1 deck2 script (Err (Script line)) = run_texts pack deck1 deck2 script ≡ Err (Script line)
+Runs pack deck1 deck2 script (Err (Mount fault)) = run_texts pack deck1 deck2 script ≡ Err (Mount fault)

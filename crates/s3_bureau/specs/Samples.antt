@@ -2,7 +2,7 @@
 use Rattle.std.specs.Prelude.{ℕ, List, Option}
 use Rattle.s3_cards.specs.declared.levels.LevelId.{LevelId}
 use Rattle.s3_cards.specs.Printed.{Printed}
-use Rattle.s3_level.specs.declared.action.Action.TheVariants.{Turn, Reply, Drain}
+use Rattle.s3_solo.specs.declared.action.Action.TheVariants.{Turn, Reply, Drain}
 use Rattle.s3_operator.specs.declared.halt_code.HaltCode.{HaltCode}
 use Rattle.s3_operator.specs.Halts.{ShownHalt}
 use Rattle.s3_bureau.specs.declared.entry.Entry.{Entry}

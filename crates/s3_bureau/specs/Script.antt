@@ -7,8 +7,8 @@ use Rattle.std.specs.Str.Lines.{lines}
 use Rattle.s3_cards.specs.Numbers.{is_digit_from, number_of}
 use Rattle.s3_cards.specs.declared.levels.LevelId.{LevelId}
 use Rattle.s3_cards.specs.declared.levels.LevelId.TheVariants.{One, Two}
-use Rattle.s3_level.specs.declared.action.Action.{Action}
-use Rattle.s3_level.specs.declared.action.Action.TheVariants.{Turn, Reply, Drain}
+use Rattle.s3_solo.specs.declared.action.Action.{Action}
+use Rattle.s3_solo.specs.declared.action.Action.TheVariants.{Turn, Reply, Drain}
 use Rattle.s3_bureau.specs.declared.entry.Entry.{Entry}
 use Rattle.s3_bureau.specs.declared.script.Command.{Command}
 use Rattle.s3_bureau.specs.declared.script.ScriptFault.{ScriptFault}

@@ -1,16 +1,21 @@
-//! The bureau: two levels, each with its own deck, that take turns.
-ghost use Rattle.std.specs.Prelude.{◌≡◌, IfOk, OnErr};
-ghost use Rattle.s3_level.specs.declared.action.Did.{Did};
-ghost use Rattle.s3_level.specs.Lines.{drained_lines};
-ghost use Rattle.s3_level.specs.World.{World};
-ghost use Rattle.s3_level.specs.Solo.{step_of};
-ghost use Rattle.s3_level.specs.Holds.{Holds, Steps};
+//! The bureau: two levels, each with its own deck, that take turns over one pack.
+ghost use Rattle.std.specs.Prelude.{◌≡◌};
+ghost use Rattle.s3_job_files.specs.Holds.{seen};
+ghost use Rattle.s3_level.specs.Holds.{AreAll, IsReady, around};
+ghost use Rattle.s3_bureau.specs.Held.{IsReadyFor};
+ghost use Rattle.s3_bureau.specs.Stops.{stop_by};
+ghost use Rattle.s3_bureau.specs.Inner.Calls.{Acts, ClosesLevel, ClosesBoth};
 
-use super::entry::Entry;
-use super::stop::Stop;
+use crate::entry::Entry;
+use crate::stop::Stop;
 use s3_cards::{Deck, LevelId, PrintLine};
+use s3_labels::{Pack, Refusal, RefusedStore};
 use s3_level::{Action, Did, Halt, Level};
+use s3_pool::Pool;
+use s3_spool::Spool;
+use s3_store::{PackStore, PoolFault};
 use std::alloc::{AllocError, Global};
+use std::marker::Model;
 
 /// How far a bureau has come.
 #[derive(Clone, Copy, PartialEq, Eq)]
@@ -19,47 +24,193 @@ enum Phase {
     Open,
     /// Both levels are closed.
     Finished,
-    /// Memory ran out.
+    /// Memory ran out, or the store failed.
     Stopped,
 }
 
-/// Two levels that take turns. What one of them does, the other doesn't notice.
-#[derive(Drop)]
-pub struct Bureau {
+/// Two levels that take turns over one pack. What one of them does, the other doesn't notice.
+///
+/// A bureau is ended by `into_store` alone.
+pub struct Bureau<S: PackStore> {
+    pack: Pack<Pool<S>>,
+    spool: Spool,
     one: Level,
     two: Level,
     phase: Phase,
 }
 
-impl Bureau {
-    ghost use Rattle.std.specs.Prelude.{◌≡◌, ◌≢◌, true, false, Ok, Err, map, IfOk, OnOk, OnErr};
+impl<S: PackStore> Model for Bureau<S> {
+    ghost use Rattle.std.specs.Coded.{codes};
+    ghost use Rattle.s3_level.specs.contracts.level.Level as level;
+    ghost use Rattle.s3_level.specs.Holds.{around};
+    ghost use Rattle.s3_bureau.specs.Held.{State, IsLaidOut};
+
+    ghost Value = { State };
+
+    ghost coded = { Prim.hlevel (codes, level.the_row.coded) };
+
+    ghost view = { λ b. record { beside = around b.pack.areas b.pack.pool b.spool; one = b.one; two = b.two; phase = b.phase } };
+
+    ghost invariant = { λ b. IsLaidOut (record { beside = around b.pack.areas b.pack.pool b.spool; one = b.one; two = b.two; phase = b.phase }) };
+}
+
+/// Why a bureau stops.
+fn stop_of(fault: PoolFault) -> Stop
+    ensures { result ≡ stop_by fault }
+{
+    match fault {
+        PoolFault::Device => Stop::Device,
+        PoolFault::NoMemory => Stop::NoMemory,
+        PoolFault::NoSector => Stop::NoMemory,
+    }
+}
+
+/// One entry of a level. It is proved once, for either level.
+fn act<S: PackStore>(
+    level: &mut Level,
+    pack: &mut Pack<Pool<S>>,
+    spool: &mut Spool,
+    action: Action,
+) -> Result<Did, PoolFault>
+    requires ready { IsReady level.old (seen pack.old.areas pack.old.pool.contents) }
+    requires blocks { AreAll spool.old }
+    ensures { Acts action result level.old level.new (around pack.old.areas pack.old.pool spool.old) (around pack.new.areas pack.new.pool spool.new) }
+{
+    match action {
+        Action::Turn => level.turn(pack, spool),
+        Action::Reply(digit) => level.answer(digit, pack),
+        Action::Drain => level.drain(pack, spool),
+    }
+}
+
+/// Closes a level: its job at work is ended, and its queued lines are drained.
+fn close_level<S: PackStore>(
+    level: &mut Level,
+    pack: &mut Pack<Pool<S>>,
+    spool: &mut Spool,
+) -> Result<(), PoolFault>
+    requires ready { IsReady level.old (seen pack.old.areas pack.old.pool.contents) }
+    requires blocks { AreAll spool.old }
+    ensures { ClosesLevel result level.old level.new (around pack.old.areas pack.old.pool spool.old) (around pack.new.areas pack.new.pool spool.new) }
+{
+    level.close(pack)?;
+    level.drain_all(pack, spool)
+}
+
+/// Closes both levels, and has the store hold what the pool does.
+fn close_both<S: PackStore>(
+    one: &mut Level,
+    two: &mut Level,
+    pack: &mut Pack<Pool<S>>,
+    spool: &mut Spool,
+) -> Result<(), PoolFault>
+    requires { IsReadyFor one.old two.old (around pack.old.areas pack.old.pool spool.old) }
+    ensures { ClosesBoth result one.old two.old one.new two.new (around pack.old.areas pack.old.pool spool.old) (around pack.new.areas pack.new.pool spool.new) }
+{
+    close_level(one, pack, spool)?;
+    close_level(two, pack, spool)?;
+    pack.pool.flush()
+}
+
+/// The store under a pack.
+fn store_of<S: PackStore>(pack: Pack<Pool<S>>) -> S
+    ensures contents { S.contents result ≡ pack.pool.stored }
+    ensures failures { S.failures result ≡ pack.pool.failures }
+{
+    let Pack { pool, areas: _ } = pack;
+    pool.into_store()
+}
+
+impl<S: PackStore> Bureau<S> {
+    ghost use Rattle.std.specs.Prelude.{◌≡◌, ◌≢◌, ◌+◌, ℕ, true, false, Ok, Err, map, IfOk, IfErr, OnOk, OnErr};
     ghost use Rattle.s3_cards.specs.Levels.{other};
     ghost use Rattle.s3_cards.specs.declared.levels.LevelId.{LevelId};
-    ghost use Rattle.s3_level.specs.declared.action.Did.{Did};
-    ghost use Rattle.s3_level.specs.Lines.{drained_lines};
+    ghost use Rattle.s3_store.specs.State.{KeepsInStep};
+    ghost use Rattle.s3_slots.specs.Header.{mounted};
+    ghost use Rattle.s3_labels.specs.Areas.{IsReady as IsPackReady, IsRefusal, areas_on, failed_by};
     ghost use Rattle.s3_operator.specs.Halts.{halt_of};
-    ghost use Rattle.s3_level.specs.World.{World, at_start};
-    ghost use Rattle.s3_level.specs.Solo.{step_of, closed};
-    ghost use Rattle.s3_level.specs.Holds.{Holds, Steps};
-    ghost use Rattle.s3_bureau.specs.Held.{HoldsFor, halts_at, is_open, level_of, lines_at};
+    ghost use Rattle.s3_solo.specs.declared.action.Did.{Did};
+    ghost use Rattle.s3_solo.specs.declared.action.Did.TheVariants.{Acted};
+    ghost use Rattle.s3_solo.specs.Lines.{drained_lines};
+    ghost use Rattle.s3_solo.specs.World.{World, at_start};
+    ghost use Rattle.s3_solo.specs.Solo.{step_of, closed};
+    ghost use Rattle.s3_level.specs.Holds.{Holds, Spares, Steps};
+    ghost use Rattle.s3_bureau.specs.Stops.{failed_stop};
+    ghost use Rattle.s3_bureau.specs.Inner.Calls.{Closes, Enters};
+    ghost use Rattle.s3_bureau.specs.Held.{HoldsFor, IsCommon, IsForeign, IsOwn, halts_at, header_of, is_open, has_worlds, level_of, lines_at, rests};
 
-    /// A bureau with a deck for each level, before its first entry.
-    pub fn open(alloc: Global, deck1: Deck, deck2: Deck) -> Result<Bureau, AllocError>
-        ensures one { IfOk result (λ bureau. HoldsFor LevelId.One bureau (at_start deck1)) }
-        ensures two { IfOk result (λ bureau. HoldsFor LevelId.Two bureau (at_start deck2)) }
+    /// A bureau over the pack on a store, with a deck for each level, before its first entry.
+    ///
+    /// It is refused by the pack's header alone, and where memory or the store fails; the store then comes back as it was.
+    pub fn open(
+        alloc: Global,
+        store: S,
+        deck1: Deck,
+        deck2: Deck,
+    ) -> Result<Bureau<S>, RefusedStore<S>>
+        // The pack is mounted, and nothing is written.
+        ensures header { IfOk result (λ bureau. mounted (S.contents store) ≡ Ok (header_of bureau)) }
+        ensures contents { IfOk result (λ bureau. bureau.beside.state.contents ≡ S.contents store) }
+        ensures stored { IfOk result (λ bureau. bureau.beside.state.stored ≡ S.contents store) }
+        ensures failures { IfOk result (λ bureau. bureau.beside.state.failures ≡ S.failures store) }
+
+        // Each level has its world at the start, and no job at work.
+        ensures one { IfOk result (λ bureau. HoldsFor LevelId.One bureau (at_start LevelId.One (header_of bureau) (S.contents store) deck1)) }
+        ensures two { IfOk result (λ bureau. HoldsFor LevelId.Two bureau (at_start LevelId.Two (header_of bureau) (S.contents store) deck2)) }
+        ensures rest { IfOk result (λ bureau. (level : LevelId) → rests level bureau) }
         ensures entries { IfOk result (λ bureau. is_open bureau ≡ true) }
+
+        ensures refused { IfErr result (λ refused. IsRefusal (mounted (S.contents store)) refused.fault) }
+        ensures back { IfErr result (λ refused. S.contents refused.store ≡ S.contents store) }
+        ensures failed { IfErr result (λ refused. S.failures refused.store ≡ S.failures store + failed_by refused.fault) }
     {
-        Ok(Bureau {
-            one: Level::new(alloc, LevelId::One, deck1)?,
-            two: Level::new(alloc, LevelId::Two, deck2)?,
-            phase: Phase::Open,
-        })
+        match Pack::mount(alloc, store) {
+            Ok(pack) => Bureau::over(alloc, pack, deck1, deck2),
+            Err(refused) => Err(refused),
+        }
+    }
+
+    /// A bureau over a pack that was just mounted, before its first entry.
+    fn over(
+        alloc: Global,
+        pack: Pack<Pool<S>>,
+        deck1: Deck,
+        deck2: Deck,
+    ) -> Result<Bureau<S>, RefusedStore<S>>
+        requires areas { pack.areas ≡ areas_on pack.areas.header pack.pool.contents }
+        requires ready { IsPackReady pack.areas pack.pool.contents }
+        ensures parts { IfOk result (λ bureau. (bureau.beside.areas ≡ pack.areas) × (bureau.beside.state ≡ pack.pool)) }
+        ensures one { IfOk result (λ bureau. HoldsFor LevelId.One bureau (at_start LevelId.One pack.areas.header pack.pool.contents deck1)) }
+        ensures two { IfOk result (λ bureau. HoldsFor LevelId.Two bureau (at_start LevelId.Two pack.areas.header pack.pool.contents deck2)) }
+        ensures rest { IfOk result (λ bureau. (level : LevelId) → rests level bureau) }
+        ensures entries { IfOk result (λ bureau. is_open bureau ≡ true) }
+        ensures fault { IfErr result (λ refused. refused.fault ≡ Refusal.Sectors PoolFault.NoMemory) }
+        ensures back { IfErr result (λ refused. S.contents refused.store ≡ pack.pool.stored) }
+        ensures failed { IfErr result (λ refused. S.failures refused.store ≡ pack.pool.failures) }
+    {
+        match Spool::new(
+            alloc,
+            pack.areas.quota(LevelId::One),
+            pack.areas.quota(LevelId::Two),
+        ) {
+            Ok(spool) => Ok(Bureau {
+                pack,
+                spool,
+                one: Level::new(alloc, LevelId::One, deck1),
+                two: Level::new(alloc, LevelId::Two, deck2),
+                phase: Phase::Open,
+            }),
+            Err(AllocError) => Err(RefusedStore {
+                store: store_of(pack),
+                fault: Refusal::Sectors(PoolFault::NoMemory),
+            }),
+        }
     }
 
     /// One entry of a script.
     ///
-    /// Where memory runs out it answers `Stop::NoMemory`, and nothing more is done: each later call answers
-    /// `Stop::Stopped`, as it does after `finish`.
+    /// Where memory runs out it answers `Stop::NoMemory`, and where a transfer of the store fails `Stop::Device`. Nothing more is
+    /// done then: each later call answers `Stop::Stopped`, as it does after `finish`.
     pub fn step(&mut self, entry: Entry) -> Result<Did, Stop>
         // The level's own world takes that entry, with this answer.
         ensures own { IfOk result (λ did. Steps entry.action did (HoldsFor entry.level self.old) (HoldsFor entry.level self.new)) }
@@ -68,60 +219,116 @@ impl Bureau {
         ensures other { OnOk result ((w : World) → HoldsFor (other entry.level) self.old w → HoldsFor (other entry.level) self.new w) }
         ensures no_other { OnOk result ((w : World) → HoldsFor (other entry.level) self.new w → HoldsFor (other entry.level) self.old w) }
 
+        // Whatever the answer is, the other level stays as it is, with its queue and its labels as they were judged; and so do the
+        // sectors of the header, the masters and the other level, in the store too.
+        ensures stays { level_of (other entry.level) self.new ≡ level_of (other entry.level) self.old }
+        ensures spares { is_open self.old ≡ true → Spares entry.level self.old.beside self.new.beside }
+        ensures unchanged { KeepsInStep (IsForeign entry.level (header_of self.old)) self.old.beside.state self.new.beside.state }
+        ensures header { header_of self.new ≡ header_of self.old }
+
         // Only a bureau that is finished or was stopped answers that it is stopped, and it stays as it is.
         ensures stopped { is_open self.old ≡ false → (result ≡ Err Stop.Stopped) × (self.new ≡ self.old) }
         ensures not_before { is_open self.old ≡ true → result ≢ Err Stop.Stopped }
         ensures goes_on { OnOk result (is_open self.new ≡ true) }
         ensures stops { OnErr result (is_open self.new ≡ false) }
-        ensures holds_none { result ≡ Err Stop.NoMemory → (level : LevelId) (w : World) → HoldsFor level self.new w → ⊥ }
+        ensures holds_none { OnErr result (is_open self.old ≡ true → has_worlds self.new.phase ≡ false) }
 
-        // Only an entry that acts takes memory. Where memory runs out the drained lines of both levels stay. Whatever the
-        // answer is, the other level stays as it is.
-        ensures memory { OnErr result (is_open self.old ≡ true → (w : World) → HoldsFor entry.level self.old w → (step_of w entry.action).did ≡ Did.Acted) }
+        // Only an entry that acts can stop it. A device has failed where the answer says so, and only there. The drained lines of both
+        // levels stay where it stops.
+        ensures memory { OnErr result (is_open self.old ≡ true → (w : World) → HoldsFor entry.level self.old w → (step_of w entry.action).did ≡ Acted) }
+        ensures failures { self.new.beside.state.failures ≡ self.old.beside.state.failures + failed_stop result }
         ensures lines { OnErr result ((level : LevelId) → lines_at level self.new ≡ lines_at level self.old) }
-        ensures stays { level_of (other entry.level) self.new ≡ level_of (other entry.level) self.old }
     {
         if self.phase != Phase::Open {
             return Err(Stop::Stopped);
         }
         match self.enter(entry) {
             Ok(did) => Ok(did),
-            Err(AllocError) => {
-                self.phase = Phase::Stopped;
-                Err(Stop::NoMemory)
-            }
+            Err(fault) => Err(stop_of(fault)),
         }
     }
 
-    /// Performs an entry in its level.
-    fn enter(&mut self, entry: Entry) -> Result<Did, AllocError>
-        ensures step { IfOk result (λ did. Steps entry.action did (Holds (level_of entry.level self.old)) (Holds (level_of entry.level self.new))) }
-        ensures memory { OnErr result ((w : World) → Holds (level_of entry.level self.old) w → (step_of w entry.action).did ≡ Did.Acted) }
-        ensures lines { OnErr result ((level : LevelId) → lines_at level self.new ≡ lines_at level self.old) }
-        ensures stays { level_of (other entry.level) self.new ≡ level_of (other entry.level) self.old }
-        ensures phase { self.new.phase ≡ self.old.phase }
+    /// Performs an entry in its level, or stops.
+    fn enter(&mut self, entry: Entry) -> Result<Did, PoolFault>
+        requires { is_open self.old ≡ true }
+        ensures { Enters entry.level entry.action result self.old self.new }
     {
         match entry.level {
-            LevelId::One => act(&mut self.one, entry.action),
-            LevelId::Two => act(&mut self.two, entry.action),
+            LevelId::One => match act(
+                &mut self.one,
+                &mut self.pack,
+                &mut self.spool,
+                entry.action,
+            ) {
+                Ok(did) => Ok(did),
+                Err(fault) => {
+                    self.phase = Phase::Stopped;
+                    Err(fault)
+                }
+            },
+            LevelId::Two => match act(
+                &mut self.two,
+                &mut self.pack,
+                &mut self.spool,
+                entry.action,
+            ) {
+                Ok(did) => Ok(did),
+                Err(fault) => {
+                    self.phase = Phase::Stopped;
+                    Err(fault)
+                }
+            },
         }
     }
 
     /// Closes both levels: a job at work is ended without its pending request, a halt that waits keeps no reply, and the
-    /// queued lines are drained. No further entry is taken.
+    /// queued lines are drained; then the store is given all that the pool holds. No further entry is taken.
     pub fn finish(&mut self) -> Result<(), Stop>
+        // Each world is closed, and the store has what the pool has.
         ensures closes { OnOk result ((level : LevelId) (w : World) → HoldsFor level self.old w → HoldsFor level self.new (closed w)) }
+        ensures flushed { OnOk result (self.new.beside.state.stored ≡ self.new.beside.state.contents) }
+
+        // Whatever the answer is, the sectors of the header and the masters stay, and those of a level with no job at work, in the
+        // store too.
+        ensures unchanged { KeepsInStep (IsCommon (header_of self.old)) self.old.beside.state self.new.beside.state }
+        ensures rest { (level : LevelId) → rests level self.old → KeepsInStep (IsOwn level (header_of self.old)) self.old.beside.state self.new.beside.state }
+        ensures header { header_of self.new ≡ header_of self.old }
+
         ensures stopped { is_open self.old ≡ false → (result ≡ Err Stop.Stopped) × (self.new ≡ self.old) }
-        ensures takes_no_memory { is_open self.old ≡ true → result ≡ Ok tt }
+        ensures not_before { is_open self.old ≡ true → result ≢ Err Stop.Stopped }
+        ensures failures { self.new.beside.state.failures ≡ self.old.beside.state.failures + failed_stop result }
+        ensures holds_none { OnErr result (is_open self.old ≡ true → has_worlds self.new.phase ≡ false) }
         ensures finished { is_open self.new ≡ false }
     {
         if self.phase != Phase::Open {
             return Err(Stop::Stopped);
         }
-        self.one.close();
-        self.two.close();
-        self.phase = Phase::Finished;
-        Ok(())
+        match self.close() {
+            Ok(()) => Ok(()),
+            Err(fault) => Err(stop_of(fault)),
+        }
+    }
+
+    /// Closes both levels, or stops.
+    fn close(&mut self) -> Result<(), PoolFault>
+        requires { is_open self.old ≡ true }
+        ensures { Closes result self.old self.new }
+    {
+        match close_both(
+            &mut self.one,
+            &mut self.two,
+            &mut self.pack,
+            &mut self.spool,
+        ) {
+            Ok(()) => {
+                self.phase = Phase::Finished;
+                Ok(())
+            }
+            Err(fault) => {
+                self.phase = Phase::Stopped;
+                Err(fault)
+            }
+        }
     }
 
     /// The lines that were drained from a level's queue, in order.
@@ -149,18 +356,19 @@ impl Bureau {
             LevelId::Two => &self.two,
         }
     }
-}
 
-/// One entry of a level. It is proved once, for either level.
-#[tactic(auto, using(crate::proofs::Memory::turn_that_acts, crate::proofs::Memory::reply_that_acts))]
-fn act(level: &mut Level, action: Action) -> Result<Did, AllocError>
-    ensures step { IfOk result (λ did. Steps action did (Holds level.old) (Holds level.new)) }
-    ensures memory { OnErr result ((w : World) → Holds level.old w → (step_of w action).did ≡ Did.Acted) }
-    ensures lines { OnErr result (drained_lines level.new.lines ≡ drained_lines level.old.lines) }
-{
-    match action {
-        Action::Turn => level.turn(),
-        Action::Reply(digit) => level.answer(digit),
-        Action::Drain => Ok(level.drain()),
+    /// The store as it stands: what the pool alone holds is lost, which after `finish` is nothing.
+    pub fn into_store(self) -> S
+        ensures contents { S.contents result ≡ self.beside.state.stored }
+        ensures failures { S.failures result ≡ self.beside.state.failures }
+    {
+        let Bureau {
+            pack,
+            spool: _,
+            one: _,
+            two: _,
+            phase: _,
+        } = self;
+        store_of(pack)
     }
 }

@@ -1,9 +1,10 @@
-//! What the definitions say of themselves: worked scripts and texts.
+//! What the definitions say of themselves: worked scripts and texts, and that a level's own entries alone say what it does.
 ghost use Rattle.std.specs.Prelude.{◌≡◌, [], ◌∷◌, codes, Ok, Err, Some, None};
 ghost use Rattle.s3_cards.specs.declared.levels.LevelId.TheVariants.{One, Two};
 ghost use Rattle.s3_operator.specs.declared.halt_code.HaltCode.TheVariants.{HaltIndicator, FaultyJob, FaultySource, NoSpace};
 ghost use Rattle.s3_bureau.specs.Script.{entries_of};
 ghost use Rattle.s3_bureau.specs.Texts.{report_of, halt_text_of};
+ghost use Rattle.s3_bureau.specs.Agreement.{AgreesAfter};
 ghost use Rattle.s3_bureau.specs.Samples.{turn, drain, reply, printed, shown};
 
 /// Scripts: turns, drains and replies, an empty line between them; and lines that aren't well formed.
@@ -27,4 +28,10 @@ pub fn halt_texts_are_written()
     ensures refused { halt_text_of (Some (3, 1)) [] ≡ codes "000 0003 01\n" }
     ensures faulty { halt_text_of None (shown 1 FaultyJob ((1, 2) ∷ []) None ∷ []) ≡ codes "001 OC -\n001 0001 02\n" }
     ensures replies { halt_text_of None (shown 1 FaultySource ((8, 8) ∷ (8, 10) ∷ []) (Some 2) ∷ shown 2 (HaltIndicator 1) [] (Some 0) ∷ shown 3 NoSpace [] (Some 3) ∷ []) ≡ codes "001 CE 2\n001 0008 08\n001 0008 10\n002 H1 0\n003 NS 3\n" }
+{}
+
+/// Where two bureaus agree for a level, they agree for it after any entries among which its own are the same, and these get the
+/// same answers: whatever the other level does.
+pub fn other_entries_make_no_difference()
+    ensures { AgreesAfter }
 {}

@@ -15,9 +15,12 @@ mod stop;
 
 pub use bureau::Bureau;
 pub use entry::Entry;
-pub use laws::{halt_texts_are_written, reports_are_written, scripts_are_read};
+pub use laws::{
+    halt_texts_are_written, other_entries_make_no_difference, reports_are_written, scripts_are_read,
+};
 pub use outcome::{LevelTexts, Outcome};
 pub use run_fault::{RunFault, mount_number};
 pub use runs::run;
+pub use s3_labels::{Refusal, RefusedStore};
 pub use s3_level::{Action, Did, Halt, HaltCode};
 pub use stop::Stop;

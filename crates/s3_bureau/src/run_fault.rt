@@ -4,7 +4,9 @@ ghost use Rattle.std.specs.Prelude.{◌≡◌};
 ghost use Rattle.s3_bureau.specs.Faults.{mount_number as mount_number_spec};
 
 use super::script::ScriptFault;
+use s3_labels::Refusal;
 use s3_slots::MountFault;
+use s3_store::PoolFault;
 use std::alloc::AllocError;
 use thiserror::Error;
 
@@ -17,6 +19,9 @@ pub enum RunFault {
     /// The pack isn't mounted.
     #[error("mount {}", mount_number(*.0))]
     Mount(MountFault),
+    /// A transfer of the store failed.
+    #[error("device")]
+    Device,
     /// A growth was refused.
     #[error("memory")]
     NoMemory,
@@ -54,6 +59,22 @@ impl From<ScriptFault> for RunFault {
         match fault {
             ScriptFault::NoMemory => RunFault::NoMemory,
             ScriptFault::Line(line) => RunFault::Script { line },
+        }
+    }
+}
+
+impl From<Refusal> for RunFault {
+    ghost use Rattle.std.specs.Prelude.{◌≡◌};
+    ghost use Rattle.s3_bureau.specs.Faults.{fault_of_refusal};
+
+    ghost from_gives = { λ refusal given. given ≡ fault_of_refusal refusal };
+
+    fn from(refusal: Refusal) -> RunFault {
+        match refusal {
+            Refusal::BadPack(fault) => RunFault::Mount(fault),
+            Refusal::Sectors(PoolFault::Device) => RunFault::Device,
+            Refusal::Sectors(PoolFault::NoMemory) => RunFault::NoMemory,
+            Refusal::Sectors(PoolFault::NoSector) => RunFault::NoMemory,
         }
     }
 }

@@ -1,32 +1,32 @@
-//! A run: two decks and a script, from bytes to texts.
-ghost use Rattle.std.specs.Prelude.{◌≡◌, ◌≢◌, IfOk, OnOk, replicate, true};
+//! A run: a pack, two decks and a script, from bytes to texts and the pack.
+ghost use Rattle.std.specs.Prelude.{◌≡◌, ◌≢◌, ◌+◌, Ok, Err, IfOk, IfErr, OnOk, replicate, true};
 ghost use Rattle.std.specs.List.{flat_map};
-ghost use Rattle.s3_cards.specs.declared.levels.LevelId.{LevelId};
-ghost use Rattle.s3_level.specs.World.{World};
-ghost use Rattle.s3_level.specs.Solo.{closed};
-ghost use Rattle.s3_bureau.specs.Held.{HoldsFor, held_by, is_open};
-ghost use Rattle.s3_bureau.specs.declared.stop.Stop.TheVariants.{Stopped};
+ghost use Rattle.s3_bureau.specs.Faults.{fault_of_stop};
 ghost use Rattle.s3_bureau.specs.Script.{entries_by};
-ghost use Rattle.s3_bureau.specs.Runs.{Runs, entries_texts, outcome_texts, texts_in};
-ghost use Rattle.s3_bureau.specs.Inner.Underway.{ReadsDeck, Performs, HasTexts, drained_texts};
+ghost use Rattle.s3_bureau.specs.declared.stop.Stop.TheVariants.{Stopped};
+ghost use Rattle.s3_bureau.specs.Stops.{failed_stop};
+ghost use Rattle.s3_bureau.specs.Held.{HoldsFor, held_by, is_open};
+ghost use Rattle.s3_bureau.specs.Runs.{Runs, texts_in};
+ghost use Rattle.s3_bureau.specs.Inner.Underway.{HasTexts, HaveFiles, Leaves, LeavesSectors, Performs, ReadsDeck, RunsOver, drained_texts};
+ghost use Rattle.s3_solo.specs.World.{World};
 
-use super::bureau::Bureau;
-use super::entry::Entry;
-use super::halts::halt_text;
-use super::outcome::{LevelTexts, Outcome};
-use super::report::report_text;
-use super::run_fault::RunFault;
-use super::script::{Command, read_script};
-use super::stop::Stop;
-use s3_cards::{Deck, DeckFault, LevelId};
+use crate::bureau::Bureau;
+use crate::entry::Entry;
+use crate::halts::halt_text;
+use crate::outcome::{LevelTexts, Outcome};
+use crate::report::report_text;
+use crate::run_fault::RunFault;
+use crate::script::{Command, read_script};
+use crate::stop::Stop;
+use s3_cards::{Deck, LevelId};
+use s3_labels::RefusedStore;
+use s3_store::{MemoryStore, PackStore};
 use std::alloc::{AllocError, Global};
 
-/// The texts of both levels after a script's entries, each level over its own deck, and the pack.
+/// The texts of both levels after a script's entries over a pack, each level over its own deck, and the pack that they leave.
 ///
-/// A script with an ill-formed line is refused before anything else. A deck that can't be read counts as empty, and its
-/// level's halt text begins with its fault, as of job 000.
-///
-/// A pack isn't read yet: its bytes are handed back as they came, in a copy.
+/// A script with an ill-formed line is refused before anything else, then a pack that isn't mounted. A deck that can't be
+/// read counts as empty, and its level's halt text begins with its fault, as of job 000.
 pub fn run(
     alloc: Global,
     pack: &[u8],
@@ -37,46 +37,67 @@ pub fn run(
     ensures { Runs pack.now deck1.now deck2.now script.now result }
 {
     let commands = read_script(alloc, script)?;
-    Ok(outcome(alloc, pack, deck1, deck2, commands.as_slice())?)
+    let store = MemoryStore::from_bytes(Vec::from_slice(alloc, pack)?);
+    outcome(alloc, store, deck1, deck2, &commands)
 }
 
 /// The texts of both levels after the entries of all commands, and the pack.
 fn outcome(
     alloc: Global,
-    pack: &[u8],
+    store: MemoryStore,
     deck1: &[u8],
     deck2: &[u8],
     commands: &[Command],
-) -> Result<Outcome, AllocError>
-    ensures texts { IfOk result (λ outcome. outcome_texts outcome ≡ entries_texts deck1.now deck2.now (flat_map entries_by commands.now)) }
-    ensures pack { IfOk result (λ outcome. outcome.pack.items ≡ pack.now) }
+) -> Result<Outcome, RunFault>
+    ensures { RunsOver store deck1.now deck2.now (flat_map entries_by commands.now) result }
 {
     let (cards1, refusal1) = read_deck(alloc, deck1)?;
     let (cards2, refusal2) = read_deck(alloc, deck2)?;
-    let mut bureau = Bureau::open(alloc, cards1, cards2)?;
-    served(alloc, &mut bureau, pack, commands, refusal1, refusal2)
+    let mut bureau = match Bureau::open(alloc, store, cards1, cards2) {
+        Ok(bureau) => bureau,
+        Err(RefusedStore { store: _, fault }) => return Err(RunFault::from(fault)),
+    };
+    let texts = served(alloc, &mut bureau, commands, refusal1, refusal2);
+    let pack = bureau.into_store().into_bytes();
+    match texts {
+        Ok((one, two)) => Ok(Outcome { one, two, pack }),
+        Err(stop) => Err(fault_of(stop)),
+    }
 }
 
-/// The texts of both levels after the entries of all commands, and the pack, where each level's deck was refused or not.
-fn served(
+/// What a stop of a bureau that was open is to a run.
+fn fault_of(stop: Stop) -> RunFault
+    requires { stop ≢ Stopped }
+    ensures { result ≡ fault_of_stop stop }
+{
+    match stop {
+        Stop::NoMemory => RunFault::NoMemory,
+        Stop::Device => RunFault::Device,
+        Stop::Stopped => unreachable!(),
+    }
+}
+
+/// The texts of both levels after the entries of all commands, where each level's deck was refused or not.
+fn served<S: PackStore>(
     alloc: Global,
-    bureau: &mut Bureau,
-    pack: &[u8],
+    bureau: &mut Bureau<S>,
     commands: &[Command],
     refusal1: Option<(u16, u8)>,
     refusal2: Option<(u16, u8)>,
-) -> Result<Outcome, AllocError>
+) -> Result<(LevelTexts, LevelTexts), Stop>
     requires { is_open bureau.old ≡ true }
-    ensures texts { IfOk result (λ outcome. HasTexts refusal1 refusal2 (flat_map entries_by commands.now) (held_by bureau.old) (outcome_texts outcome)) }
-    ensures pack { IfOk result (λ outcome. outcome.pack.items ≡ pack.now) }
+    ensures texts { IfOk result (λ texts. HasTexts refusal1 refusal2 (flat_map entries_by commands.now) (held_by bureau.old) (record { one = texts_in texts.0; two = texts_in texts.1 })) }
+    ensures files { OnOk result (HaveFiles (flat_map entries_by commands.now) (held_by bureau.old) bureau.new.beside.state.contents) }
+    ensures flushed { OnOk result (bureau.new.beside.state.stored ≡ bureau.new.beside.state.contents) }
+    ensures leaves { LeavesSectors (flat_map entries_by commands.now) bureau.old bureau.new }
+    ensures failures { bureau.new.beside.state.failures ≡ bureau.old.beside.state.failures + failed_stop result }
+    ensures not_stopped { result ≢ Err Stopped }
 {
     perform(bureau, commands)?;
-    finish(bureau)?;
-    Ok(Outcome {
-        one: level_texts(alloc, bureau, LevelId::One, refusal1)?,
-        two: level_texts(alloc, bureau, LevelId::Two, refusal2)?,
-        pack: Vec::from_slice(alloc, pack)?,
-    })
+    bureau.finish()?;
+    let one = level_texts(alloc, bureau, LevelId::One, refusal1)?;
+    let two = level_texts(alloc, bureau, LevelId::Two, refusal2)?;
+    Ok((one, two))
 }
 
 /// The cards of a deck, and the number of the card at fault and of its fault where the deck is refused and counts as empty.
@@ -93,10 +114,13 @@ fn read_deck(alloc: Global, text: &[u8]) -> Result<(Deck, Option<(u16, u8)>), Al
 }
 
 /// Performs the entries of all commands, in order.
-fn perform(bureau: &mut Bureau, commands: &[Command]) -> Result<(), AllocError>
+fn perform<S: PackStore>(bureau: &mut Bureau<S>, commands: &[Command]) -> Result<(), Stop>
     requires { is_open bureau.old ≡ true }
     ensures worlds { OnOk result (Performs (flat_map entries_by commands.now) (held_by bureau.old) (held_by bureau.new)) }
     ensures goes_on { OnOk result (is_open bureau.new ≡ true) }
+    ensures leaves { Leaves (flat_map entries_by commands.now) bureau.old bureau.new }
+    ensures failures { bureau.new.beside.state.failures ≡ bureau.old.beside.state.failures + failed_stop result }
+    ensures not_stopped { result ≢ Err Stopped }
 {
     for command in commands {
         repeat(bureau, command.entry, command.count)?;
@@ -105,46 +129,25 @@ fn perform(bureau: &mut Bureau, commands: &[Command]) -> Result<(), AllocError>
 }
 
 /// Performs an entry so many times.
-fn repeat(bureau: &mut Bureau, entry: Entry, count: u16) -> Result<(), AllocError>
+fn repeat<S: PackStore>(bureau: &mut Bureau<S>, entry: Entry, count: u16) -> Result<(), Stop>
     requires { is_open bureau.old ≡ true }
     ensures worlds { OnOk result (Performs (replicate count entry) (held_by bureau.old) (held_by bureau.new)) }
     ensures goes_on { OnOk result (is_open bureau.new ≡ true) }
+    ensures leaves { Leaves (replicate count entry) bureau.old bureau.new }
+    ensures failures { bureau.new.beside.state.failures ≡ bureau.old.beside.state.failures + failed_stop result }
+    ensures not_stopped { result ≢ Err Stopped }
 {
     for _time in 0..count {
         // What the entry did isn't told: a turn, a reply or a drain that was idle or refused leaves no mark in the texts.
-        match bureau.step(entry) {
-            Ok(_did) => {}
-            Err(stop) => return Err(refused(stop)),
-        }
+        let _did = bureau.step(entry)?;
     }
     Ok(())
 }
 
-/// Closes the levels of an open bureau.
-fn finish(bureau: &mut Bureau) -> Result<(), AllocError>
-    requires { is_open bureau.old ≡ true }
-    ensures { OnOk result ((level : LevelId) (w : World) → HoldsFor level bureau.old w → HoldsFor level bureau.new (closed w)) }
-{
-    match bureau.finish() {
-        Ok(()) => Ok(()),
-        Err(stop) => Err(refused(stop)),
-    }
-}
-
-/// Why an open bureau stops: a growth was refused.
-fn refused(stop: Stop) -> AllocError
-    requires { stop ≢ Stopped }
-{
-    match stop {
-        Stop::NoMemory => AllocError,
-        Stop::Stopped => unreachable!(),
-    }
-}
-
 /// A level's texts.
-fn level_texts(
+fn level_texts<S: PackStore>(
     alloc: Global,
-    bureau: &Bureau,
+    bureau: &Bureau<S>,
     level: LevelId,
     refusal: Option<(u16, u8)>,
 ) -> Result<LevelTexts, AllocError>

@@ -1,5 +1,6 @@
 //! Why an entry did nothing.
 
+use std::alloc::AllocError;
 use thiserror::Error;
 
 /// Why an entry did nothing, as every later one does.
@@ -8,7 +9,21 @@ pub enum Stop {
     /// A growth was refused: the bureau stops with this answer.
     #[error("out of memory")]
     NoMemory,
+    /// A transfer of the store failed: the bureau stops with this answer.
+    #[error("a transfer failed")]
+    Device,
     /// The bureau was stopped before, or is finished.
     #[error("stopped")]
     Stopped,
+}
+
+impl From<AllocError> for Stop {
+    ghost use Rattle.std.specs.Prelude.{◌≡◌};
+    ghost use Rattle.s3_bureau.specs.declared.stop.Stop.TheVariants.{NoMemory};
+
+    ghost from_gives = { λ _ stop. stop ≡ NoMemory };
+
+    fn from(_: AllocError) -> Stop {
+        Stop::NoMemory
+    }
 }

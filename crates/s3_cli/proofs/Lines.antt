@@ -1,11 +1,11 @@
 -- The lines of a text, one after the other.
-use Rattle.std.proofs.Common.{◌≡◌, ◌<◌, ◌≤◌, ◌+◌, ◌++◌, ℕ, Bool, true, false, List, [], ◌∷◌, length, take, drop, slice_index, refl, arith, suc, zero, ◌==◌, sym, ◌∙◌, ap, subst, append_assoc, append-nil, take_all, drop-drop, length-drop, ◌-◌, ◌||◌, if◌then◌else◌}
+use Rattle.std.proofs.Common.{◌≡◌, ◌<◌, ◌≤◌, ◌+◌, ◌++◌, ℕ, Bool, true, false, List, [], ◌∷◌, length, take, drop, slice_index, refl, arith, suc, zero, ◌==◌, sym, ◌∙◌, ap, subst, append_assoc, append-nil, take_all, drop-drop, length-drop, ◌-◌, if◌then◌else◌}
 use Rattle.std.proofs.lemmas.Grind.{flat_map-append}
 use Rattle.std.proofs.lemmas.List.Folds.{list_any-append}
 use Rattle.std.proofs.lemmas.Bool.{false_from_ne_true, or_parts}
 use Rattle.std.proofs.Math.Seq.{take-add}
 use Rattle.std.specs.List.{list_any}
-use Rattle.s3_cli.specs.Parts.{onto_first, whole_lines, text_of, is_marker, before_marker, after_marker, has_marker}
+use Rattle.s3_cli.specs.Parts.{onto_first, whole_lines, text_of, is_marker, before_marker, after_marker}
 
 -- up to the first LF, and after it
 pub whole_lines_first : (text : List ℕ) (end : ℕ) → end < length text → (slice_index text end == 10) ≡ true

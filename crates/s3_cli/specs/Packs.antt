@@ -3,7 +3,7 @@ use Rattle.std.specs.Prelude.{◌≡◌, ℕ, List, Result, Err, ⊤}
 use Rattle.s3_slots.specs.declared.header.MountFault.{MountFault}
 use Rattle.s3_listing.specs.declared.fault.ListFault.{ListFault}
 use Rattle.s3_listing.specs.declared.fault.ListFault.TheVariants.{Mount as ListMount, NoMemory as ListNoMemory, File as ListFile}
-use Rattle.s3_bureau.specs.declared.run_fault.RunFault.TheVariants.{Script, Mount, NoMemory}
+use Rattle.s3_bureau.specs.declared.run_fault.RunFault.TheVariants.{Script, Mount, Device, NoMemory}
 use Rattle.s3_cli.specs.declared.fault.SessionFault.{SessionFault}
 use Rattle.s3_cli.specs.declared.fault.SessionFault.TheVariants.{Run, Input, File}
 
@@ -17,5 +17,6 @@ abbrev pub IsListRefusal : Result (List ℕ) MountFault → SessionFault → Typ
 IsListRefusal text (Run (Mount fault)) = text ≡ Err fault
 IsListRefusal text (Run NoMemory) = ⊤
 IsListRefusal text (Run (Script number)) = ⊥
+IsListRefusal text (Run Device) = ⊥
 IsListRefusal text Input = ⊥
 IsListRefusal text File = ⊤

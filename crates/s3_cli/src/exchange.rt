@@ -28,7 +28,7 @@ pub fn session<R: Read, W: Write>(
 ) -> Result<Vec<u8>, SessionFault>
     ensures wrote { IfOk result (λ saved. IfSome (R.remaining reader.old) (λ input.
         Answers pack.now input saved.items (W.contents writer.old) (W.contents writer.new))) }
-    ensures refused { IfErr result (λ fault. IfSome (R.remaining reader.old) (λ input. Refuses fault input)) }
+    ensures refused { IfErr result (λ fault. IfSome (R.remaining reader.old) (λ input. Refuses pack.now fault input)) }
     ensures wrote_nothing { IfErr result (λ fault. fault ≢ File → W.contents writer.new ≡ W.contents writer.old) }
 {
     let input = match read_within(alloc, reader, INPUT_LIMIT) {

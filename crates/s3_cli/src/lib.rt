@@ -15,4 +15,4 @@ pub use input::{ReadFault, read_within};
 pub use packs::{list, write_table};
 pub use parts::{Parts, split_parts};
 pub use s3_bureau::RunFault;
-pub use s3_labels::{ImageFault, MigrateFault, image_with, migrate};
+pub use s3_labels::{ImageFault, MigrateFault, image, image_with, migrate};

@@ -93,6 +93,7 @@ impl<S: PackStore> Pack<Pool<S>> {
         ensures ok { IfOk result (λ pack. mounted (S.contents store) ≡ Ok pack.areas.header) }
         ensures areas { IfOk result (λ pack. pack.areas ≡ areas_on pack.areas.header (S.contents store)) }
         ensures contents { IfOk result (λ pack. pack.pool.contents ≡ S.contents store) }
+        ensures stored { IfOk result (λ pack. pack.pool.stored ≡ S.contents store) }
         ensures ready { IfOk result (λ pack. IsReady pack.areas pack.pool.contents) }
         ensures failures { IfOk result (λ pack. pack.pool.failures ≡ S.failures store) }
         ensures refused { IfErr result (λ refused. IsRefusal (mounted (S.contents store)) refused.fault) }

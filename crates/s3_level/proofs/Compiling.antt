@@ -1,6 +1,6 @@
--- A source without diagnostics goes into the library, if all its cards are built.
+-- A source without diagnostics goes into the library.
 use Rattle.std.specs.Prelude.{Bool, true, false, if◌then◌else◌}
-use Rattle.std.proofs.Common.{◌≡◌, ℕ, List, [], sym, subst, Option, Some, None, Result, Ok, Err, OnOk}
+use Rattle.std.proofs.Common.{◌≡◌, ◌≢◌, ℕ, List, [], ◌∷◌, refl, sym, subst, Option, Some, None, Result, Ok, Err, OnOk}
 use Rattle.s3_cards.specs.declared.name.Name.{Name}
 use Rattle.s3_lines.specs.declared.sheet.Line.{Line}
 use Rattle.s3_sheets.specs.Lines.{lines_of}
@@ -10,38 +10,51 @@ use Rattle.s3_program.specs.declared.program.Program.{Program}
 use Rattle.s3_program.specs.Stands.{Stands}
 use Rattle.s3_program.specs.Translation.{StandsFor}
 use Rattle.s3_diagnose.specs.Diagnostics.{compile_diagnostics}
-use Rattle.s3_level.specs.Built.{is_built, unbuilt_details}
+use Rattle.s3_solo.specs.Serving.{compiled, compiled_data, details_of, first_else, halting, stocked}
 use Rattle.s3_operator.specs.declared.halt_code.HaltCode.TheVariants.{FaultySource}
-use Rattle.s3_level.specs.Serving.{accepted, compiled, compiled_data, first_else, halting, stocked}
+use Rattle.s3_lines.specs.declared.diagnostic.Diagnostic.{Diagnostic}
 use Rattle.s3_level.specs.declared.job.OpenJob.{OpenJob}
-use Rattle.s3_level.specs.World.{World, JobAtWork}
+use Rattle.s3_solo.specs.World.{World, JobAtWork}
 use Rattle.s3_level.specs.Holds.{HoldsAtWork, Stocks, Becomes}
 
--- a program that stands for lines goes into the library if all their cards are built
-pub built_source : {T E : Type 0} (result : Result T E) (number : ℕ) (lines : List Line) (program : Program) (old new : World → Type 0)
-    → is_built lines ≡ true
+-- a source without diagnostics goes into the library, as the program that stands for its lines
+pub stocked_source : {T E : Type 0} (result : Result T E) (number run_card : ℕ) (lines : List Line) (program : Program) (old new : World → Type 0)
+    → compile_diagnostics run_card lines ≡ []
     → StandsFor program lines
     → OnOk result ((source : Source) → Stands program source → Becomes (stocked program.name source) old new)
-    → OnOk result (Becomes (accepted number lines) old new)
-built_source (Ok _) number lines program old new built stands stocks =
-    λ w held.
-    rw built (subst (λ name. new (stocked name (source_of lines) w)) stands.name (stocks (source_of lines) stands.meaning w held))
-built_source (Err _) number lines program old new built stands stocks = tt
-
-pub unbuilt_source : {T E : Type 0} (result : Result T E) (number : ℕ) (lines : List Line) (old new : World → Type 0)
-    → is_built lines ≡ false
-    → OnOk result (Becomes (halting number FaultySource (unbuilt_details lines)) old new)
-    → OnOk result (Becomes (accepted number lines) old new)
-unbuilt_source (Ok _) number lines old new unbuilt shows = λ w held. rw unbuilt (shows w held)
-unbuilt_source (Err _) number lines old new unbuilt shows = tt
-
--- a source without diagnostics is accepted
-pub accepted_source : {T E : Type 0} (result : Result T E) (number run_card : ℕ) (lines : List Line) (old new : World → Type 0)
-    → compile_diagnostics run_card lines ≡ []
-    → OnOk result (Becomes (accepted number lines) old new)
     → OnOk result (Becomes (compiled number lines (compile_diagnostics run_card lines)) old new)
-accepted_source (Ok _) number run_card lines old new none accepts = λ w held. rw none (accepts w held)
-accepted_source (Err _) number run_card lines old new none accepts = tt
+stocked_source (Ok _) number run_card lines program old new none stands stocks =
+    λ w held. rw none (subst (λ name. new (stocked name (source_of lines) w)) stands.name (stocks (source_of lines) stands.meaning w held))
+stocked_source (Err _) number run_card lines program old new none stands stocks = tt
+
+-- one with diagnostics halts for them
+shown_first : (number : ℕ) (lines : List Line) (found : List Diagnostic) (w : World) (new : World → Type 0) → found ≢ [] → new (halting number FaultySource (details_of found) w) → new (compiled number lines found w)
+shown_first number lines [] w new some shows = absurd (some refl)
+shown_first number lines (first ∷ more) w new some shows = shows
+
+pub diagnosed_source : {T E : Type 0} (result : Result T E) (number run_card : ℕ) (lines : List Line) (found : List Diagnostic) (old new : World → Type 0)
+    → found ≢ []
+    → found ≡ compile_diagnostics run_card lines
+    → OnOk result (Becomes (halting number FaultySource (details_of found)) old new)
+    → OnOk result (Becomes (compiled number lines (compile_diagnostics run_card lines)) old new)
+diagnosed_source (Ok _) number run_card lines found old new some are shows = λ w held.
+    subst (λ (all : List Diagnostic). new (compiled number lines all w)) are (shown_first number lines found w new some (shows w held))
+diagnosed_source (Err _) number run_card lines found old new some are shows = tt
+
+first_of_cards : (number : ℕ) (lines : List Line) (found others : List Diagnostic) (w : World) (new : World → Type 0) → found ≢ [] → new (halting number FaultySource (details_of found) w)
+    → new (compiled number lines (first_else found others) w)
+first_of_cards number lines [] others w new some shows = absurd (some refl)
+first_of_cards number lines (first ∷ more) others w new some shows = shows
+
+pub diagnosed_cards : {T E : Type 0} (result : Result T E) (number run_card from : ℕ) (cards : List (List ℕ)) (found : List Diagnostic) (old new : World → Type 0)
+    → found ≢ []
+    → found ≡ sheet_diagnostics from cards
+    → OnOk result (Becomes (halting number FaultySource (details_of found)) old new)
+    → OnOk result (Becomes (compiled_data number run_card from cards) old new)
+diagnosed_cards (Ok _) number run_card from cards found old new some are shows = λ w held.
+    subst (λ (all : List Diagnostic). new (compiled number (lines_of from cards) (first_else all (compile_diagnostics run_card (lines_of from cards))) w)) are
+    (first_of_cards number (lines_of from cards) found (compile_diagnostics run_card (lines_of from cards)) w new some (shows w held))
+diagnosed_cards (Err _) number run_card from cards found old new some are shows = tt
 
 -- a source whose cards have no diagnostics is compiled by its lines
 pub compiled_source : {T E : Type 0} (result : Result T E) (number run_card from : ℕ) (cards : List (List ℕ)) (lines : List Line) (old new : World → Type 0)
@@ -68,6 +81,6 @@ found_in_library program source before after meant false found stands held = sub
 pub still_at_work : (deck : List (List ℕ)) (job : Option OpenJob) (name : Name) (source : Source) (w : World) (meant : Option JobAtWork)
     → HoldsAtWork deck job w meant → HoldsAtWork deck job (stocked name source w) meant
 still_at_work deck None name source w None held = held
-still_at_work deck (Some job) name source w (Some meant) held = record { number = held.number; cards = held.cards; follows = held.follows }
+still_at_work deck (Some job) name source w (Some meant) held = record { number = held.number; cards = held.cards; files = held.files; follows = held.follows }
 still_at_work deck None name source w (Some meant) held = held
 still_at_work deck (Some job) name source w None held = held

@@ -16,9 +16,9 @@ use Rattle.s3_cycle.specs.Following.{asked, is_fit, waits}
 use Rattle.s3_cycle.proofs.FollowLemmas.{waits_card, waits_read, waits_chain, waits_append, waits_add, waits_update, waits_print, waits_jump, waits_ask, waits_end}
 use Rattle.s3_level.specs.declared.job.OpenJob.{OpenJob}
 use Rattle.s3_level.specs.declared.level.Level.{Level}
-use Rattle.s3_level.specs.World.{World, JobAtWork}
-use Rattle.s3_level.specs.Serving.{pending}
-use Rattle.s3_level.specs.Holds.{HoldsParts}
+use Rattle.s3_solo.specs.World.{World, JobAtWork}
+use Rattle.s3_solo.specs.Serving.{pending}
+use Rattle.s3_level.specs.Holds.{Shown, HoldsParts}
 use Rattle.s3_level.specs.Inner.Turning.{FitsJob, MayReply, Pends, code_asked, request_by, waits_by}
 use Rattle.s3_level.proofs.Running.{pends}
 
@@ -80,9 +80,9 @@ asks_back c asks.Jump code is w = let both : Meant.Jump ≡ Meant.Ask code = sym
 asks_back c (asks.End at_once) code is w = let both : Meant.End at_once ≡ Meant.Ask code = sym (waits_end c at_once is) ∙ w in cc
 
 -- where the world's job asks for a reply, so does the open one, and for the same halt
-asked_there : (level : Level) (w : World) (job : JobAtWork) (code : HaltCode) → HoldsParts level w → w.job ≡ Some job → pending job w ≡ Meant.Ask code
+asked_there : (s : Shown) (level : Level) (w : World) (job : JobAtWork) (code : HaltCode) → HoldsParts level s w → w.job ≡ Some job → pending job w ≡ Meant.Ask code
     → option_and_then code_asked (request_by level.job) ≡ Some code
-asked_there level w job code held is_job is = by level.job (pends level w held)
+asked_there s level w job code held is_job is = by level.job (pends s level w held)
   where
     by : (o : Option OpenJob) → Pends (waits_by o) w → option_and_then code_asked (request_by o) ≡ Some code
     by None none = absurd (none-some job (sym none ∙ is_job))
@@ -91,15 +91,15 @@ asked_there level w job code held is_job is = by level.job (pends level w held)
         let waits_for : waits open_job.cycle ≡ Meant.Ask code = sym there.2 ∙ (ap (λ (j : JobAtWork). pending j w) same ∙ is) in
         asks_back open_job.cycle (asked open_job.cycle) code refl waits_for
 
-pub reply_allowed : (level : Level) (code : HaltCode) (digit : ℕ) (may : Bool) → option_and_then code_asked (request_by level.job) ≡ Some code → may ≡ is_allowed code digit
-    → (w : World) (job : JobAtWork) → w.job ≡ Some job → HoldsParts level w → MayReply digit w → may ≡ true
-reply_allowed level code digit may is same w job is_job held replies =
+pub reply_allowed : (s : Shown) (level : Level) (code : HaltCode) (digit : ℕ) (may : Bool) → option_and_then code_asked (request_by level.job) ≡ Some code → may ≡ is_allowed code digit
+    → (w : World) (job : JobAtWork) → w.job ≡ Some job → HoldsParts level s w → MayReply digit w → may ≡ true
+reply_allowed s level code digit may is same w job is_job held replies =
     let meant = replies job is_job in
-    let one : code ≡ meant.0 = (let e : Some code ≡ Some meant.0 = sym is ∙ asked_there level w job meant.0 held is_job meant.1 in cc) in
+    let one : code ≡ meant.0 = (let e : Some code ≡ Some meant.0 = sym is ∙ asked_there s level w job meant.0 held is_job meant.1 in cc) in
     same ∙ (ap (λ (c : HaltCode). is_allowed c digit) one ∙ meant.2)
 
-pub none_allowed : (level : Level) (digit : ℕ) → option_and_then code_asked (request_by level.job) ≡ None
-    → (w : World) (job : JobAtWork) → w.job ≡ Some job → HoldsParts level w → MayReply digit w → false ≡ true
-none_allowed level digit is w job is_job held replies =
+pub none_allowed : (s : Shown) (level : Level) (digit : ℕ) → option_and_then code_asked (request_by level.job) ≡ None
+    → (w : World) (job : JobAtWork) → w.job ≡ Some job → HoldsParts level s w → MayReply digit w → false ≡ true
+none_allowed s level digit is w job is_job held replies =
     let meant = replies job is_job in
-    absurd (none-some meant.0 (sym is ∙ asked_there level w job meant.0 held is_job meant.1))
+    absurd (none-some meant.0 (sym is ∙ asked_there s level w job meant.0 held is_job meant.1))

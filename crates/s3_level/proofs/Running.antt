@@ -1,25 +1,25 @@
 -- A job at work: its cycle follows the world's run.
-use Rattle.std.proofs.Common.{◌≡◌, ◌≤◌, ℕ, length, List, [], ◌∷◌, ◌++◌, refl, sym, ◌∙◌, ap, subst, Bool, true, false, if◌then◌else◌, Option, Some, None, Result, Ok, Err, OnOk, drop, slice_range}
+use Rattle.std.proofs.Common.{◌≡◌, ◌≤◌, ℕ, length, List, [], ◌∷◌, ◌++◌, refl, sym, ◌∙◌, ap, subst, Bool, true, false, if◌then◌else◌, Option, Some, None, Result, Ok, Err, OnOk, drop, map, slice_range}
 use Rattle.std.proofs.lemmas.Option.{none-some}
 use Rattle.s3_meaning.specs.Source.{Source}
-use Rattle.s3_cards.specs.Printed.{Printed}
-use Rattle.s3_meaning.specs.Output.{filled}
 use Rattle.s3_meaning.specs.Requests.{Answer, Request, Card, Read, Chain, Append, Add, Update, Print, Jump, Ask, End, Done}
 use Rattle.s3_operator.specs.declared.halt_code.HaltCode.{HaltCode}
 use Rattle.s3_cycle.specs.declared.request.Request as code
 use Rattle.s3_cycle.specs.declared.request.Request.TheVariants as asks
 use Rattle.s3_cycle.specs.Requests.{IsLine}
-use Rattle.s3_cycle.specs.Following.{Follows, Resumes, asked, put, waits}
+use Rattle.s3_cycle.specs.Following.{Follows, Resumes, asked, waits}
 use Rattle.s3_cycle.proofs.FollowLemmas.{follows_on, waits_as, waits_card, waits_read, waits_chain, waits_append, waits_add, waits_update, waits_print, waits_jump, waits_ask, waits_end}
 use Rattle.s3_level.specs.declared.job.OpenJob.{OpenJob}
 use Rattle.s3_level.specs.declared.level.Level.{Level}
 use Rattle.s3_level.specs.declared.next.Next.TheVariants.{Halts, IsOver, GoesOn}
-use Rattle.s3_level.specs.declared.action.Did.TheVariants.{Acted, Idle}
-use Rattle.s3_level.specs.Lines.{Lines, has_room, with_line}
-use Rattle.s3_level.specs.World.{World, JobAtWork}
-use Rattle.s3_level.specs.Serving.{acted, answered, at_work, card_answer, halting, idle, job_ended, line_put, pending, served, standing_at, with_answer, with_card_read}
-use Rattle.s3_level.specs.Holds.{HoldsParts, HoldsJob, HoldsAtWork, Becomes}
-use Rattle.s3_level.specs.Inner.Turning.{AtWorkBecomes, Comes, Pends, request_by, waits_by}
+use Rattle.s3_solo.specs.declared.action.Did.TheVariants.{Acted}
+use Rattle.s3_solo.specs.World.{World, JobAtWork}
+use Rattle.s3_solo.specs.Serving.{answered, at_work, card_answer, halting, job_ended, line_put, over, pending, served, standing_at, with_answer, with_card_read}
+use Rattle.s3_job_files.specs.Holds.{HoldsFiles, job_file_of}
+use Rattle.s3_job_files.specs.declared.file.OpenFile.{OpenFile}
+use Rattle.s3_job_files.specs.declared.job_files.JobFiles.{JobFiles}
+use Rattle.s3_level.specs.Holds.{Shown, HoldsParts, HoldsJob, HoldsAtWork, Becomes, open_files}
+use Rattle.s3_level.specs.Inner.Turning.{AtWorkBecomes, Comes, KeepsPlace, Pends, request_by, waits_by}
 
 -- ---- the open job and the world's
 -- where the level has a job at work, so has the world
@@ -30,16 +30,16 @@ job_held deck open_job w job o meant is_open is_job held =
     subst P is_open (let Q : Option JobAtWork → Type 0 = λ m. HoldsAtWork deck o w m in subst Q is_job held)
 
 -- the level has it where the world has one
-level_has : (level : Level) (w : World) (job : JobAtWork) → w.job ≡ Some job → HoldsParts level w → (open_job : OpenJob) × (level.job ≡ Some open_job)
-level_has level w job is_job held = by level.job refl (let Q : Option JobAtWork → Type 0 = λ m. HoldsAtWork level.deck level.job w m in subst Q is_job held.job)
+level_has : (s : Shown) (level : Level) (w : World) (job : JobAtWork) → w.job ≡ Some job → HoldsParts level s w → (open_job : OpenJob) × (level.job ≡ Some open_job)
+level_has s level w job is_job held = by level.job refl (let Q : Option JobAtWork → Type 0 = λ m. HoldsAtWork level.deck level.job w m in subst Q is_job held.job)
   where
     by : (o : Option OpenJob) → level.job ≡ o → HoldsAtWork level.deck level.job w (Some job) → (open_job : OpenJob) × (level.job ≡ Some open_job)
     by None is h = absurd (let P : Option OpenJob → Type 0 = λ k. HoldsAtWork level.deck k w (Some job) in subst P is h)
     by (Some open_job) is h = (open_job, is)
 
 -- the pending request of the open job is that of the world's job
-pub pends : (level : Level) (w : World) → HoldsParts level w → Pends (waits_by level.job) w
-pends level w held = by level.job w.job refl held.job
+pub pends : (s : Shown) (level : Level) (w : World) → HoldsParts level s w → Pends (waits_by level.job) w
+pends s level w held = by level.job w.job refl held.job
   where
     by : (o : Option OpenJob) (meant : Option JobAtWork) → w.job ≡ meant → HoldsAtWork level.deck o w meant → Pends (waits_by o) w
     by None None is h = is
@@ -47,13 +47,16 @@ pends level w held = by level.job w.job refl held.job
     by (Some open_job) None is h = absurd h
     by (Some open_job) (Some job) is h = (job, is, sym (waits_as job.source w.switches w.date job.past open_job.cycle h.follows))
 
+abbrev items_of : JobFiles → List OpenFile
+items_of files = files.files.items
+
 -- a job at work goes on with the answer to its request: it holds the world's with that answer
-goes_on : (old : Level) (job after : OpenJob) (cards : JobAtWork → JobAtWork) (answer : Answer) → old.job ≡ Some job → after.number ≡ job.number
-    → Resumes job.cycle after.cycle answer
+goes_on : (s : Shown) (old : Level) (job after : OpenJob) (cards : JobAtWork → JobAtWork) (answer : Answer) → old.job ≡ Some job → after.number ≡ job.number
+    → after.files ≡ job.files → Resumes job.cycle after.cycle answer
     → ((meant : JobAtWork) → meant.cards ≡ slice_range old.deck job.next job.end → (cards meant).cards ≡ slice_range old.deck after.next after.end)
-    → ((meant : JobAtWork) → ((cards meant).number ≡ meant.number) × ((cards meant).source ≡ meant.source) × ((cards meant).past ≡ meant.past))
-    → AtWorkBecomes (λ meant w. record w { job = Some (with_answer answer (cards meant)) }) (HoldsParts old) (HoldsParts (record old { job = Some after }))
-goes_on old job after cards answer is_open number resumes read same = λ w meant is_job held.
+    → ((meant : JobAtWork) → ((cards meant).number ≡ meant.number) × ((cards meant).source ≡ meant.source) × ((cards meant).past ≡ meant.past) × ((cards meant).files ≡ meant.files))
+    → AtWorkBecomes (λ meant w. record w { job = Some (with_answer answer (cards meant)) }) (HoldsParts old s) (HoldsParts (record old { job = Some after }) s)
+goes_on s old job after cards answer is_open number same_files resumes read same = λ w meant is_job held.
     let h : HoldsJob old.deck job w meant = job_held old.deck job w meant old.job w.job is_open is_job held.job in
     record {
       cards = held.cards;
@@ -62,9 +65,11 @@ goes_on old job after cards answer is_open number resumes read same = λ w meant
       library = held.library;
       switches = held.switches;
       date = held.date;
+      pack = subst (λ (items : List OpenFile). HoldsFiles old.id items s.seen w.pack) (ap open_files is_open ∙ sym (ap items_of same_files)) held.pack;
       job = record {
         number = (same meant).0 ∙ (h.number ∙ sym number);
         cards = read meant h.cards;
+        files = (same meant).3 ∙ (h.files ∙ sym (ap (λ (f : JobFiles). map job_file_of f.files.items) same_files));
         follows =
             let followed : Follows meant.source w.switches w.date (meant.past ++ answer ∷ []) after.cycle = follows_on meant.source w.switches w.date meant.past job.cycle after.cycle answer h.follows resumes in
             subst (λ (s : Source). Follows s w.switches w.date ((cards meant).past ++ answer ∷ []) after.cycle) (sym (same meant).1)
@@ -74,24 +79,24 @@ goes_on old job after cards answer is_open number resumes read same = λ w meant
       halts = held.halts;
     }
 
-pub answer_taken : (old : Level) (job after : OpenJob) (answer : Answer) → old.job ≡ Some job → after.number ≡ job.number → after.next ≡ job.next → after.end ≡ job.end
+pub answer_taken : (s : Shown) (old : Level) (job after : OpenJob) (answer : Answer) → old.job ≡ Some job → KeepsPlace job after → after.files ≡ job.files
     → Resumes job.cycle after.cycle answer
-    → AtWorkBecomes (λ meant w. record w { job = Some (with_answer answer meant) }) (HoldsParts old) (HoldsParts (record old { job = Some after }))
-answer_taken old job after answer is_open number next end resumes =
-    goes_on old job after (λ meant. meant) answer is_open number resumes
-    (λ meant has. has ∙ (λ i. slice_range old.deck (sym next i) (sym end i)))
-    (λ meant. (refl, refl, refl))
+    → AtWorkBecomes (λ meant w. record w { job = Some (with_answer answer meant) }) (HoldsParts old s) (HoldsParts (record old { job = Some after }) s)
+answer_taken s old job after answer is_open place files resumes =
+    goes_on s old job after (λ meant. meant) answer is_open place.number files resumes
+    (λ meant has. has ∙ (λ i. slice_range old.deck (sym place.next i) (sym place.end i)))
+    (λ meant. (refl, refl, refl, refl))
 
 -- a card is read
-pub card_taken : (old : Level) (job after : OpenJob) → old.job ≡ Some job → after.number ≡ job.number
+pub card_taken : (s : Shown) (old : Level) (job after : OpenJob) → old.job ≡ Some job → after.number ≡ job.number → after.files ≡ job.files
     → Resumes job.cycle after.cycle (card_answer (slice_range old.deck job.next job.end))
     → slice_range old.deck after.next after.end ≡ drop 1 (slice_range old.deck job.next job.end)
-    → AtWorkBecomes (λ meant w. record w { job = Some (with_answer (card_answer meant.cards) (with_card_read meant)) }) (HoldsParts old) (HoldsParts (record old { job = Some after }))
-card_taken old job after is_open number resumes read = λ w meant is_job held.
+    → AtWorkBecomes (λ meant w. record w { job = Some (with_answer (card_answer meant.cards) (with_card_read meant)) }) (HoldsParts old s) (HoldsParts (record old { job = Some after }) s)
+card_taken s old job after is_open number files resumes read = λ w meant is_job held.
     let h : HoldsJob old.deck job w meant = job_held old.deck job w meant old.job w.job is_open is_job held.job in
-    let goes = goes_on old job after with_card_read (card_answer (slice_range old.deck job.next job.end)) is_open number resumes
-    (λ other has. ap (drop 1) has ∙ sym read) (λ other. (refl, refl, refl)) w meant is_job held in
-    subst (λ (cards : List (List ℕ)). HoldsParts (record old { job = Some after }) (record w { job = Some (with_answer (card_answer cards) (with_card_read meant)) })) (sym h.cards) goes
+    let goes = goes_on s old job after with_card_read (card_answer (slice_range old.deck job.next job.end)) is_open number files resumes
+    (λ other has. ap (drop 1) has ∙ sym read) (λ other. (refl, refl, refl, refl)) w meant is_job held in
+    subst (λ (cards : List (List ℕ)). HoldsParts (record old { job = Some after }) s (record w { job = Some (with_answer (card_answer cards) (with_card_read meant)) })) (sym h.cards) goes
 
 -- ---- what it comes to
 -- where it stands says nothing of what else is there
@@ -121,47 +126,55 @@ then_stands (Err _) change old middle new changes stands = tt
 same_world : (w : World) (job : JobAtWork) → w.job ≡ Some job → record w { job = Some job } ≡ w
 same_world w job is_job = ap (λ (o : Option JobAtWork). record w { job = o }) (sym is_job)
 
-pub halt_shown : {T E : Type 0} (result : Result T E) (number : ℕ) (code : HaltCode) (old : Level) (new : World → Type 0)
-    → ((w : World) (job : JobAtWork) → w.job ≡ Some job → HoldsParts old w → Comes (Halts number code) job w)
-    → OnOk result (Becomes (halting number code []) (HoldsParts old) new)
-    → OnOk result (AtWorkBecomes at_work (HoldsParts old) new)
-halt_shown (Ok _) number code old new comes shows = λ w job is_job held.
+pub halt_shown : (s : Shown) {T E : Type 0} (result : Result T E) (number : ℕ) (code : HaltCode) (old : Level) (new : World → Type 0)
+    → ((w : World) (job : JobAtWork) → w.job ≡ Some job → HoldsParts old s w → Comes (Halts number code) job w)
+    → OnOk result (Becomes (halting number code []) (HoldsParts old s) new)
+    → OnOk result (AtWorkBecomes at_work (HoldsParts old s) new)
+halt_shown s (Ok _) number code old new comes shows = λ w job is_job held.
     let here = comes w job is_job held in
     let stands : at_work job w ≡ halting number code [] w =
     ap (λ (request : Request). standing_at request job w) here.1
     ∙ (ap (λ (k : World). halting job.number code [] k) (same_world w job is_job) ∙ ap (λ (n : ℕ). halting n code [] w) (sym here.0)) in
     subst new (sym stands) (shows w held)
-halt_shown (Err _) number code old new comes shows = tt
+halt_shown s (Err _) number code old new comes shows = tt
 
-pub job_over : (old : Level) (new : World → Type 0)
-    → ((w : World) (job : JobAtWork) → w.job ≡ Some job → HoldsParts old w → Comes IsOver job w)
-    → Becomes job_ended (HoldsParts old) new
-    → AtWorkBecomes at_work (HoldsParts old) new
-job_over old new comes ends = λ w job is_job held.
-    subst new (sym (ap (λ (request : Request). standing_at request job w) (comes w job is_job held))) (ends w held)
+pub job_over : (s : Shown) (old : Level) (new : World → Type 0)
+    → ((w : World) (job : JobAtWork) → w.job ≡ Some job → HoldsParts old s w → Comes IsOver job w)
+    → Becomes job_ended (HoldsParts old s) new
+    → AtWorkBecomes at_work (HoldsParts old s) new
+job_over s old new comes ends = λ w job is_job held.
+    subst new (sym (ap (λ (request : Request). standing_at request job w) (comes w job is_job held)))
+    (subst (λ (o : Option JobAtWork). new (over o w)) is_job (ends w held))
 
-pub job_goes_on : (old : Level)
-    → ((w : World) (job : JobAtWork) → w.job ≡ Some job → HoldsParts old w → Comes GoesOn job w)
-    → AtWorkBecomes at_work (HoldsParts old) (HoldsParts old)
-job_goes_on old comes = λ w job is_job held. subst (HoldsParts old) (sym (comes w job is_job held ∙ same_world w job is_job)) held
+pub job_over_then : (s : Shown) {T E : Type 0} (result : Result T E) (old : Level) (new : World → Type 0)
+    → ((w : World) (job : JobAtWork) → w.job ≡ Some job → HoldsParts old s w → Comes IsOver job w)
+    → OnOk result (Becomes job_ended (HoldsParts old s) new)
+    → OnOk result (AtWorkBecomes at_work (HoldsParts old s) new)
+job_over_then s (Ok _) old new comes ends = job_over s old new comes ends
+job_over_then s (Err _) old new comes ends = tt
+
+pub job_goes_on : (s : Shown) (old : Level)
+    → ((w : World) (job : JobAtWork) → w.job ≡ Some job → HoldsParts old s w → Comes GoesOn job w)
+    → AtWorkBecomes at_work (HoldsParts old s) (HoldsParts old s)
+job_goes_on s old comes = λ w job is_job held. subst (HoldsParts old s) (sym (comes w job is_job held ∙ same_world w job is_job)) held
 
 -- ---- what it waits for
 -- the pending request of the world's job is what the open one waits for
-as_waits : (level : Level) (open_job : OpenJob) (w : World) (job : JobAtWork) → level.job ≡ Some open_job → w.job ≡ Some job → HoldsParts level w
+as_waits : (s : Shown) (level : Level) (open_job : OpenJob) (w : World) (job : JobAtWork) → level.job ≡ Some open_job → w.job ≡ Some job → HoldsParts level s w
     → (pending job w ≡ waits open_job.cycle) × (open_job.number ≡ job.number)
-as_waits level open_job w job is_open is_job held =
+as_waits s level open_job w job is_open is_job held =
     let h : HoldsJob level.deck open_job w job = job_held level.deck open_job w job level.job w.job is_open is_job held.job in
     (sym (waits_as job.source w.switches w.date job.past open_job.cycle h.follows), sym h.number)
 
-pub comes_halt : (level : Level) (open_job : OpenJob) (code : HaltCode) → level.job ≡ Some open_job → asked open_job.cycle ≡ asks.Ask code
-    → (w : World) (job : JobAtWork) → w.job ≡ Some job → HoldsParts level w → Comes (Halts open_job.number code) job w
-comes_halt level open_job code is_open is w job is_job held =
-    let here = as_waits level open_job w job is_open is_job held in
+pub comes_halt : (s : Shown) (level : Level) (open_job : OpenJob) (code : HaltCode) → level.job ≡ Some open_job → asked open_job.cycle ≡ asks.Ask code
+    → (w : World) (job : JobAtWork) → w.job ≡ Some job → HoldsParts level s w → Comes (Halts open_job.number code) job w
+comes_halt s level open_job code is_open is w job is_job held =
+    let here = as_waits s level open_job w job is_open is_job held in
     (here.1, here.0 ∙ waits_ask open_job.cycle code is)
 
-pub comes_over : (level : Level) (open_job : OpenJob) → level.job ≡ Some open_job → asked open_job.cycle ≡ asks.End true
-    → (w : World) (job : JobAtWork) → w.job ≡ Some job → HoldsParts level w → Comes IsOver job w
-comes_over level open_job is_open is w job is_job held = (as_waits level open_job w job is_open is_job held).0 ∙ waits_end open_job.cycle true is
+pub comes_over : (s : Shown) (level : Level) (open_job : OpenJob) → level.job ≡ Some open_job → asked open_job.cycle ≡ asks.End true
+    → (w : World) (job : JobAtWork) → w.job ≡ Some job → HoldsParts level s w → Comes IsOver job w
+comes_over s level open_job is_open is w job is_job held = (as_waits s level open_job w job is_open is_job held).0 ∙ waits_end open_job.cycle true is
 
 -- neither a halt nor the end by a reply
 abbrev pub goes : code.Request → Bool
@@ -182,14 +195,14 @@ goes_at c (asks.Ask code) job w is g = cc
 goes_at c (asks.End true) job w is g = cc
 goes_at c (asks.End false) job w is g = ap (λ r. standing_at r job w) (waits_end c false is)
 
-pub comes_on : (level : Level) (open_job : OpenJob) (request : code.Request) → level.job ≡ Some open_job → asked open_job.cycle ≡ request → goes request ≡ true
-    → (w : World) (job : JobAtWork) → w.job ≡ Some job → HoldsParts level w → Comes GoesOn job w
-comes_on level open_job request is_open is g w job is_job held =
-    ap (λ (r : Request). standing_at r job w) (as_waits level open_job w job is_open is_job held).0 ∙ goes_at open_job.cycle request job w is g
+pub comes_on : (s : Shown) (level : Level) (open_job : OpenJob) (request : code.Request) → level.job ≡ Some open_job → asked open_job.cycle ≡ request → goes request ≡ true
+    → (w : World) (job : JobAtWork) → w.job ≡ Some job → HoldsParts level s w → Comes GoesOn job w
+comes_on s level open_job request is_open is g w job is_job held =
+    ap (λ (r : Request). standing_at r job w) (as_waits s level open_job w job is_open is_job held).0 ∙ goes_at open_job.cycle request job w is g
 
 -- without an open job the world has none
-pub comes_nowhere : (level : Level) → level.job ≡ None → (w : World) (job : JobAtWork) → w.job ≡ Some job → HoldsParts level w → Comes GoesOn job w
-comes_nowhere level none w job is_job held = absurd (none-some (level_has level w job is_job held).0 (sym none ∙ (level_has level w job is_job held).1))
+pub comes_nowhere : (s : Shown) (level : Level) → level.job ≡ None → (w : World) (job : JobAtWork) → w.job ≡ Some job → HoldsParts level s w → Comes GoesOn job w
+comes_nowhere s level none w job is_job held = absurd (none-some (level_has s level w job is_job held).0 (sym none ∙ (level_has s level w job is_job held).1))
 
 -- ---- requests that are served
 pub card_served : (old middle new : World → Type 0)
@@ -213,7 +226,7 @@ still : (page line : ℕ) (text : List ℕ) (w : World) (deck : List (List ℕ))
 still page line text w deck None None h = h
 still page line text w deck None (Some job) h = h
 still page line text w deck (Some job) None h = h
-still page line text w deck (Some job) (Some meant) h = record { number = h.number; cards = h.cards; follows = h.follows }
+still page line text w deck (Some job) (Some meant) h = record { number = h.number; cards = h.cards; files = h.files; follows = h.follows }
 
 -- what the open job asks for
 asks_it : (o : Option OpenJob) (open_job : OpenJob) (page line : ℕ) → o ≡ Some open_job → request_by o ≡ Some (asks.Print page line) → asked open_job.cycle ≡ asks.Print page line
@@ -223,49 +236,3 @@ asks_it o open_job page line is_open is = let same : Some (asked open_job.cycle)
 pub line_short : (o : Option OpenJob) (open_job : OpenJob) (page line : ℕ) (text : List ℕ) → o ≡ Some open_job → request_by o ≡ Some (asks.Print page line) → IsLine (asked open_job.cycle) text
     → (1 ≤ length text) × (length text ≤ 132)
 line_short o open_job page line text is_open is fits = subst (λ (r : code.Request). IsLine r text) (asks_it o open_job page line is_open is) fits
-
--- the line of the open job is put last
-pub line_last : {T E : Type 0} (result : Result T E) (old : Level) (lines : Lines) (open_job : OpenJob) (page line : ℕ) (line_text : List ℕ) (printed : Printed) → old.job ≡ Some open_job
-    → request_by old.job ≡ Some (asks.Print page line)
-    → line_text ≡ filled (put open_job.cycle)
-    → printed ≡ record { page = page; line = line; text = line_text }
-    → OnOk result (lines ≡ with_line printed old.lines)
-    → OnOk result ((text : List ℕ) → waits_by old.job ≡ Some (Print page line text) → Becomes (line_put page line text) (HoldsParts old) (HoldsParts (record old { lines = lines })))
-line_last (Ok _) old lines open_job page line line_text printed is_open is composed is_line same = λ text waits' w held.
-    let meant : Some (Print page line (filled (put open_job.cycle))) ≡ Some (Print page line text) =
-    sym (ap waits_by is_open ∙ ap (λ r. Some r) (waits_print open_job.cycle page line (asks_it old.job open_job page line is_open is))) ∙ waits' in
-    let is_text : line_text ≡ text = (let e : filled (put open_job.cycle) ≡ text = cc in composed ∙ e) in
-    let line_of : List ℕ → Printed = λ t. record { page = page; line = line; text = t } in
-    record {
-      cards = held.cards;
-      jobs = held.jobs;
-      number = held.number;
-      library = held.library;
-      switches = held.switches;
-      date = held.date;
-      job = still page line text w old.deck old.job w.job held.job;
-      lines = ap (with_line (line_of text)) held.lines ∙ (ap (λ t. with_line (line_of t) old.lines) (sym is_text) ∙ (ap (λ (l : Printed). with_line l old.lines) (sym is_line) ∙ sym same));
-      halts = held.halts;
-    }
-line_last (Err _) old lines open_job page line line_text printed is_open is composed is_line same = tt
-
--- a line is printed, and the job goes on
-pub line_served : (page line : ℕ) (text : List ℕ) (old : Level) (middle new : World → Type 0)
-    → has_room old.lines ≡ true
-    → Becomes (line_put page line text) (HoldsParts old) middle
-    → AtWorkBecomes (answered Done) middle new
-    → (w : World) (job : JobAtWork) → w.job ≡ Some job → HoldsParts old w
-    → (Acted ≡ (served (Print page line text) job w).did) × new (served (Print page line text) job w).world
-line_served page line text old middle new room puts goes_on' w job is_job held =
-    let put' : World = line_put page line text w in
-    subst (λ (has : Bool). (Acted ≡ (if has then acted (answered Done job put') else idle w).did) × new (if has then acted (answered Done job put') else idle w).world)
-    (sym (ap has_room held.lines ∙ room)) (refl, goes_on' put' job is_job (puts w held))
-
--- unless 64 are queued
-pub line_waits : (page line : ℕ) (text : List ℕ) (old : Level) → has_room old.lines ≡ false
-    → (w : World) (job : JobAtWork) → w.job ≡ Some job → HoldsParts old w
-    → (Idle ≡ (served (Print page line text) job w).did) × HoldsParts old (served (Print page line text) job w).world
-line_waits page line text old full w job is_job held =
-    let put' : World = line_put page line text w in
-    subst (λ (has : Bool). (Idle ≡ (if has then acted (answered Done job put') else idle w).did) × HoldsParts old (if has then acted (answered Done job put') else idle w).world)
-    (sym (ap has_room held.lines ∙ full)) (refl, held)

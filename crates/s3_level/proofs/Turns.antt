@@ -1,5 +1,5 @@
 -- A turn: what each pending request makes of it.
-use Rattle.std.proofs.Common.{◌≡◌, ℕ, List, refl, sym, ◌∙◌, ap, subst, Bool, true, false, if◌then◌else◌, Option, Some, None, Result, Ok, Err, IfOk}
+use Rattle.std.proofs.Common.{◌≡◌, ℕ, List, refl, sym, ◌∙◌, ap, subst, Bool, true, false, if◌then◌else◌, Option, Some, None, Result, Ok, Err, IfOk, OnOk}
 use Rattle.std.proofs.lemmas.Option.{none-some}
 use Rattle.s3_meaning.specs.Requests.{Request, Card, Print, Jump, End}
 use Rattle.s3_meaning.specs.Output.{filled}
@@ -9,63 +9,72 @@ use Rattle.s3_cycle.specs.declared.request.Request.TheVariants as asks
 use Rattle.s3_cycle.specs.declared.stepper.Stepper.{Stepper}
 use Rattle.s3_cycle.specs.Following.{asked, put, waits}
 use Rattle.s3_cycle.proofs.FollowLemmas.{waits_card, waits_read, waits_chain, waits_append, waits_add, waits_update, waits_print, waits_jump, waits_ask, waits_end}
-use Rattle.s3_level.specs.declared.action.Action.TheVariants.{Turn}
-use Rattle.s3_level.specs.declared.action.Did.{Did}
-use Rattle.s3_level.specs.declared.action.Did.TheVariants.{Acted, Idle}
+use Rattle.s3_solo.specs.declared.action.Action.TheVariants.{Turn}
+use Rattle.s3_solo.specs.declared.action.Did.{Did}
+use Rattle.s3_solo.specs.declared.action.Did.TheVariants.{Acted, Idle}
 use Rattle.s3_level.specs.declared.job.OpenJob.{OpenJob}
 use Rattle.s3_level.specs.declared.level.Level.{Level}
-use Rattle.s3_level.specs.World.{World, JobAtWork}
-use Rattle.s3_level.specs.Serving.{Outcome, begun, idle, job_ended, served}
-use Rattle.s3_level.specs.Solo.{gone_on, step_of}
-use Rattle.s3_level.specs.Holds.{Holds, HoldsParts, Becomes, Steps}
-use Rattle.s3_level.specs.Inner.Turning.{Begins, Pends, Serves, Turns, request_by, waits_by}
-use Rattle.s3_level.proofs.Asking.{step_asks}
+use Rattle.s3_solo.specs.World.{World, JobAtWork}
+use Rattle.s3_solo.specs.Serving.{Outcome, begun, file_served, idle, in_use, job_ended, job_over, pending, served}
+use Rattle.s3_solo.specs.Serving as Serving
+use Rattle.s3_job_files.specs.Requests as files
+use Rattle.s3_solo.specs.Solo.{gone_on, step_of}
+use Rattle.s3_level.specs.Holds.{Around, Shown, Holds, HoldsParts, Becomes, Steps, shown}
+use Rattle.s3_cards.specs.declared.levels.LevelId.{LevelId}
+use Rattle.s3_operator.specs.declared.halt_code.HaltCode.{HaltCode}
+use Rattle.s3_level.specs.Inner.Turning.{Begins, Pends, Serves, Turns, on_files, request_by, waits_by}
+use Rattle.s3_solo.proofs.Asking.{step_asks}
 use Rattle.s3_level.proofs.Running.{pends}
 
 -- a turn while no halt waits, and one while a halt does
-quiet_turn : (old : Level) (w : World) → is_waiting old.halts ≡ false → HoldsParts old w → step_of w Turn ≡ gone_on w.job w
-quiet_turn old w quiet held = ap (λ (b : Bool). if b then idle w else gone_on w.job w) (ap is_waiting held.halts ∙ quiet)
+quiet_turn : (s : Shown) (old : Level) (w : World) → is_waiting old.halts ≡ false → HoldsParts old s w → step_of w Turn ≡ gone_on w.job w
+quiet_turn s old w quiet held = ap (λ (b : Bool). if b then idle w else gone_on w.job w) (ap is_waiting held.halts ∙ quiet)
 
-pub halted_turn : {E : Type 0} (old : Level) (result : Result Did E) → is_waiting old.halts ≡ true → result ≡ Ok Idle → Turns result (HoldsParts old) (HoldsParts old)
-halted_turn old (Ok did) waits is = λ w held.
+pub halted_turn : (s : Shown) {E : Type 0} (old : Level) (result : Result Did E) → is_waiting old.halts ≡ true → result ≡ Ok Idle → Turns result (HoldsParts old s) (HoldsParts old s)
+halted_turn s old (Ok did) waits is = λ w held.
     let same : step_of w Turn ≡ idle w = ap (λ (b : Bool). if b then idle w else gone_on w.job w) (ap is_waiting held.halts ∙ waits) in
-    let P : Outcome → Type 0 = λ o. (did ≡ o.did) × HoldsParts old o.world in
+    let P : Outcome → Type 0 = λ o. (did ≡ o.did) × HoldsParts old s o.world in
     subst P (sym same) (cc, held)
-halted_turn old (Err e) waits is = cc
+halted_turn s old (Err e) waits is = cc
 
 -- without an open job the world has none
-rests : (old : Level) (w : World) → request_by old.job ≡ None → HoldsParts old w → w.job ≡ None
-rests old w none held = subst (λ (o : Option Request). Pends o w) (no_request old.job none) (pends old w held)
+rests : (s : Shown) (old : Level) (w : World) → request_by old.job ≡ None → HoldsParts old s w → w.job ≡ None
+rests s old w none held = subst (λ (o : Option Request). Pends o w) (no_request old.job none) (pends s old w held)
   where
     no_request : (o : Option OpenJob) → request_by o ≡ None → waits_by o ≡ None
     no_request None is = refl
     no_request (Some job) is = absurd (none-some (asked job.cycle) (sym is))
 
+-- no job is open where none asks
+pub none_open : (o : Option OpenJob) → request_by o ≡ None → o ≡ None
+none_open None is = refl
+none_open (Some job) is = absurd (none-some (asked job.cycle) (sym is))
+
 -- the next job begins
-pub begun_turn : {E : Type 0} (old : Level) (new : World → Type 0) (result : Result Did E) → is_waiting old.halts ≡ false → request_by old.job ≡ None → Begins result (HoldsParts old) new
-    → Turns result (HoldsParts old) new
-begun_turn old new (Ok did) quiet none begins = λ w held.
-    let at_rest : w.job ≡ None = rests old w none held in
-    let same : step_of w Turn ≡ begun w.deck.jobs w = quiet_turn old w quiet held ∙ ap (λ (o : Option JobAtWork). gone_on o w) at_rest in
+pub begun_turn : (s : Shown) {E : Type 0} (old : Level) (new : World → Type 0) (result : Result Did E) → is_waiting old.halts ≡ false → request_by old.job ≡ None → Begins result (HoldsParts old s) new
+    → Turns result (HoldsParts old s) new
+begun_turn s old new (Ok did) quiet none begins = λ w held.
+    let at_rest : w.job ≡ None = rests s old w none held in
+    let same : step_of w Turn ≡ begun w.deck.jobs w = quiet_turn s old w quiet held ∙ ap (λ (o : Option JobAtWork). gone_on o w) at_rest in
     let P : Outcome → Type 0 = λ o. (did ≡ o.did) × new o.world in
     subst P (sym same) (begins w at_rest held)
-begun_turn old new (Err e) quiet none begins = λ w held.
-    let at_rest : w.job ≡ None = rests old w none held in
-    ap (λ (o : Outcome). o.did) (quiet_turn old w quiet held ∙ ap (λ (o : Option JobAtWork). gone_on o w) at_rest) ∙ begins w at_rest held
+begun_turn s old new (Err e) quiet none begins = λ w held.
+    let at_rest : w.job ≡ None = rests s old w none held in
+    ap (λ (o : Outcome). o.did) (quiet_turn s old w quiet held ∙ ap (λ (o : Option JobAtWork). gone_on o w) at_rest) ∙ begins w at_rest held
 
 -- a request is served
-served_turn : {E : Type 0} (old : Level) (new : World → Type 0) (result : Result Did E) (request : Request) → is_waiting old.halts ≡ false → waits_by old.job ≡ Some request
-    → Serves (served request) result (HoldsParts old) new → Turns result (HoldsParts old) new
-served_turn old new (Ok did) request quiet waits serves = λ w held.
-    let there : Pends (Some request) w = subst (λ (o : Option Request). Pends o w) waits (pends old w held) in
+served_turn : (s : Shown) {E : Type 0} (old : Level) (new : World → Type 0) (result : Result Did E) (request : Request) → is_waiting old.halts ≡ false → waits_by old.job ≡ Some request
+    → Serves (served request) result (HoldsParts old s) new → Turns result (HoldsParts old s) new
+served_turn s old new (Ok did) request quiet waits serves = λ w held.
+    let there : Pends (Some request) w = subst (λ (o : Option Request). Pends o w) waits (pends s old w held) in
     let same : step_of w Turn ≡ served request there.0 w =
-    quiet_turn old w quiet held ∙ (ap (λ (o : Option JobAtWork). gone_on o w) there.1 ∙ ap (λ (r : Request). served r there.0 w) there.2) in
+    quiet_turn s old w quiet held ∙ (ap (λ (o : Option JobAtWork). gone_on o w) there.1 ∙ ap (λ (r : Request). served r there.0 w) there.2) in
     let P : Outcome → Type 0 = λ o. (did ≡ o.did) × new o.world in
     subst P (sym same) (serves w there.0 there.1 held)
-served_turn old new (Err e) request quiet waits serves = λ w held.
-    let there : Pends (Some request) w = subst (λ (o : Option Request). Pends o w) waits (pends old w held) in
+served_turn s old new (Err e) request quiet waits serves = λ w held.
+    let there : Pends (Some request) w = subst (λ (o : Option Request). Pends o w) waits (pends s old w held) in
     let same : step_of w Turn ≡ served request there.0 w =
-    quiet_turn old w quiet held ∙ (ap (λ (o : Option JobAtWork). gone_on o w) there.1 ∙ ap (λ (r : Request). served r there.0 w) there.2) in
+    quiet_turn s old w quiet held ∙ (ap (λ (o : Option JobAtWork). gone_on o w) there.1 ∙ ap (λ (r : Request). served r there.0 w) there.2) in
     ap (λ (o : Outcome). o.did) same ∙ serves w there.0 there.1 held
 
 -- what the open job asks for, as the meaning has it
@@ -73,73 +82,115 @@ meant_by : (f : code.Request) (request : Request) (o : Option OpenJob) → ((c :
 meant_by f request None same is = absurd (none-some f is)
 meant_by f request (Some job) same is = ap (λ r. Some r) (same job.cycle (let some : asked job.cycle ≡ f = cc in some))
 
-pub card_turn : {E : Type 0} (old : Level) (new : World → Type 0) (result : Result Did E) → is_waiting old.halts ≡ false → request_by old.job ≡ Some asks.Card
-    → Serves (served Card) result (HoldsParts old) new → Turns result (HoldsParts old) new
-card_turn old new result quiet is serves = served_turn old new result Card quiet (meant_by asks.Card Card old.job waits_card is) serves
+pub card_turn : (s : Shown) {E : Type 0} (old : Level) (new : World → Type 0) (result : Result Did E) → is_waiting old.halts ≡ false → request_by old.job ≡ Some asks.Card
+    → Serves (served Card) result (HoldsParts old s) new → Turns result (HoldsParts old s) new
+card_turn s old new result quiet is serves = served_turn s old new result Card quiet (meant_by asks.Card Card old.job waits_card is) serves
 
-pub jump_turn : {E : Type 0} (old : Level) (new : World → Type 0) (result : Result Did E) → is_waiting old.halts ≡ false → request_by old.job ≡ Some asks.Jump
-    → Serves (served Jump) result (HoldsParts old) new → Turns result (HoldsParts old) new
-jump_turn old new result quiet is serves = served_turn old new result Jump quiet (meant_by asks.Jump Jump old.job waits_jump is) serves
+pub jump_turn : (s : Shown) {E : Type 0} (old : Level) (new : World → Type 0) (result : Result Did E) → is_waiting old.halts ≡ false → request_by old.job ≡ Some asks.Jump
+    → Serves (served Jump) result (HoldsParts old s) new → Turns result (HoldsParts old s) new
+jump_turn s old new result quiet is serves = served_turn s old new result Jump quiet (meant_by asks.Jump Jump old.job waits_jump is) serves
 
-pub print_turn : {E : Type 0} (old : Level) (new : World → Type 0) (result : Result Did E) (page line : ℕ) → is_waiting old.halts ≡ false → request_by old.job ≡ Some (asks.Print page line)
-    → ((text : List ℕ) → waits_by old.job ≡ Some (Print page line text) → Serves (served (Print page line text)) result (HoldsParts old) new) → Turns result (HoldsParts old) new
-print_turn old new result page line quiet is serves = by old.job is refl
+pub print_turn : (s : Shown) {E : Type 0} (old : Level) (new : World → Type 0) (result : Result Did E) (page line : ℕ) → is_waiting old.halts ≡ false → request_by old.job ≡ Some (asks.Print page line)
+    → ((text : List ℕ) → waits_by old.job ≡ Some (Print page line text) → Serves (served (Print page line text)) result (HoldsParts old s) new) → Turns result (HoldsParts old s) new
+print_turn s old new result page line quiet is serves = by old.job is refl
   where
-    by : (o : Option OpenJob) → request_by o ≡ Some (asks.Print page line) → old.job ≡ o → Turns result (HoldsParts old) new
+    by : (o : Option OpenJob) → request_by o ≡ Some (asks.Print page line) → old.job ≡ o → Turns result (HoldsParts old s) new
     by None none same = absurd (none-some (asks.Print page line) none)
     by (Some job) some same =
         let there : waits_by old.job ≡ Some (Print page line (filled (put job.cycle))) =
         ap waits_by same ∙ ap (λ r. Some r) (waits_print job.cycle page line (let e : asked job.cycle ≡ asks.Print page line = cc in e)) in
-        served_turn old new result (Print page line (filled (put job.cycle))) quiet there (serves (filled (put job.cycle)) there)
+        served_turn s old new result (Print page line (filled (put job.cycle))) quiet there (serves (filled (put job.cycle)) there)
 
-pub end_turn : {E : Type 0} (old : Level) (new : World → Type 0) (result : Result Did E) (did : Did) (at_once : Bool) → is_waiting old.halts ≡ false → request_by old.job ≡ Some (asks.End at_once)
-    → result ≡ Ok did → did ≡ Acted → Becomes job_ended (HoldsParts old) new → Turns result (HoldsParts old) new
-end_turn {E = E} old new (Ok other) did at_once quiet is ok acted ends =
-    served_turn {E = E} old new (Ok other) (End at_once) quiet (meant_by (asks.End at_once) (End at_once) old.job (λ c. waits_end c at_once) is)
-    (λ w job is_job held. (let same : other ≡ did = cc in same ∙ acted, ends w held))
-end_turn old new (Err e) did at_once quiet is ok acted ends = cc
-
--- nothing is done for the other requests
-abbrev pub is_unserved : code.Request → Bool
-is_unserved (asks.Ask code) = true
-is_unserved (asks.Read file size) = true
-is_unserved (asks.Chain file size sought) = true
-is_unserved (asks.Append file) = true
-is_unserved (asks.Add file) = true
-is_unserved (asks.Update file current) = true
-is_unserved asks.Card = false
-is_unserved (asks.Print page line) = false
-is_unserved asks.Jump = false
-is_unserved (asks.End at_once) = false
-
-unserved : (c : Stepper) (request : code.Request) → asked c ≡ request → is_unserved request ≡ true → (w : World) (job : JobAtWork) → served (waits c) job w ≡ idle w
-unserved c (asks.Ask code) is un w job = ap (λ r. served r job w) (waits_ask c code is)
-unserved c (asks.Read file size) is un w job = ap (λ r. served r job w) (waits_read c file size is)
-unserved c (asks.Chain file size sought) is un w job = ap (λ r. served r job w) (waits_chain c file size sought is)
-unserved c (asks.Append file) is un w job = ap (λ r. served r job w) (waits_append c file is)
-unserved c (asks.Add file) is un w job = ap (λ r. served r job w) (waits_add c file is)
-unserved c (asks.Update file current) is un w job = ap (λ r. served r job w) (waits_update c file current is)
-unserved c asks.Card is un w job = cc
-unserved c (asks.Print page line) is un w job = cc
-unserved c asks.Jump is un w job = cc
-unserved c (asks.End at_once) is un w job = cc
-
-pub unserved_turn : {E : Type 0} (old : Level) (result : Result Did E) (request : code.Request) → is_waiting old.halts ≡ false → request_by old.job ≡ Some request → is_unserved request ≡ true
-    → result ≡ Ok Idle → Turns result (HoldsParts old) (HoldsParts old)
-unserved_turn {E = E} old result request quiet is un idles = by old.job is refl
+pub end_turn : (s : Shown) {E : Type 0} (old : Level) (new : World → Type 0) (result : Result Did E) (at_once : Bool) → is_waiting old.halts ≡ false → request_by old.job ≡ Some (asks.End at_once)
+    → IfOk result (λ did. did ≡ Acted) → OnOk result (Becomes job_ended (HoldsParts old s) new) → Turns result (HoldsParts old s) new
+end_turn s {E = E} old new (Ok did) at_once quiet is acted ends =
+    served_turn s {E = E} old new (Ok did) (End at_once) quiet (meant_by (asks.End at_once) (End at_once) old.job (λ c. waits_end c at_once) is)
+    (λ w job is_job held. (acted, over w job is_job (ends w held)))
   where
-    by : (o : Option OpenJob) → request_by o ≡ Some request → old.job ≡ o → Turns result (HoldsParts old) (HoldsParts old)
+    over : (w : World) (job : JobAtWork) → w.job ≡ Some job → new (job_ended w) → new (job_over job w)
+    over w job is_job holds = subst (λ (o : Option JobAtWork). new (Serving.over o w)) is_job holds
+end_turn s {E = E} old new (Err e) at_once quiet is acted ends =
+    served_turn s {E = E} old new (Err e) (End at_once) quiet (meant_by (asks.End at_once) (End at_once) old.job (λ c. waits_end c at_once) is) (λ w job is_job held. refl)
+
+-- ---- requests to files
+abbrev pub is_to_file : code.Request → Bool
+is_to_file (asks.Read file size) = true
+is_to_file (asks.Chain file size sought) = true
+is_to_file (asks.Append file) = true
+is_to_file (asks.Add file) = true
+is_to_file (asks.Update file current) = true
+is_to_file asks.Card = false
+is_to_file (asks.Print page line) = false
+is_to_file asks.Jump = false
+is_to_file (asks.Ask code) = false
+is_to_file (asks.End at_once) = false
+
+-- one to a file is served by the files of the job
+file_outcome : (request : code.Request) (c : Stepper) → asked c ≡ request → is_to_file request ≡ true → (job : JobAtWork) (w : World) → pending job w ≡ waits c → served (waits c) job w ≡ on_files job w
+file_outcome (asks.Read file size) c is to job w pends' = ap (λ r. served r job w) (waits_read c file size is) ∙ ap (λ r. file_served (files.served r (in_use job w)) job w) (sym (pends' ∙ waits_read c file size is))
+file_outcome (asks.Chain file size sought) c is to job w pends' = ap (λ r. served r job w) (waits_chain c file size sought is) ∙ ap (λ r. file_served (files.served r (in_use job w)) job w) (sym (pends' ∙ waits_chain c file size sought is))
+file_outcome (asks.Append file) c is to job w pends' = ap (λ r. served r job w) (waits_append c file is) ∙ ap (λ r. file_served (files.served r (in_use job w)) job w) (sym (pends' ∙ waits_append c file is))
+file_outcome (asks.Add file) c is to job w pends' = ap (λ r. served r job w) (waits_add c file is) ∙ ap (λ r. file_served (files.served r (in_use job w)) job w) (sym (pends' ∙ waits_add c file is))
+file_outcome (asks.Update file current) c is to job w pends' = ap (λ r. served r job w) (waits_update c file current is) ∙ ap (λ r. file_served (files.served r (in_use job w)) job w) (sym (pends' ∙ waits_update c file current is))
+file_outcome asks.Card c is to job w pends' = cc
+file_outcome (asks.Print page line) c is to job w pends' = cc
+file_outcome asks.Jump c is to job w pends' = cc
+file_outcome (asks.Ask code) c is to job w pends' = cc
+file_outcome (asks.End at_once) c is to job w pends' = cc
+
+-- the world's job asks for what the open one waits for
+same_request : (s : Shown) (old : Level) (open_job : OpenJob) (w : World) (job : JobAtWork) → old.job ≡ Some open_job → w.job ≡ Some job → HoldsParts old s w → pending job w ≡ waits open_job.cycle
+same_request s old open_job w job is_open is_job held =
+    let there : Pends (Some (waits open_job.cycle)) w = subst (λ (o : Option OpenJob). Pends (waits_by o) w) is_open (pends s old w held) in
+    let one : there.0 ≡ job = (let e : Some there.0 ≡ Some job = sym there.1 ∙ is_job in cc) in
+    ap (λ (j : JobAtWork). pending j w) (sym one) ∙ there.2
+
+pub file_turn : (s : Shown) {E : Type 0} (old : Level) (new : World → Type 0) (result : Result Did E) (request : code.Request) → is_waiting old.halts ≡ false → request_by old.job ≡ Some request
+    → is_to_file request ≡ true → Serves on_files result (HoldsParts old s) new → Turns result (HoldsParts old s) new
+file_turn s {E = E} old new result request quiet is to serves = by old.job is refl
+  where
+    outcome : (open_job : OpenJob) → old.job ≡ Some open_job → asked open_job.cycle ≡ request → (w : World) (job : JobAtWork) → w.job ≡ Some job → HoldsParts old s w
+        → served (waits open_job.cycle) job w ≡ on_files job w
+    outcome open_job is_open it w job is_job held = file_outcome request open_job.cycle it to job w (same_request s old open_job w job is_open is_job held)
+
+    as_served : (r : Result Did E) (open_job : OpenJob) → old.job ≡ Some open_job → asked open_job.cycle ≡ request → Serves on_files r (HoldsParts old s) new → Serves (served (waits open_job.cycle)) r (HoldsParts old s) new
+    as_served (Ok did) open_job is_open it serves' = λ w job is_job held.
+        let P : Outcome → Type 0 = λ o. (did ≡ o.did) × new o.world in
+        subst P (sym (outcome open_job is_open it w job is_job held)) (serves' w job is_job held)
+    as_served (Err e) open_job is_open it serves' = λ w job is_job held.
+        ap (λ (o : Outcome). o.did) (outcome open_job is_open it w job is_job held) ∙ serves' w job is_job held
+
+    by : (o : Option OpenJob) → request_by o ≡ Some request → old.job ≡ o → Turns result (HoldsParts old s) new
     by None none same = absurd (none-some request none)
+    by (Some open_job) some same =
+        served_turn s old new result (waits open_job.cycle) quiet (ap waits_by same) (as_served result open_job same (let e : asked open_job.cycle ≡ request = cc in e) serves)
+
+-- one for a reply waits
+pub asking_turn : (s : Shown) {E : Type 0} (old : Level) (result : Result Did E) (halt : HaltCode) → is_waiting old.halts ≡ false → request_by old.job ≡ Some (asks.Ask halt)
+    → result ≡ Ok Idle → Turns result (HoldsParts old s) (HoldsParts old s)
+asking_turn s {E = E} old result halt quiet is idles = by old.job is refl
+  where
+    by : (o : Option OpenJob) → request_by o ≡ Some (asks.Ask halt) → old.job ≡ o → Turns result (HoldsParts old s) (HoldsParts old s)
+    by None none same = absurd (none-some (asks.Ask halt) none)
     by (Some job) some same =
-        served_turn old (HoldsParts old) result (waits job.cycle) quiet (ap waits_by same)
-        (subst (λ (r : Result Did E). Serves (served (waits job.cycle)) r (HoldsParts old) (HoldsParts old)) (sym idles)
+        served_turn s old (HoldsParts old s) result (waits job.cycle) quiet (ap waits_by same)
+        (subst (λ (r : Result Did E). Serves (served (waits job.cycle)) r (HoldsParts old s) (HoldsParts old s)) (sym idles)
         (λ w meant is_job held.
-        let P : Outcome → Type 0 = λ o. (Idle ≡ o.did) × HoldsParts old o.world in
-        subst P (sym (unserved job.cycle request (let e : asked job.cycle ≡ request = cc in e) un w meant)) (refl, held)))
+        let P : Outcome → Type 0 = λ o. (Idle ≡ o.did) × HoldsParts old s o.world in
+        subst P (sym (ap (λ r. served r meant w) (waits_ask job.cycle halt (let e : asked job.cycle ≡ asks.Ask halt = cc in e)))) (refl, held)))
 
 -- ---- what the parts do, the whole does
-pub turn_wholly : {E : Type 0} (result : Result Did E) (old new : Level) → Turns result (HoldsParts old) (HoldsParts new) → IfOk result (λ did. Steps Turn did (Holds old) (Holds new))
-turn_wholly (Ok did) old new turns = λ w held.
+pub turn_wholly : {E : Type 0} (result : Result Did E) (old new : Level) (before after : Around) → new.id ≡ old.id
+    → Turns result (HoldsParts old (shown old.id before)) (HoldsParts new (shown old.id after))
+    → IfOk result (λ did. Steps Turn did (Holds old before) (Holds new after))
+turn_wholly (Ok did) old new before after id turns = λ w held.
     let here = turns w held.parts in
-    (here.0, record { parts = here.1; asked = step_asks Turn w held.asked })
-turn_wholly (Err e) old new turns = tt
+    (here.0, record { parts = subst (λ (l : LevelId). HoldsParts new (shown l after) (step_of w Turn).world) (sym id) here.1; asked = step_asks Turn w held.asked })
+turn_wholly (Err e) old new before after id turns = tt
+
+-- where the meaning is idle, so is the call
+pub turn_idles : {E : Type 0} (result : Result Did E) (old new : Level) (before after : Around)
+    → Turns result (HoldsParts old (shown old.id before)) (HoldsParts new (shown old.id after))
+    → (w : World) → Holds old before w → (step_of w Turn).did ≡ Idle → result ≡ Ok Idle
+turn_idles (Ok did) old new before after turns w held idles = let same : did ≡ Idle = (turns w held.parts).0 ∙ idles in cc
+turn_idles (Err e) old new before after turns w held idles = let clash : Idle ≡ Acted = sym idles ∙ turns w held.parts in cc

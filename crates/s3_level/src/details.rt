@@ -1,6 +1,6 @@
 //! The details of a halt: numbers of cards, each with the number of what is wrong there.
 ghost use Rattle.std.specs.Prelude.{◌≡◌, [], ◌∷◌, IfOk};
-ghost use Rattle.s3_level.specs.Serving.{details_of};
+ghost use Rattle.s3_solo.specs.Serving.{details_of};
 
 use s3_lines::Diagnostic;
 use std::alloc::{AllocError, Global};

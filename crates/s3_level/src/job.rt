@@ -1,20 +1,38 @@
 //! The job at work.
-
-ghost use Rattle.std.specs.Prelude.{◌≡◌, ◌+◌, ◌<◌, [], ◌∷◌, MatchOption, drop, slice_range};
-ghost use Rattle.s3_cycle.specs.declared.request.Request.TheVariants.{Card};
-ghost use Rattle.s3_cycle.specs.Following.{Resumes, asked};
-ghost use Rattle.s3_level.specs.Serving.{card_answer};
+ghost use Rattle.std.specs.Prelude.{◌≡◌, true, false, ◌+◌, ◌<◌, ◌≤◌, [], ◌∷◌, length, map, drop, slice_get, slice_range, option_map, replicate, Some, IfOk, IfSome, IsTrue, OnOk, OnErr, MatchOption, ⊤};
+ghost use Rattle.s3_store.specs.State.{KeepsContents, KeepsInStep};
+ghost use Rattle.s3_store.specs.Failures.{failed_transfers};
+ghost use Rattle.s3_job_files.specs.Files.{FilesInUse, place_named};
+ghost use Rattle.s3_job_files.specs.Closing.{files_closed};
+ghost use Rattle.s3_job_files.specs.Calls.{found_answer, put_answer};
+ghost use Rattle.s3_job_files.specs.Requests.{record_chained, record_updated};
+ghost use Rattle.s3_job_files.specs.Holds.{seen, job_file_of, opened_as, AllAt, IsOutOfReach, Serves, Holds as HoldsInUse, IsReady as AreFilesReady, current_of as current_of_file};
+ghost use Rattle.s3_match.specs.Types.{name_of_file};
+ghost use Rattle.s3_labels.specs.Areas.{IsReady as IsPackReady};
+ghost use Rattle.s3_meaning.specs.Requests.{fits, fits_done, refuses_update};
+ghost use Rattle.s3_cycle.specs.Following.{Resumes, asked, is_fit, put, waits};
+ghost use Rattle.s3_cycle.specs.Requests.{answer_of, current_of, sought_of};
+ghost use Rattle.s3_cycle.specs.declared.request.Request.TheVariants as asks;
+ghost use Rattle.s3_solo.specs.Serving.{card_answer};
+ghost use Rattle.s3_level.specs.Holds.{IsJobReady, KeepsOthers};
+ghost use Rattle.s3_level.specs.Inner.Turning.{HasFile, IsForFile, IsForRecord, IsPut, KeepsPlace, ServesAt, ServesFile, SuitsRequest, SuitsSought};
 
 use s3_cards::{Card, Deck};
-use s3_cycle::{Answer, Cycle};
+use s3_cycle::{Answer, Current, Cycle, Request, Sought};
+use s3_job_files::{JobFiles, Put};
+use s3_labels::Pack;
+use s3_output::composition::{Composition, LONGEST_RECORD};
+use s3_store::{PoolFault, Sectors};
 
-/// A job at work: its number, its program's cycle, and the places of its data cards that are not yet read.
+/// A job at work: its number, its program's cycle, its files, and the places of its data cards that are not yet read.
 #[derive(Drop)]
 pub struct OpenJob {
     /// Its number, 0 to 999.
     pub number: u16,
     /// The cycle of its program.
     pub cycle: Cycle,
+    /// Its files on the pack.
+    pub files: JobFiles,
     /// The place of the next data card in the deck.
     pub next: usize,
     /// The place after the last one.
@@ -33,13 +51,174 @@ fn first_card(deck: &Deck, from: usize, to: usize) -> Option<&Card>
     Some(card)
 }
 
+/// What a run goes on with where a record was found, or none.
+#[tactic(auto, unfolding(s3_cycle::specs::Requests::answer_of))]
+fn record_answer(found: bool, bytes: &[u8]) -> Answer<'_>
+    ensures { answer_of result ≡ found_answer found bytes.now }
+{
+    if found {
+        Answer::Found(bytes)
+    } else {
+        Answer::Nothing
+    }
+}
+
+/// What a run goes on with where a record was put, or refused.
+#[tactic(auto, unfolding(s3_cycle::specs::Requests::answer_of))]
+fn answer_of_put(put: Put) -> Answer<'static>
+    ensures { answer_of result ≡ put_answer put }
+{
+    match put {
+        Put::Done => Answer::Done,
+        Put::Refused(code) => Answer::Refused(code),
+    }
+}
+
+/// The current record, as the files of a job name it.
+fn file_current(current: Option<Current>) -> Option<s3_job_files::Current>
+    ensures { option_map current_of_file result ≡ option_map current_of current }
+{
+    match current {
+        None => None,
+        Some(Current::NthRead(n)) => Some(s3_job_files::Current::NthRead(n)),
+        Some(Current::LastChained) => Some(s3_job_files::Current::LastChained),
+    }
+}
+
+/// What an update puts at each position, and how many positions there are.
+fn laid_out(changes: &Composition, positions: &mut [Option<u8>; LONGEST_RECORD]) -> usize
+    requires { length changes.now ≤ 1024 }
+    ensures count { result ≡ length changes.now }
+    ensures within { result ≤ 1024 }
+    ensures same { slice_range positions.new 0 result ≡ changes.now }
+{
+    let count = changes.length();
+    for place in 0..count {
+        positions[place] = changes.at(place);
+    }
+    count
+}
+
+/// Reads the record with a key or a number in the file at a place, and answers whether there is one.
+fn chain<P: Sectors>(
+    job_files: &mut JobFiles,
+    pack: &mut Pack<P>,
+    place: usize,
+    sought: &Sought,
+    bytes: &mut [u8],
+) -> Result<bool, PoolFault>
+    requires ready { AreFilesReady job_files.old.level job_files.old.files.items (seen pack.old.areas (P.state pack.old.pool).contents) }
+    requires there { place < length job_files.old.files.items }
+    requires suits { AllAt job_files.old.files.items place (SuitsSought sought.now) }
+    requires long { AllAt job_files.old.files.items place (λ file. length bytes.old ≡ file.label.record_length) }
+    ensures serves { IfOk result (λ found. Serves (record_chained (sought_of sought.now)) place (found_answer found bytes.new) (HoldsInUse job_files.old.level job_files.old.files.items (seen pack.old.areas (P.state pack.old.pool).contents)) (HoldsInUse job_files.new.level job_files.new.files.items (seen pack.new.areas (P.state pack.new.pool).contents))) }
+    ensures ready { AreFilesReady job_files.new.level job_files.new.files.items (seen pack.new.areas (P.state pack.new.pool).contents) }
+    ensures opened { map opened_as job_files.new.files.items ≡ map opened_as job_files.old.files.items }
+    ensures keeps { KeepsContents (P.state pack.old.pool) (P.state pack.new.pool) }
+    ensures areas { pack.new.areas ≡ pack.old.areas }
+    ensures failures { (P.state pack.new.pool).failures ≡ (P.state pack.old.pool).failures + failed_transfers result }
+    ensures level { job_files.new.level ≡ job_files.old.level }
+{
+    match sought {
+        Sought::Key(key) => job_files.chain_key(pack, place, key, bytes),
+        Sought::RecordNumber(number) => job_files.chain_number(pack, place, *number, bytes),
+    }
+}
+
+/// Reads the record that the pending request asks for in the file at a place, and answers whether there is one.
+fn find<P: Sectors>(
+    cycle: &Cycle,
+    job_files: &mut JobFiles,
+    pack: &mut Pack<P>,
+    place: usize,
+    bytes: &mut [u8],
+) -> Result<bool, PoolFault>
+    requires asks { IsForRecord (length bytes.old) (asked cycle.now) }
+    requires ready { AreFilesReady job_files.old.level job_files.old.files.items (seen pack.old.areas (P.state pack.old.pool).contents) }
+    requires there { place < length job_files.old.files.items }
+    requires suits { AllAt job_files.old.files.items place (SuitsRequest (asked cycle.now) (put cycle.now)) }
+    ensures serves { IfOk result (λ found. ServesAt (asked cycle.now) (put cycle.now) place (found_answer found bytes.new) (HoldsInUse job_files.old.level job_files.old.files.items (seen pack.old.areas (P.state pack.old.pool).contents)) (HoldsInUse job_files.new.level job_files.new.files.items (seen pack.new.areas (P.state pack.new.pool).contents))) }
+    ensures fits { IfOk result (λ found. fits (waits cycle.now) (found_answer found bytes.new) ≡ true) }
+    ensures ready { AreFilesReady job_files.new.level job_files.new.files.items (seen pack.new.areas (P.state pack.new.pool).contents) }
+    ensures opened { map opened_as job_files.new.files.items ≡ map opened_as job_files.old.files.items }
+    ensures others { KeepsOthers job_files.old.level pack.old.areas pack.new.areas (P.state pack.old.pool) (P.state pack.new.pool) }
+    ensures failures { (P.state pack.new.pool).failures ≡ (P.state pack.old.pool).failures + failed_transfers result }
+    ensures level { job_files.new.level ≡ job_files.old.level }
+{
+    match cycle.pending() {
+        Request::Read { .. } => job_files.read_next(pack, place, bytes),
+        Request::Chain { sought, .. } => chain(job_files, pack, place, sought, bytes),
+        _ => unreachable!(),
+    }
+}
+
+/// Changes the current record of the file at a place.
+fn change<P: Sectors>(
+    job_files: &JobFiles,
+    pack: &mut Pack<P>,
+    place: usize,
+    current: Option<Current>,
+    changes: &Composition,
+) -> Result<Put, PoolFault>
+    requires few { length changes.now ≤ 1024 }
+    requires ready { AreFilesReady job_files.now.level job_files.now.files.items (seen pack.old.areas (P.state pack.old.pool).contents) }
+    requires there { place < length job_files.now.files.items }
+    requires own { AllAt job_files.now.files.items place (λ file. file.is_master ≡ false) }
+    ensures serves { IfOk result (λ put. Serves (record_updated (option_map current_of current) changes.now) place (put_answer put) (HoldsInUse job_files.now.level job_files.now.files.items (seen pack.old.areas (P.state pack.old.pool).contents)) (HoldsInUse job_files.now.level job_files.now.files.items (seen pack.new.areas (P.state pack.new.pool).contents))) }
+    ensures fits { IfOk result (λ put. fits_done refuses_update (put_answer put) ≡ true) }
+    ensures ready { OnOk result (AreFilesReady job_files.now.level job_files.now.files.items (seen pack.new.areas (P.state pack.new.pool).contents)) }
+    ensures pack { IsPackReady pack.new.areas (P.state pack.new.pool).contents }
+    ensures spares { KeepsInStep (IsOutOfReach job_files.now.level pack.old.areas.header) (P.state pack.old.pool) (P.state pack.new.pool) }
+    ensures areas { pack.new.areas ≡ pack.old.areas }
+    ensures failures { (P.state pack.new.pool).failures ≡ (P.state pack.old.pool).failures + failed_transfers result }
+{
+    let mut positions = [None; LONGEST_RECORD];
+    let count = laid_out(changes, &mut positions);
+    job_files.update(pack, place, file_current(current), &positions[..count])
+}
+
+/// Puts the record that the cycle lends into the file at a place, or changes one there, as the pending request asks.
+fn store<P: Sectors>(
+    cycle: &Cycle,
+    job_files: &mut JobFiles,
+    pack: &mut Pack<P>,
+    place: usize,
+) -> Result<Put, PoolFault>
+    requires asks { IsPut (asked cycle.now) }
+    requires few { length (put cycle.now) ≤ 1024 }
+    requires ready { AreFilesReady job_files.old.level job_files.old.files.items (seen pack.old.areas (P.state pack.old.pool).contents) }
+    requires there { place < length job_files.old.files.items }
+    requires suits { AllAt job_files.old.files.items place (SuitsRequest (asked cycle.now) (put cycle.now)) }
+    ensures serves { IfOk result (λ stored. ServesAt (asked cycle.now) (put cycle.now) place (put_answer stored) (HoldsInUse job_files.old.level job_files.old.files.items (seen pack.old.areas (P.state pack.old.pool).contents)) (HoldsInUse job_files.new.level job_files.new.files.items (seen pack.new.areas (P.state pack.new.pool).contents))) }
+    ensures fits { IfOk result (λ stored. fits (waits cycle.now) (put_answer stored) ≡ true) }
+    ensures ready { OnOk result (AreFilesReady job_files.new.level job_files.new.files.items (seen pack.new.areas (P.state pack.new.pool).contents)) }
+    ensures opened { map opened_as job_files.new.files.items ≡ map opened_as job_files.old.files.items }
+    ensures others { KeepsOthers job_files.old.level pack.old.areas pack.new.areas (P.state pack.old.pool) (P.state pack.new.pool) }
+    ensures failures { (P.state pack.new.pool).failures ≡ (P.state pack.old.pool).failures + failed_transfers result }
+    ensures level { job_files.new.level ≡ job_files.old.level }
+{
+    match cycle.pending() {
+        Request::Append { .. } => job_files.append(pack, place, cycle.record()),
+        Request::Add { .. } => job_files.add(pack, place, cycle.record()),
+        Request::Update { current, .. } => {
+            change(job_files, pack, place, *current, cycle.changes())
+        }
+        _ => unreachable!(),
+    }
+}
+
 impl OpenJob {
+    ghost use Rattle.s3_cycle.specs.Following.{files};
+    ghost use Rattle.s3_cycle.specs.Requests.{FitsFile, IsDiskFile};
+
     /// Reads the next data card, if there is one, and goes on with it.
     pub fn read_card(&mut self, deck: &Deck)
-        requires { asked self.old.cycle ≡ Card }
+        requires { asked self.old.cycle ≡ asks.Card }
         ensures resumes { Resumes self.old.cycle self.new.cycle (card_answer (slice_range deck.now self.old.next self.old.end)) }
         ensures cards { slice_range deck.now self.new.next self.new.end ≡ drop 1 (slice_range deck.now self.old.next self.old.end) }
         ensures number { self.new.number ≡ self.old.number }
+        ensures files { self.new.files ≡ self.old.files }
+        ensures ready { IsJobReady self.old.files.level self.old → IsJobReady self.new.files.level self.new }
     {
         match first_card(deck, self.next, self.end) {
             Some(card) => {
@@ -48,5 +227,134 @@ impl OpenJob {
             }
             None => self.cycle.resume(Answer::Nothing),
         }
+    }
+
+    /// Goes on with the answer to its pending request.
+    pub fn resume(&mut self, answer: Answer<'_>)
+        requires { IsTrue (is_fit self.old.cycle answer) }
+        ensures resumes { Resumes self.old.cycle self.new.cycle (answer_of answer.entry) }
+        ensures ready { IsJobReady self.old.files.level self.old → IsJobReady self.new.files.level self.new }
+        ensures files { self.new.files ≡ self.old.files }
+        ensures place { KeepsPlace self.old self.new }
+    {
+        self.cycle.resume(answer);
+    }
+
+    /// Closes its files.
+    ///
+    /// After a fault of the sectors no call on the pack is to be made.
+    pub fn close<P: Sectors>(self, pack: &mut Pack<P>) -> Result<(), PoolFault>
+        requires ready { AreFilesReady self.files.level self.files.files.items (seen pack.old.areas (P.state pack.old.pool).contents) }
+        ensures closes { OnOk result ((in_use : FilesInUse) → HoldsInUse self.files.level self.files.files.items (seen pack.old.areas (P.state pack.old.pool).contents) in_use → HoldsInUse self.files.level [] (seen pack.new.areas (P.state pack.new.pool).contents) (record { files = files_closed in_use.job_files in_use.files; job_files = [] })) }
+        ensures ready { OnOk result (AreFilesReady self.files.level [] (seen pack.new.areas (P.state pack.new.pool).contents)) }
+        ensures others { KeepsOthers self.files.level pack.old.areas pack.new.areas (P.state pack.old.pool) (P.state pack.new.pool) }
+        ensures failures { (P.state pack.new.pool).failures ≡ (P.state pack.old.pool).failures + failed_transfers result }
+    {
+        self.files.close(pack)
+    }
+
+    /// Serves the pending request, one to a file, and goes on with the answer; answers whether the job has that file in use.
+    ///
+    /// It fails only where the job has the file. After a fault of the sectors no request is to be made.
+    pub fn serve<P: Sectors>(&mut self, pack: &mut Pack<P>) -> Result<bool, PoolFault>
+        requires ready { AreFilesReady self.old.files.level self.old.files.files.items (seen pack.old.areas (P.state pack.old.pool).contents) }
+        requires job { IsJobReady self.old.files.level self.old }
+        ensures serves { IfOk result (λ served. ServesFile served self.old self.new (seen pack.old.areas (P.state pack.old.pool).contents) (seen pack.new.areas (P.state pack.new.pool).contents)) }
+        ensures fails { OnErr result (HasFile self.old (seen pack.old.areas (P.state pack.old.pool).contents)) }
+        ensures ready { OnOk result (AreFilesReady self.new.files.level self.new.files.files.items (seen pack.new.areas (P.state pack.new.pool).contents)) }
+        ensures job { IsJobReady self.new.files.level self.new }
+        ensures place { KeepsPlace self.old self.new }
+        ensures others { KeepsOthers self.old.files.level pack.old.areas pack.new.areas (P.state pack.old.pool) (P.state pack.new.pool) }
+        ensures failures { (P.state pack.new.pool).failures ≡ (P.state pack.old.pool).failures + failed_transfers result }
+    {
+        match self.cycle.pending() {
+            Request::Read { file, length } => {
+                let file = *file;
+                let length = *length;
+                self.read(pack, file, length)
+            }
+            Request::Chain { file, length, .. } => {
+                let file = *file;
+                let length = *length;
+                self.read(pack, file, length)
+            }
+            Request::Append { file } => {
+                let file = *file;
+                self.write(pack, file)
+            }
+            Request::Add { file } => {
+                let file = *file;
+                self.write(pack, file)
+            }
+            Request::Update { file, .. } => {
+                let file = *file;
+                self.write(pack, file)
+            }
+            _ => Ok(false),
+        }
+    }
+
+    /// The place of the file at a slot among those that the job has in use.
+    fn place_of(&self, file: usize) -> Option<usize>
+        requires there { IsDiskFile (files self.now.cycle) file (λ line. ⊤) }
+        ensures place { result ≡ place_named (name_of_file self.now.cycle.program file) (map job_file_of self.now.files.files.items) }
+        ensures within { IfSome result (λ place. place < length self.now.files.files.items) }
+    {
+        let line = self.cycle.file_line(file)?;
+        self.files.place_of(line.name)
+    }
+
+    /// Serves the pending request, one for a record of a file.
+    fn read<P: Sectors>(
+        &mut self,
+        pack: &mut Pack<P>,
+        file: usize,
+        length: u16,
+    ) -> Result<bool, PoolFault>
+        requires asks { IsForFile file (asked self.old.cycle) }
+        requires long { IsForRecord length (asked self.old.cycle) }
+        requires few { length ≤ 1024 }
+        requires fits { FitsFile (files self.old.cycle) (asked self.old.cycle) (put self.old.cycle) }
+        requires ready { AreFilesReady self.old.files.level self.old.files.files.items (seen pack.old.areas (P.state pack.old.pool).contents) }
+        requires job { IsJobReady self.old.files.level self.old }
+        ensures serves { IfOk result (λ served. ServesFile served self.old self.new (seen pack.old.areas (P.state pack.old.pool).contents) (seen pack.new.areas (P.state pack.new.pool).contents)) }
+        ensures fails { OnErr result (HasFile self.old (seen pack.old.areas (P.state pack.old.pool).contents)) }
+        ensures ready { OnOk result (AreFilesReady self.new.files.level self.new.files.files.items (seen pack.new.areas (P.state pack.new.pool).contents)) }
+        ensures job { IsJobReady self.new.files.level self.new }
+        ensures place { KeepsPlace self.old self.new }
+        ensures others { KeepsOthers self.old.files.level pack.old.areas pack.new.areas (P.state pack.old.pool) (P.state pack.new.pool) }
+        ensures failures { (P.state pack.new.pool).failures ≡ (P.state pack.old.pool).failures + failed_transfers result }
+    {
+        let Some(place) = self.place_of(file) else {
+            return Ok(false);
+        };
+        let mut room = [0; LONGEST_RECORD];
+        let bytes = &mut room[..length as usize];
+        let found = find(&self.cycle, &mut self.files, pack, place, bytes)?;
+        self.cycle.resume(record_answer(found, bytes));
+        Ok(true)
+    }
+
+    /// Serves the pending request, one that puts a record into a file or changes one there.
+    fn write<P: Sectors>(&mut self, pack: &mut Pack<P>, file: usize) -> Result<bool, PoolFault>
+        requires asks { IsForFile file (asked self.old.cycle) }
+        requires puts { IsPut (asked self.old.cycle) }
+        requires fits { FitsFile (files self.old.cycle) (asked self.old.cycle) (put self.old.cycle) }
+        requires ready { AreFilesReady self.old.files.level self.old.files.files.items (seen pack.old.areas (P.state pack.old.pool).contents) }
+        requires job { IsJobReady self.old.files.level self.old }
+        ensures serves { IfOk result (λ served. ServesFile served self.old self.new (seen pack.old.areas (P.state pack.old.pool).contents) (seen pack.new.areas (P.state pack.new.pool).contents)) }
+        ensures fails { OnErr result (HasFile self.old (seen pack.old.areas (P.state pack.old.pool).contents)) }
+        ensures ready { OnOk result (AreFilesReady self.new.files.level self.new.files.files.items (seen pack.new.areas (P.state pack.new.pool).contents)) }
+        ensures job { IsJobReady self.new.files.level self.new }
+        ensures place { KeepsPlace self.old self.new }
+        ensures others { KeepsOthers self.old.files.level pack.old.areas pack.new.areas (P.state pack.old.pool) (P.state pack.new.pool) }
+        ensures failures { (P.state pack.new.pool).failures ≡ (P.state pack.old.pool).failures + failed_transfers result }
+    {
+        let Some(place) = self.place_of(file) else {
+            return Ok(false);
+        };
+        let stored = store(&self.cycle, &mut self.files, pack, place)?;
+        self.cycle.resume(answer_of_put(stored));
+        Ok(true)
     }
 }

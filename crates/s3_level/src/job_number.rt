@@ -1,6 +1,6 @@
 //! Numbers of jobs.
 ghost use Rattle.std.specs.Prelude.{◌≡◌, ◌≤◌};
-ghost use Rattle.s3_level.specs.World.{number_after};
+ghost use Rattle.s3_solo.specs.World.{number_after};
 
 use std::marker::Model;
 

@@ -1,24 +1,27 @@
 //! One level.
 
-use crate::action::Did;
-use crate::built::{is_built, unbuilt_details};
 use crate::date::Date;
 use crate::details::{details_of, one_detail};
 use crate::job::OpenJob;
 use crate::job_number::JobNumber;
 use crate::next::{Next, code_asked};
-use crate::printed_lines::PrintedLines;
 use crate::switches::switches_after;
 use indexmap::IndexMap;
 use s3_cards::{Deck, LevelId, Name, PrintLine};
 use s3_compile::{CompileFault, compile};
 use s3_cycle::{Answer, Cycle, Request};
+use s3_job_files::JobFiles;
+use s3_labels::Pack;
 use s3_lines::Diagnostic;
 use s3_lines::sheet::Line;
 use s3_ocl::{FaultyJob, JobCards, OclFault, job_at, split};
+use s3_opening::{JobSettings, OpeningFault, open_files};
 use s3_operator::{Halt, HaltCode, HaltLog, ReplyFault, allowed};
 use s3_program::program::Program;
 use s3_sheets::{SheetFault, read_sheets};
+use s3_solo::Did;
+use s3_spool::{Spool, SpoolFault};
+use s3_store::{PoolFault, Sectors};
 use std::alloc::{AllocError, Global};
 
 /// One level at work.
@@ -35,13 +38,17 @@ pub struct Level {
     switches: u8,
     date: Date,
     job: Option<OpenJob>,
-    lines: PrintedLines,
+    /// the lines that were drained from its queue
+    lines: Vec<PrintLine>,
     halts: HaltLog,
 }
 
 impl Level {
-    ghost use Rattle.std.specs.Prelude.{◌≡◌, ◌≢◌, ◌<◌, ◌≤◌, ℕ, List, [], true, false, nat_lt, length, map, slice_range, unwrap_or, IfOk, IsTrue, OnOk, OnErr, option_and_then};
+    ghost use Rattle.std.specs.Prelude.{◌≡◌, ◌≢◌, ◌<◌, ◌≤◌, ◌+◌, ℕ, List, [], true, false, nat_lt, length, map, slice_range, unwrap_or, None, IfOk, IsTrue, OnOk, OnErr, option_and_then};
     ghost use Rattle.std.specs.Option.{option_copied};
+    ghost use Rattle.std.specs.List.{list_all};
+    ghost use Rattle.s3_store.specs.Failures.{failed_transfers};
+    ghost use Rattle.s3_store.specs.State.{KeepsContents};
     ghost use Rattle.s3_meaning.specs.Source.{Source};
     ghost use Rattle.s3_meaning.specs.Requests as Meant;
     ghost use Rattle.s3_cycle.specs.declared.request.Request.TheVariants as asks;
@@ -52,26 +59,31 @@ impl Level {
     ghost use Rattle.s3_program.specs.Stands.{Stands};
     ghost use Rattle.s3_program.specs.Translation.{StandsFor};
     ghost use Rattle.s3_ocl.specs.Jobs.{next_job};
-    ghost use Rattle.s3_ocl.specs.Sound.{is_sound_date};
+    ghost use Rattle.s3_ocl.specs.Sound.{is_sound_date, is_sound_file};
     ghost use Rattle.s3_ocl.specs.Streams.{jobs_from};
-    ghost use Rattle.s3_level.specs.declared.action.Action.TheVariants.{Turn, Reply, Drain};
-    ghost use Rattle.s3_level.specs.declared.action.Did.TheVariants.{Acted, Idle, Refused};
+    ghost use Rattle.s3_spool.specs.Queues.{Blocks, blocks_of, quota_of};
+    ghost use Rattle.s3_job_files.specs.Files.{FilesInUse};
+    ghost use Rattle.s3_job_files.specs.Holds.{Seen, seen, Holds as HoldsInUse, IsReady as AreFilesReady};
+    ghost use Rattle.s3_opening.specs.OpenFiles.{AreOfLines};
+    ghost use Rattle.s3_solo.specs.declared.action.Action.TheVariants.{Turn, Reply, Drain};
+    ghost use Rattle.s3_solo.specs.declared.action.Did.TheVariants.{Acted, Idle, Refused};
     ghost use Rattle.s3_operator.specs.declared.halt_code.HaltCode.TheVariants.{FaultySource};
     ghost use Rattle.s3_operator.specs.Halts.{answer_to, halt_of, waiting, with_reply};
-    ghost use Rattle.s3_level.specs.Built as built;
-    ghost use Rattle.s3_level.specs.Lines.{drained_lines};
-    ghost use Rattle.s3_level.specs.World.{World, JobAtWork, at_start};
-    ghost use Rattle.s3_level.specs.Serving.{accepted, answered, at_work, card_answer, compiled, compiled_data, data_of, details_of, halting, job_ended, line_put, pending, performed, run, served, started, stocked, switches_after, with_answer, with_card_read, with_jobs};
-    ghost use Rattle.s3_level.specs.Solo.{step_of, resumed, closed};
-    ghost use Rattle.s3_level.specs.Holds.{Holds, HoldsParts, Becomes, Steps, Stays};
-    ghost use Rattle.s3_level.specs.Inner.Turning.{Pends, code_asked, request_by, waits_by, FitsJob, Comes, MayReply, AtWorkBecomes, Serves, NextIs, Begins, Starts, Turns};
+    ghost use Rattle.s3_solo.specs.Lines.{all_drained, drained_lines};
+    ghost use Rattle.s3_solo.specs.World.{World, JobAtWork, at_start};
+    ghost use Rattle.s3_solo.specs.Serving.{answered, at_work, card_answer, compiled, compiled_data, data_of, details_of, halting, job_ended, line_put, pending, performed, run, served, started, stocked, switches_after, with_answer, with_card_read, with_jobs};
+    ghost use Rattle.s3_solo.specs.Solo.{step_of, resumed, closed};
+    ghost use Rattle.s3_level.specs.Holds.{Shown, Around, AreAll, around, shown, with_seen, Holds, HoldsParts, IsFresh, IsReady, Becomes, Steps, Stays, Spares, KeepsOthers};
+    ghost use Rattle.s3_level.specs.Inner.Turning.{Pends, code_asked, request_by, waits_by, FitsJob, Comes, MayReply, AtWorkBecomes, Serves, FileServed, FileThere, on_files, NextIs, Begins, Starts, Turns};
 
     /// A level with this deck, before its first entry.
-    pub fn new(alloc: Global, id: LevelId, deck: Deck) -> Result<Level, AllocError>
-        ensures world { IfOk result (λ level. Holds level (at_start deck)) }
-        ensures id { IfOk result (λ level. level.id ≡ id) }
+    pub fn new(alloc: Global, id: LevelId, deck: Deck) -> Level
+        ensures world { (beside : Around) → IsFresh beside → Holds result beside (at_start id beside.areas.header beside.state.contents deck) }
+        ensures ready { (beside : Around) → IsFresh beside → IsReady result (seen beside.areas beside.state.contents) }
+        ensures id { result.id ≡ id }
+        ensures rests { result.job ≡ None }
     {
-        Ok(Level {
+        Level {
             alloc,
             id,
             deck,
@@ -81,9 +93,9 @@ impl Level {
             switches: 0,
             date: Date::none(),
             job: None,
-            lines: PrintedLines::new(alloc)?,
+            lines: Vec::new(alloc),
             halts: HaltLog::new(alloc),
-        })
+        }
     }
 
     /// Which level it is.
@@ -96,41 +108,133 @@ impl Level {
     /// Performs the pending request of the job at work, or begins the next job.
     ///
     /// It is idle, takes no memory and changes nothing where a halt waits, where no job is at work and none is left, and
-    /// where the job would print and 64 lines are queued. After it ran out of memory nothing is said of the worlds that are
-    /// held.
+    /// where the job would print and its quota of lines is queued. After it ran out of memory, or its sectors failed, nothing
+    /// is said of the worlds that are held, and no entry is to be taken.
     #[tactic(auto, using(crate::proofs::Turns::turn_wholly))]
-    pub fn turn(&mut self) -> Result<Did, AllocError>
-        ensures step { IfOk result (λ did. Steps Turn did (Holds self.old) (Holds self.new)) }
-        ensures idle { (w : World) → Holds self.old w → (step_of w Turn).did ≡ Idle → result ≡ Ok Idle }
-        ensures lines { drained_lines self.new.lines ≡ drained_lines self.old.lines }
-        ensures id { self.new.id ≡ self.old.id }
+    pub fn turn<P: Sectors>(
+        &mut self,
+        pack: &mut Pack<P>,
+        spool: &mut Spool,
+    ) -> Result<Did, PoolFault>
+        requires ready { IsReady self.old (seen pack.old.areas (P.state pack.old.pool).contents) }
+        requires blocks { AreAll spool.old }
+        ensures step { IfOk result (λ did. Steps Turn did (Holds self.old (around pack.old.areas (P.state pack.old.pool) spool.old)) (Holds self.new (around pack.new.areas (P.state pack.new.pool) spool.new))) }
+        ensures idle { (w : World) → Holds self.old (around pack.old.areas (P.state pack.old.pool) spool.old) w → (step_of w Turn).did ≡ Idle → result ≡ Ok Idle }
+        ensures ready { OnOk result (IsReady self.new (seen pack.new.areas (P.state pack.new.pool).contents)) }
+        ensures spares { Spares self.old.id (around pack.old.areas (P.state pack.old.pool) spool.old) (around pack.new.areas (P.state pack.new.pool) spool.new) }
+        ensures failures { (P.state pack.new.pool).failures ≡ (P.state pack.old.pool).failures + failed_transfers result }
+        ensures stays { Stays self.old self.new }
     {
-        self.step()
+        self.step(pack, spool)
     }
 
     /// Answers the halt that waits with a digit, and a job at work goes on with it to its next request: refused with 1 where
     /// no halt waits, and with 2 where it doesn't allow the digit; then it takes no memory and changes nothing. After it ran
-    /// out of memory nothing is said of the worlds that are held.
+    /// out of memory, or its sectors failed, nothing is said of the worlds that are held, and no entry is to be taken.
     #[tactic(auto, using(crate::proofs::Replies::reply_refused, crate::proofs::Replies::reply_taken))]
-    pub fn answer(&mut self, digit: u8) -> Result<Did, AllocError>
-        ensures step { IfOk result (λ did. Steps (Reply digit) did (Holds self.old) (Holds self.new)) }
-        ensures refused { (w : World) (number : ℕ) → Holds self.old w → (step_of w (Reply digit)).did ≡ Refused number → result ≡ Ok (Refused number) }
+    pub fn answer<P: Sectors>(&mut self, digit: u8, pack: &mut Pack<P>) -> Result<Did, PoolFault>
+        requires ready { IsReady self.old (seen pack.old.areas (P.state pack.old.pool).contents) }
+        ensures step { (blocks : Blocks) → AreAll blocks → IfOk result (λ did. Steps (Reply digit) did (Holds self.old (around pack.old.areas (P.state pack.old.pool) blocks)) (Holds self.new (around pack.new.areas (P.state pack.new.pool) blocks))) }
+        ensures refused { (blocks : Blocks) (w : World) (number : ℕ) → Holds self.old (around pack.old.areas (P.state pack.old.pool) blocks) w → (step_of w (Reply digit)).did ≡ Refused number → result ≡ Ok (Refused number) }
         ensures unchanged { IfOk result (λ did. did ≢ Acted → self.new ≡ self.old) }
-        ensures lines { drained_lines self.new.lines ≡ drained_lines self.old.lines }
-        ensures id { self.new.id ≡ self.old.id }
+        ensures ready { OnOk result (IsReady self.new (seen pack.new.areas (P.state pack.new.pool).contents)) }
+        ensures others { KeepsOthers self.old.id pack.old.areas pack.new.areas (P.state pack.old.pool) (P.state pack.new.pool) }
+        ensures failures { (P.state pack.new.pool).failures ≡ (P.state pack.old.pool).failures + failed_transfers result }
+        ensures stays { Stays self.old self.new }
     {
         if let Err(fault) = self.reply(digit) {
             return Ok(Did::Refused(fault.number()));
         }
-        self.go_on(digit)?;
+        self.go_on(digit, pack)?;
         Ok(Did::Acted)
+    }
+
+    /// Takes the first queued line into the printed output; refused with 3, without taking memory, where none is queued.
+    pub fn drain<P: Sectors>(
+        &mut self,
+        pack: &mut Pack<P>,
+        spool: &mut Spool,
+    ) -> Result<Did, PoolFault>
+        requires ready { IsReady self.old (seen pack.old.areas (P.state pack.old.pool).contents) }
+        requires blocks { AreAll spool.old }
+        ensures step { IfOk result (λ did. Steps Drain did (Holds self.old (around pack.old.areas (P.state pack.old.pool) spool.old)) (Holds self.new (around pack.new.areas (P.state pack.new.pool) spool.new))) }
+        ensures refused { (w : World) (number : ℕ) → Holds self.old (around pack.old.areas (P.state pack.old.pool) spool.old) w → (step_of w Drain).did ≡ Refused number → result ≡ Ok (Refused number) }
+        ensures lines { OnErr result (self.new.lines.items ≡ self.old.lines.items) }
+        ensures ready { OnOk result (IsReady self.new (seen pack.new.areas (P.state pack.new.pool).contents)) }
+        ensures spares { Spares self.old.id (around pack.old.areas (P.state pack.old.pool) spool.old) (around pack.new.areas (P.state pack.new.pool) spool.new) }
+        ensures areas { pack.new.areas ≡ pack.old.areas }
+        ensures keeps { KeepsContents (P.state pack.old.pool) (P.state pack.new.pool) }
+        ensures failures { (P.state pack.new.pool).failures ≡ (P.state pack.old.pool).failures + failed_transfers result }
+        ensures id { self.new.id ≡ self.old.id }
+    {
+        match spool.take(self.id, &mut pack.pool) {
+            Ok(line) => {
+                self.lines.push(line)?;
+                Ok(Did::Acted)
+            }
+            Err(SpoolFault::Sectors(fault)) => Err(fault),
+            Err(SpoolFault::Empty) => Ok(Did::Refused(3)),
+            Err(SpoolFault::QuotaFull) => unreachable!(),
+        }
+    }
+
+    /// Ends the job at work without its pending request: its files are closed. A halt that waits keeps no reply.
+    pub fn close<P: Sectors>(&mut self, pack: &mut Pack<P>) -> Result<(), PoolFault>
+        requires ready { IsReady self.old (seen pack.old.areas (P.state pack.old.pool).contents) }
+        ensures world { (blocks : Blocks) → AreAll blocks → OnOk result (Becomes job_ended (Holds self.old (around pack.old.areas (P.state pack.old.pool) blocks)) (Holds self.new (around pack.new.areas (P.state pack.new.pool) blocks))) }
+        ensures ready { OnOk result (IsReady self.new (seen pack.new.areas (P.state pack.new.pool).contents)) }
+        ensures others { KeepsOthers self.old.id pack.old.areas pack.new.areas (P.state pack.old.pool) (P.state pack.new.pool) }
+        ensures rests { self.old.job ≡ None → (pack.new.areas ≡ pack.old.areas) × KeepsContents (P.state pack.old.pool) (P.state pack.new.pool) }
+        ensures failures { (P.state pack.new.pool).failures ≡ (P.state pack.old.pool).failures + failed_transfers result }
+        ensures stays { Stays self.old self.new }
+    {
+        self.end_job(pack)
+    }
+
+    /// Takes all queued lines into the printed output.
+    pub fn drain_all<P: Sectors>(
+        &mut self,
+        pack: &mut Pack<P>,
+        spool: &mut Spool,
+    ) -> Result<(), PoolFault>
+        requires ready { IsReady self.old (seen pack.old.areas (P.state pack.old.pool).contents) }
+        requires blocks { AreAll spool.old }
+        ensures world { OnOk result (Becomes (λ w. record w { lines = all_drained w.lines }) (Holds self.old (around pack.old.areas (P.state pack.old.pool) spool.old)) (Holds self.new (around pack.new.areas (P.state pack.new.pool) spool.new))) }
+        ensures ready { OnOk result (IsReady self.new (seen pack.new.areas (P.state pack.new.pool).contents)) }
+        ensures spares { Spares self.old.id (around pack.old.areas (P.state pack.old.pool) spool.old) (around pack.new.areas (P.state pack.new.pool) spool.new) }
+        ensures areas { pack.new.areas ≡ pack.old.areas }
+        ensures keeps { KeepsContents (P.state pack.old.pool) (P.state pack.new.pool) }
+        ensures failures { (P.state pack.new.pool).failures ≡ (P.state pack.old.pool).failures + failed_transfers result }
+        ensures id { self.new.id ≡ self.old.id }
+    {
+        for _line in 0..spool.queued(self.id) {
+            self.drain(pack, spool)?;
+        }
+        Ok(())
+    }
+
+    /// The drained lines, in order.
+    pub fn lines(&self) -> &[PrintLine]
+        ensures value { result.now ≡ self.now.lines.items }
+        ensures world { (beside : Around) (w : World) → Holds self.now beside w → result.now ≡ drained_lines w.lines }
+    {
+        &self.lines
+    }
+
+    /// The halts that were shown, in order.
+    pub fn halts(&self) -> &[Halt]
+        ensures value { map halt_of result.now ≡ self.now.halts }
+        ensures world { (beside : Around) (w : World) → Holds self.now beside w → map halt_of result.now ≡ w.halts }
+    {
+        self.halts.halts()
     }
 
     /// Gives the halt that waits its reply.
     fn reply(&mut self, digit: u8) -> Result<(), ReplyFault>
         ensures answer { result ≡ answer_to digit (waiting self.old.halts) }
-        ensures given { OnOk result (Becomes (λ w. record w { halts = with_reply digit w.halts }) (HoldsParts self.old) (HoldsParts self.new)) }
+        ensures given { (s : Shown) → OnOk result (Becomes (λ w. record w { halts = with_reply digit w.halts }) (HoldsParts self.old s) (HoldsParts self.new s)) }
         ensures refused { OnErr result (self.new ≡ self.old) }
+        ensures job { self.new.job ≡ self.old.job }
         ensures stays { Stays self.old self.new }
     {
         self.halts.reply(digit)
@@ -138,12 +242,16 @@ impl Level {
 
     /// The job at work, if there is one, goes on with a reply that it asked for.
     #[tactic(auto, using(crate::proofs::Replies::goes_on, crate::proofs::Replies::stays_there))]
-    fn go_on(&mut self, digit: u8) -> Result<(), AllocError>
-        ensures world { OnOk result ((w : World) → MayReply digit w → HoldsParts self.old w → HoldsParts self.new (resumed digit w.job w)) }
+    fn go_on<P: Sectors>(&mut self, digit: u8, pack: &mut Pack<P>) -> Result<(), PoolFault>
+        requires ready { IsReady self.old (seen pack.old.areas (P.state pack.old.pool).contents) }
+        ensures world { (s : Shown) → OnOk result ((w : World) → MayReply digit w → HoldsParts self.old (with_seen (seen pack.old.areas (P.state pack.old.pool).contents) s) w → HoldsParts self.new (with_seen (seen pack.new.areas (P.state pack.new.pool).contents) s) (resumed digit w.job w)) }
+        ensures ready { OnOk result (IsReady self.new (seen pack.new.areas (P.state pack.new.pool).contents)) }
+        ensures others { KeepsOthers self.old.id pack.old.areas pack.new.areas (P.state pack.old.pool) (P.state pack.new.pool) }
+        ensures failures { (P.state pack.new.pool).failures ≡ (P.state pack.old.pool).failures + failed_transfers result }
         ensures stays { Stays self.old self.new }
     {
         if self.takes(digit) {
-            self.resume(Answer::Reply(digit))
+            self.resume(Answer::Reply(digit), pack)
         } else {
             Ok(())
         }
@@ -153,7 +261,7 @@ impl Level {
     #[tactic(auto, using(crate::proofs::Fitting::reply_fits, crate::proofs::Fitting::reply_allowed, crate::proofs::Fitting::none_allowed))]
     fn takes(&self, digit: u8) -> bool
         ensures fits { result ≡ true → FitsJob self.now.job (answers.Reply digit) }
-        ensures world { (w : World) (job : JobAtWork) → w.job ≡ Some job → HoldsParts self.now w → MayReply digit w → result ≡ true }
+        ensures world { (s : Shown) (w : World) (job : JobAtWork) → w.job ≡ Some job → HoldsParts self.now s w → MayReply digit w → result ≡ true }
     {
         match self.asked() {
             Some(code) => allowed(code, digit),
@@ -168,68 +276,36 @@ impl Level {
         code_asked(self.pending()?)
     }
 
-    /// Takes the first queued line into the printed output; refused with 3 where none is queued.
-    pub fn drain(&mut self) -> Did
-        ensures step { Steps Drain result (Holds self.old) (Holds self.new) }
-        ensures id { self.new.id ≡ self.old.id }
-    {
-        if self.lines.drain() {
-            Did::Acted
-        } else {
-            Did::Refused(3)
-        }
-    }
-
-    /// Ends the job at work without its pending request, and drains all queued lines; a halt that waits keeps no reply.
-    pub fn close(&mut self)
-        ensures world { Becomes closed (Holds self.old) (Holds self.new) }
-        ensures id { self.new.id ≡ self.old.id }
-    {
-        self.lines.drain_all();
-        self.job = None;
-    }
-
-    /// The drained lines, in order.
-    pub fn lines(&self) -> &[PrintLine]
-        ensures value { result.now ≡ drained_lines self.now.lines }
-        ensures world { (w : World) → Holds self.now w → result.now ≡ drained_lines w.lines }
-    {
-        self.lines.drained()
-    }
-
-    /// The halts that were shown, in order.
-    pub fn halts(&self) -> &[Halt]
-        ensures value { map halt_of result.now ≡ self.now.halts }
-        ensures world { (w : World) → Holds self.now w → map halt_of result.now ≡ w.halts }
-    {
-        self.halts.halts()
-    }
-
     /// Performs the pending request of the job at work, or begins the next job.
-    fn step(&mut self) -> Result<Did, AllocError>
-        ensures world { Turns result (HoldsParts self.old) (HoldsParts self.new) }
+    #[tactic(auto, using(crate::proofs::Beside::spares_files, crate::proofs::Beside::spares_none, crate::proofs::Turns::none_open, crate::proofs::Turns::halted_turn))]
+    fn step<P: Sectors>(&mut self, pack: &mut Pack<P>, spool: &mut Spool) -> Result<Did, PoolFault>
+        requires ready { IsReady self.old (seen pack.old.areas (P.state pack.old.pool).contents) }
+        requires blocks { AreAll spool.old }
+        ensures world { Turns result (HoldsParts self.old (shown self.old.id (around pack.old.areas (P.state pack.old.pool) spool.old))) (HoldsParts self.new (shown self.old.id (around pack.new.areas (P.state pack.new.pool) spool.new))) }
+        ensures ready { OnOk result (IsReady self.new (seen pack.new.areas (P.state pack.new.pool).contents)) }
+        ensures spares { Spares self.old.id (around pack.old.areas (P.state pack.old.pool) spool.old) (around pack.new.areas (P.state pack.new.pool) spool.new) }
+        ensures failures { (P.state pack.new.pool).failures ≡ (P.state pack.old.pool).failures + failed_transfers result }
         ensures stays { Stays self.old self.new }
     {
         if self.halts.is_waiting() {
             return Ok(Did::Idle);
         }
         match self.pending() {
-            None => self.begin(),
-            Some(Request::Card) => self.read_card(),
+            None => self.begin(pack),
+            Some(Request::Card) => self.read_card(pack),
             Some(Request::Print { page, line }) => {
                 let page = *page;
                 let line = *line;
-                self.print(page, line)
+                self.print(page, line, pack, spool)
             }
-            Some(Request::Jump) => self.jump(),
-            Some(Request::End { .. }) => Ok(self.end_job()),
+            Some(Request::Jump) => self.jump(pack),
+            Some(Request::End { .. }) => self.end(pack),
             Some(Request::Ask(_)) => Ok(Did::Idle),
-            // no file is on DISK yet
-            Some(Request::Read { .. }) => Ok(Did::Idle),
-            Some(Request::Chain { .. }) => Ok(Did::Idle),
-            Some(Request::Append { .. }) => Ok(Did::Idle),
-            Some(Request::Add { .. }) => Ok(Did::Idle),
-            Some(Request::Update { .. }) => Ok(Did::Idle),
+            Some(Request::Read { .. }) => self.serve_file(pack),
+            Some(Request::Chain { .. }) => self.serve_file(pack),
+            Some(Request::Append { .. }) => self.serve_file(pack),
+            Some(Request::Add { .. }) => self.serve_file(pack),
+            Some(Request::Update { .. }) => self.serve_file(pack),
         }
     }
 
@@ -237,7 +313,7 @@ impl Level {
     #[tactic(auto, using(crate::proofs::Running::pends))]
     fn pending(&self) -> Option<&Request>
         ensures request { option_copied result ≡ request_by self.now.job }
-        ensures world { (w : World) → HoldsParts self.now w → Pends (waits_by self.now.job) w }
+        ensures world { (s : Shown) (w : World) → HoldsParts self.now s w → Pends (waits_by self.now.job) w }
     {
         let Some(job) = &self.job else {
             return None;
@@ -245,25 +321,49 @@ impl Level {
         Some(job.cycle.pending())
     }
 
-    /// Ends the job at work.
-    fn end_job(&mut self) -> Did
-        ensures world { Becomes job_ended (HoldsParts self.old) (HoldsParts self.new) }
-        ensures acted { result ≡ Acted }
+    /// Ends the job at work: its files are closed.
+    fn end_job<P: Sectors>(&mut self, pack: &mut Pack<P>) -> Result<(), PoolFault>
+        requires ready { IsReady self.old (seen pack.old.areas (P.state pack.old.pool).contents) }
+        ensures world { (s : Shown) → OnOk result (Becomes job_ended (HoldsParts self.old (with_seen (seen pack.old.areas (P.state pack.old.pool).contents) s)) (HoldsParts self.new (with_seen (seen pack.new.areas (P.state pack.new.pool).contents) s))) }
+        ensures ready { OnOk result (IsReady self.new (seen pack.new.areas (P.state pack.new.pool).contents)) }
+        ensures others { KeepsOthers self.old.id pack.old.areas pack.new.areas (P.state pack.old.pool) (P.state pack.new.pool) }
+        ensures rests { self.old.job ≡ None → (pack.new.areas ≡ pack.old.areas) × KeepsContents (P.state pack.old.pool) (P.state pack.new.pool) }
+        ensures failures { (P.state pack.new.pool).failures ≡ (P.state pack.old.pool).failures + failed_transfers result }
         ensures stays { Stays self.old self.new }
     {
-        self.job = None;
-        Did::Acted
+        match self.job.take() {
+            Some(job) => job.close(pack),
+            None => Ok(()),
+        }
+    }
+
+    /// Ends the job at work at its request.
+    fn end<P: Sectors>(&mut self, pack: &mut Pack<P>) -> Result<Did, PoolFault>
+        requires ready { IsReady self.old (seen pack.old.areas (P.state pack.old.pool).contents) }
+        ensures world { (s : Shown) → OnOk result (Becomes job_ended (HoldsParts self.old (with_seen (seen pack.old.areas (P.state pack.old.pool).contents) s)) (HoldsParts self.new (with_seen (seen pack.new.areas (P.state pack.new.pool).contents) s))) }
+        ensures acted { IfOk result (λ did. did ≡ Acted) }
+        ensures ready { OnOk result (IsReady self.new (seen pack.new.areas (P.state pack.new.pool).contents)) }
+        ensures others { KeepsOthers self.old.id pack.old.areas pack.new.areas (P.state pack.old.pool) (P.state pack.new.pool) }
+        ensures failures { (P.state pack.new.pool).failures ≡ (P.state pack.old.pool).failures + failed_transfers result }
+        ensures stays { Stays self.old self.new }
+    {
+        self.end_job(pack)?;
+        Ok(Did::Acted)
     }
 
     /// Reads a card for the job at work.
     #[tactic(auto, using(crate::proofs::Running::card_served))]
-    fn read_card(&mut self) -> Result<Did, AllocError>
-        requires { request_by self.old.job ≡ Some asks.Card }
-        ensures served { Serves (served Meant.Card) result (HoldsParts self.old) (HoldsParts self.new) }
+    fn read_card<P: Sectors>(&mut self, pack: &mut Pack<P>) -> Result<Did, PoolFault>
+        requires asks { request_by self.old.job ≡ Some asks.Card }
+        requires ready { IsReady self.old (seen pack.old.areas (P.state pack.old.pool).contents) }
+        ensures served { (s : Shown) → Serves (served Meant.Card) result (HoldsParts self.old (with_seen (seen pack.old.areas (P.state pack.old.pool).contents) s)) (HoldsParts self.new (with_seen (seen pack.new.areas (P.state pack.new.pool).contents) s)) }
+        ensures ready { OnOk result (IsReady self.new (seen pack.new.areas (P.state pack.new.pool).contents)) }
+        ensures others { KeepsOthers self.old.id pack.old.areas pack.new.areas (P.state pack.old.pool) (P.state pack.new.pool) }
+        ensures failures { (P.state pack.new.pool).failures ≡ (P.state pack.old.pool).failures + failed_transfers result }
         ensures stays { Stays self.old self.new }
     {
         self.take_card();
-        self.stand()?;
+        self.stand(pack)?;
         Ok(Did::Acted)
     }
 
@@ -271,7 +371,8 @@ impl Level {
     #[tactic(auto, using(crate::proofs::Running::card_taken))]
     fn take_card(&mut self)
         requires { request_by self.old.job ≡ Some asks.Card }
-        ensures world { AtWorkBecomes (λ job w. record w { job = Some (with_answer (card_answer job.cards) (with_card_read job)) }) (HoldsParts self.old) (HoldsParts self.new) }
+        ensures world { (s : Shown) → AtWorkBecomes (λ job w. record w { job = Some (with_answer (card_answer job.cards) (with_card_read job)) }) (HoldsParts self.old s) (HoldsParts self.new s) }
+        ensures ready { (pack : Seen) → IsReady self.old pack → IsReady self.new pack }
         ensures stays { Stays self.old self.new }
     {
         if let Some(job) = &mut self.job {
@@ -279,82 +380,157 @@ impl Level {
         }
     }
 
-    /// Prints the line of the job at work, unless the queue is full.
-    #[tactic(auto, using(crate::proofs::Fitting::line_done, crate::proofs::Running::line_waits))]
-    fn print(&mut self, page: u16, line: u8) -> Result<Did, AllocError>
-        requires { request_by self.old.job ≡ Some (asks.Print page line) }
-        ensures served { (text : List ℕ) → waits_by self.old.job ≡ Some (Meant.Print page line text) → Serves (served (Meant.Print page line text)) result (HoldsParts self.old) (HoldsParts self.new) }
+    /// Serves the pending request of the job at work, one to a file.
+    fn serve_file<P: Sectors>(&mut self, pack: &mut Pack<P>) -> Result<Did, PoolFault>
+        requires ready { IsReady self.old (seen pack.old.areas (P.state pack.old.pool).contents) }
+        ensures served { (s : Shown) → Serves on_files result (HoldsParts self.old (with_seen (seen pack.old.areas (P.state pack.old.pool).contents) s)) (HoldsParts self.new (with_seen (seen pack.new.areas (P.state pack.new.pool).contents) s)) }
+        ensures ready { OnOk result (IsReady self.new (seen pack.new.areas (P.state pack.new.pool).contents)) }
+        ensures others { KeepsOthers self.old.id pack.old.areas pack.new.areas (P.state pack.old.pool) (P.state pack.new.pool) }
+        ensures failures { (P.state pack.new.pool).failures ≡ (P.state pack.old.pool).failures + failed_transfers result }
         ensures stays { Stays self.old self.new }
     {
-        if !self.lines.has_room() {
+        let took = self.take_file(pack)?;
+        if took {
+            self.stand(pack)?;
+            Ok(Did::Acted)
+        } else {
+            Ok(Did::Idle)
+        }
+    }
+
+    /// Gives the pending request of the job at work the answer of its files, if it has that file in use.
+    fn take_file<P: Sectors>(&mut self, pack: &mut Pack<P>) -> Result<bool, PoolFault>
+        requires ready { IsReady self.old (seen pack.old.areas (P.state pack.old.pool).contents) }
+        ensures served { (s : Shown) → IfOk result (λ took. FileServed took (HoldsParts self.old (with_seen (seen pack.old.areas (P.state pack.old.pool).contents) s)) (HoldsParts self.new (with_seen (seen pack.new.areas (P.state pack.new.pool).contents) s))) }
+        ensures fails { (s : Shown) → OnErr result (FileThere (HoldsParts self.old (with_seen (seen pack.old.areas (P.state pack.old.pool).contents) s))) }
+        ensures ready { OnOk result (IsReady self.new (seen pack.new.areas (P.state pack.new.pool).contents)) }
+        ensures others { KeepsOthers self.old.id pack.old.areas pack.new.areas (P.state pack.old.pool) (P.state pack.new.pool) }
+        ensures failures { (P.state pack.new.pool).failures ≡ (P.state pack.old.pool).failures + failed_transfers result }
+        ensures stays { Stays self.old self.new }
+    {
+        match &mut self.job {
+            Some(job) => job.serve(pack),
+            None => Ok(false),
+        }
+    }
+
+    /// Prints the line of the job at work, unless the queue is full.
+    #[tactic(auto, using(crate::proofs::Fitting::line_done, crate::proofs::Printing::line_waits, crate::proofs::Beside::spares_none))]
+    fn print<P: Sectors>(
+        &mut self,
+        page: u16,
+        line: u8,
+        pack: &mut Pack<P>,
+        spool: &mut Spool,
+    ) -> Result<Did, PoolFault>
+        requires asks { request_by self.old.job ≡ Some (asks.Print page line) }
+        requires ready { IsReady self.old (seen pack.old.areas (P.state pack.old.pool).contents) }
+        requires blocks { AreAll spool.old }
+        ensures served { (text : List ℕ) → waits_by self.old.job ≡ Some (Meant.Print page line text) → Serves (served (Meant.Print page line text)) result (HoldsParts self.old (shown self.old.id (around pack.old.areas (P.state pack.old.pool) spool.old))) (HoldsParts self.new (shown self.old.id (around pack.new.areas (P.state pack.new.pool) spool.new))) }
+        ensures ready { OnOk result (IsReady self.new (seen pack.new.areas (P.state pack.new.pool).contents)) }
+        ensures spares { Spares self.old.id (around pack.old.areas (P.state pack.old.pool) spool.old) (around pack.new.areas (P.state pack.new.pool) spool.new) }
+        ensures failures { (P.state pack.new.pool).failures ≡ (P.state pack.old.pool).failures + failed_transfers result }
+        ensures stays { Stays self.old self.new }
+    {
+        if spool.is_full(self.id) {
             return Ok(Did::Idle);
         }
-        self.put_line(page, line)?;
-        self.resume(Answer::Done)?;
+        self.put_line(page, line, pack, spool)?;
+        self.resume(Answer::Done, pack)?;
         Ok(Did::Acted)
     }
 
-    /// Puts the line of the job at work last.
-    #[tactic(auto, using(crate::proofs::Running::line_last))]
-    fn put_line(&mut self, page: u16, line: u8) -> Result<(), AllocError>
-        requires { request_by self.old.job ≡ Some (asks.Print page line) }
-        ensures world { OnOk result ((text : List ℕ) → waits_by self.old.job ≡ Some (Meant.Print page line text) → Becomes (line_put page line text) (HoldsParts self.old) (HoldsParts self.new)) }
-        ensures job { self.new.job ≡ self.old.job }
-        ensures stays { Stays self.old self.new }
+    /// Puts the line of the job at work last in the queue, which has room for it.
+    #[tactic(auto, using(crate::proofs::Printing::line_last))]
+    fn put_line<P: Sectors>(
+        &self,
+        page: u16,
+        line: u8,
+        pack: &mut Pack<P>,
+        spool: &mut Spool,
+    ) -> Result<(), PoolFault>
+        requires asks { request_by self.now.job ≡ Some (asks.Print page line) }
+        requires ready { IsReady self.now (seen pack.old.areas (P.state pack.old.pool).contents) }
+        requires blocks { AreAll spool.old }
+        requires room { length (blocks_of self.now.id spool.old) ≢ quota_of self.now.id spool.old }
+        ensures world { OnOk result ((text : List ℕ) → waits_by self.now.job ≡ Some (Meant.Print page line text) → Becomes (line_put page line text) (HoldsParts self.now (shown self.now.id (around pack.old.areas (P.state pack.old.pool) spool.old))) (HoldsParts self.now (shown self.now.id (around pack.new.areas (P.state pack.new.pool) spool.new)))) }
+        ensures ready { OnOk result (IsReady self.now (seen pack.new.areas (P.state pack.new.pool).contents)) }
+        ensures spares { Spares self.now.id (around pack.old.areas (P.state pack.old.pool) spool.old) (around pack.new.areas (P.state pack.new.pool) spool.new) }
+        ensures failures { (P.state pack.new.pool).failures ≡ (P.state pack.old.pool).failures + failed_transfers result }
+        ensures areas { pack.new.areas ≡ pack.old.areas }
     {
         let Some(job) = &self.job else {
             return Ok(());
         };
-        self.lines
-            .put(PrintLine::with_text(page, line, job.cycle.record()))
+        let text = PrintLine::with_text(page, line, job.cycle.record());
+        match spool.put(self.id, &text, &mut pack.pool) {
+            Ok(()) => Ok(()),
+            Err(SpoolFault::Sectors(fault)) => Err(fault),
+            Err(SpoolFault::QuotaFull) => unreachable!(),
+            Err(SpoolFault::Empty) => unreachable!(),
+        }
     }
 
     /// Lets the job at work go on behind a jump.
     #[tactic(auto, using(crate::proofs::Fitting::jump_done, crate::proofs::Running::jump_served), unfolding(s3_cycle::specs::Requests::answer_of))]
-    fn jump(&mut self) -> Result<Did, AllocError>
-        requires { request_by self.old.job ≡ Some asks.Jump }
-        ensures served { Serves (served Meant.Jump) result (HoldsParts self.old) (HoldsParts self.new) }
+    fn jump<P: Sectors>(&mut self, pack: &mut Pack<P>) -> Result<Did, PoolFault>
+        requires asks { request_by self.old.job ≡ Some asks.Jump }
+        requires ready { IsReady self.old (seen pack.old.areas (P.state pack.old.pool).contents) }
+        ensures served { (s : Shown) → Serves (served Meant.Jump) result (HoldsParts self.old (with_seen (seen pack.old.areas (P.state pack.old.pool).contents) s)) (HoldsParts self.new (with_seen (seen pack.new.areas (P.state pack.new.pool).contents) s)) }
+        ensures ready { OnOk result (IsReady self.new (seen pack.new.areas (P.state pack.new.pool).contents)) }
+        ensures others { KeepsOthers self.old.id pack.old.areas pack.new.areas (P.state pack.old.pool) (P.state pack.new.pool) }
+        ensures failures { (P.state pack.new.pool).failures ≡ (P.state pack.old.pool).failures + failed_transfers result }
         ensures stays { Stays self.old self.new }
     {
-        self.resume(Answer::Done)?;
+        self.resume(Answer::Done, pack)?;
         Ok(Did::Acted)
     }
 
     /// Lets the job at work go on with the answer to its pending request.
     #[tactic(auto, using(crate::proofs::Running::then_stands))]
-    fn resume(&mut self, answer: Answer<'_>) -> Result<(), AllocError>
-        requires { FitsJob self.old.job answer }
-        ensures world { OnOk result (AtWorkBecomes (answered (answer_of answer.entry)) (HoldsParts self.old) (HoldsParts self.new)) }
+    fn resume<P: Sectors>(
+        &mut self,
+        answer: Answer<'_>,
+        pack: &mut Pack<P>,
+    ) -> Result<(), PoolFault>
+        requires fits { FitsJob self.old.job answer }
+        requires ready { IsReady self.old (seen pack.old.areas (P.state pack.old.pool).contents) }
+        ensures world { (s : Shown) → OnOk result (AtWorkBecomes (answered (answer_of answer.entry)) (HoldsParts self.old (with_seen (seen pack.old.areas (P.state pack.old.pool).contents) s)) (HoldsParts self.new (with_seen (seen pack.new.areas (P.state pack.new.pool).contents) s))) }
+        ensures ready { OnOk result (IsReady self.new (seen pack.new.areas (P.state pack.new.pool).contents)) }
+        ensures others { KeepsOthers self.old.id pack.old.areas pack.new.areas (P.state pack.old.pool) (P.state pack.new.pool) }
+        ensures failures { (P.state pack.new.pool).failures ≡ (P.state pack.old.pool).failures + failed_transfers result }
         ensures stays { Stays self.old self.new }
     {
         self.take_answer(answer);
-        self.stand()
+        self.stand(pack)
     }
 
     /// Gives the pending request of the job at work its answer.
     #[tactic(auto, using(crate::proofs::Running::answer_taken))]
     fn take_answer(&mut self, answer: Answer<'_>)
         requires { FitsJob self.old.job answer }
-        ensures world { AtWorkBecomes (λ job w. record w { job = Some (with_answer (answer_of answer.entry) job) }) (HoldsParts self.old) (HoldsParts self.new) }
+        ensures world { (s : Shown) → AtWorkBecomes (λ job w. record w { job = Some (with_answer (answer_of answer.entry) job) }) (HoldsParts self.old s) (HoldsParts self.new s) }
+        ensures ready { (pack : Seen) → IsReady self.old pack → IsReady self.new pack }
         ensures stays { Stays self.old self.new }
     {
         if let Some(job) = &mut self.job {
-            job.cycle.resume(answer);
+            job.resume(answer);
         }
     }
 
     /// Where the job at work asks for a reply, shows that halt; where a reply has ended it, it is over.
     #[tactic(auto, using(crate::proofs::Running::halt_shown, crate::proofs::Running::job_over, crate::proofs::Running::job_goes_on))]
-    fn stand(&mut self) -> Result<(), AllocError>
-        ensures world { OnOk result (AtWorkBecomes at_work (HoldsParts self.old) (HoldsParts self.new)) }
+    fn stand<P: Sectors>(&mut self, pack: &mut Pack<P>) -> Result<(), PoolFault>
+        requires ready { IsReady self.old (seen pack.old.areas (P.state pack.old.pool).contents) }
+        ensures world { (s : Shown) → OnOk result (AtWorkBecomes at_work (HoldsParts self.old (with_seen (seen pack.old.areas (P.state pack.old.pool).contents) s)) (HoldsParts self.new (with_seen (seen pack.new.areas (P.state pack.new.pool).contents) s))) }
+        ensures ready { OnOk result (IsReady self.new (seen pack.new.areas (P.state pack.new.pool).contents)) }
+        ensures others { KeepsOthers self.old.id pack.old.areas pack.new.areas (P.state pack.old.pool) (P.state pack.new.pool) }
+        ensures failures { (P.state pack.new.pool).failures ≡ (P.state pack.old.pool).failures + failed_transfers result }
         ensures stays { Stays self.old self.new }
     {
         match self.next() {
-            Next::Halts(number, code) => self.show(number, code, Vec::new(self.alloc)),
-            Next::IsOver => {
-                self.end_job();
-                Ok(())
-            }
+            Next::Halts(number, code) => Ok(self.show(number, code, Vec::new(self.alloc))?),
+            Next::IsOver => self.end_job(pack),
             Next::GoesOn => Ok(()),
         }
     }
@@ -362,7 +538,7 @@ impl Level {
     /// What the job at work comes to.
     #[tactic(auto, using(crate::proofs::Running::comes_halt, crate::proofs::Running::comes_over, crate::proofs::Running::comes_on))]
     fn next(&self) -> Next
-        ensures { (w : World) (job : JobAtWork) → w.job ≡ Some job → HoldsParts self.now w → Comes result job w }
+        ensures { (s : Shown) (w : World) (job : JobAtWork) → w.job ≡ Some job → HoldsParts self.now s w → Comes result job w }
     {
         let Some(job) = &self.job else {
             return Next::GoesOn;
@@ -381,15 +557,21 @@ impl Level {
         code: HaltCode,
         details: Vec<(u16, u8)>,
     ) -> Result<(), AllocError>
-        ensures world { OnOk result (Becomes (halting number code details.items) (HoldsParts self.old) (HoldsParts self.new)) }
+        ensures world { (s : Shown) → OnOk result (Becomes (halting number code details.items) (HoldsParts self.old s) (HoldsParts self.new s)) }
+        ensures job { self.new.job ≡ self.old.job }
         ensures stays { Stays self.old self.new }
     {
         self.halts.show(number, code, details)
     }
 
     /// Begins the next job, if there is one.
-    fn begin(&mut self) -> Result<Did, AllocError>
-        ensures world { Begins result (HoldsParts self.old) (HoldsParts self.new) }
+    fn begin<P: Sectors>(&mut self, pack: &mut Pack<P>) -> Result<Did, PoolFault>
+        requires ready { IsReady self.old (seen pack.old.areas (P.state pack.old.pool).contents) }
+        requires rests { self.old.job ≡ None }
+        ensures world { (s : Shown) → Begins result (HoldsParts self.old (with_seen (seen pack.old.areas (P.state pack.old.pool).contents) s)) (HoldsParts self.new (with_seen (seen pack.new.areas (P.state pack.new.pool).contents) s)) }
+        ensures ready { OnOk result (IsReady self.new (seen pack.new.areas (P.state pack.new.pool).contents)) }
+        ensures others { KeepsOthers self.old.id pack.old.areas pack.new.areas (P.state pack.old.pool) (P.state pack.new.pool) }
+        ensures failures { (P.state pack.new.pool).failures ≡ (P.state pack.old.pool).failures + failed_transfers result }
         ensures stays { Stays self.old self.new }
     {
         if !self.has_job() {
@@ -397,8 +579,8 @@ impl Level {
             return Ok(Did::Idle);
         }
         match self.next_job() {
-            Ok(job) => self.start(&job)?,
-            Err(OclFault::NoMemory) => return Err(AllocError),
+            Ok(job) => self.start(&job, pack)?,
+            Err(OclFault::NoMemory) => return Err(PoolFault::NoMemory),
             Err(OclFault::Faulty(faulty)) => self.refuse(faulty)?,
         }
         Ok(Did::Acted)
@@ -418,7 +600,8 @@ impl Level {
     #[tactic(auto, using(crate::proofs::Starting::no_job_behind))]
     fn pass_over(&mut self)
         requires { jobs_from self.old.deck self.old.next ≡ [] }
-        ensures world { Becomes (λ w. w) (HoldsParts self.old) (HoldsParts self.new) }
+        ensures world { (s : Shown) → Becomes (λ w. w) (HoldsParts self.old s) (HoldsParts self.new s) }
+        ensures job { self.new.job ≡ self.old.job }
         ensures stays { Stays self.old self.new }
     {
         self.next = self.deck.len();
@@ -430,6 +613,7 @@ impl Level {
         requires { next_job self.now.deck self.now.next < length self.now.deck }
         ensures job { NextIs self.now.deck self.now.next result }
         ensures within { IfOk result (λ job. job.data_to ≤ length self.now.deck) }
+        ensures sound { IfOk result (λ job. IsTrue (list_all is_sound_file job.files)) }
         ensures dated { IfOk result (λ job. IsTrue (is_sound_date job.date)) }
     {
         split(self.alloc, &self.deck, self.next)
@@ -438,7 +622,8 @@ impl Level {
     /// Takes the next job, which ends before that place, and answers its number.
     fn take_job(&mut self, after: usize) -> u16
         ensures number { result ≡ self.old.number }
-        ensures world { Becomes (with_jobs (jobs_from self.old.deck after)) (HoldsParts self.old) (HoldsParts self.new) }
+        ensures world { (s : Shown) → Becomes (with_jobs (jobs_from self.old.deck after)) (HoldsParts self.old s) (HoldsParts self.new s) }
+        ensures job { self.new.job ≡ self.old.job }
         ensures stays { Stays self.old self.new }
     {
         self.next = after;
@@ -447,7 +632,8 @@ impl Level {
 
     /// Passes a faulty job over and shows its fault.
     fn refuse(&mut self, faulty: FaultyJob) -> Result<(), AllocError>
-        ensures world { OnOk result (Starts (Err faulty) (jobs_from self.old.deck faulty.after) (HoldsParts self.old) (HoldsParts self.new)) }
+        ensures world { (s : Shown) → OnOk result (Starts (Err faulty) (jobs_from self.old.deck faulty.after) (HoldsParts self.old s) (HoldsParts self.new s)) }
+        ensures job { self.new.job ≡ self.old.job }
         ensures stays { Stays self.old self.new }
     {
         let number = self.take_job(faulty.after);
@@ -456,7 +642,8 @@ impl Level {
 
     /// Shows the fault of a job's statements.
     fn show_fault(&mut self, number: u16, faulty: FaultyJob) -> Result<(), AllocError>
-        ensures world { OnOk result (Becomes (started number (Err faulty)) (HoldsParts self.old) (HoldsParts self.new)) }
+        ensures world { (s : Shown) → OnOk result (Becomes (started number (Err faulty)) (HoldsParts self.old s) (HoldsParts self.new s)) }
+        ensures job { self.new.job ≡ self.old.job }
         ensures stays { Stays self.old self.new }
     {
         let details = one_detail(self.alloc, faulty.card, faulty.fault.number())?;
@@ -464,15 +651,21 @@ impl Level {
     }
 
     /// Starts the next job.
-    fn start(&mut self, job: &JobCards) -> Result<(), AllocError>
+    fn start<P: Sectors>(&mut self, job: &JobCards, pack: &mut Pack<P>) -> Result<(), PoolFault>
         requires within { job.now.data_to ≤ length self.old.deck }
+        requires sound { IsTrue (list_all is_sound_file job.now.files) }
         requires dated { IsTrue (is_sound_date job.now.date) }
-        ensures world { OnOk result (Starts (Ok job.now) (jobs_from self.old.deck job.now.after) (HoldsParts self.old) (HoldsParts self.new)) }
+        requires ready { IsReady self.old (seen pack.old.areas (P.state pack.old.pool).contents) }
+        requires rests { self.old.job ≡ None }
+        ensures world { (s : Shown) → OnOk result (Starts (Ok job.now) (jobs_from self.old.deck job.now.after) (HoldsParts self.old (with_seen (seen pack.old.areas (P.state pack.old.pool).contents) s)) (HoldsParts self.new (with_seen (seen pack.new.areas (P.state pack.new.pool).contents) s))) }
+        ensures ready { OnOk result (IsReady self.new (seen pack.new.areas (P.state pack.new.pool).contents)) }
+        ensures others { KeepsOthers self.old.id pack.old.areas pack.new.areas (P.state pack.old.pool) (P.state pack.new.pool) }
+        ensures failures { (P.state pack.new.pool).failures ≡ (P.state pack.old.pool).failures + failed_transfers result }
         ensures stays { Stays self.old self.new }
     {
         let number = self.take_job(job.after());
         self.set(job);
-        self.perform(number, job)
+        self.perform(number, job, pack)
     }
 
     /// Sets date and switches as a job does.
@@ -488,17 +681,27 @@ impl Level {
     }
 
     /// Compiles a job's source, or starts its program.
-    fn perform(&mut self, number: u16, job: &JobCards) -> Result<(), AllocError>
-        requires { job.now.data_to ≤ length self.old.deck }
-        ensures world { OnOk result (Becomes (performed number job.now (data_of self.old.deck job.now)) (HoldsParts self.old) (HoldsParts self.new)) }
+    fn perform<P: Sectors>(
+        &mut self,
+        number: u16,
+        job: &JobCards,
+        pack: &mut Pack<P>,
+    ) -> Result<(), PoolFault>
+        requires within { job.now.data_to ≤ length self.old.deck }
+        requires sound { IsTrue (list_all is_sound_file job.now.files) }
+        requires ready { IsReady self.old (seen pack.old.areas (P.state pack.old.pool).contents) }
+        requires rests { self.old.job ≡ None }
+        ensures world { (s : Shown) → OnOk result (Becomes (performed number job.now (data_of self.old.deck job.now)) (HoldsParts self.old (with_seen (seen pack.old.areas (P.state pack.old.pool).contents) s)) (HoldsParts self.new (with_seen (seen pack.new.areas (P.state pack.new.pool).contents) s))) }
+        ensures ready { OnOk result (IsReady self.new (seen pack.new.areas (P.state pack.new.pool).contents)) }
+        ensures others { KeepsOthers self.old.id pack.old.areas pack.new.areas (P.state pack.old.pool) (P.state pack.new.pool) }
+        ensures failures { (P.state pack.new.pool).failures ≡ (P.state pack.old.pool).failures + failed_transfers result }
         ensures stays { Stays self.old self.new }
     {
-        let from = job.data_from();
-        let to = job.data_to();
         if job.is_compile() {
-            return self.compile(number, job.run_card(), from, to);
+            Ok(self.compile(number, job.run_card(), job.data_from(), job.data_to())?)
+        } else {
+            self.run(number, job, pack)
         }
-        self.run(number, job.program(), from, to)
     }
 
     /// Compiles the source between two places into the library, or shows its diagnostics.
@@ -511,7 +714,8 @@ impl Level {
     ) -> Result<(), AllocError>
         requires order { from ≤ to }
         requires within { to ≤ length self.old.deck }
-        ensures world { OnOk result (Becomes (compiled_data number run_card from (slice_range self.old.deck from to)) (HoldsParts self.old) (HoldsParts self.new)) }
+        ensures world { (s : Shown) → OnOk result (Becomes (compiled_data number run_card from (slice_range self.old.deck from to)) (HoldsParts self.old s) (HoldsParts self.new s)) }
+        ensures job { self.new.job ≡ self.old.job }
         ensures stays { Stays self.old self.new }
     {
         let lines = match read_sheets(self.alloc, &self.deck, from, to) {
@@ -532,73 +736,103 @@ impl Level {
         lines: &[Line],
     ) -> Result<(), AllocError>
         requires { IsTrue (are_read lines.now) }
-        ensures world { OnOk result (Becomes (compiled number lines.now (compile_diagnostics run_card lines.now)) (HoldsParts self.old) (HoldsParts self.new)) }
+        ensures world { (s : Shown) → OnOk result (Becomes (compiled number lines.now (compile_diagnostics run_card lines.now)) (HoldsParts self.old s) (HoldsParts self.new s)) }
+        ensures job { self.new.job ≡ self.old.job }
         ensures stays { Stays self.old self.new }
     {
         match compile(self.alloc, lines, run_card) {
-            Ok(program) => self.accept(number, lines, program),
+            Ok(program) => self.stock(program),
             Err(CompileFault::NoMemory) => Err(AllocError),
             Err(CompileFault::Diagnostics(found)) => { self.show_diagnostics(number, &found) }
         }
     }
 
-    /// Puts the program of these lines into the library, or shows which of their cards aren't built.
-    #[tactic(auto, using(crate::proofs::Compiling::built_source, crate::proofs::Compiling::unbuilt_source))]
-    fn accept(&mut self, number: u16, lines: &[Line], program: Program) -> Result<(), AllocError>
-        requires { StandsFor program lines.now }
-        ensures world { OnOk result (Becomes (accepted number lines.now) (HoldsParts self.old) (HoldsParts self.new)) }
-        ensures stays { Stays self.old self.new }
-    {
-        if !is_built(lines) {
-            return self.show_unbuilt(number, lines);
-        }
-        self.stock(program)
-    }
-
     /// Shows the diagnostics of a source.
     fn show_diagnostics(&mut self, number: u16, found: &[Diagnostic]) -> Result<(), AllocError>
-        ensures world { OnOk result (Becomes (halting number FaultySource (details_of found.now)) (HoldsParts self.old) (HoldsParts self.new)) }
+        ensures world { (s : Shown) → OnOk result (Becomes (halting number FaultySource (details_of found.now)) (HoldsParts self.old s) (HoldsParts self.new s)) }
+        ensures job { self.new.job ≡ self.old.job }
         ensures stays { Stays self.old self.new }
     {
         let details = details_of(self.alloc, found)?;
         self.show(number, HaltCode::FaultySource, details)
     }
 
-    /// Shows the cards of a source that aren't built.
-    fn show_unbuilt(&mut self, number: u16, lines: &[Line]) -> Result<(), AllocError>
-        ensures world { OnOk result (Becomes (halting number FaultySource (built.unbuilt_details lines.now)) (HoldsParts self.old) (HoldsParts self.new)) }
-        ensures stays { Stays self.old self.new }
-    {
-        let details = unbuilt_details(self.alloc, lines)?;
-        self.show(number, HaltCode::FaultySource, details)
-    }
-
     /// Puts a program into the library, in place of an earlier one of its name.
     fn stock(&mut self, program: Program) -> Result<(), AllocError>
-        ensures world { OnOk result ((source : Source) → Stands program source → Becomes (stocked program.name source) (HoldsParts self.old) (HoldsParts self.new)) }
+        ensures world { (s : Shown) → OnOk result ((source : Source) → Stands program source → Becomes (stocked program.name source) (HoldsParts self.old s) (HoldsParts self.new s)) }
+        ensures job { self.new.job ≡ self.old.job }
         ensures stays { Stays self.old self.new }
     {
         self.library.insert(program.name, program)?;
         Ok(())
     }
 
-    /// Starts a program of the library over the data cards between two places.
-    fn run(&mut self, number: u16, name: Name, from: usize, to: usize) -> Result<(), AllocError>
-        ensures world { OnOk result (Becomes (λ w. run number (slice_range self.old.deck from to) (w.library name) w) (HoldsParts self.old) (HoldsParts self.new)) }
+    /// Starts the program of a job over its files and data, or shows for what the job halts.
+    #[tactic(auto, using(crate::proofs::Starting::files_in_range))]
+    fn run<P: Sectors>(
+        &mut self,
+        number: u16,
+        job: &JobCards,
+        pack: &mut Pack<P>,
+    ) -> Result<(), PoolFault>
+        requires sound { IsTrue (list_all is_sound_file job.now.files) }
+        requires ready { IsReady self.old (seen pack.old.areas (P.state pack.old.pool).contents) }
+        requires rests { self.old.job ≡ None }
+        ensures world { (s : Shown) → OnOk result (Becomes (λ w. run number job.now.files (data_of self.old.deck job.now) (w.library job.now.program) w) (HoldsParts self.old (with_seen (seen pack.old.areas (P.state pack.old.pool).contents) s)) (HoldsParts self.new (with_seen (seen pack.new.areas (P.state pack.new.pool).contents) s))) }
+        ensures ready { OnOk result (IsReady self.new (seen pack.new.areas (P.state pack.new.pool).contents)) }
+        ensures others { KeepsOthers self.old.id pack.old.areas pack.new.areas (P.state pack.old.pool) (P.state pack.new.pool) }
+        ensures failures { (P.state pack.new.pool).failures ≡ (P.state pack.old.pool).failures + failed_transfers result }
         ensures stays { Stays self.old self.new }
     {
-        let Some(program) = self.library.get(&name) else {
-            return self.show(number, HaltCode::NoProgram, Vec::new(self.alloc));
+        let Some(program) = self.library.get(&job.program()) else {
+            return Ok(self.show(number, HaltCode::NoProgram, Vec::new(self.alloc))?);
         };
-        let program = program.copy(self.alloc)?;
+        let settings = JobSettings {
+            statements: job.files(),
+            switches: self.switches,
+            date: self.date.digits(),
+        };
+        match open_files(self.alloc, self.id, pack, &settings, &program.files) {
+            Ok(files) => {
+                let program = program.copy(self.alloc)?;
+                self.run_over(number, job, program, files, pack)
+            }
+            Err(OpeningFault::Halted(code)) => {
+                Ok(self.show(number, code, Vec::new(self.alloc))?)
+            }
+            Err(OpeningFault::Sectors(fault)) => Err(fault),
+        }
+    }
+
+    /// Runs a program over the files that its job has in use.
+    #[tactic(auto, using(crate::proofs::Starting::ready_at_beginning))]
+    fn run_over<P: Sectors>(
+        &mut self,
+        number: u16,
+        job: &JobCards,
+        program: Program,
+        job_files: JobFiles,
+        pack: &mut Pack<P>,
+    ) -> Result<(), PoolFault>
+        requires rests { self.old.job ≡ None }
+        requires ready { AreFilesReady self.old.id job_files.files.items (seen pack.old.areas (P.state pack.old.pool).contents) }
+        requires level { job_files.level ≡ self.old.id }
+        requires lines { AreOfLines self.old.switches program.files.items job_files.files.items }
+        ensures world { (s : Shown) (before : Seen) → OnOk result ((w : World) (source : Source) (in_use : FilesInUse) → Stands program source → HoldsParts self.old (with_seen before s) w → HoldsInUse self.old.id job_files.files.items (seen pack.old.areas (P.state pack.old.pool).contents) in_use → HoldsParts self.new (with_seen (seen pack.new.areas (P.state pack.new.pool).contents) s) (at_work (record { number = number; source = source; cards = data_of self.old.deck job.now; files = in_use.job_files; past = [] }) (record w { pack = in_use.files }))) }
+        ensures ready { OnOk result (IsReady self.new (seen pack.new.areas (P.state pack.new.pool).contents)) }
+        ensures others { KeepsOthers self.old.id pack.old.areas pack.new.areas (P.state pack.old.pool) (P.state pack.new.pool) }
+        ensures failures { (P.state pack.new.pool).failures ≡ (P.state pack.old.pool).failures + failed_transfers result }
+        ensures stays { Stays self.old self.new }
+    {
         let cycle = Cycle::start(self.alloc, program, self.switches, self.date.digits())?;
         self.open(OpenJob {
             number,
             cycle,
-            next: from,
-            end: to,
+            files: job_files,
+            next: job.data_from(),
+            end: job.data_to(),
         });
-        self.stand()
+        self.stand(pack)
     }
 
     /// Has this job at work.

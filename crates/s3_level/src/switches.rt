@@ -1,6 +1,6 @@
 //! The switches U1 to U8, U1 the highest bit.
 ghost use Rattle.std.specs.Prelude.{◌≡◌, ◌≤◌, ◌<◌, ◌==◌, ◌/◌, ◌%◌, if◌then◌else◌};
-ghost use Rattle.s3_level.specs.Serving.{is_on_after, switches_after};
+ghost use Rattle.s3_solo.specs.Serving.{is_on_after, switches_after};
 
 use s3_ocl::Switch;
 

@@ -1,7 +1,10 @@
 //! The card lister's eight turns.
 
-use s3_bureau::{Action, Bureau, Did, Entry, Stop};
+use s3_bureau::{Action, Bureau, Did, Entry, Refusal, RefusedStore, Stop};
 use s3_cards::{Deck, DeckFault, LevelId};
+use s3_labels::{ImageFault, image};
+use s3_store::{MemoryStore, PoolFault};
+use std::alloc::Global;
 use std::process::Abort;
 use std::test::Fail;
 
@@ -17,15 +20,28 @@ const TURN: Entry = Entry {
     action: Action::Turn,
 };
 
+/// A new pack with one track a region.
+fn new_pack(alloc: Global) -> Result<MemoryStore, ImageFault> {
+    Ok(MemoryStore::from_bytes(image(alloc, None, 1, 1, 1)?))
+}
+
 /// With ample memory nothing is refused: the lister ends with both lines.
 #[test]
 fn lister_ends(rt: HostRuntime) -> Result<(), Fail> {
     let deck = Deck::read(rt.alloc(), DECK)?;
-    let mut bureau = Bureau::open(rt.alloc(), deck, Deck::empty(rt.alloc()))?;
+    let store = new_pack(rt.alloc())?;
+    let mut bureau = match Bureau::open(rt.alloc(), store, deck, Deck::empty(rt.alloc())) {
+        Ok(bureau) => bureau,
+        Err(RefusedStore { store: _, fault }) => {
+            assert_eq!(rt; fault, Refusal::Sectors(PoolFault::NoMemory));
+            return Ok(());
+        }
+    };
     for _turn in 0..TURNS {
         assert_eq!(rt; bureau.step(TURN), Ok(Did::Acted));
     }
     assert_ends(&rt, &mut bureau);
+    let _store = bureau.into_store();
     Ok(())
 }
 
@@ -39,16 +55,27 @@ fn lister_ends_or_stays_stopped(rt: HostRuntime) -> Result<(), Fail> {
             return Ok(());
         }
     };
-    // its only refusal is want of memory
-    let Ok(mut bureau) = Bureau::open(rt.alloc(), deck, Deck::empty(rt.alloc())) else {
-        return Ok(());
+    let store = match new_pack(rt.alloc()) {
+        Ok(store) => store,
+        Err(fault) => {
+            assert_eq!(rt; fault, ImageFault::NoMemory);
+            return Ok(());
+        }
+    };
+    let mut bureau = match Bureau::open(rt.alloc(), store, deck, Deck::empty(rt.alloc())) {
+        Ok(bureau) => bureau,
+        Err(RefusedStore { store: _, fault }) => {
+            assert_eq!(rt; fault, Refusal::Sectors(PoolFault::NoMemory));
+            return Ok(());
+        }
     };
     assert_ends_or_stays_stopped(&rt, &mut bureau);
+    let _store = bureau.into_store();
     Ok(())
 }
 
 /// Takes the lister's turns up to its end, or up to the growth that is refused.
-fn assert_ends_or_stays_stopped(rt: &impl Abort, bureau: &mut Bureau) {
+fn assert_ends_or_stays_stopped(rt: &impl Abort, bureau: &mut Bureau<MemoryStore>) {
     for _turn in 0..TURNS {
         match bureau.step(TURN) {
             Ok(did) => assert_eq!(rt; did, Did::Acted),
@@ -65,7 +92,7 @@ fn assert_ends_or_stays_stopped(rt: &impl Abort, bureau: &mut Bureau) {
 }
 
 /// After its last turn the lister has both lines and no halt, and nothing more is done.
-fn assert_ends(rt: &impl Abort, bureau: &mut Bureau) {
+fn assert_ends(rt: &impl Abort, bureau: &mut Bureau<MemoryStore>) {
     assert_eq!(rt; bureau.finish(), Ok(()));
     assert_eq!(rt; bureau.lines(LevelId::One).len(), 2);
     assert_eq!(rt; bureau.halts(LevelId::One).len(), 0);

@@ -1,15 +1,23 @@
 -- What is known in the middle of a run. These words serve the contracts of private functions alone: what a run gives is
 -- said in Runs.
-use Rattle.std.specs.Prelude.{◌≡◌, ◌<◌, ℕ, List, Option, slice_index}
+use Rattle.std.specs.Prelude.{◌≡◌, ◌<◌, ℕ, List, [], Option, Result, Ok, Err, slice_index, ⊤}
 use Rattle.s3_cards.specs.declared.levels.LevelId.{LevelId}
 use Rattle.s3_cards.specs.declared.levels.LevelId.TheVariants.{One, Two}
 use Rattle.s3_cards.specs.Deck.{deck_of}
-use Rattle.s3_level.specs.Lines.{drained_lines}
-use Rattle.s3_level.specs.World.{World}
-use Rattle.s3_level.specs.Solo.{solo, closed}
+use Rattle.s3_store.specs.Contents.{sectors_of}
+use Rattle.s3_store.specs.State.{KeepsInStep}
+use Rattle.s3_slots.specs.Header.{mounted}
+use Rattle.s3_slots.specs.declared.header.Header.{Header}
+use Rattle.s3_solo.specs.Lines.{drained_lines}
+use Rattle.s3_solo.specs.World.{World}
+use Rattle.s3_solo.specs.Solo.{solo, closed}
 use Rattle.s3_bureau.specs.declared.entry.Entry.{Entry}
 use Rattle.s3_bureau.specs.Entries.{own}
-use Rattle.s3_bureau.specs.Runs.{Texts, RunTexts, cards_of, refusal_of}
+use Rattle.s3_bureau.specs.Held.{IsCommon, IsOwn, State, header_of, level_of, rests}
+use Rattle.s3_bureau.specs.declared.outcome.Outcome.{Outcome}
+use Rattle.s3_bureau.specs.declared.run_fault.RunFault.{RunFault}
+use Rattle.s3_bureau.specs.declared.run_fault.RunFault.TheVariants.{Script, Mount, Device, NoMemory}
+use Rattle.s3_bureau.specs.Runs.{HasFiles, LeavesSo, Texts, RunTexts, cards_of, outcome_texts, refusal_of, texts_over}
 use Rattle.s3_bureau.specs.Texts.{shown_byte, report_of, halt_text_of}
 
 -- what is read of a deck: its cards, or why it was refused
@@ -21,6 +29,23 @@ pub record ReadsDeck (text : List ℕ) (cards : List (List ℕ)) (refusal : Opti
 abbrev pub Performs : List Entry → (LevelId → World → Type 0) → (LevelId → World → Type 0) → Type 0
 Performs entries old new = (level : LevelId) (w : World) → old level w → new level (solo w (own level entries))
 
+-- what entries leave of a bureau, whether it stopped or not: the sectors of the header and the masters, and a level without an entry
+-- with its sectors, in the store too
+pub record Leaves (entries : List Entry) (old new : State) : Type 0 where
+  pub header : header_of new ≡ header_of old
+  pub common : KeepsInStep (IsCommon (header_of old)) old.beside.state new.beside.state
+  pub level : (level : LevelId) → own level entries ≡ [] → level_of level new ≡ level_of level old
+  pub idle : (level : LevelId) → own level entries ≡ [] → KeepsInStep (IsOwn level (header_of old)) old.beside.state new.beside.state
+
+-- what they leave of the sectors where the levels are closed behind them
+pub record LeavesSectors (entries : List Entry) (old new : State) : Type 0 where
+  pub common : KeepsInStep (IsCommon (header_of old)) old.beside.state new.beside.state
+  pub idle : (level : LevelId) → own level entries ≡ [] → rests level old → KeepsInStep (IsOwn level (header_of old)) old.beside.state new.beside.state
+
+-- the files of each world that was held for a level stand so in these sectors, after that level's own entries and once it is closed
+abbrev pub HaveFiles : List Entry → (held : LevelId → World → Type 0) → (contents : List (List ℕ)) → Type 0
+HaveFiles entries held contents = (level : LevelId) (w : World) → held level w → HasFiles contents (closed (solo w (own level entries)))
+
 -- the texts of a world's drained lines and its halts
 abbrev pub drained_texts : Option (ℕ × ℕ) → World → Texts
 drained_texts refusal w = record { report = report_of (drained_lines w.lines); halts = halt_text_of refusal w.halts }
@@ -29,6 +54,16 @@ drained_texts refusal w = record { report = report_of (drained_lines w.lines); h
 pub record HasTexts (refusal1 refusal2 : Option (ℕ × ℕ)) (entries : List Entry) (held : LevelId → World → Type 0) (texts : RunTexts) : Type 0 where
   pub one : (w : World) → held One w → texts.one ≡ drained_texts refusal1 (closed (solo w (own One entries)))
   pub two : (w : World) → held Two w → texts.two ≡ drained_texts refusal2 (closed (solo w (own Two entries)))
+
+-- what a run over a store in memory, of these sectors, gives
+abbrev pub RunsOver : (contents : List (List ℕ)) → (deck1 deck2 : List ℕ) → List Entry → Result Outcome RunFault → Type 0
+RunsOver contents deck1 deck2 entries (Ok outcome) =
+    (texts_over (mounted contents) contents deck1 deck2 entries ≡ Ok (outcome_texts outcome))
+    × ((header : Header) → mounted contents ≡ Ok header → LeavesSo header deck1 deck2 entries contents (sectors_of outcome.pack.items))
+RunsOver contents deck1 deck2 entries (Err NoMemory) = ⊤
+RunsOver contents deck1 deck2 entries (Err Device) = ⊥
+RunsOver contents deck1 deck2 entries (Err (Script line)) = ⊥
+RunsOver contents deck1 deck2 entries (Err (Mount fault)) = texts_over (mounted contents) contents deck1 deck2 entries ≡ Err (Mount fault)
 
 -- the table has the byte that shows each code
 abbrev pub ShowsCodes : List ℕ → Type 0

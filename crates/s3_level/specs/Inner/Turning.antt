@@ -1,10 +1,10 @@
 -- How a turn goes on, step by step. These words serve the contracts of private functions alone: what a turn does to a world
 -- is said in Serving and Solo, and what it is to hold one in Holds.
-use Rattle.std.specs.Prelude.{◌≡◌, ℕ, List, ◌∷◌, true, IsTrue, Option, Some, None, Result, Ok, Err}
+use Rattle.std.specs.Prelude.{◌≡◌, ℕ, length, Bool, List, ◌∷◌, true, false, IsTrue, Option, Some, None, option_map, Result, Ok, Err}
 use Rattle.s3_operator.specs.declared.halt_code.HaltCode.{HaltCode}
 use Rattle.s3_operator.specs.Replies.{is_allowed}
-use Rattle.s3_meaning.specs.Requests.{Request, Ask, End}
-use Rattle.s3_cycle.specs.Following.{asked, waits, is_fit}
+use Rattle.s3_meaning.specs.Requests.{Request, Ask, End, Answer}
+use Rattle.s3_cycle.specs.Following.{Resumes, asked, waits, is_fit}
 use Rattle.s3_cycle.specs.declared.request.Request.{Request as ProgramRequest}
 use Rattle.s3_cycle.specs.declared.request.Request.TheVariants as asks
 use Rattle.s3_cycle.specs.declared.request.Answer.{Answer as ProgramAnswer}
@@ -13,15 +13,25 @@ use Rattle.s3_ocl.specs.declared.jobs.OclFault.{OclFault}
 use Rattle.s3_ocl.specs.declared.jobs.OclFault.TheVariants.{NoMemory, Faulty}
 use Rattle.s3_ocl.specs.Jobs.{Job}
 use Rattle.s3_ocl.specs.Streams.{jobs_from}
-use Rattle.s3_level.specs.declared.action.Action.TheVariants.{Turn}
-use Rattle.s3_level.specs.declared.action.Did.{Did}
-use Rattle.s3_level.specs.declared.action.Did.TheVariants.{Acted}
+use Rattle.s3_solo.specs.declared.action.Action.TheVariants.{Turn}
+use Rattle.s3_solo.specs.declared.action.Did.{Did}
+use Rattle.s3_solo.specs.declared.action.Did.TheVariants.{Acted}
 use Rattle.s3_level.specs.declared.job.OpenJob.{OpenJob}
 use Rattle.s3_level.specs.declared.next.Next.{Next}
 use Rattle.s3_level.specs.declared.next.Next.TheVariants.{Halts, IsOver, GoesOn}
-use Rattle.s3_level.specs.World.{World, JobAtWork}
-use Rattle.s3_level.specs.Serving.{Outcome, pending, standing_at, started, with_jobs, begun}
-use Rattle.s3_level.specs.Solo.{step_of}
+use Rattle.s3_solo.specs.World.{World, JobAtWork}
+use Rattle.s3_solo.specs.Serving.{Outcome, pending, standing_at, started, with_jobs, begun, with_answer, in_use, file_served}
+use Rattle.s3_job_files.specs.Files.{FilesInUse}
+use Rattle.s3_job_files.specs.Holds.{Seen, TakesRecord, Holds as HoldsInUse, Serves as Serving}
+use Rattle.s3_job_files.specs.declared.file.OpenFile.{OpenFile}
+use Rattle.s3_slots.specs.Labels.{is_indexed}
+use Rattle.s3_meaning.specs.Output.{filled}
+use Rattle.s3_cycle.specs.Requests.{current_of, sought_of}
+use Rattle.s3_cycle.specs.declared.request.Sought.{Sought}
+use Rattle.s3_cycle.specs.declared.request.Sought.TheVariants as sought
+use Rattle.s3_job_files.specs.Requests as files
+use Rattle.s3_job_files.specs.Requests.{Served}
+use Rattle.s3_solo.specs.Solo.{step_of}
 use Rattle.s3_level.specs.Holds.{Steps}
 
 -- ---- a job at work
@@ -67,6 +77,91 @@ AtWorkBecomes change old new = (w : World) (job : JobAtWork) → w.job ≡ Some 
 abbrev pub Serves : {E : Type 0} → (JobAtWork → World → Outcome) → Result Did E → (World → Type 0) → (World → Type 0) → Type 0
 Serves serve (Ok did) old new = (w : World) (job : JobAtWork) → w.job ≡ Some job → old w → (did ≡ (serve job w).did) × new (serve job w).world
 Serves serve (Err _) old new = (w : World) (job : JobAtWork) → w.job ≡ Some job → old w → (serve job w).did ≡ Acted
+
+-- ---- requests to files
+-- The pending request of an open job is served by its files, and its run goes on with the answer; or the job doesn't have the file,
+-- and nothing changes.
+abbrev pub ServesFile : (served : Bool) → (old new : OpenJob) → (before after : Seen) → Type 0
+ServesFile true old new before after =
+    (in_use : FilesInUse) → HoldsInUse old.files.level old.files.files.items before in_use
+    → (one : Served) × (files.served (waits old.cycle) in_use ≡ Some one) × (HoldsInUse old.files.level new.files.files.items after one.in_use × Resumes old.cycle new.cycle one.answer)
+ServesFile false old new before after =
+    ((in_use : FilesInUse) → HoldsInUse old.files.level old.files.files.items before in_use → files.served (waits old.cycle) in_use ≡ None)
+    × (new ≡ old) × (after ≡ before)
+
+-- the job has the file of its pending request
+abbrev pub HasFile : OpenJob → Seen → Type 0
+HasFile job pack =
+    (in_use : FilesInUse) → HoldsInUse job.files.level job.files.files.items pack in_use → (one : Served) × (files.served (waits job.cycle) in_use ≡ Some one)
+
+-- a request for the file at a slot
+abbrev pub IsForFile : (slot : ℕ) → ProgramRequest → Type 0
+IsForFile slot (asks.Read file size) = file ≡ slot
+IsForFile slot (asks.Chain file size what) = file ≡ slot
+IsForFile slot (asks.Append file) = file ≡ slot
+IsForFile slot (asks.Add file) = file ≡ slot
+IsForFile slot (asks.Update file current) = file ≡ slot
+IsForFile slot _ = ⊥
+
+-- a record of so many bytes is asked for
+abbrev pub IsForRecord : (size : ℕ) → ProgramRequest → Type 0
+IsForRecord size (asks.Read file length) = length ≡ size
+IsForRecord size (asks.Chain file length what) = length ≡ size
+IsForRecord size _ = ⊥
+
+-- a record is put into a file, or changed
+abbrev pub IsPut : ProgramRequest → Type 0
+IsPut (asks.Append file) = Unit {0}
+IsPut (asks.Add file) = Unit {0}
+IsPut (asks.Update file current) = Unit {0}
+IsPut _ = ⊥
+
+-- what a CHAIN looks for is a key of the file, or a record number
+abbrev pub SuitsSought : Sought → OpenFile → Type 0
+SuitsSought (sought.Key key) file = (is_indexed file.label.organization ≡ true) × (length key.items ≡ file.label.key_length)
+SuitsSought (sought.RecordNumber number) file = Unit {0}
+
+-- an open file suits a request, which puts out these positions
+abbrev pub SuitsRequest : ProgramRequest → List (Option ℕ) → OpenFile → Type 0
+SuitsRequest (asks.Read file size) positions one = size ≡ one.label.record_length
+SuitsRequest (asks.Chain file size what) positions one = (size ≡ one.label.record_length) × SuitsSought what one
+SuitsRequest (asks.Append file) positions one = TakesRecord (filled positions) one
+SuitsRequest (asks.Add file) positions one = (is_indexed one.label.organization ≡ true) × TakesRecord (filled positions) one
+SuitsRequest (asks.Update file current) positions one = one.is_master ≡ false
+SuitsRequest _ positions one = ⊥
+
+-- whatever files were held, the request, which puts out these positions, is served with this answer by the file at this place
+abbrev pub ServesAt : ProgramRequest → List (Option ℕ) → (place : ℕ) → Answer → (old new : FilesInUse → Type 0) → Type 0
+ServesAt (asks.Read file size) positions place answer old new = Serving files.record_read place answer old new
+ServesAt (asks.Chain file size what) positions place answer old new = Serving (files.record_chained (sought_of what)) place answer old new
+ServesAt (asks.Append file) positions place answer old new = Serving (files.record_appended (filled positions)) place answer old new
+ServesAt (asks.Add file) positions place answer old new = Serving (files.record_added (filled positions)) place answer old new
+ServesAt (asks.Update file current) positions place answer old new = Serving (files.record_updated (option_map current_of current) positions) place answer old new
+ServesAt _ positions place answer old new = ⊥
+
+-- which job it is, and the places of its cards
+pub record KeepsPlace (old new : OpenJob) : Type 0 where
+  pub number : new.number ≡ old.number
+  pub next : new.next ≡ old.next
+  pub end : new.end ≡ old.end
+  pub level : new.files.level ≡ old.files.level
+
+-- each world that was held with a job at work has its request served by the files of the job and the answer put last, or it names none of
+-- them and the world stays
+abbrev pub FileServed : (served : Bool) → (old new : World → Type 0) → Type 0
+FileServed true old new =
+    (w : World) (job : JobAtWork) → w.job ≡ Some job → old w
+    → (one : Served) × (files.served (pending job w) (in_use job w) ≡ Some one)
+    × new (record w { pack = one.in_use.files; job = Some (with_answer one.answer (record job { files = one.in_use.job_files })) })
+FileServed false old new = (w : World) (job : JobAtWork) → w.job ≡ Some job → old w → (files.served (pending job w) (in_use job w) ≡ None) × new w
+
+-- in each world that was held the job at work has the file of its request
+abbrev pub FileThere : (World → Type 0) → Type 0
+FileThere old = (w : World) (job : JobAtWork) → w.job ≡ Some job → old w → (one : Served) × (files.served (pending job w) (in_use job w) ≡ Some one)
+
+-- a request to a file is served like this
+abbrev pub on_files : JobAtWork → World → Outcome
+on_files job w = file_served (files.served (pending job w) (in_use job w)) job w
 
 -- ---- the start of a job
 -- the next job of a deck, or its fault, unless memory ran out

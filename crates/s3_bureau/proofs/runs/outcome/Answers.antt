@@ -1,11 +1,9 @@
-use Rattle.std.proofs.lemmas.Result.{IfOk-weaker}
-use Rattle.s3_bureau.specs.Runs.{outcome_texts}
-use Rattle.s3_bureau.specs.Held.{held_by}
-use Rattle.s3_bureau.proofs.Running.{texts_given}
+use Rattle.std.proofs.Common.{◌∙◌}
+use Rattle.s3_bureau.proofs.Running.{outcome_over}
 use Rattle.s3_bureau.proofs.runs.outcome.Goals as goal
 
-pub returns-clause-texts : goal.returns-clause-texts
-returns-clause-texts c =
-    IfOk-weaker c.served.result _ _
-    (λ outcome. texts_given c.args.deck1.now c.args.deck2.now _ _ _ _ _ (held_by c.in_ok-bureau.bureau) (outcome_texts outcome) c.in_ok-cards1.ensures c.in_ok-cards2.ensures c.in_ok-bureau.ensures.one c.in_ok-bureau.ensures.two)
-    c.served.ensures.texts
+pub returns-in-Ok-texts : goal.returns-in-Ok-texts
+returns-in-Ok-texts c =
+    outcome_over c.args.store c.args.deck1.now c.args.deck2.now c.in_ok-cards1.cards1 c.in_ok-cards2.cards2 c.in_ok-cards1.refusal1 c.in_ok-cards2.refusal2 _ c.in-Ok.bureau c.served-texts.new.bureau (record { one = c.in-Ok-texts.one; two = c.in-Ok-texts.two; pack = c.into_bytes-pack.result })
+    c.in-Ok.ensures.header c.in-Ok.ensures.contents c.in-Ok.ensures.one c.in-Ok.ensures.two c.in-Ok.ensures.rest c.in_ok-cards1.ensures c.in_ok-cards2.ensures
+    c.in-Ok-texts.ensures.texts c.in-Ok-texts.ensures.files c.in-Ok-texts.ensures.flushed c.served-texts.ensures.leaves (c.into_bytes-pack.ensures.sectors ∙ c.into_store.ensures.contents)

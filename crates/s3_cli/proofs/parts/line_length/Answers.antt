@@ -1,4 +1,4 @@
-use Rattle.std.proofs.Common.{◌≡◌, ◌<◌, ◌+◌, ◌∷◌, ◌==◌, ℕ, List, suc, [], subst, take, drop, length, slice_index, arith, true, false, rules, refl}
+use Rattle.std.proofs.Common.{◌≡◌, ◌+◌, ◌∷◌, ℕ, List, suc, [], subst, take, drop, length, arith}
 use Rattle.std.proofs.Math.Seq.{take-length, drop-length}
 use Rattle.s3_cli.specs.Parts.{whole_lines}
 use Rattle.s3_cli.proofs.Lines.{whole_lines_first, whole_lines_last}

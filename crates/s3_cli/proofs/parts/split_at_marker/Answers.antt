@@ -1,5 +1,5 @@
-use Rattle.std.proofs.Common.{rules, ◌≡◌, ◌<◌, ◌≤◌, ◌+◌, ◌-◌, ◌∷◌, ◌++◌, [], ℕ, List, length, length-take, take, drop, arith, refl, sym, ◌∙◌, ap, subst, true, false}
-use Rattle.s3_cli.specs.Parts.{whole_lines, text_of, is_marker, has_marker, before_marker, after_marker}
+use Rattle.std.proofs.Common.{rules, ◌≡◌, ◌≤◌, ◌+◌, ℕ, List, length, take, drop, refl, sym, ◌∙◌, ap, true, false}
+use Rattle.s3_cli.specs.Parts.{is_marker}
 use Rattle.s3_cli.proofs.Lines.{passes_line, finds_marker, next_line, line_is, rest_is}
 use Rattle.s3_cli.proofs.parts.split_at_marker.Goals as goal
 

@@ -1,5 +1,5 @@
 -- The lines so far are no marker, and the rest goes on from the start of a line.
-use Rattle.std.proofs.Common.{◌≡◌, ◌≤◌, ◌-◌, length, drop, take}
+use Rattle.std.proofs.Common.{◌-◌, length}
 use Rattle.s3_cli.proofs.Lines.{PassesOver}
 use Rattle.s3_cli.proofs.parts.split_at_marker.Given as goal
 

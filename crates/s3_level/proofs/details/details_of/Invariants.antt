@@ -1,5 +1,5 @@
 use Rattle.std.proofs.Common.{◌≡◌, take}
-use Rattle.s3_level.specs.Serving.{details_of}
+use Rattle.s3_solo.specs.Serving.{details_of}
 use Rattle.s3_level.proofs.details.details_of.Given as goal
 
 abbrev pub invariant-loop-diagnostic : goal.invariant-loop-diagnostic

@@ -1,7 +1,9 @@
 use Rattle.s3_level.proofs.Running.{card_served}
-use Rattle.s3_level.specs.Holds.{HoldsParts}
+use Rattle.s3_level.specs.Holds.{HoldsParts, with_seen}
+use Rattle.s3_job_files.specs.Holds.{seen}
 use Rattle.s3_level.proofs.level.Level.read_card.Goals as goal
 
 pub returns-clause-served : goal.returns-clause-served
-returns-clause-served c =
-    card_served (HoldsParts c.args.self.now) (HoldsParts c.take_card.new.self) (HoldsParts c.stand.new.self) c.take_card.ensures.world c.in_ok-stand.ensures.world
+returns-clause-served g c = λ s.
+    card_served (HoldsParts c.args.self.now (with_seen (seen c.args.pack.now.areas (g.P.Sectors.state c.args.pack.now.pool).contents) s)) (HoldsParts c.take_card.new.self (with_seen (seen c.args.pack.now.areas (g.P.Sectors.state c.args.pack.now.pool).contents) s)) (HoldsParts c.stand.new.self (with_seen (seen c.stand.new.pack.areas (g.P.Sectors.state c.stand.new.pack.pool).contents) s))
+    (c.take_card.ensures.world (with_seen (seen c.args.pack.now.areas (g.P.Sectors.state c.args.pack.now.pool).contents) s)) (c.in_ok-stand.ensures.world s)

@@ -5,6 +5,6 @@ use Rattle.s3_level.specs.Holds.{HoldsParts}
 use Rattle.s3_level.proofs.level.Level.refuse.Goals as goal
 
 pub returns-clause-world : goal.returns-clause-world
-returns-clause-world c =
-    taken_then_started c.show_fault.result c.args.self.now (HoldsParts c.take_job-number.new.self) (HoldsParts c.show_fault.new.self) (Err c.args.faulty) (jobs_from c.args.self.now.deck c.args.faulty.after)
-    c.take_job-number.result c.take_job-number.ensures.number c.take_job-number.ensures.world c.show_fault.ensures.world
+returns-clause-world c = λ s.
+    taken_then_started s c.show_fault.result c.args.self.now (HoldsParts c.take_job-number.new.self s) (HoldsParts c.show_fault.new.self s) (Err c.args.faulty) (jobs_from c.args.self.now.deck c.args.faulty.after)
+    c.take_job-number.result c.take_job-number.ensures.number (c.take_job-number.ensures.world s) (c.show_fault.ensures.world s)

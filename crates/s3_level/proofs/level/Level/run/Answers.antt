@@ -1,10 +1,52 @@
-use Rattle.std.proofs.Common.{sym, ◌∙◌, ap}
+use Rattle.std.proofs.Common.{◌≡◌, List, ℕ, Ok, Err, ap, sym, subst, ◌∙◌}
 use Rattle.std.specs.Option.{option_copied}
-use Rattle.s3_level.proofs.Starting.{started_program}
-use Rattle.s3_level.specs.Holds.{HoldsParts}
+use Rattle.indexmap.specs.IndexMap.{get}
+use Rattle.s3_cards.specs.declared.name.Name.{Name}
+use Rattle.s3_cards.specs.Names.{same_name}
+use Rattle.s3_operator.specs.declared.halt_code.HaltCode.TheVariants.{NoProgram}
+use Rattle.s3_solo.specs.Serving.{data_of, halting, run}
+use Rattle.s3_opening.specs.Opening.{opened}
+use Rattle.s3_opening.specs.OpenFiles.{HoldsStarted, IfHalted, StartsAs}
+use Rattle.s3_opening.specs.declared.fault.OpeningFault.{OpeningFault}
+use Rattle.s3_store.specs.State.{KeepsContents}
+use Rattle.s3_level.proofs.Others.{others_closed, others_then}
+use Rattle.s3_level.proofs.Starting.{files_opened, files_refused, halts_so, no_program}
+use Rattle.s3_level.specs.Holds.{Becomes, HoldsParts, with_seen}
+use Rattle.s3_job_files.specs.Holds.{Seen, seen}
 use Rattle.s3_level.proofs.level.Level.run.Goals as goal
 
-pub returns-clause-world : goal.returns-clause-world
-returns-clause-world c =
-    started_program _ c.args.number c.args.from c.args.to c.args.name c.in-Some.program.now c.in_ok-program.program c.in_ok-cycle.cycle c.digits.result c.args.self.now c.open.new.self (HoldsParts c.stand.new.self)
-    (sym c.get.ensures.value ∙ ap option_copied c.in-Some.is) c.in_ok-program.ensures.parts c.digits.ensures.value c.in_ok-cycle.ensures c.open.ensures c.stand.ensures.world
+pub returns-in_default-clause-world : goal.returns-in_default-clause-world
+returns-in_default-clause-world g c = λ s.
+    no_program (with_seen (seen c.args.pack.now.areas (g.P.Sectors.state c.args.pack.now.pool).contents) s) {T = Unit {0}} {E = Unit {0}} (Ok (tt {0})) c.args.number c.args.job.now (data_of c.args.self.now.deck c.args.job.now) c.args.self.now (HoldsParts c.show.new.self (with_seen (seen c.args.pack.now.areas (g.P.Sectors.state c.args.pack.now.pool).contents) s))
+    (ap (λ (n : Name). get same_name c.args.self.now.library n) (sym c.program.ensures) ∙ (sym c.get.ensures.value ∙ ap option_copied c.in_default.is))
+    (subst (λ (details : List (ℕ × ℕ)). Becomes (halting c.args.number NoProgram details) (HoldsParts c.args.self.now (with_seen (seen c.args.pack.now.areas (g.P.Sectors.state c.args.pack.now.pool).contents) s)) (HoldsParts c.show.new.self (with_seen (seen c.args.pack.now.areas (g.P.Sectors.state c.args.pack.now.pool).contents) s))) c.new.ensures.items (c.in_ok-show.ensures.world (with_seen (seen c.args.pack.now.areas (g.P.Sectors.state c.args.pack.now.pool).contents) s)))
+
+pub returns-in_ok-program-in-Ok-clause-world : goal.returns-in_ok-program-in-Ok-clause-world
+returns-in_ok-program-in-Ok-clause-world g c = λ s.
+    files_opened s c.run_over.result c.in-Ok.files c.args.number c.args.job.now (data_of c.args.self.now.deck c.args.job.now) c.digits.result c.in-Some.program.now c.in_ok-program-in-Ok.program (seen c.args.pack.now.areas (g.P.Sectors.state c.args.pack.now.pool).contents) (seen c.open_files.new.pack.areas (g.P.Sectors.state c.open_files.new.pack.pool).contents)
+    c.args.self.now (HoldsParts c.run_over.new.self (with_seen (seen c.run_over.new.pack.areas (g.P.Sectors.state c.run_over.new.pack.pool).contents) s))
+    (ap (λ (n : Name). get same_name c.args.self.now.library n) (sym c.program.ensures) ∙ (sym c.get.ensures.value ∙ ap option_copied c.in-Some.is)) c.in_ok-program-in-Ok.ensures.parts c.digits.ensures.value c.requires.rests
+    (λ files held. subst (HoldsStarted c.args.self.now.id c.in-Ok.files.files.items (seen c.open_files.new.pack.areas (g.P.Sectors.state c.open_files.new.pack.pool).contents))
+    (λ i. opened (record { statements = c.files.ensures i; switches = c.args.self.now.switches; date = c.digits.result }) (c.deref.ensures.value i) files) (c.in-Ok.ensures.starts files held))
+    (c.run_over.ensures.world s (seen c.args.pack.now.areas (g.P.Sectors.state c.args.pack.now.pool).contents))
+
+pub returns-in_ok-program-in-Ok-clause-others : goal.returns-in_ok-program-in-Ok-clause-others
+returns-in_ok-program-in-Ok-clause-others g c =
+    others_then c.args.self.now.id c.args.pack.now.areas c.open_files.new.pack.areas c.run_over.new.pack.areas (g.P.Sectors.state c.args.pack.now.pool) (g.P.Sectors.state c.open_files.new.pack.pool) (g.P.Sectors.state c.run_over.new.pack.pool)
+    (others_closed c.args.self.now.id c.args.pack.now.areas c.open_files.new.pack.areas (g.P.Sectors.state c.args.pack.now.pool) (g.P.Sectors.state c.open_files.new.pack.pool) c.open_files.ensures.pack c.open_files.ensures.others c.open_files.ensures.spares) c.run_over.ensures.others
+
+pub returns-in_ok-show-in-Err-Halted-clause-world : goal.returns-in_ok-show-in-Err-Halted-clause-world
+returns-in_ok-show-in-Err-Halted-clause-world g c = λ s.
+    let same : c.open_files.new.pack.areas ≡ c.args.pack.now.areas =
+    subst (λ (f : OpeningFault). IfHalted f (c.open_files.new.pack.areas ≡ c.args.pack.now.areas)) c.in-Err-Halted.field-0-is c.in-Err-Halted.ensures.same in
+    let keeps : KeepsContents (g.P.Sectors.state c.args.pack.now.pool) (g.P.Sectors.state c.open_files.new.pack.pool) =
+    subst (λ (f : OpeningFault). IfHalted f (KeepsContents (g.P.Sectors.state c.args.pack.now.pool) (g.P.Sectors.state c.open_files.new.pack.pool))) c.in-Err-Halted.field-0-is c.in-Err-Halted.ensures.keeps in
+    let seen_same : (seen c.args.pack.now.areas (g.P.Sectors.state c.args.pack.now.pool).contents) ≡ seen c.open_files.new.pack.areas (g.P.Sectors.state c.open_files.new.pack.pool).contents = λ i. seen (sym same i) (sym keeps.contents i) in
+    subst (λ (k : Seen). Becomes (λ w. run c.args.number c.args.job.now.files (data_of c.args.self.now.deck c.args.job.now) (w.library c.args.job.now.program) w) (HoldsParts c.args.self.now (with_seen (seen c.args.pack.now.areas (g.P.Sectors.state c.args.pack.now.pool).contents) s)) (HoldsParts c.show-in-Err-Halted.new.self (with_seen k s))) seen_same
+    (files_refused s {T = Unit {0}} {E = Unit {0}} (Ok (tt {0})) c.in-Err-Halted.code c.args.number c.args.job.now (data_of c.args.self.now.deck c.args.job.now) c.digits.result c.in-Some.program.now (seen c.args.pack.now.areas (g.P.Sectors.state c.args.pack.now.pool).contents)
+    c.args.self.now (HoldsParts c.show-in-Err-Halted.new.self (with_seen (seen c.args.pack.now.areas (g.P.Sectors.state c.args.pack.now.pool).contents) s))
+    (ap (λ (n : Name). get same_name c.args.self.now.library n) (sym c.program.ensures) ∙ (sym c.get.ensures.value ∙ ap option_copied c.in-Some.is)) c.digits.ensures.value c.requires.rests
+    (λ files held. (λ i. opened (record { statements = sym c.files.ensures i; switches = c.args.self.now.switches; date = c.digits.result }) (sym c.deref.ensures.value i) files)
+    ∙ subst (λ (f : OpeningFault). StartsAs c.args.self.now.id (seen c.open_files.new.pack.areas (g.P.Sectors.state c.open_files.new.pack.pool).contents) (opened (record { statements = c.files.result.now; switches = c.args.self.now.switches; date = c.digits.result }) c.deref.result.now files) (Err f)) c.in-Err-Halted.field-0-is (c.in-Err-Halted.ensures.starts files held))
+    (halts_so c.args.number c.in-Err-Halted.code _ _ (HoldsParts c.args.self.now (with_seen (seen c.args.pack.now.areas (g.P.Sectors.state c.args.pack.now.pool).contents) s)) (HoldsParts c.show-in-Err-Halted.new.self (with_seen (seen c.args.pack.now.areas (g.P.Sectors.state c.args.pack.now.pool).contents) s)) c.new-in-Err-Halted.ensures.items c.in-Err-Halted.code-is
+    (c.in_ok-show-in-Err-Halted.ensures.world (with_seen (seen c.args.pack.now.areas (g.P.Sectors.state c.args.pack.now.pool).contents) s))))

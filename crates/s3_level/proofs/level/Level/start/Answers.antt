@@ -3,11 +3,12 @@ use Rattle.std.specs.Prelude.{OnOk}
 use Rattle.s3_level.specs.Inner.Turning.{Starts}
 use Rattle.s3_level.proofs.Starting.{set_then_performed}
 use Rattle.s3_ocl.specs.Streams.{jobs_from}
-use Rattle.s3_level.specs.Holds.{HoldsParts}
+use Rattle.s3_level.specs.Holds.{HoldsParts, with_seen}
+use Rattle.s3_job_files.specs.Holds.{seen}
 use Rattle.s3_level.proofs.level.Level.start.Goals as goal
 
 pub returns-clause-world : goal.returns-clause-world
-returns-clause-world c =
-    subst (λ (after : ℕ). OnOk c.perform.result (Starts (Ok c.args.job.now) (jobs_from c.args.self.now.deck after) (HoldsParts c.args.self.now) (HoldsParts c.perform.new.self))) c.after.ensures.value
-    (set_then_performed c.perform.result c.args.self.now c.take_job-number.new.self c.set.new.self (HoldsParts c.perform.new.self) c.args.job.now (jobs_from c.args.self.now.deck c.after.result)
-    c.take_job-number.result c.take_job-number.ensures.number c.take_job-number.ensures.world c.set.ensures.value c.perform.ensures.world)
+returns-clause-world g c = λ s.
+    subst (λ (after : ℕ). OnOk c.perform.result (Starts (Ok c.args.job.now) (jobs_from c.args.self.now.deck after) (HoldsParts c.args.self.now (with_seen (seen c.args.pack.now.areas (g.P.Sectors.state c.args.pack.now.pool).contents) s)) (HoldsParts c.perform.new.self (with_seen (seen c.perform.new.pack.areas (g.P.Sectors.state c.perform.new.pack.pool).contents) s)))) c.after.ensures.value
+    (set_then_performed (with_seen (seen c.args.pack.now.areas (g.P.Sectors.state c.args.pack.now.pool).contents) s) c.perform.result c.args.self.now c.take_job-number.new.self c.set.new.self (HoldsParts c.perform.new.self (with_seen (seen c.perform.new.pack.areas (g.P.Sectors.state c.perform.new.pack.pool).contents) s)) c.args.job.now (jobs_from c.args.self.now.deck c.after.result)
+    c.take_job-number.result c.take_job-number.ensures.number (c.take_job-number.ensures.world (with_seen (seen c.args.pack.now.areas (g.P.Sectors.state c.args.pack.now.pool).contents) s)) c.set.ensures.value (c.perform.ensures.world s))

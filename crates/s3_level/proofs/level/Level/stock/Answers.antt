@@ -3,7 +3,7 @@ use Rattle.s3_level.proofs.Compiling.{found_in_library, still_at_work}
 use Rattle.s3_level.proofs.level.Level.stock.Goals as goal
 
 pub returns-clause-world : goal.returns-clause-world
-returns-clause-world c = λ source stands w held. record {
+returns-clause-world c = λ s source stands w held. record {
   cards = held.cards;
   jobs = held.jobs;
   number = held.number;
@@ -11,6 +11,7 @@ returns-clause-world c = λ source stands w held. record {
       found_in_library _ source _ _ (w.library name) (same_name c.args.program.name name) (c.in_ok-insert.ensures.updates.0 name) stands (held.library name);
   switches = held.switches;
   date = held.date;
+  pack = held.pack;
   job = still_at_work _ _ c.args.program.name source w _ held.job;
   lines = held.lines;
   halts = held.halts;

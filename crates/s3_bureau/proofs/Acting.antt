@@ -1,0 +1,70 @@
+-- What the calls of a level come to, with what is beside it.
+use Rattle.std.proofs.Common.{◌≡◌, ℕ, ◌+◌, Result, Ok, Err}
+use Rattle.std.specs.Prelude.{IfOk, OnOk, OnErr}
+use Rattle.s3_store.specs.Failures.{failed_transfers}
+use Rattle.s3_store.specs.State.{PoolState}
+use Rattle.s3_store.specs.declared.pool_fault.PoolFault.{PoolFault}
+use Rattle.s3_labels.specs.Areas.{Areas, IsReady as IsPackReady}
+use Rattle.s3_spool.specs.Queues.{Blocks}
+use Rattle.s3_job_files.specs.Holds.{seen}
+use Rattle.s3_solo.specs.declared.action.Action.TheVariants.{Turn, Reply, Drain}
+use Rattle.s3_solo.specs.declared.action.Did.{Did}
+use Rattle.s3_solo.specs.World.{World}
+use Rattle.s3_solo.specs.Solo.{step_of}
+use Rattle.s3_level.specs.declared.level.Level.{Level}
+use Rattle.s3_level.specs.Holds.{AreAll, Around, Holds, IsReady, KeepsOthers, Spares, Stays, Steps, around}
+use Rattle.s3_level.proofs.Beside.{spares_files}
+use Rattle.s3_bureau.specs.Inner.Calls.{Acts}
+use Rattle.s3_bureau.proofs.Memory.{turn_acts, reply_acts, drain_acts}
+use Rattle.s3_solo.specs.declared.action.Did.TheVariants.{Idle, Refused}
+
+pub turned : (result : Result Did PoolFault) (old new : Level) (before after : Around)
+    → IfOk result (λ did. Steps Turn did (Holds old before) (Holds new after))
+    → ((w : World) → Holds old before w → (step_of w Turn).did ≡ Idle → result ≡ Ok Idle)
+    → OnOk result (IsReady new (seen after.areas after.state.contents))
+    → Spares old.id before after
+    → after.state.failures ≡ before.state.failures + failed_transfers result
+    → Stays old new
+    → Acts Turn result old new before after
+turned (Ok did) old new before after steps idle ready spares failures stays =
+    record { id = stays.id; spares = spares; failures = failures; comes = (ready, steps) }
+turned (Err fault) old new before after steps idle ready spares failures stays =
+    record { id = stays.id; spares = spares; failures = failures; comes = (stays.drained, λ w held. turn_acts w (never w held)) }
+  where
+    never : (w : World) → Holds old before w → (step_of w Turn).did ≡ Idle → ⊥
+    never w held rests = let same : Err fault ≡ Ok Idle = idle w held rests in cc
+
+pub replied : (digit : ℕ) (result : Result Did PoolFault) (old new : Level) (areas new_areas : Areas) (s t : PoolState) (blocks : Blocks)
+    → IsPackReady areas s.contents
+    → AreAll blocks
+    → ((blocks : Blocks) → AreAll blocks → IfOk result (λ did. Steps (Reply digit) did (Holds old (around areas s blocks)) (Holds new (around new_areas t blocks))))
+    → ((blocks : Blocks) (w : World) (number : ℕ) → Holds old (around areas s blocks) w → (step_of w (Reply digit)).did ≡ Refused number → result ≡ Ok (Refused number))
+    → OnOk result (IsReady new (seen new_areas t.contents))
+    → KeepsOthers old.id areas new_areas s t
+    → t.failures ≡ s.failures + failed_transfers result
+    → Stays old new
+    → Acts (Reply digit) result old new (around areas s blocks) (around new_areas t blocks)
+replied digit (Ok did) old new areas new_areas s t blocks pack are steps refused ready others failures stays =
+    record { id = stays.id; spares = spares_files old.id areas new_areas blocks s t pack are others; failures = failures; comes = (ready, steps blocks are) }
+replied digit (Err fault) old new areas new_areas s t blocks pack are steps refused ready others failures stays =
+    record { id = stays.id; spares = spares_files old.id areas new_areas blocks s t pack are others; failures = failures; comes = (stays.drained, λ w held. reply_acts digit w (never w held)) }
+  where
+    never : (w : World) → Holds old (around areas s blocks) w → (number : ℕ) → (step_of w (Reply digit)).did ≡ Refused number → ⊥
+    never w held number is = let same : Err fault ≡ Ok (Refused number) = refused blocks w number held is in cc
+
+pub drained : (result : Result Did PoolFault) (old new : Level) (before after : Around)
+    → IfOk result (λ did. Steps Drain did (Holds old before) (Holds new after))
+    → ((w : World) (number : ℕ) → Holds old before w → (step_of w Drain).did ≡ Refused number → result ≡ Ok (Refused number))
+    → OnErr result (new.lines.items ≡ old.lines.items)
+    → OnOk result (IsReady new (seen after.areas after.state.contents))
+    → Spares old.id before after
+    → after.state.failures ≡ before.state.failures + failed_transfers result
+    → new.id ≡ old.id
+    → Acts Drain result old new before after
+drained (Ok did) old new before after steps refused lines ready spares failures id =
+    record { id = id; spares = spares; failures = failures; comes = (ready, steps) }
+drained (Err fault) old new before after steps refused lines ready spares failures id =
+    record { id = id; spares = spares; failures = failures; comes = (lines, λ w held. drain_acts w (never w held)) }
+  where
+    never : (w : World) → Holds old before w → (number : ℕ) → (step_of w Drain).did ≡ Refused number → ⊥
+    never w held number is = let same : Err fault ≡ Ok (Refused number) = refused w number held is in cc

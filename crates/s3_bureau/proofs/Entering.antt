@@ -1,0 +1,94 @@
+-- An entry in one of the two levels, and what a step says of it.
+use Rattle.std.proofs.Common.{◌≡◌, true, Result, Ok, refl, sym, subst, ◌∙◌}
+use Rattle.s3_cards.specs.Levels.{other}
+use Rattle.s3_cards.specs.declared.levels.LevelId.{LevelId}
+use Rattle.s3_cards.specs.declared.levels.LevelId.TheVariants.{One, Two}
+use Rattle.s3_store.specs.State.{KeepsInStep}
+use Rattle.s3_store.specs.declared.pool_fault.PoolFault.{PoolFault}
+use Rattle.s3_job_files.specs.Holds.{seen}
+use Rattle.s3_solo.specs.declared.action.Action.{Action}
+use Rattle.s3_solo.specs.declared.action.Did.{Did}
+use Rattle.s3_solo.specs.Solo.{closed}
+use Rattle.s3_solo.specs.World.{World}
+use Rattle.s3_level.specs.declared.level.Level.{Level}
+use Rattle.s3_level.specs.Holds.{Around, Becomes, Holds, IsReady, Spares}
+use Rattle.s3_bureau.specs.declared.bureau.Phase.{Phase}
+use Rattle.s3_bureau.specs.declared.bureau.Phase.TheVariants.{Open, Finished, Stopped}
+use Rattle.s3_bureau.specs.Held.{HoldsFor, IsForeign, IsOwn, IsReadyFor, State, has_worlds, header_of, level_of, rests, takes_entries}
+use Rattle.s3_bureau.specs.Inner.Calls.{Acts, Closes, ClosesBoth, Enters}
+use Rattle.s3_bureau.proofs.OtherLevel.{foreign_spared, ready_stays, worlds_stay, worlds_stayed}
+
+-- ---- an entry in its level
+-- both levels can take further entries
+pub laid_out_one : (action : Action) (did : Did) (one two new_one : Level) (before after : Around) → IsReadyFor one two before → Acts action (Ok did) one new_one before after
+    → IsReadyFor new_one two after
+laid_out_one action did one two new_one before after ready acts = record {
+  one_is = acts.id ∙ ready.one_is;
+  two_is = ready.two_is;
+  one_ready = acts.comes.0;
+  two_ready = ready_stays One two before after ready.two_is ready.one_ready.files.pack (subst (λ (l : LevelId). Spares l before after) ready.one_is acts.spares) ready.two_ready;
+  blocks = acts.spares.blocks;
+}
+
+pub laid_out_two : (action : Action) (did : Did) (one two new_two : Level) (before after : Around) → IsReadyFor one two before → Acts action (Ok did) two new_two before after
+    → IsReadyFor one new_two after
+laid_out_two action did one two new_two before after ready acts = record {
+  one_is = ready.one_is;
+  two_is = acts.id ∙ ready.two_is;
+  one_ready = ready_stays Two one before after ready.one_is ready.one_ready.files.pack (subst (λ (l : LevelId). Spares l before after) ready.two_is acts.spares) ready.one_ready;
+  two_ready = acts.comes.0;
+  blocks = acts.spares.blocks;
+}
+
+-- ---- a step that was performed
+his_id : (level : LevelId) (old : State) → IsReadyFor old.one old.two old.beside → (level_of (other level) old).id ≡ other level
+his_id One old ready = ready.two_is
+his_id Two old ready = ready.one_is
+
+his_ready : (level : LevelId) (old : State) → IsReadyFor old.one old.two old.beside → IsReady (level_of (other level) old) (seen old.beside.areas old.beside.state.contents)
+his_ready One old ready = ready.two_ready
+his_ready Two old ready = ready.one_ready
+
+open_has : (phase : Phase) → phase ≡ Open → has_worlds phase ≡ true
+open_has phase is = rw is refl
+
+pub other_keeps : (level : LevelId) (action : Action) (did : Did) (old new : State) → Enters level action (Ok did) old new → (w : World) → HoldsFor (other level) old w → HoldsFor (other level) new w
+other_keeps level action did old new e w held = record {
+  goes_on = open_has new.phase e.comes.0;
+  world = subst (λ (l : Level). Holds l new.beside w) (sym e.stays) (worlds_stay level (level_of (other level) old) old.beside new.beside w (his_id level old e.ready) (his_ready level old e.ready) e.spares held.world);
+}
+
+pub other_kept : (level : LevelId) (action : Action) (did : Did) (old new : State) → Enters level action (Ok did) old new → (w : World) → HoldsFor (other level) new w → HoldsFor (other level) old w
+other_kept level action did old new e w held = record {
+  goes_on = was old.phase e.was_open;
+  world = worlds_stayed level (level_of (other level) old) old.beside new.beside w (his_id level old e.ready) (his_ready level old e.ready) e.spares (subst (λ (l : Level). Holds l new.beside w) e.stays held.world);
+}
+  where
+    was : (phase : Phase) → takes_entries phase ≡ true → has_worlds phase ≡ true
+    was Open is = refl
+    was Finished is = refl
+    was Stopped is = absurd cc
+
+-- ---- a step, performed or not
+pub foreign_unchanged : (level : LevelId) (action : Action) (result : Result Did PoolFault) (old new : State) → Enters level action result old new
+    → KeepsInStep (IsForeign level (header_of old)) old.beside.state new.beside.state
+foreign_unchanged level action result old new e = foreign_spared level old.beside new.beside e.ready.one_ready.files.pack e.spares
+
+-- ---- the end
+pub ends : (old : State) (new_one new_two : Level) (after : Around) → ClosesBoth (Ok tt) old.one old.two new_one new_two old.beside after
+    → Closes (Ok tt) old (record { beside = after; one = new_one; two = new_two; phase = Finished })
+ends old new_one new_two after both = record {
+  header = both.header;
+  common = both.common;
+  rest = rest;
+  failures = both.failures;
+  comes = (refl, both.comes.0, worlds);
+}
+  where
+    rest : (level : LevelId) → rests level old → KeepsInStep (IsOwn level (header_of old)) old.beside.state after.state
+    rest One none = both.one_rests none
+    rest Two none = both.two_rests none
+
+    worlds : (level : LevelId) → Becomes closed (Holds (level_of level old) old.beside) (Holds (level_of level (record { beside = after; one = new_one; two = new_two; phase = Finished })) after)
+    worlds One = both.comes.1.0
+    worlds Two = both.comes.1.1

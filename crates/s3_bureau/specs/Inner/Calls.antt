@@ -1,0 +1,86 @@
+-- What calls on the parts of a bureau do, refused or not. These words serve the contracts of private functions alone.
+use Rattle.std.specs.Prelude.{◌≡◌, ◌+◌, true, None, Result, Ok, Err, ⊤}
+use Rattle.s3_cards.specs.Levels.{other}
+use Rattle.s3_cards.specs.declared.levels.LevelId.{LevelId}
+use Rattle.s3_cards.specs.declared.levels.LevelId.TheVariants.{One, Two}
+use Rattle.s3_store.specs.Failures.{failed_transfers}
+use Rattle.s3_store.specs.State.{KeepsContents, KeepsInStep}
+use Rattle.s3_store.specs.declared.pool_fault.PoolFault.{PoolFault}
+use Rattle.s3_job_files.specs.Holds.{seen}
+use Rattle.s3_solo.specs.declared.action.Action.{Action}
+use Rattle.s3_solo.specs.declared.action.Did.{Did}
+use Rattle.s3_solo.specs.declared.action.Did.TheVariants.{Acted}
+use Rattle.s3_solo.specs.Solo.{closed, step_of}
+use Rattle.s3_solo.specs.World.{World}
+use Rattle.s3_level.specs.declared.level.Level.{Level}
+use Rattle.s3_level.specs.Holds.{Around, Becomes, Holds, IsReady, Spares, Steps}
+use Rattle.s3_bureau.specs.declared.bureau.Phase.TheVariants.{Open, Finished, Stopped}
+use Rattle.s3_bureau.specs.Held.{IsCommon, IsOwn, IsReadyFor, State, header_of, is_open, level_of, rests}
+
+-- ---- one level, and what is beside it
+-- an entry was performed, or it stopped: then it would have acted, and the drained lines are the same
+abbrev pub ActsTo : Action → Result Did PoolFault → (old new : Level) → (before after : Around) → Type 0
+ActsTo action (Ok did) old new before after = IsReady new (seen after.areas after.state.contents) × Steps action did (Holds old before) (Holds new after)
+ActsTo action (Err fault) old new before after = (new.lines.items ≡ old.lines.items) × ((w : World) → Holds old before w → (step_of w action).did ≡ Acted)
+
+pub record Acts (action : Action) (result : Result Did PoolFault) (old new : Level) (before after : Around) : Type 0 where
+  pub id : new.id ≡ old.id
+  pub spares : Spares old.id before after
+  pub failures : after.state.failures ≡ before.state.failures + failed_transfers result
+  pub comes : ActsTo action result old new before after
+
+-- a level was closed, or it stopped
+abbrev pub ClosesTo : Result (Unit {0}) PoolFault → (old new : Level) → (before after : Around) → Type 0
+ClosesTo (Ok done) old new before after = IsReady new (seen after.areas after.state.contents) × Becomes closed (Holds old before) (Holds new after)
+ClosesTo (Err fault) old new before after = ⊤
+
+pub record ClosesLevel (result : Result (Unit {0}) PoolFault) (old new : Level) (before after : Around) : Type 0 where
+  pub id : new.id ≡ old.id
+  pub spares : Spares old.id before after
+  pub rests : old.job ≡ None → KeepsContents before.state after.state
+  pub failures : after.state.failures ≡ before.state.failures + failed_transfers result
+  pub comes : ClosesTo result old new before after
+
+-- ---- both levels
+-- both were closed and the store has what is beside them, or they stopped
+abbrev pub BothTo : Result (Unit {0}) PoolFault → (one two new_one new_two : Level) → (before after : Around) → Type 0
+BothTo (Ok done) one two new_one new_two before after =
+    (after.state.stored ≡ after.state.contents) × (Becomes closed (Holds one before) (Holds new_one after) × Becomes closed (Holds two before) (Holds new_two after))
+BothTo (Err fault) one two new_one new_two before after = ⊤
+
+pub record ClosesBoth (result : Result (Unit {0}) PoolFault) (one two new_one new_two : Level) (before after : Around) : Type 0 where
+  pub header : after.areas.header ≡ before.areas.header
+  pub common : KeepsInStep (IsCommon before.areas.header) before.state after.state
+  pub one_rests : one.job ≡ None → KeepsInStep (IsOwn One before.areas.header) before.state after.state
+  pub two_rests : two.job ≡ None → KeepsInStep (IsOwn Two before.areas.header) before.state after.state
+  pub failures : after.state.failures ≡ before.state.failures + failed_transfers result
+  pub comes : BothTo result one two new_one new_two before after
+
+-- ---- a bureau
+-- an entry of a level was performed, or the bureau stopped
+abbrev pub EntersTo : LevelId → Action → Result Did PoolFault → (old new : State) → Type 0
+EntersTo level action (Ok did) old new = (new.phase ≡ Open) × Steps action did (Holds (level_of level old) old.beside) (Holds (level_of level new) new.beside)
+EntersTo level action (Err fault) old new =
+    (new.phase ≡ Stopped) × ((level_of level new).lines.items ≡ (level_of level old).lines.items)
+    × ((w : World) → Holds (level_of level old) old.beside w → (step_of w action).did ≡ Acted)
+
+pub record Enters (level : LevelId) (action : Action) (result : Result Did PoolFault) (old new : State) : Type 0 where
+  pub was_open : is_open old ≡ true
+  pub ready : IsReadyFor old.one old.two old.beside
+  pub stays : level_of (other level) new ≡ level_of (other level) old
+  pub spares : Spares level old.beside new.beside
+  pub failures : new.beside.state.failures ≡ old.beside.state.failures + failed_transfers result
+  pub comes : EntersTo level action result old new
+
+abbrev pub EndsTo : Result (Unit {0}) PoolFault → (old new : State) → Type 0
+EndsTo (Ok done) old new =
+    (new.phase ≡ Finished) × (new.beside.state.stored ≡ new.beside.state.contents)
+    × ((level : LevelId) → Becomes closed (Holds (level_of level old) old.beside) (Holds (level_of level new) new.beside))
+EndsTo (Err fault) old new = new.phase ≡ Stopped
+
+pub record Closes (result : Result (Unit {0}) PoolFault) (old new : State) : Type 0 where
+  pub header : header_of new ≡ header_of old
+  pub common : KeepsInStep (IsCommon (header_of old)) old.beside.state new.beside.state
+  pub rest : (level : LevelId) → rests level old → KeepsInStep (IsOwn level (header_of old)) old.beside.state new.beside.state
+  pub failures : new.beside.state.failures ≡ old.beside.state.failures + failed_transfers result
+  pub comes : EndsTo result old new

@@ -1,0 +1,37 @@
+//! Why a test goes no further.
+
+use s3_labels::{ChangeFault, LabelFault, Refusal};
+use s3_store::PoolFault;
+use std::alloc::AllocError;
+use thiserror::Error;
+
+/// Why a test goes no further.
+#[derive(Clone, Copy, Debug, PartialEq, Eq, Error)]
+pub enum Fault {
+    #[error("the pack isn't mounted")]
+    Mount(Refusal),
+    #[error("a file isn't made")]
+    Make(ChangeFault),
+    #[error("there is no such file")]
+    Find(LabelFault),
+    #[error("the index of a file isn't good")]
+    BadIndex,
+    #[error("the file doesn't take that")]
+    Misfit,
+    #[error("the sectors refused")]
+    Sectors(PoolFault),
+    #[error("out of memory")]
+    NoMemory,
+}
+
+impl From<PoolFault> for Fault {
+    fn from(fault: PoolFault) -> Self {
+        Fault::Sectors(fault)
+    }
+}
+
+impl From<AllocError> for Fault {
+    fn from(_: AllocError) -> Self {
+        Fault::NoMemory
+    }
+}

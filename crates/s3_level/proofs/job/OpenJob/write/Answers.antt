@@ -1,0 +1,41 @@
+use Rattle.std.proofs.Common.{sym, ◌∙◌}
+use Rattle.s3_job_files.specs.Holds.{seen}
+use Rattle.s3_job_files.specs.Calls.{put_answer}
+use Rattle.s3_level.proofs.OfLines.{few_put, job_stays, on_disk, suits}
+use Rattle.s3_level.proofs.Requests.{fits_meant, has_file, has_where_fails, resumes_meant, serves_false, serves_true}
+use Rattle.s3_level.proofs.job.OpenJob.write.Goals as goal
+
+pub place_of-requires : goal.place_of-requires
+place_of-requires g c = record { there = on_disk c.args.self.now.cycle c.args.file c.requires.asks c.requires.fits }
+
+pub returns-in_default-clause-serves : goal.returns-in_default-clause-serves
+returns-in_default-clause-serves g c = serves_false c.args.self.now _ c.args.file c.requires.asks (sym c.place_of.ensures.place ∙ c.in_default.is)
+
+pub store-requires-clause-few : goal.store-requires-clause-few
+store-requires-clause-few g c = few_put c.args.self.now.cycle c.requires.puts c.requires.fits
+
+pub store-requires-clause-suits : goal.store-requires-clause-suits
+store-requires-clause-suits g c =
+    suits c.args.self.now.files.level c.args.self.now c.args.file c.in-Some.place c.requires.job c.requires.asks c.requires.fits (sym c.place_of.ensures.place ∙ c.in-Some.is)
+
+pub resume-requires : goal.resume-requires
+resume-requires g c = fits_meant c.args.self.now.cycle c.answer_of_put.result (put_answer c.in_ok-stored.stored) c.answer_of_put.ensures c.in_ok-stored.ensures.fits
+
+pub returns-clause-serves : goal.returns-clause-serves
+returns-clause-serves g c =
+    serves_true c.args.self.now (record c.args.self.now { cycle = c.resume.new.self; files = c.store.new.job_files })
+    (seen c.args.pack.now.areas (g.P.Sectors.state c.args.pack.now.pool).contents) (seen c.store.new.pack.areas (g.P.Sectors.state c.store.new.pack.pool).contents)
+    c.args.file c.in-Some.place (put_answer c.in_ok-stored.stored) c.requires.asks (sym c.place_of.ensures.place ∙ c.in-Some.is) c.store.ensures.level c.in_ok-stored.ensures.serves
+    (resumes_meant c.args.self.now.cycle c.resume.new.self c.answer_of_put.result (put_answer c.in_ok-stored.stored) c.answer_of_put.ensures c.resume.ensures)
+
+pub returns-in_err-stored-clause-job : goal.returns-in_err-stored-clause-job
+returns-in_err-stored-clause-job g c = job_stays c.args.self.now.files.level c.args.self.now _ c.requires.job c.store.ensures.opened (λ source stands. stands)
+
+pub returns-clause-job : goal.returns-clause-job
+returns-clause-job g c = job_stays c.args.self.now.files.level c.args.self.now _ c.requires.job c.store.ensures.opened (λ source stands. (c.resume.ensures source stands).0)
+
+pub returns-in_err-stored-clause-fails : goal.returns-in_err-stored-clause-fails
+returns-in_err-stored-clause-fails g c =
+    has_where_fails c.from_residual.result c.args.self.now (seen c.args.pack.now.areas (g.P.Sectors.state c.args.pack.now.pool).contents)
+    (has_file c.args.self.now (seen c.args.pack.now.areas (g.P.Sectors.state c.args.pack.now.pool).contents) c.args.file c.in-Some.place c.requires.ready c.in-Some.ensures.within c.requires.asks
+    (sym c.place_of.ensures.place ∙ c.in-Some.is))

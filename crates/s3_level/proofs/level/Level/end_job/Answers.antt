@@ -1,0 +1,10 @@
+use Rattle.std.proofs.Common.{sym, ◌∙◌, ap, Option}
+use Rattle.s3_level.specs.declared.job.OpenJob.{OpenJob}
+use Rattle.s3_job_files.specs.Holds.{seen}
+use Rattle.s3_level.proofs.Ending.{job_closed}
+use Rattle.s3_level.proofs.level.Level.end_job.Goals as goal
+
+pub returns-in-Some-clause-world : goal.returns-in-Some-clause-world
+returns-in-Some-clause-world g c = λ s.
+    job_closed s c.close.result c.args.self.now _ c.in-Some.job (seen c.args.pack.now.areas (g.P.Sectors.state c.args.pack.now.pool).contents) (seen c.close.new.pack.areas (g.P.Sectors.state c.close.new.pack.pool).contents)
+    (sym c.take.ensures.value ∙ c.in-Some.is) c.requires.ready (ap (λ (o : Option OpenJob). record c.args.self.now { job = o }) c.take.ensures.after) c.close.ensures.closes

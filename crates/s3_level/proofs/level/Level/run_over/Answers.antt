@@ -1,0 +1,18 @@
+use Rattle.std.proofs.Common.{slice_range}
+use Rattle.s3_solo.specs.Serving.{data_of}
+use Rattle.s3_level.proofs.Starting.{at_beginning, ready_at_beginning}
+use Rattle.s3_level.specs.Holds.{HoldsParts, with_seen}
+use Rattle.s3_job_files.specs.Holds.{seen}
+use Rattle.s3_level.proofs.level.Level.run_over.Goals as goal
+
+pub stand-requires : goal.stand-requires
+stand-requires g c = record {
+  ready = ready_at_beginning c.args.number c.data_from.result c.data_to.result c.args.program c.in_ok-cycle.cycle c.args.job_files (seen c.args.pack.now.areas (g.P.Sectors.state c.args.pack.now.pool).contents) c.args.self.now c.open.new.self
+      (λ source stands. (c.in_ok-cycle.ensures source stands).0) c.open.ensures c.requires.ready c.requires.level c.requires.lines;
+}
+
+pub returns-clause-world : goal.returns-clause-world
+returns-clause-world g c = λ s before.
+    at_beginning s c.stand.result c.args.number c.data_from.result c.data_to.result (data_of c.args.self.now.deck c.args.job.now) c.args.program c.in_ok-cycle.cycle c.args.job_files c.digits.result before (seen c.args.pack.now.areas (g.P.Sectors.state c.args.pack.now.pool).contents) c.args.self.now c.open.new.self
+    (HoldsParts c.stand.new.self (with_seen (seen c.stand.new.pack.areas (g.P.Sectors.state c.stand.new.pack.pool).contents) s))
+    (λ i. slice_range c.args.self.now.deck (c.data_from.ensures i) (c.data_to.ensures.value i)) c.digits.ensures.value c.in_ok-cycle.ensures c.open.ensures (c.stand.ensures.world s)

@@ -1,0 +1,5 @@
+pub mod Asking
+pub mod Lister
+pub mod SwitchLaw
+pub mod Settings
+pub mod Replying

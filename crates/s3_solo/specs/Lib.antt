@@ -1,0 +1,6 @@
+pub mod Lines
+pub mod World
+pub mod Serving
+pub mod Solo
+pub mod Asked
+pub mod Samples

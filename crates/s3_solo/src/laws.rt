@@ -1,0 +1,52 @@
+//! What the definitions say of themselves: worked rows, and each switch after the start of a job.
+ghost use Rattle.std.specs.Prelude.{◌≡◌, ◌≤◌, ℕ, List, [], ◌∷◌, Some, None};
+ghost use Rattle.s3_ocl.specs.declared.values.Switch.{Switch};
+ghost use Rattle.s3_meaning.specs.Environment.{switch_on};
+ghost use Rattle.s3_solo.specs.Serving.{is_on_after, switch_of, switches_after};
+ghost use Rattle.s3_solo.specs.declared.action.Action.TheVariants.{Turn, Reply};
+ghost use Rattle.s3_solo.specs.declared.action.Did.TheVariants.{Acted, Idle, Refused};
+ghost use Rattle.s3_operator.specs.declared.halt_code.HaltCode.TheVariants.{FaultyJob, NoProgram};
+ghost use Rattle.s3_operator.specs.Halts.{with_halt};
+ghost use Rattle.s3_solo.specs.Samples.{at_first};
+ghost use Rattle.s3_solo.specs.Solo.{step_of, refused, closed};
+ghost use Rattle.s3_solo.specs.Samples.{after_turns, at_halt, first_line, halted, listing, passed_over, settings_deck, faulty_deck, two_jobs_deck};
+
+/// The deck that compiles the card lister and lists ABC and DEF. Its turns are: compile, start, card, line, card, line, end of
+/// the cards, end of the job.
+pub fn card_lister_lists()
+    // both lines stand after eight turns, and nothing is left to do
+    ensures whole { (after_turns 8).lines.printed ≡ listing }
+    ensures over { (step_of (after_turns 8) Turn).did ≡ Idle }
+    ensures no_halts { (after_turns 8).halts ≡ [] }
+    // closed after six turns it has the same lines, closed after five the first alone
+    ensures six { (closed (after_turns 6)).lines.printed ≡ listing }
+    ensures five { (closed (after_turns 5)).lines.printed ≡ first_line ∷ [] }
+{}
+
+/// Each of U1 to U8 is on after the start of a job where the job sets it on, or leaves it and it was on.
+#[tactic(auto, using(crate::proofs::SwitchLaw::each_switch))]
+pub fn each_switch_is_set()
+    ensures { (switches : List Switch) (was n : ℕ) → 1 ≤ n → n ≤ 8 → switch_on (switches_after switches was) n ≡ is_on_after (switch_of switches n) (switch_on was n) }
+{}
+
+/// A job that couldn't be started is passed over by reply 2 or 3, which stands in its halt: the next turn begins the next job.
+/// Reply 0 is refused with 2, and a reply where no halt waits with 1; both change nothing.
+pub fn replies_pass_jobs_over()
+    ensures not_allowed { step_of (at_halt two_jobs_deck) (Reply 0) ≡ refused 2 (at_halt two_jobs_deck) }
+    ensures none_waits { step_of (at_first two_jobs_deck) (Reply 3) ≡ refused 1 (at_first two_jobs_deck) }
+    ensures did { (step_of (at_halt two_jobs_deck) (Reply 3)).did ≡ Acted }
+    ensures passed_over { (passed_over two_jobs_deck 3).halts ≡ halted 1 NoProgram (Some 3) ∷ [] }
+    ensures once { (step_of (passed_over two_jobs_deck 3) (Reply 3)).did ≡ Refused 1 }
+    ensures next { (step_of (passed_over two_jobs_deck 2) Turn).world.halts ≡ halted 1 NoProgram (Some 2) ∷ halted 2 NoProgram None ∷ [] }
+{}
+
+/// A job sets date and switches although its program isn't there, and a faulty job sets nothing.
+pub fn jobs_set_date_and_switches()
+    ensures date { (step_of (at_first settings_deck) Turn).world.date ≡ 0xf0 ∷ 0xf6 ∷ 0xf1 ∷ 0xf5 ∷ 0xf7 ∷ 0xf6 ∷ [] }
+    ensures switches { (step_of (at_first settings_deck) Turn).world.switches ≡ 0x81 }
+    ensures no_program { (step_of (at_first settings_deck) Turn).world.halts ≡ with_halt 1 NoProgram [] [] }
+    // the fault is 4 on the card `/&`
+    ensures faulty { (step_of (at_first faulty_deck) Turn).world.halts ≡ with_halt 1 FaultyJob ((4, 4) ∷ []) [] }
+    ensures faulty_date { (step_of (at_first faulty_deck) Turn).world.date ≡ (at_first faulty_deck).date }
+    ensures faulty_switches { (step_of (at_first faulty_deck) Turn).world.switches ≡ 0 }
+{}
