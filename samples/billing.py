@@ -20,6 +20,7 @@ class Billing:
         self.customer = None
         self.total, self.items = Decimal(0), 0
         self.all_due, self.all_items, self.customers = Decimal(0), 0, 0
+        self.name, self.dues = "", []
 
     def headings(self):
         self.pages += 1
@@ -34,6 +35,7 @@ class Billing:
         if self.total >= LEAST_FOR_DISCOUNT:
             put(("LESS 2.5% DISCOUNT", 40), (edited(discount, 11, 2, "A"), 66), after=1)
         put(("AMOUNT DUE", 40), (edited(due, 11, 2, "A"), 66), ("*", 68), after=1)
+        self.dues.append((self.customer, self.name, due))
         self.all_due += due
         self.all_items += self.items
         self.customers += 1
@@ -53,7 +55,8 @@ class Billing:
             self.headings()
             self.printer.overflow = False
         if card[0] == "C":
-            self.printer.put((edited(punched(customer, 0), 5, 0, "Z"), 7), (card[6:30], 32), before=1, after=1)
+            self.name = card[6:30]
+            self.printer.put((edited(punched(customer, 0), 5, 0, "Z"), 7), (self.name, 32), before=1, after=1)
         else:
             self.item(card[6:12], card[12:32], punched(card[32:37], 1), punched(card[37:43], 3))
 
@@ -65,8 +68,8 @@ class Billing:
                          *([("CREDIT", 73)] if amount < 0 else []), after=1)
 
 
-def main():
-    cards, date = last_job(sys.stdin.read())
+def billed(cards, date):
+    """What billing prints, and what is due: customers' numbers, names and amounts."""
     billing = Billing(date)
     billing.headings()
     for card in cards:
@@ -74,7 +77,11 @@ def main():
     if billing.customer is not None:
         billing.customer_totals()
     billing.all_totals()
-    show(billing.printer.report, [])
+    return billing
+
+
+def main():
+    show(billed(*last_job(sys.stdin.read())).printer.report, [])
 
 
 if __name__ == "__main__":

@@ -36,7 +36,7 @@ class Payroll:
         self.pages = 0
         self.department = None
         self.sums, self.all_sums = Sums(), Sums()
-        self.halts = []
+        self.halts, self.checks = [], []
 
     def headings(self):
         self.pages += 1
@@ -77,10 +77,11 @@ class Payroll:
         else:
             self.printer.put(*pieces, (edited(net, 7, 2, "J"), 100), after=1)
             self.sums.add(1, [hours, gross, tax, deductions, net])
+            self.checks.append((self.department, number, name, net))
 
 
-def main():
-    cards, date = last_job(sys.stdin.read())
+def paid(cards, date):
+    """What payroll prints and shows, and the checks: departments, employees' numbers, names and net pay."""
     payroll = Payroll(date)
     payroll.headings()
     for card in cards:
@@ -88,6 +89,11 @@ def main():
     if payroll.department is not None:
         payroll.department_totals()
     payroll.printer.put(("WHOLE SHOP", 12), *payroll.all_sums.pieces((4, 8, 11, 11, 11, 11)), after=1)
+    return payroll
+
+
+def main():
+    payroll = paid(*last_job(sys.stdin.read()))
     show(payroll.printer.report, payroll.halts)
 
 

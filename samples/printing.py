@@ -81,15 +81,47 @@ def half_adjusted(number, decimals):
     return number.quantize(Decimal(1).scaleb(-decimals), ROUND_HALF_UP)
 
 
+def decks(text):
+    """The cards of each level of an input."""
+    first, rest = text.split(":deck2\n")
+    return first.splitlines()[1:], rest.split(":script\n")[0].splitlines()
+
+
+def jobs(deck):
+    """The date that is set for each job of a deck that isn't a compile job, and its data cards."""
+    found, date = [], Decimal(0)
+    starts = [place for place, card in enumerate(deck) if card.startswith("// LOAD")]
+    for start in starts:
+        run = deck.index("// RUN", start)
+        for card in deck[start:run]:
+            date = Decimal(card[8:].replace("/", "")) if card.startswith("// DATE ") else date
+        if not deck[start].startswith("// LOAD $RPG"):
+            found.append((date, deck[run + 1:deck.index("/*", run)]))
+    return found
+
+
 def last_job(text):
     """The data cards of the last job of level 1, and the date that is set for it."""
-    deck = text.split(":deck2\n")[0].splitlines()
-    start = max(place for place, card in enumerate(deck) if card.startswith("// LOAD"))
-    run = deck.index("// RUN", start)
-    dates = [card[8:].replace("/", "") for card in deck[:run] if card.startswith("// DATE ")]
-    return deck[run + 1:deck.index("/*", run)], Decimal(dates[-1])
+    date, cards = jobs(decks(text)[0])[-1]
+    return cards, date
+
+
+def in_key_order(keys):
+    """Keys in the order of the card code, whose letters come before digits."""
+    return sorted(keys, key=lambda key: key.encode("cp037"))
+
+
+def list_line(area, label, organization, retention, length, capacity, count):
+    """The line of a file in the list of a pack."""
+    return "%d %-8s %s %s %04d %08d %08d" % (area, label, organization, retention, length, capacity, count)
+
+
+def show_both(*levels):
+    """The whole output of a session, of each level's report and halts."""
+    for level, (report, halts) in enumerate(levels, 1):
+        sys.stdout.write("".join(line + "\n" for line in [":report%d" % level] + report + [":halts%d" % level] + halts))
 
 
 def show(report, halts):
     """The whole output of a session whose level 2 has no cards."""
-    sys.stdout.write("".join(line + "\n" for line in [":report1"] + report + [":halts1"] + halts + [":report2", ":halts2"]))
+    show_both((report, halts), ([], []))
