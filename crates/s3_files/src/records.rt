@@ -1,10 +1,10 @@
 //! A file as a list of records.
-ghost use Rattle.std.specs.Prelude.{◌≡◌, ◌≢◌, ◌≤◌, ◌<◌, ◌+◌, ◌↔◌, ◌++◌, [], ◌∷◌, ℕ, List, length, slice_get, slice_set, Some, OnOk, OnErr, IsErrOf};
+ghost use Rattle.std.specs.Prelude.{◌≡◌, ◌≢◌, ◌≤◌, ◌<◌, ◌+◌, ◌↔◌, ◌++◌, [], ◌∷◌, ℕ, List, length, slice_get, slice_set, Some, IfErr, OnOk, OnErr, IsErrOf};
 ghost use Rattle.std.specs.List.{Contains};
 ghost use Rattle.s3_store.specs.State.{KeepsContents};
 ghost use Rattle.s3_store.specs.State.{ChangesWithin};
 ghost use Rattle.s3_files.specs.Files.{AreStored, FileShape, records, ChangesRecord};
-ghost use Rattle.s3_files.specs.FileFault.{failed_file_transfers};
+ghost use Rattle.s3_files.specs.FileFault.{FindsSectors, failed_file_transfers};
 
 use crate::fault::FileFault;
 use s3_store::Sectors;
@@ -26,7 +26,8 @@ pub trait RecordFile {
         ensures no_record { (IsErrOf result FileFault.NoRecord) ↔ ((file self.now).count ≤ i) }
         ensures not_full { ¬ IsErrOf result FileFault.Full }
         ensures keeps { KeepsContents (P.state pool.old) (P.state pool.new) }
-        ensures failures { (P.state pool.new).failures ≡ (P.state pool.old).failures + failed_file_transfers result };
+        ensures failures { (P.state pool.new).failures ≡ (P.state pool.old).failures + failed_file_transfers result }
+        ensures fault { IfErr result FindsSectors };
 
     /// Writes a record over the one that is there.
     fn put<P: Sectors>(&self, pool: &mut P, i: u32, bytes: &[u8]) -> Result<(), FileFault>
@@ -38,7 +39,8 @@ pub trait RecordFile {
         ensures not_full { ¬ IsErrOf result FileFault.Full }
         ensures others { ChangesRecord (file self.now) i (P.state pool.old).contents (P.state pool.new).contents }
         ensures within { ChangesWithin (Contains (file self.now).sectors) (P.state pool.old) (P.state pool.new) }
-        ensures failures { (P.state pool.new).failures ≡ (P.state pool.old).failures + failed_file_transfers result };
+        ensures failures { (P.state pool.new).failures ≡ (P.state pool.old).failures + failed_file_transfers result }
+        ensures fault { IfErr result FindsSectors };
 
     /// Adds a record after the last.
     fn append<P: Sectors>(&mut self, pool: &mut P, bytes: &[u8]) -> Result<(), FileFault>
@@ -52,5 +54,6 @@ pub trait RecordFile {
         ensures is_new { ¬ IsErrOf result FileFault.NoRecord }
         ensures others { ChangesRecord (file self.old) (file self.old).count (P.state pool.old).contents (P.state pool.new).contents }
         ensures within { ChangesWithin (Contains (file self.old).sectors) (P.state pool.old) (P.state pool.new) }
-        ensures failures { (P.state pool.new).failures ≡ (P.state pool.old).failures + failed_file_transfers result };
+        ensures failures { (P.state pool.new).failures ≡ (P.state pool.old).failures + failed_file_transfers result }
+        ensures fault { IfErr result FindsSectors };
 }

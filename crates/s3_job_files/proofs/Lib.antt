@@ -15,3 +15,4 @@ pub mod Opened
 pub mod Checked
 pub mod Staying
 pub mod Starting
+pub mod Said

@@ -1,5 +1,5 @@
 //! Requests to the records of a file with an index.
-ghost use Rattle.std.specs.Prelude.{◌≡◌, ◌+◌, length, slice_get, take, is_some, true, IfOk, IfSome, OnOk};
+ghost use Rattle.std.specs.Prelude.{◌≡◌, ◌≢◌, ◌+◌, length, slice_get, take, is_some, true, IfOk, IfErr, IfSome, OnOk};
 ghost use Rattle.std.specs.List.{Contains};
 ghost use Rattle.s3_store.specs.State.{KeepsContents, ChangesWithin};
 ghost use Rattle.s3_store.specs.Failures.{failed_transfers};
@@ -64,6 +64,7 @@ pub fn check<P: Sectors>(
     ensures ordered { IfOk result (λ checked. IfSome checked (λ file. HasKeyOrder (shown file) (P.state pool.old).contents)) }
     ensures keeps { KeepsContents (P.state pool.old) (P.state pool.new) }
     ensures failures { (P.state pool.new).failures ≡ (P.state pool.old).failures + failed_transfers result }
+    ensures fault { IfErr result (λ fault. fault ≢ PoolFault.NoSector) }
 {
     match Keyed::check(alloc, pool, label) {
         Ok(file) => Ok(Some(file)),
@@ -86,6 +87,7 @@ pub fn get<P: Sectors>(
     ensures found { IfOk result (λ found. found_record found bytes.new ≡ slice_get (records_now (shown file.now) (P.state pool.old).contents) i) }
     ensures keeps { KeepsContents (P.state pool.old) (P.state pool.new) }
     ensures failures { (P.state pool.new).failures ≡ (P.state pool.old).failures + failed_transfers result }
+    ensures fault { IfErr result (λ fault. fault ≢ PoolFault.NoSector) }
 {
     match file.get(pool, i, bytes) {
         Ok(()) => Ok(true),
@@ -103,6 +105,7 @@ pub fn nth<P: Sectors>(file: &Keyed, pool: &mut P, n: u32) -> Result<Option<u32>
     ensures place { IfOk result (λ place. nth_by_key (take (shown file.now).started (keys_now (shown file.now) (P.state pool.old).contents)) n ≡ place) }
     ensures keeps { KeepsContents (P.state pool.old) (P.state pool.new) }
     ensures failures { (P.state pool.new).failures ≡ (P.state pool.old).failures + failed_transfers result }
+    ensures fault { IfErr result (λ fault. fault ≢ PoolFault.NoSector) }
 {
     match file.nth_by_key(pool, n) {
         Ok(place) => Ok(Some(place)),
@@ -121,6 +124,7 @@ pub fn find<P: Sectors>(file: &Keyed, pool: &mut P, key: &[u8]) -> Result<Option
     ensures place { IfOk result (λ place. place_of_key (number_of key.now) (keys_now (shown file.now) (P.state pool.old).contents) ≡ place) }
     ensures keeps { KeepsContents (P.state pool.old) (P.state pool.new) }
     ensures failures { (P.state pool.new).failures ≡ (P.state pool.old).failures + failed_transfers result }
+    ensures fault { IfErr result (λ fault. fault ≢ PoolFault.NoSector) }
 {
     match file.find(pool, key) {
         Ok(place) => Ok(Some(place)),
@@ -142,6 +146,7 @@ pub fn load<P: Sectors>(file: &mut Keyed, pool: &mut P, bytes: &[u8]) -> Result<
     ensures same { IsSameFile (shown file.old) (shown file.new) }
     ensures within { ChangesWithin (Contains (shown file.old).sectors) (P.state pool.old) (P.state pool.new) }
     ensures failures { (P.state pool.new).failures ≡ (P.state pool.old).failures + failed_transfers result }
+    ensures fault { IfErr result (λ fault. fault ≢ PoolFault.NoSector) }
 {
     match file.load(pool, bytes) {
         Ok(()) => Ok(Put::Done),
@@ -163,6 +168,7 @@ pub fn add<P: Sectors>(file: &mut Keyed, pool: &mut P, bytes: &[u8]) -> Result<P
     ensures same { IsSameFile (shown file.old) (shown file.new) }
     ensures within { ChangesWithin (Contains (shown file.old).sectors) (P.state pool.old) (P.state pool.new) }
     ensures failures { (P.state pool.new).failures ≡ (P.state pool.old).failures + failed_transfers result }
+    ensures fault { IfErr result (λ fault. fault ≢ PoolFault.NoSector) }
 {
     match file.add(pool, bytes) {
         Ok(()) => Ok(Put::Done),
@@ -187,6 +193,7 @@ pub fn update<P: Sectors>(
     ensures ordered { OnOk result (HasKeyOrder (shown file.now) (P.state pool.new).contents) }
     ensures within { ChangesWithin (Contains (shown file.now).sectors) (P.state pool.old) (P.state pool.new) }
     ensures failures { (P.state pool.new).failures ≡ (P.state pool.old).failures + failed_transfers result }
+    ensures fault { IfErr result (λ fault. fault ≢ PoolFault.NoSector) }
 {
     match file.update(pool, i, bytes) {
         Ok(()) => Ok(Put::Done),
@@ -206,6 +213,7 @@ pub fn close<P: Sectors>(file: Keyed, pool: &mut P) -> Result<(), PoolFault>
     ensures records { records_now (shown file) (P.state pool.new).contents ≡ records_now (shown file) (P.state pool.old).contents }
     ensures within { ChangesWithin (Contains (shown file).sectors) (P.state pool.old) (P.state pool.new) }
     ensures failures { (P.state pool.new).failures ≡ (P.state pool.old).failures + failed_transfers result }
+    ensures fault { IfErr result (λ fault. fault ≢ PoolFault.NoSector) }
 {
     match file.close(pool) {
         Ok(()) => Ok(()),

@@ -1,10 +1,11 @@
 //! The end of a job: its files are closed.
-ghost use Rattle.std.specs.Prelude.{◌≡◌, ◌+◌, [], map, None, IfErr, OnOk};
+ghost use Rattle.std.specs.Prelude.{◌≡◌, ◌≢◌, ◌+◌, [], map, None, IfErr, OnOk};
 ghost use Rattle.s3_store.specs.State.{ChangesWithin, KeepsInStep};
 ghost use Rattle.s3_store.specs.Failures.{failed_transfers};
 ghost use Rattle.s3_slots.specs.Making.{counted, dropped, refusal};
 ghost use Rattle.s3_slots.specs.Slots.{standing};
 ghost use Rattle.s3_labels.specs.Areas.{area_of, slots_at, with_slots, IsLabelSector, IsOfSectors, IsReady as IsPackReady, MayHave};
+ghost use Rattle.s3_labels.specs.Labelled.{KeepsSaid};
 ghost use Rattle.s3_job_files.specs.Files.{Files};
 ghost use Rattle.s3_job_files.specs.Closing.{files_closed};
 ghost use Rattle.s3_job_files.specs.Inner.Refusals.{sectors_answer};
@@ -35,8 +36,10 @@ fn drop_label<P: Sectors>(level: LevelId, name: Name, pack: &mut Pack<P>) -> Res
     ensures dropped { OnOk result (slots_at level pack.new.areas ≡ dropped name (slots_at level pack.old.areas)) }
     ensures others { pack.new.areas ≡ with_slots level (slots_at level pack.new.areas) pack.old.areas }
     ensures within { ChangesWithin (IsLabelSector (area_of level)) (P.state pack.old.pool) (P.state pack.new.pool) }
+    ensures says { OnOk result (KeepsSaid level pack.old.areas (P.state pack.old.pool).contents pack.new.areas (P.state pack.new.pool).contents) }
     ensures ready { IsPackReady pack.new.areas (P.state pack.new.pool).contents }
     ensures failures { (P.state pack.new.pool).failures ≡ (P.state pack.old.pool).failures + failed_transfers result }
+    ensures fault { IfErr result (λ fault. fault ≢ PoolFault.NoSector) }
 {
     changed(pack.drop_label(level, name))
 }
@@ -55,8 +58,10 @@ fn set_count<P: Sectors>(
     ensures counted { OnOk result (slots_at level pack.new.areas ≡ counted name count (slots_at level pack.old.areas)) }
     ensures others { pack.new.areas ≡ with_slots level (slots_at level pack.new.areas) pack.old.areas }
     ensures within { ChangesWithin (IsLabelSector (area_of level)) (P.state pack.old.pool) (P.state pack.new.pool) }
+    ensures says { OnOk result (KeepsSaid level pack.old.areas (P.state pack.old.pool).contents pack.new.areas (P.state pack.new.pool).contents) }
     ensures ready { IsPackReady pack.new.areas (P.state pack.new.pool).contents }
     ensures failures { (P.state pack.new.pool).failures ≡ (P.state pack.old.pool).failures + failed_transfers result }
+    ensures fault { IfErr result (λ fault. fault ≢ PoolFault.NoSector) }
 {
     changed(pack.set_count(level, name, count))
 }
@@ -72,8 +77,10 @@ fn close_file<P: Sectors>(
     ensures closes { OnOk result (Closes level file (seen pack.old.areas (P.state pack.old.pool).contents) (seen pack.new.areas (P.state pack.new.pool).contents)) }
     ensures others { pack.new.areas ≡ with_slots level (slots_at level pack.new.areas) pack.old.areas }
     ensures spares { KeepsInStep (IsOutOfReach level pack.old.areas.header) (P.state pack.old.pool) (P.state pack.new.pool) }
+    ensures says { OnOk result (KeepsSaid level pack.old.areas (P.state pack.old.pool).contents pack.new.areas (P.state pack.new.pool).contents) }
     ensures ready { IsPackReady pack.new.areas (P.state pack.new.pool).contents }
     ensures failures { (P.state pack.new.pool).failures ≡ (P.state pack.old.pool).failures + failed_transfers result }
+    ensures fault { IfErr result (λ fault. fault ≢ PoolFault.NoSector) }
 {
     if file.is_master {
         return Ok(());
@@ -99,7 +106,9 @@ pub fn close_all<P: Sectors>(
     ensures pack { IsPackReady pack.new.areas (P.state pack.new.pool).contents }
     ensures others { pack.new.areas ≡ with_slots level (slots_at level pack.new.areas) pack.old.areas }
     ensures spares { KeepsInStep (IsOutOfReach level pack.old.areas.header) (P.state pack.old.pool) (P.state pack.new.pool) }
+    ensures says { OnOk result (KeepsSaid level pack.old.areas (P.state pack.old.pool).contents pack.new.areas (P.state pack.new.pool).contents) }
     ensures failures { (P.state pack.new.pool).failures ≡ (P.state pack.old.pool).failures + failed_transfers result }
+    ensures fault { IfErr result (λ fault. fault ≢ PoolFault.NoSector) }
 {
     if files.is_empty() {
         return Ok(());

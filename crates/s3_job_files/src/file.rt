@@ -1,5 +1,5 @@
 //! A file of the job at work.
-ghost use Rattle.std.specs.Prelude.{◌≡◌, ◌<◌, ◌+◌, ◌-◌, ◌&&◌, length, option_map, pos, slice_get, is_some, Some, None, true, false, IfOk, IfSome, OnOk};
+ghost use Rattle.std.specs.Prelude.{◌≡◌, ◌≢◌, ◌<◌, ◌+◌, ◌-◌, ◌&&◌, length, option_map, pos, slice_get, is_some, Some, None, true, false, IfOk, IfErr, IfSome, OnOk};
 ghost use Rattle.std.specs.List.{Contains};
 ghost use Rattle.s3_store.specs.State.{KeepsContents, ChangesWithin};
 ghost use Rattle.s3_store.specs.Failures.{failed_transfers};
@@ -71,6 +71,7 @@ impl OpenFile {
         ensures count { IfOk result (λ opened. IfSome opened (λ file. count_of file.records ≡ label.count)) }
         ensures keeps { KeepsContents (P.state pool.old) (P.state pool.new) }
         ensures failures { (P.state pool.new).failures ≡ (P.state pool.old).failures + failed_transfers result }
+        ensures fault { IfErr result (λ fault. fault ≢ PoolFault.NoSector) }
     {
         let Some(records) = records_of_label(alloc, pool, &label)? else {
             return Ok(None);
@@ -93,6 +94,7 @@ impl OpenFile {
         ensures found { IfOk result (λ found. found_record found bytes.new ≡ slice_get (records_of self.now.records (P.state pool.old).contents) i) }
         ensures keeps { KeepsContents (P.state pool.old) (P.state pool.new) }
         ensures failures { (P.state pool.new).failures ≡ (P.state pool.old).failures + failed_transfers result }
+        ensures fault { IfErr result (λ fault. fault ≢ PoolFault.NoSector) }
     {
         match &self.records {
             OpenRecords::InOrder(file) => in_order::get(file, pool, i, bytes),
@@ -108,6 +110,7 @@ impl OpenFile {
         ensures within { IfOk result (λ place. IfSome place (λ _. n < u32.MAX)) }
         ensures keeps { KeepsContents (P.state pool.old) (P.state pool.new) }
         ensures failures { (P.state pool.new).failures ≡ (P.state pool.old).failures + failed_transfers result }
+        ensures fault { IfErr result (λ fault. fault ≢ PoolFault.NoSector) }
     {
         if n >= self.label.count {
             return Ok(None);
@@ -131,6 +134,7 @@ impl OpenFile {
         ensures alone { self.new ≡ record self.old { read = self.new.read } }
         ensures keeps { KeepsContents (P.state pool.old) (P.state pool.new) }
         ensures failures { (P.state pool.new).failures ≡ (P.state pool.old).failures + failed_transfers result }
+        ensures fault { IfErr result (λ fault. fault ≢ PoolFault.NoSector) }
     {
         let Some(place) = self.place_read(pool, self.read)? else {
             return Ok(false);
@@ -154,6 +158,7 @@ impl OpenFile {
         ensures same { self.new ≡ record self.old { chained = self.new.chained } }
         ensures keeps { KeepsContents (P.state pool.old) (P.state pool.new) }
         ensures failures { (P.state pool.new).failures ≡ (P.state pool.old).failures + failed_transfers result }
+        ensures fault { IfErr result (λ fault. fault ≢ PoolFault.NoSector) }
     {
         self.chained = place;
         match place {
@@ -171,6 +176,7 @@ impl OpenFile {
         ensures place { IfOk result (λ place. place_sought self.now.label (records_of self.now.records (P.state pool.old).contents) (Key key.now) ≡ place) }
         ensures keeps { KeepsContents (P.state pool.old) (P.state pool.new) }
         ensures failures { (P.state pool.new).failures ≡ (P.state pool.old).failures + failed_transfers result }
+        ensures fault { IfErr result (λ fault. fault ≢ PoolFault.NoSector) }
     {
         match &self.records {
             OpenRecords::InOrder(_) => unreachable!(),
@@ -194,6 +200,7 @@ impl OpenFile {
         ensures alone { self.new ≡ record self.old { chained = self.new.chained } }
         ensures keeps { KeepsContents (P.state pool.old) (P.state pool.new) }
         ensures failures { (P.state pool.new).failures ≡ (P.state pool.old).failures + failed_transfers result }
+        ensures fault { IfErr result (λ fault. fault ≢ PoolFault.NoSector) }
     {
         let place = self.place_of_key(pool, key)?;
         self.chain(pool, place, bytes)
@@ -227,6 +234,7 @@ impl OpenFile {
         ensures alone { self.new ≡ record self.old { chained = self.new.chained } }
         ensures keeps { KeepsContents (P.state pool.old) (P.state pool.new) }
         ensures failures { (P.state pool.new).failures ≡ (P.state pool.old).failures + failed_transfers result }
+        ensures fault { IfErr result (λ fault. fault ≢ PoolFault.NoSector) }
     {
         let place = self.place_numbered(number);
         self.chain(pool, place, bytes)
@@ -241,6 +249,7 @@ impl OpenFile {
         ensures alone { self.new ≡ record self.old { records = self.new.records } }
         ensures within { ChangesWithin (Contains (sectors_of self.old.label)) (P.state pool.old) (P.state pool.new) }
         ensures failures { (P.state pool.new).failures ≡ (P.state pool.old).failures + failed_transfers result }
+        ensures fault { IfErr result (λ fault. fault ≢ PoolFault.NoSector) }
     {
         match &mut self.records {
             OpenRecords::InOrder(file) => in_order::append(file, pool, bytes),
@@ -258,6 +267,7 @@ impl OpenFile {
         ensures alone { self.new ≡ record self.old { records = self.new.records } }
         ensures within { ChangesWithin (Contains (sectors_of self.old.label)) (P.state pool.old) (P.state pool.new) }
         ensures failures { (P.state pool.new).failures ≡ (P.state pool.old).failures + failed_transfers result }
+        ensures fault { IfErr result (λ fault. fault ≢ PoolFault.NoSector) }
     {
         match &mut self.records {
             OpenRecords::InOrder(_) => unreachable!(),
@@ -273,6 +283,7 @@ impl OpenFile {
         ensures of_label { OnOk result (AreOf self.now.label (P.state pool.new).contents self.now.records) }
         ensures within { ChangesWithin (Contains (sectors_of self.now.label)) (P.state pool.old) (P.state pool.new) }
         ensures failures { (P.state pool.new).failures ≡ (P.state pool.old).failures + failed_transfers result }
+        ensures fault { IfErr result (λ fault. fault ≢ PoolFault.NoSector) }
     {
         match &self.records {
             OpenRecords::InOrder(file) => in_order::put(file, pool, i, bytes),
@@ -292,6 +303,7 @@ impl OpenFile {
         ensures of_label { OnOk result (AreOf self.now.label (P.state pool.new).contents self.now.records) }
         ensures within { ChangesWithin (Contains (sectors_of self.now.label)) (P.state pool.old) (P.state pool.new) }
         ensures failures { (P.state pool.new).failures ≡ (P.state pool.old).failures + failed_transfers result }
+        ensures fault { IfErr result (λ fault. fault ≢ PoolFault.NoSector) }
     {
         let mut buffer = [0; 1024];
         let bytes = &mut buffer[..usize::from(self.label.record_length)];
@@ -312,6 +324,7 @@ impl OpenFile {
         ensures place { IfOk result (λ place. place_current_spec self.now.label (records_of self.now.records (P.state pool.old).contents) self.now.chained (option_map current_of current) ≡ place) }
         ensures keeps { KeepsContents (P.state pool.old) (P.state pool.new) }
         ensures failures { (P.state pool.new).failures ≡ (P.state pool.old).failures + failed_transfers result }
+        ensures fault { IfErr result (λ fault. fault ≢ PoolFault.NoSector) }
     {
         match current {
             None => Ok(None),
@@ -332,6 +345,7 @@ impl OpenFile {
         ensures of_label { OnOk result (AreOf self.now.label (P.state pool.new).contents self.now.records) }
         ensures within { ChangesWithin (Contains (sectors_of self.now.label)) (P.state pool.old) (P.state pool.new) }
         ensures failures { (P.state pool.new).failures ≡ (P.state pool.old).failures + failed_transfers result }
+        ensures fault { IfErr result (λ fault. fault ≢ PoolFault.NoSector) }
     {
         match self.place_current(pool, current)? {
             None => Ok(Put::Refused(HaltCode::NothingToUpdate)),
@@ -352,6 +366,7 @@ impl OpenFile {
         ensures kept { OnOk result (kept_on (record self.label { count = count_of self.records }) (P.state pool.new).contents ≡ record { records = records_of self.records (P.state pool.old).contents; has_good_index = true }) }
         ensures within { ChangesWithin (Contains (sectors_of self.label)) (P.state pool.old) (P.state pool.new) }
         ensures failures { (P.state pool.new).failures ≡ (P.state pool.old).failures + failed_transfers result }
+        ensures fault { IfErr result (λ fault. fault ≢ PoolFault.NoSector) }
     {
         match self.records {
             OpenRecords::InOrder(_) => Ok(()),
@@ -381,6 +396,7 @@ fn records_of_label<P: Sectors>(
     ensures count { IfOk result (λ opened. IfSome opened (λ records. count_of records ≡ label.now.count)) }
     ensures keeps { KeepsContents (P.state pool.old) (P.state pool.new) }
     ensures failures { (P.state pool.new).failures ≡ (P.state pool.old).failures + failed_transfers result }
+    ensures fault { IfErr result (λ fault. fault ≢ PoolFault.NoSector) }
 {
     if is_indexed(label.organization) {
         match by_key::check(alloc, pool, label)? {

@@ -1,5 +1,5 @@
 //! Requests to the records of a file without an index.
-ghost use Rattle.std.specs.Prelude.{◌≡◌, ◌+◌, length, slice_get, IfOk};
+ghost use Rattle.std.specs.Prelude.{◌≡◌, ◌≢◌, ◌+◌, length, slice_get, IfOk, IfErr};
 ghost use Rattle.std.specs.List.{Contains};
 ghost use Rattle.s3_store.specs.State.{KeepsContents, ChangesWithin};
 ghost use Rattle.s3_store.specs.Failures.{failed_transfers};
@@ -28,6 +28,7 @@ pub fn get<P: Sectors>(
     ensures found { IfOk result (λ found. found_record found bytes.new ≡ slice_get (records (shape_of file.now) (P.state pool.old).contents) i) }
     ensures keeps { KeepsContents (P.state pool.old) (P.state pool.new) }
     ensures failures { (P.state pool.new).failures ≡ (P.state pool.old).failures + failed_transfers result }
+    ensures fault { IfErr result (λ fault. fault ≢ PoolFault.NoSector) }
 {
     match file.get(pool, i, bytes) {
         Ok(()) => Ok(true),
@@ -49,6 +50,7 @@ pub fn append<P: Sectors>(
     ensures grown { IsGrown (shape_of file.old) (shape_of file.new) }
     ensures within { ChangesWithin (Contains file.old.sectors) (P.state pool.old) (P.state pool.new) }
     ensures failures { (P.state pool.new).failures ≡ (P.state pool.old).failures + failed_transfers result }
+    ensures fault { IfErr result (λ fault. fault ≢ PoolFault.NoSector) }
 {
     match file.append(pool, bytes) {
         Ok(()) => Ok(Put::Done),
@@ -70,6 +72,7 @@ pub fn put<P: Sectors>(
     ensures puts { IfOk result (λ put. Puts (in_order HaltCode.NothingToUpdate (with_record i bytes.now (records (shape_of file.now) (P.state pool.old).contents))) put (records (shape_of file.now) (P.state pool.old).contents) (records (shape_of file.now) (P.state pool.new).contents)) }
     ensures within { ChangesWithin (Contains file.now.sectors) (P.state pool.old) (P.state pool.new) }
     ensures failures { (P.state pool.new).failures ≡ (P.state pool.old).failures + failed_transfers result }
+    ensures fault { IfErr result (λ fault. fault ≢ PoolFault.NoSector) }
 {
     match file.put(pool, i, bytes) {
         Ok(()) => Ok(Put::Done),

@@ -1,11 +1,12 @@
 //! The files of a job at work.
-ghost use Rattle.std.specs.Prelude.{◌≡◌, ◌<◌, ◌+◌, ◌++◌, [], ◌∷◌, true, false, length, map, option_map, slice_get, IfOk, IfSome, OnOk};
+ghost use Rattle.std.specs.Prelude.{◌≡◌, ◌≢◌, ◌<◌, ◌+◌, ◌++◌, [], ◌∷◌, true, false, length, map, option_map, slice_get, IfOk, IfErr, IfSome, OnOk};
 ghost use Rattle.std.specs.List.{list_any, position_from};
 ghost use Rattle.s3_cards.specs.Names.{same_name};
 ghost use Rattle.s3_store.specs.State.{KeepsContents, KeepsInStep};
 ghost use Rattle.s3_store.specs.Failures.{failed_transfers};
 ghost use Rattle.s3_slots.specs.Labels.{is_indexed};
 ghost use Rattle.s3_labels.specs.Areas.{slots_at, with_slots, IsReady as IsPackReady};
+ghost use Rattle.s3_labels.specs.Labelled.{KeepsSaid};
 ghost use Rattle.s3_meaning.specs.Requests.{Key, RecordNumber, fits_done, refuses_append, refuses_add, refuses_update};
 ghost use Rattle.s3_job_files.specs.Requests.{record_read, record_chained, record_appended, record_added, record_updated};
 ghost use Rattle.s3_job_files.specs.Calls.{found_answer, put_answer};
@@ -100,6 +101,7 @@ impl JobFiles {
         ensures keeps { KeepsContents (P.state pack.old.pool) (P.state pack.new.pool) }
         ensures areas { pack.new.areas ≡ pack.old.areas }
         ensures failures { (P.state pack.new.pool).failures ≡ (P.state pack.old.pool).failures + failed_transfers result }
+        ensures fault { IfErr result (λ fault. fault ≢ PoolFault.NoSector) }
         ensures level { self.new.level ≡ self.old.level }
         ensures opened { map opened_as self.new.files.items ≡ map opened_as self.old.files.items }
     {
@@ -124,6 +126,7 @@ impl JobFiles {
         ensures keeps { KeepsContents (P.state pack.old.pool) (P.state pack.new.pool) }
         ensures areas { pack.new.areas ≡ pack.old.areas }
         ensures failures { (P.state pack.new.pool).failures ≡ (P.state pack.old.pool).failures + failed_transfers result }
+        ensures fault { IfErr result (λ fault. fault ≢ PoolFault.NoSector) }
         ensures level { self.new.level ≡ self.old.level }
         ensures opened { map opened_as self.new.files.items ≡ map opened_as self.old.files.items }
     {
@@ -146,6 +149,7 @@ impl JobFiles {
         ensures keeps { KeepsContents (P.state pack.old.pool) (P.state pack.new.pool) }
         ensures areas { pack.new.areas ≡ pack.old.areas }
         ensures failures { (P.state pack.new.pool).failures ≡ (P.state pack.old.pool).failures + failed_transfers result }
+        ensures fault { IfErr result (λ fault. fault ≢ PoolFault.NoSector) }
         ensures level { self.new.level ≡ self.old.level }
         ensures opened { map opened_as self.new.files.items ≡ map opened_as self.old.files.items }
     {
@@ -169,8 +173,10 @@ impl JobFiles {
         ensures ready { OnOk result (IsReady self.new.level self.new.files.items (seen pack.new.areas (P.state pack.new.pool).contents)) }
         ensures pack { IsPackReady pack.new.areas (P.state pack.new.pool).contents }
         ensures spares { KeepsInStep (IsOutOfReach self.old.level pack.old.areas.header) (P.state pack.old.pool) (P.state pack.new.pool) }
+        ensures says { KeepsSaid self.old.level pack.old.areas (P.state pack.old.pool).contents pack.new.areas (P.state pack.new.pool).contents }
         ensures areas { pack.new.areas ≡ pack.old.areas }
         ensures failures { (P.state pack.new.pool).failures ≡ (P.state pack.old.pool).failures + failed_transfers result }
+        ensures fault { IfErr result (λ fault. fault ≢ PoolFault.NoSector) }
         ensures level { self.new.level ≡ self.old.level }
         ensures opened { map opened_as self.new.files.items ≡ map opened_as self.old.files.items }
     {
@@ -195,8 +201,10 @@ impl JobFiles {
         ensures ready { OnOk result (IsReady self.new.level self.new.files.items (seen pack.new.areas (P.state pack.new.pool).contents)) }
         ensures pack { IsPackReady pack.new.areas (P.state pack.new.pool).contents }
         ensures spares { KeepsInStep (IsOutOfReach self.old.level pack.old.areas.header) (P.state pack.old.pool) (P.state pack.new.pool) }
+        ensures says { KeepsSaid self.old.level pack.old.areas (P.state pack.old.pool).contents pack.new.areas (P.state pack.new.pool).contents }
         ensures areas { pack.new.areas ≡ pack.old.areas }
         ensures failures { (P.state pack.new.pool).failures ≡ (P.state pack.old.pool).failures + failed_transfers result }
+        ensures fault { IfErr result (λ fault. fault ≢ PoolFault.NoSector) }
         ensures level { self.new.level ≡ self.old.level }
         ensures opened { map opened_as self.new.files.items ≡ map opened_as self.old.files.items }
     {
@@ -221,8 +229,10 @@ impl JobFiles {
         ensures ready { OnOk result (IsReady self.now.level self.now.files.items (seen pack.new.areas (P.state pack.new.pool).contents)) }
         ensures pack { IsPackReady pack.new.areas (P.state pack.new.pool).contents }
         ensures spares { KeepsInStep (IsOutOfReach self.now.level pack.old.areas.header) (P.state pack.old.pool) (P.state pack.new.pool) }
+        ensures says { KeepsSaid self.now.level pack.old.areas (P.state pack.old.pool).contents pack.new.areas (P.state pack.new.pool).contents }
         ensures areas { pack.new.areas ≡ pack.old.areas }
         ensures failures { (P.state pack.new.pool).failures ≡ (P.state pack.old.pool).failures + failed_transfers result }
+        ensures fault { IfErr result (λ fault. fault ≢ PoolFault.NoSector) }
     {
         self.files[place].update(&mut pack.pool, current, changes)
     }
@@ -237,7 +247,9 @@ impl JobFiles {
         ensures pack { IsPackReady pack.new.areas (P.state pack.new.pool).contents }
         ensures others { pack.new.areas ≡ with_slots self.level (slots_at self.level pack.new.areas) pack.old.areas }
         ensures spares { KeepsInStep (IsOutOfReach self.level pack.old.areas.header) (P.state pack.old.pool) (P.state pack.new.pool) }
+        ensures says { OnOk result (KeepsSaid self.level pack.old.areas (P.state pack.old.pool).contents pack.new.areas (P.state pack.new.pool).contents) }
         ensures failures { (P.state pack.new.pool).failures ≡ (P.state pack.old.pool).failures + failed_transfers result }
+        ensures fault { IfErr result (λ fault. fault ≢ PoolFault.NoSector) }
     {
         close_all(self.level, self.files, pack)
     }

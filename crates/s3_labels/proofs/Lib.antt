@@ -2,6 +2,7 @@ pub mod Blanks
 pub mod Changes
 pub mod Copies
 pub mod Headers
+pub mod Labelled
 pub mod Makes
 pub mod Migrated
 pub mod MigratedPacks
@@ -13,5 +14,6 @@ pub mod NewSlots
 pub mod Outcomes
 pub mod Parts
 pub mod Regions
+pub mod Said
 pub mod Sectors
 pub mod Ways

@@ -100,15 +100,15 @@ abbrev pub AreJudged : Stretch → List Slot → List Slot → Type 0
 AreJudged region earlier [] = ⊤
 AreJudged region earlier (slot ∷ slots) = IsJudged region earlier slot × AreJudged region (earlier ++ slot ∷ []) slots
 
-abbrev judged_later : Format → Stretch → List Slot → List (List ℕ) → List Slot
+abbrev pub judged_later : Format → Stretch → List Slot → List (List ℕ) → List Slot
 judged_later format region earlier [] = []
 judged_later format region earlier (bytes ∷ more) = judged format region earlier bytes ∷ judged_later format region (earlier ++ judged format region earlier bytes ∷ []) more
 
-append_none : (xs : List Slot) → xs ++ [] ≡ xs
+pub append_none : (xs : List Slot) → xs ++ [] ≡ xs
 append_none [] = refl
 append_none (x ∷ xs) = ap (λ l. x ∷ l) (append_none xs)
 
-judged_behind_is : (format : Format) (region : Stretch) (earlier : List Slot) (more : List (List ℕ)) → judged_behind format region earlier more ≡ earlier ++ judged_later format region earlier more
+pub judged_behind_is : (format : Format) (region : Stretch) (earlier : List Slot) (more : List (List ℕ)) → judged_behind format region earlier more ≡ earlier ++ judged_later format region earlier more
 judged_behind_is format region earlier [] = sym (append_none earlier)
 judged_behind_is format region earlier (bytes ∷ more) =
     let slot : Slot = judged format region earlier bytes in

@@ -28,11 +28,11 @@ take_front (suc k) zero bytes more h l = absurd (omega (arith, h))
 take_front (suc k) (suc at) [] more h l = absurd (omega (arith, l))
 take_front (suc k) (suc at) (x ∷ bytes) more h l = ap (λ xs. x ∷ xs) (take_front k at bytes more (omega (arith, h)) (omega (arith, l)))
 
-part_before : (low at w : ℕ) (bytes new : List ℕ) → low + w ≤ at → at ≤ length bytes → part (put_in at w bytes new) low w ≡ part bytes low w
-part_before zero at w bytes new h l = ap (take w) (append_assoc (take at bytes) new (drop (at + w) bytes)) ∙ take_front w at bytes (new ++ drop (at + w) bytes) (omega (arith, h)) l
-part_before (suc low) zero w bytes new h l = absurd (omega (arith, h))
-part_before (suc low) (suc at) w [] new h l = absurd (omega (arith, l))
-part_before (suc low) (suc at) w (x ∷ bytes) new h l = ap (λ xs. part xs (suc low) w) (put_suc at w x bytes new) ∙ part_before low at w bytes new (omega (arith, h)) (omega (arith, l))
+pub part_before : (low at w v : ℕ) (bytes new : List ℕ) → low + v ≤ at → at ≤ length bytes → part (put_in at w bytes new) low v ≡ part bytes low v
+part_before zero at w v bytes new h l = ap (take v) (append_assoc (take at bytes) new (drop (at + w) bytes)) ∙ take_front v at bytes (new ++ drop (at + w) bytes) (omega (arith, h)) l
+part_before (suc low) zero w v bytes new h l = absurd (omega (arith, h))
+part_before (suc low) (suc at) w v [] new h l = absurd (omega (arith, l))
+part_before (suc low) (suc at) w v (x ∷ bytes) new h l = ap (λ xs. part xs (suc low) v) (put_suc at w x bytes new) ∙ part_before low at w v bytes new (omega (arith, h)) (omega (arith, l))
 
 drop_over : (k w : ℕ) (bytes new : List ℕ) → length new ≡ w → w ≤ k → w ≤ length bytes → drop k (new ++ drop w bytes) ≡ drop k bytes
 drop_over k zero bytes [] h m l = refl
@@ -42,7 +42,7 @@ drop_over zero (suc w) bytes (y ∷ new) h m l = absurd (omega (arith, m))
 drop_over (suc k) (suc w) [] (y ∷ new) h m l = absurd (omega (arith, l))
 drop_over (suc k) (suc w) (x ∷ bytes) (y ∷ new) h m l = drop_over k w bytes new (omega (arith, h)) (omega (arith, m)) (omega (arith, l))
 
-drop_behind : (high at w : ℕ) (bytes new : List ℕ) → length new ≡ w → at + w ≤ high → at + w ≤ length bytes → drop high (put_in at w bytes new) ≡ drop high bytes
+pub drop_behind : (high at w : ℕ) (bytes new : List ℕ) → length new ≡ w → at + w ≤ high → at + w ≤ length bytes → drop high (put_in at w bytes new) ≡ drop high bytes
 drop_behind high zero w bytes new h m l = let e : 0 + w ≡ w = omega arith in rw e (drop_over high w bytes new h (omega (arith, m)) (omega (arith, l)))
 drop_behind zero (suc at) w bytes new h m l = absurd (omega (arith, m))
 drop_behind (suc high) (suc at) w [] new h m l = absurd (omega (arith, l))
@@ -60,7 +60,7 @@ other_part i j bytes new h l hi hj differ = side (below i j differ)
     below (suc i) (suc j) d = elim (below i j (λ e. d (ap suc e))) [ inl a ↦ inl (omega (arith, a)) | inr b ↦ inr (omega (arith, b)) ]
 
     side : (j < i) ⊎ (i < j) → part (put_in (i * 64) 64 bytes new) (j * 64) 64 ≡ part bytes (j * 64) 64
-    side (inl a) = part_before (j * 64) (i * 64) 64 bytes new (omega (arith, a)) (omega (arith, l, hi))
+    side (inl a) = part_before (j * 64) (i * 64) 64 64 bytes new (omega (arith, a)) (omega (arith, l, hi))
     side (inr b) = ap (take 64) (drop_behind (j * 64) (i * 64) 64 bytes new h (omega (arith, b)) (omega (arith, l, hi)))
 
 sector_set : (contents : List (List ℕ)) (n : ℕ) (bytes : List ℕ) → n < length contents → length bytes ≡ 256 → sector_bytes (slice_set contents n bytes) n ≡ bytes

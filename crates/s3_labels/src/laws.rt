@@ -1,17 +1,20 @@
-//! Laws and worked rows of new packs and migrated ones.
+//! Laws and worked rows of new packs and migrated ones, and of what labels say.
 ghost use Rattle.std.specs.Prelude.{ℕ, List, ◌≡◌, ◌≤◌, ◌/◌, [], ◌∷◌, slice_get, Some, None, Ok, Err};
+ghost use Rattle.s3_cards.specs.declared.levels.LevelId.{LevelId};
 ghost use Rattle.std.specs.List.{flat_map};
-ghost use Rattle.s3_slots.specs.Samples.{ten_bytes, extents_under, named};
-ghost use Rattle.s3_slots.specs.Header.{mounted};
+ghost use Rattle.s3_slots.specs.Samples.{all_ff, extents_under, named, no_label, ten, ten_bytes, two_files};
+ghost use Rattle.s3_slots.specs.Header.{mounted, region_of};
+ghost use Rattle.s3_slots.specs.Kept.{AreKept};
 ghost use Rattle.s3_slots.specs.Labels.{file_bytes};
 ghost use Rattle.s3_slots.specs.Slots.{slots_of, standing};
 ghost use Rattle.s3_slots.specs.declared.header.Header.{Header};
 ghost use Rattle.s3_slots.specs.declared.label.FileLabel.{FileLabel};
 ghost use Rattle.s3_slots.specs.declared.slot.Slot.TheVariants.{Sound};
-ghost use Rattle.s3_slots.specs.declared.slot.Standing.TheVariants.{Present};
+ghost use Rattle.s3_slots.specs.declared.slot.Standing.TheVariants.{Blocked, Present};
 ghost use Rattle.s3_slots.specs.declared.header.Format.TheVariants.{First, Second};
-ghost use Rattle.s3_labels.specs.Areas.{areas_on, slots_in};
+ghost use Rattle.s3_labels.specs.Areas.{Areas, IsLabelSector, area_of, areas_on, region_at, slots_at, slots_in};
 ghost use Rattle.s3_labels.specs.Images.{contents_of, header_bytes, image_bytes, in_second, master_slot, migrated, migrated_byte, migrated_bytes, moved_label, new_areas, new_header, regions_from, regions_of};
+ghost use Rattle.s3_labels.specs.Labelled.{IsUntangled, KeepsSaid, SaysSlots, slots_alone};
 ghost use Rattle.s3_labels.specs.Samples.{bytes_of, first_sectors, labels_in, second_track};
 ghost use Rattle.s3_labels.specs.declared.fault.ImageFault.TheVariants.{BadQuota, TooLarge};
 
@@ -56,4 +59,23 @@ pub fn a_new_pack_has_an_old_ones_files()
     ensures slots { (old new : List ℕ) (from : Header) (masters level_one level_two quota_one quota_two : ℕ) → mounted (contents_of old) ≡ Ok from → image_bytes (Some old) masters level_one level_two quota_one quota_two ≡ Ok new → areas_on (regions_from from level_one level_two quota_one quota_two) (contents_of new) ≡ new_areas (regions_from from level_one level_two quota_one quota_two) (flat_map (master_slot from.level_one) (areas_on from (contents_of old)).level_one) }
     ensures masters { (old new : List ℕ) (from : Header) (masters level_one level_two quota_one quota_two i : ℕ) (label : FileLabel) → mounted (contents_of old) ≡ Ok from → image_bytes (Some old) masters level_one level_two quota_one quota_two ≡ Ok new → slice_get (areas_on from (contents_of old)).level_one i ≡ Some (Sound label) → standing label.name (areas_on (regions_from from level_one level_two quota_one quota_two) (contents_of new)).masters ≡ Present (moved_label from.level_one label) }
     ensures files { (old new : List ℕ) (from : Header) (masters level_one level_two quota_one quota_two i : ℕ) (label : FileLabel) → mounted (contents_of old) ≡ Ok from → image_bytes (Some old) masters level_one level_two quota_one quota_two ≡ Ok new → slice_get (areas_on from (contents_of old)).level_one i ≡ Some (Sound label) → file_bytes (moved_label from.level_one label) (contents_of new) ≡ file_bytes label (contents_of old) }
+{}
+
+/// Where a mount judges no slot entangled, the labels say the slots as they are judged; and where they say slots whose files
+/// stay apart, a mount judges those. What they say is in their own sectors.
+pub fn labels_say_their_slots()
+    ensures mounted { (level : LevelId) (header : Header) (contents : List (List ℕ)) → IsUntangled header.format (region_of level header) (area_of level) contents → SaysSlots level (areas_on header contents) contents }
+    ensures judged { (level : LevelId) (areas : Areas) (contents : List (List ℕ)) → AreKept (region_at level areas) (slots_at level areas) → SaysSlots level areas contents → slots_of areas.header.format (region_at level areas) (area_of level) contents ≡ slots_at level areas }
+    ensures kept { (level : LevelId) (areas : Areas) (old new : List (List ℕ)) → ((n : ℕ) → IsLabelSector (area_of level) n → slice_get new n ≡ slice_get old n) → KeepsSaid level areas old areas new }
+{}
+
+/// A label that is well formed says a sound slot, and one with more records than it has room for, or with a first byte that is
+/// neither 0 nor 1, a damaged one. A file that overlaps an earlier one is said, but not judged, sound.
+pub fn each_label_says_its_own_slot()
+    ensures sound { extents_under (standing (named 0xc2) (slots_alone Second ten.level_one 1 (two_files 24 24 10))) ≡ record { start = 432; sectors = 24 } ∷ [] }
+    ensures too_many { standing (named 0xc2) (slots_alone Second ten.level_one 1 (two_files 24 24 11)) ≡ Blocked }
+    ensures elsewhere { standing (named 0xc2) (slots_alone Second ten.level_two 1 (two_files 24 24 0)) ≡ Blocked }
+    ensures marked { slots_alone Second ten.level_two 2 all_ff ≡ no_label }
+    ensures entangled { extents_under (standing (named 0xc2) (slots_alone Second ten.level_one 1 (two_files 48 24 0))) ≡ record { start = 432; sectors = 24 } ∷ [] }
+    ensures judged { standing (named 0xc2) (slots_of Second ten.level_one 1 (two_files 48 24 0)) ≡ Blocked }
 {}

@@ -9,6 +9,7 @@ ghost use Rattle.s3_slots.specs.Kept.{IsOfPack};
 ghost use Rattle.s3_slots.specs.Placement.{free_slot};
 ghost use Rattle.s3_slots.specs.Making.{found, made, planned, with_count, without_label, IsNewFile, new_label, dropped};
 ghost use Rattle.s3_labels.specs.Areas.{slots_at, slots_in, region_at, with_slots, area_of as area_of_spec, areas_on, IsReady, IsRefusal, failed_by, failed_mount, IsChangeRefusal, IsOfSectors, failed_change, IsLabelSector, IsOfMake, AreFilled, IsPlanRefusal, MayHave, with_count_bytes};
+ghost use Rattle.s3_labels.specs.Labelled.{KeepsSaid};
 ghost use Rattle.s3_labels.specs.Written.{IsWritten, WritesSlot};
 
 use crate::areas::{AreaSlots, copy_of};
@@ -195,6 +196,7 @@ impl<P: Sectors> Pack<P> {
         ensures on_pack { IfOk result (IsOfPack (length (P.state self.new.pool).contents)) }
         ensures placed { IfOk result (λ label. are_extents (region_at level self.old.areas) label.extents ≡ true) }
         ensures written { IfOk result (IsWritten (area_of_spec level) (slots_at level self.new.areas) (P.state self.new.pool).contents) }
+        ensures says { OnOk result (KeepsSaid level self.old.areas (P.state self.old.pool).contents self.new.areas (P.state self.new.pool).contents) }
         ensures blank { IfOk result (λ label. is_direct label.organization ≡ true → AreFilled BLANK (sectors_of label) (P.state self.new.pool).contents) }
         ensures err { IfErr result (IsChangeRefusal (made self.old.areas.header.format (region_at level self.old.areas) self.old.areas.masters new.now (slots_at level self.old.areas))) }
         ensures same { IfErr result (λ fault. IsOfSectors fault ⊎ (self.new ≡ self.old)) }
@@ -204,6 +206,7 @@ impl<P: Sectors> Pack<P> {
         ensures failures { (P.state self.new.pool).failures ≡ (P.state self.old.pool).failures + failed_change result }
         ensures ready { IsReady self.new.areas (P.state self.new.pool).contents }
     {
+        know_widths(new);
         let made = self.areas.make(level, new)?;
         write_records(&mut self.pool, &made.label)?;
         write_made(&mut self.pool, area_of(level), &made)?;
@@ -216,6 +219,7 @@ impl<P: Sectors> Pack<P> {
         requires room { MayHave count (standing name (slots_at level self.old.areas)) }
         ensures ok { OnOk result (with_count name count (slots_at level self.old.areas) ≡ Ok (slots_at level self.new.areas)) }
         ensures written { OnOk result (WritesSlot name (slots_at level self.old.areas) (area_of_spec level) (with_count_bytes count) (P.state self.old.pool).contents (P.state self.new.pool).contents) }
+        ensures says { OnOk result (KeepsSaid level self.old.areas (P.state self.old.pool).contents self.new.areas (P.state self.new.pool).contents) }
         ensures err { IfErr result (IsChangeRefusal (with_count name count (slots_at level self.old.areas))) }
         ensures same { IfErr result (λ fault. IsOfSectors fault ⊎ (self.new ≡ self.old)) }
         ensures alone { self.new.areas ≡ with_slots level (slots_at level self.new.areas) self.old.areas }
@@ -235,6 +239,7 @@ impl<P: Sectors> Pack<P> {
         requires ready { IsReady self.old.areas (P.state self.old.pool).contents }
         ensures ok { OnOk result (without_label name (slots_at level self.old.areas) ≡ Ok (slots_at level self.new.areas)) }
         ensures written { OnOk result (WritesSlot name (slots_at level self.old.areas) (area_of_spec level) (λ _. replicate 64 0) (P.state self.old.pool).contents (P.state self.new.pool).contents) }
+        ensures says { OnOk result (KeepsSaid level self.old.areas (P.state self.old.pool).contents self.new.areas (P.state self.new.pool).contents) }
         ensures err { IfErr result (IsChangeRefusal (without_label name (slots_at level self.old.areas))) }
         ensures same { IfErr result (λ fault. IsOfSectors fault ⊎ (self.new ≡ self.old)) }
         ensures alone { self.new.areas ≡ with_slots level (slots_at level self.new.areas) self.old.areas }
@@ -248,6 +253,14 @@ impl<P: Sectors> Pack<P> {
         self.areas.free(level, place);
         Ok(())
     }
+}
+
+/// How wide the name and the date of a new file are: the prover is told it where an array is read.
+fn know_widths(new: &NewFile)
+    ensures codes { length new.now.name.codes ≡ 8 }
+    ensures date { length new.now.date ≡ 6 }
+{
+    let _first = new.name.codes[0];
 }
 
 /// The number of a level's area.

@@ -11,3 +11,4 @@ pub mod OneByOne
 pub mod OfLines
 pub mod Started
 pub mod FilesOfLines
+pub mod Said

@@ -1,5 +1,5 @@
 //! Whether the files of a job can be had: all tests, and the plan of what is made, with nothing changed.
-ghost use Rattle.std.specs.Prelude.{◌≡◌, ◌+◌, [], true, filter, filter_map, map, IfOk};
+ghost use Rattle.std.specs.Prelude.{◌≡◌, ◌+◌, [], true, filter, filter_map, map, IfOk, IfErr};
 ghost use Rattle.std.specs.List.{list_all};
 ghost use Rattle.s3_lines.specs.Ranges.{file_in_range};
 ghost use Rattle.s3_ocl.specs.Sound.{is_sound_file};
@@ -9,6 +9,7 @@ ghost use Rattle.s3_labels.specs.Areas.{slots_at, region_at, IsReady as IsPackRe
 ghost use Rattle.s3_job_files.specs.Files.{Files};
 ghost use Rattle.s3_job_files.specs.Holds.{seen, HoldsFiles};
 ghost use Rattle.s3_opening.specs.Asked.{is_used};
+ghost use Rattle.s3_opening.specs.OpenFiles.{FindsSectors};
 ghost use Rattle.s3_opening.specs.Opening.{halt_of_make as halt_of_make_spec, none_in_use, opened};
 ghost use Rattle.s3_opening.specs.Tests.{news_of as news_of_spec, new_of};
 ghost use Rattle.s3_opening.specs.Starts.{settings_of, step_in, failed_opening, fault_of_plan, first_refusal as first_refusal_spec, AreRight, Comes, PlansTo};
@@ -112,6 +113,7 @@ pub fn test_files<P: Sectors>(
     ensures keeps { KeepsContents (P.state pack.old.pool) (P.state pack.new.pool) }
     ensures areas { pack.new.areas ≡ pack.old.areas }
     ensures failures { (P.state pack.new.pool).failures ≡ (P.state pack.old.pool).failures + failed_opening result }
+    ensures fault { IfErr result FindsSectors }
 {
     let mut starts = Vec::new(alloc);
     let tested = test_lines(alloc, level, pack, settings, lines, &mut starts);

@@ -1,5 +1,5 @@
 //! The start of a job: its files are made and opened, once all tests have passed.
-ghost use Rattle.std.specs.Prelude.{◌≡◌, ◌+◌, [], ◌∷◌, true, length, map, IfOk, IfErr, IsOk, OnOk};
+ghost use Rattle.std.specs.Prelude.{◌≡◌, ◌≢◌, ◌+◌, [], ◌∷◌, true, length, map, IfOk, IfErr, IsOk, OnOk};
 ghost use Rattle.std.specs.List.{list_all};
 ghost use Rattle.s3_lines.specs.Ranges.{file_in_range};
 ghost use Rattle.s3_ocl.specs.Sound.{is_sound_file};
@@ -8,11 +8,12 @@ ghost use Rattle.s3_store.specs.Failures.{failed_transfers};
 ghost use Rattle.s3_slots.specs.Kept.{IsOfPack};
 ghost use Rattle.s3_slots.specs.Making.{made, IsNewFile};
 ghost use Rattle.s3_labels.specs.Areas.{region_at, slots_at, with_slots, IsReady as IsPackReady};
+ghost use Rattle.s3_labels.specs.Labelled.{KeepsSaid};
 ghost use Rattle.s3_job_files.specs.Files.{Files, FilesInUse};
 ghost use Rattle.s3_job_files.specs.Holds.{seen, Holds, HoldsFiles, IsOutOfReach, IsReady};
 ghost use Rattle.s3_job_files.specs.Kept.{kept_on};
 ghost use Rattle.s3_opening.specs.Opening.{opened};
-ghost use Rattle.s3_opening.specs.OpenFiles.{AreOfLines, HoldsStarted, IfHalted, StartsAs};
+ghost use Rattle.s3_opening.specs.OpenFiles.{AreOfLines, FindsSectors, HoldsStarted, IfHalted, StartsAs};
 ghost use Rattle.s3_opening.specs.Starting.{AddsFiles, CanStart, IsMade, IsOpenedNew, Readies, Starts};
 ghost use Rattle.s3_opening.specs.Starts.{settings_of, step_in, failed_opening, IsPlanned, IsRight};
 ghost use Rattle.s3_opening.specs.Tests.{taken};
@@ -44,7 +45,9 @@ fn make_label<P: Sectors>(
     ensures pack { IsPackReady pack.new.areas (P.state pack.new.pool).contents }
     ensures others { pack.new.areas ≡ with_slots level (slots_at level pack.new.areas) pack.old.areas }
     ensures spares { KeepsInStep (IsOutOfReach level pack.old.areas.header) (P.state pack.old.pool) (P.state pack.new.pool) }
+    ensures says { OnOk result (KeepsSaid level pack.old.areas (P.state pack.old.pool).contents pack.new.areas (P.state pack.new.pool).contents) }
     ensures failures { (P.state pack.new.pool).failures ≡ (P.state pack.old.pool).failures + failed_transfers result }
+    ensures fault { IfErr result (λ fault. fault ≢ PoolFault.NoSector) }
 {
     match pack.make(level, new) {
         Ok(label) => Ok(label),
@@ -65,6 +68,7 @@ fn open_made<P: Sectors>(
     ensures opened { IfOk result (IsOpenedNew name label (P.state pool.old).contents) }
     ensures keeps { KeepsContents (P.state pool.old) (P.state pool.new) }
     ensures failures { (P.state pool.new).failures ≡ (P.state pool.old).failures + failed_transfers result }
+    ensures fault { IfErr result (λ fault. fault ≢ PoolFault.NoSector) }
 {
     match OpenFile::open(alloc, pool, name, label, false, true)? {
         Some(file) => Ok(file),
@@ -87,7 +91,9 @@ fn make_file<P: Sectors>(
     ensures pack { IsPackReady pack.new.areas (P.state pack.new.pool).contents }
     ensures others { pack.new.areas ≡ with_slots level (slots_at level pack.new.areas) pack.old.areas }
     ensures spares { KeepsInStep (IsOutOfReach level pack.old.areas.header) (P.state pack.old.pool) (P.state pack.new.pool) }
+    ensures says { OnOk result (KeepsSaid level pack.old.areas (P.state pack.old.pool).contents pack.new.areas (P.state pack.new.pool).contents) }
     ensures failures { (P.state pack.new.pool).failures ≡ (P.state pack.old.pool).failures + failed_transfers result }
+    ensures fault { IfErr result (λ fault. fault ≢ PoolFault.NoSector) }
 {
     let label = make_label(level, new, pack)?;
     open_made(alloc, &mut pack.pool, name, label)
@@ -107,7 +113,9 @@ fn file_of<P: Sectors>(
     ensures pack { IsPackReady pack.new.areas (P.state pack.new.pool).contents }
     ensures others { pack.new.areas ≡ with_slots level (slots_at level pack.new.areas) pack.old.areas }
     ensures spares { KeepsInStep (IsOutOfReach level pack.old.areas.header) (P.state pack.old.pool) (P.state pack.new.pool) }
+    ensures says { OnOk result (KeepsSaid level pack.old.areas (P.state pack.old.pool).contents pack.new.areas (P.state pack.new.pool).contents) }
     ensures failures { (P.state pack.new.pool).failures ≡ (P.state pack.old.pool).failures + failed_transfers result }
+    ensures fault { IfErr result (λ fault. fault ≢ PoolFault.NoSector) }
 {
     match start {
         Start::Opened(file) => Ok(file),
@@ -128,7 +136,9 @@ fn start_file<P: Sectors>(
     ensures pack { IsPackReady pack.new.areas (P.state pack.new.pool).contents }
     ensures others { pack.new.areas ≡ with_slots level (slots_at level pack.new.areas) pack.old.areas }
     ensures spares { KeepsInStep (IsOutOfReach level pack.old.areas.header) (P.state pack.old.pool) (P.state pack.new.pool) }
+    ensures says { OnOk result (KeepsSaid level pack.old.areas (P.state pack.old.pool).contents pack.new.areas (P.state pack.new.pool).contents) }
     ensures failures { (P.state pack.new.pool).failures ≡ (P.state pack.old.pool).failures + failed_transfers result }
+    ensures fault { IfErr result (λ fault. fault ≢ PoolFault.NoSector) }
 {
     let file = file_of(alloc, level, pack, start)?;
     files.push(file)?;
@@ -150,7 +160,9 @@ fn start_all<P: Sectors>(
     ensures pack { IsPackReady pack.new.areas (P.state pack.new.pool).contents }
     ensures others { pack.new.areas ≡ with_slots level (slots_at level pack.new.areas) pack.old.areas }
     ensures spares { KeepsInStep (IsOutOfReach level pack.old.areas.header) (P.state pack.old.pool) (P.state pack.new.pool) }
+    ensures says { OnOk result (KeepsSaid level pack.old.areas (P.state pack.old.pool).contents pack.new.areas (P.state pack.new.pool).contents) }
     ensures failures { (P.state pack.new.pool).failures ≡ (P.state pack.old.pool).failures + failed_transfers result }
+    ensures fault { IfErr result (λ fault. fault ≢ PoolFault.NoSector) }
 {
     if starts.is_empty() {
         return Ok(());
@@ -183,7 +195,9 @@ pub fn open_files<P: Sectors>(
     ensures pack { IsPackReady pack.new.areas (P.state pack.new.pool).contents }
     ensures others { pack.new.areas ≡ with_slots level (slots_at level pack.new.areas) pack.old.areas }
     ensures spares { KeepsInStep (IsOutOfReach level pack.old.areas.header) (P.state pack.old.pool) (P.state pack.new.pool) }
+    ensures says { OnOk result (KeepsSaid level pack.old.areas (P.state pack.old.pool).contents pack.new.areas (P.state pack.new.pool).contents) }
     ensures failures { (P.state pack.new.pool).failures ≡ (P.state pack.old.pool).failures + failed_opening result }
+    ensures fault { IfErr result FindsSectors }
 {
     let starts = test_files(alloc, level, pack, settings, lines)?;
     let mut files = Vec::new(alloc);

@@ -1,6 +1,7 @@
 use Rattle.std.proofs.Common.{◌==◌, ap, sym, ◌∙◌}
 use Rattle.s3_job_files.proofs.Lists.{first_of}
 use Rattle.s3_job_files.proofs.Closed.{closes_first, closes_none, first_stands, spares_all}
+use Rattle.s3_job_files.proofs.Said.{says_on}
 use Rattle.s3_job_files.proofs.closing.+close_all.Goals as goal
 
 pub returns-then-is_empty-clause-closes : goal.returns-then-is_empty-clause-closes
@@ -19,3 +20,8 @@ returns-clause-closes g n c =
 
 pub returns-clause-spares : goal.returns-clause-spares
 returns-clause-spares g n c = spares_all c.args.level c.args.pack.now.areas c.close_file.new.pack.areas _ _ _ c.close_file.ensures.others c.close_file.ensures.spares c.close_all.ensures.spares
+
+pub returns-clause-says : goal.returns-clause-says
+returns-clause-says g n c =
+    says_on c.args.level c.args.pack.now.areas c.close_file.new.pack.areas c.close_all.new.pack.areas _ (g.P.Sectors.state c.close_file.new.pack.pool).contents _ c.close_all.result
+    c.in_ok-close_file.ensures.says c.close_all.ensures.says

@@ -1,6 +1,7 @@
 use Rattle.std.proofs.Common.{sym, ◌∙◌}
 use Rattle.s3_job_files.proofs.Putting.{file_spares, own_sound}
 use Rattle.s3_job_files.proofs.Closed.{close_spares, closes_counted, closes_dropped, closes_master, label_spares, room_for, usable_alone}
+use Rattle.s3_job_files.proofs.Said.{own_says, says_on}
 use Rattle.s3_job_files.proofs.closing.close_file.Goals as goal
 
 pub returns-then-file-clause-closes : goal.returns-then-file-clause-closes
@@ -33,3 +34,9 @@ returns-clause-closes g c =
 pub returns-clause-spares : goal.returns-clause-spares
 returns-clause-spares g c =
     close_spares c.args.level c.args.pack.now.areas _ _ _ c.args.file c.requires.ready c.requires.stands c.if-file.false c.close.ensures.within c.set_count.ensures.within
+
+pub returns-clause-says : goal.returns-clause-says
+returns-clause-says g c =
+    says_on c.args.level c.args.pack.now.areas c.args.pack.now.areas c.set_count.new.pack.areas _ (g.P.Sectors.state c.close.new.pool).contents _ c.set_count.result
+    (own_says c.args.level c.args.pack.now.areas (g.P.Sectors.state c.args.pack.now.pool) (g.P.Sectors.state c.close.new.pool) c.args.file c.requires.ready c.requires.stands c.if-file.false c.close.ensures.within)
+    c.set_count.ensures.says

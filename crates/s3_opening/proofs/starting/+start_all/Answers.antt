@@ -2,6 +2,7 @@ use Rattle.std.proofs.Common.{◌==◌, rules, ap, sym, ◌∙◌}
 use Rattle.s3_job_files.proofs.Closed.{spares_all}
 use Rattle.s3_job_files.proofs.Lists.{first_of, none_of}
 use Rattle.s3_opening.proofs.OneByOne.{adds_nothing, adds_on, can_next, can_one, holds_none, holds_on}
+use Rattle.s3_job_files.proofs.Said.{says_on}
 use Rattle.s3_opening.proofs.starting.+start_all.Goals as goal
 
 pub returns-then-is_empty-clause-holds : goal.returns-then-is_empty-clause-holds
@@ -35,3 +36,8 @@ returns-clause-adds g n c =
 
 pub returns-clause-spares : goal.returns-clause-spares
 returns-clause-spares g n c = spares_all c.args.level c.args.pack.now.areas c.start_file.new.pack.areas _ _ _ c.start_file.ensures.others c.start_file.ensures.spares c.start_all.ensures.spares
+
+pub returns-clause-says : goal.returns-clause-says
+returns-clause-says g n c =
+    says_on c.args.level c.args.pack.now.areas c.start_file.new.pack.areas c.start_all.new.pack.areas _ (g.P.Sectors.state c.start_file.new.pack.pool).contents _ c.start_all.result
+    c.in_ok-start_file.ensures.says c.start_all.ensures.says

@@ -1,5 +1,6 @@
 use Rattle.s3_opening.proofs.MadeFiles.{made_good}
 use Rattle.s3_opening.proofs.OneByOne.{readies_if_made}
+use Rattle.s3_opening.proofs.Said.{says_read}
 use Rattle.s3_opening.proofs.starting.make_file.Goals as goal
 
 pub open_made-requires-clause-good : goal.open_made-requires-clause-good
@@ -9,3 +10,7 @@ pub returns-clause-readies : goal.returns-clause-readies
 returns-clause-readies g c =
     readies_if_made c.args.level c.args.name c.args.new.now c.in_ok-label.label c.args.pack.now.areas c.make_label.new.pack.areas _ _ _ c.open_made.result
     c.in_ok-label.ensures.made c.open_made.ensures.keeps c.open_made.ensures.opened
+
+pub returns-clause-says : goal.returns-clause-says
+returns-clause-says g c =
+    says_read c.args.level c.args.pack.now.areas c.make_label.new.pack.areas _ (g.P.Sectors.state c.make_label.new.pack.pool) (g.P.Sectors.state c.open_made.new.pool) c.open_made.result c.in_ok-label.ensures.says c.open_made.ensures.keeps

@@ -4,6 +4,7 @@ use Rattle.s3_opening.proofs.OfLines.{of_lines}
 use Rattle.s3_opening.proofs.Started.{can_after, halts_result}
 use Rattle.s3_opening.specs.declared.starts.Start.{Start}
 use Rattle.s3_opening.specs.Starts.{settings_of, step_in}
+use Rattle.s3_opening.proofs.Said.{reads_say}
 use Rattle.s3_opening.proofs.starting.open_files.Goals as goal
 
 pub start_all-requires : goal.start_all-requires
@@ -21,3 +22,7 @@ pub returns-clause-of_lines : goal.returns-clause-of_lines
 returns-clause-of_lines g c =
     of_lines c.args.level _ c.args.settings.now.statements.now c.args.settings.now.switches c.args.lines.now c.in_ok-starts.starts.items c.new-files.result.items c.start_all.new.files.items
     c.new-files.ensures.items c.in_ok-starts.ensures.of_lines c.in_ok-start_all.ensures.adds c.in_ok-start_all.ensures.ready
+
+pub returns-clause-says : goal.returns-clause-says
+returns-clause-says g c = λ says. c.in_ok-start_all.ensures.says
+    (reads_say c.args.level c.args.pack.now.areas c.test_files.new.pack.areas (g.P.Sectors.state c.args.pack.now.pool) (g.P.Sectors.state c.test_files.new.pack.pool) c.test_files.ensures.areas c.test_files.ensures.keeps says)

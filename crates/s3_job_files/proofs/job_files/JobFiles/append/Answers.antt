@@ -7,6 +7,7 @@ use Rattle.s3_job_files.specs.Holds.{opened_as}
 use Rattle.s3_job_files.proofs.Held.{usable_at}
 use Rattle.s3_job_files.proofs.Lists.{map_stays}
 use Rattle.s3_job_files.proofs.Putting.{file_spares, of_put, own_sound, put_ready_if, put_serves}
+use Rattle.s3_job_files.proofs.Said.{own_says}
 use Rattle.s3_job_files.proofs.job_files.JobFiles.append.Goals as goal
 
 pub append-requires-clause-usable : goal.append-requires-clause-usable
@@ -46,3 +47,10 @@ pub returns-clause-opened : goal.returns-clause-opened
 returns-clause-opened g c =
     map_stays opened_as c.args.self.now.files.items c.args.place c.index_mut.result.now c.append.new.self
     (slice_get_read _ _ c.args.place c.index_mut.result.now refl c.requires.there c.index_mut.ensures.value) (ap opened_as c.append.ensures.alone)
+
+pub returns-clause-says : goal.returns-clause-says
+returns-clause-says g c =
+    own_says c.args.self.now.level c.args.pack.now.areas (g.P.Sectors.state c.args.pack.now.pool) (g.P.Sectors.state c.append.new.pool) c.index_mut.result.now c.requires.ready.pack
+    (c.requires.ready.files.stands c.args.place c.index_mut.result.now (slice_get_read _ _ c.args.place c.index_mut.result.now refl c.requires.there c.index_mut.ensures.value))
+    (c.requires.takes c.index_mut.result.now (slice_get_read _ _ c.args.place c.index_mut.result.now refl c.requires.there c.index_mut.ensures.value)).own
+    c.append.ensures.within

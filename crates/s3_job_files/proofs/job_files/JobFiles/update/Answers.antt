@@ -7,6 +7,7 @@ use Rattle.s3_meaning.specs.Requests.{refuses_update}
 use Rattle.s3_job_files.proofs.Fitting.{updated_within, fits_puts}
 use Rattle.s3_job_files.proofs.Held.{usable_at}
 use Rattle.s3_job_files.proofs.Putting.{file_spares, own_sound, update_ready_if, update_serves}
+use Rattle.s3_job_files.proofs.Said.{own_says}
 use Rattle.s3_job_files.proofs.job_files.JobFiles.update.Goals as goal
 
 pub update-requires : goal.update-requires
@@ -45,3 +46,10 @@ returns-clause-fits g c =
     (place_current c.index.result.now.label (records_of c.index.result.now.records (g.P.Sectors.state c.args.pack.now.pool).contents) c.index.result.now.chained (option_map current_of c.args.current))
     (records_of c.index.result.now.records (g.P.Sectors.state c.args.pack.now.pool).contents))
     c.update.ensures.puts
+
+pub returns-clause-says : goal.returns-clause-says
+returns-clause-says g c =
+    own_says c.args.self.now.level c.args.pack.now.areas (g.P.Sectors.state c.args.pack.now.pool) (g.P.Sectors.state c.update.new.pool) c.index.result.now c.requires.ready.pack
+    (c.requires.ready.files.stands c.args.place c.index.result.now (slice_get_read _ _ c.args.place c.index.result.now refl c.requires.there c.index.ensures))
+    (c.requires.own c.index.result.now (slice_get_read _ _ c.args.place c.index.result.now refl c.requires.there c.index.ensures))
+    c.update.ensures.within

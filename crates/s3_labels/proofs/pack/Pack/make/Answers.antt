@@ -3,6 +3,7 @@ use Rattle.s3_labels.specs.Areas.{area_of, region_at}
 use Rattle.s3_labels.proofs.Regions.{region_fits, region_whole, ready_room, slot_on_pack}
 use Rattle.s3_labels.proofs.Changes.{made_ready}
 use Rattle.s3_labels.proofs.Makes.{there_for, make_within, blanks_stay, slots_stay, others_of_make, few_areas}
+use Rattle.s3_labels.proofs.Said.{says_made}
 use Rattle.s3_labels.proofs.pack.Pack.make.Goals as goal
 
 pub make-requires-clause-fits : goal.make-requires-clause-fits
@@ -86,3 +87,12 @@ returns-clause-others g c = λ j below not_old not_new.
     (rw c.area_of.ensures.value at c.in_ok-write_made.ensures.others) j other.0 other.1
     ∙ slots_stay c.args.level c.args.self.now.areas _ (area_of c.args.level) c.in_ok-made.made.label (g.P.Sectors.state c.args.self.now.pool) (g.P.Sectors.state c.write_records.new.pool) (few_areas c.args.level) c.requires.ready
     c.in_ok-made.ensures.placed c.in_ok-write_records.ensures.within j below
+
+pub returns-clause-says : goal.returns-clause-says
+returns-clause-says g c =
+    says_made c.args.level c.args.new.now c.args.self.now.areas c.make.new.self (g.P.Sectors.state c.args.self.now.pool).contents (g.P.Sectors.state c.write_made.new.pool).contents c.in_ok-made.made.at c.in_ok-made.made.label c.in_ok-made.made.freed
+    c.requires.ready c.requires.proper c.know_widths.ensures.codes c.know_widths.ensures.date c.in_ok-made.ensures.within c.in_ok-made.ensures.ok c.in_ok-made.ensures.alone c.in_ok-made.ensures.slot c.in_ok-made.ensures.there c.in_ok-made.ensures.old
+    (rw c.area_of.ensures.value at c.in_ok-write_made.ensures.written) (rw c.area_of.ensures.value at c.in_ok-write_made.ensures.cleared)
+    (λ j below not_old not_new. (rw c.area_of.ensures.value at c.in_ok-write_made.ensures.others) j not_old not_new
+    ∙ slots_stay c.args.level c.args.self.now.areas _ (area_of c.args.level) c.in_ok-made.made.label (g.P.Sectors.state c.args.self.now.pool) (g.P.Sectors.state c.write_records.new.pool) (few_areas c.args.level) c.requires.ready
+    c.in_ok-made.ensures.placed c.in_ok-write_records.ensures.within j below)

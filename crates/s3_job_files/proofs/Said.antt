@@ -1,0 +1,37 @@
+-- What the labels of a level say while its files are at work, and at their end.
+use Rattle.std.proofs.Common.{◌≡◌, ℕ, false, List, arith}
+use Rattle.std.specs.Prelude.{Result, Ok, Err, OnOk}
+use Rattle.std.specs.List.{Contains}
+use Rattle.s3_cards.specs.declared.levels.LevelId.{LevelId}
+use Rattle.s3_store.specs.State.{PoolState, ChangesWithin}
+use Rattle.s3_slots.specs.Labels.{sectors_of}
+use Rattle.s3_slots.specs.Slots.{standing}
+use Rattle.s3_slots.specs.declared.label.FileLabel.{FileLabel}
+use Rattle.s3_slots.specs.declared.slot.Standing.TheVariants.{Present}
+use Rattle.s3_labels.specs.Areas.{Areas, region_at, slots_at, IsReady as IsPackReady}
+use Rattle.s3_labels.specs.Labelled.{KeepsSaid}
+use Rattle.s3_labels.proofs.Labelled.{says_kept}
+use Rattle.s3_labels.proofs.Makes.{few_areas}
+use Rattle.s3_labels.proofs.Regions.{ready_region}
+use Rattle.s3_job_files.specs.declared.file.OpenFile.{OpenFile}
+use Rattle.s3_job_files.specs.Holds.{Stands, seen}
+use Rattle.s3_job_files.proofs.Putting.{own_sound}
+use Rattle.s3_job_files.proofs.Standings.{present_inside}
+
+-- the sectors of a file are none of the labels
+pub file_says : (level : LevelId) (areas : Areas) (s t : PoolState) (file : FileLabel) → IsPackReady areas s.contents → standing file.name (slots_at level areas) ≡ Present file
+    → ChangesWithin (Contains (sectors_of file)) s t → KeepsSaid level areas s.contents areas t.contents
+file_says level areas s t file pack is within =
+    says_kept level areas s.contents t.contents (λ n of_labels. within.contents n (λ inside.
+    let low = (ready_region level areas s.contents pack).low in
+    let in_region = present_inside (region_at level areas) (slots_at level areas) file.name file n (pack.own level) is inside in
+    omega (arith, few_areas level, of_labels.1, low, in_region.0)))
+
+pub own_says : (level : LevelId) (areas : Areas) (s t : PoolState) (file : OpenFile) → IsPackReady areas s.contents → Stands level (seen areas s.contents) file → file.is_master ≡ false
+    → ChangesWithin (Contains (sectors_of file.label)) s t → KeepsSaid level areas s.contents areas t.contents
+own_says level areas s t file pack stands own within = file_says level areas s t file.label pack (own_sound level (seen areas s.contents) file stands own) within
+
+-- one call after another
+pub says_on : {T F : Type 0} (level : LevelId) (old mid new : Areas) (s u t : List (List ℕ)) (result : Result T F) → KeepsSaid level old s mid u → OnOk result (KeepsSaid level mid u new t) → OnOk result (KeepsSaid level old s new t)
+says_on level old mid new s u t (Ok done) first second = λ says. second (first says)
+says_on level old mid new s u t (Err fault) first second = tt
