@@ -203,6 +203,8 @@ struct Keyed {
     key_length: usize,
     indexed: u32,
     added: Vec<Entry>,
+    /// The first key in each sector of the index.
+    firsts: Vec<[u8; 29]>,
 }
 
 fn key_of(bytes: &[u8]) -> [u8; 29] {
@@ -212,6 +214,10 @@ fn key_of(bytes: &[u8]) -> [u8; 29] {
 }
 
 impl Keyed {
+    fn per_sector(&self) -> u32 {
+        256 / (self.key_length as u32 + 4)
+    }
+
     fn place_of(&self, i: u32) -> usize {
         let width = self.key_length + 4;
         let per_sector = 256 / width;
@@ -249,12 +255,13 @@ impl Keyed {
     /// Opens a file, if its index is that of its records.
     fn check(records: Records, pool: &mut Pool) -> Option<Self> {
         let count = records.count;
-        let file = Keyed {
+        let mut file = Keyed {
             records,
             key_start: 1,
             key_length: 6,
             indexed: count,
             added: Vec::new(),
+            firsts: Vec::new(),
         };
         let mut last = [0; 29];
         for i in 0..count {
@@ -265,20 +272,47 @@ impl Keyed {
             if file.read_key(pool, entry.number - 1)? != entry.key {
                 return None;
             }
+            if i % file.per_sector() == 0 {
+                file.firsts.push(entry.key);
+            }
             last = entry.key;
         }
         Some(file)
     }
 
+    /// Reads the sector of the index that entry `i` lies in, where it isn't this one.
+    fn go_to(&self, pool: &mut Pool, sector: &mut (u32, [u8; 256]), i: u32) -> Option<()> {
+        let place = i / self.per_sector();
+        if sector.0 != place {
+            self.records.extents.read(pool, self.place_of(place * self.per_sector()), &mut sector.1)?;
+            sector.0 = place;
+        }
+        Some(())
+    }
+
     fn search(&self, pool: &mut Pool, key: &[u8; 29]) -> Option<Option<u32>> {
+        let per_sector = self.per_sector();
+        let sectors = self.firsts.partition_point(|first| first <= key) as u32;
+        let guess = sectors.saturating_sub(1) * per_sector;
+        let key = &key[29 - self.key_length..];
         let (mut low, mut high) = (0, self.indexed);
+        let mut sector = (u32::MAX, [0; 256]);
         while low < high {
             let middle = low + (high - low) / 2;
-            let entry = self.read_entry(pool, middle)?;
-            match entry.key.cmp(key) {
-                std::cmp::Ordering::Equal => return Some(Some(entry.number - 1)),
-                std::cmp::Ordering::Less => low = middle + 1,
-                std::cmp::Ordering::Greater => high = middle,
+            let first = middle - middle % per_sector;
+            let behind = guess + per_sector;
+            let i = [guess, behind - 1, behind]
+                .into_iter()
+                .find(|i| (low..high).contains(i))
+                .unwrap_or(if first > low { first } else { middle });
+            self.go_to(pool, &mut sector, i)?;
+            let width = self.key_length + 4;
+            let entry = &sector.1[(i % per_sector) as usize * width..][..width];
+            let (other, number) = entry.split_at(self.key_length);
+            match other.cmp(key) {
+                std::cmp::Ordering::Less => low = i + 1,
+                std::cmp::Ordering::Equal => return Some(Some(u32::from_be_bytes(number.try_into().ok()?) - 1)),
+                std::cmp::Ordering::Greater => high = i,
             }
         }
         Some(None)

@@ -1,7 +1,11 @@
 -- An index that is looked through, entry by entry.
-use Rattle.std.proofs.Common.{◌≡◌, ℕ, zero, suc, ◌+◌, ◌-◌, ◌<◌, ◌≤◌, ◌⊎◌, inl, inr, Bool, true, false, ◌==◌, nat_lt, List, [], ◌∷◌, length, map, slice_get, Some, refl, sym, ap, subst, ◌∙◌, arith}
-use Rattle.std.proofs.lemmas.Bool.{ltb-true, ltb-false, eqb-true, eq-eqb}
+use Rattle.std.proofs.Common.{◌≡◌, ℕ, zero, suc, ◌+◌, ◌-◌, ◌<◌, ◌≤◌, ◌⊎◌, inl, inr, true, false, ◌==◌, List, [], ◌∷◌, length, map, slice_get, Some, refl, sym, ap, subst, ◌∙◌, arith}
+use Rattle.std.proofs.lemmas.Bool.{eqb-true, eq-eqb}
+use Rattle.std.proofs.lemmas.Bool.Decides.{nat_tests}
 use Rattle.std.specs.List.{range_with_len}
+use Rattle.std.specs.Ordering.{nat_cmp}
+use Rattle.std.specs.declared.cmp.Ordering.{Ordering}
+use Rattle.std.specs.declared.cmp.Ordering.TheVariants.{Less, Equal, Greater}
 use Rattle.s3_keyed.specs.KeyOrder.{Entry, IsAscending}
 use Rattle.s3_keyed.proofs.Order.{IsGoodIndex}
 
@@ -134,18 +138,19 @@ not_found entry n low high k met below above i within same =
     below_or_at_least zero (suc low) = inl (omega arith)
     below_or_at_least (suc i) (suc low) = elim (below_or_at_least i low) [ inl l ↦ inl (omega arith) | inr r ↦ inr (omega arith) ]
 
-pub is_below : (a k : ℕ) (r : Bool) → r ≡ nat_lt a k → r ≡ true → a < k
-is_below a k r is yes_it_is = ltb-true a k (sym is ∙ yes_it_is)
+-- what a comparison says
+pub is_less : (a k : ℕ) (o : Ordering) → o ≡ nat_cmp a k → o ≡ Less → a < k
+is_less a k o is less = let h = sym is ∙ less in grind (arith, nat_tests)
 
-pub is_beyond : (a k : ℕ) (r s : Bool) → r ≡ (a == k) → r ≡ false → s ≡ nat_lt a k → s ≡ false → k < a
-is_beyond a k r s is not_same is_too not_less =
-    let le = ltb-false a k (sym is_too ∙ not_less) in
-    let other : a ≡ k → ⊥ = λ e. let t = eq-eqb a k e in cc in
-    omega (arith, other)
+pub is_equal : (a k : ℕ) (o : Ordering) → o ≡ nat_cmp a k → o ≡ Equal → a ≡ k
+is_equal a k o is equal = let h = sym is ∙ equal in grind (arith, nat_tests)
+
+pub is_greater : (a k : ℕ) (o : Ordering) → o ≡ nat_cmp a k → o ≡ Greater → k < a
+is_greater a k o is greater = let h = sym is ∙ greater in grind (arith, nat_tests)
 
 -- the entry with the key is found
-pub is_found : (e at : Entry) (k : ℕ) (r : Bool) → e ≡ at → r ≡ (e.key == k) → r ≡ true → at ≡ record { key = k; number = e.number }
-is_found e at k r is same found = let key : e.key ≡ k = eqb-true e.key k (sym same ∙ found) in sym is ∙ ap (λ x. entry_with x e.number) key
+pub is_found : (at : Entry) (k number : ℕ) → at.key ≡ k → at.number ≡ number → at ≡ record { key = k; number = number }
+is_found at k number same is = ap (λ x. entry_with x at.number) same ∙ ap (entry_with k) is
   where
     entry_with : ℕ → ℕ → Entry
     entry_with key number = record { key = key; number = number }

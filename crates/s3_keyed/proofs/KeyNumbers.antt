@@ -20,6 +20,19 @@ unfolding AreBytes
 bytes_from_index [] h = tt
 bytes_from_index (x ∷ xs) h = (h zero, bytes_from_index xs (λ i. h (suc i)))
 
+-- parts of bytes are bytes
+pub bytes_taken : (n : ℕ) (xs : List ℕ) → AreBytes xs → AreBytes (take n xs)
+unfolding AreBytes
+bytes_taken zero xs h = tt
+bytes_taken (suc n) [] h = tt
+bytes_taken (suc n) (x ∷ xs) h = (h.0, bytes_taken n xs h.1)
+
+pub bytes_dropped : (n : ℕ) (xs : List ℕ) → AreBytes xs → AreBytes (drop n xs)
+unfolding AreBytes
+bytes_dropped zero xs h = h
+bytes_dropped (suc n) [] h = tt
+bytes_dropped (suc n) (x ∷ xs) h = bytes_dropped n xs h.1
+
 pub number_of-fits : (xs : List ℕ) → AreBytes xs → number_of xs < 256 ^ length xs
 unfolding number_of AreBytes
 number_of-fits [] h = omega arith

@@ -7,7 +7,7 @@ use borrow.Rule.Slice.PartMut.{mid_of}
 use Rattle.byteorder.specs.Endian.{big_bytes}
 use Rattle.byteorder.specs.Numbers.{big_number-reads_back}
 use Rattle.s3_store.specs.Bytes.{part, SameOutside}
-use Rattle.s3_slots.specs.Slots.{record_sectors}
+use Rattle.s3_slots.specs.Slots.{record_sectors, entries_per_sector}
 use Rattle.s3_files.specs.Records.{records_in}
 use Rattle.s3_files.proofs.PartLemmas.{part-before, part-after}
 use Rattle.s3_files.proofs.RecordLemmas.{length_records, get_record, records_before}
@@ -49,6 +49,13 @@ entry_within start w j capacity n pos le below fits =
     let whole : w * per ≤ 256 = omega arith in
     omega (arith, row, wide, whole)
 
+-- an entry lies in its sector
+pub entry_inside : (w j : ℕ) → 0 < w → j < 256 / w → j * w + w ≤ 256
+entry_inside w j pos below =
+    let m = mul-le-mul_left w below in
+    let whole : w * (256 / w) ≤ 256 = omega arith in
+    omega (arith, m, whole)
+
 -- ---- parts of parts
 
 pub part_part : (a long start width : ℕ) (s : List ℕ) → start + width ≤ long → part (part s a long) start width ≡ part s (a + start) width
@@ -84,6 +91,18 @@ get_key layout count i bytes h = slice_get_map (key_of layout.key) (records_in l
 -- the bytes of a key in the bytes of the file
 pub key_there : (layout : Layout) (i : ℕ) (bytes : List ℕ) → 1 ≤ layout.key.start → layout.key.start + layout.key.length ≤ layout.record_length + 1 → key_of layout.key (part bytes (i * layout.record_length) layout.record_length) ≡ number_of (part bytes (i * layout.record_length + (layout.key.start - 1)) layout.key.length)
 key_there layout i bytes some inside = ap number_of (part_part (i * layout.record_length) layout.record_length (layout.key.start - 1) layout.key.length bytes (omega arith))
+
+-- an entry, in the bytes of its sector
+pub entry_there : (layout : Layout) (i place : ℕ) (bytes sector : List ℕ) → layout.key.length ≤ 29 → place ≡ i / entries_per_sector layout.key.length → sector ≡ part bytes (256 * (record_sectors layout.capacity layout.record_length + place)) 256 → entry_in layout.key.length (part sector (i % entries_per_sector layout.key.length * (layout.key.length + 4)) (layout.key.length + 4)) ≡ entry_at layout bytes i
+unfolding entry_at
+entry_there layout i place bytes sector short is_place is_sector =
+    let w = layout.key.length + 4 in
+    let j = i % entries_per_sector layout.key.length in
+    let start = 256 * (record_sectors layout.capacity layout.record_length + place) in
+    let some = some_fit w (omega arith) (omega arith) in
+    let order : j * w + start ≡ entry_place layout i = rw is_place (omega arith) in
+    ap (entry_in layout.key.length)
+    (ap (λ l. part l (j * w) w) is_sector ∙ part_part start 256 (j * w) w bytes (entry_inside w j (omega arith) (omega arith)) ∙ ap (λ a. part bytes a w) (omega (arith, order)))
 
 -- ---- an entry is written
 

@@ -15,9 +15,10 @@ use crate::check::is_good;
 use crate::close::merge;
 use crate::entries::{read_entry, read_key};
 use crate::fault::KeyedFault;
+use crate::index_sector::entries_per_sector;
 use crate::indexed::{IndexEntry, IndexedFile};
 use crate::keys::Key;
-use crate::search::{is_above_index, search_index};
+use crate::search::{guess_of, is_above_index, search_index};
 use crate::write::{read_record, write_entry, write_record};
 use s3_slots::FileLabel;
 use s3_store::{PoolFault, Sectors};
@@ -34,6 +35,8 @@ pub struct Keyed {
     pub(crate) count: u32,
     /// The entries of the others, in the order of their keys.
     pub(crate) added: Vec<IndexEntry>,
+    /// The first key in each sector of the index as it was checked. A search begins by them, but doesn't rely on them.
+    pub(crate) firsts: Vec<Key>,
     ghost counted: { count ≤ file.file.capacity },
 }
 
@@ -72,7 +75,8 @@ impl Keyed {
         ensures keeps { KeepsContents (P.state pool.old) (P.state pool.new) }
         ensures failures { (P.state pool.new).failures ≡ (P.state pool.old).failures + failed_keyed_transfers result }
     {
-        if !is_good(&file, pool)? {
+        let mut firsts = Vec::new(alloc);
+        if !is_good(&file, pool, &mut firsts)? {
             return Err(KeyedFault::BadIndex);
         }
         let count = file.file.count;
@@ -81,6 +85,7 @@ impl Keyed {
             indexed: count,
             count,
             added: Vec::new(alloc),
+            firsts,
         })
     }
 
@@ -146,6 +151,11 @@ impl Keyed {
         Key::of(&bytes[start..start + usize::from(self.file.key_length)])
     }
 
+    /// Where the search for a key begins: the first entry of the sector that the first keys name.
+    fn guess(&self, key: &Key) -> u32 {
+        guess_of(&self.firsts, entries_per_sector(&self.file), key)
+    }
+
     /// The place of the record with a key, from 0. The index is looked into, and then the added entries.
     pub(crate) fn place<P: Sectors>(
         &self,
@@ -154,12 +164,14 @@ impl Keyed {
     ) -> Result<Option<u32>, PoolFault>
         requires stored { AreStored (shown self.now).sectors (P.state pool.old).contents }
         requires ordered { HasKeyOrder (shown self.now) (P.state pool.old).contents }
+        requires short { number_of key.now.bytes < 256 ^ (shown self.now).layout.key.length }
         ensures place { IfOk result (λ place. place_of_key (number_of key.now.bytes) (keys_now (shown self.now) (P.state pool.old).contents) ≡ place) }
         ensures keeps { KeepsContents (P.state pool.old) (P.state pool.new) }
         ensures failures { (P.state pool.new).failures ≡ (P.state pool.old).failures + failed_transfers result }
         ensures fault { IfErr result (λ fault. fault ≢ PoolFault.NoSector) }
     {
-        if let Some(number) = search_index(&self.file, pool, self.indexed, key)? {
+        let guess = self.guess(key);
+        if let Some(number) = search_index(&self.file, pool, self.indexed, key, guess)? {
             return Ok(Some(number - 1));
         }
         if let Some(number) = number_among(&self.added, key) {
@@ -267,6 +279,7 @@ impl Keyed {
             indexed,
             count: _,
             mut added,
+            firsts: _,
         } = self;
         merge(&file, pool, indexed, &mut added)?;
         Ok(())

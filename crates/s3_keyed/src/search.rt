@@ -1,5 +1,5 @@
 //! An entry found by its key.
-ghost use Rattle.std.specs.Prelude.{◌≡◌, ◌≢◌, ◌≤◌, ◌<◌, ◌+◌, ℕ, true, nat_lt, IfOk, IfErr, MatchOption};
+ghost use Rattle.std.specs.Prelude.{◌≡◌, ◌≢◌, ◌≤◌, ◌<◌, ◌+◌, ◌^◌, ℕ, true, nat_lt, IfOk, IfErr, IsTrue, MatchOption};
 ghost use Rattle.std.specs.List.{list_all};
 ghost use Rattle.s3_store.specs.State.{KeepsContents};
 ghost use Rattle.s3_store.specs.Failures.{failed_transfers};
@@ -9,19 +9,61 @@ ghost use Rattle.s3_keyed.specs.Index.{entry_at, index_in};
 ghost use Rattle.s3_keyed.specs.Inner.Shape.{layout_in, bytes_in};
 
 use crate::entries::read_entry;
+use crate::index_sector::{IndexSector, compare_entry, entries_per_sector, number_in};
 use crate::indexed::IndexedFile;
 use crate::keys::Key;
 use s3_store::{PoolFault, Sectors};
+use std::cmp::Ordering;
 
-/// The number of the record with a key among the first so many entries of the index, which is halved.
+/// The first entry of the sector that a key lies in by the first keys of all sectors.
+pub fn guess_of(firsts: &[Key], per_sector: u32, key: &Key) -> u32 {
+    let sectors = firsts.partition_point(|first| !first.is_above(key));
+    let sector = u32::try_from(sectors.saturating_sub(1)).unwrap_or(0);
+    sector.saturating_mul(per_sector)
+}
+
+/// Whether an entry is one of those from `low` up to but without `high`.
+fn is_among(low: u32, high: u32, entry: u32) -> bool
+    ensures { IsTrue result → (low ≤ entry) × (entry < high) }
+{
+    low <= entry && entry < high
+}
+
+/// Which entry is compared next, of those from `low` up to but without `high`: the first and the last of the guessed sector and
+/// the one behind it, and then the one in the middle, or the first of its sector if that comes behind `low`.
+fn next_of(low: u32, high: u32, guess: u32, per_sector: u32) -> u32
+    requires some { low < high }
+    requires entries { 0 < per_sector }
+    ensures from { low ≤ result }
+    ensures below { result < high }
+{
+    let behind = guess.saturating_add(per_sector);
+    if is_among(low, high, guess) {
+        return guess;
+    }
+    if is_among(low, high, behind - 1) {
+        return behind - 1;
+    }
+    if is_among(low, high, behind) {
+        return behind;
+    }
+    let middle = low + (high - low) / 2;
+    let first = middle - middle % per_sector;
+    if first > low { first } else { middle }
+}
+
+/// The number of the record with a key among the first so many entries of the index. Its sectors are halved, and then the
+/// entries of one; where the guess is the first entry of that sector, no other is read.
 pub fn search_index<P: Sectors>(
     file: &IndexedFile,
     pool: &mut P,
     entries: u32,
     key: &Key,
+    guess: u32,
 ) -> Result<Option<u32>, PoolFault>
     requires stored { AreStored file.now.file.sectors (P.state pool.old).contents }
     requires few { entries ≤ file.now.file.capacity }
+    requires short { number_of key.now.bytes < 256 ^ file.now.key_length }
     requires ascending { IsAscending (entry_at (layout_in file.now) (bytes_in file.now (P.state pool.old).contents)) entries }
     ensures found { IfOk result (λ found. MatchOption found
         ((i : ℕ) → i < entries → (entry_at (layout_in file.now) (bytes_in file.now (P.state pool.old).contents) i).key ≢ number_of key.now.bytes)
@@ -30,18 +72,22 @@ pub fn search_index<P: Sectors>(
     ensures failures { (P.state pool.new).failures ≡ (P.state pool.old).failures + failed_transfers result }
     ensures fault { IfErr result (λ fault. fault ≢ PoolFault.NoSector) }
 {
+    if entries == 0 {
+        return Ok(None);
+    }
+    let per_sector = entries_per_sector(file);
+    let key_length = usize::from(file.key_length);
+    let mut sector = IndexSector::read(file, pool, guess.min(entries - 1))?;
     let mut low = 0;
     let mut high = entries;
     'halve: while low < high {
-        let middle = low + (high - low) / 2;
-        let entry = read_entry(file, pool, middle)?;
-        if entry.key.is_same(key) {
-            return Ok(Some(entry.number));
-        }
-        if key.is_above(&entry.key) {
-            low = middle + 1;
-        } else {
-            high = middle;
+        let i = next_of(low, high, guess, per_sector);
+        let j = (i % per_sector) as usize;
+        sector.go_to(file, pool, i)?;
+        match compare_entry(&sector.bytes, j, key_length, key) {
+            Ordering::Less => low = i + 1,
+            Ordering::Equal => return Ok(Some(number_in(&sector.bytes, j, key_length))),
+            Ordering::Greater => high = i,
         }
     }
     Ok(None)

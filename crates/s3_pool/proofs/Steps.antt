@@ -17,7 +17,7 @@ use Rattle.s3_store.proofs.Frames.{keeps_trans, within_from_keeps}
 use Rattle.s3_store.proofs.SectorLists.{slice_get_set_same, slice_get_set_other, slice_set_known}
 use Rattle.s3_pool.specs.declared.buffers.Buffer.{Buffer}
 use Rattle.s3_pool.specs.declared.buffers.Buffers.{Buffers}
-use Rattle.s3_pool.specs.Buffers.{laid, IsSound, KeepsLaid, Overwrites, pool_state}
+use Rattle.s3_pool.specs.Buffers.{laid, IsFirst, IsSound, KeepsLaid, Overwrites, pool_state}
 use Rattle.s3_pool.specs.Inner.BufferLending.{dirty, with_buffer}
 use Rattle.s3_pool.specs.Lending.{ChangesSector, KeepsAll}
 use Rattle.s3_pool.proofs.Laid.{apart, length_laid, laid_promoted, laid_held, laid_missed, laid_append, laid_set_value}
@@ -147,6 +147,34 @@ lookup_to_front n es (Some e) h =
 pub lookup_promoted : (n : ℕ) (es : List (ℕ × Buffer)) → lookup (nat_eq n) (promoted (nat_eq n) es) ≡ lookup (nat_eq n) es
 lookup_promoted n es = lookup_to_front n es (lookup_entry (nat_eq n) es) refl
 
+first_of_front : (n : ℕ) (es : List (ℕ × Buffer)) (o : Option (ℕ × Buffer)) → lookup_entry (nat_eq n) es ≡ o → IsSome (lookup (nat_eq n) es) → IsSomeAnd (slice_get (option_map_or (λ e. e ∷ remove_entry (nat_eq n) es) o es) 0) (λ e. e.0 ≡ n)
+first_of_front n es None h some = absurd (lookup_none n es h some)
+  where
+    lookup_none : (n : ℕ) (es : List (ℕ × Buffer)) → lookup_entry (nat_eq n) es ≡ None → IsSome (lookup (nat_eq n) es) → ⊥
+    lookup_none n [] h some = cc
+    lookup_none n (e ∷ es) h some = (elim (nat_eq n e.0) as (λ y. nat_eq n e.0 ≡ y → ⊥) [
+      | true ↦ λ t. let h' = rw t at h in cc
+      | false ↦ λ t. lookup_none n es (rw t at h) (rw t at some)
+    ]) refl
+first_of_front n es (Some e) h some = sym (eqb-true n e.0 (Contains-lookup_entry (nat_eq n) es e h).1)
+
+-- the sector that was looked for is first
+pub first_promoted : (n : ℕ) (es : List (ℕ × Buffer)) → IsSome (lookup (nat_eq n) es) → IsSomeAnd (slice_get (promoted (nat_eq n) es) 0) (λ e. e.0 ≡ n)
+first_promoted n es some = first_of_front n es (lookup_entry (nat_eq n) es) refl some
+
+-- the first one is held
+pub first_held : (n : ℕ) (es : List (ℕ × Buffer)) → IsSomeAnd (slice_get es 0) (λ e. e.0 ≡ n) → IsSome (lookup (nat_eq n) es)
+first_held n [] h = absurd h
+first_held n (e ∷ es) h = let same = eq-eqb n e.0 (sym h) in rw same refl
+
+pub first_there : (n : ℕ) (es : List (ℕ × Buffer)) → IsSomeAnd (slice_get es 0) (λ e. e.0 ≡ n) → IsSome (slice_get es 0)
+first_there n [] h = absurd h
+first_there n (e ∷ es) h = refl
+
+pub first_value : (n : ℕ) (es : List (ℕ × Buffer)) (bytes : List ℕ) → IsSomeAnd (slice_get es 0) (λ e. e.0 ≡ n) → IsSomeAnd (slice_get es 0) (λ e. bytes ≡ e.1.bytes.value) → IsSomeAnd (lookup (nat_eq n) es) (λ buffer. bytes ≡ buffer.bytes.value)
+first_value n [] bytes h is = absurd h
+first_value n (e ∷ es) bytes h is = let same = eq-eqb n e.0 (sym h) in rw same is
+
 pub some_is : (o : Option Buffer) → is_some o ≡ true → IsSome o
 some_is None h = absurd cc
 some_is (Some f) h = refl
@@ -170,6 +198,10 @@ with_new buffers n x = record { cache = lru_cache (put_entries nat_eq buffers.ca
 
 new_entries : (buffers : Buffers) (n : ℕ) (x : Buffer) → lookup (nat_eq n) buffers.cache.entries ≡ None → length buffers.cache.entries < 16 → buffers.cache.cap ≡ 16 → (with_new buffers n x).cache.entries ≡ (n, x) ∷ buffers.cache.entries
 new_entries buffers n x none short cap = rw (lookup_entry_missed n buffers.cache.entries none, cap) (ap (λ l. (n, x) ∷ l) (take_all 15 buffers.cache.entries (omega arith)))
+
+-- it is first
+pub first_new : (buffers : Buffers) (n : ℕ) (x : Buffer) → lookup (nat_eq n) buffers.cache.entries ≡ None → length buffers.cache.entries < 16 → buffers.cache.cap ≡ 16 → IsFirst n (with_new buffers n x)
+first_new buffers n x none short cap = rw (new_entries buffers n x none short cap) refl
 
 -- a new buffer has what the store has
 pub was_read : (b : List (List ℕ)) (buffers : Buffers) (n : ℕ) (x : Buffer) → lookup (nat_eq n) buffers.cache.entries ≡ None → length buffers.cache.entries < 16 → slice_get b n ≡ Some x.bytes.value → n < length b → IsSound b buffers → KeepsLaid b buffers b (with_new buffers n x)

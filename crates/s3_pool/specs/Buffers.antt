@@ -1,5 +1,5 @@
 -- The buffers of a pool, laid over its store.
-use Rattle.std.specs.Prelude.{◌≡◌, ◌<◌, ℕ, List, [], ◌∷◌, length, slice_get, slice_set, Some, false, Contains}
+use Rattle.std.specs.Prelude.{◌≡◌, ◌<◌, ℕ, List, [], ◌∷◌, length, slice_get, slice_set, Some, IsSomeAnd, false, Contains}
 use Rattle.s3_store.specs.State.{PoolState, IsBetween}
 use Rattle.s3_pool.specs.declared.buffers.Buffer.{Buffer}
 use Rattle.s3_pool.specs.declared.buffers.Buffers.{Buffers}
@@ -8,6 +8,10 @@ use Rattle.s3_pool.specs.declared.buffers.Buffers.{Buffers}
 abbrev pub laid : List (ℕ × Buffer) → List (List ℕ) → List (List ℕ)
 laid [] sectors = sectors
 laid (e ∷ es) sectors = slice_set (laid es sectors) e.0 e.1.bytes.value
+
+-- sector n is the most recently used one
+abbrev pub IsFirst : ℕ → Buffers → Type 0
+IsFirst n buffers = IsSomeAnd (slice_get buffers.cache.entries 0) (λ first. first.0 ≡ n)
 
 -- there is room for 16; each is of a sector that there is; one that isn't dirty holds what the store has
 pub record IsSound (sectors : List (List ℕ)) (buffers : Buffers) : Type 0 where

@@ -1,10 +1,10 @@
 //! Up to 16 sectors in memory, and the transfers between them and a store.
-ghost use Rattle.std.specs.Prelude.{◌≡◌, ◌≢◌, ◌<◌, ◌≤◌, ◌+◌, ◌-◌, ◌↔◌, ℕ, [], length, slice_get, slice_set, take, Some, None, OnOk, OnErr, IfOk, IfErr, IsErrOf, IsSome, IsSomeAnd, nat_eq, false};
+ghost use Rattle.std.specs.Prelude.{◌≡◌, ◌≢◌, ◌<◌, ◌≤◌, ◌+◌, ◌-◌, ◌↔◌, ℕ, [], length, slice_get, slice_set, take, Some, None, OnOk, OnErr, IfOk, IfErr, IsErrOf, IsSome, IsSomeAnd, IsTrue, nat_eq, false};
 ghost use Rattle.std.specs.Map.{lookup};
 ghost use Rattle.std.specs.Borrow.{sem};
 ghost use Rattle.lru.specs.LruCache.{IsValid};
 ghost use Rattle.s3_store.specs.Failures.{failed_calls, failed_transfers};
-ghost use Rattle.s3_pool.specs.Buffers.{IsSound, KeepsLaid, Overwrites};
+ghost use Rattle.s3_pool.specs.Buffers.{IsFirst, IsSound, KeepsLaid, Overwrites};
 ghost use Rattle.s3_pool.specs.Inner.BufferLending.{LendsBytes, LendsBuffer};
 
 use lru::LruCache;
@@ -50,13 +50,23 @@ impl Buffers {
         Ok(Buffers { cache })
     }
 
-    /// The bytes of a sector that is held.
-    pub(crate) fn bytes(&self, n: u16) -> &[u8; 256]
-        requires { IsSome (lookup (nat_eq n) self.now.cache.entries) }
-        ensures { IsSomeAnd (lookup (nat_eq n) self.now.cache.entries) (λ buffer. result.now ≡ buffer.bytes.value) }
+    /// Whether sector `n` is the most recently used one.
+    fn is_first(&self, n: u16) -> bool
+        ensures { IsTrue result → IsFirst n self.now }
     {
-        match self.cache.peek(&n) {
-            Some(buffer) => &buffer.bytes,
+        match self.cache.peek_mru() {
+            Some((first, _)) => *first == n,
+            None => false,
+        }
+    }
+
+    /// The bytes of the most recently used sector.
+    pub(crate) fn first_bytes(&self) -> &[u8; 256]
+        requires { IsSome (slice_get self.now.cache.entries 0) }
+        ensures { IsSomeAnd (slice_get self.now.cache.entries 0) (λ first. result.now ≡ first.1.bytes.value) }
+    {
+        match self.cache.peek_mru() {
+            Some((_, buffer)) => &buffer.bytes,
             None => unreachable!(),
         }
     }
@@ -142,7 +152,7 @@ fn fetch<S: PackStore>(store: &mut S, buffers: &mut Buffers, n: u16) -> Result<(
     requires in_range { n < length (S.contents store.old) }
     requires missed { lookup (nat_eq n) buffers.old.cache.entries ≡ None }
     ensures keeps { KeepsLaid (S.contents store.old) buffers.old (S.contents store.new) buffers.new }
-    ensures held { OnOk result (IsSome (lookup (nat_eq n) buffers.new.cache.entries)) }
+    ensures first { OnOk result (IsFirst n buffers.new) }
     ensures failures { S.failures store.new ≡ S.failures store.old + failed_transfers result }
     ensures fault { IfErr result (λ fault. fault ≢ PoolFault.NoSector) }
 {
@@ -166,12 +176,15 @@ pub(crate) fn load<S: PackStore>(
     requires { IsSound (S.contents store.old) buffers.old }
     ensures keeps { KeepsLaid (S.contents store.old) buffers.old (S.contents store.new) buffers.new }
     ensures in_range { OnOk result (n < length (S.contents store.old)) }
-    ensures held { OnOk result (IsSome (lookup (nat_eq n) buffers.new.cache.entries)) }
+    ensures first { OnOk result (IsFirst n buffers.new) }
     ensures failures { S.failures store.new ≡ S.failures store.old + failed_transfers result }
     ensures no_sector { (IsErrOf result PoolFault.NoSector) ↔ (length (S.contents store.old) ≤ n) }
 {
     if n >= store.sectors() {
         return Err(PoolFault::NoSector);
+    }
+    if buffers.is_first(n) {
+        return Ok(());
     }
     if buffers.cache.promote(&n) {
         return Ok(());

@@ -52,7 +52,7 @@ impl<S: PackStore> Pool<S> {
         ensures no_sector { (IsErrOf result PoolFault.NoSector) ↔ (length self.old.contents ≤ n) }
     {
         load(&mut self.store, &mut self.buffers, n)?;
-        Ok(self.buffers.bytes(n))
+        Ok(self.buffers.first_bytes())
     }
 
     /// Sector `n` to write to. The other sectors stay, and refused, all do.

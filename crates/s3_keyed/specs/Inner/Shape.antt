@@ -1,6 +1,7 @@
 -- What the definitions see of an indexed file and of an entry in memory.
-use Rattle.std.specs.Prelude.{ℕ, List}
-use Rattle.s3_store.specs.Bytes.{bytes_at}
+use Rattle.std.specs.Prelude.{ℕ, ◌+◌, ◌*◌, List}
+use Rattle.s3_store.specs.Bytes.{bytes_at, part}
+use Rattle.s3_slots.specs.Slots.{record_sectors}
 use Rattle.s3_keyed.specs.declared.indexed.IndexedFile.{IndexedFile}
 use Rattle.s3_keyed.specs.declared.indexed.IndexEntry.{IndexEntry}
 use Rattle.s3_keyed.specs.KeyOrder.{number_of, Entry}
@@ -16,6 +17,10 @@ layout_in f = record {
 -- the bytes of the file, over these sectors
 abbrev pub bytes_in : IndexedFile → List (List ℕ) → List ℕ
 bytes_in f contents = bytes_at f.file.sectors contents
+
+-- the bytes of a sector of its index, from 0
+abbrev pub index_sector : IndexedFile → ℕ → List ℕ → List ℕ
+index_sector f place bytes = part bytes (256 * (record_sectors f.file.capacity f.file.record_length + place)) 256
 
 -- the keys of its records, in file order
 abbrev pub keys_on : IndexedFile → List (List ℕ) → List ℕ

@@ -1,98 +1,20 @@
-use Rattle.std.proofs.Common.{◌≡◌, ◌+◌, ◌-◌, Some, map, slice_get, inl, inr, sym, ap, ◌∙◌, subst, arith}
-use Rattle.s3_store.proofs.Frames.{keeps_trans}
+use Rattle.std.proofs.Common.{map, sym, subst}
 use Rattle.std.specs.List.{range_with_len}
-use Rattle.s3_keyed.specs.KeyOrder.{number_of}
 use Rattle.s3_keyed.specs.Index.{entry_at, index_in}
-use Rattle.s3_keyed.specs.Inner.Shape.{layout_in, bytes_in, keys_on, entry_of}
-use Rattle.s3_keyed.proofs.Goodness.{to_good, not_good}
-use Rattle.s3_keyed.proofs.Places.{length_keys, get_key}
-use Rattle.s3_keyed.proofs.Checked.{AreChecked, checked-more, checked-good, not_after, not_in_range, not_its_key, its_key}
+use Rattle.s3_keyed.specs.Inner.Shape.{layout_in, bytes_in, keys_on}
+use Rattle.s3_keyed.proofs.Goodness.{to_good}
+use Rattle.s3_keyed.proofs.Places.{length_keys}
+use Rattle.s3_keyed.proofs.Checked.{AreChecked, checked-none, checked-good}
 use Rattle.s3_keyed.proofs.check.is_good.Goals as goal
 
-pub returns-then-not-follows-clause-good : goal.returns-then-not-follows-clause-good
+pub returns-then-file-eq0-clause-good : goal.returns-then-file-eq0-clause-good
 unfolding index_in
-returns-then-not-follows-clause-good g c =
+returns-then-file-eq0-clause-good g c =
     let f = c.args.file.now in
-    let entry = entry_at (layout_in f) (bytes_in f (g.P.Sectors.state c.args.pool.now).contents) in
+    let bytes = bytes_in f (g.P.Sectors.state c.args.pool.now).contents in
+    let entry = entry_at (layout_in f) bytes in
     let keys = keys_on f (g.P.Sectors.state c.args.pool.now).contents in
-    let j = c.loop-i.i in
-    let is : entry_of c.in_ok-entry.entry ≡ entry j = c.in_ok-entry.ensures.ok ∙ ap (λ l. entry_at (layout_in f) (bytes_in f l) j) c.loop-i.invariant.keeps.contents in
-    let bad = c.if-not-follows.ensures in
-    not_good (map entry (range_with_len 0 f.file.count)) keys (not_after entry keys f.file.count j _ _ c.loop-i-test.true bad.0 (c.loop-i.invariant.last bad.0) (ap (λ e. e.key) is) bad.1)
-
-pub returns-then-not-follows-clause-keeps : goal.returns-then-not-follows-clause-keeps
-returns-then-not-follows-clause-keeps g c = keeps_trans _ _ _ c.loop-i.invariant.keeps c.read_entry.ensures.keeps
-
-pub returns-then-entry-eq0-clause-good : goal.returns-then-entry-eq0-clause-good
-unfolding index_in
-returns-then-entry-eq0-clause-good g c =
-    let f = c.args.file.now in
-    let entry = entry_at (layout_in f) (bytes_in f (g.P.Sectors.state c.args.pool.now).contents) in
-    let keys = keys_on f (g.P.Sectors.state c.args.pool.now).contents in
-    let j = c.loop-i.i in
-    let is : entry_of c.in_ok-entry.entry ≡ entry j = c.in_ok-entry.ensures.ok ∙ ap (λ l. entry_at (layout_in f) (bytes_in f l) j) c.loop-i.invariant.keeps.contents in
-    not_good (map entry (range_with_len 0 f.file.count)) keys (not_in_range entry keys f.file.count j _ c.loop-i-test.true (ap (λ e. e.number) is) (length_keys (layout_in f) f.file.count (bytes_in f (g.P.Sectors.state c.args.pool.now).contents)) (inl c.if-entry-eq0.true))
-
-pub returns-then-entry-eq0-clause-keeps : goal.returns-then-entry-eq0-clause-keeps
-returns-then-entry-eq0-clause-keeps g c = keeps_trans _ _ _ c.loop-i.invariant.keeps c.read_entry.ensures.keeps
-
-pub returns-then-entry-count-clause-good : goal.returns-then-entry-count-clause-good
-unfolding index_in
-returns-then-entry-count-clause-good g c =
-    let f = c.args.file.now in
-    let entry = entry_at (layout_in f) (bytes_in f (g.P.Sectors.state c.args.pool.now).contents) in
-    let keys = keys_on f (g.P.Sectors.state c.args.pool.now).contents in
-    let j = c.loop-i.i in
-    let is : entry_of c.in_ok-entry.entry ≡ entry j = c.in_ok-entry.ensures.ok ∙ ap (λ l. entry_at (layout_in f) (bytes_in f l) j) c.loop-i.invariant.keeps.contents in
-    not_good (map entry (range_with_len 0 f.file.count)) keys (not_in_range entry keys f.file.count j _ c.loop-i-test.true (ap (λ e. e.number) is) (length_keys (layout_in f) f.file.count (bytes_in f (g.P.Sectors.state c.args.pool.now).contents)) (inr c.if-entry-count.true))
-
-pub returns-then-entry-count-clause-keeps : goal.returns-then-entry-count-clause-keeps
-returns-then-entry-count-clause-keeps g c = keeps_trans _ _ _ c.loop-i.invariant.keeps c.read_entry.ensures.keeps
-
-pub returns-then-not-is_same-clause-good : goal.returns-then-not-is_same-clause-good
-unfolding index_in
-returns-then-not-is_same-clause-good g c =
-    let f = c.args.file.now in
-    let entry = entry_at (layout_in f) (bytes_in f (g.P.Sectors.state c.args.pool.now).contents) in
-    let keys = keys_on f (g.P.Sectors.state c.args.pool.now).contents in
-    let j = c.loop-i.i in
-    let is : entry_of c.in_ok-entry.entry ≡ entry j = c.in_ok-entry.ensures.ok ∙ ap (λ l. entry_at (layout_in f) (bytes_in f l) j) c.loop-i.invariant.keeps.contents in
-    let kept = keeps_trans _ _ _ c.loop-i.invariant.keeps c.read_entry.ensures.keeps in
-    let read : slice_get (keys) (c.in_ok-entry.entry.number - 1) ≡ Some (number_of c.in_ok-key.key.bytes) = ap (λ l. slice_get (keys_on f l) (c.in_ok-entry.entry.number - 1)) (sym kept.contents) ∙ get_key (layout_in f) f.file.count (c.in_ok-entry.entry.number - 1) (bytes_in f (g.P.Sectors.state c.read_entry.new.pool).contents) (omega (arith, c.if-entry-eq0.false, c.if-entry-count.false)) ∙ ap Some (sym c.in_ok-key.ensures.ok) in
-    not_good (map entry (range_with_len 0 f.file.count)) keys (not_its_key entry keys f.file.count j _ _ _ c.loop-i-test.true (ap (λ e. e.number) is) (ap (λ e. e.key) is) read (sym c.is_same.ensures ∙ c.if-not-is_same.true))
-
-pub returns-then-not-is_same-clause-keeps : goal.returns-then-not-is_same-clause-keeps
-returns-then-not-is_same-clause-keeps g c = keeps_trans _ _ _ (keeps_trans _ _ _ c.loop-i.invariant.keeps c.read_entry.ensures.keeps) c.read_key.ensures.keeps
-
-pub loop-i-preserved : goal.loop-i-preserved
-loop-i-preserved g c =
-    let f = c.args.file.now in
-    let entry = entry_at (layout_in f) (bytes_in f (g.P.Sectors.state c.args.pool.now).contents) in
-    let keys = keys_on f (g.P.Sectors.state c.args.pool.now).contents in
-    let j = c.loop-i.i in
-    let is : entry_of c.in_ok-entry.entry ≡ entry j = c.in_ok-entry.ensures.ok ∙ ap (λ l. entry_at (layout_in f) (bytes_in f l) j) c.loop-i.invariant.keeps.contents in
-    let number : c.in_ok-entry.entry.number ≡ (entry j).number = ap (λ e. e.number) is in
-    let key : number_of c.in_ok-entry.entry.key.bytes ≡ (entry j).key = ap (λ e. e.key) is in
-    let kept = keeps_trans _ _ _ c.loop-i.invariant.keeps c.read_entry.ensures.keeps in
-    let read : slice_get (keys) (c.in_ok-entry.entry.number - 1) ≡ Some (number_of c.in_ok-key.key.bytes) = ap (λ l. slice_get (keys_on f l) (c.in_ok-entry.entry.number - 1)) (sym kept.contents) ∙ get_key (layout_in f) f.file.count (c.in_ok-entry.entry.number - 1) (bytes_in f (g.P.Sectors.state c.read_entry.new.pool).contents) (omega (arith, c.if-entry-eq0.false, c.if-entry-count.false)) ∙ ap Some (sym c.in_ok-key.ensures.ok) in
-    let long = length_keys (layout_in f) f.file.count (bytes_in f (g.P.Sectors.state c.args.pool.now).contents) in
-    let back : j + 1 - 1 ≡ j = omega arith in
-    record {
-      checked = checked-more entry keys j c.loop-i.invariant.checked
-          (λ later. let above = c.if-not-follows.ensures later in let last = c.loop-i.invariant.last later in omega (arith, above, last, key))
-          (omega (arith, number, c.if-entry-eq0.false))
-          (omega (arith, number, c.if-entry-count.false, long))
-          (its_key entry keys j _ _ _ number key read (sym c.is_same.ensures ∙ c.if-not-is_same.false));
-      last = λ later. key ∙ ap (λ m. (entry m).key) (sym back);
-      keeps = keeps_trans _ _ _ kept c.read_key.ensures.keeps;
-      failures = omega (arith, c.in_ok-entry.ensures.failures, c.in_ok-key.ensures.failures, c.loop-i.invariant.failures);
-    }
+    to_good (map entry (range_with_len 0 f.file.count)) keys (checked-good entry keys f.file.count (length_keys (layout_in f) f.file.count bytes) (subst (AreChecked entry keys) (sym c.if-file-eq0.true) (checked-none entry keys)))
 
 pub returns-clause-good : goal.returns-clause-good
-unfolding index_in
-returns-clause-good g c =
-    let f = c.args.file.now in
-    let entry = entry_at (layout_in f) (bytes_in f (g.P.Sectors.state c.args.pool.now).contents) in
-    let keys = keys_on f (g.P.Sectors.state c.args.pool.now).contents in
-    let whole : c.loop-i.i ≡ f.file.count = omega arith in
-    to_good (map entry (range_with_len 0 f.file.count)) keys (checked-good entry keys f.file.count (length_keys (layout_in f) f.file.count (bytes_in f (g.P.Sectors.state c.args.pool.now).contents)) (subst (AreChecked entry keys) whole c.loop-i.invariant.checked))
+returns-clause-good g c = rw c.in_ok-sector.ensures.keeps.contents at c.are_good.ensures.good

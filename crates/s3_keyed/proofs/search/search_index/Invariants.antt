@@ -2,7 +2,7 @@ use Rattle.std.proofs.Common.{◌≡◌, ◌-◌, ◌<◌, ◌≤◌, ℕ}
 use Rattle.s3_store.specs.State.{KeepsContents}
 use Rattle.s3_keyed.specs.KeyOrder.{number_of}
 use Rattle.s3_keyed.specs.Index.{entry_at}
-use Rattle.s3_keyed.specs.Inner.Shape.{layout_in, bytes_in}
+use Rattle.s3_keyed.specs.Inner.Shape.{layout_in, bytes_in, index_sector}
 use Rattle.s3_keyed.proofs.search.search_index.Given as goal
 
 abbrev pub invariant-halve : goal.invariant-halve
@@ -11,6 +11,7 @@ invariant-halve g l = record {
   order : l.low ≤ l.high;
   below : (i : ℕ) → i < l.low → (entry_at (layout_in l.file) (bytes_in l.file (g.P.Sectors.state l.initial.pool).contents) i).key < number_of l.key.bytes;
   above : (i : ℕ) → l.high ≤ i → i < l.entries → number_of l.key.bytes < (entry_at (layout_in l.file) (bytes_in l.file (g.P.Sectors.state l.initial.pool).contents) i).key;
+  sector : l.sector.bytes ≡ index_sector l.file l.sector.place (bytes_in l.file (g.P.Sectors.state l.pool).contents);
   keeps : KeepsContents (g.P.Sectors.state l.initial.pool) (g.P.Sectors.state l.pool);
   failures : (g.P.Sectors.state l.pool).failures ≡ (g.P.Sectors.state l.initial.pool).failures;
 }

@@ -1,6 +1,6 @@
 use Rattle.std.proofs.Common.{refl}
 use Rattle.std.proofs.lemmas.Result.{err_from_is_err_and}
-use Rattle.s3_pool.proofs.Steps.{kept, shown_contents, no_sector_err, no_sector_ok}
+use Rattle.s3_pool.proofs.Steps.{kept, shown_contents, no_sector_err, no_sector_ok, first_there, first_value}
 use Rattle.s3_pool.proofs.pool.Pool.sector.Goals as goal
 
 pub returns-in_err-load : goal.returns-in_err-load
@@ -16,6 +16,9 @@ returns-in_err-load g c =
       },
     )
 
+pub first_bytes-requires : goal.first_bytes-requires
+first_bytes-requires g c = first_there c.args.n _ c.in_ok-load.ensures.first
+
 pub returns : goal.returns
 returns g c =
     let sectors = g.S.PackStore.contents c.self.inside.store in
@@ -24,7 +27,7 @@ returns g c =
       (refl, (λ w. tt), kept _ _ _ c.load.ensures.keeps c.in_ok-load.ensures.failures),
       record {
         keeps = tt;
-        value = shown_contents c.args.n c.bytes.result.now c.load.ensures.keeps within c.bytes.ensures;
-        no_sector = no_sector_ok c.args.n sectors c.self.inside.buffers c.bytes.result within;
+        value = shown_contents c.args.n c.first_bytes.result.now c.load.ensures.keeps within (first_value c.args.n _ c.first_bytes.result.now c.in_ok-load.ensures.first c.first_bytes.ensures);
+        no_sector = no_sector_ok c.args.n sectors c.self.inside.buffers c.first_bytes.result within;
       },
     )

@@ -1,6 +1,6 @@
 use Rattle.std.proofs.Common.{Some, refl, sym, ap, ◌∙◌, add-zero}
 use Rattle.std.proofs.lemmas.Result.{err_from_is_err_and}
-use Rattle.s3_pool.proofs.Steps.{kept, held_contents, written, written_sound, no_sector_err, no_sector_ok}
+use Rattle.s3_pool.proofs.Steps.{kept, held_contents, written, written_sound, no_sector_err, no_sector_ok, first_held}
 use Rattle.s3_pool.proofs.pool.Pool.sector_mut.Goals as goal
 
 pub returns-in_err-load : goal.returns-in_err-load
@@ -16,6 +16,9 @@ returns-in_err-load g c =
       },
     )
 
+pub buffer_mut-requires : goal.buffer_mut-requires
+buffer_mut-requires g c = first_held c.args.n _ c.in_ok-load.ensures.first
+
 pub invariant_of-self-lent : goal.invariant_of-self-lent
 invariant_of-self-lent g c = λ w. written_sound _ c.load.new.buffers c.args.n c.buffer_mut.result.now w c.load.ensures.keeps.sound
 
@@ -25,7 +28,7 @@ returns g c =
     let within = c.in_ok-load.ensures.in_range in
     let no_failure = c.in_ok-load.ensures.failures ∙ add-zero (g.S.PackStore.failures c.self.inside.store) in
     rw (← c.self.view_is) (
-      (refl, (λ w h. written _ _ c.args.n c.buffer_mut.result.now w c.load.ensures.keeps no_failure c.in_ok-load.ensures.held), tt),
+      (refl, (λ w h. written _ _ c.args.n c.buffer_mut.result.now w c.load.ensures.keeps no_failure (first_held c.args.n _ c.in_ok-load.ensures.first)), tt),
       record {
         writes_back = tt;
         value = held_contents c.args.n c.buffer_mut.result.now c.load.ensures.keeps within c.buffer_mut.ensures.value ∙ ap Some (sym c.bytes_mut.ensures.value);

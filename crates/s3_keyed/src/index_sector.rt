@@ -1,0 +1,160 @@
+//! Sectors of an index, whose entries are looked at where they lie.
+ghost use Rattle.std.specs.Prelude.{◌≡◌, ◌≢◌, ◌≤◌, ◌<◌, ◌+◌, ◌*◌, ◌/◌, ◌%◌, ◌^◌, ℕ, OnOk, IfOk, IfErr};
+ghost use Rattle.std.specs.Ordering.{nat_cmp};
+ghost use Rattle.s3_store.specs.State.{KeepsContents};
+ghost use Rattle.s3_store.specs.Failures.{failed_transfers};
+ghost use Rattle.s3_store.specs.Bytes.{part};
+ghost use Rattle.s3_slots.specs.Slots.{entries_per_sector as entries_of};
+ghost use Rattle.s3_files.specs.Files.{AreStored};
+ghost use Rattle.s3_keyed.specs.KeyOrder.{number_of};
+ghost use Rattle.s3_keyed.specs.Index.{entry_at, entry_in};
+ghost use Rattle.s3_keyed.specs.Inner.Shape.{layout_in, bytes_in, entry_of, index_sector};
+
+use crate::entries::place_of;
+use crate::indexed::{IndexEntry, IndexedFile};
+use crate::keys::Key;
+use byteorder::{BigEndian, ByteOrder};
+use s3_files::read_bytes;
+use s3_store::{PoolFault, Sectors};
+use std::cmp::Ordering;
+
+/// How many entries lie in a sector of the index.
+pub fn entries_per_sector(file: &IndexedFile) -> u32
+    ensures result { result ≡ entries_of file.now.key_length }
+    ensures some { 0 < result }
+{
+    256 / (u32::from(file.key_length) + 4)
+}
+
+/// Reads the sector of the index with entry `i`.
+fn read_around<P: Sectors>(
+    file: &IndexedFile,
+    pool: &mut P,
+    i: u32,
+    bytes: &mut [u8; 256],
+) -> Result<(), PoolFault>
+    requires stored { AreStored file.now.file.sectors (P.state pool.old).contents }
+    requires within { i < file.now.file.capacity }
+    ensures ok { OnOk result (bytes.new ≡ index_sector file.now (i / entries_of file.now.key_length) (bytes_in file.now (P.state pool.old).contents)) }
+    ensures keeps { KeepsContents (P.state pool.old) (P.state pool.new) }
+    ensures failures { (P.state pool.new).failures ≡ (P.state pool.old).failures + failed_transfers result }
+    ensures fault { IfErr result (λ fault. fault ≢ PoolFault.NoSector) }
+{
+    let before = i % entries_per_sector(file) * (u32::from(file.key_length) + 4);
+    read_bytes(pool, &file.file.sectors, place_of(file, i) - before, bytes)
+}
+
+/// A sector of an index that was read.
+#[derive(Clone, Copy)]
+pub struct IndexSector {
+    /// Which one of the index it is, from 0.
+    pub place: u32,
+    /// Its bytes.
+    pub bytes: [u8; 256],
+}
+
+impl IndexSector {
+    /// Reads the sector with entry `i`.
+    pub fn read<P: Sectors>(file: &IndexedFile, pool: &mut P, i: u32) -> Result<Self, PoolFault>
+        requires stored { AreStored file.now.file.sectors (P.state pool.old).contents }
+        requires within { i < file.now.file.capacity }
+        ensures place { IfOk result (λ sector. sector.place ≡ i / entries_of file.now.key_length) }
+        ensures ok { IfOk result (λ sector. sector.bytes ≡ index_sector file.now sector.place (bytes_in file.now (P.state pool.old).contents)) }
+        ensures keeps { KeepsContents (P.state pool.old) (P.state pool.new) }
+        ensures failures { (P.state pool.new).failures ≡ (P.state pool.old).failures + failed_transfers result }
+        ensures fault { IfErr result (λ fault. fault ≢ PoolFault.NoSector) }
+    {
+        let place = i / entries_per_sector(file);
+        let mut bytes = [0; 256];
+        read_around(file, pool, i, &mut bytes)?;
+        Ok(IndexSector { place, bytes })
+    }
+
+    /// Goes on to the sector with entry `i`, which isn't read where it is this one.
+    pub fn go_to<P: Sectors>(
+        &mut self,
+        file: &IndexedFile,
+        pool: &mut P,
+        i: u32,
+    ) -> Result<(), PoolFault>
+        requires stored { AreStored file.now.file.sectors (P.state pool.old).contents }
+        requires within { i < file.now.file.capacity }
+        requires here { self.old.bytes ≡ index_sector file.now self.old.place (bytes_in file.now (P.state pool.old).contents) }
+        ensures place { OnOk result (self.new.place ≡ i / entries_of file.now.key_length) }
+        ensures ok { OnOk result (self.new.bytes ≡ index_sector file.now self.new.place (bytes_in file.now (P.state pool.old).contents)) }
+        ensures keeps { KeepsContents (P.state pool.old) (P.state pool.new) }
+        ensures failures { (P.state pool.new).failures ≡ (P.state pool.old).failures + failed_transfers result }
+        ensures fault { IfErr result (λ fault. fault ≢ PoolFault.NoSector) }
+    {
+        let place = i / entries_per_sector(file);
+        if self.place == place {
+            return Ok(());
+        }
+        read_around(file, pool, i, &mut self.bytes)?;
+        self.place = place;
+        Ok(())
+    }
+
+    /// Reads an entry of the index, going on to its sector.
+    pub fn read_entry<P: Sectors>(
+        &mut self,
+        file: &IndexedFile,
+        pool: &mut P,
+        i: u32,
+    ) -> Result<IndexEntry, PoolFault>
+        requires stored { AreStored file.now.file.sectors (P.state pool.old).contents }
+        requires within { i < file.now.file.capacity }
+        requires here { self.old.bytes ≡ index_sector file.now self.old.place (bytes_in file.now (P.state pool.old).contents) }
+        ensures ok { IfOk result (λ entry. entry_of entry ≡ entry_at (layout_in file.now) (bytes_in file.now (P.state pool.old).contents) i) }
+        ensures here { IfOk result (λ _. self.new.bytes ≡ index_sector file.now self.new.place (bytes_in file.now (P.state pool.old).contents)) }
+        ensures keeps { KeepsContents (P.state pool.old) (P.state pool.new) }
+        ensures failures { (P.state pool.new).failures ≡ (P.state pool.old).failures + failed_transfers result }
+        ensures fault { IfErr result (λ fault. fault ≢ PoolFault.NoSector) }
+    {
+        self.go_to(file, pool, i)?;
+        let j = (i % entries_per_sector(file)) as usize;
+        Ok(whole_entry(&self.bytes, j, usize::from(file.key_length)))
+    }
+}
+
+/// The bytes of entry `j` of a sector, whose keys have so many bytes.
+fn entry_bytes(sector: &[u8; 256], j: usize, key_length: usize) -> &[u8]
+    requires short { key_length ≤ 29 }
+    requires inside { j < 256 / (key_length + 4) }
+    ensures { result.now ≡ part sector.now (j * (key_length + 4)) (key_length + 4) }
+{
+    let width = key_length + 4;
+    &sector[j * width..j * width + width]
+}
+
+/// Entry `j` of a sector, whose keys have so many bytes.
+fn whole_entry(sector: &[u8; 256], j: usize, key_length: usize) -> IndexEntry
+    requires short { key_length ≤ 29 }
+    requires inside { j < 256 / (key_length + 4) }
+    ensures { entry_of result ≡ entry_in key_length (part sector.now (j * (key_length + 4)) (key_length + 4)) }
+{
+    let (key, number) = entry_bytes(sector, j, key_length).split_at(key_length);
+    IndexEntry {
+        key: Key::of(key),
+        number: BigEndian::read_u32(number),
+    }
+}
+
+/// How the key of entry `j` of a sector, which has so many bytes, stands to another.
+pub fn compare_entry(sector: &[u8; 256], j: usize, key_length: usize, key: &Key) -> Ordering
+    requires short { key_length ≤ 29 }
+    requires inside { j < 256 / (key_length + 4) }
+    requires short_key { number_of key.now.bytes < 256 ^ key_length }
+    ensures { result ≡ nat_cmp (entry_in key_length (part sector.now (j * (key_length + 4)) (key_length + 4))).key (number_of key.now.bytes) }
+{
+    entry_bytes(sector, j, key_length)[..key_length].cmp(&key.bytes[29 - key_length..])
+}
+
+/// The number in entry `j` of a sector.
+pub fn number_in(sector: &[u8; 256], j: usize, key_length: usize) -> u32
+    requires short { key_length ≤ 29 }
+    requires inside { j < 256 / (key_length + 4) }
+    ensures { result ≡ (entry_in key_length (part sector.now (j * (key_length + 4)) (key_length + 4))).number }
+{
+    BigEndian::read_u32(&entry_bytes(sector, j, key_length)[key_length..])
+}
