@@ -1,12 +1,12 @@
 -- Lemmas on decks.
-use Rattle.std.proofs.Common.{◌≡◌, ℕ, ◌+◌, ◌-◌, ◌<◌, ◌≤◌, List, [], ◌∷◌, ◌++◌, Bool, true, false, cond, refl, sym, ◌∙◌, ap, arith, subst, inl, inr, length, take, drop, replicate, ltb-true, zero, eqb-true, eq-eqb, le-ltb, lt-ltb, add-zero, append_assoc, length-append, suc, get_or, set}
-use Rattle.std.specs.Prelude.{Option, Some, None, unwrap_or, is_some, Ok, Err, ◌==◌, ◌&&◌, map, position, nat_lt}
-use Rattle.std.specs.List.{list_all, slice_split, position_or_len}
+use Rattle.std.proofs.Common.{◌≡◌, ℕ, ◌+◌, ◌-◌, ◌<◌, ◌≤◌, List, [], ◌∷◌, ◌++◌, Bool, true, false, cond, refl, sym, ◌∙◌, ap, arith, subst, inl, inr, length, take, drop, replicate, ltb-true, zero, eqb-true, le-ltb, lt-ltb, add-zero, append_assoc, length-append, suc, get_or, set}
+use Rattle.std.specs.Prelude.{Option, Some, None, unwrap_or, is_some, not, Ok, Err, ◌==◌, ◌&&◌, map, position, nat_lt}
+use Rattle.std.specs.List.{list_all, list_any, slice_split, position_or_len}
 use Rattle.std.specs.Option.{option_map, option_or}
 use Rattle.std.specs.Str.Lines.{lines, lines_of_parts, strip_carriage_return}
-use Rattle.std.proofs.lemmas.Bool.{cases_lt}
+use Rattle.std.proofs.lemmas.Bool.{cases_Bool, cases_lt}
 use Rattle.std.proofs.lemmas.Option.{cond_some}
-use Rattle.std.proofs.lemmas.List.{take-append-le, take_all, length-map, map-append, append-nil, take_more, set-append_right, length-take-le, length-replicate, get_or-replicate}
+use Rattle.std.proofs.lemmas.List.{take-append-le, take_all, length-map, map-append, append-nil, take_more, set-append_right, length-take-le}
 use Rattle.std.proofs.lemmas.List.Sums.{fails_before_first, position_or_len_is}
 use Rattle.std.proofs.Math.Seq.{take-append-add}
 use Rattle.std.proofs.lemmas.List.Splits.{slice_split_first, length-slice_split, slice_split_none}
@@ -160,19 +160,33 @@ first_place byte w (Some i) found =
     sym (place_where (is_byte byte) w i (omega (arith, found.0.high)) (λ k below. not_true _ (found.0.before k (omega arith) below)) (λ h. found.1)
     ∙ ap (λ (b : Bool). cond b (Some i) None) (lt-ltb i (length w) found.0.high))
 
--- what has no 0 has a code in each place
-clean : (line blanks : List ℕ) → ((k : ℕ) → k < length (map code line ++ blanks) → get_or (map code line ++ blanks) k 0 ≡ 0 → ⊥)
-    → (list_all has_code line ≡ true) × (map code line ≡ map (λ byte. unwrap_or (ebcdic_of byte) 0x40) line)
-clean [] blanks h = (refl, refl)
-clean (x ∷ line) blanks h =
-    let more = clean line blanks (λ k below e. h (suc k) (omega arith) e) in
-    let here : code x ≡ 0 → ⊥ = h 0 (omega arith) in
-    go (ebcdic_of x) here more
+abbrev is_zero : ℕ → Bool
+is_zero code = code == 0
+
+no_zero_blank : (n : ℕ) → list_any is_zero (replicate n 0x40) ≡ false
+no_zero_blank zero = refl
+no_zero_blank (suc n) = no_zero_blank n
+
+-- among the codes of a line there is a 0 where a byte of it has no code, and there alone
+zero_coded : (line : List ℕ) (n : ℕ) → list_any is_zero (map code line ++ replicate n 0x40) ≡ not (list_all has_code line)
+zero_coded [] n = no_zero_blank n
+zero_coded (x ∷ line) n = by (ebcdic_of x) refl (zero_coded line n)
   where
-    go : (o : Option ℕ) → (unwrap_or o 0 ≡ 0 → ⊥) → (list_all has_code line ≡ true) × (map code line ≡ map (λ byte. unwrap_or (ebcdic_of byte) 0x40) line)
-        → ((is_some o && list_all has_code line) ≡ true) × (unwrap_or o 0 ∷ map code line ≡ unwrap_or o 0x40 ∷ map (λ byte. unwrap_or (ebcdic_of byte) 0x40) line)
-    go None here more = absurd (here refl)
-    go (Some c) here more = (more.0, ap (λ xs. c ∷ xs) more.1)
+    by : (o : Option ℕ) → ebcdic_of x ≡ o → list_any is_zero (map code line ++ replicate n 0x40) ≡ not (list_all has_code line)
+        → list_any is_zero (map code (x ∷ line) ++ replicate n 0x40) ≡ not (list_all has_code (x ∷ line))
+    by None e more = rw e refl
+    by (Some c) e more = elim (cases_Bool (is_zero c)) [
+      | inl h ↦ absurd (let none : ebcdic_of x ≡ None = no_code x (ap (λ (o : Option ℕ). unwrap_or o 0) e ∙ eqb-true c 0 h) in cc)
+      | inr h ↦ rw (e, h) more
+    ]
+
+all_coded : (line : List ℕ) → list_all has_code line ≡ true → map code line ≡ map (λ byte. unwrap_or (ebcdic_of byte) 0x40) line
+all_coded [] h = refl
+all_coded (x ∷ line) h = go (ebcdic_of x) (λ rest. all_coded line rest) h
+  where
+    go : (o : Option ℕ) → (list_all has_code line ≡ true → map code line ≡ map (λ byte. unwrap_or (ebcdic_of byte) 0x40) line) → (is_some o && list_all has_code line) ≡ true → unwrap_or o 0 ∷ map code line ≡ unwrap_or o 0x40 ∷ map (λ byte. unwrap_or (ebcdic_of byte) 0x40) line
+    go None more h = cc
+    go (Some c) more h = ap (λ xs. c ∷ xs) (more h)
 
 -- the same three, where an equation says what is left
 pub fault_at : (cards all left after : List (List ℕ)) (line : List ℕ) (fault : CardFault) → ReadSoFar cards all left → left ≡ line ∷ after → length cards < 9999 → fault_of line ≡ Some fault → cards_of all ≡ Err (At (length cards + 1) fault)
@@ -187,36 +201,20 @@ all_read_at cards all left so_far e = all_read cards all (subst (λ (x : List (L
 pub lines_after_newline : (w line after : List ℕ) (end : ℕ) → position is_newline w ≡ Some end → line ≡ strip_carriage_return (take end w) → after ≡ drop (end + 1) w → lines w ≡ line ∷ lines after
 lines_after_newline w line after end h e f = rw (e, f) (lines_at_newline w end h)
 
-no_zero : (card : List ℕ) → IsFirstByte (is_byte 0) card None → (k : ℕ) → k < length card → get_or card k 0 ≡ 0 → ⊥
-no_zero card nowhere k below e = nowhere k (omega arith) below (eq-eqb _ _ e)
+not_twice : (a b : Bool) → a ≡ not b → b ≡ not a
+not_twice a true h = sym (ap not h)
+not_twice a false h = sym (ap not h)
 
-clean_codes : (line card : List ℕ) → card ≡ codes_and_blanks line → IsFirstByte (is_byte 0) card None
-    → (list_all has_code line ≡ true) × (map code line ≡ map (λ byte. unwrap_or (ebcdic_of byte) 0x40) line)
-clean_codes line card is nowhere =
-    clean line (replicate (96 - length line) 0x40) (no_zero _ (subst (λ (x : List ℕ). IsFirstByte (is_byte 0) x None) is nowhere))
+-- the codes of a line have a 0 exactly where the line has a bad character
+coded : (line card : List ℕ) (any : Bool) → card ≡ codes_and_blanks line → any ≡ list_any is_zero card → list_all has_code line ≡ not any
+coded line card any is found = not_twice any (list_all has_code line) (found ∙ ap (list_any is_zero) is ∙ zero_coded line (96 - length line))
 
--- a line whose codes have no 0 has no bad character, and they are its card
-pub clean_line : (line card : List ℕ) → card ≡ codes_and_blanks line → IsFirstByte (is_byte 0) card None → list_all has_code line ≡ true
-clean_line line card is nowhere = (clean_codes line card is nowhere).0
+pub clean_line : (line card : List ℕ) (any : Bool) → card ≡ codes_and_blanks line → any ≡ list_any is_zero card → any ≡ false → list_all has_code line ≡ true
+clean_line line card any is found none = coded line card any is found ∙ ap not none
 
-pub clean_card : (line card : List ℕ) → card ≡ codes_and_blanks line → IsFirstByte (is_byte 0) card None → card ≡ card_of line
+pub spoiled_line : (line card : List ℕ) (any : Bool) → card ≡ codes_and_blanks line → any ≡ list_any is_zero card → any ≡ true → list_all has_code line ≡ false
+spoiled_line line card any is found one = coded line card any is found ∙ ap not one
+
+pub clean_card : (line card : List ℕ) (any : Bool) → card ≡ codes_and_blanks line → any ≡ list_any is_zero card → any ≡ false → card ≡ card_of line
 unfolding card_of
-clean_card line card is nowhere =
-    is ∙ ap (λ x. x ++ replicate (96 - length line) 0x40) (clean_codes line card is nowhere).1
-
-and_false : (b : Bool) → (b && false) ≡ false
-and_false true = refl
-and_false false = refl
-
-spoiled : (line : List ℕ) (n k : ℕ) → k < length line + n → get_or (map code line ++ replicate n 0x40) k 0 ≡ 0 → list_all has_code line ≡ false
-spoiled [] n k below e = absurd (omega (arith, e, get_or-replicate {A = ℕ} n k 0x40 0 (let b : k < n = omega arith in b)))
-spoiled (x ∷ line) n zero below e = rw (no_code x e) refl
-spoiled (x ∷ line) n (suc k) below e = rw (spoiled line n k (omega arith) e) (and_false (has_code x))
-
--- a line whose codes have a 0 has a bad character
-pub spoiled_line : (line card : List ℕ) (k : ℕ) → length line ≤ 96 → card ≡ codes_and_blanks line → IsFirstByte (is_byte 0) card (Some k) → list_all has_code line ≡ false
-spoiled_line line card k short is found =
-    let at : IsFirstByte (is_byte 0) (codes_and_blanks line) (Some k) = subst (λ (x : List ℕ). IsFirstByte (is_byte 0) x (Some k)) is found in
-    spoiled line (96 - length line) k
-    (omega (arith, at.0.high, length-append (map code line) (replicate (96 - length line) 0x40), length-map line code, length-replicate {A = ℕ} (96 - length line) 0x40))
-    (eqb-true _ _ at.1)
+clean_card line card any is found none = is ∙ ap (λ x. x ++ replicate (96 - length line) 0x40) (all_coded line (clean_line line card any is found none))

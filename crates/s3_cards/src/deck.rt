@@ -162,7 +162,7 @@ impl Deck {
 }
 
 /// The card of a line, or its fault.
-#[tactic(auto, using(crate::proofs::DeckLemmas::clean_card, crate::proofs::DeckLemmas::clean_line, crate::proofs::DeckLemmas::spoiled_line), unfolding(crate::specs::Deck::fault_of, crate::specs::Deck::card_of))]
+#[tactic(auto, unfolding(crate::specs::Deck::fault_of))]
 fn card(line: &[u8]) -> Result<Card, CardFault>
     ensures ok { IfOk result (λ card. card ≡ card_of line.now) }
     ensures sound { IfOk result (λ _. fault_of line.now ≡ None) }
@@ -172,10 +172,10 @@ fn card(line: &[u8]) -> Result<Card, CardFault>
         return Err(CardFault::TooWide);
     }
     let card = translated(line);
-    match memchr(0, &card) {
-        None => Ok(card),
-        Some(_) => Err(CardFault::BadCharacter),
+    if card.contains(&0) {
+        return Err(CardFault::BadCharacter);
     }
+    Ok(card)
 }
 
 /// The codes of a line's bytes, 0 for each that is no card character, and blanks behind them.

@@ -6,114 +6,108 @@ ghost use Rattle.s3_program.specs.Rows.{row_of as row_of_spec};
 use s3_lines::sheet::Operation;
 use s3_program::row::{Marking, Operand, Pairing, Row, Target};
 
+/// What an operation needs that takes no factors, no result and no resulting indicators.
+const BARE: Row = Row {
+    factor1: Operand::Nothing,
+    factor2: Operand::Nothing,
+    result: Target::Nothing,
+    half_adjust: false,
+    indicators: Marking::Never,
+    pairing: Pairing::Free,
+};
+
+/// What one needs that gives a number of factor 2, which may be half-adjusted.
+const OF_FACTOR2: Row = Row {
+    factor2: Operand::Number,
+    result: Target::Number,
+    half_adjust: true,
+    indicators: Marking::Optional,
+    ..BARE
+};
+
+/// What one needs that gives a number of both factors.
+const OF_BOTH: Row = Row {
+    factor1: Operand::Number,
+    ..OF_FACTOR2
+};
+
+/// What MVR needs, which takes what the DIV before it has left.
+const REMAINDER: Row = Row {
+    factor2: Operand::Nothing,
+    half_adjust: false,
+    ..OF_FACTOR2
+};
+
+const COMPARE: Row = Row {
+    factor1: Operand::Value,
+    factor2: Operand::Value,
+    indicators: Marking::Needed,
+    pairing: Pairing::Alike,
+    ..BARE
+};
+
+const MOVE: Row = Row {
+    factor2: Operand::Value,
+    result: Target::Any,
+    ..BARE
+};
+
+const MOVE_LEFT: Row = Row {
+    factor2: Operand::Text,
+    result: Target::Text,
+    ..BARE
+};
+
+const SET: Row = Row {
+    indicators: Marking::Needed,
+    ..BARE
+};
+
+const GO_TO: Row = Row {
+    factor2: Operand::Tag,
+    ..BARE
+};
+
+const TAG: Row = Row {
+    factor1: Operand::Tag,
+    ..BARE
+};
+
+const EXECUTE: Row = Row {
+    factor2: Operand::Subroutine,
+    ..BARE
+};
+
+const BEGIN: Row = Row {
+    factor1: Operand::Subroutine,
+    ..BARE
+};
+
+const CHAIN: Row = Row {
+    factor1: Operand::Value,
+    factor2: Operand::ChainedFile,
+    indicators: Marking::First,
+    pairing: Pairing::KeyOfFile,
+    ..BARE
+};
+
 /// The row of an operation.
 pub fn row_of(operation: Operation) -> Row
     ensures { result ≡ row_of_spec operation }
 {
     match operation {
-        Operation::Add | Operation::Subtract | Operation::Multiply | Operation::Divide => Row {
-            factor1: Operand::Number,
-            factor2: Operand::Number,
-            result: Target::Number,
-            half_adjust: true,
-            indicators: Marking::Optional,
-            pairing: Pairing::Free,
-        },
-        Operation::ZeroAdd | Operation::ZeroSubtract => Row {
-            factor1: Operand::Nothing,
-            factor2: Operand::Number,
-            result: Target::Number,
-            half_adjust: true,
-            indicators: Marking::Optional,
-            pairing: Pairing::Free,
-        },
-        Operation::MoveRemainder => Row {
-            factor1: Operand::Nothing,
-            factor2: Operand::Nothing,
-            result: Target::Number,
-            half_adjust: false,
-            indicators: Marking::Optional,
-            pairing: Pairing::Free,
-        },
-        Operation::Compare => Row {
-            factor1: Operand::Value,
-            factor2: Operand::Value,
-            result: Target::Nothing,
-            half_adjust: false,
-            indicators: Marking::Needed,
-            pairing: Pairing::Alike,
-        },
-        Operation::Move => Row {
-            factor1: Operand::Nothing,
-            factor2: Operand::Value,
-            result: Target::Any,
-            half_adjust: false,
-            indicators: Marking::Never,
-            pairing: Pairing::Free,
-        },
-        Operation::MoveLeft => Row {
-            factor1: Operand::Nothing,
-            factor2: Operand::Text,
-            result: Target::Text,
-            half_adjust: false,
-            indicators: Marking::Never,
-            pairing: Pairing::Free,
-        },
-        Operation::SetOn | Operation::SetOff => Row {
-            factor1: Operand::Nothing,
-            factor2: Operand::Nothing,
-            result: Target::Nothing,
-            half_adjust: false,
-            indicators: Marking::Needed,
-            pairing: Pairing::Free,
-        },
-        Operation::GoTo => Row {
-            factor1: Operand::Nothing,
-            factor2: Operand::Tag,
-            result: Target::Nothing,
-            half_adjust: false,
-            indicators: Marking::Never,
-            pairing: Pairing::Free,
-        },
-        Operation::Tag => Row {
-            factor1: Operand::Tag,
-            factor2: Operand::Nothing,
-            result: Target::Nothing,
-            half_adjust: false,
-            indicators: Marking::Never,
-            pairing: Pairing::Free,
-        },
-        Operation::ExecuteSubroutine => Row {
-            factor1: Operand::Nothing,
-            factor2: Operand::Subroutine,
-            result: Target::Nothing,
-            half_adjust: false,
-            indicators: Marking::Never,
-            pairing: Pairing::Free,
-        },
-        Operation::BeginSubroutine => Row {
-            factor1: Operand::Subroutine,
-            factor2: Operand::Nothing,
-            result: Target::Nothing,
-            half_adjust: false,
-            indicators: Marking::Never,
-            pairing: Pairing::Free,
-        },
-        Operation::EndSubroutine | Operation::Except | Operation::Unknown => Row {
-            factor1: Operand::Nothing,
-            factor2: Operand::Nothing,
-            result: Target::Nothing,
-            half_adjust: false,
-            indicators: Marking::Never,
-            pairing: Pairing::Free,
-        },
-        Operation::Chain => Row {
-            factor1: Operand::Value,
-            factor2: Operand::ChainedFile,
-            result: Target::Nothing,
-            half_adjust: false,
-            indicators: Marking::First,
-            pairing: Pairing::KeyOfFile,
-        },
+        Operation::Add | Operation::Subtract | Operation::Multiply | Operation::Divide => OF_BOTH,
+        Operation::ZeroAdd | Operation::ZeroSubtract => OF_FACTOR2,
+        Operation::MoveRemainder => REMAINDER,
+        Operation::Compare => COMPARE,
+        Operation::Move => MOVE,
+        Operation::MoveLeft => MOVE_LEFT,
+        Operation::SetOn | Operation::SetOff => SET,
+        Operation::GoTo => GO_TO,
+        Operation::Tag => TAG,
+        Operation::ExecuteSubroutine => EXECUTE,
+        Operation::BeginSubroutine => BEGIN,
+        Operation::EndSubroutine | Operation::Except | Operation::Unknown => BARE,
+        Operation::Chain => CHAIN,
     }
 }

@@ -79,9 +79,10 @@ not_noted indicator n m line field old on at other =
     sym (or_none old) ∙ ap (λ (b : Bool). option_or old (if b then Some field else None)) (sym other) ∙ ap (option_or old) (sym (on_level indicator n m line field on at))
 
 -- ---- the loop over lines
-pub none_noted : (indicator : Indicator) (inputs : List (InputLine Reference)) (from n : ℕ) → 1 ≤ n → n ≤ 9
-    → first_field indicator key.Control (Some n) (drop from inputs) ≡ option_or (field_in (replicate 9 None) n) (first_field indicator key.Control (Some n) (drop from inputs))
-none_noted indicator inputs from n one nine = ap (λ (o : Option (FieldLine Reference)). option_or o (first_field indicator key.Control (Some n) (drop from inputs))) (sym (nothing n one nine))
+pub none_noted : (indicator : Indicator) (inputs : List (InputLine Reference)) (fields : List (Option (FieldLine Reference))) (from n : ℕ) → fields ≡ replicate 9 None → 1 ≤ n → n ≤ 9
+    → first_field indicator key.Control (Some n) (drop from inputs) ≡ option_or (field_in fields n) (first_field indicator key.Control (Some n) (drop from inputs))
+none_noted indicator inputs fields from n none one nine =
+    ap (λ (o : Option (FieldLine Reference)). option_or o (first_field indicator key.Control (Some n) (drop from inputs))) (sym (ap (λ (list : List (Option (FieldLine Reference))). field_in list n) none ∙ nothing n one nine))
   where
     nothing : (n : ℕ) → 1 ≤ n → n ≤ 9 → field_in (replicate 9 None) n ≡ None
     nothing zero one nine = refl

@@ -1,6 +1,6 @@
 //! The control fields of a record type, all found in one pass over its fields.
 
-ghost use Rattle.std.specs.Prelude.{◌≡◌, ◌≤◌, ◌==◌, ℕ, drop, length, IsTrue, Some, if◌then◌else◌};
+ghost use Rattle.std.specs.Prelude.{◌≡◌, ◌≤◌, ◌==◌, ℕ, drop, length, replicate, IsTrue, Some, None, if◌then◌else◌};
 ghost use Rattle.std.specs.Option.{option_or};
 ghost use Rattle.s3_lines.specs.Ranges.{is_between};
 ghost use Rattle.s3_program.specs.declared.mark.Key.TheVariants as key;
@@ -58,28 +58,39 @@ fn note_line(
     }
 }
 
-/// The first field at each level from there on, down to the next record line; L1 first.
-fn first_fields(
+/// Notes the first field at each level from there on, down to the next record line; L1 first.
+fn note_first(
+    fields: &mut [Option<FieldLine<Reference>>; 9],
     inputs: &[InputLine<Reference>],
     from: usize,
     indicator: Indicator,
-) -> [Option<FieldLine<Reference>>; 9]
-    ensures { (level : ℕ) → 1 ≤ level → level ≤ 9 → spec.field_in result level ≡ meaning.first_field indicator key.Control (Some level) (drop from inputs.now) }
+)
+    requires { fields.old ≡ replicate 9 None }
+    ensures { (level : ℕ) → 1 ≤ level → level ≤ 9 → spec.field_in fields.new level ≡ meaning.first_field indicator key.Control (Some level) (drop from inputs.now) }
 {
-    let mut fields = [None; 9];
     for place in from..inputs.len() {
         if begins_group(&inputs[place]) {
-            return fields;
+            return;
         }
-        note_line(&mut fields, &inputs[place], indicator);
+        note_line(fields, &inputs[place], indicator);
     }
-    fields
 }
 
-/// The control fields of a type, L1 first.
-pub fn control_fields(program: &Program, start: TypeStart) -> [Option<FieldLine<Reference>>; 9]
-    requires { IsTrue (is_type_start program.now start) }
-    ensures { spec.AreControlFields program.now start result }
+/// Notes the control fields of a type where none is noted yet, L1 first. They are noted in place, since nine of them are much to
+/// copy for each record.
+pub fn note_control_fields(
+    fields: &mut [Option<FieldLine<Reference>>; 9],
+    program: &Program,
+    start: TypeStart,
+)
+    requires none { fields.old ≡ replicate 9 None }
+    requires starts { IsTrue (is_type_start program.now start) }
+    ensures { spec.AreControlFields program.now start fields.new }
 {
-    first_fields(&program.inputs, start.fields, indicator_of(program, start))
+    note_first(
+        fields,
+        &program.inputs,
+        start.fields,
+        indicator_of(program, start),
+    );
 }

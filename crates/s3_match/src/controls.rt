@@ -13,7 +13,7 @@ ghost use Rattle.s3_match.specs.Types.{is_type_start, kind_at};
 ghost use Rattle.s3_match.specs.Controls as spec;
 ghost use Rattle.s3_match.specs.Inner.ControlFields.{compared_on};
 
-use crate::control_fields::control_fields;
+use crate::control_fields::note_control_fields;
 use crate::fields::field_at;
 use crate::keys::{LEVELS, RecordKey};
 use s3_lines::sheet::{FieldLine, InputLine};
@@ -58,7 +58,8 @@ pub fn break_level(
     if !has_control_fields(program, start) {
         return 0;
     }
-    let fields = control_fields(program, start);
+    let mut fields = [None; 9];
+    note_control_fields(&mut fields, program, start);
     for step in 0..LEVELS {
         let level = LEVELS - step;
         if breaks_at(held, value, level, &fields[(level - 1) as usize], bytes) {
@@ -148,7 +149,8 @@ fn hold_levels(held: &mut [RecordKey], program: &Program, start: TypeStart, byte
     if !has_control_fields(program, start) {
         return;
     }
-    let fields = control_fields(program, start);
+    let mut fields = [None; 9];
+    note_control_fields(&mut fields, program, start);
     for step in 0..LEVELS {
         hold_level(held, step + 1, &fields[step as usize], bytes);
     }

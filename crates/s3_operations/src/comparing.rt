@@ -8,7 +8,6 @@ ghost use Rattle.s3_program.specs.Stands.{source_named};
 ghost use Rattle.s3_operations.specs.Fits.{IsLineOf, TakesAlike, named_line};
 ghost use Rattle.s3_operations.specs.Held.{IsSound, Changes, held};
 
-use crate::numbers::order_marks;
 use crate::operand::Operand;
 use crate::values::Values;
 use s3_cards::ebcdic::BLANK;
@@ -62,6 +61,6 @@ impl Values {
         ensures { Changes program.now self.old self.new (λ source. changed source (named_line program.now line.now) op.Compare) }
     {
         let order = self.order(program, line);
-        self.indicators.show(&order_marks(&line.indicators, order));
+        self.indicators.show_order(&line.indicators, order);
     }
 }

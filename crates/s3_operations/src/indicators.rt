@@ -50,8 +50,7 @@ impl Indicators {
     {
         match entry {
             None => true,
-            Some(condition) if condition.negated => !self.is_on(condition.indicator),
-            Some(condition) => self.is_on(condition.indicator),
+            Some(condition) => self.is_on(condition.indicator) != condition.negated,
         }
     }
 

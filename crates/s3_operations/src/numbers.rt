@@ -1,16 +1,18 @@
 //! Numbers that operations take, and the one that they store.
-ghost use Rattle.std.specs.Prelude.{◌≡◌, true, zip, IsTrue, Some, if◌then◌else◌};
-ghost use Rattle.std.specs.List.{list_all};
+ghost use Rattle.std.specs.Prelude.{◌≡◌, true, zip, IsTrue, Some, is_some, if◌then◌else◌};
+ghost use Rattle.std.specs.List.{list_all, list_any};
+ghost use Rattle.s3_lines.specs.declared.indicator.Indicator.{Indicator};
 ghost use Rattle.s3_meaning.specs.Moving.{sign_marks as sign_marks_spec};
 ghost use Rattle.s3_meaning.specs.Environment.{Environment, put_number};
 ghost use Rattle.s3_meaning.specs.Source.{digits_of, decimals_of};
 ghost use Rattle.s3_meaning.specs.Calculating.{result_of, order_marks as order_marks_spec};
 ghost use Rattle.s3_program.specs.Stands.{source_named};
 ghost use Rattle.s3_program.specs.Tables.{meaning_at, name_of};
-ghost use Rattle.s3_operations.specs.Indicators.{are_settable, is_settable_entry};
+ghost use Rattle.s3_operations.specs.Indicators.{are_settable, is_settable_entry, on_in, shown_on};
 ghost use Rattle.s3_operations.specs.Fits.{tables, named_line, named_factor, meant_result, is_number_field, GivesNumber, TakesNumber, TakesNumbers};
 ghost use Rattle.s3_operations.specs.Held.{IsSound, IsNumberOf, Changes, held, with_value};
 
+use crate::indicators::Indicators;
 use crate::values::Values;
 use s3_decimal::{Dec, Form, Rounding};
 use s3_lines::indicator::Indicator;
@@ -83,6 +85,35 @@ pub fn order_marks(
     }
 }
 
+/// Whether a line has an indicator that is to show something; most lines have none.
+pub(crate) fn has_entry(indicators: &[Option<Indicator>; 3]) -> bool
+    ensures { result ≡ list_any (λ entry. is_some entry) indicators.now }
+{
+    indicators.iter().any(|entry| entry.is_some())
+}
+
+impl Indicators {
+    /// The entries of a line show the sign of a number.
+    pub(crate) fn show_sign(&mut self, indicators: &[Option<Indicator>; 3], number: Dec)
+        requires { list_all is_settable_entry indicators.now ≡ true }
+        ensures { (other : Indicator) → on_in self.new other ≡ shown_on (sign_marks_spec indicators.now number.value) (on_in self.old) other }
+    {
+        if has_entry(indicators) {
+            self.show(&sign_marks(indicators, number));
+        }
+    }
+
+    /// The entries of a line show an order.
+    pub(crate) fn show_order(&mut self, indicators: &[Option<Indicator>; 3], order: Ordering)
+        requires { list_all is_settable_entry indicators.now ≡ true }
+        ensures { (other : Indicator) → on_in self.new other ≡ shown_on (order_marks_spec indicators.now order) (on_in self.old) other }
+    {
+        if has_entry(indicators) {
+            self.show(&order_marks(indicators, order));
+        }
+    }
+}
+
 /// The slot of a result that is a number.
 pub fn number_slot(program: &Program, line: &CalculationLine<Reference>) -> usize
     requires fits { IsTrue (is_number_field (meant_result program.now line.now.result)) }
@@ -137,7 +168,7 @@ impl Values {
     {
         let slot = number_slot(program, line);
         self.numbers[slot] = number;
-        self.indicators.show(&sign_marks(&line.indicators, number));
+        self.indicators.show_sign(&line.indicators, number);
     }
 
     /// The field of a slot gets a number of its form.

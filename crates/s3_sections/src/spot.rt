@@ -1,8 +1,9 @@
 //! Where a run stands in a section of the C sheet, and which calculation comes next.
-ghost use Rattle.std.specs.Prelude.{◌≡◌, ◌&&◌, None};
+ghost use Rattle.std.specs.Prelude.{◌≡◌, ◌&&◌, true, None, Some, is_some, slice_get};
 ghost use Rattle.s3_meaning.specs.Source.{detail_calculations, total_calculations};
 ghost use Rattle.s3_program.specs.Stands.{source_named};
-ghost use Rattle.s3_meaning.specs.Environment.{Environment};
+ghost use Rattle.s3_meaning.specs.Environment.{Environment, all_hold};
+ghost use Rattle.s3_meaning.specs.Names.{entries};
 ghost use Rattle.s3_meaning.specs.Calculating.{level_on};
 ghost use Rattle.s3_program.specs.Standings.{ends_subroutine};
 ghost use Rattle.s3_program.specs.declared.program.Program.{Program};
@@ -10,10 +11,10 @@ ghost use Rattle.s3_operations.specs.Held.{held};
 ghost use Rattle.s3_sections.specs.Sections.{rest_of, has_line, is_detail_time, is_total_time};
 ghost use Rattle.s3_sections.specs.Spots.{IsSpot, ComesAny, subroutine_in};
 
-use s3_lines::sheet::{CalculationTime, Operation};
+use s3_lines::sheet::{CalculationLine, CalculationTime, Operation};
 use s3_operations::groups::Gathered;
 use s3_operations::values::Values;
-use s3_program::program::Program;
+use s3_program::program::{Program, Reference};
 
 /// A part of the C sheet whose lines are done one behind the other.
 #[derive(Clone, Copy, Default)]
@@ -78,6 +79,13 @@ fn holds(values: &Values, gathered: Gathered) -> bool
     is_level_on(values, gathered.time) && gathered.holds
 }
 
+/// Whether the level entry and the conditions of a card hold that is a calculation by itself.
+fn card_holds(program: &Program, values: &Values, line: &CalculationLine<Reference>) -> bool
+    ensures { (rest : Environment) → result ≡ (level_on line.now.time (held program.now values.now rest) && all_hold (held program.now values.now rest) (entries line.now.conditions)) }
+{
+    is_level_on(values, line.time) && values.holds(program, &line.conditions)
+}
+
 /// Where a run stands in a section.
 #[derive(Clone, Copy, Default)]
 pub struct Spot {
@@ -130,8 +138,42 @@ impl Spot {
         }
     }
 
-    /// The next calculation; none at the end of the section.
+    /// The next calculation; none at the end of the section. Most have one card, for which no groups are kept.
     pub fn next(self, program: &Program, values: &Values) -> Option<Next>
+        requires { IsSpot program.now self }
+        ensures { (rest : Environment) → ComesAny program.now (held program.now values.now rest) self result }
+    {
+        let line = program.calculations.get(self.place)?;
+        if line.operation.is_some() {
+            self.next_card(program, values, line)
+        } else {
+            self.next_of_cards(program, values)
+        }
+    }
+
+    /// The next calculation, which has one card.
+    fn next_card(
+        self,
+        program: &Program,
+        values: &Values,
+        line: &CalculationLine<Reference>,
+    ) -> Option<Next>
+        requires spot { IsSpot program.now self }
+        requires there { slice_get program.now.calculations.items self.place ≡ Some line.now }
+        requires whole { is_some line.now.operation ≡ true }
+        ensures { (rest : Environment) → ComesAny program.now (held program.now values.now rest) self result }
+    {
+        if !self.section.has(line.time, line.operation) {
+            return None;
+        }
+        Some(Next {
+            place: self.place,
+            holds: card_holds(program, values, line),
+        })
+    }
+
+    /// The next calculation, with the groups of conditions that its cards make.
+    fn next_of_cards(self, program: &Program, values: &Values) -> Option<Next>
         requires { IsSpot program.now self }
         ensures { (rest : Environment) → ComesAny program.now (held program.now values.now rest) self result }
     {

@@ -4,6 +4,7 @@ use Rattle.std.specs.Prelude.{unwrap_or}
 use Rattle.std.specs.List.{range_with_len}
 use Rattle.std.proofs.lemmas.List.FromFn.{length-range_with_len}
 use Rattle.std.proofs.Math.Seq.{take-append_seam}
+use Rattle.std.proofs.lemmas.List.{take_all}
 use Rattle.circular_buffer.specs.Buffer.{keep_last}
 use Rattle.s3_store.specs.Bytes.{sector_bytes}
 use Rattle.s3_store.proofs.SectorLists.{slice_get_set_same, slice_get_set_other}
@@ -132,16 +133,24 @@ turned free one two are = record {
 pub moved_two : (free one two : List ℕ) (b : ℕ) → slice_get free 0 ≡ Some b → AreBlocks free one two → AreBlocks (drop 1 free) one (two ++ b ∷ [])
 moved_two free one two b first are = swapped (drop 1 free) (two ++ b ∷ []) one (moved_one free two one b first (swapped free one two are))
 
-pub back_from_one : (free one two : List ℕ) (b : ℕ) → slice_get one 0 ≡ Some b → AreBlocks free one two → AreBlocks (free ++ b ∷ []) (drop 1 one) two
-back_from_one free one two b first are = turned (drop 1 one) (free ++ b ∷ []) two (moved_one one free two b first (turned free one two are))
+-- a level's first block becomes the first free one
+pub back_from_one : (free one two : List ℕ) (b : ℕ) → slice_get one 0 ≡ Some b → AreBlocks free one two → AreBlocks (b ∷ free) (drop 1 one) two
+back_from_one free one two b first are = record {
+  count = omega (arith, are.count, length-rest one b first);
+  each = λ block below. omega (arith, are.each block below, times-first block b one first, times-append block (b ∷ []) free);
+  no_other = λ block above. omega (arith, are.no_other block above, times-first block b one first, times-append block (b ∷ []) free);
+}
 
-pub back_from_two : (free one two : List ℕ) (b : ℕ) → slice_get two 0 ≡ Some b → AreBlocks free one two → AreBlocks (free ++ b ∷ []) one (drop 1 two)
-back_from_two free one two b first are = swapped (free ++ b ∷ []) (drop 1 two) one (back_from_one free two one b first (swapped free one two are))
+pub back_from_two : (free one two : List ℕ) (b : ℕ) → slice_get two 0 ≡ Some b → AreBlocks free one two → AreBlocks (b ∷ free) one (drop 1 two)
+back_from_two free one two b first are = swapped (b ∷ free) (drop 1 two) one (back_from_one free two one b first (swapped free one two are))
 
 pub kept_all : (n b : ℕ) (xs : List ℕ) → length xs < n → keep_last n (xs ++ b ∷ []) ≡ xs ++ b ∷ []
 kept_all n b xs room =
     let none : length (xs ++ b ∷ []) - n ≡ 0 = omega (arith, length-append xs (b ∷ [])) in
     ap (λ m. drop m (xs ++ b ∷ [])) none
+
+pub kept_all_behind : (n b : ℕ) (xs : List ℕ) → length xs < n → take n (b ∷ xs) ≡ b ∷ xs
+kept_all_behind n b xs room = take_all n (b ∷ xs) (omega arith)
 
 -- ---- the lines in blocks
 kept_sector : (contents : List (List ℕ)) (n m : ℕ) (bytes : List ℕ) → m ≢ n → sector_bytes (slice_set contents n bytes) m ≡ sector_bytes contents m

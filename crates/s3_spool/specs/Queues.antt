@@ -70,10 +70,10 @@ abbrev pub with_queued : LevelId → ℕ → Blocks → Blocks
 with_queued One block blocks = record blocks { free = drop 1 blocks.free; one = blocks.one ++ block ∷ [] }
 with_queued Two block blocks = record blocks { free = drop 1 blocks.free; two = blocks.two ++ block ∷ [] }
 
--- a level's first block becomes the last free one
+-- a level's first block becomes the first free one
 abbrev pub with_taken : LevelId → ℕ → Blocks → Blocks
-with_taken One block blocks = record blocks { free = blocks.free ++ block ∷ []; one = drop 1 blocks.one }
-with_taken Two block blocks = record blocks { free = blocks.free ++ block ∷ []; two = drop 1 blocks.two }
+with_taken One block blocks = record blocks { free = block ∷ blocks.free; one = drop 1 blocks.one }
+with_taken Two block blocks = record blocks { free = block ∷ blocks.free; two = drop 1 blocks.two }
 
 -- a sector of a block that holds no line
 pub record IsFreeSector (blocks : Blocks) (n : ℕ) : Type 0 where

@@ -164,8 +164,9 @@ impl Spool {
         };
     }
 
-    /// A level's first block becomes the last free one.
-    #[tactic(auto, using(crate::proofs::BlocksLemmas::kept_all, crate::proofs::BlocksLemmas::back_from_one, crate::proofs::BlocksLemmas::back_from_two))]
+    /// A level's first block becomes the first free one, so that the next line goes into a block that most likely stands in a
+    /// buffer still.
+    #[tactic(auto, using(crate::proofs::BlocksLemmas::kept_all_behind, crate::proofs::BlocksLemmas::back_from_one, crate::proofs::BlocksLemmas::back_from_two))]
     fn dequeue(&mut self, level: LevelId, block: u8)
         requires { slice_get (blocks_of level self.old) 0 ≡ Some block }
         ensures taken { self.new ≡ with_taken level block self.old }
@@ -175,7 +176,7 @@ impl Spool {
             LevelId::One => self.one.pop_front(),
             LevelId::Two => self.two.pop_front(),
         };
-        self.free.push_back(block);
+        self.free.push_front(block);
     }
 
     /// A line more for a level, put last in its queue.

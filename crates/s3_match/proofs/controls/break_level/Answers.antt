@@ -12,23 +12,23 @@ returns-then-not-has_control_fields c =
 
 pub breaks_at-requires-clause-ranged : goal.breaks_at-requires-clause-ranged
 breaks_at-requires-clause-ranged c =
-    ranged_there c.control_fields-fields.result (9 - c.loop-step.step) (9 - c.loop-step.step - 1) None (omega (arith, c.loop-step-test.true)) (omega arith)
-    (c.control_fields-fields.ensures.ranged (9 - c.loop-step.step) (omega (arith, c.loop-step-test.true)) (omega arith))
+    ranged_there c.note_control_fields.new.fields (9 - c.loop-step.step) (9 - c.loop-step.step - 1) None (omega (arith, c.loop-step-test.true)) (omega arith)
+    (c.note_control_fields.ensures.ranged (9 - c.loop-step.step) (omega (arith, c.loop-step-test.true)) (omega arith))
 
 pub returns-then-breaks_at : goal.returns-then-breaks_at
 returns-then-breaks_at c =
     level_breaks (breaks_at (held_in c.args.held.now) (kind_at c.args.program.now c.args.start) c.args.bytes.now) _ _ c.loop-step-test.true refl c.loop-step.invariant
     (sym (c.breaks_at.ensures (kind_at c.args.program.now c.args.start)
-    (value_there c.control_fields-fields.result (kind_at c.args.program.now c.args.start) c.args.bytes.now (9 - c.loop-step.step) (9 - c.loop-step.step - 1) None (omega (arith, c.loop-step-test.true)) (omega arith)
-    (c.control_fields-fields.ensures.values (9 - c.loop-step.step) (omega (arith, c.loop-step-test.true)) (omega arith) c.args.bytes.now)))
+    (value_there c.note_control_fields.new.fields (kind_at c.args.program.now c.args.start) c.args.bytes.now (9 - c.loop-step.step) (9 - c.loop-step.step - 1) None (omega (arith, c.loop-step-test.true)) (omega arith)
+    (c.note_control_fields.ensures.values (9 - c.loop-step.step) (omega (arith, c.loop-step-test.true)) (omega arith) c.args.bytes.now)))
     ∙ c.if-breaks_at.true)
 
 pub loop-step-preserved : goal.loop-step-preserved
 loop-step-preserved c =
     level_stays (breaks_at (held_in c.args.held.now) (kind_at c.args.program.now c.args.start) c.args.bytes.now) _ _ c.loop-step-test.true refl c.loop-step.invariant
     (sym (c.breaks_at.ensures (kind_at c.args.program.now c.args.start)
-    (value_there c.control_fields-fields.result (kind_at c.args.program.now c.args.start) c.args.bytes.now (9 - c.loop-step.step) (9 - c.loop-step.step - 1) None (omega (arith, c.loop-step-test.true)) (omega arith)
-    (c.control_fields-fields.ensures.values (9 - c.loop-step.step) (omega (arith, c.loop-step-test.true)) (omega arith) c.args.bytes.now)))
+    (value_there c.note_control_fields.new.fields (kind_at c.args.program.now c.args.start) c.args.bytes.now (9 - c.loop-step.step) (9 - c.loop-step.step - 1) None (omega (arith, c.loop-step-test.true)) (omega arith)
+    (c.note_control_fields.ensures.values (9 - c.loop-step.step) (omega (arith, c.loop-step-test.true)) (omega arith) c.args.bytes.now)))
     ∙ c.if-breaks_at.false)
 
 pub returns : goal.returns

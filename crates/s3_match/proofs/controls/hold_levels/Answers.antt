@@ -13,13 +13,13 @@ returns-then-not-has_control_fields c = λ level.
 
 pub hold_level-requires-clause-ranged : goal.hold_level-requires-clause-ranged
 hold_level-requires-clause-ranged c =
-    ranged_there c.control_fields-fields.result (c.loop-step.step + 1) c.loop-step.step None (omega arith) (omega (arith, c.loop-step-test.true))
-    (c.control_fields-fields.ensures.ranged (c.loop-step.step + 1) (omega arith) (omega (arith, c.loop-step-test.true)))
+    ranged_there c.note_control_fields.new.fields (c.loop-step.step + 1) c.loop-step.step None (omega arith) (omega (arith, c.loop-step-test.true))
+    (c.note_control_fields.ensures.ranged (c.loop-step.step + 1) (omega arith) (omega (arith, c.loop-step-test.true)))
 
 pub loop-step-preserved : goal.loop-step-preserved
 loop-step-preserved c =
     held_one_more (kind_at c.args.program.now c.args.start) c.args.bytes.now c.args.held.now c.loop-step.held _ c.loop-step.step (c.loop-step.step + 1) refl c.loop-step.invariant
     (held_by_value (kind_at c.args.program.now c.args.start) c.args.bytes.now c.loop-step.held _ _ (c.loop-step.step + 1)
-    (value_there c.control_fields-fields.result (kind_at c.args.program.now c.args.start) c.args.bytes.now (c.loop-step.step + 1) c.loop-step.step None (omega arith) (omega (arith, c.loop-step-test.true))
-    (c.control_fields-fields.ensures.values (c.loop-step.step + 1) (omega arith) (omega (arith, c.loop-step-test.true)) c.args.bytes.now))
+    (value_there c.note_control_fields.new.fields (kind_at c.args.program.now c.args.start) c.args.bytes.now (c.loop-step.step + 1) c.loop-step.step None (omega arith) (omega (arith, c.loop-step-test.true))
+    (c.note_control_fields.ensures.values (c.loop-step.step + 1) (omega arith) (omega (arith, c.loop-step-test.true)) c.args.bytes.now))
     c.hold_level.ensures)

@@ -1,9 +1,8 @@
-use Rattle.std.proofs.Common.{refl, ◌∙◌, ap}
-use Rattle.s3_operations.specs.Indicators.{on_in, shown_on}
+use Rattle.std.proofs.Common.{refl}
 use Rattle.s3_operations.proofs.ChangeLemmas.{number_put, stored}
 use Rattle.s3_operations.proofs.values.Values.store.Goals as goal
 
 pub returns : goal.returns
 returns c = stored c.args.program.now c.args.self.now _ c.args.line.now c.args.number
     (number_put c.args.program.now c.args.self.now _ c.args.line.now c.number_slot-slot.result c.args.number c.requires.sound c.requires.gives.result c.number_slot-slot.ensures c.requires.digits c.requires.decimals refl refl)
-    refl refl (λ other. c.show.ensures other ∙ ap (λ m. shown_on m (on_in c.args.self.now.indicators) other) c.sign_marks.ensures.marks)
+    refl refl c.show_sign.ensures

@@ -1,8 +1,8 @@
 use Rattle.s3_match.proofs.ControlFieldLemmas.{none_noted, noted_more, noted_to_group, noted_to_end}
-use Rattle.s3_match.proofs.control_fields.first_fields.Goals as goal
+use Rattle.s3_match.proofs.control_fields.note_first.Goals as goal
 
 pub loop-place-init : goal.loop-place-init
-loop-place-init c = λ level one nine. none_noted c.args.indicator c.args.inputs.now _ level one nine
+loop-place-init c = λ level one nine. none_noted c.args.indicator c.args.inputs.now c.args.fields.now _ level c.requires one nine
 
 pub returns-then-begins_group : goal.returns-then-begins_group
 returns-then-begins_group c = λ level one nine. noted_to_group c.args.indicator c.args.inputs.now _ _ level _ _ _ c.loop-place-test.true (c.loop-place.invariant level one nine) c.begins_group.ensures c.if-begins_group.true

@@ -4,7 +4,7 @@ use Rattle.std.specs.Option.{option_or}
 use Rattle.s3_program.specs.declared.mark.Key.TheVariants as key
 use Rattle.s3_match.specs.Fields.{first_field}
 use Rattle.s3_match.specs.Inner.ControlFields.{field_in}
-use Rattle.s3_match.proofs.control_fields.first_fields.Given as goal
+use Rattle.s3_match.proofs.control_fields.note_first.Given as goal
 
 abbrev pub invariant-loop-place : goal.invariant-loop-place
 invariant-loop-place l = (level : ℕ) → 1 ≤ level → level ≤ 9

@@ -4,7 +4,7 @@ use Rattle.s3_meaning.specs.Environment.{at_first}
 use Rattle.s3_program.specs.Stands.{source_named}
 use Rattle.s3_operations.specs.Held.{held}
 use Rattle.s3_sections.proofs.SpotLemmas.{comes, passes, nothing}
-use Rattle.s3_sections.proofs.spot.Spot.next.Goals as goal
+use Rattle.s3_sections.proofs.spot.Spot.next_of_cards.Goals as goal
 
 pub returns-in_err-gathered : goal.returns-in_err-gathered
 returns-in_err-gathered c = λ rest. rw c.from_residual.ensures (nothing c.args.program.now c.args.self.section c.args.self.place (c.in_err-gathered.ensures rest))
