@@ -37,7 +37,7 @@ same_blocks : (level : LevelId) (areas : Areas) (s t : PoolState) → IsPackRead
 same_blocks level areas s t pack keeps b few = keeps.contents (block_sector b) (block_out level areas s.contents (block_sector b) pack (omega arith) (omega arith))
 
 -- a free sector is one of a block
-free_is_block : (blocks : Blocks) (n : ℕ) → IsFreeSector blocks n → (25 ≤ n) × (n < 153)
+pub free_is_block : (blocks : Blocks) (n : ℕ) → IsFreeSector blocks n → (25 ≤ n) × (n < 153)
 free_is_block blocks n is = (omega (arith, is.place), omega (arith, is.place, is.few))
 
 -- a region has no block

@@ -8,6 +8,7 @@ pub mod Starting
 pub mod Beginning
 pub mod Compiling
 pub mod Others
+pub mod Said
 pub mod Beside
 pub mod Printing
 pub mod Ending

@@ -1,7 +1,8 @@
 //! The job at work.
-ghost use Rattle.std.specs.Prelude.{◌≡◌, true, false, ◌+◌, ◌<◌, ◌≤◌, [], ◌∷◌, length, map, drop, slice_get, slice_range, option_map, replicate, Some, IfOk, IfSome, IsTrue, OnOk, OnErr, MatchOption, ⊤};
+ghost use Rattle.std.specs.Prelude.{◌≡◌, true, false, ◌+◌, ◌<◌, ◌≤◌, [], ◌∷◌, length, map, drop, slice_get, slice_range, option_map, replicate, Some, IfOk, IfSome, IsTrue, OnOk, OnErr, MatchOption, ⊤, ◌≢◌, IfErr};
 ghost use Rattle.s3_store.specs.State.{KeepsContents, KeepsInStep};
 ghost use Rattle.s3_store.specs.Failures.{failed_transfers};
+ghost use Rattle.s3_labels.specs.Labelled.{KeepsSaid};
 ghost use Rattle.s3_job_files.specs.Files.{FilesInUse, place_named};
 ghost use Rattle.s3_job_files.specs.Closing.{files_closed};
 ghost use Rattle.s3_job_files.specs.Calls.{found_answer, put_answer};
@@ -117,6 +118,7 @@ fn chain<P: Sectors>(
     ensures keeps { KeepsContents (P.state pack.old.pool) (P.state pack.new.pool) }
     ensures areas { pack.new.areas ≡ pack.old.areas }
     ensures failures { (P.state pack.new.pool).failures ≡ (P.state pack.old.pool).failures + failed_transfers result }
+    ensures fault { IfErr result (λ fault. fault ≢ PoolFault.NoSector) }
     ensures level { job_files.new.level ≡ job_files.old.level }
 {
     match sought {
@@ -126,6 +128,7 @@ fn chain<P: Sectors>(
 }
 
 /// Reads the record that the pending request asks for in the file at a place, and answers whether there is one.
+#[tactic(auto, using(crate::proofs::Said::said_same))]
 fn find<P: Sectors>(
     cycle: &Cycle,
     job_files: &mut JobFiles,
@@ -143,6 +146,8 @@ fn find<P: Sectors>(
     ensures opened { map opened_as job_files.new.files.items ≡ map opened_as job_files.old.files.items }
     ensures others { KeepsOthers job_files.old.level pack.old.areas pack.new.areas (P.state pack.old.pool) (P.state pack.new.pool) }
     ensures failures { (P.state pack.new.pool).failures ≡ (P.state pack.old.pool).failures + failed_transfers result }
+    ensures says { OnOk result (KeepsSaid job_files.old.level pack.old.areas (P.state pack.old.pool).contents pack.new.areas (P.state pack.new.pool).contents) }
+    ensures fault { IfErr result (λ fault. fault ≢ PoolFault.NoSector) }
     ensures level { job_files.new.level ≡ job_files.old.level }
 {
     match cycle.pending() {
@@ -171,6 +176,8 @@ fn change<P: Sectors>(
     ensures spares { KeepsInStep (IsOutOfReach job_files.now.level pack.old.areas.header) (P.state pack.old.pool) (P.state pack.new.pool) }
     ensures areas { pack.new.areas ≡ pack.old.areas }
     ensures failures { (P.state pack.new.pool).failures ≡ (P.state pack.old.pool).failures + failed_transfers result }
+    ensures says { OnOk result (KeepsSaid job_files.now.level pack.old.areas (P.state pack.old.pool).contents pack.new.areas (P.state pack.new.pool).contents) }
+    ensures fault { IfErr result (λ fault. fault ≢ PoolFault.NoSector) }
 {
     let mut positions = [None; LONGEST_RECORD];
     let count = laid_out(changes, &mut positions);
@@ -195,6 +202,8 @@ fn store<P: Sectors>(
     ensures opened { map opened_as job_files.new.files.items ≡ map opened_as job_files.old.files.items }
     ensures others { KeepsOthers job_files.old.level pack.old.areas pack.new.areas (P.state pack.old.pool) (P.state pack.new.pool) }
     ensures failures { (P.state pack.new.pool).failures ≡ (P.state pack.old.pool).failures + failed_transfers result }
+    ensures says { OnOk result (KeepsSaid job_files.old.level pack.old.areas (P.state pack.old.pool).contents pack.new.areas (P.state pack.new.pool).contents) }
+    ensures fault { IfErr result (λ fault. fault ≢ PoolFault.NoSector) }
     ensures level { job_files.new.level ≡ job_files.old.level }
 {
     match cycle.pending() {
@@ -249,6 +258,8 @@ impl OpenJob {
         ensures ready { OnOk result (AreFilesReady self.files.level [] (seen pack.new.areas (P.state pack.new.pool).contents)) }
         ensures others { KeepsOthers self.files.level pack.old.areas pack.new.areas (P.state pack.old.pool) (P.state pack.new.pool) }
         ensures failures { (P.state pack.new.pool).failures ≡ (P.state pack.old.pool).failures + failed_transfers result }
+        ensures says { OnOk result (KeepsSaid self.files.level pack.old.areas (P.state pack.old.pool).contents pack.new.areas (P.state pack.new.pool).contents) }
+        ensures fault { IfErr result (λ fault. fault ≢ PoolFault.NoSector) }
     {
         self.files.close(pack)
     }
@@ -266,6 +277,8 @@ impl OpenJob {
         ensures place { KeepsPlace self.old self.new }
         ensures others { KeepsOthers self.old.files.level pack.old.areas pack.new.areas (P.state pack.old.pool) (P.state pack.new.pool) }
         ensures failures { (P.state pack.new.pool).failures ≡ (P.state pack.old.pool).failures + failed_transfers result }
+        ensures says { OnOk result (KeepsSaid self.old.files.level pack.old.areas (P.state pack.old.pool).contents pack.new.areas (P.state pack.new.pool).contents) }
+        ensures fault { IfErr result (λ fault. fault ≢ PoolFault.NoSector) }
     {
         match self.cycle.pending() {
             Request::Read { file, length } => {
@@ -324,6 +337,8 @@ impl OpenJob {
         ensures place { KeepsPlace self.old self.new }
         ensures others { KeepsOthers self.old.files.level pack.old.areas pack.new.areas (P.state pack.old.pool) (P.state pack.new.pool) }
         ensures failures { (P.state pack.new.pool).failures ≡ (P.state pack.old.pool).failures + failed_transfers result }
+        ensures says { OnOk result (KeepsSaid self.old.files.level pack.old.areas (P.state pack.old.pool).contents pack.new.areas (P.state pack.new.pool).contents) }
+        ensures fault { IfErr result (λ fault. fault ≢ PoolFault.NoSector) }
     {
         let Some(place) = self.place_of(file) else {
             return Ok(false);
@@ -349,6 +364,8 @@ impl OpenJob {
         ensures place { KeepsPlace self.old self.new }
         ensures others { KeepsOthers self.old.files.level pack.old.areas pack.new.areas (P.state pack.old.pool) (P.state pack.new.pool) }
         ensures failures { (P.state pack.new.pool).failures ≡ (P.state pack.old.pool).failures + failed_transfers result }
+        ensures says { OnOk result (KeepsSaid self.old.files.level pack.old.areas (P.state pack.old.pool).contents pack.new.areas (P.state pack.new.pool).contents) }
+        ensures fault { IfErr result (λ fault. fault ≢ PoolFault.NoSector) }
     {
         let Some(place) = self.place_of(file) else {
             return Ok(false);

@@ -2,12 +2,17 @@
 
 #![tactic(auto)]
 
+mod at_work;
 mod date;
 mod details;
 mod job;
 mod job_number;
+mod jobs;
 mod level;
 mod next;
+mod replying;
+mod requesting;
+mod sources;
 mod switches;
 
 pub use level::Level;

@@ -3,3 +3,6 @@ pub mod Lister
 pub mod SwitchLaw
 pub mod Settings
 pub mod Replying
+pub mod SecondFiles
+pub mod SecondSteps
+pub mod MigratedStarts

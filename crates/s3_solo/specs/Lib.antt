@@ -3,4 +3,5 @@ pub mod World
 pub mod Serving
 pub mod Solo
 pub mod Asked
+pub mod Formats
 pub mod Samples

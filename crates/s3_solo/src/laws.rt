@@ -1,5 +1,5 @@
 //! What the definitions say of themselves: worked rows, and each switch after the start of a job.
-ghost use Rattle.std.specs.Prelude.{◌≡◌, ◌≤◌, ℕ, List, [], ◌∷◌, Some, None};
+ghost use Rattle.std.specs.Prelude.{◌≡◌, ◌≤◌, ℕ, false, List, [], ◌∷◌, Some, None, Ok};
 ghost use Rattle.s3_ocl.specs.declared.values.Switch.{Switch};
 ghost use Rattle.s3_meaning.specs.Environment.{switch_on};
 ghost use Rattle.s3_solo.specs.Serving.{is_on_after, switch_of, switches_after};
@@ -7,8 +7,15 @@ ghost use Rattle.s3_solo.specs.declared.action.Action.TheVariants.{Turn, Reply};
 ghost use Rattle.s3_solo.specs.declared.action.Did.TheVariants.{Acted, Idle, Refused};
 ghost use Rattle.s3_operator.specs.declared.halt_code.HaltCode.TheVariants.{FaultyJob, NoProgram};
 ghost use Rattle.s3_operator.specs.Halts.{with_halt};
+ghost use Rattle.s3_cards.specs.declared.levels.LevelId.{LevelId};
+ghost use Rattle.s3_slots.specs.Header.{mounted};
+ghost use Rattle.s3_slots.specs.declared.header.Header.{Header};
+ghost use Rattle.s3_labels.specs.Images.{contents_of, in_second, migrated};
+ghost use Rattle.s3_solo.specs.Formats.{answers, over_second, shows_no_space};
+ghost use Rattle.s3_solo.specs.World.{World, at_start};
+ghost use Rattle.s3_solo.specs.declared.action.Action.{Action};
 ghost use Rattle.s3_solo.specs.Samples.{at_first};
-ghost use Rattle.s3_solo.specs.Solo.{step_of, refused, closed};
+ghost use Rattle.s3_solo.specs.Solo.{step_of, refused, solo, closed};
 ghost use Rattle.s3_solo.specs.Samples.{after_turns, at_halt, first_line, halted, listing, passed_over, settings_deck, faulty_deck, two_jobs_deck};
 
 /// The deck that compiles the card lister and lists ABC and DEF. Its turns are: compile, start, card, line, card, line, end of
@@ -49,4 +56,20 @@ pub fn jobs_set_date_and_switches()
     ensures faulty { (step_of (at_first faulty_deck) Turn).world.halts ≡ with_halt 1 FaultyJob ((4, 4) ∷ []) [] }
     ensures faulty_date { (step_of (at_first faulty_deck) Turn).world.date ≡ (at_first faulty_deck).date }
     ensures faulty_switches { (step_of (at_first faulty_deck) Turn).world.switches ≡ 0 }
+{}
+
+/// A level goes the same way over a pack of the second format as over the same pack in the first, and its entries get the same
+/// answers, where no halt NS (no space) is shown.
+pub fn formats_differ_in_space_alone()
+    ensures run { (w : World) (actions : List Action) → shows_no_space (solo w actions).halts ≡ false → solo (over_second w) actions ≡ over_second (solo w actions) }
+    ensures answers { (w : World) (actions : List Action) → shows_no_space (solo w actions).halts ≡ false → answers (over_second w) actions ≡ answers w actions }
+    ensures end { (w : World) → closed (over_second w) ≡ over_second (closed w) }
+{}
+
+/// A level begins over a migrated pack as over the old one, but for the format. It goes the same way and its entries get the same
+/// answers, where no halt NS (no space) is shown.
+pub fn a_migrated_pack_gives_the_same_run()
+    ensures start { (old new : List ℕ) (header : Header) (level : LevelId) (deck : List (List ℕ)) → mounted (contents_of old) ≡ Ok header → migrated old ≡ Ok new → at_start level (in_second header) (contents_of new) deck ≡ over_second (at_start level header (contents_of old) deck) }
+    ensures run { (old new : List ℕ) (header : Header) (level : LevelId) (deck : List (List ℕ)) (actions : List Action) → mounted (contents_of old) ≡ Ok header → migrated old ≡ Ok new → shows_no_space (solo (at_start level header (contents_of old) deck) actions).halts ≡ false → solo (at_start level (in_second header) (contents_of new) deck) actions ≡ over_second (solo (at_start level header (contents_of old) deck) actions) }
+    ensures answers { (old new : List ℕ) (header : Header) (level : LevelId) (deck : List (List ℕ)) (actions : List Action) → mounted (contents_of old) ≡ Ok header → migrated old ≡ Ok new → shows_no_space (solo (at_start level header (contents_of old) deck) actions).halts ≡ false → answers (at_start level (in_second header) (contents_of new) deck) actions ≡ answers (at_start level header (contents_of old) deck) actions }
 {}

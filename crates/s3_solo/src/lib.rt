@@ -7,5 +7,6 @@ mod laws;
 
 pub use action::{Action, Did};
 pub use laws::{
-    card_lister_lists, each_switch_is_set, jobs_set_date_and_switches, replies_pass_jobs_over,
+    a_migrated_pack_gives_the_same_run, card_lister_lists, each_switch_is_set,
+    formats_differ_in_space_alone, jobs_set_date_and_switches, replies_pass_jobs_over,
 };

@@ -1,6 +1,7 @@
 use Rattle.std.proofs.Common.{Ok}
 use Rattle.s3_level.proofs.Beside.{ready_put, spool_room}
 use Rattle.s3_level.proofs.Printing.{line_last}
+use Rattle.s3_level.proofs.Said.{said_put}
 use Rattle.s3_level.proofs.level.Level.put_line.Goals as goal
 
 pub put-requires : goal.put-requires
@@ -13,3 +14,6 @@ returns-in-Ok-clause-world g c =
 
 pub returns-in-Ok-clause-ready : goal.returns-in-Ok-clause-ready
 returns-in-Ok-clause-ready g c = ready_put c.args.self.now c.args.pack.now.areas c.args.spool.now (g.P.Sectors.state c.args.pack.now.pool) (g.P.Sectors.state c.put.new.sectors) c.requires.ready c.put.ensures.within
+
+pub returns-in-Ok-clause-says : goal.returns-in-Ok-clause-says
+returns-in-Ok-clause-says g c = said_put c.args.self.now.id c.args.pack.now.areas c.args.spool.now (g.P.Sectors.state c.args.pack.now.pool) (g.P.Sectors.state c.put.new.sectors) c.put.ensures.within

@@ -1,0 +1,212 @@
+//! The job at work: its turn, what it goes on with, where it stands then, and its end.
+
+use crate::level::Level;
+use crate::next::Next;
+use s3_cycle::{Answer, Request};
+use s3_labels::Pack;
+use s3_operator::HaltCode;
+use s3_solo::Did;
+use s3_spool::Spool;
+use s3_store::{PoolFault, Sectors};
+use std::alloc::AllocError;
+
+impl Level {
+    ghost use Rattle.std.specs.Prelude.{◌≡◌, ◌+◌, None, IfOk, OnOk, ◌≢◌, IfErr};
+    ghost use Rattle.std.specs.Option.{option_copied};
+    ghost use Rattle.s3_store.specs.Failures.{failed_transfers};
+    ghost use Rattle.s3_labels.specs.Labelled.{KeepsSaid};
+    ghost use Rattle.s3_store.specs.State.{KeepsContents};
+    ghost use Rattle.s3_meaning.specs.Requests as Meant;
+    ghost use Rattle.s3_cycle.specs.declared.request.Request.TheVariants as asks;
+    ghost use Rattle.s3_cycle.specs.Requests.{answer_of};
+    ghost use Rattle.s3_job_files.specs.Holds.{Seen, seen};
+    ghost use Rattle.s3_solo.specs.declared.action.Did.TheVariants.{Acted};
+    ghost use Rattle.s3_solo.specs.World.{World, JobAtWork};
+    ghost use Rattle.s3_solo.specs.Serving.{answered, at_work, halting, job_ended, served, with_answer};
+    ghost use Rattle.s3_level.specs.Holds.{Shown, AreAll, around, shown, with_seen, HoldsParts, IsReady, Becomes, Stays, Spares, KeepsOthers};
+    ghost use Rattle.s3_level.specs.Inner.Turning.{Pends, request_by, waits_by, FitsJob, Comes, AtWorkBecomes, Serves, Turns};
+
+    /// Performs the pending request of the job at work, or begins the next job.
+    #[tactic(auto, using(crate::proofs::Beside::spares_files, crate::proofs::Beside::spares_none, crate::proofs::Turns::none_open, crate::proofs::Turns::halted_turn))]
+    pub(crate) fn step<P: Sectors>(
+        &mut self,
+        pack: &mut Pack<P>,
+        spool: &mut Spool,
+    ) -> Result<Did, PoolFault>
+        requires ready { IsReady self.old (seen pack.old.areas (P.state pack.old.pool).contents) }
+        requires blocks { AreAll spool.old }
+        ensures world { Turns result (HoldsParts self.old (shown self.old.id (around pack.old.areas (P.state pack.old.pool) spool.old))) (HoldsParts self.new (shown self.old.id (around pack.new.areas (P.state pack.new.pool) spool.new))) }
+        ensures ready { OnOk result (IsReady self.new (seen pack.new.areas (P.state pack.new.pool).contents)) }
+        ensures spares { Spares self.old.id (around pack.old.areas (P.state pack.old.pool) spool.old) (around pack.new.areas (P.state pack.new.pool) spool.new) }
+        ensures failures { (P.state pack.new.pool).failures ≡ (P.state pack.old.pool).failures + failed_transfers result }
+        ensures says { OnOk result (KeepsSaid self.old.id pack.old.areas (P.state pack.old.pool).contents pack.new.areas (P.state pack.new.pool).contents) }
+        ensures fault { IfErr result (λ fault. fault ≢ PoolFault.NoSector) }
+        ensures stays { Stays self.old self.new }
+    {
+        if self.halts.is_waiting() {
+            return Ok(Did::Idle);
+        }
+        match self.pending() {
+            None => self.begin(pack),
+            Some(Request::Card) => self.read_card(pack),
+            Some(Request::Print { page, line }) => {
+                let page = *page;
+                let line = *line;
+                self.print(page, line, pack, spool)
+            }
+            Some(Request::Jump) => self.jump(pack),
+            Some(Request::End { .. }) => self.end(pack),
+            Some(Request::Ask(_)) => Ok(Did::Idle),
+            Some(Request::Read { .. }) => self.serve_file(pack),
+            Some(Request::Chain { .. }) => self.serve_file(pack),
+            Some(Request::Append { .. }) => self.serve_file(pack),
+            Some(Request::Add { .. }) => self.serve_file(pack),
+            Some(Request::Update { .. }) => self.serve_file(pack),
+        }
+    }
+
+    /// The pending request of the job at work.
+    #[tactic(auto, using(crate::proofs::Running::pends))]
+    pub(crate) fn pending(&self) -> Option<&Request>
+        ensures request { option_copied result ≡ request_by self.now.job }
+        ensures world { (s : Shown) (w : World) → HoldsParts self.now s w → Pends (waits_by self.now.job) w }
+    {
+        let Some(job) = &self.job else {
+            return None;
+        };
+        Some(job.cycle.pending())
+    }
+
+    /// Ends the job at work: its files are closed.
+    pub(crate) fn end_job<P: Sectors>(&mut self, pack: &mut Pack<P>) -> Result<(), PoolFault>
+        requires ready { IsReady self.old (seen pack.old.areas (P.state pack.old.pool).contents) }
+        ensures world { (s : Shown) → OnOk result (Becomes job_ended (HoldsParts self.old (with_seen (seen pack.old.areas (P.state pack.old.pool).contents) s)) (HoldsParts self.new (with_seen (seen pack.new.areas (P.state pack.new.pool).contents) s))) }
+        ensures ready { OnOk result (IsReady self.new (seen pack.new.areas (P.state pack.new.pool).contents)) }
+        ensures others { KeepsOthers self.old.id pack.old.areas pack.new.areas (P.state pack.old.pool) (P.state pack.new.pool) }
+        ensures rests { self.old.job ≡ None → (pack.new.areas ≡ pack.old.areas) × KeepsContents (P.state pack.old.pool) (P.state pack.new.pool) }
+        ensures failures { (P.state pack.new.pool).failures ≡ (P.state pack.old.pool).failures + failed_transfers result }
+        ensures says { OnOk result (KeepsSaid self.old.id pack.old.areas (P.state pack.old.pool).contents pack.new.areas (P.state pack.new.pool).contents) }
+        ensures fault { IfErr result (λ fault. fault ≢ PoolFault.NoSector) }
+        ensures stays { Stays self.old self.new }
+    {
+        match self.job.take() {
+            Some(job) => job.close(pack),
+            None => Ok(()),
+        }
+    }
+
+    /// Ends the job at work at its request.
+    fn end<P: Sectors>(&mut self, pack: &mut Pack<P>) -> Result<Did, PoolFault>
+        requires ready { IsReady self.old (seen pack.old.areas (P.state pack.old.pool).contents) }
+        ensures world { (s : Shown) → OnOk result (Becomes job_ended (HoldsParts self.old (with_seen (seen pack.old.areas (P.state pack.old.pool).contents) s)) (HoldsParts self.new (with_seen (seen pack.new.areas (P.state pack.new.pool).contents) s))) }
+        ensures acted { IfOk result (λ did. did ≡ Acted) }
+        ensures ready { OnOk result (IsReady self.new (seen pack.new.areas (P.state pack.new.pool).contents)) }
+        ensures others { KeepsOthers self.old.id pack.old.areas pack.new.areas (P.state pack.old.pool) (P.state pack.new.pool) }
+        ensures failures { (P.state pack.new.pool).failures ≡ (P.state pack.old.pool).failures + failed_transfers result }
+        ensures says { OnOk result (KeepsSaid self.old.id pack.old.areas (P.state pack.old.pool).contents pack.new.areas (P.state pack.new.pool).contents) }
+        ensures fault { IfErr result (λ fault. fault ≢ PoolFault.NoSector) }
+        ensures stays { Stays self.old self.new }
+    {
+        self.end_job(pack)?;
+        Ok(Did::Acted)
+    }
+
+    /// Lets the job at work go on behind a jump.
+    #[tactic(auto, using(crate::proofs::Fitting::jump_done, crate::proofs::Running::jump_served), unfolding(s3_cycle::specs::Requests::answer_of))]
+    fn jump<P: Sectors>(&mut self, pack: &mut Pack<P>) -> Result<Did, PoolFault>
+        requires asks { request_by self.old.job ≡ Some asks.Jump }
+        requires ready { IsReady self.old (seen pack.old.areas (P.state pack.old.pool).contents) }
+        ensures served { (s : Shown) → Serves (served Meant.Jump) result (HoldsParts self.old (with_seen (seen pack.old.areas (P.state pack.old.pool).contents) s)) (HoldsParts self.new (with_seen (seen pack.new.areas (P.state pack.new.pool).contents) s)) }
+        ensures ready { OnOk result (IsReady self.new (seen pack.new.areas (P.state pack.new.pool).contents)) }
+        ensures others { KeepsOthers self.old.id pack.old.areas pack.new.areas (P.state pack.old.pool) (P.state pack.new.pool) }
+        ensures failures { (P.state pack.new.pool).failures ≡ (P.state pack.old.pool).failures + failed_transfers result }
+        ensures says { OnOk result (KeepsSaid self.old.id pack.old.areas (P.state pack.old.pool).contents pack.new.areas (P.state pack.new.pool).contents) }
+        ensures fault { IfErr result (λ fault. fault ≢ PoolFault.NoSector) }
+        ensures stays { Stays self.old self.new }
+    {
+        self.resume(Answer::Done, pack)?;
+        Ok(Did::Acted)
+    }
+
+    /// Lets the job at work go on with the answer to its pending request.
+    #[tactic(auto, using(crate::proofs::Running::then_stands))]
+    pub(crate) fn resume<P: Sectors>(
+        &mut self,
+        answer: Answer<'_>,
+        pack: &mut Pack<P>,
+    ) -> Result<(), PoolFault>
+        requires fits { FitsJob self.old.job answer }
+        requires ready { IsReady self.old (seen pack.old.areas (P.state pack.old.pool).contents) }
+        ensures world { (s : Shown) → OnOk result (AtWorkBecomes (answered (answer_of answer.entry)) (HoldsParts self.old (with_seen (seen pack.old.areas (P.state pack.old.pool).contents) s)) (HoldsParts self.new (with_seen (seen pack.new.areas (P.state pack.new.pool).contents) s))) }
+        ensures ready { OnOk result (IsReady self.new (seen pack.new.areas (P.state pack.new.pool).contents)) }
+        ensures others { KeepsOthers self.old.id pack.old.areas pack.new.areas (P.state pack.old.pool) (P.state pack.new.pool) }
+        ensures failures { (P.state pack.new.pool).failures ≡ (P.state pack.old.pool).failures + failed_transfers result }
+        ensures says { OnOk result (KeepsSaid self.old.id pack.old.areas (P.state pack.old.pool).contents pack.new.areas (P.state pack.new.pool).contents) }
+        ensures fault { IfErr result (λ fault. fault ≢ PoolFault.NoSector) }
+        ensures stays { Stays self.old self.new }
+    {
+        self.take_answer(answer);
+        self.stand(pack)
+    }
+
+    /// Gives the pending request of the job at work its answer.
+    #[tactic(auto, using(crate::proofs::Running::answer_taken))]
+    fn take_answer(&mut self, answer: Answer<'_>)
+        requires { FitsJob self.old.job answer }
+        ensures world { (s : Shown) → AtWorkBecomes (λ job w. record w { job = Some (with_answer (answer_of answer.entry) job) }) (HoldsParts self.old s) (HoldsParts self.new s) }
+        ensures ready { (pack : Seen) → IsReady self.old pack → IsReady self.new pack }
+        ensures stays { Stays self.old self.new }
+    {
+        if let Some(job) = &mut self.job {
+            job.resume(answer);
+        }
+    }
+
+    /// Where the job at work asks for a reply, shows that halt; where a reply has ended it, it is over.
+    #[tactic(auto, using(crate::proofs::Running::halt_shown, crate::proofs::Running::job_over, crate::proofs::Running::job_goes_on))]
+    pub(crate) fn stand<P: Sectors>(&mut self, pack: &mut Pack<P>) -> Result<(), PoolFault>
+        requires ready { IsReady self.old (seen pack.old.areas (P.state pack.old.pool).contents) }
+        ensures world { (s : Shown) → OnOk result (AtWorkBecomes at_work (HoldsParts self.old (with_seen (seen pack.old.areas (P.state pack.old.pool).contents) s)) (HoldsParts self.new (with_seen (seen pack.new.areas (P.state pack.new.pool).contents) s))) }
+        ensures ready { OnOk result (IsReady self.new (seen pack.new.areas (P.state pack.new.pool).contents)) }
+        ensures others { KeepsOthers self.old.id pack.old.areas pack.new.areas (P.state pack.old.pool) (P.state pack.new.pool) }
+        ensures failures { (P.state pack.new.pool).failures ≡ (P.state pack.old.pool).failures + failed_transfers result }
+        ensures says { OnOk result (KeepsSaid self.old.id pack.old.areas (P.state pack.old.pool).contents pack.new.areas (P.state pack.new.pool).contents) }
+        ensures fault { IfErr result (λ fault. fault ≢ PoolFault.NoSector) }
+        ensures stays { Stays self.old self.new }
+    {
+        match self.next() {
+            Next::Halts(number, code) => Ok(self.show(number, code, Vec::new(self.alloc))?),
+            Next::IsOver => self.end_job(pack),
+            Next::GoesOn => Ok(()),
+        }
+    }
+
+    /// What the job at work comes to.
+    #[tactic(auto, using(crate::proofs::Running::comes_halt, crate::proofs::Running::comes_over, crate::proofs::Running::comes_on))]
+    fn next(&self) -> Next
+        ensures { (s : Shown) (w : World) (job : JobAtWork) → w.job ≡ Some job → HoldsParts self.now s w → Comes result job w }
+    {
+        let Some(job) = &self.job else {
+            return Next::GoesOn;
+        };
+        match job.cycle.pending() {
+            Request::Ask(code) => Next::Halts(job.number, *code),
+            Request::End { at_once: true } => Next::IsOver,
+            _ => Next::GoesOn,
+        }
+    }
+
+    /// Shows a halt.
+    pub(crate) fn show(
+        &mut self,
+        number: u16,
+        code: HaltCode,
+        details: Vec<(u16, u8)>,
+    ) -> Result<(), AllocError>
+        ensures world { (s : Shown) → OnOk result (Becomes (halting number code details.items) (HoldsParts self.old s) (HoldsParts self.new s)) }
+        ensures job { self.new.job ≡ self.old.job }
+        ensures stays { Stays self.old self.new }
+    {
+        self.halts.show(number, code, details)
+    }
+}

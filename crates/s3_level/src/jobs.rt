@@ -1,0 +1,261 @@
+//! The start of a job.
+
+use crate::date::Date;
+use crate::details::one_detail;
+use crate::job::OpenJob;
+use crate::level::Level;
+use crate::switches::switches_after;
+use s3_cycle::Cycle;
+use s3_job_files::JobFiles;
+use s3_labels::Pack;
+use s3_ocl::{FaultyJob, JobCards, OclFault, job_at, split};
+use s3_opening::{JobSettings, OpeningFault, open_files};
+use s3_operator::HaltCode;
+use s3_program::program::Program;
+use s3_solo::Did;
+use s3_store::{PoolFault, Sectors};
+use std::alloc::AllocError;
+
+impl Level {
+    ghost use Rattle.std.specs.Prelude.{◌≡◌, ◌≢◌, ◌<◌, ◌≤◌, ◌+◌, [], true, false, nat_lt, length, unwrap_or, None, IfOk, IsTrue, OnOk, IfErr};
+    ghost use Rattle.std.specs.List.{list_all};
+    ghost use Rattle.s3_store.specs.Failures.{failed_transfers};
+    ghost use Rattle.s3_labels.specs.Labelled.{KeepsSaid};
+    ghost use Rattle.s3_meaning.specs.Source.{Source};
+    ghost use Rattle.s3_program.specs.Stands.{Stands};
+    ghost use Rattle.s3_ocl.specs.Jobs.{next_job};
+    ghost use Rattle.s3_ocl.specs.Sound.{is_sound_date, is_sound_file};
+    ghost use Rattle.s3_ocl.specs.Streams.{jobs_from};
+    ghost use Rattle.s3_job_files.specs.Files.{FilesInUse};
+    ghost use Rattle.s3_job_files.specs.Holds.{Seen, seen, Holds as HoldsInUse, IsReady as AreFilesReady};
+    ghost use Rattle.s3_opening.specs.OpenFiles.{AreOfLines};
+    ghost use Rattle.s3_solo.specs.World.{World};
+    ghost use Rattle.s3_solo.specs.Serving.{at_work, data_of, performed, run, started, switches_after, with_jobs};
+    ghost use Rattle.s3_level.specs.Holds.{Shown, with_seen, HoldsParts, IsReady, Becomes, Stays, KeepsOthers};
+    ghost use Rattle.s3_level.specs.Inner.Turning.{NextIs, Begins, Starts};
+
+    /// Begins the next job, if there is one.
+    pub(crate) fn begin<P: Sectors>(&mut self, pack: &mut Pack<P>) -> Result<Did, PoolFault>
+        requires ready { IsReady self.old (seen pack.old.areas (P.state pack.old.pool).contents) }
+        requires rests { self.old.job ≡ None }
+        ensures world { (s : Shown) → Begins result (HoldsParts self.old (with_seen (seen pack.old.areas (P.state pack.old.pool).contents) s)) (HoldsParts self.new (with_seen (seen pack.new.areas (P.state pack.new.pool).contents) s)) }
+        ensures ready { OnOk result (IsReady self.new (seen pack.new.areas (P.state pack.new.pool).contents)) }
+        ensures others { KeepsOthers self.old.id pack.old.areas pack.new.areas (P.state pack.old.pool) (P.state pack.new.pool) }
+        ensures failures { (P.state pack.new.pool).failures ≡ (P.state pack.old.pool).failures + failed_transfers result }
+        ensures says { OnOk result (KeepsSaid self.old.id pack.old.areas (P.state pack.old.pool).contents pack.new.areas (P.state pack.new.pool).contents) }
+        ensures fault { IfErr result (λ fault. fault ≢ PoolFault.NoSector) }
+        ensures stays { Stays self.old self.new }
+    {
+        if !self.has_job() {
+            self.pass_over();
+            return Ok(Did::Idle);
+        }
+        match self.next_job() {
+            Ok(job) => self.start(&job, pack)?,
+            Err(OclFault::NoMemory) => return Err(PoolFault::NoMemory),
+            Err(OclFault::Faulty(faulty)) => self.refuse(faulty)?,
+        }
+        Ok(Did::Acted)
+    }
+
+    /// Whether a job is left.
+    #[tactic(auto, using(crate::proofs::Starting::no_job_left, crate::proofs::Starting::some_job_left))]
+    fn has_job(&self) -> bool
+        ensures next { result ≡ nat_lt (next_job self.now.deck self.now.next) (length self.now.deck) }
+        ensures none { result ≡ false → jobs_from self.now.deck self.now.next ≡ [] }
+        ensures some { result ≡ true → jobs_from self.now.deck self.now.next ≢ [] }
+    {
+        job_at(&self.deck, self.next).is_some()
+    }
+
+    /// Goes behind the last card of a deck that has no job left, so that no later turn looks at the separators there again.
+    #[tactic(auto, using(crate::proofs::Starting::no_job_behind))]
+    fn pass_over(&mut self)
+        requires { jobs_from self.old.deck self.old.next ≡ [] }
+        ensures world { (s : Shown) → Becomes (λ w. w) (HoldsParts self.old s) (HoldsParts self.new s) }
+        ensures job { self.new.job ≡ self.old.job }
+        ensures stays { Stays self.old self.new }
+    {
+        self.next = self.deck.len();
+    }
+
+    /// The next job, or its fault.
+    #[tactic(auto, using(crate::proofs::Starting::next_is))]
+    fn next_job(&self) -> Result<JobCards, OclFault>
+        requires { next_job self.now.deck self.now.next < length self.now.deck }
+        ensures job { NextIs self.now.deck self.now.next result }
+        ensures within { IfOk result (λ job. job.data_to ≤ length self.now.deck) }
+        ensures sound { IfOk result (λ job. IsTrue (list_all is_sound_file job.files)) }
+        ensures dated { IfOk result (λ job. IsTrue (is_sound_date job.date)) }
+    {
+        split(self.alloc, &self.deck, self.next)
+    }
+
+    /// Takes the next job, which ends before that place, and answers its number.
+    fn take_job(&mut self, after: usize) -> u16
+        ensures number { result ≡ self.old.number }
+        ensures world { (s : Shown) → Becomes (with_jobs (jobs_from self.old.deck after)) (HoldsParts self.old s) (HoldsParts self.new s) }
+        ensures job { self.new.job ≡ self.old.job }
+        ensures stays { Stays self.old self.new }
+    {
+        self.next = after;
+        self.number.take()
+    }
+
+    /// Passes a faulty job over and shows its fault.
+    fn refuse(&mut self, faulty: FaultyJob) -> Result<(), AllocError>
+        ensures world { (s : Shown) → OnOk result (Starts (Err faulty) (jobs_from self.old.deck faulty.after) (HoldsParts self.old s) (HoldsParts self.new s)) }
+        ensures job { self.new.job ≡ self.old.job }
+        ensures stays { Stays self.old self.new }
+    {
+        let number = self.take_job(faulty.after);
+        self.show_fault(number, faulty)
+    }
+
+    /// Shows the fault of a job's statements.
+    fn show_fault(&mut self, number: u16, faulty: FaultyJob) -> Result<(), AllocError>
+        ensures world { (s : Shown) → OnOk result (Becomes (started number (Err faulty)) (HoldsParts self.old s) (HoldsParts self.new s)) }
+        ensures job { self.new.job ≡ self.old.job }
+        ensures stays { Stays self.old self.new }
+    {
+        let details = one_detail(self.alloc, faulty.card, faulty.fault.number())?;
+        self.show(number, HaltCode::FaultyJob, details)
+    }
+
+    /// Starts the next job.
+    fn start<P: Sectors>(&mut self, job: &JobCards, pack: &mut Pack<P>) -> Result<(), PoolFault>
+        requires within { job.now.data_to ≤ length self.old.deck }
+        requires sound { IsTrue (list_all is_sound_file job.now.files) }
+        requires dated { IsTrue (is_sound_date job.now.date) }
+        requires ready { IsReady self.old (seen pack.old.areas (P.state pack.old.pool).contents) }
+        requires rests { self.old.job ≡ None }
+        ensures world { (s : Shown) → OnOk result (Starts (Ok job.now) (jobs_from self.old.deck job.now.after) (HoldsParts self.old (with_seen (seen pack.old.areas (P.state pack.old.pool).contents) s)) (HoldsParts self.new (with_seen (seen pack.new.areas (P.state pack.new.pool).contents) s))) }
+        ensures ready { OnOk result (IsReady self.new (seen pack.new.areas (P.state pack.new.pool).contents)) }
+        ensures others { KeepsOthers self.old.id pack.old.areas pack.new.areas (P.state pack.old.pool) (P.state pack.new.pool) }
+        ensures failures { (P.state pack.new.pool).failures ≡ (P.state pack.old.pool).failures + failed_transfers result }
+        ensures says { OnOk result (KeepsSaid self.old.id pack.old.areas (P.state pack.old.pool).contents pack.new.areas (P.state pack.new.pool).contents) }
+        ensures fault { IfErr result (λ fault. fault ≢ PoolFault.NoSector) }
+        ensures stays { Stays self.old self.new }
+    {
+        let number = self.take_job(job.after());
+        self.set(job);
+        self.perform(number, job, pack)
+    }
+
+    /// Sets date and switches as a job does.
+    fn set(&mut self, job: &JobCards)
+        requires { IsTrue (is_sound_date job.now.date) }
+        ensures value { self.new ≡ record self.old { switches = switches_after job.now.switches self.old.switches; date = unwrap_or job.now.date self.old.date } }
+        ensures stays { Stays self.old self.new }
+    {
+        self.switches = switches_after(self.switches, job.switches());
+        if let Some(digits) = job.date() {
+            self.date = Date::new(digits);
+        }
+    }
+
+    /// Compiles a job's source, or starts its program.
+    fn perform<P: Sectors>(
+        &mut self,
+        number: u16,
+        job: &JobCards,
+        pack: &mut Pack<P>,
+    ) -> Result<(), PoolFault>
+        requires within { job.now.data_to ≤ length self.old.deck }
+        requires sound { IsTrue (list_all is_sound_file job.now.files) }
+        requires ready { IsReady self.old (seen pack.old.areas (P.state pack.old.pool).contents) }
+        requires rests { self.old.job ≡ None }
+        ensures world { (s : Shown) → OnOk result (Becomes (performed number job.now (data_of self.old.deck job.now)) (HoldsParts self.old (with_seen (seen pack.old.areas (P.state pack.old.pool).contents) s)) (HoldsParts self.new (with_seen (seen pack.new.areas (P.state pack.new.pool).contents) s))) }
+        ensures ready { OnOk result (IsReady self.new (seen pack.new.areas (P.state pack.new.pool).contents)) }
+        ensures others { KeepsOthers self.old.id pack.old.areas pack.new.areas (P.state pack.old.pool) (P.state pack.new.pool) }
+        ensures failures { (P.state pack.new.pool).failures ≡ (P.state pack.old.pool).failures + failed_transfers result }
+        ensures says { OnOk result (KeepsSaid self.old.id pack.old.areas (P.state pack.old.pool).contents pack.new.areas (P.state pack.new.pool).contents) }
+        ensures fault { IfErr result (λ fault. fault ≢ PoolFault.NoSector) }
+        ensures stays { Stays self.old self.new }
+    {
+        if job.is_compile() {
+            Ok(self.compile(number, job.run_card(), job.data_from(), job.data_to())?)
+        } else {
+            self.run(number, job, pack)
+        }
+    }
+
+    /// Starts the program of a job over its files and data, or shows for what the job halts.
+    #[tactic(auto, using(crate::proofs::Starting::files_in_range, crate::proofs::Said::said_then, crate::proofs::Said::said_same))]
+    fn run<P: Sectors>(
+        &mut self,
+        number: u16,
+        job: &JobCards,
+        pack: &mut Pack<P>,
+    ) -> Result<(), PoolFault>
+        requires sound { IsTrue (list_all is_sound_file job.now.files) }
+        requires ready { IsReady self.old (seen pack.old.areas (P.state pack.old.pool).contents) }
+        requires rests { self.old.job ≡ None }
+        ensures world { (s : Shown) → OnOk result (Becomes (λ w. run number job.now.files (data_of self.old.deck job.now) (w.library job.now.program) w) (HoldsParts self.old (with_seen (seen pack.old.areas (P.state pack.old.pool).contents) s)) (HoldsParts self.new (with_seen (seen pack.new.areas (P.state pack.new.pool).contents) s))) }
+        ensures ready { OnOk result (IsReady self.new (seen pack.new.areas (P.state pack.new.pool).contents)) }
+        ensures others { KeepsOthers self.old.id pack.old.areas pack.new.areas (P.state pack.old.pool) (P.state pack.new.pool) }
+        ensures failures { (P.state pack.new.pool).failures ≡ (P.state pack.old.pool).failures + failed_transfers result }
+        ensures says { OnOk result (KeepsSaid self.old.id pack.old.areas (P.state pack.old.pool).contents pack.new.areas (P.state pack.new.pool).contents) }
+        ensures fault { IfErr result (λ fault. fault ≢ PoolFault.NoSector) }
+        ensures stays { Stays self.old self.new }
+    {
+        let Some(program) = self.library.get(&job.program()) else {
+            return Ok(self.show(number, HaltCode::NoProgram, Vec::new(self.alloc))?);
+        };
+        let settings = JobSettings {
+            statements: job.files(),
+            switches: self.switches,
+            date: self.date.digits(),
+        };
+        match open_files(self.alloc, self.id, pack, &settings, &program.files) {
+            Ok(files) => {
+                let program = program.copy(self.alloc)?;
+                self.run_over(number, job, program, files, pack)
+            }
+            Err(OpeningFault::Halted(code)) => {
+                Ok(self.show(number, code, Vec::new(self.alloc))?)
+            }
+            Err(OpeningFault::Sectors(fault)) => Err(fault),
+        }
+    }
+
+    /// Runs a program over the files that its job has in use.
+    #[tactic(auto, using(crate::proofs::Starting::ready_at_beginning))]
+    fn run_over<P: Sectors>(
+        &mut self,
+        number: u16,
+        job: &JobCards,
+        program: Program,
+        job_files: JobFiles,
+        pack: &mut Pack<P>,
+    ) -> Result<(), PoolFault>
+        requires rests { self.old.job ≡ None }
+        requires ready { AreFilesReady self.old.id job_files.files.items (seen pack.old.areas (P.state pack.old.pool).contents) }
+        requires level { job_files.level ≡ self.old.id }
+        requires lines { AreOfLines self.old.switches program.files.items job_files.files.items }
+        ensures world { (s : Shown) (before : Seen) → OnOk result ((w : World) (source : Source) (in_use : FilesInUse) → Stands program source → HoldsParts self.old (with_seen before s) w → HoldsInUse self.old.id job_files.files.items (seen pack.old.areas (P.state pack.old.pool).contents) in_use → HoldsParts self.new (with_seen (seen pack.new.areas (P.state pack.new.pool).contents) s) (at_work (record { number = number; source = source; cards = data_of self.old.deck job.now; files = in_use.job_files; past = [] }) (record w { pack = in_use.files }))) }
+        ensures ready { OnOk result (IsReady self.new (seen pack.new.areas (P.state pack.new.pool).contents)) }
+        ensures others { KeepsOthers self.old.id pack.old.areas pack.new.areas (P.state pack.old.pool) (P.state pack.new.pool) }
+        ensures failures { (P.state pack.new.pool).failures ≡ (P.state pack.old.pool).failures + failed_transfers result }
+        ensures says { OnOk result (KeepsSaid self.old.id pack.old.areas (P.state pack.old.pool).contents pack.new.areas (P.state pack.new.pool).contents) }
+        ensures fault { IfErr result (λ fault. fault ≢ PoolFault.NoSector) }
+        ensures stays { Stays self.old self.new }
+    {
+        let cycle = Cycle::start(self.alloc, program, self.switches, self.date.digits())?;
+        self.open(OpenJob {
+            number,
+            cycle,
+            files: job_files,
+            next: job.data_from(),
+            end: job.data_to(),
+        });
+        self.stand(pack)
+    }
+
+    /// Has this job at work.
+    fn open(&mut self, job: OpenJob)
+        ensures { self.new ≡ record self.old { job = Some job } }
+    {
+        self.job = Some(job);
+    }
+}

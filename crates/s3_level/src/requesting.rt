@@ -1,0 +1,153 @@
+//! Requests of the job at work: cards, lines and records.
+
+use crate::level::Level;
+use s3_cards::PrintLine;
+use s3_cycle::Answer;
+use s3_labels::Pack;
+use s3_solo::Did;
+use s3_spool::{Spool, SpoolFault};
+use s3_store::{PoolFault, Sectors};
+
+impl Level {
+    ghost use Rattle.std.specs.Prelude.{◌≡◌, ◌≢◌, ◌+◌, ℕ, List, length, IfOk, OnOk, OnErr, IfErr};
+    ghost use Rattle.s3_store.specs.Failures.{failed_transfers};
+    ghost use Rattle.s3_labels.specs.Labelled.{KeepsSaid};
+    ghost use Rattle.s3_meaning.specs.Requests as Meant;
+    ghost use Rattle.s3_cycle.specs.declared.request.Request.TheVariants as asks;
+    ghost use Rattle.s3_spool.specs.Queues.{blocks_of, quota_of};
+    ghost use Rattle.s3_job_files.specs.Holds.{Seen, seen};
+    ghost use Rattle.s3_solo.specs.Serving.{card_answer, line_put, served, with_answer, with_card_read};
+    ghost use Rattle.s3_level.specs.Holds.{Shown, AreAll, around, shown, with_seen, HoldsParts, IsReady, Becomes, Stays, Spares, KeepsOthers};
+    ghost use Rattle.s3_level.specs.Inner.Turning.{request_by, waits_by, AtWorkBecomes, Serves, FileServed, FileThere, on_files};
+
+    /// Reads a card for the job at work.
+    #[tactic(auto, using(crate::proofs::Running::card_served))]
+    pub(crate) fn read_card<P: Sectors>(&mut self, pack: &mut Pack<P>) -> Result<Did, PoolFault>
+        requires asks { request_by self.old.job ≡ Some asks.Card }
+        requires ready { IsReady self.old (seen pack.old.areas (P.state pack.old.pool).contents) }
+        ensures served { (s : Shown) → Serves (served Meant.Card) result (HoldsParts self.old (with_seen (seen pack.old.areas (P.state pack.old.pool).contents) s)) (HoldsParts self.new (with_seen (seen pack.new.areas (P.state pack.new.pool).contents) s)) }
+        ensures ready { OnOk result (IsReady self.new (seen pack.new.areas (P.state pack.new.pool).contents)) }
+        ensures others { KeepsOthers self.old.id pack.old.areas pack.new.areas (P.state pack.old.pool) (P.state pack.new.pool) }
+        ensures failures { (P.state pack.new.pool).failures ≡ (P.state pack.old.pool).failures + failed_transfers result }
+        ensures says { OnOk result (KeepsSaid self.old.id pack.old.areas (P.state pack.old.pool).contents pack.new.areas (P.state pack.new.pool).contents) }
+        ensures fault { IfErr result (λ fault. fault ≢ PoolFault.NoSector) }
+        ensures stays { Stays self.old self.new }
+    {
+        self.take_card();
+        self.stand(pack)?;
+        Ok(Did::Acted)
+    }
+
+    /// Gives the job at work its next card, if there is one.
+    #[tactic(auto, using(crate::proofs::Running::card_taken))]
+    fn take_card(&mut self)
+        requires { request_by self.old.job ≡ Some asks.Card }
+        ensures world { (s : Shown) → AtWorkBecomes (λ job w. record w { job = Some (with_answer (card_answer job.cards) (with_card_read job)) }) (HoldsParts self.old s) (HoldsParts self.new s) }
+        ensures ready { (pack : Seen) → IsReady self.old pack → IsReady self.new pack }
+        ensures stays { Stays self.old self.new }
+    {
+        if let Some(job) = &mut self.job {
+            job.read_card(&self.deck);
+        }
+    }
+
+    /// Serves the pending request of the job at work, one to a file.
+    #[tactic(auto, using(crate::proofs::Said::said_then))]
+    pub(crate) fn serve_file<P: Sectors>(&mut self, pack: &mut Pack<P>) -> Result<Did, PoolFault>
+        requires ready { IsReady self.old (seen pack.old.areas (P.state pack.old.pool).contents) }
+        ensures served { (s : Shown) → Serves on_files result (HoldsParts self.old (with_seen (seen pack.old.areas (P.state pack.old.pool).contents) s)) (HoldsParts self.new (with_seen (seen pack.new.areas (P.state pack.new.pool).contents) s)) }
+        ensures ready { OnOk result (IsReady self.new (seen pack.new.areas (P.state pack.new.pool).contents)) }
+        ensures others { KeepsOthers self.old.id pack.old.areas pack.new.areas (P.state pack.old.pool) (P.state pack.new.pool) }
+        ensures failures { (P.state pack.new.pool).failures ≡ (P.state pack.old.pool).failures + failed_transfers result }
+        ensures says { OnOk result (KeepsSaid self.old.id pack.old.areas (P.state pack.old.pool).contents pack.new.areas (P.state pack.new.pool).contents) }
+        ensures fault { IfErr result (λ fault. fault ≢ PoolFault.NoSector) }
+        ensures stays { Stays self.old self.new }
+    {
+        let took = self.take_file(pack)?;
+        if took {
+            self.stand(pack)?;
+            Ok(Did::Acted)
+        } else {
+            Ok(Did::Idle)
+        }
+    }
+
+    /// Gives the pending request of the job at work the answer of its files, if it has that file in use.
+    fn take_file<P: Sectors>(&mut self, pack: &mut Pack<P>) -> Result<bool, PoolFault>
+        requires ready { IsReady self.old (seen pack.old.areas (P.state pack.old.pool).contents) }
+        ensures served { (s : Shown) → IfOk result (λ took. FileServed took (HoldsParts self.old (with_seen (seen pack.old.areas (P.state pack.old.pool).contents) s)) (HoldsParts self.new (with_seen (seen pack.new.areas (P.state pack.new.pool).contents) s))) }
+        ensures fails { (s : Shown) → OnErr result (FileThere (HoldsParts self.old (with_seen (seen pack.old.areas (P.state pack.old.pool).contents) s))) }
+        ensures ready { OnOk result (IsReady self.new (seen pack.new.areas (P.state pack.new.pool).contents)) }
+        ensures others { KeepsOthers self.old.id pack.old.areas pack.new.areas (P.state pack.old.pool) (P.state pack.new.pool) }
+        ensures failures { (P.state pack.new.pool).failures ≡ (P.state pack.old.pool).failures + failed_transfers result }
+        ensures says { OnOk result (KeepsSaid self.old.id pack.old.areas (P.state pack.old.pool).contents pack.new.areas (P.state pack.new.pool).contents) }
+        ensures fault { IfErr result (λ fault. fault ≢ PoolFault.NoSector) }
+        ensures stays { Stays self.old self.new }
+    {
+        match &mut self.job {
+            Some(job) => job.serve(pack),
+            None => Ok(false),
+        }
+    }
+
+    /// Prints the line of the job at work, unless the queue is full.
+    #[tactic(auto, using(crate::proofs::Fitting::line_done, crate::proofs::Printing::line_waits, crate::proofs::Beside::spares_none, crate::proofs::Said::said_then))]
+    pub(crate) fn print<P: Sectors>(
+        &mut self,
+        page: u16,
+        line: u8,
+        pack: &mut Pack<P>,
+        spool: &mut Spool,
+    ) -> Result<Did, PoolFault>
+        requires asks { request_by self.old.job ≡ Some (asks.Print page line) }
+        requires ready { IsReady self.old (seen pack.old.areas (P.state pack.old.pool).contents) }
+        requires blocks { AreAll spool.old }
+        ensures served { (text : List ℕ) → waits_by self.old.job ≡ Some (Meant.Print page line text) → Serves (served (Meant.Print page line text)) result (HoldsParts self.old (shown self.old.id (around pack.old.areas (P.state pack.old.pool) spool.old))) (HoldsParts self.new (shown self.old.id (around pack.new.areas (P.state pack.new.pool) spool.new))) }
+        ensures ready { OnOk result (IsReady self.new (seen pack.new.areas (P.state pack.new.pool).contents)) }
+        ensures spares { Spares self.old.id (around pack.old.areas (P.state pack.old.pool) spool.old) (around pack.new.areas (P.state pack.new.pool) spool.new) }
+        ensures failures { (P.state pack.new.pool).failures ≡ (P.state pack.old.pool).failures + failed_transfers result }
+        ensures says { OnOk result (KeepsSaid self.old.id pack.old.areas (P.state pack.old.pool).contents pack.new.areas (P.state pack.new.pool).contents) }
+        ensures fault { IfErr result (λ fault. fault ≢ PoolFault.NoSector) }
+        ensures stays { Stays self.old self.new }
+    {
+        if spool.is_full(self.id) {
+            return Ok(Did::Idle);
+        }
+        self.put_line(page, line, pack, spool)?;
+        self.resume(Answer::Done, pack)?;
+        Ok(Did::Acted)
+    }
+
+    /// Puts the line of the job at work last in the queue, which has room for it.
+    #[tactic(auto, using(crate::proofs::Printing::line_last))]
+    fn put_line<P: Sectors>(
+        &self,
+        page: u16,
+        line: u8,
+        pack: &mut Pack<P>,
+        spool: &mut Spool,
+    ) -> Result<(), PoolFault>
+        requires asks { request_by self.now.job ≡ Some (asks.Print page line) }
+        requires ready { IsReady self.now (seen pack.old.areas (P.state pack.old.pool).contents) }
+        requires blocks { AreAll spool.old }
+        requires room { length (blocks_of self.now.id spool.old) ≢ quota_of self.now.id spool.old }
+        ensures world { OnOk result ((text : List ℕ) → waits_by self.now.job ≡ Some (Meant.Print page line text) → Becomes (line_put page line text) (HoldsParts self.now (shown self.now.id (around pack.old.areas (P.state pack.old.pool) spool.old))) (HoldsParts self.now (shown self.now.id (around pack.new.areas (P.state pack.new.pool) spool.new)))) }
+        ensures ready { OnOk result (IsReady self.now (seen pack.new.areas (P.state pack.new.pool).contents)) }
+        ensures spares { Spares self.now.id (around pack.old.areas (P.state pack.old.pool) spool.old) (around pack.new.areas (P.state pack.new.pool) spool.new) }
+        ensures failures { (P.state pack.new.pool).failures ≡ (P.state pack.old.pool).failures + failed_transfers result }
+        ensures says { OnOk result (KeepsSaid self.now.id pack.old.areas (P.state pack.old.pool).contents pack.new.areas (P.state pack.new.pool).contents) }
+        ensures fault { IfErr result (λ fault. fault ≢ PoolFault.NoSector) }
+        ensures areas { pack.new.areas ≡ pack.old.areas }
+    {
+        let Some(job) = &self.job else {
+            return Ok(());
+        };
+        let text = PrintLine::with_text(page, line, job.cycle.record());
+        match spool.put(self.id, &text, &mut pack.pool) {
+            Ok(()) => Ok(()),
+            Err(SpoolFault::Sectors(fault)) => Err(fault),
+            Err(SpoolFault::QuotaFull) => unreachable!(),
+            Err(SpoolFault::Empty) => unreachable!(),
+        }
+    }
+}
