@@ -1,10 +1,14 @@
 -- What the calls of a level come to, with what is beside it.
 use Rattle.std.proofs.Common.{◌≡◌, ℕ, ◌+◌, Result, Ok, Err}
-use Rattle.std.specs.Prelude.{IfOk, OnOk, OnErr}
+use Rattle.std.specs.Prelude.{IfErr, IfOk, OnOk, OnErr, ◌≢◌}
 use Rattle.s3_store.specs.Failures.{failed_transfers}
 use Rattle.s3_store.specs.State.{PoolState}
 use Rattle.s3_store.specs.declared.pool_fault.PoolFault.{PoolFault}
+use Rattle.s3_store.specs.State.{KeepsContents}
+use Rattle.s3_store.specs.declared.pool_fault.PoolFault.TheVariants.{NoSector}
 use Rattle.s3_labels.specs.Areas.{Areas, IsReady as IsPackReady}
+use Rattle.s3_labels.specs.Labelled.{KeepsSaid}
+use Rattle.s3_level.proofs.Said.{said_same}
 use Rattle.s3_spool.specs.Queues.{Blocks}
 use Rattle.s3_job_files.specs.Holds.{seen}
 use Rattle.s3_solo.specs.declared.action.Action.TheVariants.{Turn, Reply, Drain}
@@ -25,11 +29,13 @@ pub turned : (result : Result Did PoolFault) (old new : Level) (before after : A
     → Spares old.id before after
     → after.state.failures ≡ before.state.failures + failed_transfers result
     → Stays old new
+    → OnOk result (KeepsSaid old.id before.areas before.state.contents after.areas after.state.contents)
+    → IfErr result (λ fault. fault ≢ NoSector)
     → Acts Turn result old new before after
-turned (Ok did) old new before after steps idle ready spares failures stays =
-    record { id = stays.id; spares = spares; failures = failures; comes = (ready, steps) }
-turned (Err fault) old new before after steps idle ready spares failures stays =
-    record { id = stays.id; spares = spares; failures = failures; comes = (stays.drained, λ w held. turn_acts w (never w held)) }
+turned (Ok did) old new before after steps idle ready spares failures stays says fault =
+    record { id = stays.id; spares = spares; says = says; fault = fault; failures = failures; comes = (ready, steps) }
+turned (Err fault) old new before after steps idle ready spares failures stays says finds =
+    record { id = stays.id; spares = spares; says = says; fault = finds; failures = failures; comes = (stays.drained, λ w held. turn_acts w (never w held)) }
   where
     never : (w : World) → Holds old before w → (step_of w Turn).did ≡ Idle → ⊥
     never w held rests = let same : Err fault ≡ Ok Idle = idle w held rests in cc
@@ -43,11 +49,13 @@ pub replied : (digit : ℕ) (result : Result Did PoolFault) (old new : Level) (a
     → KeepsOthers old.id areas new_areas s t
     → t.failures ≡ s.failures + failed_transfers result
     → Stays old new
+    → OnOk result (KeepsSaid old.id areas s.contents new_areas t.contents)
+    → IfErr result (λ fault. fault ≢ NoSector)
     → Acts (Reply digit) result old new (around areas s blocks) (around new_areas t blocks)
-replied digit (Ok did) old new areas new_areas s t blocks pack are steps refused ready others failures stays =
-    record { id = stays.id; spares = spares_files old.id areas new_areas blocks s t pack are others; failures = failures; comes = (ready, steps blocks are) }
-replied digit (Err fault) old new areas new_areas s t blocks pack are steps refused ready others failures stays =
-    record { id = stays.id; spares = spares_files old.id areas new_areas blocks s t pack are others; failures = failures; comes = (stays.drained, λ w held. reply_acts digit w (never w held)) }
+replied digit (Ok did) old new areas new_areas s t blocks pack are steps refused ready others failures stays says fault =
+    record { id = stays.id; spares = spares_files old.id areas new_areas blocks s t pack are others; says = says; fault = fault; failures = failures; comes = (ready, steps blocks are) }
+replied digit (Err fault) old new areas new_areas s t blocks pack are steps refused ready others failures stays says finds =
+    record { id = stays.id; spares = spares_files old.id areas new_areas blocks s t pack are others; says = says; fault = finds; failures = failures; comes = (stays.drained, λ w held. reply_acts digit w (never w held)) }
   where
     never : (w : World) → Holds old (around areas s blocks) w → (number : ℕ) → (step_of w (Reply digit)).did ≡ Refused number → ⊥
     never w held number is = let same : Err fault ≡ Ok (Refused number) = refused blocks w number held is in cc
@@ -60,11 +68,14 @@ pub drained : (result : Result Did PoolFault) (old new : Level) (before after : 
     → Spares old.id before after
     → after.state.failures ≡ before.state.failures + failed_transfers result
     → new.id ≡ old.id
+    → after.areas ≡ before.areas
+    → KeepsContents before.state after.state
+    → IfErr result (λ fault. fault ≢ NoSector)
     → Acts Drain result old new before after
-drained (Ok did) old new before after steps refused lines ready spares failures id =
-    record { id = id; spares = spares; failures = failures; comes = (ready, steps) }
-drained (Err fault) old new before after steps refused lines ready spares failures id =
-    record { id = id; spares = spares; failures = failures; comes = (lines, λ w held. drain_acts w (never w held)) }
+drained (Ok did) old new before after steps refused lines ready spares failures id same keeps fault =
+    record { id = id; spares = spares; says = said_same old.id before.areas after.areas before.state after.state keeps same; fault = fault; failures = failures; comes = (ready, steps) }
+drained (Err fault) old new before after steps refused lines ready spares failures id same keeps finds =
+    record { id = id; spares = spares; says = tt; fault = finds; failures = failures; comes = (lines, λ w held. drain_acts w (never w held)) }
   where
     never : (w : World) → Holds old before w → (number : ℕ) → (step_of w Drain).did ≡ Refused number → ⊥
     never w held number is = let same : Err fault ≡ Ok (Refused number) = refused w number held is in cc

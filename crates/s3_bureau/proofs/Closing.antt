@@ -1,14 +1,17 @@
 -- Levels are closed, one after the other, and the pool is flushed.
 use Rattle.std.proofs.Common.{◌≡◌, ℕ, ◌+◌, List, Option, Some, None, Result, Ok, Err, refl, sym, ap, subst, ◌∙◌, arith}
-use Rattle.std.specs.Prelude.{OnOk}
+use Rattle.std.specs.Prelude.{IfErr, OnOk, ◌≢◌}
 use Rattle.s3_cards.specs.declared.levels.LevelId.{LevelId}
 use Rattle.s3_cards.specs.declared.levels.LevelId.TheVariants.{One, Two}
 use Rattle.s3_store.specs.Failures.{failed_transfers}
 use Rattle.s3_store.specs.State.{PoolState, KeepsContents, KeepsInStep}
 use Rattle.s3_store.specs.declared.pool_fault.PoolFault.{PoolFault}
+use Rattle.s3_store.specs.declared.pool_fault.PoolFault.TheVariants.{Device, NoSector}
 use Rattle.s3_store.proofs.Frames.{keeps_refl, keeps_trans, step_from_keeps, step_trans}
 use Rattle.s3_slots.specs.declared.header.Header.{Header}
-use Rattle.s3_labels.specs.Areas.{Areas, IsReady as IsPackReady}
+use Rattle.s3_labels.specs.Areas.{Areas, slots_at, IsReady as IsPackReady}
+use Rattle.s3_labels.specs.Labelled.{KeepsSaid}
+use Rattle.s3_labels.proofs.Labelled.{judged_as_said}
 use Rattle.s3_spool.specs.Queues.{Blocks, queue_of, quota_of}
 use Rattle.s3_job_files.specs.Holds.{seen}
 use Rattle.s3_solo.specs.Lines.{Lines, all_drained}
@@ -18,9 +21,10 @@ use Rattle.s3_solo.specs.World.{World, JobAtWork}
 use Rattle.s3_level.specs.declared.level.Level.{Level}
 use Rattle.s3_level.specs.Holds.{AreAll, Around, Becomes, Holds, HoldsParts, IsReady, KeepsOthers, Spares, Stays, around}
 use Rattle.s3_level.proofs.Beside.{spares_files, spares_then}
+use Rattle.s3_level.proofs.Said.{said_same}
 use Rattle.s3_bureau.specs.Held.{IsCommon, IsOwn, IsReadyFor}
-use Rattle.s3_bureau.specs.Inner.Calls.{BothTo, ClosesBoth, ClosesLevel, ClosesTo}
-use Rattle.s3_bureau.proofs.OtherLevel.{common_spared, header_spared, other_spared, ready_stays, worlds_stay}
+use Rattle.s3_bureau.specs.Inner.Calls.{BothTo, ClosesBoth, ClosesLevel, ClosesTo, MountsAs}
+use Rattle.s3_bureau.proofs.OtherLevel.{common_spared, header_spared, other_said, other_spared, ready_stays, worlds_stay}
 
 -- ---- one level
 -- the end of a job leaves the lines
@@ -38,11 +42,14 @@ pub level_stopped : (fault : PoolFault) (old new : Level) (areas new_areas : Are
     → (old.job ≡ None → (new_areas ≡ areas) × KeepsContents s t)
     → t.failures ≡ s.failures + failed_transfers {T = Unit {0}} (Err fault)
     → Stays old new
+    → fault ≢ NoSector
     → ClosesLevel (Err fault) old new (around areas s blocks) (around new_areas t blocks)
-level_stopped fault old new areas new_areas s t blocks pack are others rests failures stays = record {
+level_stopped fault old new areas new_areas s t blocks pack are others rests failures stays finds = record {
   id = stays.id;
   spares = spares_files old.id areas new_areas blocks s t pack are others;
   rests = λ none. (rests none).1;
+  says = tt;
+  fault = finds;
   failures = failures;
   comes = tt;
 }
@@ -61,17 +68,26 @@ pub level_closed : (result : Result (Unit {0}) PoolFault) (old middle new : Leve
     → KeepsContents t after.state
     → after.state.failures ≡ t.failures + failed_transfers result
     → new.id ≡ middle.id
+    → KeepsSaid old.id areas s.contents middle_areas t.contents
+    → after.areas ≡ middle_areas
+    → IfErr result (λ fault. fault ≢ NoSector)
     → ClosesLevel result old new (around areas s blocks) after
-level_closed result old middle new areas middle_areas s t blocks after pack are ends others rests first stays drains ready spares keeps second id = record {
+level_closed result old middle new areas middle_areas s t blocks after pack are ends others rests first stays drains ready spares keeps second id says same fault = record {
   id = id ∙ stays.id;
   spares = spares_then old.id (around areas s blocks) (around middle_areas t blocks) after
       (spares_files old.id areas middle_areas blocks s t pack are others)
       (subst (λ (l : LevelId). Spares l (around middle_areas t blocks) after) stays.id spares);
   rests = λ none. keeps_trans s t after.state (rests none).1 keeps;
+  says = said result;
+  fault = fault;
   failures = omega (arith, first, second);
   comes = by result drains ready;
 }
   where
+    said : (result : Result (Unit {0}) PoolFault) → OnOk result (KeepsSaid old.id areas s.contents after.areas after.state.contents)
+    said (Ok done) = λ before. said_same old.id middle_areas after.areas t after.state keeps same (says before)
+    said (Err fault) = tt
+
     by : (result : Result (Unit {0}) PoolFault) → OnOk result (Becomes (λ w. record w { lines = all_drained w.lines }) (Holds middle (around middle_areas t blocks)) (Holds new after))
         → OnOk result (IsReady new (seen after.areas after.state.contents)) → ClosesTo result old new (around areas s blocks) after
     by (Ok done) drains ready = (
@@ -90,6 +106,9 @@ first_stopped fault one two new_one before after ready first = record {
   common = common_spared One before after ready.one_ready.files.pack spares;
   one_rests = λ none. step_from_keeps (IsOwn One before.areas.header) before.state after.state (first.rests none);
   two_rests = λ none. other_spared One before after ready.one_ready.files.pack spares;
+  one_mounts = tt;
+  two_mounts = tt;
+  fault = first.fault;
   failures = first.failures;
   comes = tt;
 }
@@ -111,13 +130,19 @@ both_spared : (result both : Result (Unit {0}) PoolFault) (one two new_one new_t
     → ClosesLevel (Ok tt) one new_one before middle → ClosesLevel result two new_two middle after
     → last.areas ≡ after.areas → KeepsContents after.state last.state
     → last.state.failures ≡ before.state.failures + failed_transfers both
+    → OnOk both (MountsAs One before new_one last)
+    → OnOk both (MountsAs Two before new_two last)
+    → IfErr both (λ fault. fault ≢ NoSector)
     → BothTo both one two new_one new_two before last
     → ClosesBoth both one two new_one new_two before last
-both_spared result both one two new_one new_two before middle after last ready first second areas flushed failures comes = record {
+both_spared result both one two new_one new_two before middle after last ready first second areas flushed failures one_mounts two_mounts fault comes = record {
   header = ap (λ (a : Areas). a.header) areas ∙ header_spared Two middle after spares_two ∙ header_spared One before middle spares_one;
   common = along IsCommon (common_spared One before middle ready.one_ready.files.pack spares_one) (common_spared Two middle after spares_one.pack spares_two);
   one_rests = λ none. along (IsOwn One) (step_from_keeps (IsOwn One before.areas.header) before.state middle.state (first.rests none)) (other_spared Two middle after spares_one.pack spares_two);
   two_rests = λ none. along (IsOwn Two) (other_spared One before middle ready.one_ready.files.pack spares_one) (step_from_keeps (IsOwn Two middle.areas.header) middle.state after.state (second.rests none));
+  one_mounts = one_mounts;
+  two_mounts = two_mounts;
+  fault = fault;
   failures = failures;
   comes = comes;
 }
@@ -139,7 +164,7 @@ both_spared result both one two new_one new_two before middle after last ready f
 pub second_stopped : (fault : PoolFault) (one two new_one new_two : Level) (before middle after : Around) → IsReadyFor one two before
     → ClosesLevel (Ok tt) one new_one before middle → ClosesLevel (Err fault) two new_two middle after → ClosesBoth (Err fault) one two new_one new_two before after
 second_stopped fault one two new_one new_two before middle after ready first second =
-    both_spared (Err fault) (Err fault) one two new_one new_two before middle after after ready first second refl (keeps_refl after.state) (omega (arith, first.failures, second.failures)) tt
+    both_spared (Err fault) (Err fault) one two new_one new_two before middle after after ready first second refl (keeps_refl after.state) (omega (arith, first.failures, second.failures)) tt tt second.fault tt
 
 -- a flush leaves what levels hold
 flush_holds : (level : Level) (areas : Areas) (s t : PoolState) (blocks : Blocks) (w : World) → KeepsContents s t → Holds level (around areas s blocks) w → Holds level (around areas t blocks) w
@@ -148,21 +173,55 @@ flush_holds level areas s t blocks w keeps held = record {
   asked = held.asked;
 }
 
+-- a mount judges the slots of a level as a world has them that the level holds
+mounts_as : (level : LevelId) (his : Level) (before after : Around) → his.id ≡ level → IsPackReady after.areas after.state.contents
+    → KeepsSaid level before.areas before.state.contents after.areas after.state.contents → MountsAs level before his after
+mounts_as level his before after id pack keeps = λ said w held.
+    judged_as_said level after.areas after.state.contents (pack.own level) (keeps said) ∙ ap (λ (l : LevelId). slots_at l after.areas) (sym id) ∙ sym held.parts.pack.own.slots_of_area
+
 -- both levels were closed, and the pool flushed, or it stopped at that
 pub both_closed : (result : Result (Unit {0}) PoolFault) (one two new_one new_two : Level) (before middle : Around) (areas : Areas) (s t : PoolState) (blocks : Blocks) → IsReadyFor one two before
     → ClosesLevel (Ok tt) one new_one before middle → ClosesLevel (Ok tt) two new_two middle (around areas s blocks)
     → OnOk result (t.stored ≡ s.contents)
     → KeepsContents s t
     → t.failures ≡ s.failures + failed_transfers result
+    → IfErr result (λ fault. fault ≡ Device)
     → ClosesBoth result one two new_one new_two before (around areas t blocks)
-both_closed result one two new_one new_two before middle areas s t blocks ready first second flushed keeps failures =
-    both_spared (Ok tt) result one two new_one new_two before middle (around areas s blocks) (around areas t blocks) ready first second refl keeps (omega (arith, first.failures, second.failures, failures)) (by result flushed)
+both_closed result one two new_one new_two before middle areas s t blocks ready first second flushed keeps failures fails =
+    both_spared (Ok tt) result one two new_one new_two before middle (around areas s blocks) (around areas t blocks) ready first second refl keeps (omega (arith, first.failures, second.failures, failures))
+    (always result (mounts_as One new_one before (around areas t blocks) (first.id ∙ ready.one_is) pack said_one))
+    (always result (mounts_as Two new_two before (around areas t blocks) (second.id ∙ ready.two_is) pack said_two))
+    (finds result fails) (by result flushed)
   where
     spares_one : Spares One before middle
     spares_one = subst (λ (l : LevelId). Spares l before middle) ready.one_is first.spares
 
     spares_two : Spares Two middle (around areas s blocks)
     spares_two = subst (λ (l : LevelId). Spares l middle (around areas s blocks)) ready.two_is second.spares
+
+    pack : IsPackReady areas t.contents
+    pack = subst (IsPackReady areas) (sym keeps.contents) spares_two.pack
+
+    flushed_said : (level : LevelId) → KeepsSaid level areas s.contents areas t.contents
+    flushed_said level = said_same level areas areas s t keeps refl
+
+    said_one : KeepsSaid One before.areas before.state.contents areas t.contents
+    said_one = λ said.
+        flushed_said One (other_said Two middle (around areas s blocks) spares_one.pack spares_two
+        (subst (λ (l : LevelId). KeepsSaid l before.areas before.state.contents middle.areas middle.state.contents) ready.one_is first.says said))
+
+    said_two : KeepsSaid Two before.areas before.state.contents areas t.contents
+    said_two = λ said.
+        flushed_said Two (subst (λ (l : LevelId). KeepsSaid l middle.areas middle.state.contents areas s.contents) ready.two_is second.says
+        (other_said One before middle ready.one_ready.files.pack spares_one said))
+
+    always : {X : Type 0} (result : Result (Unit {0}) PoolFault) → X → OnOk result X
+    always (Ok done) x = x
+    always (Err fault) x = tt
+
+    finds : (result : Result (Unit {0}) PoolFault) → IfErr result (λ fault. fault ≡ Device) → IfErr result (λ fault. fault ≢ NoSector)
+    finds (Ok done) is = tt
+    finds (Err fault) is = λ same. let clash : Device ≡ NoSector = sym is ∙ same in absurd cc
 
     one_held : Becomes closed (Holds one before) (Holds new_one (around areas t blocks))
     one_held = λ w held. flush_holds new_one areas s t blocks (closed w) keeps

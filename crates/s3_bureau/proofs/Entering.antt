@@ -5,6 +5,7 @@ use Rattle.s3_cards.specs.declared.levels.LevelId.{LevelId}
 use Rattle.s3_cards.specs.declared.levels.LevelId.TheVariants.{One, Two}
 use Rattle.s3_store.specs.State.{KeepsInStep}
 use Rattle.s3_store.specs.declared.pool_fault.PoolFault.{PoolFault}
+use Rattle.s3_labels.specs.Labelled.{KeepsSaid}
 use Rattle.s3_job_files.specs.Holds.{seen}
 use Rattle.s3_solo.specs.declared.action.Action.{Action}
 use Rattle.s3_solo.specs.declared.action.Did.{Did}
@@ -15,8 +16,8 @@ use Rattle.s3_level.specs.Holds.{Around, Becomes, Holds, IsReady, Spares}
 use Rattle.s3_bureau.specs.declared.bureau.Phase.{Phase}
 use Rattle.s3_bureau.specs.declared.bureau.Phase.TheVariants.{Open, Finished, Stopped}
 use Rattle.s3_bureau.specs.Held.{HoldsFor, IsForeign, IsOwn, IsReadyFor, State, has_worlds, header_of, level_of, rests, takes_entries}
-use Rattle.s3_bureau.specs.Inner.Calls.{Acts, Closes, ClosesBoth, Enters}
-use Rattle.s3_bureau.proofs.OtherLevel.{foreign_spared, ready_stays, worlds_stay, worlds_stayed}
+use Rattle.s3_bureau.specs.Inner.Calls.{Acts, Closes, ClosesBoth, Enters, MountsAs}
+use Rattle.s3_bureau.proofs.OtherLevel.{foreign_spared, other_said, ready_stays, worlds_stay, worlds_stayed}
 
 -- ---- an entry in its level
 -- both levels can take further entries
@@ -39,6 +40,53 @@ laid_out_two action did one two new_two before after ready acts = record {
   two_ready = acts.comes.0;
   blocks = acts.spares.blocks;
 }
+
+-- the labels of both still say their slots
+said_one : (action : Action) (did : Did) (one two new_one : Level) (before after : Around) → IsReadyFor one two before → Acts action (Ok did) one new_one before after
+    → (level : LevelId) → KeepsSaid level before.areas before.state.contents after.areas after.state.contents
+said_one action did one two new_one before after ready acts One = subst (λ (l : LevelId). KeepsSaid l before.areas before.state.contents after.areas after.state.contents) ready.one_is acts.says
+said_one action did one two new_one before after ready acts Two =
+    other_said One before after ready.one_ready.files.pack (subst (λ (l : LevelId). Spares l before after) ready.one_is acts.spares)
+
+said_two : (action : Action) (did : Did) (one two new_two : Level) (before after : Around) → IsReadyFor one two before → Acts action (Ok did) two new_two before after
+    → (level : LevelId) → KeepsSaid level before.areas before.state.contents after.areas after.state.contents
+said_two action did one two new_two before after ready acts Two = subst (λ (l : LevelId). KeepsSaid l before.areas before.state.contents after.areas after.state.contents) ready.two_is acts.says
+said_two action did one two new_two before after ready acts One =
+    other_said Two before after ready.one_ready.files.pack (subst (λ (l : LevelId). Spares l before after) ready.two_is acts.spares)
+
+is_phase_open : (phase : Phase) → takes_entries phase ≡ true → phase ≡ Open
+is_phase_open Open is = refl
+is_phase_open Finished is = absurd cc
+is_phase_open Stopped is = absurd cc
+
+-- so it was performed
+pub entered_one : (level : LevelId) (action : Action) (did : Did) (old : State) (new_one : Level) (after : Around) → level ≡ One → takes_entries old.phase ≡ true → IsReadyFor old.one old.two old.beside
+    → Acts action (Ok did) old.one new_one old.beside after → Enters level action (Ok did) old (record { beside = after; one = new_one; two = old.two; phase = old.phase })
+entered_one level action did old new_one after is takes ready acts =
+    subst (λ (l : LevelId). Enters l action (Ok did) old (record { beside = after; one = new_one; two = old.two; phase = old.phase })) (sym is) (record {
+      was_open = takes;
+      ready = ready;
+      stays = refl;
+      spares = subst (λ (l : LevelId). Spares l old.beside after) ready.one_is acts.spares;
+      says = said_one action did old.one old.two new_one old.beside after ready acts;
+      fault = tt;
+      failures = acts.failures;
+      comes = (is_phase_open old.phase takes, acts.comes.1);
+    })
+
+pub entered_two : (level : LevelId) (action : Action) (did : Did) (old : State) (new_two : Level) (after : Around) → level ≡ Two → takes_entries old.phase ≡ true → IsReadyFor old.one old.two old.beside
+    → Acts action (Ok did) old.two new_two old.beside after → Enters level action (Ok did) old (record { beside = after; one = old.one; two = new_two; phase = old.phase })
+entered_two level action did old new_two after is takes ready acts =
+    subst (λ (l : LevelId). Enters l action (Ok did) old (record { beside = after; one = old.one; two = new_two; phase = old.phase })) (sym is) (record {
+      was_open = takes;
+      ready = ready;
+      stays = refl;
+      spares = subst (λ (l : LevelId). Spares l old.beside after) ready.two_is acts.spares;
+      says = said_two action did old.one old.two new_two old.beside after ready acts;
+      fault = tt;
+      failures = acts.failures;
+      comes = (is_phase_open old.phase takes, acts.comes.1);
+    })
 
 -- ---- a step that was performed
 his_id : (level : LevelId) (old : State) → IsReadyFor old.one old.two old.beside → (level_of (other level) old).id ≡ other level
@@ -81,6 +129,8 @@ ends old new_one new_two after both = record {
   header = both.header;
   common = both.common;
   rest = rest;
+  mounts = mounts;
+  fault = tt;
   failures = both.failures;
   comes = (refl, both.comes.0, worlds);
 }
@@ -88,6 +138,10 @@ ends old new_one new_two after both = record {
     rest : (level : LevelId) → rests level old → KeepsInStep (IsOwn level (header_of old)) old.beside.state after.state
     rest One none = both.one_rests none
     rest Two none = both.two_rests none
+
+    mounts : (level : LevelId) → MountsAs level old.beside (level_of level (record { beside = after; one = new_one; two = new_two; phase = Finished })) after
+    mounts One = both.one_mounts
+    mounts Two = both.two_mounts
 
     worlds : (level : LevelId) → Becomes closed (Holds (level_of level old) old.beside) (Holds (level_of level (record { beside = after; one = new_one; two = new_two; phase = Finished })) after)
     worlds One = both.comes.1.0

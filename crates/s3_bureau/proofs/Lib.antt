@@ -12,3 +12,4 @@ pub mod Running
 pub mod Scripts
 pub mod Showing
 pub mod Trimming
+pub mod MigratedTexts

@@ -11,7 +11,9 @@ use Rattle.s3_slots.specs.Stretches.{IsIn}
 use Rattle.s3_slots.specs.declared.header.Header.{Header}
 use Rattle.s3_slots.specs.declared.slot.Slot.{Slot}
 use Rattle.s3_labels.specs.Areas.{Areas, ArePlaced, IsLabelSector, area_of, slots_at, with_slots, IsReady as IsPackReady}
+use Rattle.s3_labels.specs.Labelled.{KeepsSaid, SaysSlots}
 use Rattle.s3_labels.proofs.Changes.{header_with}
+use Rattle.s3_labels.proofs.Labelled.{says_kept}
 use Rattle.s3_labels.proofs.Regions.{accepted_placed}
 use Rattle.s3_spool.specs.Queues.{queue_of, quota_of}
 use Rattle.s3_job_files.specs.Files.{FilesInUse}
@@ -138,6 +140,18 @@ holds_over his old new w ready sees queue quota held = record {
 
     files : HoldsInUse his.id (open_files his.job) (seen new.areas new.state.contents) in_use
     files = held_over his.id (open_files his.job) (seen old.areas old.state.contents) (seen new.areas new.state.contents) in_use ready sees (record { files = held.parts.pack; job_files = refl })
+
+-- its labels say its slots as before
+pub other_said : (level : LevelId) (old new : Around) → IsPackReady old.areas old.state.contents → Spares level old new
+    → KeepsSaid (other level) old.areas old.state.contents new.areas new.state.contents
+other_said level old new pack spares = λ said.
+    subst (λ (areas : Areas). SaysSlots (other level) areas new.state.contents) (sym spares.areas)
+    (beside level (slots_at level new.areas)
+    (says_kept (other level) old.areas old.state.contents new.state.contents (λ n is. spares.sectors.contents n (other_beyond level old.areas old.state.contents n pack (inl is))) said))
+  where
+    beside : (l : LevelId) (slots : List Slot) → SaysSlots (other l) old.areas new.state.contents → SaysSlots (other l) (with_slots l slots old.areas) new.state.contents
+    beside One slots said = said
+    beside Two slots said = said
 
 -- so the other level can take entries, and holds the same worlds
 pub ready_stays : (level : LevelId) (his : Level) (old new : Around) → his.id ≡ other level → IsPackReady old.areas old.state.contents → Spares level old new

@@ -1,13 +1,20 @@
 -- The texts of a run, and what it leaves of its pack.
-use Rattle.std.proofs.Common.{◌≡◌, ℕ, ◌≤◌, false, List, [], Option, Some, None, Result, Ok, Err, refl, sym, ap, subst, ◌∙◌, arith, length, slice_get}
+use Rattle.std.proofs.Common.{◌≡◌, inl, inr, ℕ, ◌≤◌, false, nat_lt, if◌then◌else◌, List, [], Option, Some, None, Result, Ok, Err, refl, sym, ap, subst, ◌∙◌, arith, length, slice_get}
 use Rattle.std.proofs.lemmas.List.{take_all, length-take}
 use Rattle.s3_cards.specs.declared.levels.LevelId.{LevelId}
 use Rattle.s3_cards.specs.declared.levels.LevelId.TheVariants.{One, Two}
 use Rattle.s3_store.specs.Contents.{sectors_of}
-use Rattle.s3_slots.specs.Header.{mounted}
+use Rattle.s3_store.specs.Bytes.{sector_bytes}
+use Rattle.s3_store.proofs.SectorParts.{sector_bytes-same}
+use Rattle.s3_slots.specs.Header.{accepted, first_region, format_in, header_by, mounted, region_of}
+use Rattle.s3_slots.specs.Slots.{slots_of}
 use Rattle.s3_slots.specs.declared.header.Header.{Header}
 use Rattle.s3_slots.specs.declared.header.MountFault.{MountFault}
+use Rattle.s3_slots.specs.declared.header.MountFault.TheVariants.{Short}
+use Rattle.s3_labels.specs.Areas.{area_of}
 use Rattle.s3_labels.specs.Images.{contents_of}
+use Rattle.s3_labels.specs.Labelled.{IsUntangled}
+use Rattle.s3_labels.proofs.Labelled.{slots_kept}
 use Rattle.s3_solo.specs.declared.action.Action.{Action}
 use Rattle.s3_cards.specs.Deck.{deck_of}
 use Rattle.s3_job_files.specs.declared.file.OpenFile.{OpenFile}
@@ -23,10 +30,10 @@ use Rattle.s3_bureau.specs.declared.outcome.Outcome.{Outcome}
 use Rattle.s3_bureau.specs.declared.run_fault.RunFault.{RunFault}
 use Rattle.s3_bureau.specs.declared.run_fault.RunFault.TheVariants.{Script, Mount, Device as DeviceFault, NoMemory}
 use Rattle.s3_bureau.specs.Entries.{own}
-use Rattle.s3_bureau.specs.Held.{HoldsFor, IsCommon, IsOwn, State, header_of, held_by, level_of, rests}
+use Rattle.s3_bureau.specs.Held.{HoldsFor, IsCommon, IsOwn, IsSaid, State, header_of, held_by, level_of, rests}
 use Rattle.s3_bureau.specs.Script.{entries_of}
-use Rattle.s3_bureau.specs.Runs.{HasFiles, LeavesSo, RunTexts, Runs, outcome_texts, cards_of, texts_of, run_alone, run_texts, level_texts, entries_texts, texts_after, texts_over}
-use Rattle.s3_bureau.specs.Inner.Underway.{HaveFiles, LeavesSectors, ReadsDeck, Performs, RunsOver, HasTexts, drained_texts}
+use Rattle.s3_bureau.specs.Runs.{HasFiles, HasSlots, LeavesSo, RunTexts, Runs, outcome_texts, cards_of, texts_of, run_alone, run_texts, level_texts, entries_texts, texts_after, texts_over}
+use Rattle.s3_bureau.specs.Inner.Underway.{HaveFiles, HaveSlots, KeepSaying, LeavesSectors, ReadsDeck, Performs, RunsOver, HasTexts, drained_texts}
 
 -- all lines of a closed world were drained
 drained_closed : (refusal : Option (ℕ × ℕ)) (w : World) → drained_texts refusal (closed w) ≡ texts_of refusal (closed w)
@@ -87,18 +94,40 @@ pub files_stand : (entries : List Entry) (first middle last : State) → Perform
 files_stand entries first middle last performs closes level w held =
     has_files (level_of level last) last.beside (solo w (own level entries)) (closes level (solo w (own level entries)) (performs level w held)).world
 
+pub slots_stand : (entries : List Entry) (first middle last : State) → Performs entries (held_by first) (held_by middle) → KeepSaying first middle
+    → ((level : LevelId) (w : World) → HoldsFor level middle w → HoldsFor level last (closed w))
+    → ((level : LevelId) (w : World) → IsSaid level middle → HoldsFor level last w
+    → slots_of (header_of last).format (region_of level (header_of last)) (area_of level) last.beside.state.contents ≡ w.pack.own.slots)
+    → header_of last ≡ header_of first
+    → HaveSlots entries first last.beside.state.contents
+slots_stand entries first middle last performs says closes mounts same level w held said =
+    ap (λ (h : Header). slots_of h.format (region_of level h) (area_of level) last.beside.state.contents) (sym same)
+    ∙ mounts level (closed (solo w (own level entries))) (says level said) (closes level (solo w (own level entries)) (performs level w held))
+
+-- the same header is mounted
+mounted_again : (old new : List (List ℕ)) → length new ≡ length old → slice_get new 0 ≡ slice_get old 0 → mounted new ≡ mounted old
+mounted_again old new count same =
+    ap (λ (n : ℕ). if nat_lt n first_region then Err Short else accepted n (header_by (sector_bytes new 0) (format_in (sector_bytes new 0)))) count
+    ∙ ap (λ (bytes : List ℕ). if nat_lt (length old) first_region then Err Short else accepted (length old) (header_by bytes (format_in bytes))) (sector_bytes-same old new 0 same)
+
 -- what the outcome's pack has: entries and the end leave the rest, in a store that has what the pool has
 pub left_so : (header : Header) (deck1 deck2 : List ℕ) (cards1 cards2 : List (List ℕ)) (refusal1 refusal2 : Option (ℕ × ℕ)) (entries : List Entry) (first last : State) (contents saved : List (List ℕ))
-    → header_of first ≡ header → first.beside.state.contents ≡ contents
+    → mounted contents ≡ Ok header → header_of first ≡ header → first.beside.state.contents ≡ contents
     → ((level : LevelId) → rests level first) → LeavesSectors entries first last
     → ReadsDeck deck1 cards1 refusal1 → ReadsDeck deck2 cards2 refusal2
     → HoldsFor One first (at_start One header contents cards1) → HoldsFor Two first (at_start Two header contents cards2)
+    → ((level : LevelId) → IsUntangled (header_of first).format (region_of level (header_of first)) (area_of level) contents → IsSaid level first)
+    → HaveSlots entries first last.beside.state.contents
     → HaveFiles entries (held_by first) last.beside.state.contents
     → last.beside.state.stored ≡ last.beside.state.contents → saved ≡ last.beside.state.stored
     → LeavesSo header deck1 deck2 entries contents saved
-left_so header deck1 deck2 cards1 cards2 refusal1 refusal2 entries first last contents saved header_is contents_are rest leaves reads1 reads2 held1 held2 files flushed saved_are = record {
-  count = ap length same ∙ leaves.common.count ∙ ap length contents_are;
-  common = λ n is. ap (λ (c : List (List ℕ)). slice_get c n) same ∙ leaves.common.contents n (subst (λ (h : Header). IsCommon h n) (sym header_is) is) ∙ ap (λ (c : List (List ℕ)). slice_get c n) contents_are;
+left_so header deck1 deck2 cards1 cards2 refusal1 refusal2 entries first last contents saved mount header_is contents_are rest leaves reads1 reads2 held1 held2 said slots files flushed saved_are = record {
+  count = count;
+  common = common;
+  mount = mounted_again contents saved count (common 0 (inl refl)) ∙ mount;
+  masters = slots_kept header.format header.masters 0 contents saved (λ n is. common n (inr (inl is)));
+  one_slots = slots_for One deck1 cards1 reads1.read held1;
+  two_slots = slots_for Two deck2 cards2 reads2.read held2;
   idle = λ level none n is. ap (λ (c : List (List ℕ)). slice_get c n) same
       ∙ (leaves.idle level none (rest level)).contents n (subst (λ (h : Header). IsOwn level h n) (sym header_is) is) ∙ ap (λ (c : List (List ℕ)). slice_get c n) contents_are;
   one = subst (λ (c : List (List ℕ)). HasFiles c (run_alone One header contents (cards_of (deck_of deck1)) (own One entries))) (sym same)
@@ -109,6 +138,20 @@ left_so header deck1 deck2 cards1 cards2 refusal1 refusal2 entries first last co
   where
     same : saved ≡ last.beside.state.contents
     same = saved_are ∙ flushed
+
+    count : length saved ≡ length contents
+    count = ap length same ∙ leaves.common.count ∙ ap length contents_are
+
+    common : (n : ℕ) → IsCommon header n → slice_get saved n ≡ slice_get contents n
+    common n is = ap (λ (c : List (List ℕ)). slice_get c n) same ∙ leaves.common.contents n (subst (λ (h : Header). IsCommon h n) (sym header_is) is) ∙ ap (λ (c : List (List ℕ)). slice_get c n) contents_are
+
+    slots_for : (level : LevelId) (deck : List ℕ) (cards : List (List ℕ)) → cards ≡ cards_of (deck_of deck) → HoldsFor level first (at_start level header contents cards)
+        → HasSlots level header contents saved (run_alone level header contents (cards_of (deck_of deck)) (own level entries))
+    slots_for level deck cards read held =
+        subst (λ (c : List (List ℕ)). HasSlots level header contents saved (run_alone level header contents c (own level entries))) read
+        (subst (λ (c : List (List ℕ)). HasSlots level header contents c (run_alone level header contents cards (own level entries))) (sym same)
+        (subst (λ (h : Header). HasSlots level h contents last.beside.state.contents (run_alone level header contents cards (own level entries))) header_is
+        (λ untangled. slots level (at_start level header contents cards) held (said level untangled))))
 
 -- the run over a store in memory is the run over the pack's bytes
 pub runs_by : (pack deck1 deck2 script : List ℕ) (entries : List Entry) (contents : List (List ℕ)) (result : Result Outcome RunFault) → contents ≡ contents_of pack → entries_of script ≡ Ok entries
@@ -147,17 +190,19 @@ pub outcome_over : (contents : List (List ℕ)) (deck1 deck2 : List ℕ) (cards1
     → HoldsFor One first (at_start One (header_of first) contents cards1) → HoldsFor Two first (at_start Two (header_of first) contents cards2)
     → ((level : LevelId) → rests level first)
     → ReadsDeck deck1 cards1 refusal1 → ReadsDeck deck2 cards2 refusal2
+    → ((level : LevelId) → IsUntangled (header_of first).format (region_of level (header_of first)) (area_of level) contents → IsSaid level first)
     → HasTexts refusal1 refusal2 entries (held_by first) (outcome_texts outcome)
+    → HaveSlots entries first last.beside.state.contents
     → HaveFiles entries (held_by first) last.beside.state.contents
     → last.beside.state.stored ≡ last.beside.state.contents
     → LeavesSectors entries first last
     → sectors_of outcome.pack.items ≡ last.beside.state.stored
     → RunsOver contents deck1 deck2 entries (Ok outcome)
-outcome_over contents deck1 deck2 cards1 cards2 refusal1 refusal2 entries first last outcome mount contents_are held1 held2 rest reads1 reads2 texts files flushed leaves saved = (
+outcome_over contents deck1 deck2 cards1 cards2 refusal1 refusal2 entries first last outcome mount contents_are held1 held2 rest reads1 reads2 said texts slots files flushed leaves saved = (
   ap (λ (m : Result Header MountFault). texts_over m contents deck1 deck2 entries) mount
       ∙ ap (λ (t : RunTexts). Ok t) (sym (texts_given (header_of first) contents deck1 deck2 cards1 cards2 refusal1 refusal2 entries (held_by first) (outcome_texts outcome) reads1 reads2 held1 held2 texts)),
-  λ header is. left_so header deck1 deck2 cards1 cards2 refusal1 refusal2 entries first last contents (sectors_of outcome.pack.items) (same_header (header_of first) header (mounted contents) mount is) contents_are rest leaves reads1 reads2
+  λ header is. left_so header deck1 deck2 cards1 cards2 refusal1 refusal2 entries first last contents (sectors_of outcome.pack.items) is (same_header (header_of first) header (mounted contents) mount is) contents_are rest leaves reads1 reads2
       (subst (λ (h : Header). HoldsFor One first (at_start One h contents cards1)) (same_header (header_of first) header (mounted contents) mount is) held1)
       (subst (λ (h : Header). HoldsFor Two first (at_start Two h contents cards2)) (same_header (header_of first) header (mounted contents) mount is) held2)
-      files flushed saved,
+      said slots files flushed saved,
 )

@@ -1,5 +1,5 @@
 -- What a script's fault, a mount's refusal and a stop are to a run, and the number of a mount's.
-use Rattle.std.specs.Prelude.{ℕ}
+use Rattle.std.specs.Prelude.{◌≡◌, ℕ}
 use Rattle.s3_slots.specs.declared.header.MountFault.{MountFault}
 use Rattle.s3_slots.specs.declared.header.MountFault.TheVariants.{BadHeader, BadRegions, Short}
 use Rattle.s3_store.specs.declared.pool_fault.PoolFault.TheVariants.{Device as DeviceFault, NoMemory as NoMemoryFault, NoSector}
@@ -16,11 +16,12 @@ abbrev pub fault_of_script : ScriptFault → RunFault
 fault_of_script ScriptNoMemory = NoMemory
 fault_of_script (Line n) = Script n
 
-abbrev pub fault_of_refusal : Refusal → RunFault
-fault_of_refusal (BadPack fault) = Mount fault
-fault_of_refusal (Sectors DeviceFault) = Device
-fault_of_refusal (Sectors NoMemoryFault) = NoMemory
-fault_of_refusal (Sectors NoSector) = NoMemory
+-- no mount names a sector that isn't there
+abbrev pub TellsRefusal : Refusal → RunFault → Type 0
+TellsRefusal (BadPack fault) told = told ≡ Mount fault
+TellsRefusal (Sectors DeviceFault) told = told ≡ Device
+TellsRefusal (Sectors NoMemoryFault) told = told ≡ NoMemory
+TellsRefusal (Sectors NoSector) told = ⊥
 
 abbrev pub fault_of_stop : Stop → RunFault
 fault_of_stop StopDevice = Device

@@ -8,6 +8,7 @@ use Rattle.s3_slots.specs.Header.{region_of}
 use Rattle.s3_slots.specs.Stretches.{IsIn}
 use Rattle.s3_slots.specs.declared.header.Header.{Header}
 use Rattle.s3_labels.specs.Areas.{IsLabelSector, area_of}
+use Rattle.s3_labels.specs.Labelled.{SaysSlots}
 use Rattle.s3_job_files.specs.Holds.{seen}
 use Rattle.s3_operator.specs.Halts.{ShownHalt}
 use Rattle.s3_solo.specs.World.{World}
@@ -75,6 +76,10 @@ IsLaidOut bureau = is_open bureau ≡ true → IsReadyFor bureau.one bureau.two 
 -- no job is at work in the level
 abbrev pub rests : LevelId → State → Type 0
 rests level bureau = (level_of level bureau).job ≡ None
+
+-- the labels of a level say its slots, each by itself
+abbrev pub IsSaid : LevelId → State → Type 0
+IsSaid level bureau = SaysSlots level bureau.beside.areas bureau.beside.state.contents
 
 -- ---- the sectors of a pack
 -- a sector of the header, of the masters' labels or of their region

@@ -4,13 +4,15 @@ use Rattle.s3_cards.specs.declared.levels.LevelId.{LevelId}
 use Rattle.s3_cards.specs.declared.levels.LevelId.TheVariants.{One, Two}
 use Rattle.s3_cards.specs.declared.deck.DeckFault.{DeckFault}
 use Rattle.s3_cards.specs.Deck.{deck_of, detail_of}
-use Rattle.s3_slots.specs.Header.{mounted}
+use Rattle.s3_slots.specs.Header.{mounted, region_of}
 use Rattle.s3_slots.specs.declared.header.Header.{Header}
 use Rattle.s3_slots.specs.declared.header.MountFault.{MountFault}
-use Rattle.s3_slots.specs.Slots.{standing}
+use Rattle.s3_slots.specs.Slots.{slots_of, standing}
 use Rattle.s3_slots.specs.declared.label.FileLabel.{FileLabel}
 use Rattle.s3_slots.specs.declared.slot.Standing.TheVariants.{Present}
+use Rattle.s3_labels.specs.Areas.{area_of}
 use Rattle.s3_labels.specs.Images.{contents_of}
+use Rattle.s3_labels.specs.Labelled.{IsUntangled}
 use Rattle.s3_job_files.specs.Kept.{kept_on}
 use Rattle.s3_solo.specs.declared.action.Action.{Action}
 use Rattle.s3_solo.specs.World.{World, at_start}
@@ -86,12 +88,21 @@ outcome_texts outcome = record { one = texts_in outcome.one; two = texts_in outc
 abbrev pub HasFiles : (contents : List (List ℕ)) → World → Type 0
 HasFiles contents w = (label : FileLabel) → standing label.name w.pack.own.slots ≡ Present label → w.pack.own.kept label.name ≡ kept_on label contents
 
+-- Where no slot of the level's area was entangled, a mount of these sectors judges each as the world has it.
+abbrev pub HasSlots : LevelId → Header → (old new : List (List ℕ)) → World → Type 0
+HasSlots level header old new w =
+    IsUntangled header.format (region_of level header) (area_of level) old → slots_of header.format (region_of level header) (area_of level) new ≡ w.pack.own.slots
+
 -- What a run makes of a mounted pack: it has as many sectors, those of its header and its masters and all of a level without an entry
--- are as they were, and it has the files of each level's world.
+-- are as they were, and it has the slots and the files of each level's world. So a mount of it gives the same header and the same masters.
 pub record LeavesSo (header : Header) (deck1 deck2 : List ℕ) (entries : List Entry) (old new : List (List ℕ)) : Type 0 where
   pub count : length new ≡ length old
   pub common : (n : ℕ) → IsCommon header n → slice_get new n ≡ slice_get old n
   pub idle : (level : LevelId) → own level entries ≡ [] → (n : ℕ) → IsOwn level header n → slice_get new n ≡ slice_get old n
+  pub mount : mounted new ≡ Ok header
+  pub masters : slots_of header.format header.masters 0 new ≡ slots_of header.format header.masters 0 old
+  pub one_slots : HasSlots One header old new (run_alone One header old (cards_of (deck_of deck1)) (own One entries))
+  pub two_slots : HasSlots Two header old new (run_alone Two header old (cards_of (deck_of deck2)) (own Two entries))
   pub one : HasFiles new (run_alone One header old (cards_of (deck_of deck1)) (own One entries))
   pub two : HasFiles new (run_alone Two header old (cards_of (deck_of deck2)) (own Two entries))
 

@@ -1,9 +1,9 @@
 //! The bureau: two levels, each with its own deck, that take turns over one pack.
-ghost use Rattle.std.specs.Prelude.{◌≡◌};
+ghost use Rattle.std.specs.Prelude.{◌≡◌, ◌≢◌};
 ghost use Rattle.s3_job_files.specs.Holds.{seen};
 ghost use Rattle.s3_level.specs.Holds.{AreAll, IsReady, around};
 ghost use Rattle.s3_bureau.specs.Held.{IsReadyFor};
-ghost use Rattle.s3_bureau.specs.Stops.{stop_by};
+ghost use Rattle.s3_bureau.specs.Stops.{StopsBy};
 ghost use Rattle.s3_bureau.specs.Inner.Calls.{Acts, ClosesLevel, ClosesBoth};
 
 use crate::entry::Entry;
@@ -56,12 +56,13 @@ impl<S: PackStore> Model for Bureau<S> {
 
 /// Why a bureau stops.
 fn stop_of(fault: PoolFault) -> Stop
-    ensures { result ≡ stop_by fault }
+    requires { fault ≢ PoolFault.NoSector }
+    ensures { StopsBy fault result }
 {
     match fault {
         PoolFault::Device => Stop::Device,
         PoolFault::NoMemory => Stop::NoMemory,
-        PoolFault::NoSector => Stop::NoMemory,
+        PoolFault::NoSector => unreachable!(),
     }
 }
 
@@ -126,8 +127,10 @@ impl<S: PackStore> Bureau<S> {
     ghost use Rattle.s3_cards.specs.Levels.{other};
     ghost use Rattle.s3_cards.specs.declared.levels.LevelId.{LevelId};
     ghost use Rattle.s3_store.specs.State.{KeepsInStep};
-    ghost use Rattle.s3_slots.specs.Header.{mounted};
-    ghost use Rattle.s3_labels.specs.Areas.{IsReady as IsPackReady, IsRefusal, areas_on, failed_by};
+    ghost use Rattle.s3_slots.specs.Header.{mounted, region_of};
+    ghost use Rattle.s3_slots.specs.Slots.{slots_of};
+    ghost use Rattle.s3_labels.specs.Areas.{IsReady as IsPackReady, IsRefusal, area_of, areas_on, failed_by};
+    ghost use Rattle.s3_labels.specs.Labelled.{IsUntangled};
     ghost use Rattle.s3_operator.specs.Halts.{halt_of};
     ghost use Rattle.s3_solo.specs.declared.action.Did.{Did};
     ghost use Rattle.s3_solo.specs.declared.action.Did.TheVariants.{Acted};
@@ -137,7 +140,7 @@ impl<S: PackStore> Bureau<S> {
     ghost use Rattle.s3_level.specs.Holds.{Holds, Spares, Steps};
     ghost use Rattle.s3_bureau.specs.Stops.{failed_stop};
     ghost use Rattle.s3_bureau.specs.Inner.Calls.{Closes, Enters};
-    ghost use Rattle.s3_bureau.specs.Held.{HoldsFor, IsCommon, IsForeign, IsOwn, halts_at, header_of, is_open, has_worlds, level_of, lines_at, rests};
+    ghost use Rattle.s3_bureau.specs.Held.{HoldsFor, IsCommon, IsForeign, IsOwn, IsSaid, halts_at, header_of, is_open, has_worlds, level_of, lines_at, rests};
 
     /// A bureau over the pack on a store, with a deck for each level, before its first entry.
     ///
@@ -159,6 +162,9 @@ impl<S: PackStore> Bureau<S> {
         ensures two { IfOk result (λ bureau. HoldsFor LevelId.Two bureau (at_start LevelId.Two (header_of bureau) (S.contents store) deck2)) }
         ensures rest { IfOk result (λ bureau. (level : LevelId) → rests level bureau) }
         ensures entries { IfOk result (λ bureau. is_open bureau ≡ true) }
+
+        // The labels of a level say its slots, unless a slot is entangled.
+        ensures said { IfOk result (λ bureau. (level : LevelId) → IsUntangled (header_of bureau).format (region_of level (header_of bureau)) (area_of level) (S.contents store) → IsSaid level bureau) }
 
         ensures refused { IfErr result (λ refused. IsRefusal (mounted (S.contents store)) refused.fault) }
         ensures back { IfErr result (λ refused. S.contents refused.store ≡ S.contents store) }
@@ -218,6 +224,9 @@ impl<S: PackStore> Bureau<S> {
         // The worlds of the other level stay.
         ensures other { OnOk result ((w : World) → HoldsFor (other entry.level) self.old w → HoldsFor (other entry.level) self.new w) }
         ensures no_other { OnOk result ((w : World) → HoldsFor (other entry.level) self.new w → HoldsFor (other entry.level) self.old w) }
+
+        // Labels that say their level's slots still do.
+        ensures said { OnOk result ((level : LevelId) → IsSaid level self.old → IsSaid level self.new) }
 
         // Whatever the answer is, the other level stays as it is, with its queue and its labels as they were judged; and so do the
         // sectors of the header, the masters and the other level, in the store too.
@@ -287,6 +296,9 @@ impl<S: PackStore> Bureau<S> {
         // Each world is closed, and the store has what the pool has.
         ensures closes { OnOk result ((level : LevelId) (w : World) → HoldsFor level self.old w → HoldsFor level self.new (closed w)) }
         ensures flushed { OnOk result (self.new.beside.state.stored ≡ self.new.beside.state.contents) }
+
+        // Where the labels of a level said its slots, a mount of the store judges them as its world has them.
+        ensures mounts { OnOk result ((level : LevelId) (w : World) → IsSaid level self.old → HoldsFor level self.new w → slots_of (header_of self.new).format (region_of level (header_of self.new)) (area_of level) self.new.beside.state.contents ≡ w.pack.own.slots) }
 
         // Whatever the answer is, the sectors of the header and the masters stay, and those of a level with no job at work, in the
         // store too.

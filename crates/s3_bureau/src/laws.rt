@@ -1,7 +1,17 @@
 //! What the definitions say of themselves: worked scripts and texts, and that a level's own entries alone say what it does.
-ghost use Rattle.std.specs.Prelude.{◌≡◌, [], ◌∷◌, codes, Ok, Err, Some, None};
+ghost use Rattle.std.specs.Prelude.{◌≡◌, ℕ, false, List, [], ◌∷◌, codes, Ok, Err, Some, None};
+ghost use Rattle.s3_cards.specs.Deck.{deck_of};
+ghost use Rattle.s3_cards.specs.declared.levels.LevelId.{LevelId};
 ghost use Rattle.s3_cards.specs.declared.levels.LevelId.TheVariants.{One, Two};
+ghost use Rattle.s3_slots.specs.Header.{mounted};
+ghost use Rattle.s3_slots.specs.declared.header.Header.{Header};
+ghost use Rattle.s3_labels.specs.Images.{contents_of, in_second, migrated};
+ghost use Rattle.s3_solo.specs.declared.action.Action.{Action};
+ghost use Rattle.s3_solo.specs.Formats.{over_second, shows_no_space};
 ghost use Rattle.s3_operator.specs.declared.halt_code.HaltCode.TheVariants.{HaltIndicator, FaultyJob, FaultySource, NoSpace};
+ghost use Rattle.s3_bureau.specs.declared.entry.Entry.{Entry};
+ghost use Rattle.s3_bureau.specs.Entries.{own};
+ghost use Rattle.s3_bureau.specs.Runs.{cards_of, level_texts, run_alone, run_texts};
 ghost use Rattle.s3_bureau.specs.Script.{entries_of};
 ghost use Rattle.s3_bureau.specs.Texts.{report_of, halt_text_of};
 ghost use Rattle.s3_bureau.specs.Agreement.{AgreesAfter};
@@ -34,4 +44,12 @@ pub fn halt_texts_are_written()
 /// same answers: whatever the other level does.
 pub fn other_entries_make_no_difference()
     ensures { AgreesAfter }
+{}
+
+/// A run over a migrated pack leaves each level's world as the same run over the old one does, but for the format, and gives the
+/// same texts, where no halt NS (no space) is shown.
+pub fn a_migrated_pack_gives_the_same_texts()
+    ensures worlds { (old new : List ℕ) (header : Header) (level : LevelId) (deck : List (List ℕ)) (actions : List Action) → mounted (contents_of old) ≡ Ok header → migrated old ≡ Ok new → shows_no_space (run_alone level header (contents_of old) deck actions).halts ≡ false → run_alone level (in_second header) (contents_of new) deck actions ≡ over_second (run_alone level header (contents_of old) deck actions) }
+    ensures level { (old new : List ℕ) (header : Header) (level : LevelId) (deck : List ℕ) (actions : List Action) → mounted (contents_of old) ≡ Ok header → migrated old ≡ Ok new → shows_no_space (run_alone level header (contents_of old) (cards_of (deck_of deck)) actions).halts ≡ false → level_texts level (in_second header) (contents_of new) deck actions ≡ level_texts level header (contents_of old) deck actions }
+    ensures run { (old new deck1 deck2 script : List ℕ) (header : Header) (entries : List Entry) → mounted (contents_of old) ≡ Ok header → migrated old ≡ Ok new → entries_of script ≡ Ok entries → shows_no_space (run_alone One header (contents_of old) (cards_of (deck_of deck1)) (own One entries)).halts ≡ false → shows_no_space (run_alone Two header (contents_of old) (cards_of (deck_of deck2)) (own Two entries)).halts ≡ false → run_texts new deck1 deck2 script ≡ run_texts old deck1 deck2 script }
 {}

@@ -16,7 +16,8 @@ mod stop;
 pub use bureau::Bureau;
 pub use entry::Entry;
 pub use laws::{
-    halt_texts_are_written, other_entries_make_no_difference, reports_are_written, scripts_are_read,
+    a_migrated_pack_gives_the_same_texts, halt_texts_are_written, other_entries_make_no_difference,
+    reports_are_written, scripts_are_read,
 };
 pub use outcome::{LevelTexts, Outcome};
 pub use run_fault::{RunFault, mount_number};

@@ -1,6 +1,6 @@
 //! A level's report: its printed lines as a text.
-ghost use Rattle.std.specs.Prelude.{◌≡◌, ◌++◌, ◌≤◌, ◌+◌, length, map, OnOk, IfOk};
-ghost use Rattle.s3_bureau.specs.Texts.{shown_byte, trimmed, report_line, report_of};
+ghost use Rattle.std.specs.Prelude.{◌≡◌, ◌++◌, ◌∷◌, [], ◌≤◌, ◌<◌, ◌+◌, ◌%◌, length, map, OnOk, IfOk};
+ghost use Rattle.s3_bureau.specs.Texts.{in_digits, shown_byte, trimmed, report_line, report_of};
 ghost use Rattle.s3_bureau.specs.Inner.Underway.{ShowsCodes};
 
 use super::number::push_number;
@@ -26,13 +26,49 @@ fn push_line(report: &mut Vec<u8>, table: &[u8; 256], line: &PrintLine) -> Resul
     requires { ShowsCodes table.now }
     ensures { OnOk result (report.new.items ≡ report.old.items ++ report_line line.now) }
 {
-    push_number(report, line.page(), 4)?;
-    report.push(b' ')?;
-    push_number(report, u16::from(line.line()), 2)?;
-    report.push(b' ')?;
+    push_place(report, line.page(), line.line())?;
     push_shown(report, table, trim_end(line.text()))?;
     report.push(b'\n')?;
     Ok(())
+}
+
+/// Appends the page of a printed line and its line there, with a blank behind each.
+fn push_place(report: &mut Vec<u8>, page: u16, line: u8) -> Result<(), AllocError>
+    ensures { OnOk result (report.new.items ≡ report.old.items ++ in_digits 4 page ++ 32 ∷ [] ++ in_digits 2 line ++ 32 ∷ []) }
+{
+    if page < 10_000 && line < 100 {
+        return report.extend_from_slice(&place_in_eight(page, u16::from(line)));
+    }
+    push_number(report, page, 4)?;
+    report.push(b' ')?;
+    push_number(report, u16::from(line), 2)?;
+    report.push(b' ')?;
+    Ok(())
+}
+
+/// The last digit of a number.
+fn last_digit(number: u16) -> u8
+    ensures { result ≡ 48 + number % 10 }
+{
+    b'0' + (number % 10) as u8
+}
+
+/// A page of at most four digits and a line of at most two, with a blank behind each.
+fn place_in_eight(page: u16, line: u16) -> [u8; 8]
+    requires page { page < 10000 }
+    requires line { line < 100 }
+    ensures { result ≡ in_digits 4 page ++ 32 ∷ [] ++ in_digits 2 line ++ 32 ∷ [] }
+{
+    [
+        last_digit(page / 1000),
+        last_digit(page / 100),
+        last_digit(page / 10),
+        last_digit(page),
+        b' ',
+        last_digit(line / 10),
+        last_digit(line),
+        b' ',
+    ]
 }
 
 /// The byte that shows each code, in the order of the codes: made once for a report, so that each of its codes costs one

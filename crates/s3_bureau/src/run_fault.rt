@@ -4,9 +4,7 @@ ghost use Rattle.std.specs.Prelude.{◌≡◌};
 ghost use Rattle.s3_bureau.specs.Faults.{mount_number as mount_number_spec};
 
 use super::script::ScriptFault;
-use s3_labels::Refusal;
 use s3_slots::MountFault;
-use s3_store::PoolFault;
 use std::alloc::AllocError;
 use thiserror::Error;
 
@@ -59,22 +57,6 @@ impl From<ScriptFault> for RunFault {
         match fault {
             ScriptFault::NoMemory => RunFault::NoMemory,
             ScriptFault::Line(line) => RunFault::Script { line },
-        }
-    }
-}
-
-impl From<Refusal> for RunFault {
-    ghost use Rattle.std.specs.Prelude.{◌≡◌};
-    ghost use Rattle.s3_bureau.specs.Faults.{fault_of_refusal};
-
-    ghost from_gives = { λ refusal given. given ≡ fault_of_refusal refusal };
-
-    fn from(refusal: Refusal) -> RunFault {
-        match refusal {
-            Refusal::BadPack(fault) => RunFault::Mount(fault),
-            Refusal::Sectors(PoolFault::Device) => RunFault::Device,
-            Refusal::Sectors(PoolFault::NoMemory) => RunFault::NoMemory,
-            Refusal::Sectors(PoolFault::NoSector) => RunFault::NoMemory,
         }
     }
 }

@@ -1,13 +1,13 @@
 //! A run: a pack, two decks and a script, from bytes to texts and the pack.
 ghost use Rattle.std.specs.Prelude.{◌≡◌, ◌≢◌, ◌+◌, Ok, Err, IfOk, IfErr, OnOk, replicate, true};
 ghost use Rattle.std.specs.List.{flat_map};
-ghost use Rattle.s3_bureau.specs.Faults.{fault_of_stop};
+ghost use Rattle.s3_bureau.specs.Faults.{TellsRefusal, fault_of_stop};
 ghost use Rattle.s3_bureau.specs.Script.{entries_by};
 ghost use Rattle.s3_bureau.specs.declared.stop.Stop.TheVariants.{Stopped};
 ghost use Rattle.s3_bureau.specs.Stops.{failed_stop};
 ghost use Rattle.s3_bureau.specs.Held.{HoldsFor, held_by, is_open};
 ghost use Rattle.s3_bureau.specs.Runs.{Runs, texts_in};
-ghost use Rattle.s3_bureau.specs.Inner.Underway.{HasTexts, HaveFiles, Leaves, LeavesSectors, Performs, ReadsDeck, RunsOver, drained_texts};
+ghost use Rattle.s3_bureau.specs.Inner.Underway.{HasTexts, HaveFiles, HaveSlots, KeepSaying, Leaves, LeavesSectors, Performs, ReadsDeck, RunsOver, drained_texts};
 ghost use Rattle.s3_solo.specs.World.{World};
 
 use crate::bureau::Bureau;
@@ -19,8 +19,8 @@ use crate::run_fault::RunFault;
 use crate::script::{Command, read_script};
 use crate::stop::Stop;
 use s3_cards::{Deck, LevelId};
-use s3_labels::RefusedStore;
-use s3_store::{MemoryStore, PackStore};
+use s3_labels::{Refusal, RefusedStore};
+use s3_store::{MemoryStore, PackStore, PoolFault};
 use std::alloc::{AllocError, Global};
 
 /// The texts of both levels after a script's entries over a pack, each level over its own deck, and the pack that they leave.
@@ -55,13 +55,26 @@ fn outcome(
     let (cards2, refusal2) = read_deck(alloc, deck2)?;
     let mut bureau = match Bureau::open(alloc, store, cards1, cards2) {
         Ok(bureau) => bureau,
-        Err(RefusedStore { store: _, fault }) => return Err(RunFault::from(fault)),
+        Err(RefusedStore { store: _, fault }) => return Err(fault_of_refusal(fault)),
     };
     let texts = served(alloc, &mut bureau, commands, refusal1, refusal2);
     let pack = bureau.into_store().into_bytes();
     match texts {
         Ok((one, two)) => Ok(Outcome { one, two, pack }),
         Err(stop) => Err(fault_of(stop)),
+    }
+}
+
+/// What the refusal of a pack is to a run.
+fn fault_of_refusal(refusal: Refusal) -> RunFault
+    requires { refusal ≢ Refusal.Sectors PoolFault.NoSector }
+    ensures { TellsRefusal refusal result }
+{
+    match refusal {
+        Refusal::BadPack(fault) => RunFault::Mount(fault),
+        Refusal::Sectors(PoolFault::Device) => RunFault::Device,
+        Refusal::Sectors(PoolFault::NoMemory) => RunFault::NoMemory,
+        Refusal::Sectors(PoolFault::NoSector) => unreachable!(),
     }
 }
 
@@ -88,6 +101,7 @@ fn served<S: PackStore>(
     requires { is_open bureau.old ≡ true }
     ensures texts { IfOk result (λ texts. HasTexts refusal1 refusal2 (flat_map entries_by commands.now) (held_by bureau.old) (record { one = texts_in texts.0; two = texts_in texts.1 })) }
     ensures files { OnOk result (HaveFiles (flat_map entries_by commands.now) (held_by bureau.old) bureau.new.beside.state.contents) }
+    ensures slots { OnOk result (HaveSlots (flat_map entries_by commands.now) bureau.old bureau.new.beside.state.contents) }
     ensures flushed { OnOk result (bureau.new.beside.state.stored ≡ bureau.new.beside.state.contents) }
     ensures leaves { LeavesSectors (flat_map entries_by commands.now) bureau.old bureau.new }
     ensures failures { bureau.new.beside.state.failures ≡ bureau.old.beside.state.failures + failed_stop result }
@@ -117,6 +131,7 @@ fn read_deck(alloc: Global, text: &[u8]) -> Result<(Deck, Option<(u16, u8)>), Al
 fn perform<S: PackStore>(bureau: &mut Bureau<S>, commands: &[Command]) -> Result<(), Stop>
     requires { is_open bureau.old ≡ true }
     ensures worlds { OnOk result (Performs (flat_map entries_by commands.now) (held_by bureau.old) (held_by bureau.new)) }
+    ensures said { OnOk result (KeepSaying bureau.old bureau.new) }
     ensures goes_on { OnOk result (is_open bureau.new ≡ true) }
     ensures leaves { Leaves (flat_map entries_by commands.now) bureau.old bureau.new }
     ensures failures { bureau.new.beside.state.failures ≡ bureau.old.beside.state.failures + failed_stop result }
@@ -132,6 +147,7 @@ fn perform<S: PackStore>(bureau: &mut Bureau<S>, commands: &[Command]) -> Result
 fn repeat<S: PackStore>(bureau: &mut Bureau<S>, entry: Entry, count: u16) -> Result<(), Stop>
     requires { is_open bureau.old ≡ true }
     ensures worlds { OnOk result (Performs (replicate count entry) (held_by bureau.old) (held_by bureau.new)) }
+    ensures said { OnOk result (KeepSaying bureau.old bureau.new) }
     ensures goes_on { OnOk result (is_open bureau.new ≡ true) }
     ensures leaves { Leaves (replicate count entry) bureau.old bureau.new }
     ensures failures { bureau.new.beside.state.failures ≡ bureau.old.beside.state.failures + failed_stop result }

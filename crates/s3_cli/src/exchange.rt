@@ -1,6 +1,6 @@
 //! One session: bytes in, bytes out.
 
-ghost use Rattle.std.specs.Prelude.{◌≡◌, ◌≢◌, Ok, Err, IfOk, IfErr, IfSome};
+ghost use Rattle.std.specs.Prelude.{◌≡◌, ◌≢◌, ℕ, List, Ok, Err, IfOk, IfErr, IfSome};
 ghost use Rattle.s3_cli.specs.Session.{Answers, Refuses};
 ghost use Rattle.s3_cli.specs.declared.fault.SessionFault.TheVariants.{File};
 
@@ -26,8 +26,8 @@ pub fn session<R: Read, W: Write>(
     reader: &mut R,
     writer: &mut W,
 ) -> Result<Vec<u8>, SessionFault>
-    ensures wrote { IfOk result (λ saved. IfSome (R.remaining reader.old) (λ input.
-        Answers pack.now input saved.items (W.contents writer.old) (W.contents writer.new))) }
+    ensures wrote { IfOk result (λ saved. (input : List ℕ) × (IfSome (R.remaining reader.old) (λ given. input ≡ given)
+        × Answers pack.now input saved.items (W.contents writer.old) (W.contents writer.new))) }
     ensures refused { IfErr result (λ fault. IfSome (R.remaining reader.old) (λ input. Refuses pack.now fault input)) }
     ensures wrote_nothing { IfErr result (λ fault. fault ≢ File → W.contents writer.new ≡ W.contents writer.old) }
 {

@@ -1,11 +1,16 @@
 -- What calls on the parts of a bureau do, refused or not. These words serve the contracts of private functions alone.
-use Rattle.std.specs.Prelude.{◌≡◌, ◌+◌, true, None, Result, Ok, Err, ⊤}
+use Rattle.std.specs.Prelude.{◌≡◌, ◌≢◌, ◌+◌, true, None, Result, Ok, Err, IfErr, OnOk, ⊤}
 use Rattle.s3_cards.specs.Levels.{other}
 use Rattle.s3_cards.specs.declared.levels.LevelId.{LevelId}
 use Rattle.s3_cards.specs.declared.levels.LevelId.TheVariants.{One, Two}
 use Rattle.s3_store.specs.Failures.{failed_transfers}
 use Rattle.s3_store.specs.State.{KeepsContents, KeepsInStep}
 use Rattle.s3_store.specs.declared.pool_fault.PoolFault.{PoolFault}
+use Rattle.s3_store.specs.declared.pool_fault.PoolFault.TheVariants.{NoSector}
+use Rattle.s3_slots.specs.Header.{region_of}
+use Rattle.s3_slots.specs.Slots.{slots_of}
+use Rattle.s3_labels.specs.Areas.{area_of}
+use Rattle.s3_labels.specs.Labelled.{KeepsSaid, SaysSlots}
 use Rattle.s3_job_files.specs.Holds.{seen}
 use Rattle.s3_solo.specs.declared.action.Action.{Action}
 use Rattle.s3_solo.specs.declared.action.Did.{Did}
@@ -26,6 +31,8 @@ ActsTo action (Err fault) old new before after = (new.lines.items ≡ old.lines.
 pub record Acts (action : Action) (result : Result Did PoolFault) (old new : Level) (before after : Around) : Type 0 where
   pub id : new.id ≡ old.id
   pub spares : Spares old.id before after
+  pub says : OnOk result (KeepsSaid old.id before.areas before.state.contents after.areas after.state.contents)
+  pub fault : IfErr result (λ fault. fault ≢ NoSector)
   pub failures : after.state.failures ≡ before.state.failures + failed_transfers result
   pub comes : ActsTo action result old new before after
 
@@ -38,8 +45,17 @@ pub record ClosesLevel (result : Result (Unit {0}) PoolFault) (old new : Level) 
   pub id : new.id ≡ old.id
   pub spares : Spares old.id before after
   pub rests : old.job ≡ None → KeepsContents before.state after.state
+  pub says : OnOk result (KeepsSaid old.id before.areas before.state.contents after.areas after.state.contents)
+  pub fault : IfErr result (λ fault. fault ≢ NoSector)
   pub failures : after.state.failures ≡ before.state.failures + failed_transfers result
   pub comes : ClosesTo result old new before after
+
+-- Where the labels of a level said its slots before, a mount of these sectors judges them as each world has them that the level now
+-- holds.
+abbrev pub MountsAs : LevelId → (before : Around) → (new : Level) → (after : Around) → Type 0
+MountsAs level before new after =
+    SaysSlots level before.areas before.state.contents → (w : World) → Holds new after w
+    → slots_of after.areas.header.format (region_of level after.areas.header) (area_of level) after.state.contents ≡ w.pack.own.slots
 
 -- ---- both levels
 -- both were closed and the store has what is beside them, or they stopped
@@ -53,6 +69,9 @@ pub record ClosesBoth (result : Result (Unit {0}) PoolFault) (one two new_one ne
   pub common : KeepsInStep (IsCommon before.areas.header) before.state after.state
   pub one_rests : one.job ≡ None → KeepsInStep (IsOwn One before.areas.header) before.state after.state
   pub two_rests : two.job ≡ None → KeepsInStep (IsOwn Two before.areas.header) before.state after.state
+  pub one_mounts : OnOk result (MountsAs One before new_one after)
+  pub two_mounts : OnOk result (MountsAs Two before new_two after)
+  pub fault : IfErr result (λ fault. fault ≢ NoSector)
   pub failures : after.state.failures ≡ before.state.failures + failed_transfers result
   pub comes : BothTo result one two new_one new_two before after
 
@@ -69,6 +88,8 @@ pub record Enters (level : LevelId) (action : Action) (result : Result Did PoolF
   pub ready : IsReadyFor old.one old.two old.beside
   pub stays : level_of (other level) new ≡ level_of (other level) old
   pub spares : Spares level old.beside new.beside
+  pub says : OnOk result ((one_or_two : LevelId) → KeepsSaid one_or_two old.beside.areas old.beside.state.contents new.beside.areas new.beside.state.contents)
+  pub fault : IfErr result (λ fault. fault ≢ NoSector)
   pub failures : new.beside.state.failures ≡ old.beside.state.failures + failed_transfers result
   pub comes : EntersTo level action result old new
 
@@ -82,5 +103,7 @@ pub record Closes (result : Result (Unit {0}) PoolFault) (old new : State) : Typ
   pub header : header_of new ≡ header_of old
   pub common : KeepsInStep (IsCommon (header_of old)) old.beside.state new.beside.state
   pub rest : (level : LevelId) → rests level old → KeepsInStep (IsOwn level (header_of old)) old.beside.state new.beside.state
+  pub mounts : OnOk result ((level : LevelId) → MountsAs level old.beside (level_of level new) new.beside)
+  pub fault : IfErr result (λ fault. fault ≢ NoSector)
   pub failures : new.beside.state.failures ≡ old.beside.state.failures + failed_transfers result
   pub comes : EndsTo result old new

@@ -6,14 +6,16 @@ use Rattle.s3_cards.specs.declared.levels.LevelId.TheVariants.{One, Two}
 use Rattle.s3_cards.specs.Deck.{deck_of}
 use Rattle.s3_store.specs.Contents.{sectors_of}
 use Rattle.s3_store.specs.State.{KeepsInStep}
-use Rattle.s3_slots.specs.Header.{mounted}
+use Rattle.s3_slots.specs.Header.{mounted, region_of}
+use Rattle.s3_slots.specs.Slots.{slots_of}
+use Rattle.s3_labels.specs.Areas.{area_of}
 use Rattle.s3_slots.specs.declared.header.Header.{Header}
 use Rattle.s3_solo.specs.Lines.{drained_lines}
 use Rattle.s3_solo.specs.World.{World}
 use Rattle.s3_solo.specs.Solo.{solo, closed}
 use Rattle.s3_bureau.specs.declared.entry.Entry.{Entry}
 use Rattle.s3_bureau.specs.Entries.{own}
-use Rattle.s3_bureau.specs.Held.{IsCommon, IsOwn, State, header_of, level_of, rests}
+use Rattle.s3_bureau.specs.Held.{HoldsFor, IsCommon, IsOwn, IsSaid, State, header_of, level_of, rests}
 use Rattle.s3_bureau.specs.declared.outcome.Outcome.{Outcome}
 use Rattle.s3_bureau.specs.declared.run_fault.RunFault.{RunFault}
 use Rattle.s3_bureau.specs.declared.run_fault.RunFault.TheVariants.{Script, Mount, Device, NoMemory}
@@ -45,6 +47,17 @@ pub record LeavesSectors (entries : List Entry) (old new : State) : Type 0 where
 -- the files of each world that was held for a level stand so in these sectors, after that level's own entries and once it is closed
 abbrev pub HaveFiles : List Entry → (held : LevelId → World → Type 0) → (contents : List (List ℕ)) → Type 0
 HaveFiles entries held contents = (level : LevelId) (w : World) → held level w → HasFiles contents (closed (solo w (own level entries)))
+
+-- the labels of a level that said its slots still say them
+abbrev pub KeepSaying : (old new : State) → Type 0
+KeepSaying old new = (level : LevelId) → IsSaid level old → IsSaid level new
+
+-- Where the labels of a level said its slots, a mount of these sectors judges them as the worlds have them that were held for it, after
+-- its own entries and once it is closed.
+abbrev pub HaveSlots : List Entry → State → (contents : List (List ℕ)) → Type 0
+HaveSlots entries old contents =
+    (level : LevelId) (w : World) → HoldsFor level old w → IsSaid level old
+    → slots_of (header_of old).format (region_of level (header_of old)) (area_of level) contents ≡ (closed (solo w (own level entries))).pack.own.slots
 
 -- the texts of a world's drained lines and its halts
 abbrev pub drained_texts : Option (ℕ × ℕ) → World → Texts

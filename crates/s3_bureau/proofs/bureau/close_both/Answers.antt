@@ -17,4 +17,4 @@ returns-in_err-close_level-2 g c =
 
 pub returns : goal.returns
 returns g c =
-    both_closed c.flush.result _ _ _ _ _ _ _ _ _ _ c.requires c.in_ok-close_level.ensures c.in_ok-close_level-2.ensures c.flush.ensures.flushed c.flush.ensures.keeps c.flush.ensures.failures
+    both_closed c.flush.result _ _ _ _ _ _ _ _ _ _ c.requires c.in_ok-close_level.ensures c.in_ok-close_level-2.ensures c.flush.ensures.flushed c.flush.ensures.keeps c.flush.ensures.failures c.flush.ensures.fault

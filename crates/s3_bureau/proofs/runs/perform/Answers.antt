@@ -13,7 +13,7 @@ loop-command-preserved g c = (
     (
       commands_leave _ _ _ c.args.bureau.now c.loop-command.bureau c.repeat.new.bureau (take_more c.args.commands.now c.loop-command.command-index _ c.loop-command-test.true) c.loop-command.invariant.1.1.0
           c.in_ok-repeat.ensures.leaves,
-      omega (arith, c.in_ok-repeat.ensures.failures, c.loop-command.invariant.1.1.1),
+      (omega (arith, c.in_ok-repeat.ensures.failures, c.loop-command.invariant.1.1.1.0), λ level said. c.in_ok-repeat.ensures.said level (c.loop-command.invariant.1.1.1.1 level said)),
     ),
   ),
 )

@@ -12,7 +12,7 @@ loop-time-preserved g c = (
     (
       leaves_more c.args.entry c.loop-time._time c.args.bureau.now c.loop-time.bureau c.step.new.self c.loop-time.invariant.1.1.0
           (leaves_entry c.args.entry c.loop-time.bureau c.step.new.self c.in_ok-_did.ensures.stays c.in_ok-_did.ensures.unchanged c.in_ok-_did.ensures.header),
-      omega (arith, c.in_ok-_did.ensures.failures, c.loop-time.invariant.1.1.1),
+      (omega (arith, c.in_ok-_did.ensures.failures, c.loop-time.invariant.1.1.1.0), λ level said. c.in_ok-_did.ensures.said level (c.loop-time.invariant.1.1.1.1 level said)),
     ),
   ),
 )

@@ -1,6 +1,7 @@
+use Rattle.std.proofs.Common.{◌∙◌}
 use Rattle.s3_bureau.specs.Held.{held_by}
 use Rattle.s3_bureau.proofs.Performing.{sectors_left}
-use Rattle.s3_bureau.proofs.Running.{files_stand, texts_shown}
+use Rattle.s3_bureau.proofs.Running.{files_stand, slots_stand, texts_shown}
 use Rattle.s3_bureau.proofs.runs.served.Goals as goal
 
 pub returns-clause-texts : goal.returns-clause-texts
@@ -12,3 +13,7 @@ returns-clause-leaves g c = sectors_left _ _ _ _ c.in_ok-perform.ensures.leaves 
 
 pub returns-clause-files : goal.returns-clause-files
 returns-clause-files g c = files_stand _ _ c.perform.new.bureau c.finish.new.self c.in_ok-perform.ensures.worlds c.in_ok-finish.ensures.closes
+
+pub returns-clause-slots : goal.returns-clause-slots
+returns-clause-slots g c =
+    slots_stand _ _ c.perform.new.bureau c.finish.new.self c.in_ok-perform.ensures.worlds c.in_ok-perform.ensures.said c.in_ok-finish.ensures.closes c.in_ok-finish.ensures.mounts (c.in_ok-finish.ensures.header ∙ c.in_ok-perform.ensures.leaves.header)
