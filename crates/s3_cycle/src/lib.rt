@@ -7,6 +7,7 @@ mod calculating;
 mod chaining;
 pub mod cycle;
 mod fields;
+mod fitting;
 mod halts;
 mod indicating;
 mod lines;
@@ -24,4 +25,5 @@ mod waiting;
 pub mod went;
 
 pub use cycle::Cycle;
+pub use fitting::fits;
 pub use request::{Answer, Current, Request, Sought};

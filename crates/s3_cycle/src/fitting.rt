@@ -1,0 +1,98 @@
+//! Which answers fit a request.
+ghost use Rattle.std.specs.Prelude.{◌≡◌, ℕ, List, Option};
+ghost use Rattle.s3_meaning.specs.Requests.{fits as fits_spec, fits_done, fits_record, fits_reply, refuses_add, refuses_append, refuses_never, refuses_update};
+ghost use Rattle.s3_program.specs.declared.program.Program.{Program};
+ghost use Rattle.s3_cycle.specs.Requests.{answer_of, request_of};
+
+use crate::request::{Answer, Request};
+use s3_operator::{HaltCode, allowed};
+
+/// The columns of a card.
+const CARD_LENGTH: usize = 96;
+
+/// A record of so many bytes, or none.
+#[tactic(auto, unfolding(crate::specs::Requests::answer_of))]
+fn is_record_or_none(length: usize, answer: &Answer<'_>) -> bool
+    ensures { result ≡ fits_record length (answer_of answer.now) }
+{
+    match answer {
+        Answer::Found(bytes) => bytes.len() == length,
+        Answer::Nothing => true,
+        Answer::Done | Answer::Refused(_) | Answer::Reply(_) => false,
+    }
+}
+
+/// Done, which nothing refuses.
+#[tactic(auto, unfolding(crate::specs::Requests::answer_of))]
+fn is_done(answer: &Answer<'_>) -> bool
+    ensures { result ≡ fits_done refuses_never (answer_of answer.now) }
+{
+    matches!(answer, Answer::Done)
+}
+
+/// Done, or refused as a record behind the last one is.
+#[tactic(auto, unfolding(crate::specs::Requests::answer_of))]
+fn is_appended_or_refused(answer: &Answer<'_>) -> bool
+    ensures { result ≡ fits_done refuses_append (answer_of answer.now) }
+{
+    match answer {
+        Answer::Done => true,
+        Answer::Refused(code) => matches!(code, HaltCode::FileFull | HaltCode::KeyNotAscending),
+        Answer::Found(_) | Answer::Nothing | Answer::Reply(_) => false,
+    }
+}
+
+/// Done, or refused as a record under a new key is.
+#[tactic(auto, unfolding(crate::specs::Requests::answer_of))]
+fn is_added_or_refused(answer: &Answer<'_>) -> bool
+    ensures { result ≡ fits_done refuses_add (answer_of answer.now) }
+{
+    match answer {
+        Answer::Done => true,
+        Answer::Refused(code) => matches!(code, HaltCode::DuplicateKey | HaltCode::FileFull),
+        Answer::Found(_) | Answer::Nothing | Answer::Reply(_) => false,
+    }
+}
+
+/// Done, or refused as a change is.
+#[tactic(auto, unfolding(crate::specs::Requests::answer_of))]
+fn is_updated_or_refused(answer: &Answer<'_>) -> bool
+    ensures { result ≡ fits_done refuses_update (answer_of answer.now) }
+{
+    match answer {
+        Answer::Done => true,
+        Answer::Refused(code) => matches!(code, HaltCode::NothingToUpdate | HaltCode::KeyChanged),
+        Answer::Found(_) | Answer::Nothing | Answer::Reply(_) => false,
+    }
+}
+
+/// A digit that the replies to a halt allow.
+#[tactic(auto, unfolding(crate::specs::Requests::answer_of))]
+fn is_allowed_reply(code: HaltCode, answer: &Answer<'_>) -> bool
+    ensures { result ≡ fits_reply code (answer_of answer.now) }
+{
+    match answer {
+        Answer::Reply(digit) => allowed(code, *digit),
+        Answer::Found(_) | Answer::Nothing | Answer::Done | Answer::Refused(_) => false,
+    }
+}
+
+/// Whether an answer fits a request, as `Cycle::resume` demands of an answer to the pending one: a record of its file's length, a
+/// card's 96 bytes, or none, where one is asked for; for a record that is put out, that it is done or for which halt it isn't; a
+/// digit that is allowed, for a halt; and for a line or a jump that it is done. No answer fits the end.
+#[tactic(auto, unfolding(crate::specs::Requests::request_of))]
+pub fn fits(request: &Request, answer: &Answer<'_>) -> bool
+    ensures { (program : Program) (positions : List (Option ℕ)) → result ≡ fits_spec (request_of program positions request.now) (answer_of answer.now) }
+{
+    match request {
+        Request::Card => is_record_or_none(CARD_LENGTH, answer),
+        Request::Read { length, .. } => is_record_or_none(usize::from(*length), answer),
+        Request::Chain { length, .. } => is_record_or_none(usize::from(*length), answer),
+        Request::Append { .. } => is_appended_or_refused(answer),
+        Request::Add { .. } => is_added_or_refused(answer),
+        Request::Update { .. } => is_updated_or_refused(answer),
+        Request::Print { .. } | Request::Jump => is_done(answer),
+        Request::Ask(code) => is_allowed_reply(*code, answer),
+        Request::End { .. } => false,
+    }
+}
