@@ -2,7 +2,7 @@
 
 use crate::packs::Taken;
 use s3_bureau::{Bureau, Entry, Refusal, RefusedStore, Stop};
-use s3_cards::{Deck, LevelId, PrintLine, host_byte};
+use s3_cards::{Deck, DeckFault, LevelId, PrintLine, host_byte};
 use s3_store::{FuseStore, MemoryStore, PoolFault};
 use std::alloc::Global;
 use std::process::Abort;
@@ -65,7 +65,34 @@ pub struct Run {
     pub bytes: Vec<u8>,
 }
 
-type Store = FuseStore<MemoryStore>;
+pub type Store = FuseStore<MemoryStore>;
+
+/// What may stop a run.
+#[derive(Clone, Copy)]
+pub enum Cause {
+    /// A transfer that fails.
+    Device,
+    /// A request for memory that is refused.
+    Memory,
+}
+
+impl Cause {
+    /// What refuses an opening.
+    fn fault(self) -> PoolFault {
+        match self {
+            Cause::Device => PoolFault::Device,
+            Cause::Memory => PoolFault::NoMemory,
+        }
+    }
+
+    /// What stops a bureau.
+    fn stop(self) -> Stop {
+        match self {
+            Cause::Device => Stop::Device,
+            Cause::Memory => Stop::NoMemory,
+        }
+    }
+}
 
 const LEVELS: [LevelId; 2] = [LevelId::One, LevelId::Two];
 
@@ -113,13 +140,19 @@ fn assert_stays_stopped(rt: &impl Abort, session: &Session, bureau: &mut Bureau<
     assert_eq!(rt; drained(rt, session, bureau), before);
 }
 
-/// Does an entry, and says whether it was done. Where it stops the bureau, a device has failed, and the drained lines stay.
-fn steps(rt: &impl Abort, session: &Session, bureau: &mut Bureau<Store>, entry: Entry) -> bool {
+/// Does an entry, and says whether it was done. Where it stops the bureau, it does so for this cause, and the drained lines stay.
+fn steps(
+    rt: &impl Abort,
+    session: &Session,
+    bureau: &mut Bureau<Store>,
+    entry: Entry,
+    cause: Stop,
+) -> bool {
     let before = drained(rt, session, bureau);
     match bureau.step(entry) {
         Ok(_) => true,
         Err(stop) => {
-            assert_eq!(rt; stop, Stop::Device);
+            assert_eq!(rt; stop, cause);
             assert_eq!(rt; drained(rt, session, bureau), before);
             assert_stays_stopped(rt, session, bureau);
             false
@@ -128,12 +161,17 @@ fn steps(rt: &impl Abort, session: &Session, bureau: &mut Bureau<Store>, entry: 
 }
 
 /// Does all rounds up to a stop.
-fn play(rt: &impl Abort, session: &Session, bureau: &mut Bureau<Store>) -> (End, Taken) {
+fn play(
+    rt: &impl Abort,
+    session: &Session,
+    bureau: &mut Bureau<Store>,
+    cause: Stop,
+) -> (End, Taken) {
     let mut taken = Taken::none();
     for _round in 0..session.rounds {
         for entry in session.round {
             taken = taken.and(entry.level);
-            if !steps(rt, session, bureau, *entry) {
+            if !steps(rt, session, bureau, *entry, cause) {
                 return (End::Step, taken);
             }
         }
@@ -141,8 +179,8 @@ fn play(rt: &impl Abort, session: &Session, bureau: &mut Bureau<Store>) -> (End,
     (End::Whole, taken)
 }
 
-/// Closes both levels. Where no transfer fails, each has the lines wanted and no halt.
-fn finish(rt: &impl Abort, session: &Session, bureau: &mut Bureau<Store>) -> End {
+/// Closes both levels. Where nothing fails, each has the lines wanted and no halt.
+fn finish(rt: &impl Abort, session: &Session, bureau: &mut Bureau<Store>, cause: Stop) -> End {
     let end = match bureau.finish() {
         Ok(()) => {
             for level in LEVELS {
@@ -157,12 +195,41 @@ fn finish(rt: &impl Abort, session: &Session, bureau: &mut Bureau<Store>) -> End
             End::Whole
         }
         Err(stop) => {
-            assert_eq!(rt; stop, Stop::Device);
+            assert_eq!(rt; stop, cause);
             End::Finish
         }
     };
     assert_stays_stopped(rt, session, bureau);
     end
+}
+
+/// A session over a store that fails at a call, or where memory may be refused.
+pub fn run_over(
+    rt: &impl Abort,
+    alloc: Global,
+    session: &Session,
+    decks: (Deck, Deck),
+    store: Store,
+    cause: Cause,
+) -> Run {
+    let (one, two) = decks;
+    let mut bureau = match Bureau::open(alloc, store, one, two) {
+        Ok(bureau) => bureau,
+        Err(RefusedStore { store, fault }) => {
+            assert_eq!(rt; fault, Refusal::Sectors(cause.fault()));
+            return Run {
+                end: End::Open,
+                taken: Taken::none(),
+                bytes: store.into_inner().into_bytes(),
+            };
+        }
+    };
+    let (mut end, taken) = play(rt, session, &mut bureau, cause.stop());
+    if end == End::Whole {
+        end = finish(rt, session, &mut bureau, cause.stop());
+    }
+    let bytes = bureau.into_store().into_inner().into_bytes();
+    Run { end, taken, bytes }
 }
 
 /// The session on a pack, over a store that fails at call `k`.
@@ -173,28 +240,15 @@ pub fn run_with_fuse(
     pack: Vec<u8>,
     k: u64,
 ) -> Result<Run, Fail> {
-    let one = Deck::read(alloc, session.one.deck)?;
-    let two = Deck::read(alloc, session.two.deck)?;
+    let decks = read_decks(alloc, session)?;
     let store = FuseStore::new(MemoryStore::from_bytes(pack), k);
-    let mut bureau = match Bureau::open(alloc, store, one, two) {
-        Ok(bureau) => bureau,
-        Err(RefusedStore { store, fault }) => {
-            assert_eq!(rt;
-                fault,
-                Refusal::Sectors(PoolFault::Device),
-                "fuse at call {k}"
-            );
-            return Ok(Run {
-                end: End::Open,
-                taken: Taken::none(),
-                bytes: store.into_inner().into_bytes(),
-            });
-        }
-    };
-    let (mut end, taken) = play(rt, session, &mut bureau);
-    if end == End::Whole {
-        end = finish(rt, session, &mut bureau);
-    }
-    let bytes = bureau.into_store().into_inner().into_bytes();
-    Ok(Run { end, taken, bytes })
+    Ok(run_over(rt, alloc, session, decks, store, Cause::Device))
+}
+
+/// The decks of both levels.
+pub fn read_decks(alloc: Global, session: &Session) -> Result<(Deck, Deck), DeckFault> {
+    Ok((
+        Deck::read(alloc, session.one.deck)?,
+        Deck::read(alloc, session.two.deck)?,
+    ))
 }
