@@ -39,7 +39,9 @@ fn lister_ends(rt: HostRuntime) -> Result<(), Fail> {
     for _turn in 0..TURNS {
         assert_eq!(rt; bureau.step(TURN), Ok(Did::Acted));
     }
-    assert_ends(&rt, &mut bureau);
+    assert_eq!(rt; bureau.finish(), Ok(()));
+    assert_has_listed(&rt, &bureau);
+    assert_eq!(rt; bureau.finish(), Err(Stop::Stopped));
     let _store = bureau.into_store();
     Ok(())
 }
@@ -87,13 +89,15 @@ fn assert_ends_or_stays_stopped(rt: &impl Abort, bureau: &mut Bureau<MemoryStore
             }
         }
     }
-    assert_ends(rt, bureau);
+    match bureau.finish() {
+        Ok(()) => assert_has_listed(rt, bureau),
+        Err(stop) => assert_eq!(rt; stop, Stop::NoMemory),
+    }
+    assert_eq!(rt; bureau.finish(), Err(Stop::Stopped));
 }
 
-/// After its last turn the lister has both lines and no halt, and nothing more is done.
-fn assert_ends(rt: &impl Abort, bureau: &mut Bureau<MemoryStore>) {
-    assert_eq!(rt; bureau.finish(), Ok(()));
+/// The lister has both lines and no halt.
+fn assert_has_listed(rt: &impl Abort, bureau: &Bureau<MemoryStore>) {
     assert_eq!(rt; bureau.lines(LevelId::One).len(), 2);
     assert_eq!(rt; bureau.halts(LevelId::One).len(), 0);
-    assert_eq!(rt; bureau.finish(), Err(Stop::Stopped));
 }
