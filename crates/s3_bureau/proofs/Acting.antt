@@ -1,5 +1,5 @@
 -- What the calls of a level come to, with what is beside it.
-use Rattle.std.proofs.Common.{◌≡◌, ℕ, ◌+◌, Result, Ok, Err}
+use Rattle.std.proofs.Common.{◌≡◌, ℕ, ◌+◌, Result, Ok, Err, refl}
 use Rattle.std.specs.Prelude.{IfErr, IfOk, OnOk, OnErr, ◌≢◌}
 use Rattle.s3_store.specs.Failures.{failed_transfers}
 use Rattle.s3_store.specs.State.{PoolState}
@@ -16,11 +16,15 @@ use Rattle.s3_solo.specs.declared.action.Did.{Did}
 use Rattle.s3_solo.specs.World.{World}
 use Rattle.s3_solo.specs.Solo.{step_of}
 use Rattle.s3_level.specs.declared.level.Level.{Level}
-use Rattle.s3_level.specs.Holds.{AreAll, Around, Holds, IsReady, KeepsOthers, Spares, Stays, Steps, around}
+use Rattle.s3_level.specs.Holds.{AreAll, Around, Holds, IsQuiet, IsReady, IsUntouched, KeepsOthers, Spares, Stays, Steps, around}
 use Rattle.s3_level.proofs.Beside.{spares_files}
 use Rattle.s3_bureau.specs.Inner.Calls.{Acts}
 use Rattle.s3_bureau.proofs.Memory.{turn_acts, reply_acts, drain_acts}
-use Rattle.s3_solo.specs.declared.action.Did.TheVariants.{Idle, Refused}
+use Rattle.s3_solo.specs.declared.action.Did.TheVariants.{Acted, Idle, Refused}
+
+-- an untouched pack with the same queues
+beside_same : (before after : Around) → IsUntouched before.areas after.areas before.state after.state → after.blocks ≡ before.blocks → after ≡ before
+beside_same before after untouched queues = λ i. record { areas = untouched.0 i; state = untouched.1 i; blocks = queues i }
 
 pub turned : (result : Result Did PoolFault) (old new : Level) (before after : Around)
     → IfOk result (λ did. Steps Turn did (Holds old before) (Holds new after))
@@ -30,12 +34,14 @@ pub turned : (result : Result Did PoolFault) (old new : Level) (before after : A
     → after.state.failures ≡ before.state.failures + failed_transfers result
     → Stays old new
     → OnOk result (KeepsSaid old.id before.areas before.state.contents after.areas after.state.contents)
+    → IfOk result (λ did. IsQuiet did before.areas after.areas before.state after.state)
+    → IfOk result (λ did. did ≢ Acted → after.blocks ≡ before.blocks)
     → IfErr result (λ fault. fault ≢ NoSector)
     → Acts Turn result old new before after
-turned (Ok did) old new before after steps idle ready spares failures stays says fault =
-    record { id = stays.id; spares = spares; says = says; fault = fault; failures = failures; comes = (ready, steps) }
-turned (Err fault) old new before after steps idle ready spares failures stays says finds =
-    record { id = stays.id; spares = spares; says = says; fault = finds; failures = failures; comes = (stays.drained, λ w held. turn_acts w (never w held)) }
+turned (Ok did) old new before after steps idle ready spares failures stays says quiet queues fault =
+    record { id = stays.id; spares = spares; says = says; quiet = λ idles. beside_same before after (quiet idles) (queues idles); fault = fault; failures = failures; comes = (ready, steps) }
+turned (Err fault) old new before after steps idle ready spares failures stays says quiet queues finds =
+    record { id = stays.id; spares = spares; says = says; quiet = tt; fault = finds; failures = failures; comes = (stays.drained, λ w held. turn_acts w (never w held)) }
   where
     never : (w : World) → Holds old before w → (step_of w Turn).did ≡ Idle → ⊥
     never w held rests = let same : Err fault ≡ Ok Idle = idle w held rests in cc
@@ -50,12 +56,13 @@ pub replied : (digit : ℕ) (result : Result Did PoolFault) (old new : Level) (a
     → t.failures ≡ s.failures + failed_transfers result
     → Stays old new
     → OnOk result (KeepsSaid old.id areas s.contents new_areas t.contents)
+    → IfOk result (λ did. IsQuiet did areas new_areas s t)
     → IfErr result (λ fault. fault ≢ NoSector)
     → Acts (Reply digit) result old new (around areas s blocks) (around new_areas t blocks)
-replied digit (Ok did) old new areas new_areas s t blocks pack are steps refused ready others failures stays says fault =
-    record { id = stays.id; spares = spares_files old.id areas new_areas blocks s t pack are others; says = says; fault = fault; failures = failures; comes = (ready, steps blocks are) }
-replied digit (Err fault) old new areas new_areas s t blocks pack are steps refused ready others failures stays says finds =
-    record { id = stays.id; spares = spares_files old.id areas new_areas blocks s t pack are others; says = says; fault = finds; failures = failures; comes = (stays.drained, λ w held. reply_acts digit w (never w held)) }
+replied digit (Ok did) old new areas new_areas s t blocks pack are steps refused ready others failures stays says quiet fault =
+    record { id = stays.id; spares = spares_files old.id areas new_areas blocks s t pack are others; says = says; quiet = λ refuses. beside_same (around areas s blocks) (around new_areas t blocks) (quiet refuses) refl; fault = fault; failures = failures; comes = (ready, steps blocks are) }
+replied digit (Err fault) old new areas new_areas s t blocks pack are steps refused ready others failures stays says quiet finds =
+    record { id = stays.id; spares = spares_files old.id areas new_areas blocks s t pack are others; says = says; quiet = tt; fault = finds; failures = failures; comes = (stays.drained, λ w held. reply_acts digit w (never w held)) }
   where
     never : (w : World) → Holds old (around areas s blocks) w → (number : ℕ) → (step_of w (Reply digit)).did ≡ Refused number → ⊥
     never w held number is = let same : Err fault ≡ Ok (Refused number) = refused blocks w number held is in cc
@@ -70,12 +77,14 @@ pub drained : (result : Result Did PoolFault) (old new : Level) (before after : 
     → new.id ≡ old.id
     → after.areas ≡ before.areas
     → KeepsContents before.state after.state
+    → IfOk result (λ did. IsQuiet did before.areas after.areas before.state after.state)
+    → IfOk result (λ did. did ≢ Acted → after.blocks ≡ before.blocks)
     → IfErr result (λ fault. fault ≢ NoSector)
     → Acts Drain result old new before after
-drained (Ok did) old new before after steps refused lines ready spares failures id same keeps fault =
-    record { id = id; spares = spares; says = said_same old.id before.areas after.areas before.state after.state keeps same; fault = fault; failures = failures; comes = (ready, steps) }
-drained (Err fault) old new before after steps refused lines ready spares failures id same keeps finds =
-    record { id = id; spares = spares; says = tt; fault = finds; failures = failures; comes = (lines, λ w held. drain_acts w (never w held)) }
+drained (Ok did) old new before after steps refused lines ready spares failures id same keeps quiet queues fault =
+    record { id = id; spares = spares; says = said_same old.id before.areas after.areas before.state after.state keeps same; quiet = λ refuses. beside_same before after (quiet refuses) (queues refuses); fault = fault; failures = failures; comes = (ready, steps) }
+drained (Err fault) old new before after steps refused lines ready spares failures id same keeps quiet queues finds =
+    record { id = id; spares = spares; says = tt; quiet = tt; fault = finds; failures = failures; comes = (lines, λ w held. drain_acts w (never w held)) }
   where
     never : (w : World) → Holds old before w → (number : ℕ) → (step_of w Drain).did ≡ Refused number → ⊥
     never w held number is = let same : Err fault ≡ Ok (Refused number) = refused w number held is in cc

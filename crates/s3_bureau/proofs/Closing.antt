@@ -1,18 +1,19 @@
 -- Levels are closed, one after the other, and the pool is flushed.
-use Rattle.std.proofs.Common.{◌≡◌, ℕ, ◌+◌, List, Option, Some, None, Result, Ok, Err, refl, sym, ap, subst, ◌∙◌, arith}
-use Rattle.std.specs.Prelude.{IfErr, OnOk, ◌≢◌}
+use Rattle.std.proofs.Common.{◌≡◌, ℕ, ◌+◌, List, [], ◌∷◌, length, Option, Some, None, Result, Ok, Err, refl, sym, ap, subst, ◌∙◌, arith, true≢false}
+use Rattle.std.specs.Prelude.{IfErr, IsOk, OnOk, ◌≢◌}
 use Rattle.s3_cards.specs.declared.levels.LevelId.{LevelId}
 use Rattle.s3_cards.specs.declared.levels.LevelId.TheVariants.{One, Two}
 use Rattle.s3_store.specs.Failures.{failed_transfers}
 use Rattle.s3_store.specs.State.{PoolState, KeepsContents, KeepsInStep}
 use Rattle.s3_store.specs.declared.pool_fault.PoolFault.{PoolFault}
-use Rattle.s3_store.specs.declared.pool_fault.PoolFault.TheVariants.{Device, NoSector}
+use Rattle.s3_store.specs.declared.pool_fault.PoolFault.TheVariants.{Device, NoMemory, NoSector}
 use Rattle.s3_store.proofs.Frames.{keeps_refl, keeps_trans, step_from_keeps, step_trans}
 use Rattle.s3_slots.specs.declared.header.Header.{Header}
 use Rattle.s3_labels.specs.Areas.{Areas, slots_at, IsReady as IsPackReady}
 use Rattle.s3_labels.specs.Labelled.{KeepsSaid}
 use Rattle.s3_labels.proofs.Labelled.{judged_as_said}
-use Rattle.s3_spool.specs.Queues.{Blocks, queue_of, quota_of}
+use Rattle.s3_spool.specs.Queues.{Blocks, blocks_of, queue_of, quota_of}
+use Rattle.s3_spool.proofs.QueueLemmas.{queue_length}
 use Rattle.s3_job_files.specs.Holds.{seen}
 use Rattle.s3_solo.specs.Lines.{Lines, all_drained}
 use Rattle.s3_solo.specs.Serving.{job_ended, over}
@@ -22,7 +23,7 @@ use Rattle.s3_level.specs.declared.level.Level.{Level}
 use Rattle.s3_level.specs.Holds.{AreAll, Around, Becomes, Holds, HoldsParts, IsReady, KeepsOthers, Spares, Stays, around}
 use Rattle.s3_level.proofs.Beside.{spares_files, spares_then}
 use Rattle.s3_level.proofs.Said.{said_same}
-use Rattle.s3_bureau.specs.Held.{IsCommon, IsOwn, IsReadyFor}
+use Rattle.s3_bureau.specs.Held.{IsCommon, IsDone, IsOwn, IsReadyFor}
 use Rattle.s3_bureau.specs.Inner.Calls.{BothTo, ClosesBoth, ClosesLevel, ClosesTo, MountsAs}
 use Rattle.s3_bureau.proofs.OtherLevel.{common_spared, header_spared, other_said, other_spared, ready_stays, worlds_stay}
 
@@ -40,14 +41,16 @@ pub level_stopped : (fault : PoolFault) (old new : Level) (areas new_areas : Are
     → IsPackReady areas s.contents → AreAll blocks
     → KeepsOthers old.id areas new_areas s t
     → (old.job ≡ None → (new_areas ≡ areas) × KeepsContents s t)
+    → (old.job ≡ None → IsOk {T = Unit {0}} (Err fault))
     → t.failures ≡ s.failures + failed_transfers {T = Unit {0}} (Err fault)
     → Stays old new
     → fault ≢ NoSector
     → ClosesLevel (Err fault) old new (around areas s blocks) (around new_areas t blocks)
-level_stopped fault old new areas new_areas s t blocks pack are others rests failures stays finds = record {
+level_stopped fault old new areas new_areas s t blocks pack are others rests ends failures stays finds = record {
   id = stays.id;
   spares = spares_files old.id areas new_areas blocks s t pack are others;
   rests = λ none. (rests none).1;
+  ends = λ done. ends done.0;
   says = tt;
   fault = finds;
   failures = failures;
@@ -70,14 +73,16 @@ pub level_closed : (result : Result (Unit {0}) PoolFault) (old middle new : Leve
     → new.id ≡ middle.id
     → KeepsSaid old.id areas s.contents middle_areas t.contents
     → after.areas ≡ middle_areas
+    → (blocks_of middle.id blocks ≡ [] → IsOk result)
     → IfErr result (λ fault. fault ≢ NoSector)
     → ClosesLevel result old new (around areas s blocks) after
-level_closed result old middle new areas middle_areas s t blocks after pack are ends others rests first stays drains ready spares keeps second id says same fault = record {
+level_closed result old middle new areas middle_areas s t blocks after pack are ends others rests first stays drains ready spares keeps second id says same none_queued fault = record {
   id = id ∙ stays.id;
   spares = spares_then old.id (around areas s blocks) (around middle_areas t blocks) after
       (spares_files old.id areas middle_areas blocks s t pack are others)
       (subst (λ (l : LevelId). Spares l (around middle_areas t blocks) after) stays.id spares);
   rests = λ none. keeps_trans s t after.state (rests none).1 keeps;
+  ends = λ done. none_queued (ap (λ (l : LevelId). blocks_of l blocks) stays.id ∙ done.1);
   says = said result;
   fault = fault;
   failures = omega (arith, first, second);
@@ -108,6 +113,7 @@ first_stopped fault one two new_one before after ready first = record {
   two_rests = λ none. other_spared One before after ready.one_ready.files.pack spares;
   one_mounts = tt;
   two_mounts = tt;
+  memory = λ done_one done_two same. true≢false (sym (first.ends (done_one.0, ap (λ (l : LevelId). blocks_of l before.blocks) ready.one_is ∙ done_one.1)));
   fault = first.fault;
   failures = first.failures;
   comes = tt;
@@ -132,16 +138,18 @@ both_spared : (result both : Result (Unit {0}) PoolFault) (one two new_one new_t
     → last.state.failures ≡ before.state.failures + failed_transfers both
     → OnOk both (MountsAs One before new_one last)
     → OnOk both (MountsAs Two before new_two last)
+    → (IsDone Two two before → both ≢ Err NoMemory)
     → IfErr both (λ fault. fault ≢ NoSector)
     → BothTo both one two new_one new_two before last
     → ClosesBoth both one two new_one new_two before last
-both_spared result both one two new_one new_two before middle after last ready first second areas flushed failures one_mounts two_mounts fault comes = record {
+both_spared result both one two new_one new_two before middle after last ready first second areas flushed failures one_mounts two_mounts memory fault comes = record {
   header = ap (λ (a : Areas). a.header) areas ∙ header_spared Two middle after spares_two ∙ header_spared One before middle spares_one;
   common = along IsCommon (common_spared One before middle ready.one_ready.files.pack spares_one) (common_spared Two middle after spares_one.pack spares_two);
   one_rests = λ none. along (IsOwn One) (step_from_keeps (IsOwn One before.areas.header) before.state middle.state (first.rests none)) (other_spared Two middle after spares_one.pack spares_two);
   two_rests = λ none. along (IsOwn Two) (other_spared One before middle ready.one_ready.files.pack spares_one) (step_from_keeps (IsOwn Two middle.areas.header) middle.state after.state (second.rests none));
   one_mounts = one_mounts;
   two_mounts = two_mounts;
+  memory = λ done_one done_two. memory done_two;
   fault = fault;
   failures = failures;
   comes = comes;
@@ -161,10 +169,23 @@ both_spared result both one two new_one new_two before middle after last ready f
         (subst (λ (k : Header). KeepsInStep (K k) middle.state after.state) (header_spared One before middle spares_one) middle_after))
         (step_from_keeps (K before.areas.header) after.state last.state flushed)
 
+empty_of : (blocks : List ℕ) → length blocks ≡ 0 → blocks ≡ []
+empty_of [] is = refl
+empty_of (block ∷ blocks) is = absurd (omega (arith, is))
+
+-- the end of the first level queues nothing for the second
+still_done : (two : Level) (before middle : Around) → Spares One before middle → IsDone Two two before → IsDone Two two middle
+still_done two before middle spares done = (
+  done.0,
+  empty_of (blocks_of Two middle.blocks)
+      (omega (arith, ap length spares.queue, ap length done.1, queue_length Two middle.blocks middle.state.contents, queue_length Two before.blocks before.state.contents)),
+)
+
 pub second_stopped : (fault : PoolFault) (one two new_one new_two : Level) (before middle after : Around) → IsReadyFor one two before
     → ClosesLevel (Ok tt) one new_one before middle → ClosesLevel (Err fault) two new_two middle after → ClosesBoth (Err fault) one two new_one new_two before after
 second_stopped fault one two new_one new_two before middle after ready first second =
-    both_spared (Err fault) (Err fault) one two new_one new_two before middle after after ready first second refl (keeps_refl after.state) (omega (arith, first.failures, second.failures)) tt tt second.fault tt
+    both_spared (Err fault) (Err fault) one two new_one new_two before middle after after ready first second refl (keeps_refl after.state) (omega (arith, first.failures, second.failures)) tt tt
+    (λ done same. true≢false (sym (second.ends (let still = still_done two before middle (subst (λ (l : LevelId). Spares l before middle) ready.one_is first.spares) done in (still.0, ap (λ (l : LevelId). blocks_of l middle.blocks) ready.two_is ∙ still.1))))) second.fault tt
 
 -- a flush leaves what levels hold
 flush_holds : (level : Level) (areas : Areas) (s t : PoolState) (blocks : Blocks) (w : World) → KeepsContents s t → Holds level (around areas s blocks) w → Holds level (around areas t blocks) w
@@ -191,7 +212,7 @@ both_closed result one two new_one new_two before middle areas s t blocks ready 
     both_spared (Ok tt) result one two new_one new_two before middle (around areas s blocks) (around areas t blocks) ready first second refl keeps (omega (arith, first.failures, second.failures, failures))
     (always result (mounts_as One new_one before (around areas t blocks) (first.id ∙ ready.one_is) pack said_one))
     (always result (mounts_as Two new_two before (around areas t blocks) (second.id ∙ ready.two_is) pack said_two))
-    (finds result fails) (by result flushed)
+    (λ done. device_alone result fails) (finds result fails) (by result flushed)
   where
     spares_one : Spares One before middle
     spares_one = subst (λ (l : LevelId). Spares l before middle) ready.one_is first.spares
@@ -222,6 +243,10 @@ both_closed result one two new_one new_two before middle areas s t blocks ready 
     finds : (result : Result (Unit {0}) PoolFault) → IfErr result (λ fault. fault ≡ Device) → IfErr result (λ fault. fault ≢ NoSector)
     finds (Ok done) is = tt
     finds (Err fault) is = λ same. let clash : Device ≡ NoSector = sym is ∙ same in absurd cc
+
+    device_alone : (result : Result (Unit {0}) PoolFault) → IfErr result (λ fault. fault ≡ Device) → result ≢ Err NoMemory
+    device_alone (Ok done) is = λ same. cc
+    device_alone (Err fault) is = λ same. let clash : Device ≡ NoMemory = sym is ∙ (let both : fault ≡ NoMemory = cc in both) in absurd cc
 
     one_held : Becomes closed (Holds one before) (Holds new_one (around areas t blocks))
     one_held = λ w held. flush_holds new_one areas s t blocks (closed w) keeps

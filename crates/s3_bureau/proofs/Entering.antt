@@ -1,10 +1,11 @@
 -- An entry in one of the two levels, and what a step says of it.
-use Rattle.std.proofs.Common.{◌≡◌, true, Result, Ok, refl, sym, subst, ◌∙◌}
+use Rattle.std.proofs.Common.{◌≡◌, true, Result, Ok, Err, refl, sym, subst, ◌∙◌}
 use Rattle.s3_cards.specs.Levels.{other}
 use Rattle.s3_cards.specs.declared.levels.LevelId.{LevelId}
 use Rattle.s3_cards.specs.declared.levels.LevelId.TheVariants.{One, Two}
 use Rattle.s3_store.specs.State.{KeepsInStep}
 use Rattle.s3_store.specs.declared.pool_fault.PoolFault.{PoolFault}
+use Rattle.s3_store.specs.declared.pool_fault.PoolFault.TheVariants.{NoMemory}
 use Rattle.s3_labels.specs.Labelled.{KeepsSaid}
 use Rattle.s3_job_files.specs.Holds.{seen}
 use Rattle.s3_solo.specs.declared.action.Action.{Action}
@@ -69,6 +70,7 @@ entered_one level action did old new_one after is takes ready acts =
       stays = refl;
       spares = subst (λ (l : LevelId). Spares l old.beside after) ready.one_is acts.spares;
       says = said_one action did old.one old.two new_one old.beside after ready acts;
+      quiet = acts.quiet;
       fault = tt;
       failures = acts.failures;
       comes = (is_phase_open old.phase takes, acts.comes.1);
@@ -83,6 +85,7 @@ entered_two level action did old new_two after is takes ready acts =
       stays = refl;
       spares = subst (λ (l : LevelId). Spares l old.beside after) ready.two_is acts.spares;
       says = said_two action did old.one old.two new_two old.beside after ready acts;
+      quiet = acts.quiet;
       fault = tt;
       failures = acts.failures;
       comes = (is_phase_open old.phase takes, acts.comes.1);
@@ -130,6 +133,7 @@ ends old new_one new_two after both = record {
   common = both.common;
   rest = rest;
   mounts = mounts;
+  memory = λ done same. let clash : Ok tt ≡ Err NoMemory = same in cc;
   fault = tt;
   failures = both.failures;
   comes = (refl, both.comes.0, worlds);
@@ -146,3 +150,21 @@ ends old new_one new_two after both = record {
     worlds : (level : LevelId) → Becomes closed (Holds (level_of level old) old.beside) (Holds (level_of level (record { beside = after; one = new_one; two = new_two; phase = Finished })) after)
     worlds One = both.comes.1.0
     worlds Two = both.comes.1.1
+
+-- or they stopped
+pub stops_closing : (fault : PoolFault) (old : State) (new_one new_two : Level) (after : Around) → ClosesBoth (Err fault) old.one old.two new_one new_two old.beside after
+    → Closes (Err fault) old (record { beside = after; one = new_one; two = new_two; phase = Stopped })
+stops_closing fault old new_one new_two after both = record {
+  header = both.header;
+  common = both.common;
+  rest = rest;
+  mounts = tt;
+  memory = λ done. both.memory (done One) (done Two);
+  fault = both.fault;
+  failures = both.failures;
+  comes = refl;
+}
+  where
+    rest : (level : LevelId) → rests level old → KeepsInStep (IsOwn level (header_of old)) old.beside.state after.state
+    rest One none = both.one_rests none
+    rest Two none = both.two_rests none

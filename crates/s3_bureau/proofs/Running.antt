@@ -1,6 +1,7 @@
 -- The texts of a run, and what it leaves of its pack.
 use Rattle.std.proofs.Common.{◌≡◌, inl, inr, ℕ, ◌≤◌, false, nat_lt, if◌then◌else◌, List, [], Option, Some, None, Result, Ok, Err, refl, sym, ap, subst, ◌∙◌, arith, length, slice_get}
 use Rattle.std.proofs.lemmas.List.{take_all, length-take}
+use Rattle.std.specs.List.{concat}
 use Rattle.s3_cards.specs.declared.levels.LevelId.{LevelId}
 use Rattle.s3_cards.specs.declared.levels.LevelId.TheVariants.{One, Two}
 use Rattle.s3_store.specs.Contents.{sectors_of}
@@ -32,7 +33,7 @@ use Rattle.s3_bureau.specs.declared.run_fault.RunFault.TheVariants.{Script, Moun
 use Rattle.s3_bureau.specs.Entries.{own}
 use Rattle.s3_bureau.specs.Held.{HoldsFor, IsCommon, IsOwn, IsSaid, State, header_of, held_by, level_of, rests}
 use Rattle.s3_bureau.specs.Script.{entries_of}
-use Rattle.s3_bureau.specs.Runs.{HasFiles, HasSlots, LeavesSo, RunTexts, Runs, outcome_texts, cards_of, texts_of, run_alone, run_texts, level_texts, entries_texts, texts_after, texts_over}
+use Rattle.s3_bureau.specs.Runs.{AreSectors, HasFiles, HasSlots, LeavesSo, RunTexts, Runs, outcome_texts, cards_of, texts_of, run_alone, run_texts, level_texts, entries_texts, texts_after, texts_over}
 use Rattle.s3_bureau.specs.Inner.Underway.{HaveFiles, HaveSlots, KeepSaying, LeavesSectors, ReadsDeck, Performs, RunsOver, HasTexts, drained_texts}
 
 -- all lines of a closed world were drained
@@ -162,7 +163,7 @@ runs_by pack deck1 deck2 script entries contents result contents_are entries_are
     texts = sym (ap (texts_after (contents_of pack) deck1 deck2) entries_are)
 
     by : (result : Result Outcome RunFault) → RunsOver (contents_of pack) deck1 deck2 entries result → Runs pack deck1 deck2 script result
-    by (Ok outcome) given = (sym texts ∙ given.0, λ header others mount read. left header others mount (same entries others (entries_of script) entries_are read) (given.1 header mount))
+    by (Ok outcome) given = (sym texts ∙ given.0, λ header others mount read. left header others mount (same entries others (entries_of script) entries_are read) (given.1.0 header mount) given.1.1)
       where
         same : (one two : List Entry) (read : Result (List Entry) ℕ) → read ≡ Ok one → read ≡ Ok two → one ≡ two
         same one two read first second = cc
@@ -171,11 +172,13 @@ runs_by pack deck1 deck2 script entries contents result contents_are entries_are
         few count = subst (λ (n : ℕ). n ≤ 65535) (sym count) (omega (arith, length-take 65535 (sectors_of pack)))
 
         left : (header : Header) (others : List Entry) → mounted (contents_of pack) ≡ Ok header → entries ≡ others
-            → LeavesSo header deck1 deck2 entries (contents_of pack) (sectors_of outcome.pack.items) → LeavesSo header deck1 deck2 others (contents_of pack) (contents_of outcome.pack.items)
-        left header others mount are rest =
-            subst (λ (c : List (List ℕ)). LeavesSo header deck1 deck2 others (contents_of pack) c)
+            → LeavesSo header deck1 deck2 entries (contents_of pack) (sectors_of outcome.pack.items)
+            → outcome.pack.items ≡ concat (sectors_of outcome.pack.items)
+            → LeavesSo header deck1 deck2 others (contents_of pack) (contents_of outcome.pack.items) × AreSectors outcome.pack.items
+        left header others mount are rest whole =
+            subst (λ (c : List (List ℕ)). LeavesSo header deck1 deck2 others (contents_of pack) c × (outcome.pack.items ≡ concat c))
             (sym (take_all 65535 (sectors_of outcome.pack.items) (few rest.count)))
-            (subst (λ (e : List Entry). LeavesSo header deck1 deck2 e (contents_of pack) (sectors_of outcome.pack.items)) are rest)
+            (subst (λ (e : List Entry). LeavesSo header deck1 deck2 e (contents_of pack) (sectors_of outcome.pack.items)) are rest, whole)
     by (Err NoMemory) given = tt
     by (Err DeviceFault) given = given
     by (Err (Script line)) given = absurd given
@@ -197,12 +200,14 @@ pub outcome_over : (contents : List (List ℕ)) (deck1 deck2 : List ℕ) (cards1
     → last.beside.state.stored ≡ last.beside.state.contents
     → LeavesSectors entries first last
     → sectors_of outcome.pack.items ≡ last.beside.state.stored
+    → outcome.pack.items ≡ concat (sectors_of outcome.pack.items)
     → RunsOver contents deck1 deck2 entries (Ok outcome)
-outcome_over contents deck1 deck2 cards1 cards2 refusal1 refusal2 entries first last outcome mount contents_are held1 held2 rest reads1 reads2 said texts slots files flushed leaves saved = (
+outcome_over contents deck1 deck2 cards1 cards2 refusal1 refusal2 entries first last outcome mount contents_are held1 held2 rest reads1 reads2 said texts slots files flushed leaves saved whole = (
   ap (λ (m : Result Header MountFault). texts_over m contents deck1 deck2 entries) mount
       ∙ ap (λ (t : RunTexts). Ok t) (sym (texts_given (header_of first) contents deck1 deck2 cards1 cards2 refusal1 refusal2 entries (held_by first) (outcome_texts outcome) reads1 reads2 held1 held2 texts)),
-  λ header is. left_so header deck1 deck2 cards1 cards2 refusal1 refusal2 entries first last contents (sectors_of outcome.pack.items) is (same_header (header_of first) header (mounted contents) mount is) contents_are rest leaves reads1 reads2
+  (λ header is. left_so header deck1 deck2 cards1 cards2 refusal1 refusal2 entries first last contents (sectors_of outcome.pack.items) is (same_header (header_of first) header (mounted contents) mount is) contents_are rest leaves reads1 reads2
       (subst (λ (h : Header). HoldsFor One first (at_start One h contents cards1)) (same_header (header_of first) header (mounted contents) mount is) held1)
       (subst (λ (h : Header). HoldsFor Two first (at_start Two h contents cards2)) (same_header (header_of first) header (mounted contents) mount is) held2)
       said slots files flushed saved,
+      whole),
 )

@@ -1,5 +1,5 @@
 -- What it is that a bureau holds a level's world, and what is true of a bureau whatever it holds.
-use Rattle.std.specs.Prelude.{◌≡◌, ◌⊎◌, ℕ, Bool, true, false, List, None}
+use Rattle.std.specs.Prelude.{◌≡◌, ◌⊎◌, ℕ, Bool, true, false, List, [], None}
 use Rattle.s3_cards.specs.declared.levels.LevelId.{LevelId}
 use Rattle.s3_cards.specs.declared.levels.LevelId.TheVariants.{One, Two}
 use Rattle.s3_cards.specs.Levels.{other}
@@ -9,6 +9,7 @@ use Rattle.s3_slots.specs.Stretches.{IsIn}
 use Rattle.s3_slots.specs.declared.header.Header.{Header}
 use Rattle.s3_labels.specs.Areas.{IsLabelSector, area_of}
 use Rattle.s3_labels.specs.Labelled.{SaysSlots}
+use Rattle.s3_spool.specs.Queues.{blocks_of}
 use Rattle.s3_job_files.specs.Holds.{seen}
 use Rattle.s3_operator.specs.Halts.{ShownHalt}
 use Rattle.s3_solo.specs.World.{World}
@@ -76,6 +77,13 @@ IsLaidOut bureau = is_open bureau ≡ true → IsReadyFor bureau.one bureau.two 
 -- no job is at work in the level
 abbrev pub rests : LevelId → State → Type 0
 rests level bureau = (level_of level bureau).job ≡ None
+
+-- nothing is left of a level's work: no job is at work, and no line is queued
+abbrev pub IsDone : LevelId → Level → Around → Type 0
+IsDone level held beside = (held.job ≡ None) × (blocks_of level beside.blocks ≡ [])
+
+abbrev pub HasNoWork : LevelId → State → Type 0
+HasNoWork level bureau = IsDone level (level_of level bureau) bureau.beside
 
 -- the labels of a level say its slots, each by itself
 abbrev pub IsSaid : LevelId → State → Type 0

@@ -1,5 +1,6 @@
 -- What a run makes of a pack, two decks and a script.
 use Rattle.std.specs.Prelude.{◌≡◌, ℕ, List, [], length, slice_get, Option, None, Result, Ok, Err}
+use Rattle.std.specs.List.{concat}
 use Rattle.s3_cards.specs.declared.levels.LevelId.{LevelId}
 use Rattle.s3_cards.specs.declared.levels.LevelId.TheVariants.{One, Two}
 use Rattle.s3_cards.specs.declared.deck.DeckFault.{DeckFault}
@@ -106,11 +107,15 @@ pub record LeavesSo (header : Header) (deck1 deck2 : List ℕ) (entries : List E
   pub one : HasFiles new (run_alone One header old (cards_of (deck_of deck1)) (own One entries))
   pub two : HasFiles new (run_alone Two header old (cards_of (deck_of deck2)) (own Two entries))
 
+-- these bytes are whole sectors, and nothing stands behind the last one
+abbrev pub AreSectors : (saved : List ℕ) → Type 0
+AreSectors saved = saved ≡ concat (contents_of saved)
+
 -- the pack of an outcome
 abbrev pub LeavesPack : (pack deck1 deck2 script saved : List ℕ) → Type 0
 LeavesPack pack deck1 deck2 script saved =
     (header : Header) (entries : List Entry) → mounted (contents_of pack) ≡ Ok header → entries_of script ≡ Ok entries
-    → LeavesSo header deck1 deck2 entries (contents_of pack) (contents_of saved)
+    → LeavesSo header deck1 deck2 entries (contents_of pack) (contents_of saved) × AreSectors saved
 
 -- The answer of a run is what its pack, its decks and its script give, unless memory ran out. No device fails: the pack is in memory.
 abbrev pub Runs : (pack deck1 deck2 script : List ℕ) → Result Outcome RunFault → Type 0

@@ -140,7 +140,7 @@ impl<S: PackStore> Bureau<S> {
     ghost use Rattle.s3_level.specs.Holds.{Holds, Spares, Steps};
     ghost use Rattle.s3_bureau.specs.Stops.{failed_stop};
     ghost use Rattle.s3_bureau.specs.Inner.Calls.{Closes, Enters};
-    ghost use Rattle.s3_bureau.specs.Held.{HoldsFor, IsCommon, IsForeign, IsOwn, IsSaid, halts_at, header_of, is_open, has_worlds, level_of, lines_at, rests};
+    ghost use Rattle.s3_bureau.specs.Held.{HasNoWork, HoldsFor, IsCommon, IsForeign, IsOwn, IsSaid, halts_at, header_of, is_open, has_worlds, level_of, lines_at, rests};
 
     /// A bureau over the pack on a store, with a deck for each level, before its first entry.
     ///
@@ -228,6 +228,9 @@ impl<S: PackStore> Bureau<S> {
         // Labels that say their level's slots still do.
         ensures said { OnOk result ((level : LevelId) → IsSaid level self.old → IsSaid level self.new) }
 
+        // An entry that is idle or refused changes neither the pack nor a queue, nor what is in the store.
+        ensures quiet { IfOk result (λ did. did ≢ Acted → self.new.beside ≡ self.old.beside) }
+
         // Whatever the answer is, the other level stays as it is, with its queue and its labels as they were judged; and so do the
         // sectors of the header, the masters and the other level, in the store too.
         ensures stays { level_of (other entry.level) self.new ≡ level_of (other entry.level) self.old }
@@ -308,6 +311,9 @@ impl<S: PackStore> Bureau<S> {
 
         ensures stopped { is_open self.old ≡ false → (result ≡ Err Stop.Stopped) × (self.new ≡ self.old) }
         ensures not_before { is_open self.old ≡ true → result ≢ Err Stop.Stopped }
+
+        // Memory runs out only where work is left, a job or a queued line.
+        ensures memory { ((level : LevelId) → HasNoWork level self.old) → result ≢ Err Stop.NoMemory }
         ensures failures { self.new.beside.state.failures ≡ self.old.beside.state.failures + failed_stop result }
         ensures holds_none { OnErr result (is_open self.old ≡ true → has_worlds self.new.phase ≡ false) }
         ensures finished { is_open self.new ≡ false }

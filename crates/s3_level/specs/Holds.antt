@@ -1,5 +1,5 @@
 -- What it is that a level holds a world, with what it is shown of the pack and the spool.
-use Rattle.std.specs.Prelude.{◌≡◌, ℕ, ◌≤◌, ◌<◌, List, [], ◌++◌, length, map, slice_range, Option, Some, None}
+use Rattle.std.specs.Prelude.{◌≡◌, ◌≢◌, ℕ, ◌≤◌, ◌<◌, List, [], ◌++◌, length, map, slice_range, Option, Some, None}
 use Rattle.indexmap.specs.IndexMap.{get}
 use Rattle.s3_cards.specs.declared.levels.LevelId.{LevelId}
 use Rattle.s3_cards.specs.Levels.{other}
@@ -21,6 +21,7 @@ use Rattle.s3_ocl.specs.Streams.{jobs_from}
 use Rattle.s3_opening.specs.OpenFiles.{AreOfLines}
 use Rattle.s3_solo.specs.declared.action.Action.{Action}
 use Rattle.s3_solo.specs.declared.action.Did.{Did}
+use Rattle.s3_solo.specs.declared.action.Did.TheVariants.{Acted}
 use Rattle.s3_solo.specs.Asked.{IsAsked}
 use Rattle.s3_solo.specs.Lines.{Lines}
 use Rattle.s3_solo.specs.Solo.{step_of}
@@ -149,6 +150,14 @@ pub record Stays (old new : Level) : Type 0 where
   pub id : new.id ≡ old.id
   pub deck : new.deck ≡ old.deck
   pub drained : new.lines.items ≡ old.lines.items
+
+-- the slots and the sectors of the pack are as they were, in the store too
+abbrev pub IsUntouched : (old new : Areas) → (s t : PoolState) → Type 0
+IsUntouched old new s t = (new ≡ old) × (t ≡ s)
+
+-- an entry that doesn't act leaves the pack untouched
+abbrev pub IsQuiet : Did → (old new : Areas) → (s t : PoolState) → Type 0
+IsQuiet did old new s t = did ≢ Acted → IsUntouched old new s t
 
 -- What the files of one level leave as it was, refused or not: the slots of the masters and of the other level, and all sectors out of
 -- its reach.

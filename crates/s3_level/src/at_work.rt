@@ -11,7 +11,7 @@ use s3_store::{PoolFault, Sectors};
 use std::alloc::AllocError;
 
 impl Level {
-    ghost use Rattle.std.specs.Prelude.{◌≡◌, ◌+◌, None, IfOk, OnOk, ◌≢◌, IfErr};
+    ghost use Rattle.std.specs.Prelude.{◌≡◌, ◌+◌, None, IfOk, IsOk, OnOk, ◌≢◌, IfErr};
     ghost use Rattle.std.specs.Option.{option_copied};
     ghost use Rattle.s3_store.specs.Failures.{failed_transfers};
     ghost use Rattle.s3_labels.specs.Labelled.{KeepsSaid};
@@ -23,7 +23,7 @@ impl Level {
     ghost use Rattle.s3_solo.specs.declared.action.Did.TheVariants.{Acted};
     ghost use Rattle.s3_solo.specs.World.{World, JobAtWork};
     ghost use Rattle.s3_solo.specs.Serving.{answered, at_work, halting, job_ended, served, with_answer};
-    ghost use Rattle.s3_level.specs.Holds.{Shown, AreAll, around, shown, with_seen, HoldsParts, IsReady, Becomes, Stays, Spares, KeepsOthers};
+    ghost use Rattle.s3_level.specs.Holds.{Shown, AreAll, around, shown, with_seen, HoldsParts, IsQuiet, IsReady, Becomes, Stays, Spares, KeepsOthers};
     ghost use Rattle.s3_level.specs.Inner.Turning.{Pends, request_by, waits_by, FitsJob, Comes, AtWorkBecomes, Serves, Turns};
 
     /// Performs the pending request of the job at work, or begins the next job.
@@ -38,6 +38,8 @@ impl Level {
         ensures world { Turns result (HoldsParts self.old (shown self.old.id (around pack.old.areas (P.state pack.old.pool) spool.old))) (HoldsParts self.new (shown self.old.id (around pack.new.areas (P.state pack.new.pool) spool.new))) }
         ensures ready { OnOk result (IsReady self.new (seen pack.new.areas (P.state pack.new.pool).contents)) }
         ensures spares { Spares self.old.id (around pack.old.areas (P.state pack.old.pool) spool.old) (around pack.new.areas (P.state pack.new.pool) spool.new) }
+        ensures quiet { IfOk result (λ did. IsQuiet did pack.old.areas pack.new.areas (P.state pack.old.pool) (P.state pack.new.pool)) }
+        ensures queues { IfOk result (λ did. did ≢ Acted → spool.new ≡ spool.old) }
         ensures failures { (P.state pack.new.pool).failures ≡ (P.state pack.old.pool).failures + failed_transfers result }
         ensures says { OnOk result (KeepsSaid self.old.id pack.old.areas (P.state pack.old.pool).contents pack.new.areas (P.state pack.new.pool).contents) }
         ensures fault { IfErr result (λ fault. fault ≢ PoolFault.NoSector) }
@@ -84,6 +86,7 @@ impl Level {
         ensures ready { OnOk result (IsReady self.new (seen pack.new.areas (P.state pack.new.pool).contents)) }
         ensures others { KeepsOthers self.old.id pack.old.areas pack.new.areas (P.state pack.old.pool) (P.state pack.new.pool) }
         ensures rests { self.old.job ≡ None → (pack.new.areas ≡ pack.old.areas) × KeepsContents (P.state pack.old.pool) (P.state pack.new.pool) }
+        ensures ends { self.old.job ≡ None → IsOk result }
         ensures failures { (P.state pack.new.pool).failures ≡ (P.state pack.old.pool).failures + failed_transfers result }
         ensures says { OnOk result (KeepsSaid self.old.id pack.old.areas (P.state pack.old.pool).contents pack.new.areas (P.state pack.new.pool).contents) }
         ensures fault { IfErr result (λ fault. fault ≢ PoolFault.NoSector) }
@@ -102,6 +105,7 @@ impl Level {
         ensures acted { IfOk result (λ did. did ≡ Acted) }
         ensures ready { OnOk result (IsReady self.new (seen pack.new.areas (P.state pack.new.pool).contents)) }
         ensures others { KeepsOthers self.old.id pack.old.areas pack.new.areas (P.state pack.old.pool) (P.state pack.new.pool) }
+        ensures quiet { IfOk result (λ did. IsQuiet did pack.old.areas pack.new.areas (P.state pack.old.pool) (P.state pack.new.pool)) }
         ensures failures { (P.state pack.new.pool).failures ≡ (P.state pack.old.pool).failures + failed_transfers result }
         ensures says { OnOk result (KeepsSaid self.old.id pack.old.areas (P.state pack.old.pool).contents pack.new.areas (P.state pack.new.pool).contents) }
         ensures fault { IfErr result (λ fault. fault ≢ PoolFault.NoSector) }
@@ -119,6 +123,7 @@ impl Level {
         ensures served { (s : Shown) → Serves (served Meant.Jump) result (HoldsParts self.old (with_seen (seen pack.old.areas (P.state pack.old.pool).contents) s)) (HoldsParts self.new (with_seen (seen pack.new.areas (P.state pack.new.pool).contents) s)) }
         ensures ready { OnOk result (IsReady self.new (seen pack.new.areas (P.state pack.new.pool).contents)) }
         ensures others { KeepsOthers self.old.id pack.old.areas pack.new.areas (P.state pack.old.pool) (P.state pack.new.pool) }
+        ensures quiet { IfOk result (λ did. IsQuiet did pack.old.areas pack.new.areas (P.state pack.old.pool) (P.state pack.new.pool)) }
         ensures failures { (P.state pack.new.pool).failures ≡ (P.state pack.old.pool).failures + failed_transfers result }
         ensures says { OnOk result (KeepsSaid self.old.id pack.old.areas (P.state pack.old.pool).contents pack.new.areas (P.state pack.new.pool).contents) }
         ensures fault { IfErr result (λ fault. fault ≢ PoolFault.NoSector) }

@@ -15,7 +15,7 @@ ghost use Rattle.s3_cycle.specs.Following.{Resumes, asked, is_fit, put, waits};
 ghost use Rattle.s3_cycle.specs.Requests.{answer_of, current_of, sought_of};
 ghost use Rattle.s3_cycle.specs.declared.request.Request.TheVariants as asks;
 ghost use Rattle.s3_solo.specs.Serving.{card_answer};
-ghost use Rattle.s3_level.specs.Holds.{IsJobReady, KeepsOthers};
+ghost use Rattle.s3_level.specs.Holds.{IsJobReady, IsUntouched, KeepsOthers};
 ghost use Rattle.s3_level.specs.Inner.Turning.{HasFile, IsForFile, IsForRecord, IsPut, KeepsPlace, ServesAt, ServesFile, SuitsRequest, SuitsSought};
 
 use s3_cards::{Card, Deck};
@@ -276,6 +276,7 @@ impl OpenJob {
         ensures job { IsJobReady self.new.files.level self.new }
         ensures place { KeepsPlace self.old self.new }
         ensures others { KeepsOthers self.old.files.level pack.old.areas pack.new.areas (P.state pack.old.pool) (P.state pack.new.pool) }
+        ensures untouched { IfOk result (λ served. served ≡ false → IsUntouched pack.old.areas pack.new.areas (P.state pack.old.pool) (P.state pack.new.pool)) }
         ensures failures { (P.state pack.new.pool).failures ≡ (P.state pack.old.pool).failures + failed_transfers result }
         ensures says { OnOk result (KeepsSaid self.old.files.level pack.old.areas (P.state pack.old.pool).contents pack.new.areas (P.state pack.new.pool).contents) }
         ensures fault { IfErr result (λ fault. fault ≢ PoolFault.NoSector) }
@@ -336,6 +337,7 @@ impl OpenJob {
         ensures job { IsJobReady self.new.files.level self.new }
         ensures place { KeepsPlace self.old self.new }
         ensures others { KeepsOthers self.old.files.level pack.old.areas pack.new.areas (P.state pack.old.pool) (P.state pack.new.pool) }
+        ensures untouched { IfOk result (λ served. served ≡ false → IsUntouched pack.old.areas pack.new.areas (P.state pack.old.pool) (P.state pack.new.pool)) }
         ensures failures { (P.state pack.new.pool).failures ≡ (P.state pack.old.pool).failures + failed_transfers result }
         ensures says { OnOk result (KeepsSaid self.old.files.level pack.old.areas (P.state pack.old.pool).contents pack.new.areas (P.state pack.new.pool).contents) }
         ensures fault { IfErr result (λ fault. fault ≢ PoolFault.NoSector) }
@@ -363,6 +365,7 @@ impl OpenJob {
         ensures job { IsJobReady self.new.files.level self.new }
         ensures place { KeepsPlace self.old self.new }
         ensures others { KeepsOthers self.old.files.level pack.old.areas pack.new.areas (P.state pack.old.pool) (P.state pack.new.pool) }
+        ensures untouched { IfOk result (λ served. served ≡ false → IsUntouched pack.old.areas pack.new.areas (P.state pack.old.pool) (P.state pack.new.pool)) }
         ensures failures { (P.state pack.new.pool).failures ≡ (P.state pack.old.pool).failures + failed_transfers result }
         ensures says { OnOk result (KeepsSaid self.old.files.level pack.old.areas (P.state pack.old.pool).contents pack.new.areas (P.state pack.new.pool).contents) }
         ensures fault { IfErr result (λ fault. fault ≢ PoolFault.NoSector) }

@@ -31,7 +31,7 @@ impl Level {
     ghost use Rattle.s3_opening.specs.OpenFiles.{AreOfLines};
     ghost use Rattle.s3_solo.specs.World.{World};
     ghost use Rattle.s3_solo.specs.Serving.{at_work, data_of, performed, run, started, switches_after, with_jobs};
-    ghost use Rattle.s3_level.specs.Holds.{Shown, with_seen, HoldsParts, IsReady, Becomes, Stays, KeepsOthers};
+    ghost use Rattle.s3_level.specs.Holds.{Shown, with_seen, HoldsParts, IsQuiet, IsReady, Becomes, Stays, KeepsOthers};
     ghost use Rattle.s3_level.specs.Inner.Turning.{NextIs, Begins, Starts};
 
     /// Begins the next job, if there is one.
@@ -41,6 +41,7 @@ impl Level {
         ensures world { (s : Shown) → Begins result (HoldsParts self.old (with_seen (seen pack.old.areas (P.state pack.old.pool).contents) s)) (HoldsParts self.new (with_seen (seen pack.new.areas (P.state pack.new.pool).contents) s)) }
         ensures ready { OnOk result (IsReady self.new (seen pack.new.areas (P.state pack.new.pool).contents)) }
         ensures others { KeepsOthers self.old.id pack.old.areas pack.new.areas (P.state pack.old.pool) (P.state pack.new.pool) }
+        ensures quiet { IfOk result (λ did. IsQuiet did pack.old.areas pack.new.areas (P.state pack.old.pool) (P.state pack.new.pool)) }
         ensures failures { (P.state pack.new.pool).failures ≡ (P.state pack.old.pool).failures + failed_transfers result }
         ensures says { OnOk result (KeepsSaid self.old.id pack.old.areas (P.state pack.old.pool).contents pack.new.areas (P.state pack.new.pool).contents) }
         ensures fault { IfErr result (λ fault. fault ≢ PoolFault.NoSector) }

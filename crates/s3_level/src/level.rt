@@ -33,11 +33,11 @@ pub struct Level {
 }
 
 impl Level {
-    ghost use Rattle.std.specs.Prelude.{◌≡◌, ◌≢◌, ◌+◌, ℕ, map, None, IfOk, OnOk, OnErr, IfErr};
+    ghost use Rattle.std.specs.Prelude.{◌≡◌, ◌≢◌, ◌+◌, ℕ, [], map, None, IfOk, IsOk, OnOk, OnErr, IfErr};
     ghost use Rattle.s3_store.specs.Failures.{failed_transfers};
     ghost use Rattle.s3_labels.specs.Labelled.{KeepsSaid};
     ghost use Rattle.s3_store.specs.State.{KeepsContents};
-    ghost use Rattle.s3_spool.specs.Queues.{Blocks};
+    ghost use Rattle.s3_spool.specs.Queues.{Blocks, blocks_of};
     ghost use Rattle.s3_job_files.specs.Holds.{seen};
     ghost use Rattle.s3_solo.specs.declared.action.Action.TheVariants.{Turn, Reply, Drain};
     ghost use Rattle.s3_solo.specs.declared.action.Did.TheVariants.{Acted, Idle, Refused};
@@ -46,7 +46,7 @@ impl Level {
     ghost use Rattle.s3_solo.specs.World.{World, at_start};
     ghost use Rattle.s3_solo.specs.Serving.{job_ended};
     ghost use Rattle.s3_solo.specs.Solo.{step_of};
-    ghost use Rattle.s3_level.specs.Holds.{Around, AreAll, around, Holds, IsFresh, IsReady, Becomes, Steps, Stays, Spares, KeepsOthers};
+    ghost use Rattle.s3_level.specs.Holds.{Around, AreAll, around, Holds, IsFresh, IsQuiet, IsReady, Becomes, Steps, Stays, Spares, KeepsOthers};
 
     /// A level with this deck, before its first entry.
     pub fn new(alloc: Global, id: LevelId, deck: Deck) -> Level
@@ -94,6 +94,8 @@ impl Level {
         ensures idle { (w : World) → Holds self.old (around pack.old.areas (P.state pack.old.pool) spool.old) w → (step_of w Turn).did ≡ Idle → result ≡ Ok Idle }
         ensures ready { OnOk result (IsReady self.new (seen pack.new.areas (P.state pack.new.pool).contents)) }
         ensures spares { Spares self.old.id (around pack.old.areas (P.state pack.old.pool) spool.old) (around pack.new.areas (P.state pack.new.pool) spool.new) }
+        ensures quiet { IfOk result (λ did. IsQuiet did pack.old.areas pack.new.areas (P.state pack.old.pool) (P.state pack.new.pool)) }
+        ensures queues { IfOk result (λ did. did ≢ Acted → spool.new ≡ spool.old) }
         ensures failures { (P.state pack.new.pool).failures ≡ (P.state pack.old.pool).failures + failed_transfers result }
         ensures says { OnOk result (KeepsSaid self.old.id pack.old.areas (P.state pack.old.pool).contents pack.new.areas (P.state pack.new.pool).contents) }
         ensures fault { IfErr result (λ fault. fault ≢ PoolFault.NoSector) }
@@ -113,6 +115,7 @@ impl Level {
         ensures unchanged { IfOk result (λ did. did ≢ Acted → self.new ≡ self.old) }
         ensures ready { OnOk result (IsReady self.new (seen pack.new.areas (P.state pack.new.pool).contents)) }
         ensures others { KeepsOthers self.old.id pack.old.areas pack.new.areas (P.state pack.old.pool) (P.state pack.new.pool) }
+        ensures quiet { IfOk result (λ did. IsQuiet did pack.old.areas pack.new.areas (P.state pack.old.pool) (P.state pack.new.pool)) }
         ensures failures { (P.state pack.new.pool).failures ≡ (P.state pack.old.pool).failures + failed_transfers result }
         ensures says { OnOk result (KeepsSaid self.old.id pack.old.areas (P.state pack.old.pool).contents pack.new.areas (P.state pack.new.pool).contents) }
         ensures fault { IfErr result (λ fault. fault ≢ PoolFault.NoSector) }
@@ -140,6 +143,8 @@ impl Level {
         ensures spares { Spares self.old.id (around pack.old.areas (P.state pack.old.pool) spool.old) (around pack.new.areas (P.state pack.new.pool) spool.new) }
         ensures areas { pack.new.areas ≡ pack.old.areas }
         ensures keeps { KeepsContents (P.state pack.old.pool) (P.state pack.new.pool) }
+        ensures quiet { IfOk result (λ did. IsQuiet did pack.old.areas pack.new.areas (P.state pack.old.pool) (P.state pack.new.pool)) }
+        ensures queues { IfOk result (λ did. did ≢ Acted → spool.new ≡ spool.old) }
         ensures failures { (P.state pack.new.pool).failures ≡ (P.state pack.old.pool).failures + failed_transfers result }
         ensures fault { IfErr result (λ fault. fault ≢ PoolFault.NoSector) }
         ensures id { self.new.id ≡ self.old.id }
@@ -162,6 +167,7 @@ impl Level {
         ensures ready { OnOk result (IsReady self.new (seen pack.new.areas (P.state pack.new.pool).contents)) }
         ensures others { KeepsOthers self.old.id pack.old.areas pack.new.areas (P.state pack.old.pool) (P.state pack.new.pool) }
         ensures rests { self.old.job ≡ None → (pack.new.areas ≡ pack.old.areas) × KeepsContents (P.state pack.old.pool) (P.state pack.new.pool) }
+        ensures ends { self.old.job ≡ None → IsOk result }
         ensures failures { (P.state pack.new.pool).failures ≡ (P.state pack.old.pool).failures + failed_transfers result }
         ensures says { OnOk result (KeepsSaid self.old.id pack.old.areas (P.state pack.old.pool).contents pack.new.areas (P.state pack.new.pool).contents) }
         ensures fault { IfErr result (λ fault. fault ≢ PoolFault.NoSector) }
@@ -183,6 +189,7 @@ impl Level {
         ensures spares { Spares self.old.id (around pack.old.areas (P.state pack.old.pool) spool.old) (around pack.new.areas (P.state pack.new.pool) spool.new) }
         ensures areas { pack.new.areas ≡ pack.old.areas }
         ensures keeps { KeepsContents (P.state pack.old.pool) (P.state pack.new.pool) }
+        ensures none { blocks_of self.old.id spool.old ≡ [] → IsOk result }
         ensures failures { (P.state pack.new.pool).failures ≡ (P.state pack.old.pool).failures + failed_transfers result }
         ensures fault { IfErr result (λ fault. fault ≢ PoolFault.NoSector) }
         ensures id { self.new.id ≡ self.old.id }

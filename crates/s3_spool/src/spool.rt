@@ -227,6 +227,7 @@ impl Spool {
         ensures other { blocks_of (other level) self.new ≡ blocks_of (other level) self.old }
         ensures quotas { (one_or_two : LevelId) → quota_of one_or_two self.new ≡ quota_of one_or_two self.old }
         ensures empty { (result ≡ Err SpoolFault.Empty) ↔ (blocks_of level self.old ≡ []) }
+        ensures untouched { result ≡ Err SpoolFault.Empty → P.state sectors.new ≡ P.state sectors.old }
         ensures not_full { result ≢ Err SpoolFault.QuotaFull }
         ensures err { OnErr result (self.new ≡ self.old) }
         ensures blocks { AreBlocks self.new.free self.new.one self.new.two }

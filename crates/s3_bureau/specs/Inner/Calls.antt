@@ -1,12 +1,12 @@
 -- What calls on the parts of a bureau do, refused or not. These words serve the contracts of private functions alone.
-use Rattle.std.specs.Prelude.{◌≡◌, ◌≢◌, ◌+◌, true, None, Result, Ok, Err, IfErr, OnOk, ⊤}
+use Rattle.std.specs.Prelude.{◌≡◌, ◌≢◌, ◌+◌, true, None, Result, Ok, Err, IfErr, IfOk, IsOk, OnOk, ⊤}
 use Rattle.s3_cards.specs.Levels.{other}
 use Rattle.s3_cards.specs.declared.levels.LevelId.{LevelId}
 use Rattle.s3_cards.specs.declared.levels.LevelId.TheVariants.{One, Two}
 use Rattle.s3_store.specs.Failures.{failed_transfers}
 use Rattle.s3_store.specs.State.{KeepsContents, KeepsInStep}
 use Rattle.s3_store.specs.declared.pool_fault.PoolFault.{PoolFault}
-use Rattle.s3_store.specs.declared.pool_fault.PoolFault.TheVariants.{NoSector}
+use Rattle.s3_store.specs.declared.pool_fault.PoolFault.TheVariants.{NoMemory, NoSector}
 use Rattle.s3_slots.specs.Header.{region_of}
 use Rattle.s3_slots.specs.Slots.{slots_of}
 use Rattle.s3_labels.specs.Areas.{area_of}
@@ -20,7 +20,7 @@ use Rattle.s3_solo.specs.World.{World}
 use Rattle.s3_level.specs.declared.level.Level.{Level}
 use Rattle.s3_level.specs.Holds.{Around, Becomes, Holds, IsReady, Spares, Steps}
 use Rattle.s3_bureau.specs.declared.bureau.Phase.TheVariants.{Open, Finished, Stopped}
-use Rattle.s3_bureau.specs.Held.{IsCommon, IsOwn, IsReadyFor, State, header_of, is_open, level_of, rests}
+use Rattle.s3_bureau.specs.Held.{HasNoWork, IsCommon, IsDone, IsOwn, IsReadyFor, State, header_of, is_open, level_of, rests}
 
 -- ---- one level, and what is beside it
 -- an entry was performed, or it stopped: then it would have acted, and the drained lines are the same
@@ -32,6 +32,7 @@ pub record Acts (action : Action) (result : Result Did PoolFault) (old new : Lev
   pub id : new.id ≡ old.id
   pub spares : Spares old.id before after
   pub says : OnOk result (KeepsSaid old.id before.areas before.state.contents after.areas after.state.contents)
+  pub quiet : IfOk result (λ did. did ≢ Acted → after ≡ before)
   pub fault : IfErr result (λ fault. fault ≢ NoSector)
   pub failures : after.state.failures ≡ before.state.failures + failed_transfers result
   pub comes : ActsTo action result old new before after
@@ -45,6 +46,7 @@ pub record ClosesLevel (result : Result (Unit {0}) PoolFault) (old new : Level) 
   pub id : new.id ≡ old.id
   pub spares : Spares old.id before after
   pub rests : old.job ≡ None → KeepsContents before.state after.state
+  pub ends : IsDone old.id old before → IsOk result
   pub says : OnOk result (KeepsSaid old.id before.areas before.state.contents after.areas after.state.contents)
   pub fault : IfErr result (λ fault. fault ≢ NoSector)
   pub failures : after.state.failures ≡ before.state.failures + failed_transfers result
@@ -71,6 +73,7 @@ pub record ClosesBoth (result : Result (Unit {0}) PoolFault) (one two new_one ne
   pub two_rests : two.job ≡ None → KeepsInStep (IsOwn Two before.areas.header) before.state after.state
   pub one_mounts : OnOk result (MountsAs One before new_one after)
   pub two_mounts : OnOk result (MountsAs Two before new_two after)
+  pub memory : IsDone One one before → IsDone Two two before → result ≢ Err NoMemory
   pub fault : IfErr result (λ fault. fault ≢ NoSector)
   pub failures : after.state.failures ≡ before.state.failures + failed_transfers result
   pub comes : BothTo result one two new_one new_two before after
@@ -89,6 +92,7 @@ pub record Enters (level : LevelId) (action : Action) (result : Result Did PoolF
   pub stays : level_of (other level) new ≡ level_of (other level) old
   pub spares : Spares level old.beside new.beside
   pub says : OnOk result ((one_or_two : LevelId) → KeepsSaid one_or_two old.beside.areas old.beside.state.contents new.beside.areas new.beside.state.contents)
+  pub quiet : IfOk result (λ did. did ≢ Acted → new.beside ≡ old.beside)
   pub fault : IfErr result (λ fault. fault ≢ NoSector)
   pub failures : new.beside.state.failures ≡ old.beside.state.failures + failed_transfers result
   pub comes : EntersTo level action result old new
@@ -104,6 +108,7 @@ pub record Closes (result : Result (Unit {0}) PoolFault) (old new : State) : Typ
   pub common : KeepsInStep (IsCommon (header_of old)) old.beside.state new.beside.state
   pub rest : (level : LevelId) → rests level old → KeepsInStep (IsOwn level (header_of old)) old.beside.state new.beside.state
   pub mounts : OnOk result ((level : LevelId) → MountsAs level old.beside (level_of level new) new.beside)
+  pub memory : ((level : LevelId) → HasNoWork level old) → result ≢ Err NoMemory
   pub fault : IfErr result (λ fault. fault ≢ NoSector)
   pub failures : new.beside.state.failures ≡ old.beside.state.failures + failed_transfers result
   pub comes : EndsTo result old new

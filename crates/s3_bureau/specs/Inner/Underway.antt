@@ -1,6 +1,7 @@
 -- What is known in the middle of a run. These words serve the contracts of private functions alone: what a run gives is
 -- said in Runs.
 use Rattle.std.specs.Prelude.{◌≡◌, ◌<◌, ℕ, List, [], Option, Result, Ok, Err, slice_index, ⊤}
+use Rattle.std.specs.List.{concat}
 use Rattle.s3_cards.specs.declared.levels.LevelId.{LevelId}
 use Rattle.s3_cards.specs.declared.levels.LevelId.TheVariants.{One, Two}
 use Rattle.s3_cards.specs.Deck.{deck_of}
@@ -72,7 +73,8 @@ pub record HasTexts (refusal1 refusal2 : Option (ℕ × ℕ)) (entries : List En
 abbrev pub RunsOver : (contents : List (List ℕ)) → (deck1 deck2 : List ℕ) → List Entry → Result Outcome RunFault → Type 0
 RunsOver contents deck1 deck2 entries (Ok outcome) =
     (texts_over (mounted contents) contents deck1 deck2 entries ≡ Ok (outcome_texts outcome))
-    × ((header : Header) → mounted contents ≡ Ok header → LeavesSo header deck1 deck2 entries contents (sectors_of outcome.pack.items))
+    × (((header : Header) → mounted contents ≡ Ok header → LeavesSo header deck1 deck2 entries contents (sectors_of outcome.pack.items))
+    × (outcome.pack.items ≡ concat (sectors_of outcome.pack.items)))
 RunsOver contents deck1 deck2 entries (Err NoMemory) = ⊤
 RunsOver contents deck1 deck2 entries (Err Device) = ⊥
 RunsOver contents deck1 deck2 entries (Err (Script line)) = ⊥
