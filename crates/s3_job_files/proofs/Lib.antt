@@ -16,3 +16,4 @@ pub mod Checked
 pub mod Staying
 pub mod Starting
 pub mod Said
+pub mod Overlaid

@@ -412,14 +412,9 @@ fn records_of_label<P: Sectors>(
 fn overlay(changes: &[Option<u8>], bytes: &mut [u8])
     ensures { bytes.new ≡ overlaid changes.now bytes.old }
 {
-    let Some((change, changes)) = changes.split_first() else {
-        return;
-    };
-    let Some((byte, bytes)) = bytes.split_first_mut() else {
-        return;
-    };
-    if let Some(put) = change {
-        *byte = *put;
+    for (place, byte) in bytes.iter_mut().enumerate() {
+        if let Some(put) = changes.get(place).copied().flatten() {
+            *byte = put;
+        }
     }
-    overlay(changes, bytes);
 }
