@@ -1,5 +1,5 @@
 -- A file is closed: what is held without it, and the other files that are open.
-use Rattle.std.proofs.Common.{◌≡◌, ◌≤◌, ◌&&◌, ◌||◌, ℕ, suc, Bool, true, false, not, List, [], ◌∷◌, map, length, ◌==◌, arith, subst, refl, ap, ap₂, sym, ◌∙◌}
+use Rattle.std.proofs.Common.{◌≡◌, ◌≤◌, ◌&&◌, ◌||◌, ℕ, suc, Bool, true, false, not, List, [], ◌∷◌, map, length, arith, subst, refl, ap, ap₂, sym, ◌∙◌}
 use Rattle.std.specs.Prelude.{slice_get, Some, Result, Ok, Err, OnOk, if◌then◌else◌}
 use Rattle.std.specs.List.{All, Contains}
 use Rattle.s3_cards.specs.declared.levels.LevelId.{LevelId}
@@ -26,7 +26,7 @@ use Rattle.s3_job_files.specs.Kept.{Kept, kept_on}
 use Rattle.s3_job_files.specs.Files.{Files, area_by}
 use Rattle.s3_job_files.specs.Closing.{closed_by, closed_slots, file_closed, files_closed, is_kept_for_job, is_scratch}
 use Rattle.s3_job_files.specs.Holds.{Seen, seen, slots_by, IsUsable, Stands, AreOpen, IsReady, IsOutOfReach, Closes, job_file_of, is_open, HoldsRecords, HoldsFiles, records_of, count_of}
-use Rattle.s3_job_files.proofs.Lists.{all_contained, none_of}
+use Rattle.s3_job_files.proofs.Lists.{all_contained}
 use Rattle.s3_job_files.proofs.Held.{on_pack_by}
 use Rattle.s3_job_files.proofs.Frames.{SameAt, same_kept, same_records}
 use Rattle.s3_job_files.proofs.OneFile.{count_allowed, count_records}
@@ -262,12 +262,10 @@ room_for level areas contents file n pack stands own is =
 abbrev pub ClosesAll : LevelId → List OpenFile → (old new : Seen) → Type 0
 ClosesAll level files old new = (held : Files) → HoldsFiles level files old held → HoldsFiles level [] new (files_closed (map job_file_of files) held)
 
-pub closes_none : (level : LevelId) (files : List OpenFile) (s : Seen) → (length files == 0) ≡ true → ClosesAll level files s s
+pub closes_none : (level : LevelId) (files : List OpenFile) (s : Seen) → length files ≡ 0 → ClosesAll level files s s
 unfolding files_closed
-closes_none level files s none = subst (λ (l : List OpenFile). ClosesAll level l s s) (sym (none_of files none)) (λ held is. is)
-
-pub ready_none : (level : LevelId) (files : List OpenFile) (s : Seen) → (length files == 0) ≡ true → IsReady level files s → IsReady level [] s
-ready_none level files s none ready = subst (λ (l : List OpenFile). IsReady level l s) (none_of files none) ready
+closes_none level [] s none = λ held is. is
+closes_none level (file ∷ rest) s none = absurd (omega arith)
 
 pub first_stands : (level : LevelId) (files : List OpenFile) (file : OpenFile) (rest : List OpenFile) (s : Seen) → files ≡ file ∷ rest → IsReady level files s → Stands level s file
 first_stands level files file rest s is ready = (subst (λ (l : List OpenFile). IsReady level l s) is ready).files.stands 0 file refl
@@ -275,13 +273,12 @@ first_stands level files file rest s is ready = (subst (λ (l : List OpenFile). 
 pub rest_ready : (level : LevelId) (files : List OpenFile) (file : OpenFile) (rest : List OpenFile) (s t : Seen) → files ≡ file ∷ rest → IsReady level files s → Closes level file s t → IsReady level rest t
 rest_ready level files file rest s t is ready closes = closes.ready rest (subst (λ (l : List OpenFile). IsReady level l s) is ready)
 
-pub closes_first : (level : LevelId) (files : List OpenFile) (file : OpenFile) (rest : List OpenFile) (s t u : Seen) (result : Result (Unit {0}) PoolFault) → files ≡ file ∷ rest → IsReady level files s
-    → Closes level file s t → OnOk result (ClosesAll level rest t u) → OnOk result (ClosesAll level files s u)
+pub closes_first : (level : LevelId) (files : List OpenFile) (file : OpenFile) (rest : List OpenFile) (s t u : Seen) → files ≡ file ∷ rest → IsReady level files s → Closes level file s t
+    → ClosesAll level rest t u → ClosesAll level files s u
 unfolding files_closed
-closes_first level files file rest s t u (Ok _) is ready closes more =
+closes_first level files file rest s t u is ready closes more =
     subst (λ (l : List OpenFile). ClosesAll level l s u) (sym is)
     (λ held holds. more (file_closed (job_file_of file) held) (closes.files rest held (subst (λ (l : List OpenFile). IsReady level l s) is ready) holds))
-closes_first level files file rest s t u (Err _) is ready closes more = tt
 
 -- ---- what lies out of reach stays so
 pub spares_all : (level : LevelId) (areas mid : Areas) (s t u : PoolState) → mid ≡ with_slots level (slots_at level mid) areas → KeepsInStep (IsOutOfReach level areas.header) s t

@@ -97,7 +97,7 @@ fn close_file<P: Sectors>(
 /// Closes files, the first one first.
 pub fn close_all<P: Sectors>(
     level: LevelId,
-    mut files: Vec<OpenFile>,
+    files: Vec<OpenFile>,
     pack: &mut Pack<P>,
 ) -> Result<(), PoolFault>
     requires ready { IsReady level files.items (seen pack.old.areas (P.state pack.old.pool).contents) }
@@ -110,10 +110,8 @@ pub fn close_all<P: Sectors>(
     ensures failures { (P.state pack.new.pool).failures ≡ (P.state pack.old.pool).failures + failed_transfers result }
     ensures fault { IfErr result (λ fault. fault ≢ PoolFault.NoSector) }
 {
-    if files.is_empty() {
-        return Ok(());
+    for file in files {
+        close_file(level, file, pack)?;
     }
-    let file = files.remove(0);
-    close_file(level, file, pack)?;
-    close_all(level, files, pack)
+    Ok(())
 }
