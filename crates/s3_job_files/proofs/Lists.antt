@@ -1,8 +1,7 @@
 -- Lists of which an element is set or looked for.
-use Rattle.std.proofs.Common.{◌≡◌, ◌≢◌, ◌<◌, ◌≤◌, ◌+◌, ◌-◌, ◌⊎◌, inl, inr, ℕ, zero, suc, Bool, true, false, ◌||◌, List, [], ◌∷◌, map, drop, length, slice_index_or, ◌==◌, arith, refl, ap, ap₂, sym, ◌∙◌}
+use Rattle.std.proofs.Common.{◌≡◌, ◌≢◌, ◌<◌, ◌≤◌, ◌+◌, ◌-◌, ◌⊎◌, inl, inr, ℕ, zero, suc, Bool, true, false, ◌||◌, List, [], ◌∷◌, map, length, slice_index_or, arith, refl, ap, sym, ◌∙◌}
 use Rattle.std.specs.Prelude.{slice_get, slice_set, Some, option_map, cond}
 use Rattle.std.specs.List.{All, Contains, list_any, position_from}
-use Rattle.std.proofs.lemmas.Bool.{eqb-true}
 use Rattle.std.proofs.lemmas.Option.{slice_get-map, slice_get_within}
 
 pub get_mapped : {X Y : Type 0} (f : X → Y) (xs : List X) (i : ℕ) (x : X) → slice_get xs i ≡ Some x → slice_get (map f xs) i ≡ Some (f x)
@@ -82,12 +81,3 @@ all_contained P xs each = λ k d lt. each (slice_index_or xs k d) (k, lt, any_de
     any_default [] k d e lt = absurd (omega arith)
     any_default (x ∷ xs) zero d e lt = refl
     any_default (x ∷ xs) (suc k) d e lt = any_default xs k d e (omega arith)
-
--- ---- the first element
-pub first_of : {X : Type 0} (xs : List X) (x : X) (ys : List X) → (length xs == 0) ≡ false → x ≡ slice_index_or xs 0 x → ys ≡ drop 1 xs → xs ≡ x ∷ ys
-first_of [] x ys some first rest = absurd cc
-first_of (z ∷ xs) x ys some first rest = ap₂ (λ y zs. y ∷ zs) (sym first) (sym rest)
-
-pub none_of : {X : Type 0} (xs : List X) → (length xs == 0) ≡ true → xs ≡ []
-none_of [] none = refl
-none_of (x ∷ xs) none = let e = eqb-true (length (x ∷ xs)) 0 none in absurd (omega (arith, e))

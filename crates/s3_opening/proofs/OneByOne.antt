@@ -1,9 +1,9 @@
 -- One start after another: what is held, and what is left.
 use Rattle.std.proofs.Common.{◌≡◌, ◌+◌, ℕ, zero, suc, Bool, true, false, not, ◌&&◌, ◌||◌, List, [], ◌∷◌, ◌++◌, map, length, rules, refl, ap, sym, ◌∙◌, subst}
-use Rattle.std.specs.Prelude.{slice_get, Some, Result, Ok, Err, IsOk, IfOk, OnOk, if◌then◌else◌}
+use Rattle.std.specs.Prelude.{slice_get, Some, Result, Ok, Err, IsOk, IfOk, if◌then◌else◌}
 use Rattle.std.specs.List.{list_any}
 use Rattle.std.proofs.lemmas.Bool.{true≢false}
-use Rattle.std.proofs.lemmas.List.{map-append}
+use Rattle.std.proofs.lemmas.List.{map-append, nil_from_length}
 use Rattle.s3_cards.specs.declared.levels.LevelId.{LevelId}
 use Rattle.s3_cards.specs.declared.levels.LevelId.TheVariants.{One, Two}
 use Rattle.s3_cards.specs.declared.name.Name.{Name}
@@ -327,9 +327,12 @@ can_next level starts start rest items mid old between is first can = first.can 
 pub can_one : (level : LevelId) (starts : List Start) (start : Start) (rest : List Start) (items : List OpenFile) (old : Seen) → starts ≡ start ∷ rest → CanStart level items old starts → CanStart level items old (start ∷ [])
 can_one level starts start rest items old is can = can_first level items old start rest (subst (CanStart level items old) is can)
 
+-- whatever was held with some files is held with those that these starts add
+abbrev pub HoldsAll : LevelId → List Start → (items later : List OpenFile) → (old new : Seen) → Type 0
+HoldsAll level starts items later old new = (in_use : FilesInUse) → Holds level items old in_use → HoldsStarted level later new (taken (map step_in starts) in_use)
+
 pub holds_all : (level : LevelId) (starts : List Start) (start : Start) (rest : List Start) (items mid later : List OpenFile) (old between new : Seen) → starts ≡ start ∷ rest → Starts level start items mid old between
-    → CanStart level items old starts → ((in_use : FilesInUse) → Holds level mid between in_use → HoldsStarted level later new (taken (map step_in rest) in_use))
-    → (in_use : FilesInUse) → Holds level items old in_use → HoldsStarted level later new (taken (map step_in starts) in_use)
+    → CanStart level items old starts → HoldsAll level rest mid later between new → HoldsAll level starts items later old new
 unfolding taken
 holds_all level starts start rest items mid later old between new is first can others in_use held =
     subst (λ list. HoldsStarted level later new (taken (map step_in list) in_use)) (sym is)
@@ -339,21 +342,10 @@ holds_all level starts start rest items mid later old between new is first can o
     by (Ok next) h = others next h
     by (Err code) h = absurd h
 
-pub holds_none : (level : LevelId) (starts : List Start) (items : List OpenFile) (s : Seen) → starts ≡ [] → (in_use : FilesInUse) → Holds level items s in_use → HoldsStarted level items s (taken (map step_in starts) in_use)
+-- ---- no start is left
+pub holds_none : (level : LevelId) (starts : List Start) (items : List OpenFile) (s : Seen) → length starts ≡ 0 → HoldsAll level starts items items s s
 unfolding taken
-holds_none level starts items s none in_use held = subst (λ list. HoldsStarted level items s (taken (map step_in list) in_use)) (sym none) held
+holds_none level starts items s none in_use held = subst (λ list. HoldsStarted level items s (taken (map step_in list) in_use)) (sym (nil_from_length starts none)) held
 
-pub holds_on : (level : LevelId) (starts : List Start) (start : Start) (rest : List Start) (items mid later : List OpenFile) (old between new : Seen) (result : Result (Unit {0}) PoolFault) → starts ≡ start ∷ rest
-    → Starts level start items mid old between → CanStart level items old starts
-    → OnOk result ((in_use : FilesInUse) → Holds level mid between in_use → HoldsStarted level later new (taken (map step_in rest) in_use))
-    → OnOk result ((in_use : FilesInUse) → Holds level items old in_use → HoldsStarted level later new (taken (map step_in starts) in_use))
-holds_on level starts start rest items mid later old between new (Ok done) is first can others = holds_all level starts start rest items mid later old between new is first can others
-holds_on level starts start rest items mid later old between new (Err fault) is first can others = tt
-
-pub adds_on : (level : LevelId) (starts : List Start) (start : Start) (rest : List Start) (items mid later : List OpenFile) (old between : Seen) (result : Result (Unit {0}) PoolFault) → starts ≡ start ∷ rest
-    → Starts level start items mid old between → OnOk result (AddsFiles rest mid later) → OnOk result (AddsFiles starts items later)
-adds_on level starts start rest items mid later old between (Ok done) is first more = adds_all starts start rest items mid later old between level is first more
-adds_on level starts start rest items mid later old between (Err fault) is first more = tt
-
-pub adds_nothing : (starts : List Start) (items : List OpenFile) → starts ≡ [] → AddsFiles starts items items
-adds_nothing starts items none = subst (λ list. AddsFiles list items items) (sym none) (adds_none items)
+pub adds_nothing : (starts : List Start) (items : List OpenFile) → length starts ≡ 0 → AddsFiles starts items items
+adds_nothing starts items none = subst (λ list. AddsFiles list items items) (sym (nil_from_length starts none)) (adds_none items)

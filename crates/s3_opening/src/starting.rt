@@ -150,7 +150,7 @@ fn start_all<P: Sectors>(
     alloc: Global,
     level: LevelId,
     pack: &mut Pack<P>,
-    mut starts: Vec<Start>,
+    starts: Vec<Start>,
     files: &mut Vec<OpenFile>,
 ) -> Result<(), PoolFault>
     requires can { CanStart level files.old.items (seen pack.old.areas (P.state pack.old.pool).contents) starts.items }
@@ -164,12 +164,10 @@ fn start_all<P: Sectors>(
     ensures failures { (P.state pack.new.pool).failures ≡ (P.state pack.old.pool).failures + failed_transfers result }
     ensures fault { IfErr result (λ fault. fault ≢ PoolFault.NoSector) }
 {
-    if starts.is_empty() {
-        return Ok(());
+    for start in starts {
+        start_file(alloc, level, pack, start, files)?;
     }
-    let start = starts.remove(0);
-    start_file(alloc, level, pack, start, files)?;
-    start_all(alloc, level, pack, starts, files)
+    Ok(())
 }
 
 /// Makes and opens the files of a job, in the order of its F lines, or answers for which halt it doesn't start. Nothing is changed
