@@ -82,8 +82,7 @@ impl Stepper {
         self.turn(indicator, true);
         let bytes = &self.progress.reading.files[selection.place].bytes;
         let controls = &mut self.state.controls;
-        let level = controls.break_level(&self.program, selection.start, bytes);
+        let level = controls.break_and_hold(&self.program, selection.start, bytes);
         self.state.values.raise_levels(&self.program, level);
-        controls.hold(&self.program, selection.start, bytes);
     }
 }

@@ -11,7 +11,7 @@ ghost use Rattle.s3_program.specs.Stands.{source_named};
 ghost use Rattle.s3_program.specs.Starts.{is_type};
 ghost use Rattle.s3_match.specs.Types.{is_type_start, kind_at};
 ghost use Rattle.s3_match.specs.Controls as spec;
-ghost use Rattle.s3_match.specs.Inner.ControlFields.{compared_on};
+ghost use Rattle.s3_match.specs.Inner.ControlFields.{AreControlFields, compared_on};
 
 use crate::control_fields::note_control_fields;
 use crate::fields::field_at;
@@ -43,23 +43,20 @@ fn breaks_at(
     !value.is_same(&held[(level - 1) as usize])
 }
 
-/// The greatest level that breaks, 0 if none; `held` has the control fields of L1 to L9. `value` serves to compare.
-pub fn break_level(
+/// The greatest level that breaks, 0 if none; `held` has the control fields of L1 to L9, and `fields` those of the type. `value`
+/// serves to compare.
+fn break_level(
     held: &[RecordKey],
     value: &mut RecordKey,
+    fields: &[Option<FieldLine<Reference>>; 9],
     program: &Program,
     start: TypeStart,
     bytes: &[u8],
 ) -> u8
-    requires starts { IsTrue (is_type_start program.now start) }
     requires nine { length held.now ≡ 9 }
+    requires fields { AreControlFields program.now start fields.now }
     ensures { result ≡ spec.break_of (spec.held_in held.now) (kind_at program.now start) bytes.now }
 {
-    if !has_control_fields(program, start) {
-        return 0;
-    }
-    let mut fields = [None; 9];
-    note_control_fields(&mut fields, program, start);
     for step in 0..LEVELS {
         let level = LEVELS - step;
         if breaks_at(held, value, level, &fields[(level - 1) as usize], bytes) {
@@ -141,16 +138,18 @@ fn hold_level(held: &mut [RecordKey], level: u8, field: &Option<FieldLine<Refere
 
 /// Holds the control fields of the levels that the type names.
 #[tactic(auto, using(crate::proofs::HoldLemmas::held_at_first, crate::proofs::HoldLemmas::held_one_more, crate::proofs::HoldLemmas::held_all))]
-fn hold_levels(held: &mut [RecordKey], program: &Program, start: TypeStart, bytes: &[u8])
+fn hold_levels(
+    held: &mut [RecordKey],
+    fields: &[Option<FieldLine<Reference>>; 9],
+    program: &Program,
+    start: TypeStart,
+    bytes: &[u8],
+)
     requires starts { IsTrue (is_type_start program.now start) }
     requires nine { length held.old ≡ 9 }
+    requires fields { AreControlFields program.now start fields.now }
     ensures { (level : ℕ) → spec.held_in held.new level ≡ option_or (control_value (kind_at program.now start) bytes.now level) (spec.held_in held.old level) }
 {
-    if !has_control_fields(program, start) {
-        return;
-    }
-    let mut fields = [None; 9];
-    note_control_fields(&mut fields, program, start);
     for step in 0..LEVELS {
         hold_level(held, step + 1, &fields[step as usize], bytes);
     }
@@ -186,20 +185,20 @@ impl Controls {
         }
     }
 
-    /// The greatest level that breaks, 0 if none.
-    pub fn break_level(&mut self, program: &Program, start: TypeStart, bytes: &[u8]) -> u8
+    /// The greatest level that the control fields of a record break, 0 if none. They are held then, of the levels that its type
+    /// names.
+    pub fn break_and_hold(&mut self, program: &Program, start: TypeStart, bytes: &[u8]) -> u8
         requires { IsTrue (is_type_start program.now start) }
         ensures level { result ≡ spec.break_of (spec.held_in self.old.held) (kind_at program.now start) bytes.now }
-        ensures held { self.new.held ≡ self.old.held }
+        ensures held { (level : ℕ) → spec.held_in self.new.held level ≡ option_or (control_value (kind_at program.now start) bytes.now level) (spec.held_in self.old.held level) }
     {
-        break_level(&self.held, &mut self.value, program, start, bytes)
-    }
-
-    /// Holds the control fields of a record, of the levels that its type names.
-    pub fn hold(&mut self, program: &Program, start: TypeStart, bytes: &[u8])
-        requires { IsTrue (is_type_start program.now start) }
-        ensures { (level : ℕ) → spec.held_in self.new.held level ≡ option_or (control_value (kind_at program.now start) bytes.now level) (spec.held_in self.old.held level) }
-    {
-        hold_levels(&mut self.held, program, start, bytes);
+        if !has_control_fields(program, start) {
+            return 0;
+        }
+        let mut fields = [None; 9];
+        note_control_fields(&mut fields, program, start);
+        let level = break_level(&self.held, &mut self.value, &fields, program, start, bytes);
+        hold_levels(&mut self.held, &fields, program, start, bytes);
+        level
     }
 }

@@ -17,7 +17,7 @@ pub returns : goal.returns
 returns c =
     let taken = changed_stays (λ program progress. IsTaken program progress c.args.selection) c.args.self.now c.turn.new.self _ c.turn.ensures c.requires.taken in
     let bytes = bytes_there c.turn.new.self.progress.reading.files.items c.args.selection.place c.index.result.now taken.record_there.within c.index.ensures in
-    identifies c.args.self.now c.turn.new.self c.raise_levels.new.self c.hold.new.self c.args.selection c.indicator_of-indicator.result c.break_level-level.result c.turn.ensures c.indicator_of-indicator.ensures
-    (c.break_level-level.ensures.level ∙ ap (break_of (held_in c.turn.new.self.state.controls.held) (kind_at c.turn.new.self.program c.args.selection.start)) (c.deref.ensures.0 ∙ bytes))
+    identifies c.args.self.now c.turn.new.self c.raise_levels.new.self c.break_and_hold-level.new.self c.args.selection c.indicator_of-indicator.result c.break_and_hold-level.result c.turn.ensures c.indicator_of-indicator.ensures
+    (c.break_and_hold-level.ensures.level ∙ ap (break_of (held_in c.turn.new.self.state.controls.held) (kind_at c.turn.new.self.program c.args.selection.start)) (c.deref.ensures.0 ∙ bytes))
     c.raise_levels.ensures
-    (λ n. c.hold.ensures n ∙ (λ i. option_or (control_value (kind_at c.turn.new.self.program c.args.selection.start) ((c.deref-2.ensures.0 ∙ bytes) i) n) (held_in (c.break_level-level.ensures.held i) n)))
+    (λ n. c.break_and_hold-level.ensures.held n ∙ (λ i. option_or (control_value (kind_at c.turn.new.self.program c.args.selection.start) ((c.deref.ensures.0 ∙ bytes) i) n) (held_in c.turn.new.self.state.controls.held n)))
