@@ -1,9 +1,9 @@
 -- Bytes copied one after another.
-use Rattle.std.proofs.Common.{◌≡◌, ℕ, zero, suc, ◌+◌, ◌-◌, ◌≤◌, ◌<◌, List, [], ◌∷◌, ◌++◌, length, drop, replicate, slice_get, Some, refl, sym, ap, ◌∙◌, arith, append_assoc, length-append}
+use Rattle.std.proofs.Common.{◌≡◌, ℕ, zero, suc, ◌+◌, ◌≤◌, List, [], ◌∷◌, ◌++◌, length, drop, slice_get, Some, refl, sym, ap, ◌∙◌, arith, append_assoc}
 use Rattle.std.proofs.lemmas.Grind.{flat_map-append}
 use Rattle.std.specs.List.{range_with_len, flat_map}
 use Rattle.s3_store.specs.Bytes.{sector_bytes, bytes_at}
-use Rattle.s3_labels.specs.Images.{migrated_byte, migrated_bytes, padded}
+use Rattle.s3_labels.specs.Images.{migrated_byte, migrated_bytes}
 
 -- ---- the migrated bytes up to a place
 pub record IsMigrating (bytes : List ℕ) (at : ℕ) (done : List ℕ) : Type 0 where
@@ -35,25 +35,6 @@ migrating_end bytes at done all so = sym (append_none done) ∙ sym (ap (λ l. d
     drop_all [] (suc i) h = refl
     drop_all (x ∷ xs) zero h = absurd (omega (arith, h))
     drop_all (x ∷ xs) (suc i) h = drop_all xs i (omega (arith, h))
-
--- ---- zeros
-pub record IsPadding (width : ℕ) (old : List ℕ) (done : List ℕ) : Type 0 where
-  pub rest : done ++ replicate (width - length done) 0 ≡ padded width old
-
-pub padding_start : (width : ℕ) (old : List ℕ) → IsPadding width old old
-unfolding padded
-padding_start width old = record { rest = refl }
-
-pub padding_on : (width : ℕ) (old done : List ℕ) → length done < width → IsPadding width old done → IsPadding width old (done ++ 0 ∷ [])
-padding_on width old done less so =
-    let e : width - length done ≡ suc (width - (length done + 1)) = omega (arith, less) in
-    let l : length (done ++ 0 ∷ []) ≡ length done + 1 = length-append done (0 ∷ []) in
-    record { rest = append_assoc done (0 ∷ []) (replicate (width - length (done ++ 0 ∷ [])) 0) ∙ rw l (sym (ap (λ n. done ++ replicate n 0) e)) ∙ so.rest }
-
-pub padding_end : (width : ℕ) (old done : List ℕ) → width ≤ length done → IsPadding width old done → done ≡ padded width old
-padding_end width old done all so =
-    let e : width - length done ≡ 0 = omega (arith, all) in
-    sym (append_none done) ∙ sym (ap (λ n. done ++ replicate n 0) e) ∙ so.rest
 
 -- ---- sectors
 range_push : (a n : ℕ) → range_with_len a (n + 1) ≡ range_with_len a n ++ (a + n) ∷ []

@@ -94,10 +94,7 @@ fn bytes_of_header(alloc: Global, header: &Header) -> Result<Vec<u8>, AllocError
 fn pad(bytes: &mut Vec<u8>, width: usize) -> Result<(), AllocError>
     ensures { OnOk result (bytes.new.items ≡ padded width bytes.old.items) }
 {
-    while bytes.len() < width {
-        bytes.push(0)?;
-    }
-    Ok(())
+    bytes.resize(width.max(bytes.len()), 0)
 }
 
 /// The extents as far into the masters' region as they were in the old one.
