@@ -1,24 +1,25 @@
 -- What each step of a pool keeps.
-use Rattle.std.proofs.Common.{◌≡◌, ◌≢◌, ℕ, zero, suc, ◌+◌, ◌-◌, ◌<◌, ◌≤◌, true, false, List, [], ◌∷◌, ◌++◌, length, take, slice_get, slice_set, Option, Result, Ok, Err, OnOk, OnErr, IsErrOf, ◌↔◌, Some, None, IsSome, IsSomeAnd, is_some, nat_eq, Contains, refl, sym, ap, ◌∙◌, subst, arith, length-set, take_all, ◌⊎◌, inl, inr}
+use Rattle.std.proofs.Common.{◌≡◌, ◌≢◌, ℕ, zero, suc, ◌+◌, ◌-◌, ◌<◌, ◌≤◌, true, false, List, [], ◌∷◌, ◌++◌, length, take, slice_get, slice_set, Option, Result, Ok, Err, OnOk, OnErr, IsErrOf, ◌↔◌, Some, None, IsSome, IsSomeAnd, is_some, nat_eq, Contains, refl, sym, ap, ◌∙◌, subst, arith, length-set, take_all, ◌⊎◌, inl, inr, append-nil}
+use Rattle.std.proofs.lemmas.List.{length-take}
 use Rattle.std.proofs.lemmas.Bool.{eqb-true, eq-eqb}
 use Rattle.std.proofs.lemmas.Bool.Decides.{eqb_tells}
 use Rattle.std.proofs.lemmas.List.Elements.{Contains-append_right}
 use Rattle.std.specs.Map.{lookup, lookup_entry, remove_entry, set_value, keys_of}
 use Rattle.std.specs.Option.{option_map_or}
 use Rattle.std.specs.List.{IsDistinct, AllByRecursion}
-use Rattle.lru.specs.LruCache.{promoted, put_entries, lru_cache, last_entry}
-use Rattle.lru.proofs.Splits.{Contains-head, Contains-tail, Contains-cons, Contains-nil}
+use Rattle.lru.specs.LruCache.{promoted, lru_cache, last_entry}
+use Rattle.lru.proofs.Splits.{Contains-head, Contains-tail, Contains-cons, Contains-nil, Contains-without}
 use Rattle.lru.proofs.CallerLemmas.{Contains-lookup_entry, Contains-promoted, Contains-take}
 use Rattle.s3_store.specs.declared.pool_fault.PoolFault.{PoolFault}
 use Rattle.s3_store.specs.declared.pool_fault.PoolFault.TheVariants.{NoSector}
 use Rattle.s3_store.specs.Failures.{failed_transfers}
 use Rattle.s3_store.specs.State.{PoolState, KeepsContents, ChangesWithin}
 use Rattle.s3_store.proofs.Frames.{keeps_trans, within_from_keeps}
-use Rattle.s3_store.proofs.SectorLists.{slice_get_set_same, slice_get_set_other, slice_set_known}
+use Rattle.s3_store.proofs.SectorLists.{slice_get_set_same, slice_get_set_other, slice_set_known, slice_set_set_same}
 use Rattle.s3_pool.specs.declared.buffers.Buffer.{Buffer}
 use Rattle.s3_pool.specs.declared.buffers.Buffers.{Buffers}
 use Rattle.s3_pool.specs.Buffers.{laid, IsFirst, IsSound, KeepsLaid, Overwrites, pool_state}
-use Rattle.s3_pool.specs.Inner.BufferLending.{dirty, with_buffer}
+use Rattle.s3_pool.specs.Inner.BufferLending.{dirty, with_buffer, with_new, without_displaced}
 use Rattle.s3_pool.specs.Lending.{ChangesSector, KeepsAll}
 use Rattle.s3_pool.proofs.Laid.{apart, length_laid, laid_promoted, laid_held, laid_missed, laid_append, laid_set_value}
 
@@ -104,6 +105,34 @@ evicted b buffers k f last distinct s =
         ];
       };
     }
+
+-- the store has what the least recently used buffer holds, which stays
+pub saved : (b : List (List ℕ)) (buffers : Buffers) (k : ℕ) (f : Buffer) → last_entry buffers.cache.entries ≡ Some (k, f) → IsDistinct nat_eq (keys_of buffers.cache.entries) → IsSound b buffers → KeepsLaid b buffers (slice_set b k f.bytes.value) buffers
+saved b buffers k f last distinct s =
+    let es = buffers.cache.entries in let xs = take (length es - 1) es in
+    let split : es ≡ xs ++ (k, f) ∷ [] = take_last es (k, f) last in
+    let apart_from = last_apart xs k f (subst (λ l. IsDistinct nat_eq (keys_of l)) split distinct) in
+    let gone = evicted b buffers k f last distinct s in
+    let within : k < length b = s.in_range k f (Contains_last es (k, f) last) in
+    record {
+      sound = record {
+        room = s.room;
+        in_range = λ n g on. omega (arith, s.in_range n g on, length-set b k f.bytes.value);
+        clean = λ n g on c. elim (Contains-without xs (k, f) [] (n, g) (subst (λ l. Contains l (n, g)) split on)) [
+          | inl same ↦ subst (λ p. slice_get (slice_set b k f.bytes.value) p.0 ≡ Some p.1.bytes.value) same (slice_get_set_same b k f.bytes.value within)
+          | inr other ↦ slice_get_set_other b k n f.bytes.value (apart_from n g (subst (λ l. Contains l (n, g)) (append-nil xs) other)) ∙ s.clean n g on c
+        ];
+      };
+      contents = ap (λ l. laid l (slice_set b k f.bytes.value)) split ∙ laid_append xs (k, f) (slice_set b k f.bytes.value) ∙ ap (laid xs) (slice_set_set_same b k f.bytes.value f.bytes.value) ∙ gone.contents;
+      stored = gone.stored;
+    }
+
+-- it goes from 16 of them
+pub gave_way : (b : List (List ℕ)) (buffers : Buffers) (k : ℕ) (f : Buffer) → last_entry buffers.cache.entries ≡ Some (k, f) → IsDistinct nat_eq (keys_of buffers.cache.entries) → IsSound b buffers → length buffers.cache.entries ≡ 16 → KeepsLaid b buffers (slice_set b k f.bytes.value) (without_displaced buffers)
+gave_way b buffers k f last distinct s full =
+    let es = buffers.cache.entries in
+    let others : length es - 1 ≡ 15 = omega (arith, full) in
+    subst (λ (j : ℕ). KeepsLaid b buffers (slice_set b k f.bytes.value) (record { cache = lru_cache (take j es) buffers.cache.cap })) others (evicted b buffers k f last distinct s)
 
 -- what no buffer held, none does afterwards
 pub lookup_take : (n j : ℕ) (es : List (ℕ × Buffer)) → lookup (nat_eq n) es ≡ None → lookup (nat_eq n) (take j es) ≡ None
@@ -192,12 +221,14 @@ lookup_entry_missed n (e ∷ es) h = (elim (nat_eq n e.0) as (λ y. nat_eq n e.0
   | false ↦ λ t. rw t (lookup_entry_missed n es (rw t at h))
 ]) refl
 
--- the buffers with a new one for sector n
-abbrev pub with_new : Buffers → ℕ → Buffer → Buffers
-with_new buffers n x = record { cache = lru_cache (put_entries nat_eq buffers.cache n x) buffers.cache.cap }
-
 new_entries : (buffers : Buffers) (n : ℕ) (x : Buffer) → lookup (nat_eq n) buffers.cache.entries ≡ None → length buffers.cache.entries < 16 → buffers.cache.cap ≡ 16 → (with_new buffers n x).cache.entries ≡ (n, x) ∷ buffers.cache.entries
 new_entries buffers n x none short cap = rw (lookup_entry_missed n buffers.cache.entries none, cap) (ap (λ l. (n, x) ∷ l) (take_all 15 buffers.cache.entries (omega arith)))
+
+-- where all are taken it displaces the least recently used one
+pub displacing : (buffers : Buffers) (n : ℕ) (x : Buffer) → lookup (nat_eq n) buffers.cache.entries ≡ None → buffers.cache.cap ≡ 16 → with_new (without_displaced buffers) n x ≡ with_new buffers n x
+displacing buffers n x none cap =
+    let es = buffers.cache.entries in
+    rw (lookup_entry_missed n (take 15 es) (lookup_take n 15 es none), lookup_entry_missed n es none, cap, take_all 15 (take 15 es) (omega (arith, length-take 15 es))) refl
 
 -- it is first
 pub first_new : (buffers : Buffers) (n : ℕ) (x : Buffer) → lookup (nat_eq n) buffers.cache.entries ≡ None → length buffers.cache.entries < 16 → buffers.cache.cap ≡ 16 → IsFirst n (with_new buffers n x)

@@ -5,7 +5,7 @@ ghost use Rattle.std.specs.Borrow.{sem};
 ghost use Rattle.lru.specs.LruCache.{IsValid};
 ghost use Rattle.s3_store.specs.Failures.{failed_calls, failed_transfers};
 ghost use Rattle.s3_pool.specs.Buffers.{IsFirst, IsSound, KeepsLaid, Overwrites};
-ghost use Rattle.s3_pool.specs.Inner.BufferLending.{LendsBytes, LendsBuffer};
+ghost use Rattle.s3_pool.specs.Inner.BufferLending.{LendsBytes, LendsBuffer, with_new, without_displaced};
 
 use lru::LruCache;
 use s3_store::{PackStore, PoolFault, StoreFault};
@@ -98,11 +98,8 @@ fn write_back<S: PackStore>(store: &mut S, n: u16, buffer: &Buffer) -> Result<()
     store.write(n, &buffer.bytes)
 }
 
-/// Gives up the least recently used buffer, once the store has it. Its box is for the next one.
-fn evict<S: PackStore>(
-    store: &mut S,
-    buffers: &mut Buffers,
-) -> Result<Option<Box<[u8; 256]>>, StoreFault>
+/// Gives up the least recently used buffer, once the store has it.
+fn evict<S: PackStore>(store: &mut S, buffers: &mut Buffers) -> Result<(), StoreFault>
     requires sound { IsSound (S.contents store.old) buffers.old }
     requires valid { IsValid nat_eq buffers.old.cache }
     requires some { 0 < length buffers.old.cache.entries }
@@ -114,40 +111,62 @@ fn evict<S: PackStore>(
         Some((n, buffer)) => write_back(store, *n, buffer)?,
         None => unreachable!(),
     }
-    let given_up = buffers.cache.pop_lru();
-    Ok(given_up.map(|(_, buffer)| buffer.bytes))
+    buffers.cache.pop_lru();
+    Ok(())
 }
 
-/// Has room for one more buffer, and the box of the one that was given up for it, if one was.
-fn make_room<S: PackStore>(
-    store: &mut S,
-    buffers: &mut Buffers,
-) -> Result<Option<Box<[u8; 256]>>, StoreFault>
-    requires sound { IsSound (S.contents store.old) buffers.old }
-    ensures keeps { KeepsLaid (S.contents store.old) buffers.old (S.contents store.new) buffers.new }
-    ensures room { OnOk result (length buffers.new.cache.entries < 16) }
-    ensures missed { OnOk result ((n : ℕ) → lookup (nat_eq n) buffers.old.cache.entries ≡ None → lookup (nat_eq n) buffers.new.cache.entries ≡ None) }
+/// Where all buffers are taken, has the store hold what the least recently used one does, which the next one displaces.
+fn save_displaced<S: PackStore>(store: &mut S, buffers: &Buffers) -> Result<(), StoreFault>
+    requires sound { IsSound (S.contents store.old) buffers.now }
+    ensures keeps { KeepsLaid (S.contents store.old) buffers.now (S.contents store.new) buffers.now }
+    ensures displaced { OnOk result (KeepsLaid (S.contents store.old) buffers.now (S.contents store.new) (without_displaced buffers.now)) }
     ensures failures { S.failures store.new ≡ S.failures store.old + failed_calls result }
 {
     if buffers.cache.len() < ROOM {
-        return Ok(None);
+        return Ok(());
     }
-    evict(store, buffers)
+    match buffers.cache.peek_lru() {
+        Some((n, buffer)) => write_back(store, *n, buffer)?,
+        None => unreachable!(),
+    }
+    Ok(())
 }
 
-/// A box to be read over: the one that was given up, as it is, or a new one.
-fn given_up_or_new(
-    given_up: Option<Box<[u8; 256]>>,
+/// A box to be read over: the spare one, as it is, or a new one.
+fn spare_or_new(
+    spare: Option<Box<[u8; 256]>>,
     alloc: Global,
 ) -> Result<Box<[u8; 256]>, AllocError> {
-    match given_up {
+    match spare {
         Some(bytes) => Ok(bytes),
         None => Ok(Box::new(alloc, [0; 256])?),
     }
 }
 
+/// Puts a buffer of sector `n`, which none holds, first. Where all are taken it displaces the least recently used one, whose
+/// box is spare from now on.
+fn put_first(
+    buffers: &mut Buffers,
+    spare: &mut Option<Box<[u8; 256]>>,
+    n: u16,
+    buffer: Buffer,
+) -> Result<(), PoolFault>
+    ensures ok { OnOk result (buffers.new ≡ with_new buffers.old n buffer) }
+    ensures err { OnErr result (buffers.new ≡ buffers.old) }
+    ensures fault { IfErr result (λ fault. fault ≡ PoolFault.NoMemory) }
+{
+    let displaced = buffers.cache.push(n, buffer)?;
+    *spare = displaced.map(|(_, buffer)| buffer.bytes);
+    Ok(())
+}
+
 /// Reads sector `n`, which no buffer holds, into a new one.
-fn fetch<S: PackStore>(store: &mut S, buffers: &mut Buffers, n: u16) -> Result<(), PoolFault>
+fn fetch<S: PackStore>(
+    store: &mut S,
+    buffers: &mut Buffers,
+    spare: &mut Option<Box<[u8; 256]>>,
+    n: u16,
+) -> Result<(), PoolFault>
     requires sound { IsSound (S.contents store.old) buffers.old }
     requires in_range { n < length (S.contents store.old) }
     requires missed { lookup (nat_eq n) buffers.old.cache.entries ≡ None }
@@ -156,14 +175,14 @@ fn fetch<S: PackStore>(store: &mut S, buffers: &mut Buffers, n: u16) -> Result<(
     ensures failures { S.failures store.new ≡ S.failures store.old + failed_transfers result }
     ensures fault { IfErr result (λ fault. fault ≢ PoolFault.NoSector) }
 {
-    let given_up = make_room(store, buffers)?;
-    let mut bytes = given_up_or_new(given_up, *buffers.cache.allocator())?;
+    save_displaced(store, buffers)?;
+    let mut bytes = spare_or_new(spare.take(), *buffers.cache.allocator())?;
     store.read(n, &mut bytes)?;
     let read = Buffer {
         bytes,
         is_dirty: false,
     };
-    buffers.cache.put(n, read)?;
+    put_first(buffers, spare, n, read)?;
     Ok(())
 }
 
@@ -171,6 +190,7 @@ fn fetch<S: PackStore>(store: &mut S, buffers: &mut Buffers, n: u16) -> Result<(
 pub(crate) fn load<S: PackStore>(
     store: &mut S,
     buffers: &mut Buffers,
+    spare: &mut Option<Box<[u8; 256]>>,
     n: u16,
 ) -> Result<(), PoolFault>
     requires { IsSound (S.contents store.old) buffers.old }
@@ -189,18 +209,18 @@ pub(crate) fn load<S: PackStore>(
     if buffers.cache.promote(&n) {
         return Ok(());
     }
-    fetch(store, buffers, n)
+    fetch(store, buffers, spare, n)
 }
 
-/// These bytes in the box that was given up, or in a new one.
+/// These bytes in the spare box, or in a new one.
 fn copied_into(
-    given_up: Option<Box<[u8; 256]>>,
+    spare: Option<Box<[u8; 256]>>,
     alloc: Global,
     bytes: &[u8; 256],
 ) -> Result<Box<[u8; 256]>, AllocError>
     ensures { IfOk result (λ copy. copy.value ≡ bytes.now) }
 {
-    match given_up {
+    match spare {
         Some(mut copy) => {
             *copy = *bytes;
             Ok(copy)
@@ -213,6 +233,7 @@ fn copied_into(
 fn cover<S: PackStore>(
     store: &mut S,
     buffers: &mut Buffers,
+    spare: &mut Option<Box<[u8; 256]>>,
     n: u16,
     bytes: &[u8; 256],
 ) -> Result<(), PoolFault>
@@ -224,13 +245,13 @@ fn cover<S: PackStore>(
     ensures failures { S.failures store.new ≡ S.failures store.old + failed_transfers result }
     ensures fault { IfErr result (λ fault. fault ≢ PoolFault.NoSector) }
 {
-    let given_up = make_room(store, buffers)?;
-    let bytes = copied_into(given_up, *buffers.cache.allocator(), bytes)?;
+    save_displaced(store, buffers)?;
+    let bytes = copied_into(spare.take(), *buffers.cache.allocator(), bytes)?;
     let new = Buffer {
         bytes,
         is_dirty: true,
     };
-    buffers.cache.put(n, new)?;
+    put_first(buffers, spare, n, new)?;
     Ok(())
 }
 
@@ -238,6 +259,7 @@ fn cover<S: PackStore>(
 pub(crate) fn overwrite<S: PackStore>(
     store: &mut S,
     buffers: &mut Buffers,
+    spare: &mut Option<Box<[u8; 256]>>,
     n: u16,
     bytes: &[u8; 256],
 ) -> Result<(), PoolFault>
@@ -252,7 +274,7 @@ pub(crate) fn overwrite<S: PackStore>(
         *buffer.bytes_mut() = *bytes;
         return Ok(());
     }
-    cover(store, buffers, n, bytes)
+    cover(store, buffers, spare, n, bytes)
 }
 
 /// Gives up all buffers, once the store has them.

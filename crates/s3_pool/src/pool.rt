@@ -16,6 +16,8 @@ use std::marker::Model;
 pub struct Pool<S: PackStore> {
     store: S,
     buffers: Buffers,
+    /// The box of the buffer that was displaced last, for the next one.
+    spare: Option<Box<[u8; 256]>>,
 }
 
 impl<S: PackStore> Model for Pool<S> {
@@ -40,7 +42,11 @@ impl<S: PackStore> Pool<S> {
         ensures value_returned { IfErr result (λ refused. refused.value ≡ store) }
     {
         match Buffers::new(alloc) {
-            Ok(buffers) => Ok(Pool { store, buffers }),
+            Ok(buffers) => Ok(Pool {
+                store,
+                buffers,
+                spare: None,
+            }),
             Err(_) => Err(AllocFailed { value: store }),
         }
     }
@@ -51,7 +57,7 @@ impl<S: PackStore> Pool<S> {
         ensures value { IfOk result (λ bytes. slice_get self.old.contents n ≡ Some bytes.now) }
         ensures no_sector { (IsErrOf result PoolFault.NoSector) ↔ (length self.old.contents ≤ n) }
     {
-        load(&mut self.store, &mut self.buffers, n)?;
+        load(&mut self.store, &mut self.buffers, &mut self.spare, n)?;
         Ok(self.buffers.first_bytes())
     }
 
@@ -61,7 +67,7 @@ impl<S: PackStore> Pool<S> {
         ensures value { IfOk result (λ bytes. slice_get self.old.contents n ≡ Some bytes.now) }
         ensures no_sector { (IsErrOf result PoolFault.NoSector) ↔ (length self.old.contents ≤ n) }
     {
-        load(&mut self.store, &mut self.buffers, n)?;
+        load(&mut self.store, &mut self.buffers, &mut self.spare, n)?;
         Ok(self.buffers.buffer_mut(n).bytes_mut())
     }
 
@@ -81,7 +87,11 @@ impl<S: PackStore> Pool<S> {
         ensures contents { S.contents result ≡ self.stored }
         ensures failures { S.failures result ≡ self.failures }
     {
-        let Pool { store, buffers: _ } = self;
+        let Pool {
+            store,
+            buffers: _,
+            spare: _,
+        } = self;
         store
     }
 }
@@ -100,7 +110,13 @@ impl<S: PackStore> Sectors for Pool<S> {
     }
 
     fn write_sector(&mut self, n: u16, bytes: &[u8; 256]) -> Result<(), PoolFault> {
-        overwrite(&mut self.store, &mut self.buffers, n, bytes)
+        overwrite(
+            &mut self.store,
+            &mut self.buffers,
+            &mut self.spare,
+            n,
+            bytes,
+        )
     }
 
     fn change_sector(&mut self, n: u16, at: usize, piece: &[u8]) -> Result<(), PoolFault> {

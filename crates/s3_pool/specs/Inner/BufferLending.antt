@@ -1,9 +1,9 @@
 -- What the buffers end as, once a reference into one has ended.
-use Rattle.std.specs.Prelude.{ℕ, List, true, nat_eq}
+use Rattle.std.specs.Prelude.{ℕ, List, true, nat_eq, take}
 use Rattle.std.specs.Borrow.{Fml, MutBor, Lends, Array, u8}
 use Rattle.std.specs.Box.{with_value}
 use Rattle.std.specs.Map.{set_value}
-use Rattle.lru.specs.LruCache.{lru_cache}
+use Rattle.lru.specs.LruCache.{lru_cache, put_entries}
 use Rattle.s3_pool.specs.declared.buffers.Buffer.{Buffer}
 use Rattle.s3_pool.specs.declared.buffers.Buffers.{Buffers}
 use Rattle.s3_pool.specs.contracts.buffers.Buffer as buffer
@@ -23,3 +23,11 @@ with_buffer s n b = record s { cache = lru_cache (set_value (nat_eq n) s.cache.e
 
 abbrev pub LendsBuffer : MutBor Buffers → ℕ → MutBor Buffer → Fml
 LendsBuffer s n r = Lends buffers.the_row buffer.the_row s r (with_buffer s.now n)
+
+-- the buffers with a new one for sector n
+abbrev pub with_new : Buffers → ℕ → Buffer → Buffers
+with_new s n x = record { cache = lru_cache (put_entries nat_eq s.cache n x) s.cache.cap }
+
+-- the buffers without the one that the next displaces, where all 16 are taken
+abbrev pub without_displaced : Buffers → Buffers
+without_displaced s = record s { cache = lru_cache (take 15 s.cache.entries) s.cache.cap }

@@ -15,5 +15,5 @@ unreachable-requires g c = last_some c.args.buffers.now.cache.entries c.requires
 
 pub returns-clause-keeps : goal.returns-clause-keeps
 returns-clause-keeps g c =
-    rw (c.in_ok-write_back-in-Some.ensures.ok, c.pop_lru-given_up.ensures.entries)
+    rw (c.in_ok-write_back-in-Some.ensures.ok, c.pop_lru.ensures.entries)
     (evicted _ c.args.buffers.now c.in-Some.n.now c.in-Some.buffer.now (sym c.in-Some.ensures) c.requires.valid.0 c.requires.sound)
