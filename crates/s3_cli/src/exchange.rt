@@ -6,7 +6,7 @@ ghost use Rattle.s3_cli.specs.declared.fault.SessionFault.TheVariants.{File};
 
 use crate::fault::SessionFault;
 use crate::input::{ReadFault, read_within};
-use crate::output::output_text;
+use crate::output::write_output;
 use crate::parts::split_parts;
 use s3_bureau::{RunFault, run};
 use std::alloc::Global;
@@ -41,8 +41,7 @@ pub fn session<R: Read, W: Write>(
         return Err(SessionFault::Input);
     };
     let outcome = run(alloc, pack, parts.deck1, parts.deck2, parts.script)?;
-    let output = output_text(alloc, &outcome)?;
-    match writer.write_all(output.as_slice()) {
+    match write_output(writer, &outcome) {
         Ok(()) => Ok(outcome.pack),
         Err(_) => Err(SessionFault::File),
     }
