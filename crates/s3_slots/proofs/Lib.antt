@@ -9,3 +9,4 @@ pub mod NewFiles
 pub mod SlotLemmas
 pub mod Judging
 pub mod ReadBack
+pub mod SecondFormat
