@@ -205,9 +205,11 @@ pub outcome_over : (contents : List (List ℕ)) (deck1 deck2 : List ℕ) (cards1
 outcome_over contents deck1 deck2 cards1 cards2 refusal1 refusal2 entries first last outcome mount contents_are held1 held2 rest reads1 reads2 said texts slots files flushed leaves saved whole = (
   ap (λ (m : Result Header MountFault). texts_over m contents deck1 deck2 entries) mount
       ∙ ap (λ (t : RunTexts). Ok t) (sym (texts_given (header_of first) contents deck1 deck2 cards1 cards2 refusal1 refusal2 entries (held_by first) (outcome_texts outcome) reads1 reads2 held1 held2 texts)),
-  (λ header is. left_so header deck1 deck2 cards1 cards2 refusal1 refusal2 entries first last contents (sectors_of outcome.pack.items) is (same_header (header_of first) header (mounted contents) mount is) contents_are rest leaves reads1 reads2
-      (subst (λ (h : Header). HoldsFor One first (at_start One h contents cards1)) (same_header (header_of first) header (mounted contents) mount is) held1)
-      (subst (λ (h : Header). HoldsFor Two first (at_start Two h contents cards2)) (same_header (header_of first) header (mounted contents) mount is) held2)
-      said slots files flushed saved,
-      whole),
+  (
+    λ header is. left_so header deck1 deck2 cards1 cards2 refusal1 refusal2 entries first last contents (sectors_of outcome.pack.items) is (same_header (header_of first) header (mounted contents) mount is) contents_are rest leaves reads1 reads2
+        (subst (λ (h : Header). HoldsFor One first (at_start One h contents cards1)) (same_header (header_of first) header (mounted contents) mount is) held1)
+        (subst (λ (h : Header). HoldsFor Two first (at_start Two h contents cards2)) (same_header (header_of first) header (mounted contents) mount is) held2)
+        said slots files flushed saved,
+    whole,
+  ),
 )
