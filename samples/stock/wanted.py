@@ -3,6 +3,7 @@
 
     wanted.py prices|stock|list"""
 
+import argparse
 import os
 import sys
 
@@ -131,12 +132,15 @@ class Stock:
 
 
 def main():
+    parser = argparse.ArgumentParser(description="The outputs wanted of this sample, from its cards alone.")
+    parser.add_argument("output", choices=("prices", "stock", "list"))
+    output = parser.parse_args().output
     prices = Prices()
-    if sys.argv[1] == "prices":
+    if output == "prices":
         show_both((prices.report(), []), ([], []))
         return
     stocks = [Stock(name, prices.of, *ran) for name, ran in zip(NAMES, read("stock.txt"))]
-    if sys.argv[1] == "stock":
+    if output == "stock":
         show_both(*((stock.report, []) for stock in stocks))
     else:
         print(list_line(0, "PRICES", "I", "P", 32, PRICES, len(prices.of)))

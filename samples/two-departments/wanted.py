@@ -3,6 +3,7 @@
 
     wanted.py departments|list"""
 
+import argparse
 import os
 import sys
 
@@ -37,10 +38,13 @@ def check_register(checks, date):
 
 
 def main():
+    parser = argparse.ArgumentParser(description="The outputs wanted of this sample, from its cards alone.")
+    parser.add_argument("output", choices=("departments", "list"))
+    output = parser.parse_args().output
     with open(os.path.join(HERE, "departments.txt")) as text:
         bills, pay = [jobs(deck) for deck in decks(text.read())]
     billing, payroll = billed(bills[0][1], bills[0][0]), paid(pay[0][1], pay[0][0])
-    if sys.argv[1] == "departments":
+    if output == "departments":
         show_both((billing.printer.report + due_accounts(billing.dues, bills[1][0]), []), (payroll.printer.report + check_register(payroll.checks, pay[1][0]), payroll.halts))
     else:
         print(list_line(1, "DUES", "S", "T", 41, 100, len(billing.dues)))
