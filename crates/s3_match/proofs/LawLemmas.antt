@@ -1,16 +1,16 @@
 -- The first of the least heads, and heads of one key.
-use Rattle.std.proofs.Common.{◌≡◌, ℕ, ◌<◌, ◌&&◌, ◌||◌, length, map, get_or, List, [], ◌∷◌, Bool, true, false, not, refl, sym, ◌∙◌, ap, subst, zero, suc, arith}
-use Rattle.std.specs.Prelude.{Option, Some, None, is_some, ◌↔◌, find, option_map, slice_get, if◌then◌else◌}
+use Rattle.std.proofs.Common.{◌≡◌, ℕ, ◌<◌, ◌==◌, nat_lt, ◌&&◌, ◌||◌, length, map, get_or, List, [], ◌∷◌, Bool, true, false, not, refl, sym, ◌∙◌, ap, subst, zero, suc, arith}
+use Rattle.std.specs.Prelude.{Option, Some, None, is_some, ◌↔◌, find, filter, option_map, slice_get, if◌then◌else◌}
 use Rattle.std.specs.Option.{option_and_then, option_or}
 use Rattle.std.specs.List.{Any, list_all, list_any}
-use Rattle.std.proofs.lemmas.Bool.{and_parts, true≢false}
+use Rattle.std.proofs.lemmas.Bool.{and_parts, or_parts, or_from, and_right, le-ltb, true≢false}
 use Rattle.std.proofs.lemmas.List.Folds.{Any-from_list_any, list_any-from_Any}
 use Rattle.s3_cards.proofs.NameLemmas.{same_codes, equal_codes, same_name-self}
 use Rattle.s3_cards.specs.Names.{same_name}
 use Rattle.s3_lines.specs.declared.sheet.Designation.TheVariants.{Primary, Secondary}
 use Rattle.s3_meaning.specs.Source.{is_designated}
-use Rattle.s3_meaning.specs.Selection.{Head, Unread, InputFile, Reading, Selected, head_of, selectable, is_unread, vacated, taken, key_of, is_less, same_key, lesser, least, has_met_end, select_at_end, primary_first, select, is_matched}
-use Rattle.s3_match.specs.Laws.{heads_of, stands_at, IsFirstLeast, HasKey, IsMatchedBySecondary}
+use Rattle.s3_meaning.specs.Selection.{Head, Unread, InputFile, Reading, Selected, head_of, selectable, is_unread, vacated, taken, key_of, is_below, is_less, same_key, lesser, least, has_met_end, select_at_end, primary_first, select, is_matched}
+use Rattle.s3_match.specs.Laws.{heads_of, stands_at, IsFirstLeast, HasKey, IsMatchedBySecondary, IsFirst, has_no_key, has_last_key}
 
 -- ---- the first of the least
 same_some : {X : Type 0} (a b : X) → Some a ≡ Some b → a ≡ b
@@ -116,3 +116,109 @@ emptied reading (input ∷ inputs) selected (suc place) e = either (is_unread (v
 
 pub taken_missed : (reading : Reading) (selected : Selected) (place : ℕ) → stands_at reading place ≡ Some selected → list_any is_unread (taken reading selected).files ≡ true
 taken_missed reading selected place e = emptied reading reading.files selected place e
+
+-- ---- the first head of which a test holds
+pub found_first : (test : Selected → Bool) (heads : List Selected) (selected : Selected) → find test heads ≡ Some selected → IsFirst test heads selected
+found_first test [] selected e = cc
+found_first test (head ∷ heads) selected e = by (test head) refl e (λ h. found_first test heads selected h)
+  where
+    each : (before : List Selected) → ((k : ℕ) (d : Selected) → k < length before → test (get_or before k d) ≡ false) → test head ≡ false → (k : ℕ) (d : Selected) → k < length (head ∷ before) → test (get_or (head ∷ before) k d) ≡ false
+    each before found fails zero d within = fails
+    each before found fails (suc k) d within = found k d (omega (arith, within))
+
+    here : test head ≡ true → IsFirst test (head ∷ heads) head
+    here holds = record { before = []; behind = heads; stands = refl; holds = holds; none_before = λ k d within. absurd (omega (arith, within)) }
+
+    further : test head ≡ false → IsFirst test heads selected → IsFirst test (head ∷ heads) selected
+    further fails found = record {
+      before = head ∷ found.before;
+      behind = found.behind;
+      stands = ap (λ (xs : List Selected). head ∷ xs) found.stands;
+      holds = found.holds;
+      none_before = each found.before found.none_before fails;
+    }
+
+    by : (b : Bool) → test head ≡ b → (if b then Some head else find test heads) ≡ Some selected → (find test heads ≡ Some selected → IsFirst test heads selected) → IsFirst test (head ∷ heads) selected
+    by true holds h rest = subst (IsFirst test (head ∷ heads)) (same_some head selected h) (here holds)
+    by false fails h rest = further fails (rest h)
+
+none_any : (test : Selected → Bool) (heads : List Selected) → find test heads ≡ None → list_any test heads ≡ false
+none_any test [] e = refl
+none_any test (head ∷ heads) e = by (test head) refl e (λ h. none_any test heads h)
+  where
+    by : (b : Bool) → test head ≡ b → (if b then Some head else find test heads) ≡ None → (find test heads ≡ None → list_any test heads ≡ false) → (test head || list_any test heads) ≡ false
+    by true holds h rest = cc
+    by false fails h rest = or_from (test head) (list_any test heads) fails (rest h)
+
+none_found : (test : Selected → Bool) (heads : List Selected) → list_any test heads ≡ false → find test heads ≡ None
+none_found test [] e = refl
+none_found test (head ∷ heads) e =
+    let parts = or_parts (test head) (list_any test heads) e in
+    ap (λ (b : Bool). if b then Some head else find test heads) parts.0 ∙ none_found test heads parts.1
+
+pub first_without : (reading : Reading) (selected : Selected) → has_met_end reading.files ≡ false → list_any has_no_key (heads_of reading) ≡ true → select reading ≡ Some selected → IsFirst has_no_key (heads_of reading) selected
+first_without reading selected goes_on some e =
+    let keyed : option_or (find has_no_key (heads_of reading)) (least (primary_first (heads_of reading))) ≡ Some selected =
+    sym (ap (λ (b : Bool). if b then select_at_end (heads_of reading) reading.primary_key else option_or (find has_no_key (heads_of reading)) (least (primary_first (heads_of reading)))) goes_on) ∙ e in
+    by (find has_no_key (heads_of reading)) refl keyed
+  where
+    by : (found : Option Selected) → find has_no_key (heads_of reading) ≡ found → option_or found (least (primary_first (heads_of reading))) ≡ Some selected → IsFirst has_no_key (heads_of reading) selected
+    by None none h = absurd (true≢false (sym some ∙ none_any has_no_key (heads_of reading) none))
+    by (Some first) found h = found_first has_no_key (heads_of reading) selected (found ∙ h)
+
+-- ---- the last primary key at the end
+-- no key is below itself
+below_self : (key : List ℕ) → is_below key key ≡ false
+below_self [] = refl
+below_self (a ∷ as') = or_from (nat_lt a a) (a == a && is_below as' as') (le-ltb a a (omega arith)) (and_right (a == a) (is_below as' as') (below_self as'))
+
+not_lower : (a b last : Option (List ℕ)) → same_key a last ≡ true → same_key b last ≡ true → is_less a b ≡ false
+not_lower a b last one two =
+    let first = same_there a last one in
+    let second = same_there b last two in
+    (λ i. is_less (first.1 i) ((second.1 ∙ sym second.2 ∙ first.2) i)) ∙ below_self first.0
+
+-- of heads with one key the first is the least
+least_is_first : (last : Option (List ℕ)) (heads : List Selected) → least (filter (λ head. same_key (key_of head) last) heads) ≡ find (λ head. same_key (key_of head) last) heads
+least_is_first last [] = refl
+least_is_first last (head ∷ heads) = by (same_key (key_of head) last) refl (least_is_first last heads)
+  where
+    test : Selected → Bool
+    test other = same_key (key_of other) last
+
+    stays : (found : Option Selected) → find test heads ≡ found → same_key (key_of head) last ≡ true → lesser head found ≡ head
+    stays None e h = refl
+    stays (Some other) e h = ap (λ (b : Bool). if b then other else head) (not_lower (key_of other) (key_of head) last (found_first test heads other e).holds h)
+
+    by : (b : Bool) → same_key (key_of head) last ≡ b → least (filter test heads) ≡ find test heads → least (if b then head ∷ filter test heads else filter test heads) ≡ (if b then Some head else find test heads)
+    by true h rest = ap (λ (o : Option Selected). Some (lesser head o)) rest ∙ ap Some (stays (find test heads) refl h)
+    by false h rest = rest
+
+at_end : (reading : Reading) → has_met_end reading.files ≡ true → select reading ≡ select_at_end (heads_of reading) reading.primary_key
+at_end reading ends = ap (λ (b : Bool). if b then select_at_end (heads_of reading) reading.primary_key else option_or (find has_no_key (heads_of reading)) (least (primary_first (heads_of reading)))) ends
+
+pub primary_left : (reading : Reading) → has_met_end reading.files ≡ true → list_any (λ head. is_designated Primary head.file) (heads_of reading) ≡ true → select reading ≡ None
+primary_left reading ends left =
+    at_end reading ends ∙ ap (λ (b : Bool). if b then None else least (filter (has_last_key reading) (heads_of reading))) left
+
+-- without a primary head, the first head with the last key
+first_at_end : (reading : Reading) → has_met_end reading.files ≡ true → list_any (λ head. is_designated Primary head.file) (heads_of reading) ≡ false → select reading ≡ find (has_last_key reading) (heads_of reading)
+first_at_end reading ends none =
+    at_end reading ends ∙ ap (λ (b : Bool). if b then None else least (filter (has_last_key reading) (heads_of reading))) none ∙ least_is_first reading.primary_key (heads_of reading)
+
+pub last_key_first : (reading : Reading) (selected : Selected) → has_met_end reading.files ≡ true → list_any (λ head. is_designated Primary head.file) (heads_of reading) ≡ false → select reading ≡ Some selected → IsFirst (has_last_key reading) (heads_of reading) selected
+last_key_first reading selected ends none e = found_first (has_last_key reading) (heads_of reading) selected (sym (first_at_end reading ends none) ∙ e)
+
+pub no_last_key : (reading : Reading) → has_met_end reading.files ≡ true → list_any (has_last_key reading) (heads_of reading) ≡ false → select reading ≡ None
+no_last_key reading ends none = by (list_any (λ head. is_designated Primary head.file) (heads_of reading)) refl
+  where
+    by : (b : Bool) → list_any (λ head. is_designated Primary head.file) (heads_of reading) ≡ b → select reading ≡ None
+    by true left = primary_left reading ends left
+    by false gone = first_at_end reading ends gone ∙ none_found (has_last_key reading) (heads_of reading) none
+
+pub last_key_left : (reading : Reading) → has_met_end reading.files ≡ true → list_any (λ head. is_designated Primary head.file) (heads_of reading) ≡ false → list_any (has_last_key reading) (heads_of reading) ≡ true → is_some (select reading) ≡ true
+last_key_left reading ends gone left = ap is_some (first_at_end reading ends gone) ∙ by (find (has_last_key reading) (heads_of reading)) refl
+  where
+    by : (found : Option Selected) → find (has_last_key reading) (heads_of reading) ≡ found → is_some found ≡ true
+    by None none = absurd (true≢false (sym left ∙ none_any (has_last_key reading) (heads_of reading) none))
+    by (Some first) e = refl

@@ -1,10 +1,10 @@
 -- What the laws of selection say.
-use Rattle.std.specs.Prelude.{ℕ, ◌≡◌, true, List, ◌∷◌, ◌++◌, Option, Some, filter_map, slice_get}
+use Rattle.std.specs.Prelude.{ℕ, ◌≡◌, Bool, true, false, not, is_some, List, ◌∷◌, ◌++◌, Option, Some, filter_map, slice_get}
 use Rattle.std.specs.Option.{option_and_then}
 use Rattle.std.specs.List.{All, Any}
 use Rattle.s3_lines.specs.declared.sheet.Designation.TheVariants.{Secondary}
 use Rattle.s3_meaning.specs.Source.{is_designated}
-use Rattle.s3_meaning.specs.Selection.{Reading, Selected, selectable, key_of, is_less}
+use Rattle.s3_meaning.specs.Selection.{Reading, Selected, selectable, key_of, is_less, same_key}
 
 abbrev pub heads_of : Reading → List Selected
 heads_of reading = filter_map selectable reading.files
@@ -26,3 +26,17 @@ HasKey selected other = (key : List ℕ) × (key_of selected ≡ Some key) × (o
 
 abbrev pub IsMatchedBySecondary : Reading → Selected → Type 0
 IsMatchedBySecondary reading selected = Any (λ other. (is_designated Secondary other.file ≡ true) × HasKey other (key_of selected)) (heads_of reading)
+
+-- the first head of which a test holds
+pub record IsFirst (test : Selected → Bool) (heads : List Selected) (selected : Selected) : Type 0 where
+  pub before : List Selected
+  pub behind : List Selected
+  pub stands : heads ≡ before ++ selected ∷ behind
+  pub holds : test selected ≡ true
+  pub none_before : All (λ head. test head ≡ false) before
+
+abbrev pub has_no_key : Selected → Bool
+has_no_key selected = not (is_some (key_of selected))
+
+abbrev pub has_last_key : Reading → Selected → Bool
+has_last_key reading selected = same_key (key_of selected) reading.primary_key

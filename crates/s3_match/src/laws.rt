@@ -17,7 +17,7 @@ ghost use Rattle.s3_program.specs.Stands.{source_named};
 ghost use Rattle.s3_match.specs.Types.{kind_at};
 ghost use Rattle.s3_match.specs.Controls.{break_of};
 ghost use Rattle.s3_match.specs.Heads.{ended, put};
-ghost use Rattle.s3_match.specs.Laws.{heads_of, stands_at, IsFirstLeast, IsMatchedBySecondary, HasKey};
+ghost use Rattle.s3_match.specs.Laws.{heads_of, stands_at, IsFirstLeast, IsMatchedBySecondary, HasKey, IsFirst, has_no_key, has_last_key};
 ghost use Rattle.s3_match.specs.Reading.{input_at, read_from, read_behind, on_record, is_record, AreRead, IsNextUnread};
 
 /// Where all heads have match fields, the selected one is the first least one, the primary standing before the secondary files and
@@ -26,6 +26,21 @@ pub fn ties_go_to_the_first()
     ensures first { (heads : List Selected) (selected : Selected) → least heads ≡ Some selected → IsFirstLeast heads selected }
     ensures selected { (reading : Reading) (selected : Selected) → has_met_end reading.files ≡ false → list_all (λ head. is_some (key_of head)) (heads_of reading) ≡ true → select reading ≡ Some selected
         → IsFirstLeast (primary_first (heads_of reading)) selected }
+{}
+
+/// A head without match fields goes before all heads that have some: the first such head, in F order.
+pub fn a_head_without_match_fields_goes_first()
+    ensures { (reading : Reading) (selected : Selected) → has_met_end reading.files ≡ false → list_any has_no_key (heads_of reading) ≡ true → select reading ≡ Some selected → IsFirst has_no_key (heads_of reading) selected }
+{}
+
+/// At the end no record is processed any more where a primary head is left; else the first head with the last primary key, and none
+/// where no head has it.
+pub fn the_last_key_is_still_matched_at_the_end()
+    ensures primary { (reading : Reading) → has_met_end reading.files ≡ true → list_any (λ head. is_designated Primary head.file) (heads_of reading) ≡ true → select reading ≡ None }
+    ensures secondary { (reading : Reading) (selected : Selected) → has_met_end reading.files ≡ true → list_any (λ head. is_designated Primary head.file) (heads_of reading) ≡ false → select reading ≡ Some selected
+        → IsFirst (has_last_key reading) (heads_of reading) selected }
+    ensures none { (reading : Reading) → has_met_end reading.files ≡ true → list_any (has_last_key reading) (heads_of reading) ≡ false → select reading ≡ None }
+    ensures some { (reading : Reading) → has_met_end reading.files ≡ true → list_any (λ head. is_designated Primary head.file) (heads_of reading) ≡ false → list_any (has_last_key reading) (heads_of reading) ≡ true → is_some (select reading) ≡ true }
 {}
 
 /// A primary is matched exactly where a secondary head has its key, a secondary exactly where it has the last primary key.
