@@ -57,8 +57,12 @@ common_beyond level areas contents n pack (inr (inl masters)) = low_beyond level
     out : (l : LevelId) → IsLabelSector (area_of l) n → ⊥
     out One is = omega (arith, masters.1, is.0)
     out Two is = omega (arith, masters.1, is.0)
-common_beyond level areas contents n pack (inr (inr inside)) =
+common_beyond level areas contents n pack (inr (inr (inl inside))) =
     high_beyond level areas.header n ((placed areas contents pack).masters n inside).0 (λ here. (placed areas contents pack).masters_apart level n here inside)
+common_beyond level areas contents n pack (inr (inr (inr spare))) = record {
+  files = record { labels = λ is. spare.own level (inl is); region = λ is. spare.own level (inr is) };
+  block = spare.block;
+}
 
 pub other_beyond : (level : LevelId) (areas : Areas) (contents : List (List ℕ)) (n : ℕ) → IsPackReady areas contents → IsOwn (other level) areas.header n → IsBeyond level areas.header n
 other_beyond One areas contents n pack (inl label) = low_beyond One areas contents n pack (omega (arith, label.1)) (λ is. omega (arith, label.0, is.1))
@@ -106,7 +110,7 @@ other_sees level old new pack spares = record {
   masters = ap (λ (a : Areas). a.masters) spares.areas ∙ masters_with level (slots_at level new.areas) old.areas;
   slots = ap (slots_at (other level)) spares.areas ∙ other_with level (slots_at level new.areas) old.areas;
   own_sectors = λ n inside. spares.sectors.contents n (other_beyond level old.areas old.state.contents n pack (inr inside));
-  master_sectors = λ n inside. spares.sectors.contents n (common_beyond level old.areas old.state.contents n pack (inr (inr inside)));
+  master_sectors = λ n inside. spares.sectors.contents n (common_beyond level old.areas old.state.contents n pack (inr (inr (inl inside))));
 }
 
 -- what a level holds stays held where it sees the same, and its queue and its quota stay

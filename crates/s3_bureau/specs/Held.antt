@@ -1,5 +1,5 @@
 -- What it is that a bureau holds a level's world, and what is true of a bureau whatever it holds.
-use Rattle.std.specs.Prelude.{◌≡◌, ◌⊎◌, ℕ, Bool, true, false, List, [], None}
+use Rattle.std.specs.Prelude.{◌≡◌, ◌⊎◌, ◌≤◌, ◌<◌, ℕ, Bool, true, false, List, [], None}
 use Rattle.s3_cards.specs.declared.levels.LevelId.{LevelId}
 use Rattle.s3_cards.specs.declared.levels.LevelId.TheVariants.{One, Two}
 use Rattle.s3_cards.specs.Levels.{other}
@@ -90,15 +90,20 @@ abbrev pub IsSaid : LevelId → State → Type 0
 IsSaid level bureau = SaysSlots level bureau.beside.areas bureau.beside.state.contents
 
 -- ---- the sectors of a pack
--- a sector of the header, of the masters' labels or of their region
-abbrev pub IsCommon : Header → ℕ → Type 0
-IsCommon header n = (n ≡ 0) ⊎ (IsLabelSector 0 n ⊎ IsIn header.masters n)
-
 -- a sector of a level's labels or of its region
 abbrev pub IsOwn : LevelId → Header → ℕ → Type 0
 IsOwn level header n = IsLabelSector (area_of level) n ⊎ IsIn (region_of level header) n
 
--- a sector of the header, the masters or the other level
+-- a sector that no level has, and that is no block for queued lines
+pub record IsSpare (header : Header) (n : ℕ) : Type 0 where
+  pub own : (level : LevelId) → IsOwn level header n → ⊥
+  pub block : 25 ≤ n → n < 153 → ⊥
+
+-- a sector of the header, of the masters' labels or of their region, or one that nobody uses
+abbrev pub IsCommon : Header → ℕ → Type 0
+IsCommon header n = (n ≡ 0) ⊎ (IsLabelSector 0 n ⊎ (IsIn header.masters n ⊎ IsSpare header n))
+
+-- a sector of the header, the masters or the other level, or one that nobody uses
 abbrev pub IsForeign : LevelId → Header → ℕ → Type 0
 IsForeign level header n = IsCommon header n ⊎ IsOwn (other level) header n
 

@@ -94,8 +94,8 @@ abbrev pub HasSlots : LevelId → Header → (old new : List (List ℕ)) → Wor
 HasSlots level header old new w =
     IsUntangled header.format (region_of level header) (area_of level) old → slots_of header.format (region_of level header) (area_of level) new ≡ w.pack.own.slots
 
--- What a run makes of a mounted pack: it has as many sectors, those of its header and its masters and all of a level without an entry
--- are as they were, and it has the slots and the files of each level's world. So a mount of it gives the same header and the same masters.
+-- What a run makes of a mounted pack: it has as many sectors, those of its header and its masters, those that nobody uses and all of a
+-- level without an entry are as they were, and it has the slots and the files of each level's world. So a mount of it gives the same header and the same masters.
 pub record LeavesSo (header : Header) (deck1 deck2 : List ℕ) (entries : List Entry) (old new : List (List ℕ)) : Type 0 where
   pub count : length new ≡ length old
   pub common : (n : ℕ) → IsCommon header n → slice_get new n ≡ slice_get old n

@@ -232,7 +232,7 @@ impl<S: PackStore> Bureau<S> {
         ensures quiet { IfOk result (λ did. did ≢ Acted → self.new.beside ≡ self.old.beside) }
 
         // Whatever the answer is, the other level stays as it is, with its queue and its labels as they were judged; and so do the
-        // sectors of the header, the masters and the other level, in the store too.
+        // sectors of the header, the masters and the other level, and those that nobody uses, in the store too.
         ensures stays { level_of (other entry.level) self.new ≡ level_of (other entry.level) self.old }
         ensures spares { is_open self.old ≡ true → Spares entry.level self.old.beside self.new.beside }
         ensures unchanged { KeepsInStep (IsForeign entry.level (header_of self.old)) self.old.beside.state self.new.beside.state }
@@ -303,8 +303,8 @@ impl<S: PackStore> Bureau<S> {
         // Where the labels of a level said its slots, a mount of the store judges them as its world has them.
         ensures mounts { OnOk result ((level : LevelId) (w : World) → IsSaid level self.old → HoldsFor level self.new w → slots_of (header_of self.new).format (region_of level (header_of self.new)) (area_of level) self.new.beside.state.contents ≡ w.pack.own.slots) }
 
-        // Whatever the answer is, the sectors of the header and the masters stay, and those of a level with no job at work, in the
-        // store too.
+        // Whatever the answer is, the sectors of the header, of the masters and those that nobody uses stay, and those of a level with
+        // no job at work, in the store too.
         ensures unchanged { KeepsInStep (IsCommon (header_of self.old)) self.old.beside.state self.new.beside.state }
         ensures rest { (level : LevelId) → rests level self.old → KeepsInStep (IsOwn level (header_of self.old)) self.old.beside.state self.new.beside.state }
         ensures header { header_of self.new ≡ header_of self.old }
