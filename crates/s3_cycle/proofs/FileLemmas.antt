@@ -43,7 +43,7 @@ use Rattle.s3_program.specs.Valid.{file_entry, meant_output, meant}
 use Rattle.s3_program.proofs.SlotLemmas.{Kept, kept}
 use Rattle.s3_operations.specs.Fits.{tables}
 use Rattle.s3_operations.proofs.FitLemmas.{rest_not, some_same}
-use Rattle.s3_operations.proofs.TypeLemmas.{no_file}
+use Rattle.s3_program.proofs.TypeLemmas.{no_file}
 use Rattle.s3_output.specs.Lines.{IsLineAt, IsStart}
 use Rattle.s3_match.specs.declared.heads.InputFile.{InputFile}
 use Rattle.s3_match.specs.declared.reading.Reading.{Reading}

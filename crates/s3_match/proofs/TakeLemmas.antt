@@ -24,7 +24,7 @@ use Rattle.s3_match.specs.Selecting.{inputs_of, selected_of, selected_at}
 use Rattle.s3_match.specs.Reading.{no_input, slots_of, reading_in, IsReading}
 use Rattle.s3_match.proofs.SelectLemmas.{seen, own_head}
 use Rattle.s3_match.proofs.SlotLemmas.{slot_kept, slot_once}
-use Rattle.s3_match.proofs.TypeLemmas.{same_file}
+use Rattle.s3_program.proofs.TypeLemmas.{same_file}
 use Rattle.s3_match.proofs.ReadingLemmas.{slot_there, inputs_change, file_named}
 
 -- ---- a test that one place alone passes

@@ -46,7 +46,7 @@ use Rattle.s3_operations.specs.Chaining.{IsLiteral, file_sought, has_key, is_cha
 use Rattle.s3_operations.specs.Fits.{tables, IsLineOf, meant_factor, named_factor, is_value, is_number}
 use Rattle.s3_operations.specs.Held.{held, IsSound, length_in, text_at}
 use Rattle.s3_operations.proofs.FitLemmas.{Brings, brings, some_same, value_factor}
-use Rattle.s3_operations.proofs.TypeLemmas.{no_file}
+use Rattle.s3_program.proofs.TypeLemmas.{no_file}
 use Rattle.s3_operations.proofs.ValueLemmas.{all_at, FieldAt, field_entry, numeric_when, digits_when, text_when}
 
 -- ---- the file of a name

@@ -10,3 +10,4 @@ pub mod StartedLemmas
 pub mod GivenLemmas
 pub mod CallLemmas
 pub mod NameLemmas
+pub mod TypeLemmas

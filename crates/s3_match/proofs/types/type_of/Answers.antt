@@ -1,6 +1,7 @@
 use Rattle.std.proofs.Common.{◌∙◌, ap, option_map}
 use Rattle.s3_match.specs.Types.{kind_at, first_that_holds}
-use Rattle.s3_match.proofs.TypeLemmas.{as_many, own_starts, type_found, type_starts_there}
+use Rattle.s3_program.proofs.TypeLemmas.{as_many, own_starts}
+use Rattle.s3_match.proofs.TypeLemmas.{type_found, type_starts_there}
 use Rattle.s3_match.proofs.types.type_of.Goals as goal
 
 pub index-requires : goal.index-requires

@@ -4,7 +4,8 @@ use Rattle.std.specs.List.{list_all}
 use Rattle.s3_operations.specs.Indicators.{on_in, is_settable_entry, turned_all}
 use Rattle.s3_operations.specs.Indicating.{type_indicator, start_indicator}
 use Rattle.s3_operations.proofs.IndicatingLemmas.{types_settable}
-use Rattle.s3_operations.proofs.TypeLemmas.{as_many, own_starts, places_there, types_of_cleared}
+use Rattle.s3_program.proofs.TypeLemmas.{as_many, own_starts}
+use Rattle.s3_operations.proofs.TypeLemmas.{places_there, types_of_cleared}
 use Rattle.s3_operations.proofs.values.Values.clear_types_of.Goals as goal
 
 pub index-requires : goal.index-requires
