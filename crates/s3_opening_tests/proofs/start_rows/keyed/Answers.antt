@@ -1,7 +1,0 @@
-use Rattle.std.proofs.Common.{◌≡◌, Bool, true, ◌&&◌, Some, refl, ap, ◌∙◌}
-use Rattle.s3_lines.specs.Ranges.{file_in_range, is_named}
-use Rattle.s3_lines.specs.declared.sheet.FileLine.{FileLine}
-use Rattle.s3_opening_tests.proofs.start_rows.keyed.Goals as goal
-
-pub returns : goal.returns
-returns c = ap (λ (l : FileLine). file_in_range (record l { is_keyed = true; is_indexed = true; key = Some (record { length = 2; start = 3 }) })) c.line.ensures.value ∙ ap (λ (b : Bool). (((((b && true) && true) && true) && true) && true) && true) c.requires

@@ -1,0 +1,2 @@
+mod OneTrack
+mod Opening

@@ -1,0 +1,7 @@
+//! Tests that cross crates, as tables of rows.
+
+mod decimal_rows;
+mod edit_rows;
+mod pack_rows;
+mod pool_rows;
+mod store_rows;
