@@ -83,24 +83,29 @@ still_accepted sectors bytes h =
 room_of : (old : List ℕ) (header : Header) → mounted (contents_of old) ≡ Ok header → 168 ≤ length old / 256
 room_of old header m = let is = header_of (contents_of old) header m in let last = seen_sector old 167 (omega (arith, is.room)) in omega (arith, last.1)
 
+-- over any contents, of which the first sector is what is said of it
+module _ (old new : List (List ℕ)) (was now : List ℕ) (header : Header) where
+  still_migrated : mounted old ≡ Ok header → header.format ≡ First → length new ≡ length old → sector_bytes old 0 ≡ was → sector_bytes new 0 ≡ now
+      → (format_in was ≡ Some First → format_in now ≡ Some Second) → (format_in was ≡ Some First → header_in Second now ≡ in_second (header_in First was)) → mounted new ≡ Ok (in_second header)
+  still_migrated m first count before behind format_now header_now =
+      let is = header_of old header m in
+      let read : header ≡ header_in First was = is.read ∙ ap (λ f. header_in f (sector_bytes old 0)) first ∙ ap (header_in First) before in
+      let format : format_in was ≡ Some First = sym (ap format_in before) ∙ is.format ∙ ap Some first in
+      let accepts = still_accepted (length old) was (subst (λ (h : Header). accepted (length old) (Some h) ≡ Ok h) read (mounted_itself old header m)) in
+      let second : accepted (length old) (Some (in_second header)) ≡ Ok (in_second header) = subst (λ (h : Header). accepted (length old) (Some (in_second h)) ≡ Ok (in_second h)) (sym read) accepts in
+      still_mounted (nat_lt (length new) 168) (length new) (sector_bytes new 0) (format_in (sector_bytes new 0)) (in_second header)
+      (le-ltb (length new) 168 (omega (arith, is.room, count)))
+      (ap format_in behind ∙ format_now format)
+      (ap (header_in Second) behind ∙ header_now format ∙ sym (ap in_second read))
+      (ap (λ n. accepted n (Some (in_second header))) count ∙ second)
+
 pub mounted_migrated : (old : List ℕ) (header : Header) → mounted (contents_of old) ≡ Ok header → header.format ≡ First → mounted (contents_of (migrated_bytes 0 old)) ≡ Ok (in_second header)
 mounted_migrated old header m first =
-    let is = header_of (contents_of old) header m in
     let room = room_of old header m in
     let long : 256 ≤ length old = omega (arith, room) in
-    let count = count_kept old in
-    let was : sector_bytes (contents_of old) 0 ≡ part old 0 256 = sector_here old 0 (omega arith) (omega (arith, room)) in
-    let now : sector_bytes (contents_of (migrated_bytes 0 old)) 0 ≡ part (migrated_bytes 0 old) 0 256 = sector_here (migrated_bytes 0 old) 0 (omega arith) (omega (arith, room, length_migrated 0 old)) in
-    let read : header ≡ header_in First (part old 0 256) = is.read ∙ ap (λ f. header_in f (sector_bytes (contents_of old) 0)) first ∙ ap (header_in First) was in
-    let format : format_in (part old 0 256) ≡ Some First = sym (ap format_in was) ∙ is.format ∙ ap Some first in
-    let accepts = still_accepted (length (contents_of old)) (part old 0 256) (subst (λ (h : Header). accepted (length (contents_of old)) (Some h) ≡ Ok h) read (mounted_itself (contents_of old) header m)) in
-    let second : accepted (length (contents_of old)) (Some (in_second header)) ≡ Ok (in_second header) = subst (λ (h : Header). accepted (length (contents_of old)) (Some (in_second h)) ≡ Ok (in_second h)) (sym read) accepts in
-    still_mounted (nat_lt (length (contents_of (migrated_bytes 0 old))) 168) (length (contents_of (migrated_bytes 0 old))) (sector_bytes (contents_of (migrated_bytes 0 old)) 0)
-    (format_in (sector_bytes (contents_of (migrated_bytes 0 old)) 0)) (in_second header)
-    (le-ltb (length (contents_of (migrated_bytes 0 old))) 168 (omega (arith, is.room, count)))
-    (ap format_in now ∙ format_migrated old long format)
-    (ap (header_in Second) now ∙ header_migrated old long format ∙ sym (ap in_second read))
-    (ap (λ n. accepted n (Some (in_second header))) count ∙ second)
+    still_migrated (contents_of old) (contents_of (migrated_bytes 0 old)) (part old 0 256) (part (migrated_bytes 0 old) 0 256) header m first (count_kept old)
+    (sector_here old 0 (omega arith) (omega (arith, room))) (sector_here (migrated_bytes 0 old) 0 (omega arith) (omega (arith, room, length_migrated 0 old)))
+    (format_migrated old long) (header_migrated old long)
 
 -- ---- its slots
 like_one : (new old a b : List ℕ) → new ≡ a → old ≡ b → IsOfOne a b → IsOfOne new old

@@ -1,4 +1,5 @@
 use Rattle.std.proofs.Common.{◌++◌, ◌∷◌, [], Ok, sym, ap, ◌∙◌, arith}
+use Rattle.s3_store.proofs.Frames.{within_from_keeps, within_trans}
 use Rattle.s3_files.proofs.RecordLemmas.{length_records}
 use Rattle.s3_keyed.specs.KeyOrder.{number_of}
 use Rattle.s3_keyed.specs.Inner.Shape.{layout_in, bytes_in}
@@ -30,3 +31,9 @@ returns-clause-added g c =
     (c.in_ok-place.ensures.place ∙ is_none c.in_ok-place.field-0 (sym c.is_some.ensures ∙ c.if-is_some.false))
     (omega (arith, length_records self.file.file.record_length self.count (bytes_in self.file contents), differs, counted))
     ∙ ap Ok (sym (c.in_ok-append_added.ensures.ok ∙ ap (λ l. records_now (shown self) l ++ c.args.bytes.now ∷ []) c.place.ensures.keeps.contents))
+
+pub returns-in_err-append_added-clause-within : goal.returns-in_err-append_added-clause-within
+returns-in_err-append_added-clause-within g c = within_trans _ _ (g.P.Sectors.state c.place.new.pool) _ (within_from_keeps _ _ _ c.place.ensures.keeps) c.append_added.ensures.within
+
+pub returns-clause-within : goal.returns-clause-within
+returns-clause-within g c = within_trans _ _ (g.P.Sectors.state c.place.new.pool) _ (within_from_keeps _ _ _ c.place.ensures.keeps) c.append_added.ensures.within

@@ -41,3 +41,6 @@ returns-clause-ordered g c =
     (appended_indexed (layout_in self.file) self.file.file.count self.indexed self.count (256 ^ self.file.key_length) (number_of c.args.key.bytes) old middle new (map entry_of self.added.items) c.args.bytes.now
     c.requires.ordered c.requires.none_added c.requires.above c.in_ok-write_entry.ensures.ok c.write_entry.ensures.others (same_records (layout_in self.file) old middle self.count self.indexed self.counted c.write_entry.ensures.outside)
     c.write_record.ensures.outside c.in_ok-write_record.ensures.ok c.write_record.ensures.records c.requires.key)
+
+pub returns-clause-within : goal.returns-clause-within
+returns-clause-within g c = within_trans (Contains c.args.self.now.file.file.sectors) _ _ _ c.write_entry.ensures.within c.write_record.ensures.within

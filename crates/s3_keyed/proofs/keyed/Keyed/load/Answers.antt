@@ -1,4 +1,5 @@
 use Rattle.std.proofs.Common.{◌++◌, ◌∷◌, [], Ok, sym, ap, ◌∙◌, arith}
+use Rattle.s3_store.proofs.Frames.{within_from_keeps, within_trans}
 use Rattle.s3_files.proofs.RecordLemmas.{length_records}
 use Rattle.s3_keyed.specs.KeyOrder.{number_of}
 use Rattle.s3_keyed.specs.Calls.{place_of_key}
@@ -45,3 +46,15 @@ returns-clause-loaded g c =
     loaded_made (layout_in self.file).key self.file.file.capacity c.args.bytes.now (records_now (shown self) contents) (number_of c.key_in-key.result.bytes) c.key_in-key.ensures.key (c.in_ok-is_above_all.ensures.above ∙ c.if-not-branch.false)
     (omega (arith, length_records self.file.file.record_length self.count (bytes_in self.file contents), differs, counted))
     ∙ ap Ok (sym (c.in_ok-append_added.ensures.ok ∙ ap (λ l. records_now (shown self) l ++ c.args.bytes.now ∷ []) c.is_above_all.ensures.keeps.contents))
+
+pub returns-in_err-append_indexed-clause-within : goal.returns-in_err-append_indexed-clause-within
+returns-in_err-append_indexed-clause-within g c = within_trans _ _ (g.P.Sectors.state c.is_above_all.new.pool) _ (within_from_keeps _ _ _ c.is_above_all.ensures.keeps) c.append_indexed.ensures.within
+
+pub returns-then-is_empty-clause-within : goal.returns-then-is_empty-clause-within
+returns-then-is_empty-clause-within g c = within_trans _ _ (g.P.Sectors.state c.is_above_all.new.pool) _ (within_from_keeps _ _ _ c.is_above_all.ensures.keeps) c.append_indexed.ensures.within
+
+pub returns-in_err-append_added-clause-within : goal.returns-in_err-append_added-clause-within
+returns-in_err-append_added-clause-within g c = within_trans _ _ (g.P.Sectors.state c.is_above_all.new.pool) _ (within_from_keeps _ _ _ c.is_above_all.ensures.keeps) c.append_added.ensures.within
+
+pub returns-clause-within : goal.returns-clause-within
+returns-clause-within g c = within_trans _ _ (g.P.Sectors.state c.is_above_all.new.pool) _ (within_from_keeps _ _ _ c.is_above_all.ensures.keeps) c.append_added.ensures.within
