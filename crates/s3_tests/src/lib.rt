@@ -1,4 +1,4 @@
-//! Tests that cross crates, by what they call: lowest layer first.
+//! Tests that cross crates, by what they call.
 
 #![tactic(auto)]
 
