@@ -13,7 +13,7 @@ use Rattle.s3_labels.proofs.Changes.{header_with}
 use Rattle.s3_labels.proofs.Regions.{accepted_placed, ready_region}
 use Rattle.s3_job_files.specs.Holds.{IsOutOfReach, seen}
 use Rattle.s3_job_files.proofs.Staying.{SeesSame, ready_over as files_ready_over}
-use Rattle.s3_spool.specs.Queues.{Blocks, IsFreeSector, block_sector, queue_of, quota_of}
+use Rattle.s3_spool.specs.Queues.{Blocks, IsFreeSector, block_sector, blocks_of, lines_in, queue_of, quota_of}
 use Rattle.s3_spool.proofs.QueueLemmas.{SameBlocks, same_queue}
 use Rattle.s3_solo.specs.World.{World}
 use Rattle.s3_solo.specs.declared.action.Did.{Did}
@@ -194,11 +194,11 @@ spares_put level areas blocks after s t pack within queue quotas are = record {
 -- a line that is taken
 pub spares_taken : (level : LevelId) (areas : Areas) (blocks after : Blocks) (s t : PoolState) → IsPackReady areas s.contents
     → KeepsContents s t
-    → queue_of (other level) after t.contents ≡ queue_of (other level) blocks s.contents
+    → blocks_of (other level) after ≡ blocks_of (other level) blocks
     → ((one_or_two : LevelId) → quota_of one_or_two after ≡ quota_of one_or_two blocks)
     → AreAll after
     → Spares level (around areas s blocks) (around areas t after)
-spares_taken level areas blocks after s t pack keeps queue quotas are = record {
+spares_taken level areas blocks after s t pack keeps same quotas are = record {
   pack = subst (IsPackReady areas) (sym keeps.contents) pack;
   areas = same_slots level;
   sectors = record {
@@ -206,7 +206,7 @@ spares_taken level areas blocks after s t pack keeps queue quotas are = record {
     contents = λ n beyond. ap (λ (c : List (List ℕ)). slice_get c n) keeps.contents;
     stored = λ n beyond in_step. stays n in_step (keeps.stored.each n);
   };
-  queue = queue;
+  queue = ap (λ own. lines_in own t.contents) same ∙ ap (lines_in (blocks_of (other level) blocks)) keeps.contents;
   quotas = quotas;
   blocks = are;
 }

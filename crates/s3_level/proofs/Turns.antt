@@ -1,5 +1,5 @@
 -- A turn: what each pending request makes of it.
-use Rattle.std.proofs.Common.{◌≡◌, ℕ, List, refl, sym, ◌∙◌, ap, subst, Bool, true, false, if◌then◌else◌, Option, Some, None, Result, Ok, Err, IfOk, OnOk}
+use Rattle.std.proofs.Common.{◌≡◌, ◌≢◌, ℕ, List, refl, sym, ◌∙◌, ap, subst, Bool, true, false, if◌then◌else◌, Option, Some, None, Result, Ok, Err, IfOk, OnOk}
 use Rattle.std.proofs.lemmas.Option.{none-some}
 use Rattle.s3_meaning.specs.Requests.{Request, Card, Print, Jump, End}
 use Rattle.s3_meaning.specs.Output.{filled}
@@ -124,6 +124,20 @@ is_to_file (asks.Print page line) = false
 is_to_file asks.Jump = false
 is_to_file (asks.Ask code) = false
 is_to_file (asks.End at_once) = false
+
+-- what is none of the others is one to a file
+pub is_left_for_files : (request : code.Request) → request ≢ asks.Card → ((page line : ℕ) → request ≢ asks.Print page line) → request ≢ asks.Jump → ((code : HaltCode) → request ≢ asks.Ask code)
+    → ((at_once : Bool) → request ≢ asks.End at_once) → is_to_file request ≡ true
+is_left_for_files (asks.Read file size) card print jump ask end = refl
+is_left_for_files (asks.Chain file size sought) card print jump ask end = refl
+is_left_for_files (asks.Append file) card print jump ask end = refl
+is_left_for_files (asks.Add file) card print jump ask end = refl
+is_left_for_files (asks.Update file current) card print jump ask end = refl
+is_left_for_files asks.Card card print jump ask end = absurd (card refl)
+is_left_for_files (asks.Print page line) card print jump ask end = absurd (print page line refl)
+is_left_for_files asks.Jump card print jump ask end = absurd (jump refl)
+is_left_for_files (asks.Ask code) card print jump ask end = absurd (ask code refl)
+is_left_for_files (asks.End at_once) card print jump ask end = absurd (end at_once refl)
 
 -- one to a file is served by the files of the job
 file_outcome : (request : code.Request) (c : Stepper) → asked c ≡ request → is_to_file request ≡ true → (job : JobAtWork) (w : World) → pending job w ≡ waits c → served (waits c) job w ≡ on_files job w

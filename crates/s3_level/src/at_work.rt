@@ -27,7 +27,7 @@ impl Level {
     ghost use Rattle.s3_level.specs.Inner.Turning.{Pends, request_by, waits_by, FitsJob, Comes, AtWorkBecomes, Serves, Turns};
 
     /// Performs the pending request of the job at work, or begins the next job.
-    #[tactic(auto, using(crate::proofs::Beside::spares_files, crate::proofs::Beside::spares_none, crate::proofs::Turns::none_open, crate::proofs::Turns::halted_turn))]
+    #[tactic(auto, using(crate::proofs::Turns::none_open, crate::proofs::Turns::halted_turn))]
     pub(crate) fn step<P: Sectors>(
         &mut self,
         pack: &mut Pack<P>,
@@ -48,22 +48,21 @@ impl Level {
         if self.halts.is_waiting() {
             return Ok(Did::Idle);
         }
-        match self.pending() {
-            None => self.begin(pack),
-            Some(Request::Card) => self.read_card(pack),
-            Some(Request::Print { page, line }) => {
+        let Some(request) = self.pending() else {
+            return self.begin(pack);
+        };
+        match request {
+            Request::Card => self.read_card(pack),
+            Request::Print { page, line } => {
                 let page = *page;
                 let line = *line;
                 self.print(page, line, pack, spool)
             }
-            Some(Request::Jump) => self.jump(pack),
-            Some(Request::End { .. }) => self.end(pack),
-            Some(Request::Ask(_)) => Ok(Did::Idle),
-            Some(Request::Read { .. }) => self.serve_file(pack),
-            Some(Request::Chain { .. }) => self.serve_file(pack),
-            Some(Request::Append { .. }) => self.serve_file(pack),
-            Some(Request::Add { .. }) => self.serve_file(pack),
-            Some(Request::Update { .. }) => self.serve_file(pack),
+            Request::Jump => self.jump(pack),
+            Request::End { .. } => self.end(pack),
+            Request::Ask(_) => Ok(Did::Idle),
+            // those to files
+            _ => self.serve_file(pack),
         }
     }
 
