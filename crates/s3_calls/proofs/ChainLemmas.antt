@@ -1,9 +1,10 @@
 -- Chains of calls: which calls have so many before them, and that a call in a circle has any number before it.
-use Rattle.std.proofs.Common.{◌≡◌, ℕ, ◌<◌, List, [], ◌∷◌, get_or, length, Bool, true, false, cond, ◌||◌, ◌&&◌, refl, sym, ◌∙◌, ap, arith, zero, suc, ◌+◌, nat_eq, filter, inl, inr}
+use Rattle.std.proofs.Common.{◌≡◌, ℕ, ◌<◌, List, [], ◌∷◌, ◌++◌, take, get_or, length, Bool, true, false, cond, ◌||◌, ◌&&◌, refl, sym, ◌∙◌, ap, arith, zero, suc, ◌+◌, nat_eq, filter, inl, inr}
 use Rattle.std.specs.Prelude.{Option, Some, None}
 use Rattle.std.specs.List.{list_any}
 use Rattle.std.proofs.lemmas.Bool.{and_parts, and_from, false≢true, eqb-true, eq-eqb, or_cases, cond-false, false_from_ne_true}
-use Rattle.std.proofs.lemmas.List.Elements.{filter_agree}
+use Rattle.std.proofs.lemmas.List.{append-nil}
+use Rattle.std.proofs.lemmas.List.Elements.{filter_agree, filter_more}
 use Rattle.std.proofs.lemmas.List.Folds.{Any-from_list_any, list_any-from_Any}
 use Rattle.s3_program.specs.declared.call.Call.{Call}
 use Rattle.s3_program.specs.Jumps.{is_place, ends_chain, reaches}
@@ -54,6 +55,19 @@ kept_twice {X} more less so (x ∷ xs) = step (more x) (so x) (kept_twice more l
         → filter less (cond kept (x ∷ filter more xs) (filter more xs)) ≡ cond (less x) (x ∷ filter less xs) (filter less xs)
     step true here later = ap (λ ys. cond (less x) (x ∷ ys) ys) later
     step false here later = later ∙ sym (cond-false (less x) _ _ (false_from_ne_true (less x) (λ passes. false≢true (here passes))))
+
+pub passes_one : {X : Type 0} (keeps : X → Bool) (xs old new : List X) (i : ℕ) (d : X) → i < length xs → old ≡ filter keeps (take i xs) → keeps (get_or xs i d) ≡ true → new ≡ old ++ (get_or xs i d ∷ [])
+    → new ≡ filter keeps (take (i + 1) xs)
+passes_one {X} keeps xs old new i d within so_far passes is =
+    is
+    ∙ (ap (λ (ys : List X). ys ++ (get_or xs i d ∷ [])) so_far
+    ∙ (ap (λ b. filter keeps (take i xs) ++ cond b (get_or xs i d ∷ []) []) (sym passes) ∙ sym (filter_more keeps xs i d within)))
+
+pub passes_none : {X : Type 0} (keeps : X → Bool) (xs old : List X) (i : ℕ) (d : X) → i < length xs → old ≡ filter keeps (take i xs) → keeps (get_or xs i d) ≡ false → old ≡ filter keeps (take (i + 1) xs)
+passes_none keeps xs old i d within so_far fails =
+    so_far
+    ∙ (sym (append-nil (filter keeps (take i xs)))
+    ∙ (ap (λ b. filter keeps (take i xs) ++ cond b (get_or xs i d ∷ []) []) (sym fails) ∙ sym (filter_more keeps xs i d within)))
 
 -- ---- one call more
 pub within_same : (subroutines others : ℕ → Bool) → ((subroutine : ℕ) → subroutines subroutine ≡ others subroutine) → (calls : List Call)

@@ -1,8 +1,9 @@
 -- A search back from a subroutine: what each level of it reaches.
-use Rattle.std.proofs.Common.{◌≡◌, ℕ, ◌≤◌, ◌-◌, List, [], ◌∷◌, length, Bool, true, false, ◌||◌, ◌&&◌, not, refl, sym, ◌∙◌, ap, arith, zero, suc, ◌+◌, nat_eq, subst, inl, inr, Vec}
+use Rattle.std.proofs.Common.{◌≡◌, ℕ, ◌≤◌, ◌<◌, ◌-◌, List, [], ◌∷◌, ◌++◌, length, take, get_or, Bool, true, false, ◌||◌, ◌&&◌, not, refl, sym, ◌∙◌, ap, arith, zero, suc, ◌+◌, nat_eq, subst, inl, inr, Vec}
 use Rattle.std.specs.List.{list_any, flat_map}
 use Rattle.std.proofs.Math.Path.{fun_ext}
 use Rattle.std.proofs.lemmas.Bool.{and_parts, and_from, or_cases, or_left, or_right, cases_Bool, eqb-true, eq-eqb}
+use Rattle.std.proofs.lemmas.List.{take_more, flat_map_more}
 use Rattle.std.proofs.lemmas.List.Folds.{Any-from_list_any, list_any-from_Any, list_any-append}
 use Rattle.indexmap.specs.IndexMap.{IndexMap}
 use Rattle.indexmap.specs.IndexSet.{IndexSet, contains}
@@ -39,6 +40,42 @@ adds_nothing set list = record {
     nothing true o = refl
     nothing false true = refl
     nothing false false = refl
+
+or_joined : (o x y : Bool) → ((o || x) || y) ≡ (o || (x || y))
+or_joined true x y = refl
+or_joined false x y = refl
+
+fresh_joined : (b o x y : Bool) → ((b || (not o && x)) || (not (o || x) && y)) ≡ (b || (not o && (x || y)))
+fresh_joined true o x y = refl
+fresh_joined false true x y = refl
+fresh_joined false false true y = refl
+fresh_joined false false false y = refl
+
+adds_joined : {S : Type 0} (old mid new : IndexSet ℕ S) (before between after xs ys : List ℕ) → Adds old mid before between xs → Adds mid new between after ys → Adds old new before after (xs ++ ys)
+adds_joined old mid new before between after xs ys first second = record {
+  all = λ subroutine.
+      second.all subroutine
+      ∙ (ap (λ b. b || list_any (nat_eq subroutine) ys) (first.all subroutine)
+      ∙ (or_joined (contains nat_eq old subroutine) (list_any (nat_eq subroutine) xs) (list_any (nat_eq subroutine) ys)
+      ∙ ap (λ b. contains nat_eq old subroutine || b) (sym (list_any-append (nat_eq subroutine) xs ys))));
+  fresh = λ subroutine.
+      second.fresh subroutine
+      ∙ (ap (λ b. b || (not (contains nat_eq mid subroutine) && list_any (nat_eq subroutine) ys)) (first.fresh subroutine)
+      ∙ (ap (λ b. (list_any (nat_eq subroutine) before || (not (contains nat_eq old subroutine) && list_any (nat_eq subroutine) xs)) || (not b && list_any (nat_eq subroutine) ys)) (first.all subroutine)
+      ∙ (fresh_joined (list_any (nat_eq subroutine) before) (contains nat_eq old subroutine) (list_any (nat_eq subroutine) xs) (list_any (nat_eq subroutine) ys)
+      ∙ ap (λ b. list_any (nat_eq subroutine) before || (not (contains nat_eq old subroutine) && b)) (sym (list_any-append (nat_eq subroutine) xs ys)))));
+}
+
+pub adds_more : {S : Type 0} (old mid new : IndexSet ℕ S) (before between after xs : List ℕ) (i : ℕ) → i < length xs
+    → Adds old mid before between (take i xs) → Adds mid new between after (get_or xs i 0 ∷ []) → Adds old new before after (take (i + 1) xs)
+adds_more old mid new before between after xs i within first second =
+    subst (λ (added : List ℕ). Adds old new before after added) (sym (take_more xs i 0 within)) (adds_joined old mid new before between after (take i xs) (get_or xs i 0 ∷ []) first second)
+
+pub adds_flat : {S : Type 0} (f : ℕ → List ℕ) (old mid new : IndexSet ℕ S) (before between after xs here : List ℕ) (i : ℕ) → i < length xs → here ≡ f (get_or xs i 0)
+    → Adds old mid before between (flat_map f (take i xs)) → Adds mid new between after here → Adds old new before after (flat_map f (take (i + 1) xs))
+adds_flat f old mid new before between after xs here i within is first second =
+    subst (λ (added : List ℕ). Adds old new before after added) (flat_map_more f [] (take i xs) (get_or xs i 0) ∙ ap (λ (ys : List ℕ). flat_map f ys) (sym (take_more xs i 0 within)))
+    (adds_joined old mid new before between after (flat_map f (take i xs)) (f (get_or xs i 0)) first (subst (λ (added : List ℕ). Adds mid new between after added) is second))
 
 -- ---- chains
 itself : (calls : List Call) (n from to : ℕ) → nat_eq from to ≡ true → reaches calls n from to ≡ true

@@ -1,6 +1,6 @@
 -- CHAIN: what it asks for, and what follows where no record is found.
 use Rattle.std.proofs.Common.{◌≡◌, ℕ, suc, ◌<◌, arith, ℤ, get_or, List, [], ◌∷◌, Bool, true, false, length, refl, sym, ap, ◌∙◌, subst}
-use Rattle.std.specs.Prelude.{Option, Some, None, slice_get, unwrap_or, if◌then◌else◌}
+use Rattle.std.specs.Prelude.{Option, Some, None, slice_get, unwrap_or, vec_len, if◌then◌else◌}
 use Rattle.std.specs.List.{list_all}
 use Rattle.std.proofs.lemmas.Bool.{and_parts}
 use Rattle.std.proofs.lemmas.Option.{slice_get_read, slice_get-get_or, unwrap_or-slice_get}
@@ -60,6 +60,9 @@ pub chain_settable : (p : Program) (place : ℕ) (line : CalculationLine Referen
 chain_settable p place line there bears = first_settable line.indicators (brings p line op.Chain (record { place = place; there = there; bears = bears }) refl).settable
 
 -- ---- its file
+pub file_within : (p : Program) (file : ℕ) → file < length p.files.items → file < vec_len p.files
+file_within p file within = omega (arith, within, p.files.ok.0)
+
 pub file_is : (p : Program) (file : ℕ) (f : FileLine) → file < length p.files.items → f ≡ get_or p.files.items file f → file_at p file ≡ f
 file_is p file f within found = ap (λ (o : Option FileLine). unwrap_or o no_file) (slice_get_read p.files.items (length p.files.items) file f refl within found)
 

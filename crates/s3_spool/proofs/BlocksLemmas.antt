@@ -5,7 +5,7 @@ use Rattle.std.specs.List.{range_with_len}
 use Rattle.std.proofs.lemmas.List.FromFn.{length-range_with_len}
 use Rattle.std.proofs.Math.Seq.{take-append_seam}
 use Rattle.std.proofs.lemmas.List.{take_all}
-use Rattle.circular_buffer.specs.Buffer.{keep_last}
+use Rattle.circular_buffer.specs.Buffer.{Buffer, buffer, keep_last}
 use Rattle.s3_store.specs.Bytes.{sector_bytes}
 use Rattle.s3_store.proofs.SectorLists.{slice_get_set_same, slice_get_set_other}
 use Rattle.s3_store.proofs.Frames.{within_weaker}
@@ -151,6 +151,39 @@ kept_all n b xs room =
 
 pub kept_all_behind : (n b : ℕ) (xs : List ℕ) → length xs < n → take n (b ∷ xs) ≡ b ∷ xs
 kept_all_behind n b xs room = take_all n (b ∷ xs) (omega arith)
+
+-- the rings that a spool has
+abbrev pub AreRings : (free one two : Buffer ℕ) → Type 0
+AreRings free one two = (free.capacity ≡ 128)
+    × ((one.capacity + two.capacity ≤ 128)
+    × ((length one.items ≤ one.capacity)
+    × ((length two.items ≤ two.capacity) × AreBlocks free.items one.items two.items)))
+
+abbrev rings_seen : (free one two : Buffer ℕ) → Blocks
+rings_seen free one two = record { free = free.items; one = one.items; two = two.items; quota_one = one.capacity; quota_two = two.capacity }
+
+-- a free ring has room for a block that a level gives back
+pub kept_front : (level : LevelId) (free one two : Buffer ℕ) (b : ℕ) → slice_get (blocks_of level (rings_seen free one two)) 0 ≡ Some b → AreRings free one two
+    → take free.capacity (b ∷ free.items) ≡ b ∷ free.items
+kept_front One free one two b first are =
+    let blocks : AreBlocks free.items one.items two.items = are.1.1.1.1 in
+    kept_all_behind free.capacity b free.items (omega (arith, are.0, blocks.count, length-rest one.items b first))
+kept_front Two free one two b first are =
+    let blocks : AreBlocks free.items one.items two.items = are.1.1.1.1 in
+    kept_all_behind free.capacity b free.items (omega (arith, are.0, blocks.count, length-rest two.items b first))
+
+-- the rings where a level's first block becomes the first free one
+pub taken_from_one : (free one two : Buffer ℕ) (b : ℕ) → slice_get one.items 0 ≡ Some b → AreRings free one two
+    → AreRings (buffer (take free.capacity (b ∷ free.items)) free.capacity) (buffer (drop 1 one.items) one.capacity) two
+taken_from_one free one two b first are =
+    rw (kept_front One free one two b first are)
+    (are.0, (are.1.0, (omega (arith, are.1.1.0, length-rest one.items b first), (are.1.1.1.0, back_from_one free.items one.items two.items b first are.1.1.1.1))))
+
+pub taken_from_two : (free one two : Buffer ℕ) (b : ℕ) → slice_get two.items 0 ≡ Some b → AreRings free one two
+    → AreRings (buffer (take free.capacity (b ∷ free.items)) free.capacity) one (buffer (drop 1 two.items) two.capacity)
+taken_from_two free one two b first are =
+    rw (kept_front Two free one two b first are)
+    (are.0, (are.1.0, (are.1.1.0, (omega (arith, are.1.1.1.0, length-rest two.items b first), back_from_two free.items one.items two.items b first are.1.1.1.1))))
 
 -- ---- the lines in blocks
 kept_sector : (contents : List (List ℕ)) (n m : ℕ) (bytes : List ℕ) → m ≢ n → sector_bytes (slice_set contents n bytes) m ≡ sector_bytes contents m

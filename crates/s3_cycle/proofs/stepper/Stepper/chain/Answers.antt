@@ -2,18 +2,75 @@ use Rattle.std.proofs.Common.{ap, sym, ◌∙◌}
 use Rattle.std.specs.Prelude.{slice_get}
 use Rattle.s3_lines.specs.declared.sheet.FileLine.{FileLine}
 use Rattle.s3_lines.specs.declared.sheet.CalculationLine.{CalculationLine}
+use Rattle.s3_lines.specs.declared.sheet.Operation.TheVariants as op
 use Rattle.s3_meaning.specs.Calculating.{forgotten}
 use Rattle.s3_meaning.specs.Output.{is_served}
 use Rattle.s3_program.specs.declared.program.Program.{Program}
 use Rattle.s3_program.specs.declared.program.Reference.{Reference}
 use Rattle.s3_match.specs.Types.{name_of_file}
 use Rattle.s3_cycle.specs.Inner.Environment.{environment, others}
-use Rattle.s3_cycle.specs.Inner.Going.{held_by}
-use Rattle.s3_cycle.proofs.GoingLemmas.{changed_program}
+use Rattle.s3_cycle.specs.Inner.Going.{CanCalculate, IsLineAt, held_by}
+use Rattle.s3_cycle.proofs.GoingLemmas.{changed_running, changed_stays, changed_program}
 use Rattle.s3_cycle.proofs.CourseLemmas.{moved_behind}
-use Rattle.s3_cycle.proofs.CalculatingLemmas.{with_course, line_read}
-use Rattle.s3_cycle.proofs.ChainingLemmas.{file_is, chains_missing, chains_waiting}
+use Rattle.s3_cycle.proofs.CalculatingLemmas.{with_course, line_read, performed_line, performed_within, performed_fits, performed_behind, moved_running}
+use Rattle.s3_cycle.proofs.ChainingLemmas.{file_within, file_is, chains_missing, chains_waiting}
 use Rattle.s3_cycle.proofs.stepper.Stepper.chain.Goals as goal
+
+pub overflow_add-place : goal.overflow_add-place
+overflow_add-place c = performed_fits c.args.self.now c.args.place _ c.requires
+
+pub index-requires : goal.index-requires
+index-requires c = performed_within c.args.self.now c.args.place _ c.requires
+
+pub chained_file-file-requires : goal.chained_file-file-requires
+chained_file-file-requires c = performed_line c.args.self.now c.args.place _ c.index.result.now c.requires c.index.ensures
+
+pub index-requires-2 : goal.index-requires-2
+index-requires-2 c = file_within c.args.self.now.program c.chained_file-file.result c.chained_file-file.ensures.within
+
+pub index-requires-3 : goal.index-requires-3
+index-requires-3 c = file_within c.args.self.now.program c.chained_file-file.result c.chained_file-file.ensures.within
+
+pub sought-requires-clause-running : goal.sought-requires-clause-running
+sought-requires-clause-running c =
+    let s = c.args.self.now in
+    moved_running s s.state c.move_to.new.self c.requires.running c.requires.running.state
+
+pub sought-requires-clause-chain : goal.sought-requires-clause-chain
+sought-requires-clause-chain c =
+    let s = c.args.self.now in
+    let line = line_read s.program c.args.place c.requires.next.line c.index.result.now c.requires.next.there c.index.ensures in
+    record {
+      line = c.requires.next.line;
+      there = c.requires.next.there;
+      operation = c.requires.bears;
+      names = ap (λ (l : CalculationLine Reference). l.factor2) (sym line) ∙ c.chained_file-file.ensures.names;
+      within = c.chained_file-file.ensures.within;
+    }
+
+pub forget-requires-clause-sound : goal.forget-requires-clause-sound
+forget-requires-clause-sound c = c.requires.running.state
+
+pub forget-requires-clause-within : goal.forget-requires-clause-within
+forget-requires-clause-within c = c.chained_file-file.ensures.within
+
+pub miss-requires-clause-running : goal.miss-requires-clause-running
+miss-requires-clause-running c =
+    let s = c.args.self.now in
+    changed_running (with_course s s.state c.move_to.new.self) c.forget.new.self (λ source. forgotten source (name_of_file s.program c.chained_file-file.result)) c.forget.ensures
+    (moved_running s s.state c.move_to.new.self c.requires.running c.requires.running.state)
+
+pub miss-requires-clause-calculates : goal.miss-requires-clause-calculates
+miss-requires-clause-calculates c =
+    let s = c.args.self.now in
+    changed_stays (λ p progress. CanCalculate p progress) (with_course s s.state c.move_to.new.self) c.forget.new.self (λ source. forgotten source (name_of_file s.program c.chained_file-file.result)) c.forget.ensures
+    (performed_behind s c.move_to.new.self c.args.place _ c.requires (moved_behind s.progress.course c.move_to.new.self c.args.place c.move_to.ensures.here c.move_to.ensures.returns))
+
+pub miss-requires-clause-chain : goal.miss-requires-clause-chain
+miss-requires-clause-chain c =
+    let s = c.args.self.now in
+    changed_stays (λ p progress. IsLineAt p c.args.place op.Chain) (with_course s s.state c.move_to.new.self) c.forget.new.self (λ source. forgotten source (name_of_file s.program c.chained_file-file.result)) c.forget.ensures
+    (record { line = c.requires.next.line; there = c.requires.next.there; operation = c.requires.bears })
 
 pub returns-then-not-is_served : goal.returns-then-not-is_served
 unfolding environment

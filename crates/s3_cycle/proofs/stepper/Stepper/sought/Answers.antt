@@ -14,9 +14,24 @@ use Rattle.s3_cycle.specs.declared.request.Sought.TheVariants.{Key, RecordNumber
 use Rattle.s3_cycle.specs.Requests.{IsSoughtBy}
 use Rattle.s3_cycle.specs.Inner.Environment.{environment, others}
 use Rattle.s3_cycle.specs.Inner.Going.{own, held_by}
-use Rattle.s3_cycle.proofs.CalculatingLemmas.{line_read}
-use Rattle.s3_cycle.proofs.ChainingLemmas.{file_is, line_of, sought_read, key_sought, seeks_key, seeks_number}
+use Rattle.s3_cycle.proofs.CalculatingLemmas.{line_read, place_within}
+use Rattle.s3_cycle.proofs.ChainingLemmas.{file_within, file_is, line_of, sought_read, key_sought, seeks_key, seeks_number}
 use Rattle.s3_cycle.proofs.stepper.Stepper.sought.Goals as goal
+
+pub index-line-requires : goal.index-line-requires
+index-line-requires c = place_within c.args.self.now.program c.args.place c.requires.chain.line c.requires.chain.there
+
+pub index-requires : goal.index-requires
+index-requires c = file_within c.args.self.now.program c.args.file c.requires.chain.within
+
+pub key-requires-clause-sound : goal.key-requires-clause-sound
+key-requires-clause-sound c = c.requires.running.state.values
+
+pub key-requires-clause-line : goal.key-requires-clause-line
+key-requires-clause-line c = line_of c.args.self.now.program c.args.place c.args.file c.index-line.result.now c.requires.chain c.index-line.ensures
+
+pub record_number-requires-clause-sound : goal.record_number-requires-clause-sound
+record_number-requires-clause-sound c = c.requires.running.state.values
 
 pub key-requires-clause-keyed : goal.key-requires-clause-keyed
 key-requires-clause-keyed c =
