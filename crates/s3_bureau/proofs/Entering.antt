@@ -1,5 +1,5 @@
 -- An entry in one of the two levels, and what a step says of it.
-use Rattle.std.proofs.Common.{◌≡◌, true, Result, Ok, Err, refl, sym, subst, ◌∙◌}
+use Rattle.std.proofs.Common.{◌≡◌, true, Result, Ok, Err, refl, sym, ap, subst, ◌∙◌}
 use Rattle.s3_cards.specs.Levels.{other}
 use Rattle.s3_cards.specs.declared.levels.LevelId.{LevelId}
 use Rattle.s3_cards.specs.declared.levels.LevelId.TheVariants.{One, Two}
@@ -13,10 +13,10 @@ use Rattle.s3_solo.specs.declared.action.Did.{Did}
 use Rattle.s3_solo.specs.Solo.{closed}
 use Rattle.s3_solo.specs.World.{World}
 use Rattle.s3_level.specs.declared.level.Level.{Level}
-use Rattle.s3_level.specs.Holds.{Around, Becomes, Holds, IsReady, Spares}
+use Rattle.s3_level.specs.Holds.{Around, Becomes, Holds, IsReady, Spares, Steps}
 use Rattle.s3_bureau.specs.declared.bureau.Phase.{Phase}
 use Rattle.s3_bureau.specs.declared.bureau.Phase.TheVariants.{Open, Finished, Stopped}
-use Rattle.s3_bureau.specs.Held.{HoldsFor, IsForeign, IsOwn, IsReadyFor, State, has_worlds, header_of, level_of, rests, takes_entries}
+use Rattle.s3_bureau.specs.Held.{HoldsFor, IsForeign, IsOwn, IsReadyFor, State, has_worlds, header_of, level_of, lines_at, rests, takes_entries}
 use Rattle.s3_bureau.specs.Inner.Calls.{Acts, Closes, ClosesBoth, Enters, MountsAs}
 use Rattle.s3_bureau.proofs.OtherLevel.{foreign_spared, other_said, ready_stays, worlds_stay, worlds_stayed}
 
@@ -102,6 +102,18 @@ his_ready Two old ready = ready.one_ready
 
 open_has : (phase : Phase) → phase ≡ Open → has_worlds phase ≡ true
 open_has phase is = rw is refl
+
+pub own_steps : (level : LevelId) (action : Action) (did : Did) (old new : State) → Enters level action (Ok did) old new → Steps action did (HoldsFor level old) (HoldsFor level new)
+own_steps level action did old new e w held =
+    let here = e.comes.1 w held.world in
+    (here.0, record { goes_on = open_has new.phase e.comes.0; world = here.1 })
+
+-- where it stopped, no line was drained
+pub lines_stay : (level : LevelId) (action : Action) (fault : PoolFault) (old new : State) → Enters level action (Err fault) old new → (one_or_two : LevelId) → lines_at one_or_two new ≡ lines_at one_or_two old
+lines_stay One action fault old new e One = e.comes.1
+lines_stay One action fault old new e Two = ap (λ (l : Level). l.lines.items) e.stays
+lines_stay Two action fault old new e One = ap (λ (l : Level). l.lines.items) e.stays
+lines_stay Two action fault old new e Two = e.comes.1
 
 pub other_keeps : (level : LevelId) (action : Action) (did : Did) (old new : State) → Enters level action (Ok did) old new → (w : World) → HoldsFor (other level) old w → HoldsFor (other level) new w
 other_keeps level action did old new e w held = record {

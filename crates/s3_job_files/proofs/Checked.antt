@@ -1,6 +1,6 @@
 -- A file that is opened: its index was found good, and what is kept of it are its records.
-use Rattle.std.proofs.Common.{◌≡◌, ℕ, Bool, true, false, List, refl, ap, ap₂, sym, ◌∙◌}
-use Rattle.std.specs.Prelude.{if◌then◌else◌}
+use Rattle.std.proofs.Common.{◌≡◌, ℕ, Bool, true, false, List, refl, ap, ap₂, arith, subst, sym, ◌∙◌}
+use Rattle.std.specs.Prelude.{if◌then◌else◌, Option, Some, IfSome}
 use Rattle.s3_store.specs.Bytes.{bytes_at}
 use Rattle.s3_slots.specs.Labels.{file_bytes, is_indexed, sectors_of}
 use Rattle.s3_slots.specs.declared.label.FileLabel.{FileLabel}
@@ -9,9 +9,11 @@ use Rattle.s3_files.specs.Records.{records_in}
 use Rattle.s3_files.specs.declared.sequential.Sequential.{Sequential}
 use Rattle.s3_keyed.specs.Index.{index_in, keys_at, keys_of, layout_of}
 use Rattle.s3_keyed.specs.KeyOrder.{is_good_index}
-use Rattle.s3_keyed.specs.Keyed.{KeyedFile, opened_of, records_now}
+use Rattle.s3_keyed.specs.Keyed.{HasKeyOrder, KeyedFile, opened_of, records_now, shown}
+use Rattle.s3_keyed.specs.declared.keyed.Keyed.{Keyed}
 use Rattle.s3_job_files.specs.Kept.{index_is_good, kept_in, kept_on, key_place}
-use Rattle.s3_job_files.specs.Holds.{shape_of}
+use Rattle.s3_job_files.specs.declared.records.OpenRecords.TheVariants.{InOrder, ByKey}
+use Rattle.s3_job_files.specs.Holds.{AreOf, shape_of}
 
 pub plain_good : (label : FileLabel) (contents : List (List ℕ)) → is_indexed label.organization ≡ false → (kept_on label contents).has_good_index ≡ true
 unfolding kept_in index_is_good
@@ -40,3 +42,26 @@ plain_kept label contents file sectors long count =
 pub keyed_kept : (label : FileLabel) (contents : List (List ℕ)) (file : KeyedFile) → file ≡ opened_of (sectors_of label) (layout_of label) label.count
     → (kept_on label contents).records ≡ records_now file contents
 keyed_kept label contents file opened = records_kept label contents ∙ ap (λ (f : KeyedFile). records_now f contents) (sym opened)
+
+-- what was checked is the file of the label
+pub some_opened : (label : FileLabel) (checked : Option Keyed) (file : Keyed) → IfSome checked (λ f. shown f ≡ opened_of (sectors_of label) (layout_of label) label.count) → checked ≡ Some file
+    → shown file ≡ opened_of (sectors_of label) (layout_of label) label.count
+some_opened label checked file opened is = subst (λ o. IfSome o (λ f. shown f ≡ opened_of (sectors_of label) (layout_of label) label.count)) is opened
+
+pub keyed_of_label : (label : FileLabel) (contents : List (List ℕ)) (checked : Option Keyed) (file : Keyed) → is_indexed label.organization ≡ true
+    → IfSome checked (λ f. shown f ≡ opened_of (sectors_of label) (layout_of label) label.count) → IfSome checked (λ f. HasKeyOrder (shown f) contents) → checked ≡ Some file
+    → AreOf label contents (ByKey file)
+keyed_of_label label contents checked file indexed opened ordered is =
+    let of_label : shown file ≡ opened_of (sectors_of label) (layout_of label) label.count = some_opened label checked file opened is in
+    record {
+      indexed = indexed;
+      sectors = ap (λ (f : KeyedFile). f.sectors) of_label;
+      layout = ap (λ (f : KeyedFile). f.layout) of_label;
+      started = ap (λ (f : KeyedFile). f.started) of_label;
+      order = subst (λ o. IfSome o (λ f. HasKeyOrder (shown f) contents)) is ordered;
+    }
+
+pub plain_of_label : (label : FileLabel) (contents : List (List ℕ)) (file : Sequential) → is_indexed label.organization ≡ false
+    → file.sectors ≡ sectors_of label → file.record_length ≡ label.record_length → file.capacity ≡ label.capacity → file.count ≡ label.count → AreOf label contents (InOrder file)
+plain_of_label label contents file plain sectors long capacity count =
+    record { plain = plain; sectors = sectors; record_length = long; capacity = capacity; started = omega (arith, count) }

@@ -1,13 +1,17 @@
 -- What a call on a file with keys leaves where it is refused.
-use Rattle.std.proofs.Common.{◌≡◌, Bool, true, false, refl, subst, sym}
+use Rattle.std.proofs.Common.{◌≡◌, Bool, true, false, refl, ap, ap₂, subst, sym, ◌∙◌}
 use Rattle.std.specs.Prelude.{List, ℕ, Result, Ok, Err, if◌then◌else◌}
 use Rattle.s3_store.specs.State.{PoolState}
 use Rattle.s3_keyed.specs.declared.fault.KeyedFault.{KeyedFault}
 use Rattle.s3_keyed.specs.declared.fault.KeyedFault.TheVariants.{NoKey, Duplicate, Full, KeyChanged, BadIndex, NotAscending, Pool}
-use Rattle.s3_keyed.specs.Keyed.{KeyedFile, HasKeyOrder, IsUntouched}
+use Rattle.s3_keyed.specs.Keyed.{KeyedFile, HasKeyOrder, IsUntouched, records_now}
 use Rattle.s3_keyed.specs.KeyOrder.{Entry, is_good_index}
-use Rattle.s3_keyed.specs.Calls.{Answers, IsOfSectors, OnRefusal, index_answer}
+use Rattle.s3_keyed.specs.Calls.{Answers, IsOfSectors, OnRefusal, Refuses, index_answer}
+use Rattle.s3_operator.specs.declared.halt_code.HaltCode.{HaltCode}
+use Rattle.s3_job_files.specs.declared.records.Put.TheVariants.{Refused as PutRefused}
 use Rattle.s3_job_files.specs.Inner.Refusals.{pool_refusal}
+use Rattle.s3_job_files.specs.Records.{by_key, halt_for_key}
+use Rattle.s3_job_files.specs.Calls.{Puts}
 
 plainly : (T P : Type 0) (fault : KeyedFault) → pool_refusal fault ≡ Ok tt → OnRefusal {T = T} (Err fault) P → P
 plainly T P NoKey plain p = p
@@ -24,6 +28,26 @@ order_left old new s t fault plain left order =
     let untouched : IsUntouched old new s t = plainly (Unit {0}) (IsUntouched old new s t) fault plain left in
     subst (λ (f : KeyedFile). HasKeyOrder f t.contents) (sym untouched.file)
     (subst (λ (c : List (List ℕ)). HasKeyOrder old c) (sym untouched.sectors.contents) order)
+
+refused : (T : Type 0) (meant : Result T KeyedFault) (fault : KeyedFault) → pool_refusal fault ≡ Ok tt → Refuses meant fault → meant ≡ Err fault
+refused T meant NoKey plain r = r
+refused T meant Duplicate plain r = r
+refused T meant Full plain r = r
+refused T meant KeyChanged plain r = r
+refused T meant BadIndex plain r = r
+refused T meant NotAscending plain r = r
+refused T meant (Pool fault) plain r = absurd cc
+
+-- it is refused as is meant, and the records are as they were
+pub refusal_puts : (meant : Result (List (List ℕ)) KeyedFault) (fault : KeyedFault) (code : HaltCode) (old new : KeyedFile) (s t : PoolState) → pool_refusal fault ≡ Ok tt → code ≡ halt_for_key fault
+    → Refuses meant fault → OnRefusal {T = Unit {0}} (Err fault) (IsUntouched old new s t)
+    → Puts (by_key meant) (PutRefused code) (records_now old s.contents) (records_now new t.contents)
+refusal_puts meant fault code old new s t plain halts refuses left =
+    let untouched : IsUntouched old new s t = plainly (Unit {0}) (IsUntouched old new s t) fault plain left in
+    let to_halt : HaltCode → Result (List (List ℕ)) HaltCode = λ c. Err c in (
+      ap by_key (refused (List (List ℕ)) meant fault plain refuses) ∙ ap to_halt (sym halts),
+      ap₂ (λ (f : KeyedFile) (c : List (List ℕ)). records_now f c) untouched.file untouched.sectors.contents,
+    )
 
 -- a refusal of the sectors is passed on
 pub not_of_sectors : (fault : KeyedFault) → IsOfSectors fault → pool_refusal fault ≡ Ok tt → ⊥

@@ -1,6 +1,6 @@
 -- One open file: its sectors are there, and its records are where its label says.
 use Rattle.std.proofs.Common.{◌≡◌, ◌<◌, ◌≤◌, ℕ, zero, suc, arith, Bool, true, false, List, length, take, refl, ap, ap₂, sym, subst, ◌∙◌}
-use Rattle.std.specs.Prelude.{ℤ, pos, negsuc, ◌≤ℤ◌, Option, Some, None, OnOk, Result, Ok, Err, if◌then◌else◌}
+use Rattle.std.specs.Prelude.{ℤ, pos, negsuc, ◌≤ℤ◌, slice_get, Option, Some, None, IfOk, OnOk, Result, Ok, Err, if◌then◌else◌}
 use Rattle.std.proofs.lemmas.Bool.{true≢false}
 use Rattle.std.proofs.lemmas.List.{take-map}
 use Rattle.s3_store.specs.declared.pool_fault.PoolFault.{PoolFault}
@@ -24,7 +24,12 @@ use Rattle.s3_job_files.specs.declared.records.OpenRecords.{OpenRecords}
 use Rattle.s3_job_files.specs.declared.records.OpenRecords.TheVariants.{InOrder, ByKey}
 use Rattle.s3_files.specs.Records.{records_in}
 use Rattle.s3_job_files.specs.Kept.{Kept, index_is_good, kept_in, kept_on, key_place}
-use Rattle.s3_job_files.specs.Records.{place_read, place_sought, place_numbered}
+use Rattle.s3_operator.specs.declared.halt_code.HaltCode.TheVariants.{NothingToUpdate}
+use Rattle.s3_job_files.specs.declared.records.Put.{Put}
+use Rattle.s3_job_files.specs.declared.records.Put.TheVariants.{Refused as PutRefused}
+use Rattle.s3_job_files.specs.Calls.{Puts, found_answer, found_record}
+use Rattle.s3_job_files.specs.Requests.{answer_at, answer_with}
+use Rattle.s3_job_files.specs.Records.{overlaid, place_read, place_sought, place_numbered, updated, updated_at, updated_over}
 use Rattle.s3_job_files.specs.Holds.{AreOf, IsUsable, count_of, records_of}
 use Rattle.s3_job_files.proofs.Plain.{are_same, at_most, is_below, not_below}
 
@@ -58,6 +63,29 @@ read_by_key contents label records file n place usable is below nth =
     ∙ ap (λ k. take k (keys_of (key_place label) rs)) (sym of_label.started)
     ∙ ap (λ (l : Layout). take (shown file).started (keys_of l.key rs)) (sym of_label.layout))
     ∙ nth
+
+pub read_by_key_if : (contents : List (List ℕ)) (label : FileLabel) (records : OpenRecords) (file : Keyed) (n : ℕ) (result : Result (Option ℕ) PoolFault) → IsUsable contents label records → records ≡ ByKey file → n < label.count
+    → IfOk result (λ place. nth_by_key (take (shown file).started (keys_now (shown file) contents)) n ≡ place) → IfOk result (λ place. place_read label (records_of records contents) n ≡ place)
+read_by_key_if contents label records file n (Ok place) usable is below nth = read_by_key contents label records file n place usable is below nth
+read_by_key_if contents label records file n (Err fault) usable is below nth = tt
+
+-- and in the order of the file
+pub read_in_order : (contents : List (List ℕ)) (label : FileLabel) (records : OpenRecords) (file : Sequential) (n : ℕ) → IsUsable contents label records → records ≡ InOrder file → n < label.count
+    → place_read label (records_of records contents) n ≡ Some n
+read_in_order contents label records file n usable is below =
+    let of_label : AreOf label contents (InOrder file) = subst (AreOf label contents) is usable.of_label in
+    let keys : List ℕ = keys_of (key_place label) (take label.count (records_of records contents)) in
+    ap (λ (b : Bool). if b then (if is_indexed label.organization then nth_by_key keys n else Some n) else None) (is_below n label.count below)
+    ∙ ap (λ (b : Bool). if b then nth_by_key keys n else Some n) of_label.plain
+
+pub read_past : (label : FileLabel) (records : List (List ℕ)) (n : ℕ) → label.count ≤ n → place_read label records n ≡ None
+read_past label records n past =
+    ap (λ (b : Bool). if b then (if is_indexed label.organization then nth_by_key (keys_of (key_place label) (take label.count records)) n else Some n) else None) (not_below n label.count past)
+
+pub answer_found : (records : OpenRecords) (place : Option ℕ) (i : ℕ) (found : Bool) (bytes : List ℕ) (old mid : List (List ℕ)) → place ≡ Some i → mid ≡ old
+    → found_record found bytes ≡ slice_get (records_of records mid) i → found_answer found bytes ≡ answer_at (records_of records old) place
+answer_found records place i found bytes old mid is same there =
+    ap answer_with there ∙ ap (λ c. answer_at (records_of records c) (Some i)) same ∙ ap (answer_at (records_of records old)) (sym is)
 
 key_found : (contents : List (List ℕ)) (label : FileLabel) (file : Keyed) (key : List ℕ) → IsUsable contents label (ByKey file)
     → place_sought label (records_of (ByKey file) contents) (Key key) ≡ place_of_key (number_of key) (keys_now (shown file) contents)
@@ -195,3 +223,38 @@ pub kept_by_key_if : (old new : List (List ℕ)) (label : FileLabel) (records : 
     → OnOk result (kept_on (record label { count = count_of records }) new ≡ record { records = records_of records old; has_good_index = true })
 kept_by_key_if old new label records file (Ok _) usable is good same = kept_by_key old new label records file usable is good same
 kept_by_key_if old new label records file (Err fault) usable is good same = tt
+
+-- ---- the current record is changed
+pub usable_kept : (old new : List (List ℕ)) (label : FileLabel) (records : OpenRecords) → new ≡ old → IsUsable old label records → IsUsable new label records
+usable_kept old new label records same = subst (λ c. IsUsable c label records) (sym same)
+
+pub of_label_kept : (old new : List (List ℕ)) (label : FileLabel) (records : OpenRecords) → new ≡ old → IsUsable old label records → AreOf label new records
+of_label_kept old new label records same usable = subst (λ c. AreOf label c records) (sym same) usable.of_label
+
+pub nothing_to_update : (label : FileLabel) (changes : List (Option ℕ)) (records : OpenRecords) (place : Option ℕ) (old new : List (List ℕ)) → place ≡ None → new ≡ old
+    → Puts (updated label changes place (records_of records old)) (PutRefused NothingToUpdate) (records_of records old) (records_of records new)
+nothing_to_update label changes records place old new is same = (ap (λ p. updated label changes p (records_of records old)) is, ap (records_of records) same)
+
+pub updated_after : (label : FileLabel) (changes : List (Option ℕ)) (records : OpenRecords) (place : Option ℕ) (i : ℕ) (old mid new : List (List ℕ)) (result : Result Put PoolFault) → place ≡ Some i → mid ≡ old
+    → IfOk result (λ put. Puts (updated label changes (Some i) (records_of records mid)) put (records_of records mid) (records_of records new))
+    → IfOk result (λ put. Puts (updated label changes place (records_of records old)) put (records_of records old) (records_of records new))
+updated_after label changes records place i old mid new result is same puts =
+    subst (λ p. IfOk result (λ put. Puts (updated label changes p (records_of records old)) put (records_of records old) (records_of records new))) (sym is)
+    (subst (λ c. IfOk result (λ put. Puts (updated label changes (Some i) (records_of records c)) put (records_of records c) (records_of records new))) same puts)
+
+pub updated_found : (label : FileLabel) (changes : List (Option ℕ)) (records : OpenRecords) (i : ℕ) (found : Bool) (bytes laid : List ℕ) (old mid new : List (List ℕ)) (result : Result Put PoolFault) → found ≡ true
+    → found_record found bytes ≡ slice_get (records_of records old) i → laid ≡ overlaid changes bytes → mid ≡ old
+    → IfOk result (λ put. Puts (updated_at label i laid (records_of records mid)) put (records_of records mid) (records_of records new))
+    → IfOk result (λ put. Puts (updated label changes (Some i) (records_of records old)) put (records_of records old) (records_of records new))
+updated_found label changes records i found bytes laid old mid new result is there laid_is same puts =
+    let rs : List (List ℕ) = records_of records old in
+    let meant : updated_at label i laid rs ≡ updated label changes (Some i) rs =
+    ap (λ bs. updated_at label i bs rs) laid_is ∙ ap (updated_over label changes i rs) (ap (λ b. found_record b bytes) (sym is) ∙ there) in
+    subst (λ m. IfOk result (λ put. Puts m put rs (records_of records new))) meant
+    (subst (λ c. IfOk result (λ put. Puts (updated_at label i laid (records_of records c)) put (records_of records c) (records_of records new))) same puts)
+
+pub none_found : (label : FileLabel) (changes : List (Option ℕ)) (records : OpenRecords) (i : ℕ) (found : Bool) (bytes : List ℕ) (old new : List (List ℕ)) → found ≡ false
+    → found_record found bytes ≡ slice_get (records_of records old) i → new ≡ old
+    → Puts (updated label changes (Some i) (records_of records old)) (PutRefused NothingToUpdate) (records_of records old) (records_of records new)
+none_found label changes records i found bytes old new is there same =
+    (ap (updated_over label changes i (records_of records old)) (sym (ap (λ b. found_record b bytes) (sym is) ∙ there)), ap (records_of records) same)

@@ -1,5 +1,5 @@
 -- The calls of a file with keys, as calls of a list of records.
-use Rattle.std.proofs.Common.{◌≡◌, ℕ, zero, suc, ◌<◌, ◌≤◌, Bool, true, false, ◌==◌, if◌then◌else◌, List, [], ◌∷◌, length, map, slice_get, slice_set, Some, None, Ok, Err, refl, sym, ap, subst, ◌∙◌, arith}
+use Rattle.std.proofs.Common.{◌≡◌, ◌≢◌, ℕ, zero, suc, ◌<◌, ◌≤◌, Bool, true, false, ◌==◌, if◌then◌else◌, List, [], ◌∷◌, length, map, slice_get, slice_set, Some, None, Ok, Err, refl, sym, ap, subst, ◌∙◌, arith}
 use Rattle.std.proofs.lemmas.Bool.{eqb-true, eq-eqb}
 use Rattle.s3_files.specs.Records.{records_in, with_record}
 use Rattle.s3_files.specs.declared.fault.FileFault.TheVariants.{NoRecord}
@@ -8,7 +8,8 @@ use Rattle.s3_keyed.specs.KeyOrder.{Entry}
 use Rattle.s3_keyed.specs.Index.{KeyPlace, key_of, keys_of}
 use Rattle.s3_keyed.specs.Calls.{with_updated, updated_from, keyed_result}
 use Rattle.s3_keyed.specs.declared.fault.KeyedFault.TheVariants.{NoKey, KeyChanged}
-use Rattle.s3_keyed.specs.Keyed.{IsOrdered}
+use Rattle.s3_store.specs.State.{PoolState, KeepsContents}
+use Rattle.s3_keyed.specs.Keyed.{KeyedFile, IsOrdered, HasKeyOrder}
 use Rattle.s3_keyed.proofs.Order.{below}
 
 got_none : {X : Type 0} (xs : List X) (i : ℕ) → length xs ≤ i → slice_get xs i ≡ None
@@ -60,3 +61,14 @@ keys_updated place (suc i) bytes old (r ∷ records) there same = ap (λ l. key_
 pub ordered_same : (start stop limit : ℕ) (first first' index index' added : List Entry) (keys keys' : List ℕ) → IsOrdered start stop limit first index added keys → first' ≡ first → index' ≡ index → keys' ≡ keys → IsOrdered start stop limit first' index' added keys'
 ordered_same start stop limit first first' index index' added keys keys' o a b c =
     subst (λ f. IsOrdered start stop limit f index' added keys') (sym a) (subst (λ i. IsOrdered start stop limit first i added keys') (sym b) (subst (IsOrdered start stop limit first index added) (sym c) o))
+
+-- a call that changes no sector keeps the order
+pub ordered_keeps : (file : KeyedFile) (s t : PoolState) → HasKeyOrder file s.contents → KeepsContents s t → HasKeyOrder file t.contents
+ordered_keeps file s t ordered k = subst (HasKeyOrder file) (sym k.contents) ordered
+
+-- there is room where not all of it is used
+pub some_room : (count capacity : ℕ) → count ≤ capacity → count ≢ capacity → count < capacity
+some_room count capacity counted differs = omega arith
+
+pub below_capacity : (i count capacity : ℕ) → i < count → count ≤ capacity → i < capacity
+below_capacity i count capacity below counted = omega arith

@@ -1,5 +1,5 @@
 -- An index that is looked through, entry by entry.
-use Rattle.std.proofs.Common.{◌≡◌, ℕ, zero, suc, ◌+◌, ◌-◌, ◌<◌, ◌≤◌, ◌⊎◌, inl, inr, true, false, ◌==◌, List, [], ◌∷◌, length, map, slice_get, Some, refl, sym, ap, subst, ◌∙◌, arith}
+use Rattle.std.proofs.Common.{Fits, w32, ◌≡◌, ℕ, zero, suc, ◌+◌, ◌-◌, ◌<◌, ◌≤◌, ◌⊎◌, inl, inr, true, false, ◌==◌, List, [], ◌∷◌, length, map, slice_get, Some, refl, sym, ap, subst, ◌∙◌, arith}
 use Rattle.std.proofs.lemmas.Bool.{eqb-true, eq-eqb}
 use Rattle.std.proofs.lemmas.Bool.Decides.{nat_tests}
 use Rattle.std.specs.List.{range_with_len}
@@ -137,6 +137,19 @@ not_found entry n low high k met below above i within same =
     below_or_at_least i zero = inr (omega arith)
     below_or_at_least zero (suc low) = inl (omega arith)
     below_or_at_least (suc i) (suc low) = elim (below_or_at_least i low) [ inl l ↦ inl (omega arith) | inr r ↦ inr (omega arith) ]
+
+-- the entry that is compared next is one of the file, and fewer are left behind it or before it
+pub half_within : (i high entries capacity : ℕ) → i < high → high ≤ entries → entries ≤ capacity → i < capacity
+half_within i high entries capacity below within few = omega arith
+
+pub half_fits : (i high entries : ℕ) → i < high → high ≤ entries → Fits w32 entries → Fits w32 (i + 1)
+half_fits i high entries below within fits = omega arith
+
+pub less_behind : (low i high : ℕ) → low ≤ i → i < high → high - (i + 1) < high - low
+less_behind low i high from below = omega arith
+
+pub less_before : (low i high : ℕ) → low ≤ i → i < high → i - low < high - low
+less_before low i high from below = omega arith
 
 -- what a comparison says
 pub is_less : (a k : ℕ) (o : Ordering) → o ≡ nat_cmp a k → o ≡ Less → a < k

@@ -1,14 +1,17 @@
 -- One step of the merge, in the words of the code.
-use Rattle.std.proofs.Common.{◌≡◌, ◌≢◌, ℕ, zero, suc, ◌+◌, ◌-◌, ◌<◌, ◌≤◌, ◌⊎◌, inl, inr, true, false, ◌==◌, List, [], ◌∷◌, ◌++◌, length, take, map, slice_get, Option, Some, None, MatchOption, refl, sym, ap, subst, ◌∙◌, arith}
+use Rattle.std.proofs.Common.{◌≡◌, ◌≢◌, ℕ, zero, suc, ◌+◌, ◌-◌, ◌<◌, ◌≤◌, ◌⊎◌, inl, inr, Bool, true, false, ◌==◌, List, [], ◌∷◌, ◌++◌, length, take, map, slice_get, Option, Some, None, MatchOption, Fits, w32, refl, sym, ap, subst, ◌∙◌, arith}
 use Rattle.std.specs.List.{range_with_len, All}
 use Rattle.std.proofs.lemmas.Bool.{eqb-true}
+use Rattle.s3_slots.specs.Slots.{record_sectors}
 use Rattle.s3_keyed.specs.declared.indexed.IndexEntry.{IndexEntry}
+use Rattle.s3_keyed.specs.declared.indexed.IndexedFile.{IndexedFile}
 use Rattle.s3_keyed.specs.KeyOrder.{number_of, Entry, ascends, keys_in, IsAscending, insert_entries}
 use Rattle.s3_keyed.specs.Inner.Shape.{entry_of}
 use Rattle.s3_keyed.proofs.Order.{get_from_In, Above, Ascends, Below}
 use Rattle.s3_keyed.proofs.Goodness.{to_ascends, from_ascends}
 use Rattle.s3_keyed.proofs.Checked.{listed}
 use Rattle.s3_keyed.proofs.InMemory.{key_at, rises}
+use Rattle.s3_keyed.proofs.Places.{entries_below}
 use Rattle.s3_keyed.proofs.Merging.{IsMerging, merge-start, merge-moved, merge-placed, merge-end}
 
 pub length_entries : (xs : List IndexEntry) → length (map entry_of xs) ≡ length xs
@@ -152,6 +155,38 @@ merge_begins old indexed xs = subst (λ n. IsMerging old old indexed (map entry_
 pub room_left : (old now : ℕ → Entry) (left total : ℕ) (xs : List IndexEntry) (whole : List Entry) → IsMerging old now left (map entry_of xs) total whole → left + length xs ≤ total
 room_left old now left total xs whole m = let room = m.room in omega (arith, length_entries xs)
 
+-- the place that is written next, and its number
+pub next_place : (left total capacity n : ℕ) (xs : List IndexEntry) → left + length (map entry_of xs) ≤ total → total ≤ capacity → length xs ≡ n - 1 + 1 → left + (n - 1) < capacity
+next_place left total capacity n xs room few long = omega (arith, length_entries xs)
+
+capacity_fits : (f : IndexedFile) → f.file.capacity < 4294967296
+capacity_fits f =
+    let short = f.short_key in
+    let few = entries_below (record_sectors f.file.capacity f.file.record_length) (f.key_length + 4) f.file.capacity (length f.file.sectors) (omega arith) (omega arith) f.index_fits in
+    let small = f.small in
+    omega arith
+
+pub next_fits : (f : IndexedFile) (left above : ℕ) → left + above < f.file.capacity → Fits w32 (left + above)
+next_fits f left above below = let few = capacity_fits f in omega arith
+
+pub number_fits : (f : IndexedFile) (count : ℕ) → count < f.file.capacity → Fits w32 (count + 1)
+number_fits f count below = let few = capacity_fits f in omega arith
+
+pub above_fits : (left above : ℕ) → Fits w32 (left + above) → Fits w32 above
+above_fits left above fits = omega arith
+
+-- what is left becomes less
+pub less_left : (left n : ℕ) → 0 < left → left - 1 + n < left + n
+less_left left n some = omega arith
+
+pub less_added : (left above : ℕ) (xs ys : List IndexEntry) → ys ≡ take above xs → length xs ≡ above + 1 → left + length ys < left + length xs
+less_added left above xs ys is long = omega (arith, ap length is, length_taken above xs)
+  where
+    length_taken : (n : ℕ) (xs : List IndexEntry) → length (take n xs) ≤ n
+    length_taken zero xs = omega arith
+    length_taken (suc n) [] = omega arith
+    length_taken (suc n) (x ∷ xs) = let rest = length_taken n xs in omega arith
+
 -- ---- what the calls in the loop answer
 
 pub some_items : (xs : List IndexEntry) (n : ℕ) → n ≡ length xs → false ≡ (length xs == 0) → length xs ≡ n - 1 + 1
@@ -160,6 +195,10 @@ some_items (x ∷ xs) n is none = omega arith
 
 pub no_items : (xs : List IndexEntry) → true ≡ (length xs == 0) → length xs ≡ 0
 no_items xs is = eqb-true (length xs) 0 (sym is)
+
+pub none_added : (xs : List IndexEntry) (n : ℕ) (r : Bool) → n ≡ length xs → r ≡ (n == 0) → r ≡ true → map entry_of xs ≡ []
+none_added [] n r is empty so = refl
+none_added (x ∷ xs) n r is empty so = let none : n ≡ 0 = eqb-true n 0 (sym empty ∙ so) in absurd (omega arith)
 
 pub last_hit : (entry : Entry) (n key limit : ℕ) (o : Option IndexEntry) (last : IndexEntry) → o ≡ Some last → MatchOption o (0 < n → entry.key ≤ key) (λ x. (0 < n) × (entry_of x ≡ entry) × (key < number_of x.key.bytes) × (number_of x.key.bytes < limit))
     → (0 < n) × (entry_of last ≡ entry) × (key < key_at last) × (key_at last < limit)

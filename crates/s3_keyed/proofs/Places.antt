@@ -9,7 +9,7 @@ use Rattle.byteorder.specs.Numbers.{big_number-reads_back}
 use Rattle.s3_store.specs.Bytes.{part, SameOutside}
 use Rattle.s3_slots.specs.Slots.{record_sectors, entries_per_sector}
 use Rattle.s3_files.specs.Records.{records_in}
-use Rattle.s3_files.proofs.PartLemmas.{part-before, part-after}
+use Rattle.s3_files.proofs.PartLemmas.{length-part, part-before, part-after}
 use Rattle.s3_files.proofs.RecordLemmas.{length_records, get_record, records_before}
 use Rattle.s3_keyed.specs.KeyOrder.{number_of}
 use Rattle.s3_keyed.specs.Index.{Layout, key_of, keys_of, keys_at, entry_in, entry_at, entry_place, index_in}
@@ -49,12 +49,29 @@ entry_within start w j capacity n pos le below fits =
     let whole : w * per ≤ 256 = omega arith in
     omega (arith, row, wide, whole)
 
+-- a file has no more entries than its sectors have bytes
+pub entries_below : (start w capacity n : ℕ) → 0 < w → w ≤ 256 → start + (capacity + 256 / w - 1) / (256 / w) ≤ n → capacity ≤ 256 * n
+entries_below start w zero n pos le fits = omega arith
+entries_below start w (suc j) n pos le fits =
+    let within = entry_within start w j (suc j) n pos le (omega arith) fits in
+    let some = some_fit w pos le in
+    by (j / (256 / w)) (j % (256 / w)) (256 / w) (omega arith) (omega arith) within
+  where
+    by : (q r per : ℕ) → j ≡ per * q + r → per ≤ 256 → 256 * (start + q) + r * w + w ≤ 256 * n → suc j ≤ 256 * n
+    by q r per whole few below = omega (arith, mul-le-mul_left q few, mul-le-mul_left r pos)
+
 -- an entry lies in its sector
 pub entry_inside : (w j : ℕ) → 0 < w → j < 256 / w → j * w + w ≤ 256
 entry_inside w j pos below =
     let m = mul-le-mul_left w below in
     let whole : w * (256 / w) ≤ 256 = omega arith in
     omega (arith, m, whole)
+
+pub length_entry : (j k : ℕ) (sector entry : List ℕ) → length sector ≡ 256 → j < 256 / (k + 4) → entry ≡ part sector (j * (k + 4)) (k + 4) → length entry ≡ k + 4
+length_entry j k sector entry long inside is = ap length is ∙ length-part (j * (k + 4)) (k + 4) sector (omega (arith, entry_inside (k + 4) j (omega arith) inside))
+
+pub column_inside : (i per k width : ℕ) → width ≡ k → per ≡ entries_per_sector k → 0 < per → i % per < 256 / (width + 4)
+column_inside i per k width is per_is some = subst (λ w. i % per < 256 / (w + 4)) (sym is) (subst (λ n. i % per < n) per_is (omega arith))
 
 -- ---- parts of parts
 
@@ -77,6 +94,16 @@ length_mapped f (x ∷ xs) = ap suc (length_mapped f xs)
 
 pub length_buffer : (m n : ℕ) → n ≤ m → length {A = ℕ} (take n (replicate m 0)) ≡ n
 length_buffer m n h = let zeros : List ℕ = replicate m 0 in length-take-le n zeros (omega (arith, length-replicate {A = ℕ} m 0))
+
+-- an entry in its buffer, and the key in it
+pub entry_buffer : (k n : ℕ) → n ≡ k → k ≤ 29 → n + 4 ≤ 33
+entry_buffer k n is short = omega arith
+
+pub key_in_entry : (n : ℕ) (bytes : List ℕ) → length bytes ≡ n + 4 → n ≤ length bytes
+key_in_entry n bytes long = omega arith
+
+pub length_key : (k n : ℕ) (bytes : List ℕ) → n ≡ k → length bytes ≡ n + 4 → length (take n bytes) ≡ k
+length_key k n bytes is long = length-take-le n bytes (omega arith) ∙ is
 
 -- ---- keys
 

@@ -1,5 +1,5 @@
 -- A make over the sectors of a pack, and a list of makes on a copy.
-use Rattle.std.proofs.Common.{◌≡◌, ◌≢◌, ℕ, zero, suc, ◌+◌, ◌*◌, ◌/◌, ◌%◌, ◌≤◌, ◌<◌, true, List, [], ◌∷◌, length, slice_get, Option, Some, Result, Ok, Err, drop, refl, sym, ap, ◌∙◌, arith, inl, inr}
+use Rattle.std.proofs.Common.{◌≡◌, ◌≢◌, ℕ, zero, suc, ◌+◌, ◌*◌, ◌/◌, ◌%◌, ◌≤◌, ◌<◌, true, List, [], ◌∷◌, ◌++◌, length, take, slice_get, Option, Some, Result, Ok, Err, drop, refl, sym, ap, ◌∙◌, arith, inl, inr}
 use Rattle.std.specs.Prelude.{IsOk, is_ok}
 use Rattle.std.specs.List.{All}
 use Rattle.s3_cards.specs.declared.levels.LevelId.{LevelId}
@@ -10,16 +10,18 @@ use Rattle.s3_store.specs.State.{PoolState, ChangesWithin}
 use Rattle.s3_store.specs.Stretches.{end_of}
 use Rattle.s3_store.specs.declared.stretch.Stretch.{Stretch}
 use Rattle.s3_slots.specs.Labels.{sectors_of}
-use Rattle.s3_slots.specs.Slots.{are_extents, labels_at, slot_bytes}
+use Rattle.s3_slots.specs.Slots.{are_extents, labels_at, slot_bytes, standing}
 use Rattle.s3_store.specs.Bytes.{part}
 use Rattle.s3_store.proofs.SectorParts.{sector_bytes-same}
-use Rattle.s3_slots.specs.Making.{made, planned, and_then}
+use Rattle.s3_slots.specs.Making.{made, planned, and_then, file_in, found}
 use Rattle.s3_slots.specs.declared.header.Format.{Format}
 use Rattle.s3_slots.specs.declared.label.FileLabel.{FileLabel}
 use Rattle.s3_slots.specs.declared.making.LabelFault.{LabelFault}
 use Rattle.s3_slots.specs.declared.making.NewFile.{NewFile}
 use Rattle.s3_slots.specs.declared.slot.Slot.{Slot}
 use Rattle.s3_slots.specs.declared.slot.Slot.TheVariants.{Sound}
+use Rattle.s3_slots.specs.declared.slot.Standing.{Standing}
+use Rattle.s3_slots.proofs.Ranges.{take_all}
 use Rattle.s3_slots.proofs.Keeping.{extents_inside, extents_there}
 use Rattle.s3_labels.specs.Areas.{Areas, IsReady, region_at, area_of, IsLabelSector, IsRecordOfDirect, IsOfMake, AreFilled}
 use Rattle.s3_labels.proofs.Regions.{ready_region}
@@ -117,6 +119,13 @@ planning_on format region masters news old i slots after new here is so = record
       ∙ sym (ap (λ list. planned i format region masters list slots) (drop_at news i new here)) ∙ so.rest;
 }
 
+-- the slots are written back to a list that is as long
+pub planning_written : (format : Format) (region : Stretch) (masters : List Slot) (news : List NewFile) (old : List Slot) (i : ℕ) (slots after : List Slot) (new : NewFile) (count : ℕ) → slice_get news i ≡ Some new
+    → made format region masters new slots ≡ Ok after → length after ≡ length slots → count ≡ length slots → IsPlanning format region masters news old i slots
+    → IsPlanning format region masters news old (i + 1) (take count (after ++ drop (length after) slots))
+planning_written format region masters news old i slots after new count here is long all so =
+    rw (take_all count after (drop (length after) slots) (long ∙ sym all)) (planning_on format region masters news old i slots after new here is so)
+
 pub planning_fails : (format : Format) (region : Stretch) (masters : List Slot) (news : List NewFile) (old : List Slot) (i : ℕ) (slots : List Slot) (new : NewFile) (fault : LabelFault) → slice_get news i ≡ Some new
     → made format region masters new slots ≡ Err fault → IsPlanning format region masters news old i slots → planned 0 format region masters news old ≡ Err (i, fault)
 planning_fails format region masters news old i slots new fault here is so =
@@ -133,3 +142,8 @@ planning_end format region masters news old i slots all so =
     drop_all [] (suc i) h = refl
     drop_all (x ∷ xs) zero h = absurd (omega (arith, h))
     drop_all (x ∷ xs) (suc i) h = drop_all xs i (omega (arith, h))
+
+-- ---- a file that is looked for
+pub found_own : (name : Name) (own masters : List Slot) (stands : Standing) → stands ≡ standing name own → file_in stands (standing name masters) ≡ found name own masters
+unfolding found
+found_own name own masters stands h = ap (λ s. file_in s (standing name masters)) h

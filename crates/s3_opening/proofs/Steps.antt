@@ -9,15 +9,19 @@ use Rattle.s3_cards.specs.Names.{same_name}
 use Rattle.s3_lines.specs.declared.sheet.FileLine.{FileLine}
 use Rattle.s3_ocl.specs.declared.contents.FileStatement.{FileStatement}
 use Rattle.s3_ocl.specs.Sound.{is_sound_file}
-use Rattle.s3_job_files.specs.Holds.{Seen}
+use Rattle.s3_job_files.specs.Files.{JobFile}
+use Rattle.s3_job_files.specs.Holds.{Seen, job_file_of}
+use Rattle.s3_job_files.specs.declared.file.OpenFile.{OpenFile}
 use Rattle.s3_opening.specs.declared.starts.Start.{Start}
 use Rattle.s3_opening.specs.Opening.{Settings, statement_of}
 use Rattle.s3_opening.specs.declared.fault.OpeningFault.{OpeningFault}
 use Rattle.s3_opening.specs.declared.fault.OpeningFault.TheVariants.{Halted, Sectors}
-use Rattle.s3_opening.specs.Asked.{is_used}
+use Rattle.s3_opening.specs.Asked.{is_new, is_used, new_file}
 use Rattle.s3_opening.specs.Starts.{step_in, Gives, TestsTo, IsRight, AreRight}
-use Rattle.s3_opening.specs.Tests.{Step, Tested, label_of, is_label_of, behind, passed, refused_at, step_of, tested_lines}
+use Rattle.s3_opening.specs.Tests.{Step, Makes, Tested, step_stated, opening, tested_file, label_of, is_label_of, behind, passed, refused_at, step_of, tested_lines}
 use Rattle.s3_operator.specs.declared.halt_code.HaltCode.{HaltCode}
+use Rattle.s3_operator.specs.declared.halt_code.HaltCode.TheVariants.{DuplicateLabel, NoLabel}
+use Rattle.s3_slots.specs.declared.making.NewFile.{NewFile}
 use Rattle.s3_slots.proofs.Keeping.{push_cases}
 use Rattle.std.proofs.lemmas.List.{map-append}
 
@@ -41,6 +45,49 @@ found_passes test sound (first ∷ more) statement all h = by (test first) (and_
 
 pub stated_sound : (name : Name) (statements : List FileStatement) (statement : FileStatement) → list_all is_sound_file statements ≡ true → statement_of name statements ≡ Some statement → is_sound_file statement ≡ true
 stated_sound name statements statement all h = found_passes (λ one. same_name one.name name) is_sound_file statements statement all h
+
+-- ---- the step of one file
+pub none_stated : (level : LevelId) (seen : Seen) (settings : Settings) (steps : List Step) (line : FileLine) → statement_of line.name settings.statements ≡ None → step_of level seen settings steps line ≡ Err NoLabel
+unfolding step_of
+none_stated level seen settings steps line none = ap (step_stated level seen settings.date steps line) none
+
+by_label : LevelId → Seen → Settings → FileLine → FileStatement → (taken : Bool) → Result Step HaltCode
+by_label level seen settings line statement taken =
+    if taken then Err DuplicateLabel
+    else (if is_new line then Ok (Makes line.name (new_file settings.date line statement)) else opening (tested_file level seen line statement.label))
+
+stated : (level : LevelId) (seen : Seen) (settings : Settings) (starts : List Start) (line : FileLine) (statement : FileStatement) (taken : Bool) → statement_of line.name settings.statements ≡ Some statement
+    → list_any (λ start. same_name (label_of (step_in start)) statement.label) starts ≡ taken → step_of level seen settings (map step_in starts) line ≡ by_label level seen settings line statement taken
+unfolding step_of by_label
+stated level seen settings starts line statement taken found is =
+    ap (step_stated level seen settings.date (map step_in starts) line) found ∙ ap (by_label level seen settings line statement) (any_mapped statement.label starts ∙ is)
+
+pub label_taken : (level : LevelId) (seen : Seen) (settings : Settings) (starts : List Start) (line : FileLine) (statement : FileStatement) → statement_of line.name settings.statements ≡ Some statement
+    → list_any (λ start. same_name (label_of (step_in start)) statement.label) starts ≡ true → step_of level seen settings (map step_in starts) line ≡ Err DuplicateLabel
+unfolding by_label
+label_taken level seen settings starts line statement found taken = stated level seen settings starts line statement true found taken
+
+pub step_made : (level : LevelId) (seen : Seen) (settings : Settings) (starts : List Start) (line : FileLine) (statement : FileStatement) (new : NewFile) → statement_of line.name settings.statements ≡ Some statement
+    → list_any (λ start. same_name (label_of (step_in start)) statement.label) starts ≡ false → is_new line ≡ true → new ≡ new_file settings.date line statement
+    → step_of level seen settings (map step_in starts) line ≡ Ok (Makes line.name new)
+unfolding by_label
+step_made level seen settings starts line statement new found untaken made is =
+    let by_new : Bool → Result Step HaltCode = λ b. if b then Ok (Makes line.name (new_file settings.date line statement)) else opening (tested_file level seen line statement.label) in
+    let made_as : NewFile → Result Step HaltCode = λ n. Ok (Makes line.name n) in
+    stated level seen settings starts line statement false found untaken ∙ ap by_new made ∙ ap made_as (sym is)
+
+pub step_opened : (level : LevelId) (seen : Seen) (settings : Settings) (starts : List Start) (line : FileLine) (statement : FileStatement) → statement_of line.name settings.statements ≡ Some statement
+    → list_any (λ start. same_name (label_of (step_in start)) statement.label) starts ≡ false → is_new line ≡ false
+    → step_of level seen settings (map step_in starts) line ≡ opening (tested_file level seen line statement.label)
+unfolding by_label
+step_opened level seen settings starts line statement found untaken old =
+    let by_new : Bool → Result Step HaltCode = λ b. if b then Ok (Makes line.name (new_file settings.date line statement)) else opening (tested_file level seen line statement.label) in
+    stated level seen settings starts line statement false found untaken ∙ ap by_new old
+
+pub step_refused : (step : Result Step HaltCode) (tested : Result JobFile HaltCode) (fault : OpeningFault) → step ≡ opening tested → Gives {T = OpenFile} job_file_of tested (Err fault)
+    → Gives {T = Start} step_in step (Err fault)
+step_refused step tested (Sectors fault) is refused = tt
+step_refused step tested (Halted code) is refused = is ∙ ap opening refused
 
 -- ---- the test of one line
 abbrev by_use : (used : Bool) → List Step → Result Step HaltCode → Tested

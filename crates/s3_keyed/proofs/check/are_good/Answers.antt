@@ -1,12 +1,13 @@
-use Rattle.std.proofs.Common.{◌≡◌, ◌+◌, ◌-◌, Some, map, slice_get, inl, inr, sym, ap, ◌∙◌, subst, arith}
-use Rattle.s3_store.proofs.Frames.{keeps_trans}
+use Rattle.std.proofs.Common.{◌≡◌, ◌+◌, ◌-◌, Some, map, slice_get, inl, inr, refl, sym, ap, ◌∙◌, subst, arith}
+use Rattle.s3_store.proofs.Frames.{keeps_refl, keeps_trans}
+use Rattle.s3_files.proofs.FileFrames.{stored_keeps}
 use Rattle.std.specs.List.{range_with_len}
 use Rattle.s3_keyed.specs.KeyOrder.{number_of}
 use Rattle.s3_keyed.specs.Index.{entry_at, index_in}
 use Rattle.s3_keyed.specs.Inner.Shape.{layout_in, bytes_in, keys_on, entry_of, index_sector}
 use Rattle.s3_keyed.proofs.Goodness.{to_good, not_good}
 use Rattle.s3_keyed.proofs.Places.{length_keys, get_key}
-use Rattle.s3_keyed.proofs.Checked.{AreChecked, checked-more, checked-good, not_after, not_in_range, not_its_key, its_key}
+use Rattle.s3_keyed.proofs.Checked.{AreChecked, checked-none, checked-more, checked-good, not_after, not_in_range, not_its_key, its_key}
 use Rattle.s3_keyed.proofs.check.are_good.Goals as goal
 
 pub returns-then-not-follows-clause-good : goal.returns-then-not-follows-clause-good
@@ -97,3 +98,45 @@ returns-clause-good g c =
     let keys = keys_on f (g.P.Sectors.state c.args.pool.now).contents in
     let whole : c.loop-i.i ≡ f.file.count = omega arith in
     to_good (map entry (range_with_len 0 f.file.count)) keys (checked-good entry keys f.file.count (length_keys (layout_in f) f.file.count (bytes_in f (g.P.Sectors.state c.args.pool.now).contents)) (subst (AreChecked entry keys) whole c.loop-i.invariant.checked))
+
+pub loop-i-init : goal.loop-i-init
+loop-i-init g c =
+    let f = c.args.file.now in
+    let contents = (g.P.Sectors.state c.args.pool.now).contents in
+    record {
+      checked = checked-none (entry_at (layout_in f) (bytes_in f contents)) (keys_on f contents);
+      last = λ later. absurd (omega (arith, later));
+      sector = c.requires.here;
+      keeps = keeps_refl (g.P.Sectors.state c.args.pool.now);
+      failures = refl;
+    }
+
+pub read_entry-requires-clause-stored : goal.read_entry-requires-clause-stored
+read_entry-requires-clause-stored g c = stored_keeps c.args.file.now.file.sectors _ (g.P.Sectors.state c.loop-i.pool) c.requires.stored c.loop-i.invariant.keeps
+
+pub read_entry-requires-clause-here : goal.read_entry-requires-clause-here
+read_entry-requires-clause-here g c = c.loop-i.invariant.sector
+
+pub returns-in_err-entry-clause-keeps : goal.returns-in_err-entry-clause-keeps
+returns-in_err-entry-clause-keeps g c = keeps_trans _ _ _ c.loop-i.invariant.keeps c.read_entry.ensures.keeps
+
+pub returns-in_err-key-clause-keeps : goal.returns-in_err-key-clause-keeps
+returns-in_err-key-clause-keeps g c = keeps_trans _ _ _ (keeps_trans _ _ _ c.loop-i.invariant.keeps c.read_entry.ensures.keeps) c.read_key.ensures.keeps
+
+pub returns-in_err-keep_first-clause-keeps : goal.returns-in_err-keep_first-clause-keeps
+returns-in_err-keep_first-clause-keeps g c = keeps_trans _ _ _ (keeps_trans _ _ _ c.loop-i.invariant.keeps c.read_entry.ensures.keeps) c.read_key.ensures.keeps
+
+pub returns-then-not-follows-clause-failures : goal.returns-then-not-follows-clause-failures
+returns-then-not-follows-clause-failures g c = c.in_ok-entry.ensures.failures ∙ ap (λ n. n + 0) c.loop-i.invariant.failures
+
+pub returns-then-entry-eq0-clause-failures : goal.returns-then-entry-eq0-clause-failures
+returns-then-entry-eq0-clause-failures g c = c.in_ok-entry.ensures.failures ∙ ap (λ n. n + 0) c.loop-i.invariant.failures
+
+pub returns-then-entry-count-clause-failures : goal.returns-then-entry-count-clause-failures
+returns-then-entry-count-clause-failures g c = c.in_ok-entry.ensures.failures ∙ ap (λ n. n + 0) c.loop-i.invariant.failures
+
+pub read_key-requires-clause-stored : goal.read_key-requires-clause-stored
+read_key-requires-clause-stored g c = stored_keeps c.args.file.now.file.sectors _ _ c.requires.stored (keeps_trans _ _ _ c.loop-i.invariant.keeps c.read_entry.ensures.keeps)
+
+pub returns-clause-keeps : goal.returns-clause-keeps
+returns-clause-keeps g c = c.loop-i.invariant.keeps

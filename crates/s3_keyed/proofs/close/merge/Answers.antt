@@ -1,12 +1,13 @@
-use Rattle.std.proofs.Common.{◌≡◌, ◌≢◌, ◌==◌, ◌+◌, ◌-◌, ◌^◌, ℕ, length, map, ap, ◌∙◌, arith}
+use Rattle.std.proofs.Common.{◌≡◌, ◌≢◌, ◌==◌, ◌+◌, ◌-◌, ◌^◌, ℕ, length, map, refl, ap, ◌∙◌, arith}
 use Rattle.std.specs.List.{Contains, range_with_len}
-use Rattle.s3_store.proofs.Frames.{keeps_within, within_trans}
+use Rattle.s3_store.proofs.Frames.{keeps_within, within_refl, within_trans}
 use Rattle.s3_files.specs.Records.{records_in}
+use Rattle.s3_files.proofs.FileFrames.{stored_within, stored_keeps}
 use Rattle.s3_keyed.specs.KeyOrder.{insert_entries}
 use Rattle.s3_keyed.specs.Index.{entry_at, index_in}
 use Rattle.s3_keyed.specs.Inner.Shape.{layout_in, bytes_in, entry_of}
 use Rattle.s3_keyed.proofs.InMemory.{key_at, index_got}
-use Rattle.s3_keyed.proofs.MergeSteps.{some_items, no_items, last_hit, last_miss, step_moved, step_placed, merge_ends, ascends_take, short_take, short_at}
+use Rattle.s3_keyed.proofs.MergeSteps.{merge_begins, next_place, next_fits, above_fits, less_left, less_added, some_items, no_items, last_hit, last_miss, step_moved, step_placed, merge_ends, ascends_take, short_take, short_at}
 use Rattle.s3_keyed.proofs.Places.{same_records}
 use Rattle.s3_keyed.proofs.close.merge.Goals as goal
 
@@ -110,3 +111,90 @@ returns-clause-merged g c =
     let old = entry_at (layout_in f) (bytes_in f (g.P.Sectors.state c.args.pool.now).contents) in
     let now = entry_at (layout_in f) (bytes_in f (g.P.Sectors.state c.highest.pool).contents) in
     merge_ends old now c.highest.left (c.args.indexed + length c.args.added.now.items) c.highest.added.items (insert_entries (map old (range_with_len 0 c.args.indexed)) (map entry_of c.args.added.now.items)) c.highest.invariant.merging (no_items c.highest.added.items (c.highest-test.ensures ∙ ap (λ n. n == 0) c.highest.added.ok.0))
+
+pub highest-init : goal.highest-init
+highest-init g c =
+    let f = c.args.file.now in
+    record {
+      upto = omega arith;
+      merging = merge_begins (entry_at (layout_in f) (bytes_in f (g.P.Sectors.state c.args.pool.now).contents)) c.args.indexed c.args.added.now.items;
+      added_ascends = c.requires.added_ascends;
+      short = c.requires.short;
+      records = λ count few. refl;
+      within = within_refl (Contains f.file.sectors) (g.P.Sectors.state c.args.pool.now);
+      failures = refl;
+    }
+
+pub last_above-requires-clause-stored : goal.last_above-requires-clause-stored
+last_above-requires-clause-stored g c =
+    let sectors = c.args.file.now.file.sectors in
+    stored_within sectors (Contains sectors) _ (g.P.Sectors.state c.highest.pool) c.requires.stored c.highest.invariant.within
+
+pub overflow_cast-above : goal.overflow_cast-above
+overflow_cast-above g c =
+    let f = c.args.file.now in
+    let long = some_items c.highest.added.items c.len-above.result (c.len-above.ensures ∙ c.highest.added.ok.0) (c.highest-test.ensures ∙ ap (λ n. n == 0) c.highest.added.ok.0) in
+    above_fits c.highest.left _ (next_fits f c.highest.left _ (next_place c.highest.left _ f.file.capacity c.len-above.result c.highest.added.items c.highest.invariant.merging.room c.requires.room long))
+
+pub overflow_add-left : goal.overflow_add-left
+overflow_add-left g c =
+    let f = c.args.file.now in
+    let long = some_items c.highest.added.items c.len-above.result (c.len-above.ensures ∙ c.highest.added.ok.0) (c.highest-test.ensures ∙ ap (λ n. n == 0) c.highest.added.ok.0) in
+    next_fits f c.highest.left _ (next_place c.highest.left _ f.file.capacity c.len-above.result c.highest.added.items c.highest.invariant.merging.room c.requires.room long)
+
+pub write_entry-requires-clause-stored : goal.write_entry-requires-clause-stored
+write_entry-requires-clause-stored g c =
+    let sectors = c.args.file.now.file.sectors in
+    stored_keeps sectors (g.P.Sectors.state c.highest.pool) _ (stored_within sectors (Contains sectors) _ _ c.requires.stored c.highest.invariant.within) c.last_above.ensures.keeps
+
+pub write_entry-requires-clause-within : goal.write_entry-requires-clause-within
+write_entry-requires-clause-within g c =
+    let f = c.args.file.now in
+    let long = some_items c.highest.added.items c.len-above.result (c.len-above.ensures ∙ c.highest.added.ok.0) (c.highest-test.ensures ∙ ap (λ n. n == 0) c.highest.added.ok.0) in
+    next_place c.highest.left _ f.file.capacity c.len-above.result c.highest.added.items c.highest.invariant.merging.room c.requires.room long
+
+pub overflow_cast-above-in_default : goal.overflow_cast-above-in_default
+overflow_cast-above-in_default g c =
+    let f = c.args.file.now in
+    let long = some_items c.highest.added.items c.len-above.result (c.len-above.ensures ∙ c.highest.added.ok.0) (c.highest-test.ensures ∙ ap (λ n. n == 0) c.highest.added.ok.0) in
+    above_fits c.highest.left _ (next_fits f c.highest.left _ (next_place c.highest.left _ f.file.capacity c.len-above.result c.highest.added.items c.highest.invariant.merging.room c.requires.room long))
+
+pub overflow_add-left-in_default : goal.overflow_add-left-in_default
+overflow_add-left-in_default g c =
+    let f = c.args.file.now in
+    let long = some_items c.highest.added.items c.len-above.result (c.len-above.ensures ∙ c.highest.added.ok.0) (c.highest-test.ensures ∙ ap (λ n. n == 0) c.highest.added.ok.0) in
+    next_fits f c.highest.left _ (next_place c.highest.left _ f.file.capacity c.len-above.result c.highest.added.items c.highest.invariant.merging.room c.requires.room long)
+
+pub write_entry-requires-in_default-clause-stored : goal.write_entry-requires-in_default-clause-stored
+write_entry-requires-in_default-clause-stored g c =
+    let sectors = c.args.file.now.file.sectors in
+    stored_keeps sectors (g.P.Sectors.state c.highest.pool) _ (stored_within sectors (Contains sectors) _ _ c.requires.stored c.highest.invariant.within) c.last_above.ensures.keeps
+
+pub write_entry-requires-in_default-clause-within : goal.write_entry-requires-in_default-clause-within
+write_entry-requires-in_default-clause-within g c =
+    let f = c.args.file.now in
+    let long = some_items c.highest.added.items c.len-above.result (c.len-above.ensures ∙ c.highest.added.ok.0) (c.highest-test.ensures ∙ ap (λ n. n == 0) c.highest.added.ok.0) in
+    next_place c.highest.left _ f.file.capacity c.len-above.result c.highest.added.items c.highest.invariant.merging.room c.requires.room long
+
+pub write_entry-requires-clause-short : goal.write_entry-requires-clause-short
+write_entry-requires-clause-short g c =
+    let f = c.args.file.now in
+    let last = entry_at (layout_in f) (bytes_in f (g.P.Sectors.state c.highest.pool).contents) (c.highest.left - 1) in
+    (last_hit last c.highest.left (key_at c.index.result.now) (256 ^ f.key_length) c.in_ok-last.field-0 c.in-Some.last c.in-Some.is c.in_ok-last.ensures.last).3
+
+pub overflow_sub-left : goal.overflow_sub-left
+overflow_sub-left g c =
+    let f = c.args.file.now in
+    let last = entry_at (layout_in f) (bytes_in f (g.P.Sectors.state c.highest.pool).contents) (c.highest.left - 1) in
+    (last_hit last c.highest.left (key_at c.index.result.now) (256 ^ f.key_length) c.in_ok-last.field-0 c.in-Some.last c.in-Some.is c.in_ok-last.ensures.last).0
+
+pub highest-smaller-in-Some : goal.highest-smaller-in-Some
+highest-smaller-in-Some g c =
+    let f = c.args.file.now in
+    let last = entry_at (layout_in f) (bytes_in f (g.P.Sectors.state c.highest.pool).contents) (c.highest.left - 1) in
+    less_left c.highest.left (length c.highest.added.items) (last_hit last c.highest.left (key_at c.index.result.now) (256 ^ f.key_length) c.in_ok-last.field-0 c.in-Some.last c.in-Some.is c.in_ok-last.ensures.last).0
+
+pub highest-smaller : goal.highest-smaller
+highest-smaller g c =
+    let long = some_items c.highest.added.items c.len-above.result (c.len-above.ensures ∙ c.highest.added.ok.0) (c.highest-test.ensures ∙ ap (λ n. n == 0) c.highest.added.ok.0) in
+    less_added c.highest.left (c.len-above.result - 1) c.highest.added.items _ c.truncate.ensures.items long

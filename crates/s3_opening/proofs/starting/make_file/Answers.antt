@@ -1,3 +1,4 @@
+use Rattle.s3_store.proofs.Frames.{step_from_keeps, step_trans}
 use Rattle.s3_opening.proofs.MadeFiles.{made_good}
 use Rattle.s3_opening.proofs.OneByOne.{readies_if_made}
 use Rattle.s3_opening.proofs.Said.{says_read}
@@ -14,3 +15,6 @@ returns-clause-readies g c =
 pub returns-clause-says : goal.returns-clause-says
 returns-clause-says g c =
     says_read c.args.level c.args.pack.now.areas c.make_label.new.pack.areas _ (g.P.Sectors.state c.make_label.new.pack.pool) (g.P.Sectors.state c.open_made.new.pool) c.open_made.result c.in_ok-label.ensures.says c.open_made.ensures.keeps
+
+pub returns-clause-spares : goal.returns-clause-spares
+returns-clause-spares g c = step_trans _ _ _ _ c.make_label.ensures.spares (step_from_keeps _ _ _ c.open_made.ensures.keeps)

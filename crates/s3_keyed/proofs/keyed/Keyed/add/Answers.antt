@@ -1,10 +1,14 @@
-use Rattle.std.proofs.Common.{◌++◌, ◌∷◌, [], Ok, sym, ap, ◌∙◌, arith}
-use Rattle.s3_store.proofs.Frames.{within_from_keeps, within_trans}
+use Rattle.std.proofs.Common.{◌++◌, ◌∷◌, [], Ok, refl, sym, ap, ◌∙◌, arith}
+use Rattle.std.specs.List.{Contains}
+use Rattle.s3_store.proofs.Frames.{within_from_keeps, keeps_within}
+use Rattle.s3_files.proofs.FileFrames.{stored_keeps}
 use Rattle.s3_files.proofs.RecordLemmas.{length_records}
 use Rattle.s3_keyed.specs.KeyOrder.{number_of}
+use Rattle.s3_keyed.specs.Calls.{place_of_key}
 use Rattle.s3_keyed.specs.Inner.Shape.{layout_in, bytes_in}
-use Rattle.s3_keyed.specs.Keyed.{shown, records_now}
+use Rattle.s3_keyed.specs.Keyed.{shown, records_now, keys_now}
 use Rattle.s3_keyed.proofs.Appending.{added_duplicate, added_full, added_made, is_none}
+use Rattle.s3_keyed.proofs.CallLemmas.{ordered_keeps, some_room}
 use Rattle.s3_keyed.proofs.keyed.Keyed.add.Goals as goal
 
 pub returns-then-is_some-clause-added : goal.returns-then-is_some-clause-added
@@ -33,7 +37,49 @@ returns-clause-added g c =
     ∙ ap Ok (sym (c.in_ok-append_added.ensures.ok ∙ ap (λ l. records_now (shown self) l ++ c.args.bytes.now ∷ []) c.place.ensures.keeps.contents))
 
 pub returns-in_err-append_added-clause-within : goal.returns-in_err-append_added-clause-within
-returns-in_err-append_added-clause-within g c = within_trans _ _ (g.P.Sectors.state c.place.new.pool) _ (within_from_keeps _ _ _ c.place.ensures.keeps) c.append_added.ensures.within
+returns-in_err-append_added-clause-within g c = keeps_within _ _ (g.P.Sectors.state c.place.new.pool) _ c.place.ensures.keeps c.append_added.ensures.within
 
 pub returns-clause-within : goal.returns-clause-within
-returns-clause-within g c = within_trans _ _ (g.P.Sectors.state c.place.new.pool) _ (within_from_keeps _ _ _ c.place.ensures.keeps) c.append_added.ensures.within
+returns-clause-within g c = keeps_within _ _ (g.P.Sectors.state c.place.new.pool) _ c.place.ensures.keeps c.append_added.ensures.within
+
+pub append_added-requires-clause-stored : goal.append_added-requires-clause-stored
+append_added-requires-clause-stored g c = stored_keeps c.args.self.now.file.file.sectors _ _ c.requires.stored c.place.ensures.keeps
+
+pub append_added-requires-clause-ordered : goal.append_added-requires-clause-ordered
+append_added-requires-clause-ordered g c = ordered_keeps (shown c.args.self.now) _ _ c.requires.ordered c.place.ensures.keeps
+
+pub append_added-requires-clause-room : goal.append_added-requires-clause-room
+append_added-requires-clause-room g c = some_room c.args.self.now.count c.args.self.now.file.file.capacity c.args.self.now.counted c.if-self.false
+
+pub append_added-requires-clause-is_new : goal.append_added-requires-clause-is_new
+append_added-requires-clause-is_new g c =
+    let self = c.args.self.now in
+    ap (λ l. place_of_key (number_of c.key_in-key.result.bytes) (keys_now (shown self) l)) c.place.ensures.keeps.contents
+    ∙ c.in_ok-place.ensures.place ∙ is_none c.in_ok-place.field-0 (sym c.is_some.ensures ∙ c.if-is_some.false)
+
+pub returns-in_err-place-clause-within : goal.returns-in_err-place-clause-within
+returns-in_err-place-clause-within g c = within_from_keeps (Contains c.args.self.now.file.file.sectors) _ _ c.place.ensures.keeps
+
+pub returns-then-is_some-clause-within : goal.returns-then-is_some-clause-within
+returns-then-is_some-clause-within g c = within_from_keeps (Contains c.args.self.now.file.file.sectors) _ _ c.place.ensures.keeps
+
+pub returns-then-self-clause-within : goal.returns-then-self-clause-within
+returns-then-self-clause-within g c = within_from_keeps (Contains c.args.self.now.file.file.sectors) _ _ c.place.ensures.keeps
+
+pub returns-then-is_some-clause-refused : goal.returns-then-is_some-clause-refused
+returns-then-is_some-clause-refused g c = record { file = refl; sectors = c.place.ensures.keeps }
+
+pub returns-then-self-clause-refused : goal.returns-then-self-clause-refused
+returns-then-self-clause-refused g c = record { file = refl; sectors = c.place.ensures.keeps }
+
+pub returns-in_err-place-clause-same : goal.returns-in_err-place-clause-same
+returns-in_err-place-clause-same g c = record { sectors = refl; layout = refl; started = refl }
+
+pub returns-then-is_some-clause-same : goal.returns-then-is_some-clause-same
+returns-then-is_some-clause-same g c = record { sectors = refl; layout = refl; started = refl }
+
+pub returns-then-self-clause-same : goal.returns-then-self-clause-same
+returns-then-self-clause-same g c = record { sectors = refl; layout = refl; started = refl }
+
+pub returns-clause-ordered : goal.returns-clause-ordered
+returns-clause-ordered g c = c.in_ok-append_added.ensures.ordered

@@ -1,11 +1,15 @@
-use Rattle.std.proofs.Common.{◌++◌, ◌∷◌, [], Ok, sym, ap, ◌∙◌, arith}
-use Rattle.s3_store.proofs.Frames.{within_from_keeps, within_trans}
+use Rattle.std.proofs.Common.{◌++◌, ◌∷◌, [], Ok, nat_lt, refl, sym, ap, ◌∙◌, arith}
+use Rattle.std.specs.List.{list_all, Contains}
+use Rattle.s3_store.proofs.Frames.{within_from_keeps, keeps_within}
+use Rattle.s3_files.proofs.FileFrames.{stored_keeps}
 use Rattle.s3_files.proofs.RecordLemmas.{length_records}
 use Rattle.s3_keyed.specs.KeyOrder.{number_of}
 use Rattle.s3_keyed.specs.Calls.{place_of_key}
 use Rattle.s3_keyed.specs.Inner.Shape.{layout_in, bytes_in}
 use Rattle.s3_keyed.specs.Keyed.{shown, records_now, keys_now}
 use Rattle.s3_keyed.proofs.Appending.{loaded_not_ascending, loaded_full, loaded_made, above_is_new}
+use Rattle.s3_keyed.proofs.CallLemmas.{ordered_keeps, some_room}
+use Rattle.s3_keyed.proofs.MergeSteps.{none_added}
 use Rattle.s3_keyed.proofs.keyed.Keyed.load.Goals as goal
 
 pub returns-then-not-branch-clause-loaded : goal.returns-then-not-branch-clause-loaded
@@ -48,13 +52,69 @@ returns-clause-loaded g c =
     ∙ ap Ok (sym (c.in_ok-append_added.ensures.ok ∙ ap (λ l. records_now (shown self) l ++ c.args.bytes.now ∷ []) c.is_above_all.ensures.keeps.contents))
 
 pub returns-in_err-append_indexed-clause-within : goal.returns-in_err-append_indexed-clause-within
-returns-in_err-append_indexed-clause-within g c = within_trans _ _ (g.P.Sectors.state c.is_above_all.new.pool) _ (within_from_keeps _ _ _ c.is_above_all.ensures.keeps) c.append_indexed.ensures.within
+returns-in_err-append_indexed-clause-within g c = keeps_within _ _ (g.P.Sectors.state c.is_above_all.new.pool) _ c.is_above_all.ensures.keeps c.append_indexed.ensures.within
 
 pub returns-then-is_empty-clause-within : goal.returns-then-is_empty-clause-within
-returns-then-is_empty-clause-within g c = within_trans _ _ (g.P.Sectors.state c.is_above_all.new.pool) _ (within_from_keeps _ _ _ c.is_above_all.ensures.keeps) c.append_indexed.ensures.within
+returns-then-is_empty-clause-within g c = keeps_within _ _ (g.P.Sectors.state c.is_above_all.new.pool) _ c.is_above_all.ensures.keeps c.append_indexed.ensures.within
 
 pub returns-in_err-append_added-clause-within : goal.returns-in_err-append_added-clause-within
-returns-in_err-append_added-clause-within g c = within_trans _ _ (g.P.Sectors.state c.is_above_all.new.pool) _ (within_from_keeps _ _ _ c.is_above_all.ensures.keeps) c.append_added.ensures.within
+returns-in_err-append_added-clause-within g c = keeps_within _ _ (g.P.Sectors.state c.is_above_all.new.pool) _ c.is_above_all.ensures.keeps c.append_added.ensures.within
 
 pub returns-clause-within : goal.returns-clause-within
-returns-clause-within g c = within_trans _ _ (g.P.Sectors.state c.is_above_all.new.pool) _ (within_from_keeps _ _ _ c.is_above_all.ensures.keeps) c.append_added.ensures.within
+returns-clause-within g c = keeps_within _ _ (g.P.Sectors.state c.is_above_all.new.pool) _ c.is_above_all.ensures.keeps c.append_added.ensures.within
+
+pub append_indexed-requires-clause-stored : goal.append_indexed-requires-clause-stored
+append_indexed-requires-clause-stored g c = stored_keeps c.args.self.now.file.file.sectors _ _ c.requires.stored c.is_above_all.ensures.keeps
+
+pub append_indexed-requires-clause-ordered : goal.append_indexed-requires-clause-ordered
+append_indexed-requires-clause-ordered g c = ordered_keeps (shown c.args.self.now) _ _ c.requires.ordered c.is_above_all.ensures.keeps
+
+pub append_indexed-requires-clause-room : goal.append_indexed-requires-clause-room
+append_indexed-requires-clause-room g c = some_room c.args.self.now.count c.args.self.now.file.file.capacity c.args.self.now.counted c.if-self.false
+
+pub append_added-requires-clause-stored : goal.append_added-requires-clause-stored
+append_added-requires-clause-stored g c = stored_keeps c.args.self.now.file.file.sectors _ _ c.requires.stored c.is_above_all.ensures.keeps
+
+pub append_added-requires-clause-ordered : goal.append_added-requires-clause-ordered
+append_added-requires-clause-ordered g c = ordered_keeps (shown c.args.self.now) _ _ c.requires.ordered c.is_above_all.ensures.keeps
+
+pub append_added-requires-clause-room : goal.append_added-requires-clause-room
+append_added-requires-clause-room g c = some_room c.args.self.now.count c.args.self.now.file.file.capacity c.args.self.now.counted c.if-self.false
+
+pub append_indexed-requires-clause-above : goal.append_indexed-requires-clause-above
+append_indexed-requires-clause-above g c =
+    let self = c.args.self.now in
+    ap (λ l. list_all (λ other. nat_lt other (number_of c.key_in-key.result.bytes)) (keys_now (shown self) l)) c.is_above_all.ensures.keeps.contents ∙ c.in_ok-is_above_all.ensures.above ∙ c.if-not-branch.false
+
+pub returns-in_err-is_above_all-clause-within : goal.returns-in_err-is_above_all-clause-within
+returns-in_err-is_above_all-clause-within g c = within_from_keeps (Contains c.args.self.now.file.file.sectors) _ _ c.is_above_all.ensures.keeps
+
+pub returns-then-not-branch-clause-within : goal.returns-then-not-branch-clause-within
+returns-then-not-branch-clause-within g c = within_from_keeps (Contains c.args.self.now.file.file.sectors) _ _ c.is_above_all.ensures.keeps
+
+pub returns-then-self-clause-within : goal.returns-then-self-clause-within
+returns-then-self-clause-within g c = within_from_keeps (Contains c.args.self.now.file.file.sectors) _ _ c.is_above_all.ensures.keeps
+
+pub returns-then-not-branch-clause-refused : goal.returns-then-not-branch-clause-refused
+returns-then-not-branch-clause-refused g c = record { file = refl; sectors = c.is_above_all.ensures.keeps }
+
+pub returns-then-self-clause-refused : goal.returns-then-self-clause-refused
+returns-then-self-clause-refused g c = record { file = refl; sectors = c.is_above_all.ensures.keeps }
+
+pub returns-in_err-is_above_all-clause-same : goal.returns-in_err-is_above_all-clause-same
+returns-in_err-is_above_all-clause-same g c = record { sectors = refl; layout = refl; started = refl }
+
+pub returns-then-not-branch-clause-same : goal.returns-then-not-branch-clause-same
+returns-then-not-branch-clause-same g c = record { sectors = refl; layout = refl; started = refl }
+
+pub returns-then-self-clause-same : goal.returns-then-self-clause-same
+returns-then-self-clause-same g c = record { sectors = refl; layout = refl; started = refl }
+
+pub returns-then-is_empty-clause-ordered : goal.returns-then-is_empty-clause-ordered
+returns-then-is_empty-clause-ordered g c = c.in_ok-append_indexed.ensures.ordered
+
+pub returns-clause-ordered : goal.returns-clause-ordered
+returns-clause-ordered g c = c.in_ok-append_added.ensures.ordered
+
+pub append_indexed-requires-clause-none_added : goal.append_indexed-requires-clause-none_added
+append_indexed-requires-clause-none_added g c = let added = c.args.self.now.added in none_added added.items _ c.is_empty.result added.ok.0 c.is_empty.ensures c.if-is_empty.true

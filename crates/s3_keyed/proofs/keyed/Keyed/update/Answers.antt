@@ -1,13 +1,14 @@
 use Rattle.std.proofs.Common.{◌*◌, Ok, sym, subst, ap, ◌∙◌, arith}
 use Rattle.std.specs.List.{Contains}
 use Rattle.s3_store.specs.Bytes.{part, SameOutside}
-use Rattle.s3_store.proofs.Frames.{keeps_within}
+use Rattle.s3_store.proofs.Frames.{within_from_keeps, keeps_within}
+use Rattle.s3_files.proofs.FileFrames.{stored_keeps}
 use Rattle.s3_files.proofs.RecordLemmas.{length_records, get_record, records_set}
 use Rattle.s3_keyed.specs.Index.{keys_of}
 use Rattle.s3_keyed.specs.Inner.Shape.{layout_in, bytes_in}
 use Rattle.s3_keyed.specs.Keyed.{shown, records_now}
 use Rattle.s3_keyed.proofs.Places.{index_stays}
-use Rattle.s3_keyed.proofs.CallLemmas.{no_record, update_none, update_changed, update_made, same_key, keys_updated, ordered_same}
+use Rattle.s3_keyed.proofs.CallLemmas.{no_record, below_capacity, update_none, update_changed, update_made, same_key, keys_updated, ordered_same}
 use Rattle.s3_keyed.proofs.keyed.Keyed.update.Goals as goal
 
 pub returns-then-i-self-clause-updated : goal.returns-then-i-self-clause-updated
@@ -60,3 +61,18 @@ returns-clause-ordered g c =
     (index_stays layout bytes new (c.args.i * long) long self.file.file.count c.write_record.ensures.records outside)
     (index_stays layout bytes new (c.args.i * long) long self.indexed c.write_record.ensures.records outside)
     (ap (keys_of layout.key) set ∙ keys_updated layout.key c.args.i c.args.bytes.now (part bytes (c.args.i * long) long) records there same)
+
+pub write_record-requires-clause-stored : goal.write_record-requires-clause-stored
+write_record-requires-clause-stored g c = stored_keeps c.args.self.now.file.file.sectors _ _ c.requires.stored c.read_key.ensures.keeps
+
+pub returns-in_err-old-clause-within : goal.returns-in_err-old-clause-within
+returns-in_err-old-clause-within g c = within_from_keeps (Contains c.args.self.now.file.file.sectors) _ _ c.read_key.ensures.keeps
+
+pub returns-then-not-is_same-clause-within : goal.returns-then-not-is_same-clause-within
+returns-then-not-is_same-clause-within g c = within_from_keeps (Contains c.args.self.now.file.file.sectors) _ _ c.read_key.ensures.keeps
+
+pub read_key-requires-clause-within : goal.read_key-requires-clause-within
+read_key-requires-clause-within g c = below_capacity c.args.i c.args.self.now.count c.args.self.now.file.file.capacity c.if-i-self.false c.args.self.now.counted
+
+pub write_record-requires-clause-within : goal.write_record-requires-clause-within
+write_record-requires-clause-within g c = below_capacity c.args.i c.args.self.now.count c.args.self.now.file.file.capacity c.if-i-self.false c.args.self.now.counted

@@ -1,13 +1,25 @@
-use Rattle.std.proofs.Common.{refl, ◌∙◌, arith}
-use Rattle.s3_labels.specs.Areas.{area_of, region_at}
+use Rattle.std.proofs.Common.{refl, ap, ◌∙◌, arith}
+use Rattle.s3_store.proofs.Frames.{within_refl}
+use Rattle.s3_slots.proofs.NewFiles.{new_key, new_tracks}
+use Rattle.s3_labels.specs.Areas.{Areas, area_of, region_at}
 use Rattle.s3_labels.proofs.Regions.{region_fits, region_whole, ready_room, slot_on_pack}
 use Rattle.s3_labels.proofs.Changes.{made_ready}
-use Rattle.s3_labels.proofs.Makes.{there_for, make_within, blanks_stay, slots_stay, others_of_make, few_areas}
+use Rattle.s3_labels.proofs.Outcomes.{label_refused, label_same, label_failed, sectors_refused, sectors_same, sectors_failed, later_failed}
+use Rattle.s3_labels.proofs.Makes.{there_for, make_within, records_within, blanks_stay, slots_stay, others_of_make, few_areas}
 use Rattle.s3_labels.proofs.Said.{says_made}
 use Rattle.s3_labels.proofs.pack.Pack.make.Goals as goal
 
 pub make-requires-clause-fits : goal.make-requires-clause-fits
 make-requires-clause-fits g c = region_fits c.args.level c.args.self.now.areas _ (region_at c.args.level c.args.self.now.areas) c.requires.ready refl
+
+pub make-requires-clause-key : goal.make-requires-clause-key
+make-requires-clause-key g c = new_key c.args.new.now c.requires.proper
+
+pub make-requires-clause-length : goal.make-requires-clause-length
+make-requires-clause-length g c = c.requires.proper.length.0
+
+pub make-requires-clause-tracks : goal.make-requires-clause-tracks
+make-requires-clause-tracks g c = new_tracks c.args.new.now c.requires.proper
 
 pub make-requires-clause-whole : goal.make-requires-clause-whole
 make-requires-clause-whole g c = region_whole c.args.level c.args.self.now.areas _ (region_at c.args.level c.args.self.now.areas) c.requires.ready refl
@@ -96,3 +108,64 @@ returns-clause-says g c =
     (λ j below not_old not_new. (rw c.area_of.ensures.value at c.in_ok-write_made.ensures.others) j not_old not_new
     ∙ slots_stay c.args.level c.args.self.now.areas _ (area_of c.args.level) c.in_ok-made.made.label (g.P.Sectors.state c.args.self.now.pool) (g.P.Sectors.state c.write_records.new.pool) (few_areas c.args.level) c.requires.ready
     c.in_ok-made.ensures.placed c.in_ok-write_records.ensures.within j below)
+
+-- ---- refusals
+pub returns-in_err-made-clause-err : goal.returns-in_err-made-clause-err
+returns-in_err-made-clause-err g c = label_refused c.from_residual.result _ c.in_err-made.field-0.0 c.from_residual.ensures.1 c.in_err-made.ensures.err
+
+pub returns-in_err-made-clause-same : goal.returns-in_err-made-clause-same
+returns-in_err-made-clause-same g c = label_same c.from_residual.result _ (ap (λ (a : Areas). record c.args.self.now { areas = a }) c.in_err-made.ensures.same)
+
+pub returns-in_err-made-clause-alone : goal.returns-in_err-made-clause-alone
+returns-in_err-made-clause-alone g c = c.in_err-made.ensures.alone
+
+pub returns-in_err-made-clause-within : goal.returns-in_err-made-clause-within
+returns-in_err-made-clause-within g c = within_refl _ _
+
+pub returns-in_err-made-clause-failures : goal.returns-in_err-made-clause-failures
+returns-in_err-made-clause-failures g c = label_failed c.from_residual.result _ c.in_err-made.field-0.0 c.from_residual.ensures.1
+
+pub returns-in_err-made-clause-ready : goal.returns-in_err-made-clause-ready
+returns-in_err-made-clause-ready g c = rw c.in_err-made.ensures.same c.requires.ready
+
+pub returns-in_err-write_records-clause-err : goal.returns-in_err-write_records-clause-err
+returns-in_err-write_records-clause-err g c =
+    sectors_refused c.from_residual-in_err-write_records.result _ c.in_err-write_records.field-0.0 c.from_residual-in_err-write_records.ensures.1 c.in_err-write_records.ensures.fault
+
+pub returns-in_err-write_records-clause-same : goal.returns-in_err-write_records-clause-same
+returns-in_err-write_records-clause-same g c =
+    sectors_same c.from_residual-in_err-write_records.result c.in_err-write_records.field-0.0 _ c.from_residual-in_err-write_records.ensures.1
+
+pub returns-in_err-write_records-clause-within : goal.returns-in_err-write_records-clause-within
+returns-in_err-write_records-clause-within g c =
+    records_within (area_of c.args.level) c.args.new.now.name _ c.in_ok-made.made.label _ _
+    (record { slots = _; at = c.in_ok-made.made.at; is = c.in_ok-made.ensures.ok; there = c.in_ok-made.ensures.there; named = c.in_ok-made.ensures.named })
+    c.in_err-write_records.ensures.within
+
+pub returns-in_err-write_records-clause-failures : goal.returns-in_err-write_records-clause-failures
+returns-in_err-write_records-clause-failures g c =
+    sectors_failed c.from_residual-in_err-write_records.result c.write_records.result c.in_err-write_records.field-0.0 _ _ c.from_residual-in_err-write_records.ensures.1
+    c.in_err-write_records.was c.write_records.ensures.failures
+
+pub returns-in_err-write_made-clause-err : goal.returns-in_err-write_made-clause-err
+returns-in_err-write_made-clause-err g c =
+    sectors_refused c.from_residual-in_err-write_made.result _ c.in_err-write_made.field-0.0 c.from_residual-in_err-write_made.ensures.1 c.in_err-write_made.ensures.fault
+
+pub returns-in_err-write_made-clause-same : goal.returns-in_err-write_made-clause-same
+returns-in_err-write_made-clause-same g c =
+    sectors_same c.from_residual-in_err-write_made.result c.in_err-write_made.field-0.0 _ c.from_residual-in_err-write_made.ensures.1
+
+pub returns-in_err-write_made-clause-failures : goal.returns-in_err-write_made-clause-failures
+returns-in_err-write_made-clause-failures g c =
+    later_failed _ _ _ _ c.in_ok-write_records.ensures.failures
+    (sectors_failed c.from_residual-in_err-write_made.result c.write_made.result c.in_err-write_made.field-0.0 _ _ c.from_residual-in_err-write_made.ensures.1
+    c.in_err-write_made.was c.write_made.ensures.failures)
+
+pub returns-clause-within : goal.returns-clause-within
+returns-clause-within g c =
+    make_within (area_of c.args.level) c.args.new.now.name _ c.in_ok-made.made.label _ _ _
+    (record { slots = _; at = c.in_ok-made.made.at; is = c.in_ok-made.ensures.ok; there = c.in_ok-made.ensures.there; named = c.in_ok-made.ensures.named })
+    c.in_ok-write_records.ensures.within (rw c.area_of.ensures.value at c.in_ok-write_made.ensures.within)
+
+pub returns-clause-failures : goal.returns-clause-failures
+returns-clause-failures g c = later_failed _ _ _ _ c.in_ok-write_records.ensures.failures c.in_ok-write_made.ensures.failures
