@@ -4,12 +4,12 @@ ghost use Rattle.s3_meaning.specs.Environment.{Environment};
 ghost use Rattle.s3_program.specs.Tables.{meaning_at, name_of};
 ghost use Rattle.s3_program.specs.Stands.{source_named};
 ghost use Rattle.s3_program.specs.Meant.{is_defined};
-ghost use Rattle.s3_operations.specs.Fits.{tables, named_factor, meant_factor, is_value, is_number, is_text};
+ghost use Rattle.s3_operations.specs.Fits.{tables, named_factor, meant_factor, is_value, is_number, is_number_literal, is_text};
 ghost use Rattle.s3_operations.specs.Held.{IsSound, IsOperand, IsNumberOf, IsTextOf, IsValueOf, held};
 
 use crate::values::Values;
 use s3_decimal::Dec;
-use s3_lines::sheet::{Factor, Shape};
+use s3_lines::sheet::{Factor, NumberLiteral, Shape};
 use s3_program::program::{Program, Reference};
 
 /// The value of a factor.
@@ -18,6 +18,20 @@ pub enum Operand<'a> {
     Number(Dec),
     /// Characters.
     Text(&'a [u8]),
+}
+
+/// The number that a literal writes.
+fn literal_number(literal: &NumberLiteral) -> Dec
+    requires { is_number_literal literal.now ≡ true }
+    ensures value { result.value ≡ literal.now.value }
+    ensures digits { result.digits ≡ literal.now.digits }
+    ensures decimals { result.decimals ≡ literal.now.decimals }
+{
+    Dec {
+        value: literal.value,
+        digits: literal.digits,
+        decimals: literal.decimals,
+    }
 }
 
 impl Values {
@@ -53,11 +67,7 @@ impl Values {
     {
         match factor {
             Factor::Named(name) => self.named(program, *name),
-            Factor::Number(literal) => Operand::Number(Dec {
-                value: literal.value,
-                digits: literal.digits,
-                decimals: literal.decimals,
-            }),
+            Factor::Number(literal) => Operand::Number(literal_number(literal)),
             Factor::Text(literal) => Operand::Text(&literal.codes[..literal.length as usize]),
         }
     }
@@ -78,15 +88,48 @@ impl Values {
         }
     }
 
+    /// The number of the field of a slot. That it is one needs no look at the field: the program is valid.
+    fn field_number(&self, program: &Program, slot: usize) -> Dec
+        requires sound { IsSound program.now self.now }
+        requires fits { IsTrue (is_number (Some (Factor.Named (meaning_at (tables program.now) (Reference.Field slot))))) }
+        ensures { (rest : Environment) → IsNumberOf (source_named program.now) (held program.now self.now rest) (Some (Factor.Named (name_of (tables program.now) (Reference.Field slot)))) result }
+    {
+        self.numbers[slot]
+    }
+
+    /// The number of what a factor names.
+    fn named_number(&self, program: &Program, name: Reference) -> Dec
+        requires sound { IsSound program.now self.now }
+        requires fits { IsTrue (is_number (Some (Factor.Named (meaning_at (tables program.now) name)))) }
+        ensures { (rest : Environment) → IsNumberOf (source_named program.now) (held program.now self.now rest) (Some (Factor.Named (name_of (tables program.now) name))) result }
+    {
+        match name {
+            Reference::Field(slot) => self.field_number(program, slot),
+            _ => unreachable!(),
+        }
+    }
+
+    fn factor_number(&self, program: &Program, factor: &Factor<Reference>) -> Dec
+        requires sound { IsSound program.now self.now }
+        requires fits { IsTrue (is_number (meant_factor program.now (Some factor.now))) }
+        ensures { (rest : Environment) → IsNumberOf (source_named program.now) (held program.now self.now rest) (named_factor program.now (Some factor.now)) result }
+    {
+        match factor {
+            Factor::Named(name) => self.named_number(program, *name),
+            Factor::Number(literal) => literal_number(literal),
+            Factor::Text(_) => unreachable!(),
+        }
+    }
+
     /// The value of a factor that is a number.
     pub fn number(&self, program: &Program, factor: &Option<Factor<Reference>>) -> Dec
         requires sound { IsSound program.now self.now }
         requires fits { IsTrue (is_number (meant_factor program.now factor.now)) }
         ensures { (rest : Environment) → IsNumberOf (source_named program.now) (held program.now self.now rest) (named_factor program.now factor.now) result }
     {
-        match self.operand(program, factor) {
-            Operand::Number(number) => number,
-            Operand::Text(_) => unreachable!(),
+        match factor {
+            Some(factor) => self.factor_number(program, factor),
+            None => unreachable!(),
         }
     }
 

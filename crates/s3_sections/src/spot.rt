@@ -1,5 +1,5 @@
 //! Where a run stands in a section of the C sheet, and which calculation comes next.
-ghost use Rattle.std.specs.Prelude.{◌≡◌, ◌&&◌, true, None, Some, is_some, slice_get};
+ghost use Rattle.std.specs.Prelude.{◌≡◌, ◌&&◌, true, false, None, Some, IfSome, IfNone, is_some, slice_get};
 ghost use Rattle.s3_meaning.specs.Source.{detail_calculations, total_calculations};
 ghost use Rattle.s3_program.specs.Stands.{source_named};
 ghost use Rattle.s3_meaning.specs.Environment.{Environment, all_hold};
@@ -9,7 +9,7 @@ ghost use Rattle.s3_program.specs.Standings.{ends_subroutine};
 ghost use Rattle.s3_program.specs.declared.program.Program.{Program};
 ghost use Rattle.s3_operations.specs.Held.{held};
 ghost use Rattle.s3_sections.specs.Sections.{rest_of, has_line, is_detail_time, is_total_time};
-ghost use Rattle.s3_sections.specs.Spots.{IsSpot, ComesAny, subroutine_in};
+ghost use Rattle.s3_sections.specs.Spots.{IsSpot, IsLevelOf, ComesAny, subroutine_in};
 
 use s3_lines::sheet::{CalculationLine, CalculationTime, Operation};
 use s3_operations::groups::Gathered;
@@ -37,6 +37,25 @@ impl Section {
             Section::Detail => is_detail(time),
             Section::Total => is_total(time),
             Section::Subroutine => !is_end(operation),
+        }
+    }
+
+    /// Whether the level entry of a calculation of the section holds, with one look at its time; none where it isn't one of
+    /// the section.
+    fn level(self, values: &Values, line: &CalculationLine<Reference>) -> Option<bool>
+        ensures some { IfSome result (λ is_on. IsLevelOf self line.now values.now is_on) }
+        ensures none { IfNone result (has_line self line.now.time line.now.operation ≡ false) }
+    {
+        match self {
+            Section::Detail => detail_level(line.time),
+            Section::Total => total_level(values, line.time),
+            Section::Subroutine => {
+                if is_end(line.operation) {
+                    None
+                } else {
+                    Some(is_level_on(values, line.time))
+                }
+            }
         }
     }
 }
@@ -79,11 +98,44 @@ fn holds(values: &Values, gathered: Gathered) -> bool
     is_level_on(values, gathered.time) && gathered.holds
 }
 
-/// Whether the level entry and the conditions of a card hold that is a calculation by itself.
-fn card_holds(program: &Program, values: &Values, line: &CalculationLine<Reference>) -> bool
-    ensures { (rest : Environment) → result ≡ (level_on line.now.time (held program.now values.now rest) && all_hold (held program.now values.now rest) (entries line.now.conditions)) }
+/// Whether the conditions of a card hold as well, that is a calculation by itself, as its level entry does or not.
+fn card_holds(
+    program: &Program,
+    values: &Values,
+    is_on: bool,
+    line: &CalculationLine<Reference>,
+) -> bool
+    ensures { (rest : Environment) → result ≡ (is_on && all_hold (held program.now values.now rest) (entries line.now.conditions)) }
 {
-    is_level_on(values, line.time) && values.holds(program, &line.conditions)
+    is_on && values.holds(program, &line.conditions)
+}
+
+/// Whether the level entry of a detail line holds: it has none. None for any other line.
+fn detail_level(time: CalculationTime) -> Option<bool>
+    ensures some { IfSome result (λ is_on. (is_detail_time time ≡ true) × ((e : Environment) → is_on ≡ level_on time e)) }
+    ensures none { IfNone result (is_detail_time time ≡ false) }
+{
+    match time {
+        CalculationTime::Detail => Some(true),
+        CalculationTime::Total(_)
+        | CalculationTime::Subroutine
+        | CalculationTime::And
+        | CalculationTime::Or => None,
+    }
+}
+
+/// Whether the level entry of a total line holds. None for any other line.
+fn total_level(values: &Values, time: CalculationTime) -> Option<bool>
+    ensures some { IfSome result (λ is_on. (is_total_time time ≡ true) × ((program : Program) (rest : Environment) → is_on ≡ level_on time (held program values.now rest))) }
+    ensures none { IfNone result (is_total_time time ≡ false) }
+{
+    match time {
+        CalculationTime::Total(level) => Some(values.indicators.is_on(level)),
+        CalculationTime::Detail
+        | CalculationTime::Subroutine
+        | CalculationTime::And
+        | CalculationTime::Or => None,
+    }
 }
 
 /// Where a run stands in a section.
@@ -163,12 +215,10 @@ impl Spot {
         requires whole { is_some line.now.operation ≡ true }
         ensures { (rest : Environment) → ComesAny program.now (held program.now values.now rest) self result }
     {
-        if !self.section.has(line.time, line.operation) {
-            return None;
-        }
+        let is_on = self.section.level(values, line)?;
         Some(Next {
             place: self.place,
-            holds: card_holds(program, values, line),
+            holds: card_holds(program, values, is_on, line),
         })
     }
 
