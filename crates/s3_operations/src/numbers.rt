@@ -1,5 +1,5 @@
 //! Numbers that operations take, and the one that they store.
-ghost use Rattle.std.specs.Prelude.{◌≡◌, true, zip, IsTrue, Some, is_some, if◌then◌else◌};
+ghost use Rattle.std.specs.Prelude.{◌≡◌, ◌<◌, true, List, Option, zip, IsTrue, Some, is_some, if◌then◌else◌};
 ghost use Rattle.std.specs.List.{list_all, list_any};
 ghost use Rattle.s3_lines.specs.declared.indicator.Indicator.{Indicator};
 ghost use Rattle.s3_meaning.specs.Moving.{sign_marks as sign_marks_spec};
@@ -8,7 +8,7 @@ ghost use Rattle.s3_meaning.specs.Source.{digits_of, decimals_of};
 ghost use Rattle.s3_meaning.specs.Calculating.{result_of, order_marks as order_marks_spec};
 ghost use Rattle.s3_program.specs.Stands.{source_named};
 ghost use Rattle.s3_program.specs.Tables.{meaning_at, name_of};
-ghost use Rattle.s3_operations.specs.Indicators.{are_settable, is_settable_entry, on_in, shown_on};
+ghost use Rattle.s3_operations.specs.Indicators.{alone, are_settable, is_settable_entry, on_in, shown_alone, shown_on};
 ghost use Rattle.s3_operations.specs.Fits.{tables, named_line, named_factor, meant_result, is_number_field, GivesNumber, TakesNumber, TakesNumbers};
 ghost use Rattle.s3_operations.specs.Held.{IsSound, IsNumberOf, Changes, held, with_value};
 
@@ -55,33 +55,36 @@ pub(crate) fn marks(
     ]
 }
 
-/// Plus, minus, zero.
-pub fn sign_marks(
-    indicators: &[Option<Indicator>; 3],
-    number: Dec,
-) -> [(Option<Indicator>, bool); 3]
-    requires { list_all is_settable_entry indicators.now ≡ true }
-    ensures marks { result ≡ sign_marks_spec indicators.now number.value }
-    ensures settable { are_settable result ≡ true }
+/// The places of the entries for plus, minus and zero in 54-59 and 65-70; those for high, low and equal have the same.
+const PLUS_ENTRY: usize = 0;
+
+const MINUS_ENTRY: usize = 1;
+
+const ZERO_ENTRY: usize = 2;
+
+/// Which of the entries for plus, minus and zero a number turns on.
+fn sign_place(number: Dec) -> usize
+    ensures within { result < 3 }
+    ensures marks { (indicators : List (Option Indicator)) → sign_marks_spec indicators number.value ≡ zip indicators (alone result) }
 {
-    let is_zero = number.value.unsigned_abs() == 0;
-    let is_negative = number.is_negative();
-    marks(indicators, [!is_zero && !is_negative, is_negative, is_zero])
+    if number.is_negative() {
+        MINUS_ENTRY
+    } else if number.value == 0 {
+        ZERO_ENTRY
+    } else {
+        PLUS_ENTRY
+    }
 }
 
-/// High, low, equal.
-pub fn order_marks(
-    indicators: &[Option<Indicator>; 3],
-    order: Ordering,
-) -> [(Option<Indicator>, bool); 3]
-    requires { list_all is_settable_entry indicators.now ≡ true }
-    ensures marks { result ≡ order_marks_spec indicators.now order }
-    ensures settable { are_settable result ≡ true }
+/// Which of the entries for high, low and equal an order turns on.
+fn order_place(order: Ordering) -> usize
+    ensures within { result < 3 }
+    ensures marks { (indicators : List (Option Indicator)) → order_marks_spec indicators order ≡ zip indicators (alone result) }
 {
     match order {
-        Ordering::Greater => marks(indicators, [true, false, false]),
-        Ordering::Less => marks(indicators, [false, true, false]),
-        Ordering::Equal => marks(indicators, [false, false, true]),
+        Ordering::Greater => PLUS_ENTRY,
+        Ordering::Less => MINUS_ENTRY,
+        Ordering::Equal => ZERO_ENTRY,
     }
 }
 
@@ -93,13 +96,24 @@ pub(crate) fn has_entry(indicators: &[Option<Indicator>; 3]) -> bool
 }
 
 impl Indicators {
+    /// The entries of a line go off, and then the one that has its cause goes on.
+    fn show_one(&mut self, indicators: &[Option<Indicator>; 3], shown: Option<Indicator>)
+        requires all { list_all is_settable_entry indicators.now ≡ true }
+        requires one { is_settable_entry shown ≡ true }
+        ensures { (other : Indicator) → on_in self.new other ≡ shown_alone shown indicators.now other (on_in self.old other) }
+    {
+        self.turn_all(indicators, false);
+        self.turn_entry(shown, true);
+    }
+
     /// The entries of a line show the sign of a number.
     pub(crate) fn show_sign(&mut self, indicators: &[Option<Indicator>; 3], number: Dec)
         requires { list_all is_settable_entry indicators.now ≡ true }
         ensures { (other : Indicator) → on_in self.new other ≡ shown_on (sign_marks_spec indicators.now number.value) (on_in self.old) other }
     {
         if has_entry(indicators) {
-            self.show(&sign_marks(indicators, number));
+            let shown = indicators[sign_place(number)];
+            self.show_one(indicators, shown);
         }
     }
 
@@ -109,7 +123,8 @@ impl Indicators {
         ensures { (other : Indicator) → on_in self.new other ≡ shown_on (order_marks_spec indicators.now order) (on_in self.old) other }
     {
         if has_entry(indicators) {
-            self.show(&order_marks(indicators, order));
+            let shown = indicators[order_place(order)];
+            self.show_one(indicators, shown);
         }
     }
 }

@@ -1,5 +1,5 @@
 //! One line, by its operation.
-ghost use Rattle.std.specs.Prelude.{◌≡◌, true};
+ghost use Rattle.std.specs.Prelude.{◌≡◌, true, false};
 ghost use Rattle.s3_meaning.specs.Calculating.{changed};
 ghost use Rattle.s3_operations.specs.Fits.{IsLineOf, named_line};
 ghost use Rattle.s3_operations.specs.Held.{IsSound, Changes};
@@ -10,17 +10,19 @@ use s3_lines::sheet::{CalculationLine, Operation};
 use s3_program::program::{Program, Reference};
 
 impl Values {
-    /// A line whose operation needs nothing but values: no halt, no jump and no record.
+    /// A line whose operation needs nothing but values: no halt, no jump and no record. Any other one changes nothing, and is
+    /// answered by false.
     pub fn perform(
         &mut self,
         program: &Program,
         line: &CalculationLine<Reference>,
         operation: Operation,
-    )
+    ) -> bool
         requires sound { IsSound program.now self.old }
         requires line { IsLineOf program.now line.now operation }
-        requires asks { makes_no_request operation ≡ true }
-        ensures { Changes program.now self.old self.new (λ source. changed source (named_line program.now line.now) operation) }
+        ensures performed { result ≡ makes_no_request operation }
+        ensures changes { makes_no_request operation ≡ true → Changes program.now self.old self.new (λ source. changed source (named_line program.now line.now) operation) }
+        ensures same { makes_no_request operation ≡ false → self.new ≡ self.old }
     {
         match operation {
             Operation::Add => self.add(program, line),
@@ -42,7 +44,8 @@ impl Values {
             | Operation::GoTo
             | Operation::ExecuteSubroutine
             | Operation::Except
-            | Operation::Chain => unreachable!(),
+            | Operation::Chain => return false,
         }
+        true
     }
 }

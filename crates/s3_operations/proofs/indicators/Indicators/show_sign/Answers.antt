@@ -1,7 +1,14 @@
-use Rattle.std.proofs.Common.{sym, ◌∙◌}
-use Rattle.s3_operations.specs.Indicators.{on_in}
-use Rattle.s3_operations.proofs.MarkLemmas.{nothing_shown}
+use Rattle.std.proofs.Common.{sym, ap, ◌∙◌}
+use Rattle.std.specs.Prelude.{None}
+use Rattle.s3_operations.specs.Indicators.{on_in, shown_on}
+use Rattle.s3_operations.proofs.MarkLemmas.{nothing_shown, one_shown}
 use Rattle.s3_operations.proofs.indicators.Indicators.show_sign.Goals as goal
 
 pub returns-else-has_entry : goal.returns-else-has_entry
 returns-else-has_entry c = nothing_shown c.args.indicators.now _ (on_in c.args.self.now) (sym c.has_entry.ensures ∙ c.if-has_entry.false)
+
+pub returns-then-has_entry : goal.returns-then-has_entry
+returns-then-has_entry c = λ other.
+    c.show_one.ensures other
+    ∙ (one_shown c.args.indicators.now c.sign_place.result None (on_in c.args.self.now) other c.told-indicators c.sign_place.ensures.within
+    ∙ ap (λ marks. shown_on marks (on_in c.args.self.now) other) (sym (c.sign_place.ensures.marks c.args.indicators.now)))
