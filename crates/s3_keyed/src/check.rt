@@ -10,7 +10,7 @@ ghost use Rattle.s3_keyed.specs.Inner.Shape.{layout_in, bytes_in, keys_on, index
 use crate::entries::read_key;
 use crate::index_sector::{IndexSector, entries_per_sector};
 use crate::indexed::IndexedFile;
-use crate::keys::Key;
+use crate::keys::{Key, KeyNumber};
 use s3_store::{PoolFault, Sectors};
 
 /// Whether the key of entry `i` is above the one before it.
@@ -21,12 +21,17 @@ fn follows(i: u32, last: &Key, key: &Key) -> bool
 }
 
 /// Keeps the key of entry `i` where the entry is the first of its sector.
-fn keep_first(firsts: &mut Vec<Key>, per_sector: u32, i: u32, key: &Key) -> Result<(), PoolFault>
+fn keep_first(
+    firsts: &mut Vec<KeyNumber>,
+    per_sector: u32,
+    i: u32,
+    key: &Key,
+) -> Result<(), PoolFault>
     requires { 0 < per_sector }
     ensures { IfErr result (λ fault. fault ≡ PoolFault.NoMemory) }
 {
     if i % per_sector == 0 {
-        firsts.push(*key)?;
+        firsts.push(key.number())?;
     }
     Ok(())
 }
@@ -37,7 +42,7 @@ fn are_good<P: Sectors>(
     file: &IndexedFile,
     pool: &mut P,
     mut sector: IndexSector,
-    firsts: &mut Vec<Key>,
+    firsts: &mut Vec<KeyNumber>,
 ) -> Result<bool, PoolFault>
     requires stored { AreStored file.now.file.sectors (P.state pool.old).contents }
     requires here { sector.bytes ≡ index_sector file.now sector.place (bytes_in file.now (P.state pool.old).contents) }
@@ -74,7 +79,7 @@ fn are_good<P: Sectors>(
 pub fn is_good<P: Sectors>(
     file: &IndexedFile,
     pool: &mut P,
-    firsts: &mut Vec<Key>,
+    firsts: &mut Vec<KeyNumber>,
 ) -> Result<bool, PoolFault>
     requires stored { AreStored file.now.file.sectors (P.state pool.old).contents }
     ensures good { IfOk result (λ good. is_good_index (index_in (layout_in file.now) file.now.file.count (bytes_in file.now (P.state pool.old).contents)) (keys_on file.now (P.state pool.old).contents) ≡ good) }

@@ -17,7 +17,7 @@ use crate::entries::{read_entry, read_key};
 use crate::fault::KeyedFault;
 use crate::index_sector::entries_per_sector;
 use crate::indexed::{IndexEntry, IndexedFile};
-use crate::keys::Key;
+use crate::keys::{Key, KeyNumber};
 use crate::search::{guess_of, is_above_index, search_index};
 use crate::write::{read_record, write_entry, write_record};
 use s3_slots::FileLabel;
@@ -36,7 +36,7 @@ pub struct Keyed {
     /// The entries of the others, in the order of their keys.
     pub(crate) added: Vec<IndexEntry>,
     /// The first key in each sector of the index as it was checked. A search begins by them, but doesn't rely on them.
-    pub(crate) firsts: Vec<Key>,
+    pub(crate) firsts: Vec<KeyNumber>,
     ghost counted: { count ≤ file.file.capacity },
 }
 

@@ -3,6 +3,7 @@ ghost use Rattle.std.specs.Prelude.{◌≡◌, ◌≤◌, ◌<◌, ◌^◌, ℕ,
 ghost use Rattle.std.specs.Ordering.{nat_cmp};
 ghost use Rattle.s3_keyed.specs.KeyOrder.{number_of};
 
+use byteorder::{BigEndian, ByteOrder};
 use std::cmp::Ordering;
 
 /// A key of at most 29 bytes, with zeros before it.
@@ -25,6 +26,14 @@ impl Key {
         Key { bytes }
     }
 
+    /// As a number.
+    pub fn number(&self) -> KeyNumber {
+        KeyNumber {
+            high: BigEndian::read_u128(&self.bytes[..16]),
+            low: BigEndian::read_u128(&self.bytes[13..]),
+        }
+    }
+
     /// How it stands to another key of the same length.
     pub fn compare(&self, other: &Key) -> Ordering
         ensures { result ≡ nat_cmp (number_of self.now.bytes) (number_of other.now.bytes) }
@@ -44,5 +53,21 @@ impl Key {
         ensures { result ≡ (number_of self.now.bytes == number_of other.now.bytes) }
     {
         self.compare(other) == Ordering::Equal
+    }
+}
+
+/// A key as a number, which is quick to compare. Nothing is proved of it, so that a search may begin by it alone.
+#[derive(Clone, Copy)]
+pub struct KeyNumber {
+    /// The first 16 bytes.
+    high: u128,
+    /// The last 16, three of which are in both.
+    low: u128,
+}
+
+impl KeyNumber {
+    /// Whether it isn't above another one.
+    pub fn is_up_to(&self, other: &KeyNumber) -> bool {
+        self.high < other.high || self.high == other.high && self.low <= other.low
     }
 }

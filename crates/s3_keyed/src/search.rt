@@ -11,26 +11,21 @@ ghost use Rattle.s3_keyed.specs.Inner.Shape.{layout_in, bytes_in};
 use crate::entries::read_entry;
 use crate::index_sector::{IndexSector, compare_entry, entries_per_sector, number_in};
 use crate::indexed::IndexedFile;
-use crate::keys::Key;
+use crate::keys::{Key, KeyNumber};
 use s3_store::{PoolFault, Sectors};
 use std::cmp::Ordering;
 
 /// The first entry of the sector that a key lies in by the first keys of all sectors.
-pub fn guess_of(firsts: &[Key], per_sector: u32, key: &Key) -> u32 {
-    let sectors = firsts.partition_point(|first| !first.is_above(key));
+pub fn guess_of(firsts: &[KeyNumber], per_sector: u32, key: &Key) -> u32 {
+    let number = key.number();
+    let sectors = firsts.partition_point(|first| first.is_up_to(&number));
     let sector = u32::try_from(sectors.saturating_sub(1)).unwrap_or(0);
     sector.saturating_mul(per_sector)
 }
 
-/// Whether an entry is one of those from `low` up to but without `high`.
-fn is_among(low: u32, high: u32, entry: u32) -> bool
-    ensures { IsTrue result → (low ≤ entry) × (entry < high) }
-{
-    low <= entry && entry < high
-}
-
-/// Which entry is compared next, of those from `low` up to but without `high`: the first and the last of the guessed sector and
-/// the one behind it, and then the one in the middle, or the first of its sector if that comes behind `low`.
+/// Which entry is compared next, of those from `low` up to but without `high`: the one in the middle of those in the guessed
+/// sector, then the one behind that sector, and then the one in the middle of all, or the first of its sector if that comes
+/// behind `low`.
 fn next_of(low: u32, high: u32, guess: u32, per_sector: u32) -> u32
     requires some { low < high }
     requires entries { 0 < per_sector }
@@ -38,14 +33,13 @@ fn next_of(low: u32, high: u32, guess: u32, per_sector: u32) -> u32
     ensures below { result < high }
 {
     let behind = guess.saturating_add(per_sector);
-    if is_among(low, high, guess) {
-        return guess;
+    let from = low.max(guess);
+    let to = high.min(behind);
+    if from < to {
+        return from + (to - from) / 2;
     }
-    if is_among(low, high, behind - 1) {
-        return behind - 1;
-    }
-    if is_among(low, high, behind) {
-        return behind;
+    if low == behind {
+        return low;
     }
     let middle = low + (high - low) / 2;
     let first = middle - middle % per_sector;
