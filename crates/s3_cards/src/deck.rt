@@ -1,7 +1,8 @@
 //! Decks: a deck is the list of its cards.
 
-ghost use Rattle.std.specs.Prelude.{◌≡◌, ◌↔◌, ◌<◌, ◌≤◌, ◌∷◌, [], ℕ, List, length, IsTrue, IfOk, IfErr, MatchOption, IfSome, Ok, Err, Some, None, slice_get, position, ◌==◌};
+ghost use Rattle.std.specs.Prelude.{◌≡◌, ◌↔◌, ◌<◌, ◌≤◌, ◌∷◌, [], ℕ, List, length, IsTrue, OnOk, IfErr, MatchOption, IfSome, Ok, Err, Some, None, slice_get, position, ◌==◌};
 ghost use Rattle.std.specs.Option.{option_copied};
+ghost use Rattle.std.specs.List.{list_any};
 ghost use Rattle.std.specs.Str.Lines.{lines, strip_carriage_return};
 ghost use Rattle.s3_cards.specs.Deck.{fault_of, card_of, deck_of, fault_code, detail_of, HasCardNumber, Gives, codes_and_blanks};
 
@@ -121,8 +122,9 @@ impl Deck {
             if cards.len() == MAX_CARDS {
                 return Err(DeckFault::At(9_999, CardFault::TooMany));
             }
-            match card(line) {
-                Ok(card) => cards.push(card)?,
+            let mut card: Card = [BLANK; COLUMNS];
+            match punch(line, &mut card) {
+                Ok(()) => cards.push(card)?,
                 Err(fault) => return Err(DeckFault::At(cards.len() as u16 + 1, fault)),
             }
             rest = after;
@@ -161,21 +163,33 @@ impl Deck {
     }
 }
 
-/// The card of a line, or its fault.
+/// Punches a line into a card, or gives its fault. The card is written where it lies: a result with a card in it would be
+/// copied again and again.
 #[tactic(auto, unfolding(crate::specs::Deck::fault_of))]
-fn card(line: &[u8]) -> Result<Card, CardFault>
-    ensures ok { IfOk result (λ card. card ≡ card_of line.now) }
-    ensures sound { IfOk result (λ _. fault_of line.now ≡ None) }
+fn punch(line: &[u8], card: &mut Card) -> Result<(), CardFault>
+    ensures ok { OnOk result (card.new ≡ card_of line.now) }
+    ensures sound { OnOk result (fault_of line.now ≡ None) }
     ensures fault { IfErr result (λ fault. fault_of line.now ≡ Some fault) }
 {
     if line.len() > COLUMNS {
         return Err(CardFault::TooWide);
     }
-    let card = translated(line);
-    if card.contains(&0) {
+    *card = translated(line);
+    if lacks_code(card) {
         return Err(CardFault::BadCharacter);
     }
-    Ok(card)
+    Ok(())
+}
+
+/// Whether a column has 0, which is no code. All columns are looked at, so that many are looked at at once.
+fn lacks_code(card: &Card) -> bool
+    ensures { result ≡ list_any (λ code. code == 0) card.now }
+{
+    let mut lacks = false;
+    for code in card {
+        lacks |= *code == 0;
+    }
+    lacks
 }
 
 /// The codes of a line's bytes, 0 for each that is no card character, and blanks behind them.
