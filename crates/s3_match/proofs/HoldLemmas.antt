@@ -1,9 +1,9 @@
 -- Control fields are held for the levels that a type names.
-use Rattle.std.proofs.Common.{◌≡◌, ℕ, ◌+◌, ◌<◌, ◌≤◌, ◌==◌, ◌&&◌, ◌||◌, length, map, drop, get_or, List, [], ◌∷◌, Bool, true, false, refl, sym, ◌∙◌, ap, zero, suc, arith, inl, inr}
-use Rattle.std.specs.Prelude.{Option, Some, None, is_some, IsTrue, IfSome, option_map, nat_le, if◌then◌else◌}
+use Rattle.std.proofs.Common.{◌≡◌, ℕ, ◌+◌, ◌<◌, ◌≤◌, ◌==◌, ◌&&◌, ◌||◌, length, map, drop, get_or, List, [], ◌∷◌, Bool, true, false, refl, sym, ◌∙◌, ap, arith}
+use Rattle.std.specs.Prelude.{Option, Some, None, is_some, IsTrue, IfSome, option_map, if◌then◌else◌}
 use Rattle.std.specs.Option.{option_or}
 use Rattle.std.specs.List.{list_any}
-use Rattle.std.proofs.lemmas.Bool.{cases_Bool, and_parts, true≢false}
+use Rattle.std.proofs.lemmas.Bool.{and_parts, true≢false}
 use Rattle.std.proofs.lemmas.Bool.Decides.{nat_tests}
 use Rattle.std.proofs.lemmas.List.{at_drop_more, at_drop_all}
 use Rattle.s3_cards.specs.declared.name.Name.{Name}
@@ -13,7 +13,7 @@ use Rattle.s3_lines.specs.declared.sheet.FieldLine.{FieldLine}
 use Rattle.s3_lines.specs.declared.sheet.InputLine.{InputLine}
 use Rattle.s3_lines.specs.declared.sheet.InputLine.TheVariants.{Record, And as AndCodes, Or as OrCodes, Field as InputField}
 use Rattle.s3_lines.specs.Ranges.{is_between, if_given, field_in_range}
-use Rattle.s3_meaning.specs.RecordTypes.{RecordType, group_fields, types_from}
+use Rattle.s3_meaning.specs.RecordTypes.{group_fields, types_from}
 use Rattle.s3_meaning.specs.Source.{own_fields, has_control_fields, has_levels}
 use Rattle.s3_meaning.specs.Selection.{compared_field, control_value}
 use Rattle.s3_program.specs.declared.mark.Key.TheVariants as key
@@ -24,11 +24,9 @@ use Rattle.s3_program.specs.Starts.{is_type}
 use Rattle.s3_program.specs.Stands.{source_named}
 use Rattle.s3_program.specs.Tables.{Tables, name_of}
 use Rattle.s3_program.specs.Valid.{named, named_input}
-use Rattle.s3_match.specs.declared.keys.RecordKey.{RecordKey}
 use Rattle.s3_match.specs.Types.{tables_in, is_type_start, kind_at}
 use Rattle.s3_match.specs.Fields.{named_field, is_own, has_level, first_field, field_at}
-use Rattle.s3_match.specs.Controls.{held_in, names_some_level, some_type_names_level}
-use Rattle.s3_match.specs.Inner.Holding.{AreHeldTo}
+use Rattle.s3_match.specs.Controls.{names_some_level, some_type_names_level}
 use Rattle.s3_match.proofs.FieldLemmas.{field_is, field_ranged}
 use Rattle.s3_match.proofs.KeyLemmas.{control_is, level_any, any_found, is_some_map}
 
@@ -78,65 +76,6 @@ unnamed program start bytes n is out =
     nothing : (o : Option (FieldLine Reference)) → IfSome o (λ field. has_level (Some n) field.control_level ≡ true) → IfSome o (λ field. IsTrue (field_in_range field)) → o ≡ None
     nothing None has ranged = refl
     nothing (Some field) has ranged = absurd (no_such_level n field.control_level out has (entry_of field ranged))
-
--- ---- level by level
-pub held_at_first : (program : Program) (start : TypeStart) (bytes : List ℕ) (held : List RecordKey) → is_type_start program start ≡ true → AreHeldTo (kind_at program start) bytes held held 0
-held_at_first program start bytes held is = record {
-  named = λ level h. at_zero level (omega (arith, h));
-  others = λ level h. refl;
-}
-  where
-    at_zero : (level : ℕ) → level ≡ 0 → held_in held level ≡ option_or (control_value (kind_at program start) bytes level) (held_in held level)
-    at_zero zero e = sym (ap (λ (v : Option (List ℕ)). option_or v None) (unnamed program start bytes 0 is refl))
-    at_zero (suc level) e = absurd (omega (arith, e))
-
-pub held_one_more : (kind : RecordType) (bytes : List ℕ) (old held new : List RecordKey) (n level : ℕ) → level ≡ n + 1 → AreHeldTo kind bytes old held n
-    → ((other : ℕ) → held_in new other ≡ (if other == level then option_or (control_value kind bytes level) (held_in held level) else held_in held other)) → AreHeldTo kind bytes old new (n + 1)
-held_one_more kind bytes old held new n level e before step = record {
-  named = λ other h. elim (cases_Bool (other == level)) [
-    | inl same ↦
-        let at : other ≡ level = number other level same in
-        step other ∙ ap (λ (b : Bool). if b then option_or (control_value kind bytes level) (held_in held level) else held_in held other) same
-        ∙ ap (option_or (control_value kind bytes level)) (before.others level (omega (arith, e)))
-        ∙ ap (λ (m : ℕ). option_or (control_value kind bytes m) (held_in old m)) (sym at)
-    | inr different ↦ elsewhere other different ∙ before.named other (below other different h)
-  ];
-  others = λ other h. elsewhere other (above other h) ∙ before.others other (omega (arith, h));
-}
-  where
-    number : (m n : ℕ) → (m == n) ≡ true → m ≡ n
-    number m n h = grind (arith, nat_tests, h)
-
-    below : (m : ℕ) → (m == level) ≡ false → m ≤ n + 1 → m ≤ n
-    below m h less = grind (arith, nat_tests, h, less, e)
-
-    above : (m : ℕ) → n + 1 < m → (m == level) ≡ false
-    above m h = grind (arith, nat_tests, h, e)
-
-    elsewhere : (other : ℕ) → (other == level) ≡ false → held_in new other ≡ held_in held other
-    elsewhere other different = step other ∙ ap (λ (b : Bool). if b then option_or (control_value kind bytes level) (held_in held level) else held_in held other) different
-
-pub held_all : (program : Program) (start : TypeStart) (bytes : List ℕ) (old new : List RecordKey) (n : ℕ) → is_type_start program start ≡ true → n ≡ 9 → AreHeldTo (kind_at program start) bytes old new n
-    → (level : ℕ) → held_in new level ≡ option_or (control_value (kind_at program start) bytes level) (held_in old level)
-held_all program start bytes old new n is e held level = elim (cases_Bool (nat_le level 9)) [
-  | inl low ↦ held.named level (within level low)
-  | inr high ↦
-      held.others level (above level high)
-      ∙ sym (ap (λ (v : Option (List ℕ)). option_or v (held_in old level)) (unnamed program start bytes level is (out level high)))
-]
-  where
-    within : (m : ℕ) → nat_le m 9 ≡ true → m ≤ n
-    within m h = grind (arith, nat_tests, h, e)
-
-    above : (m : ℕ) → nat_le m 9 ≡ false → n < m
-    above m h = grind (arith, nat_tests, h, e)
-
-    out : (m : ℕ) → nat_le m 9 ≡ false → is_between 1 9 m ≡ false
-    out m h = ap (λ (b : Bool). nat_le 1 m && b) h ∙ nothing (nat_le 1 m)
-      where
-        nothing : (b : Bool) → (b && false) ≡ false
-        nothing true = refl
-        nothing false = refl
 
 -- ---- whether a program has control fields
 types_at : (lines : List (InputLine Reference)) (k : ℕ) (d : InputLine Reference) → k < length lines → some_type_names_level lines ≡ some_type_names_level (drop k lines)

@@ -15,4 +15,5 @@ pub mod TakeLemmas
 pub mod BeginLemmas
 pub mod UnreadLemmas
 pub mod HoldLemmas
+pub mod HoldingLemmas
 pub mod AnswerLemmas

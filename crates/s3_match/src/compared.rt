@@ -1,6 +1,7 @@
 //! What match and control fields compare: characters by their bytes, numbers by their digits without sign.
 
-ghost use Rattle.std.specs.Prelude.{◌≡◌, ◌-◌, ◌+◌, ◌≤◌, ◌++◌, ◌∷◌, length, slice_range, slice_index, map};
+ghost use Rattle.std.specs.Prelude.{◌≡◌, ◌-◌, ◌+◌, ◌≤◌, ◌++◌, ◌∷◌, length, slice_range, slice_index, map, nat_eq};
+ghost use Rattle.std.specs.Cmp.Lexicographic.{pointwise};
 ghost use Rattle.arrayvec.specs.ArrayVec.{array_vec_len};
 ghost use Rattle.s3_decimal.specs.Records.{halves, zoned_digits, packed_digits};
 ghost use Rattle.s3_meaning.specs.Selection as meaning;
@@ -71,6 +72,21 @@ pub fn push_compared(compared: &mut ArrayVec<u8, KEY_BYTES>, form: FieldForm, by
         FieldForm::Zoned(_) => push_zoned(compared, bytes),
         FieldForm::Packed(_) => push_packed(compared, bytes),
     }
+}
+
+/// Whether these are the digits of a zoned number.
+pub fn are_zoned_digits(bytes: &[u8], digits: &[u8]) -> bool
+    ensures { result ≡ pointwise nat_eq (zoned_digits bytes.now) digits.now }
+{
+    if bytes.len() != digits.len() {
+        return false;
+    }
+    for place in 0..bytes.len() {
+        if bytes[place] % 16 != digits[place] {
+            return false;
+        }
+    }
+    true
 }
 
 /// Whether a key is lower than another.

@@ -1,15 +1,19 @@
-//! The control fields of a record type, all found in one pass over its fields.
+//! The control fields of a record: they are compared and held in one pass over the lines of its type.
 
-ghost use Rattle.std.specs.Prelude.{◌≡◌, ◌≤◌, ◌==◌, ℕ, drop, length, replicate, IsTrue, Some, None, if◌then◌else◌};
+ghost use Rattle.std.specs.Prelude.{◌≡◌, ◌≤◌, ◌==◌, ◌&&◌, ℕ, true, not, nat_lt, length, IsTrue, IfSome, Some, None, if◌then◌else◌};
 ghost use Rattle.std.specs.Option.{option_or};
-ghost use Rattle.s3_lines.specs.Ranges.{is_between};
+ghost use Rattle.s3_lines.specs.Ranges.{field_in_range, is_between};
+ghost use Rattle.s3_meaning.specs.Selection.{control_value, same_key};
 ghost use Rattle.s3_program.specs.declared.mark.Key.TheVariants as key;
-ghost use Rattle.s3_match.specs.Types.{is_type_start};
-ghost use Rattle.s3_match.specs.Fields as meaning;
-ghost use Rattle.s3_match.specs.Inner.ControlFields as spec;
+ghost use Rattle.s3_match.specs.Types.{is_type_start, kind_at};
+ghost use Rattle.s3_match.specs.Controls.{break_of, held_in};
+ghost use Rattle.s3_match.specs.Fields.{field_on as field_on_spec};
+ghost use Rattle.s3_match.specs.Keys.{key_in};
+ghost use Rattle.s3_match.specs.Inner.ControlFields.{compared_on};
+ghost use Rattle.s3_match.specs.Inner.Holding as spec;
 
 use crate::fields::{begins_group, field_on, indicator_of};
-use crate::keys::LEVELS;
+use crate::keys::{LEVELS, RecordKey};
 use s3_lines::indicator::Indicator;
 use s3_lines::sheet::{FieldLine, InputLine};
 use s3_program::mark::Key;
@@ -23,74 +27,122 @@ fn is_level(level: u8) -> bool
     1 <= level && level <= LEVELS
 }
 
-/// Notes a field at its level, unless one above it has that level.
-fn note_at(fields: &mut [Option<FieldLine<Reference>>], level: u8, field: FieldLine<Reference>)
-    requires nine { length fields.old ≡ 9 }
+/// Holds what a field compares, and says whether it was another value that was held. `value` serves to compare.
+fn hold_field(
+    held: &mut RecordKey,
+    value: &mut RecordKey,
+    field: &FieldLine<Reference>,
+    bytes: &[u8],
+) -> bool
+    requires { IsTrue (field_in_range field.now) }
+    ensures breaks { result ≡ not (same_key (Some (compared_on bytes.now field.now)) (key_in held.old)) }
+    ensures held { key_in held.new ≡ Some (compared_on bytes.now field.now) }
+{
+    if held.is_field(value, field, bytes) {
+        return false;
+    }
+    held.read_field(field, bytes);
+    true
+}
+
+/// Holds what the field of a level compares, and says whether it was another value that was held.
+fn hold_at(
+    held: &mut [RecordKey],
+    value: &mut RecordKey,
+    level: u8,
+    field: &FieldLine<Reference>,
+    bytes: &[u8],
+) -> bool
+    requires nine { length held.old ≡ 9 }
     requires from_one { 1 ≤ level }
     requires to_nine { level ≤ 9 }
-    ensures { (other : ℕ) → spec.field_in fields.new other
-        ≡ (if other == level then option_or (spec.field_in fields.old level) (Some field) else spec.field_in fields.old other) }
+    requires ranged { IsTrue (field_in_range field.now) }
+    ensures breaks { result ≡ not (same_key (Some (compared_on bytes.now field.now)) (held_in held.old level)) }
+    ensures held { (other : ℕ) → held_in held.new other ≡ (if other == level then Some (compared_on bytes.now field.now) else held_in held.old other) }
+{
+    hold_field(&mut held[(level - 1) as usize], value, field, bytes)
+}
+
+/// The greatest level that breaks, with one more.
+fn greatest(broken: u8, level: u8, breaks: bool) -> u8
+    ensures { result ≡ (if breaks && nat_lt broken level then level else broken) }
+{
+    if breaks && broken < level {
+        level
+    } else {
+        broken
+    }
+}
+
+/// Whether a line with the level was seen, which one is from now on.
+fn was_seen(seen: &mut [bool], level: u8) -> bool
+    requires nine { length seen.old ≡ 9 }
+    requires from_one { 1 ≤ level }
+    requires to_nine { level ≤ 9 }
+    ensures before { result ≡ spec.seen_in seen.old level }
+    ensures noted { (other : ℕ) → spec.seen_in seen.new other ≡ (if other == level then true else spec.seen_in seen.old other) }
 {
     let index = (level - 1) as usize;
-    if fields[index].is_none() {
-        fields[index] = Some(field);
-    }
+    let before = seen[index];
+    seen[index] = true;
+    before
 }
 
-/// Notes the field on a line, if it is a control field of the type with that indicator.
-fn note_line(
-    fields: &mut [Option<FieldLine<Reference>>],
+/// Holds the control field of a line, if it is one of the type with that indicator and no line above it has its level. The greatest
+/// level so far where another value was held, by that of the lines above.
+fn hold_line(
+    held: &mut [RecordKey],
+    value: &mut RecordKey,
+    seen: &mut [bool],
     line: &InputLine<Reference>,
     indicator: Indicator,
-)
-    requires nine { length fields.old ≡ 9 }
-    ensures { (level : ℕ) → 1 ≤ level → level ≤ 9 → spec.field_in fields.new level
-        ≡ option_or (spec.field_in fields.old level) (meaning.field_on indicator key.Control (Some level) line.now) }
+    bytes: &[u8],
+    broken: u8,
+) -> u8
+    requires nine { length held.old ≡ 9 }
+    requires all { length seen.old ≡ 9 }
+    requires ranged { IfSome (field_on_spec indicator key.Control None line.now) (λ field. IsTrue (field_in_range field)) }
+    ensures { spec.HoldsLine indicator line.now bytes.now held.old held.new seen.old seen.new broken result }
 {
     let Some(field) = field_on(line, indicator, Key::Control, None) else {
-        return;
+        return broken;
     };
     let Some(level) = field.control_level else {
-        return;
+        return broken;
     };
-    if is_level(level) {
-        note_at(fields, level, field);
+    if !is_level(level) {
+        return broken;
     }
+    if was_seen(seen, level) {
+        return broken;
+    }
+    let breaks = hold_at(held, value, level, &field, bytes);
+    greatest(broken, level, breaks)
 }
 
-/// Notes the first field at each level from there on, down to the next record line; L1 first.
-fn note_first(
-    fields: &mut [Option<FieldLine<Reference>>; 9],
-    inputs: &[InputLine<Reference>],
-    from: usize,
-    indicator: Indicator,
-)
-    requires { fields.old ≡ replicate 9 None }
-    ensures { (level : ℕ) → 1 ≤ level → level ≤ 9 → spec.field_in fields.new level ≡ meaning.first_field indicator key.Control (Some level) (drop from inputs.now) }
-{
-    for place in from..inputs.len() {
-        if begins_group(&inputs[place]) {
-            return;
-        }
-        note_line(fields, &inputs[place], indicator);
-    }
-}
-
-/// Notes the control fields of a type where none is noted yet, L1 first. They are noted in place, since nine of them are much to
-/// copy for each record.
-pub fn note_control_fields(
-    fields: &mut [Option<FieldLine<Reference>>; 9],
+/// Holds the control fields of a record of a type; the greatest level where another value was held, 0 if none.
+pub fn hold_fields(
+    held: &mut [RecordKey],
+    value: &mut RecordKey,
     program: &Program,
     start: TypeStart,
-)
-    requires none { fields.old ≡ replicate 9 None }
+    bytes: &[u8],
+) -> u8
+    requires nine { length held.old ≡ 9 }
     requires starts { IsTrue (is_type_start program.now start) }
-    ensures { spec.AreControlFields program.now start fields.new }
+    ensures level { result ≡ break_of (held_in held.old) (kind_at program.now start) bytes.now }
+    ensures held { (level : ℕ) → held_in held.new level ≡ option_or (control_value (kind_at program.now start) bytes.now level) (held_in held.old level) }
 {
-    note_first(
-        fields,
-        &program.inputs,
-        start.fields,
-        indicator_of(program, start),
-    );
+    let indicator = indicator_of(program, start);
+    let inputs: &[InputLine<Reference>] = &program.inputs;
+    let mut seen = [false; 9];
+    let mut broken = 0;
+    for place in start.fields..inputs.len() {
+        let line = &inputs[place];
+        if begins_group(line) {
+            return broken;
+        }
+        broken = hold_line(held, value, &mut seen, line, indicator, bytes, broken);
+    }
+    broken
 }

@@ -11,60 +11,14 @@ ghost use Rattle.s3_program.specs.Stands.{source_named};
 ghost use Rattle.s3_program.specs.Starts.{is_type};
 ghost use Rattle.s3_match.specs.Types.{is_type_start, kind_at};
 ghost use Rattle.s3_match.specs.Controls as spec;
-ghost use Rattle.s3_match.specs.Inner.ControlFields.{AreControlFields, compared_on};
 
-use crate::control_fields::note_control_fields;
+use crate::control_fields::hold_fields;
 use crate::fields::field_at;
-use crate::keys::{LEVELS, RecordKey};
-use s3_lines::sheet::{FieldLine, InputLine};
+use crate::keys::RecordKey;
+use s3_lines::sheet::InputLine;
 use s3_program::mark::Key;
 use s3_program::program::{Program, Reference};
 use s3_program::starts::TypeStart;
-
-/// Whether the type names a level, and its field differs from the one held. `value` becomes what the field compares.
-fn breaks_at(
-    held: &[RecordKey],
-    value: &mut RecordKey,
-    level: u8,
-    field: &Option<FieldLine<Reference>>,
-    bytes: &[u8],
-) -> bool
-    requires nine { length held.now ≡ 9 }
-    requires from_one { 1 ≤ level }
-    requires to_nine { level ≤ 9 }
-    requires ranged { IfSome field.now (λ field. IsTrue (field_in_range field)) }
-    ensures { (kind : RecordType) → option_map (compared_on bytes.now) field.now ≡ control_value kind bytes.now level
-        → result ≡ spec.breaks_at (spec.held_in held.now) kind bytes.now level }
-{
-    if field.is_none() {
-        return false;
-    }
-    value.read_field(field, bytes);
-    !value.is_same(&held[(level - 1) as usize])
-}
-
-/// The greatest level that breaks, 0 if none; `held` has the control fields of L1 to L9, and `fields` those of the type. `value`
-/// serves to compare.
-fn break_level(
-    held: &[RecordKey],
-    value: &mut RecordKey,
-    fields: &[Option<FieldLine<Reference>>; 9],
-    program: &Program,
-    start: TypeStart,
-    bytes: &[u8],
-) -> u8
-    requires nine { length held.now ≡ 9 }
-    requires fields { AreControlFields program.now start fields.now }
-    ensures { result ≡ spec.break_of (spec.held_in held.now) (kind_at program.now start) bytes.now }
-{
-    for step in 0..LEVELS {
-        let level = LEVELS - step;
-        if breaks_at(held, value, level, &fields[(level - 1) as usize], bytes) {
-            return level;
-        }
-    }
-    0
-}
 
 /// Whether a type has control fields.
 #[tactic(auto, using(crate::proofs::HoldLemmas::any_named))]
@@ -122,39 +76,6 @@ pub fn has_levels(program: &Program) -> bool
     some_type_names_level(&program.inputs)
 }
 
-/// Holds the control field of a level, if the type names it.
-fn hold_level(held: &mut [RecordKey], level: u8, field: &Option<FieldLine<Reference>>, bytes: &[u8])
-    requires nine { length held.old ≡ 9 }
-    requires from_one { 1 ≤ level }
-    requires to_nine { level ≤ 9 }
-    requires ranged { IfSome field.now (λ field. IsTrue (field_in_range field)) }
-    ensures { (other : ℕ) → spec.held_in held.new other
-        ≡ (if other == level then option_or (option_map (compared_on bytes.now) field.now) (spec.held_in held.old level) else spec.held_in held.old other) }
-{
-    if field.is_some() {
-        held[(level - 1) as usize].read_field(field, bytes);
-    }
-}
-
-/// Holds the control fields of the levels that the type names.
-#[tactic(auto, using(crate::proofs::HoldLemmas::held_at_first, crate::proofs::HoldLemmas::held_one_more, crate::proofs::HoldLemmas::held_all))]
-fn hold_levels(
-    held: &mut [RecordKey],
-    fields: &[Option<FieldLine<Reference>>; 9],
-    program: &Program,
-    start: TypeStart,
-    bytes: &[u8],
-)
-    requires starts { IsTrue (is_type_start program.now start) }
-    requires nine { length held.old ≡ 9 }
-    requires fields { AreControlFields program.now start fields.now }
-    ensures { (level : ℕ) → spec.held_in held.new level ≡ option_or (control_value (kind_at program.now start) bytes.now level) (spec.held_in held.old level) }
-{
-    for step in 0..LEVELS {
-        hold_level(held, step + 1, &fields[step as usize], bytes);
-    }
-}
-
 /// The control fields that are held.
 #[derive(Drop)]
 pub struct Controls {
@@ -192,13 +113,6 @@ impl Controls {
         ensures level { result ≡ spec.break_of (spec.held_in self.old.held) (kind_at program.now start) bytes.now }
         ensures held { (level : ℕ) → spec.held_in self.new.held level ≡ option_or (control_value (kind_at program.now start) bytes.now level) (spec.held_in self.old.held level) }
     {
-        if !has_control_fields(program, start) {
-            return 0;
-        }
-        let mut fields = [None; 9];
-        note_control_fields(&mut fields, program, start);
-        let level = break_level(&self.held, &mut self.value, &fields, program, start, bytes);
-        hold_levels(&mut self.held, &fields, program, start, bytes);
-        level
+        hold_fields(&mut self.held, &mut self.value, program, start, bytes)
     }
 }

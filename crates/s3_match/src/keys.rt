@@ -8,10 +8,10 @@ ghost use Rattle.s3_match.specs.Types.{is_type_start, kind_at};
 ghost use Rattle.s3_match.specs.Keys as spec;
 ghost use Rattle.s3_match.specs.Inner.ControlFields.{compared_on};
 
-use crate::compared::{KEY_BYTES, field_bytes, is_below, push_compared};
+use crate::compared::{KEY_BYTES, are_zoned_digits, field_bytes, is_below, push_compared};
 use crate::fields::field_at;
 use arrayvec::ArrayVec;
-use s3_lines::sheet::FieldLine;
+use s3_lines::sheet::{FieldForm, FieldLine};
 use s3_program::mark::Key;
 use s3_program::program::{Program, Reference};
 use s3_program::starts::TypeStart;
@@ -92,15 +92,39 @@ impl RecordKey {
         push_match_fields(&mut self.bytes, program, start, bytes);
     }
 
-    /// Becomes what a control field compares; no key without one.
-    pub fn read_field(&mut self, field: &Option<FieldLine<Reference>>, bytes: &[u8])
-        requires { IfSome field.now (λ field. IsTrue (field_in_range field)) }
-        ensures { spec.key_in self.new ≡ option_map (compared_on bytes.now) field.now }
+    /// Becomes what a control field compares.
+    pub fn read_field(&mut self, field: &FieldLine<Reference>, bytes: &[u8])
+        requires { IsTrue (field_in_range field.now) }
+        ensures { spec.key_in self.new ≡ Some (compared_on bytes.now field.now) }
     {
         self.bytes.clear();
-        self.is_given = field.is_some();
-        if let Some(field) = field {
-            push_compared(&mut self.bytes, field.form, field_bytes(field, bytes));
+        self.is_given = true;
+        push_compared(&mut self.bytes, field.form, field_bytes(field, bytes));
+    }
+
+    /// Whether it is what a control field compares. A zoned number and characters are compared where they lie; `value` serves to
+    /// read a packed number.
+    pub fn is_field(
+        &self,
+        value: &mut RecordKey,
+        field: &FieldLine<Reference>,
+        bytes: &[u8],
+    ) -> bool
+        requires { IsTrue (field_in_range field.now) }
+        ensures { result ≡ meaning.same_key (Some (compared_on bytes.now field.now)) (spec.key_in self.now) }
+    {
+        if !self.is_given {
+            return false;
+        }
+        match field.form {
+            FieldForm::Alphanumeric | FieldForm::PackedText => {
+                field_bytes(field, bytes) == self.bytes.as_slice()
+            }
+            FieldForm::Zoned(_) => are_zoned_digits(field_bytes(field, bytes), &self.bytes),
+            FieldForm::Packed(_) => {
+                value.read_field(field, bytes);
+                value.is_same(self)
+            }
         }
     }
 

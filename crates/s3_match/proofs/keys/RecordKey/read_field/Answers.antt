@@ -1,6 +1,4 @@
 use Rattle.std.proofs.Common.{◌≤◌, List, ℕ, length, sym, subst}
-use Rattle.std.specs.Prelude.{IfSome, IsTrue}
-use Rattle.s3_lines.specs.Ranges.{field_in_range}
 use Rattle.s3_meaning.specs.Selection.{compared}
 use Rattle.s3_match.proofs.ComparedLemmas.{compared_short}
 use Rattle.s3_match.proofs.ControlFieldLemmas.{fits_first}
@@ -9,5 +7,5 @@ use Rattle.s3_match.proofs.keys.RecordKey.read_field.Goals as goal
 pub push_compared-requires : goal.push_compared-requires
 push_compared-requires c =
     fits_first c.clear.new.self.items _ c.clear.ensures
-    (subst (λ (xs : List ℕ). length (compared c.in-Some.field.form xs) ≤ 256) (sym c.field_bytes.ensures)
-    (compared_short c.in-Some.field c.args.bytes.now (subst (λ o. IfSome o (λ field. IsTrue (field_in_range field))) c.in-Some.is c.requires)))
+    (subst (λ (xs : List ℕ). length (compared c.args.field.now.form xs) ≤ 256) (sym c.field_bytes.ensures)
+    (compared_short c.args.field.now c.args.bytes.now c.requires))
