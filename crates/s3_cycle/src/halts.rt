@@ -34,11 +34,26 @@ impl Stepper {
         }
     }
 
+    /// Whether a halt indicator is on, as mostly none is.
+    fn has_halt(&self) -> bool
+        ensures { result ≡ false → AreOff self.now 0 10 }
+    {
+        for number in 0..=LAST_HALT {
+            if self.is_on(Indicator::Halt(number)) {
+                return true;
+            }
+        }
+        false
+    }
+
     /// The first of H1 to H9, from a number on, that is on.
     fn first_halt(&self, from: u8) -> Option<u8>
         ensures found { IfSome result (IsFirstHalt self.now from) }
         ensures none { IfNone result (AreOff self.now from 10) }
     {
+        if !self.has_halt() {
+            return None;
+        }
         for number in from..=LAST_HALT {
             if self.is_on(Indicator::Halt(number)) {
                 return Some(number);

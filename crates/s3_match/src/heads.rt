@@ -139,10 +139,15 @@ impl InputFile {
         true
     }
 
+    /// Keeps the bytes of a record; mostly one of the same length is there, which they are laid over.
     fn keep(&mut self, bytes: &[u8])
         requires { length bytes.now ≤ RECORD_BYTES }
         ensures { spec.Keeps self.old self.new bytes.now }
     {
+        if self.bytes.len() == bytes.len() {
+            self.bytes.as_mut_slice().copy_from_slice(bytes);
+            return;
+        }
         self.bytes.clear();
         if self.bytes.try_extend_from_slice(bytes).is_err() {
             unreachable!()

@@ -1,0 +1,5 @@
+use Rattle.s3_cycle.specs.Inner.Halting.{AreOff}
+use Rattle.s3_cycle.proofs.stepper.Stepper.has_halt.Given as goal
+
+abbrev pub invariant-loop-number : goal.invariant-loop-number
+invariant-loop-number l = AreOff l.self 0 l.number
