@@ -1,11 +1,11 @@
 -- An entry in one of the two levels, and what a step says of it.
-use Rattle.std.proofs.Common.{◌≡◌, true, Result, Ok, Err, refl, sym, ap, subst, ◌∙◌}
+use Rattle.std.proofs.Common.{◌≡◌, ◌≢◌, ◌+◌, true, false, true≢false, Result, Ok, Err, refl, sym, ap, subst, ◌∙◌}
 use Rattle.s3_cards.specs.Levels.{other}
 use Rattle.s3_cards.specs.declared.levels.LevelId.{LevelId}
 use Rattle.s3_cards.specs.declared.levels.LevelId.TheVariants.{One, Two}
 use Rattle.s3_store.specs.State.{KeepsInStep}
 use Rattle.s3_store.specs.declared.pool_fault.PoolFault.{PoolFault}
-use Rattle.s3_store.specs.declared.pool_fault.PoolFault.TheVariants.{NoMemory}
+use Rattle.s3_store.specs.declared.pool_fault.PoolFault.TheVariants.{Device, NoMemory, NoSector}
 use Rattle.s3_labels.specs.Labelled.{KeepsSaid}
 use Rattle.s3_job_files.specs.Holds.{seen}
 use Rattle.s3_solo.specs.declared.action.Action.{Action}
@@ -16,9 +16,12 @@ use Rattle.s3_level.specs.declared.level.Level.{Level}
 use Rattle.s3_level.specs.Holds.{Around, Becomes, Holds, IsReady, Spares, Steps}
 use Rattle.s3_bureau.specs.declared.bureau.Phase.{Phase}
 use Rattle.s3_bureau.specs.declared.bureau.Phase.TheVariants.{Open, Finished, Stopped}
-use Rattle.s3_bureau.specs.Held.{HoldsFor, IsForeign, IsOwn, IsReadyFor, State, has_worlds, header_of, level_of, lines_at, rests, takes_entries}
+use Rattle.s3_bureau.specs.declared.stop.Stop.{Stop}
+use Rattle.s3_bureau.specs.declared.stop.Stop.TheVariants.{NoMemory as StopNoMemory, Device as StopDevice, Stopped as StoppedBefore}
+use Rattle.s3_bureau.specs.Stops.{StopsBy, failed_stop}
+use Rattle.s3_bureau.specs.Held.{HoldsFor, IsForeign, IsOwn, IsReadyFor, State, has_worlds, header_of, is_open, level_of, lines_at, rests, takes_entries}
 use Rattle.s3_bureau.specs.Inner.Calls.{Acts, Closes, ClosesBoth, Enters, MountsAs}
-use Rattle.s3_bureau.proofs.OtherLevel.{foreign_spared, other_said, ready_stays, worlds_stay, worlds_stayed}
+use Rattle.s3_bureau.proofs.OtherLevel.{foreign_spared, header_spared, other_said, ready_stays, worlds_stay, worlds_stayed}
 
 -- ---- an entry in its level
 -- both levels can take further entries
@@ -61,10 +64,11 @@ is_phase_open Finished is = absurd cc
 is_phase_open Stopped is = absurd cc
 
 -- so it was performed
-pub entered_one : (level : LevelId) (action : Action) (did : Did) (old : State) (new_one : Level) (after : Around) → level ≡ One → takes_entries old.phase ≡ true → IsReadyFor old.one old.two old.beside
-    → Acts action (Ok did) old.one new_one old.beside after → Enters level action (Ok did) old (record { beside = after; one = new_one; two = old.two; phase = old.phase })
-entered_one level action did old new_one after is takes ready acts =
-    subst (λ (l : LevelId). Enters l action (Ok did) old (record { beside = after; one = new_one; two = old.two; phase = old.phase })) (sym is) (record {
+pub entered_one : (level : LevelId) (action : Action) (did : Did) (old now : State) (new_one : Level) (after : Around) → old ≡ now → level ≡ One → takes_entries old.phase ≡ true → IsReadyFor old.one old.two old.beside
+    → Acts action (Ok did) old.one new_one old.beside after → Enters level action (Ok did) now (record { beside = after; one = new_one; two = old.two; phase = old.phase })
+entered_one level action did old now new_one after same is takes ready acts =
+    subst (λ (s : State). Enters level action (Ok did) s (record { beside = after; one = new_one; two = old.two; phase = old.phase })) same
+    (subst (λ (l : LevelId). Enters l action (Ok did) old (record { beside = after; one = new_one; two = old.two; phase = old.phase })) (sym is) (record {
       was_open = takes;
       ready = ready;
       stays = refl;
@@ -74,12 +78,13 @@ entered_one level action did old new_one after is takes ready acts =
       fault = tt;
       failures = acts.failures;
       comes = (is_phase_open old.phase takes, acts.comes.1);
-    })
+    }))
 
-pub entered_two : (level : LevelId) (action : Action) (did : Did) (old : State) (new_two : Level) (after : Around) → level ≡ Two → takes_entries old.phase ≡ true → IsReadyFor old.one old.two old.beside
-    → Acts action (Ok did) old.two new_two old.beside after → Enters level action (Ok did) old (record { beside = after; one = old.one; two = new_two; phase = old.phase })
-entered_two level action did old new_two after is takes ready acts =
-    subst (λ (l : LevelId). Enters l action (Ok did) old (record { beside = after; one = old.one; two = new_two; phase = old.phase })) (sym is) (record {
+pub entered_two : (level : LevelId) (action : Action) (did : Did) (old now : State) (new_two : Level) (after : Around) → old ≡ now → level ≡ Two → takes_entries old.phase ≡ true → IsReadyFor old.one old.two old.beside
+    → Acts action (Ok did) old.two new_two old.beside after → Enters level action (Ok did) now (record { beside = after; one = old.one; two = new_two; phase = old.phase })
+entered_two level action did old now new_two after same is takes ready acts =
+    subst (λ (s : State). Enters level action (Ok did) s (record { beside = after; one = old.one; two = new_two; phase = old.phase })) same
+    (subst (λ (l : LevelId). Enters l action (Ok did) old (record { beside = after; one = old.one; two = new_two; phase = old.phase })) (sym is) (record {
       was_open = takes;
       ready = ready;
       stays = refl;
@@ -89,7 +94,42 @@ entered_two level action did old new_two after is takes ready acts =
       fault = tt;
       failures = acts.failures;
       comes = (is_phase_open old.phase takes, acts.comes.1);
-    })
+    }))
+
+-- or the bureau stopped
+pub stopped_one : (level : LevelId) (action : Action) (fault : PoolFault) (old now : State) (new_one : Level) (after : Around) → old ≡ now → level ≡ One → takes_entries old.phase ≡ true
+    → IsReadyFor old.one old.two old.beside → Acts action (Err fault) old.one new_one old.beside after
+    → Enters level action (Err fault) now (record { beside = after; one = new_one; two = old.two; phase = Stopped })
+stopped_one level action fault old now new_one after same is takes ready acts =
+    subst (λ (s : State). Enters level action (Err fault) s (record { beside = after; one = new_one; two = old.two; phase = Stopped })) same
+    (subst (λ (l : LevelId). Enters l action (Err fault) old (record { beside = after; one = new_one; two = old.two; phase = Stopped })) (sym is) (record {
+      was_open = takes;
+      ready = ready;
+      stays = refl;
+      spares = subst (λ (l : LevelId). Spares l old.beside after) ready.one_is acts.spares;
+      says = tt;
+      quiet = tt;
+      fault = acts.fault;
+      failures = acts.failures;
+      comes = (refl, acts.comes.0, acts.comes.1);
+    }))
+
+pub stopped_two : (level : LevelId) (action : Action) (fault : PoolFault) (old now : State) (new_two : Level) (after : Around) → old ≡ now → level ≡ Two → takes_entries old.phase ≡ true
+    → IsReadyFor old.one old.two old.beside → Acts action (Err fault) old.two new_two old.beside after
+    → Enters level action (Err fault) now (record { beside = after; one = old.one; two = new_two; phase = Stopped })
+stopped_two level action fault old now new_two after same is takes ready acts =
+    subst (λ (s : State). Enters level action (Err fault) s (record { beside = after; one = old.one; two = new_two; phase = Stopped })) same
+    (subst (λ (l : LevelId). Enters l action (Err fault) old (record { beside = after; one = old.one; two = new_two; phase = Stopped })) (sym is) (record {
+      was_open = takes;
+      ready = ready;
+      stays = refl;
+      spares = subst (λ (l : LevelId). Spares l old.beside after) ready.two_is acts.spares;
+      says = tt;
+      quiet = tt;
+      fault = acts.fault;
+      failures = acts.failures;
+      comes = (refl, acts.comes.0, acts.comes.1);
+    }))
 
 -- ---- a step that was performed
 his_id : (level : LevelId) (old : State) → IsReadyFor old.one old.two old.beside → (level_of (other level) old).id ≡ other level
@@ -136,6 +176,43 @@ other_kept level action did old new e w held = record {
 pub foreign_unchanged : (level : LevelId) (action : Action) (result : Result Did PoolFault) (old new : State) → Enters level action result old new
     → KeepsInStep (IsForeign level (header_of old)) old.beside.state new.beside.state
 foreign_unchanged level action result old new e = foreign_spared level old.beside new.beside e.ready.one_ready.files.pack e.spares
+
+pub header_stays : (level : LevelId) (action : Action) (result : Result Did PoolFault) (old new : State) → Enters level action result old new → header_of new ≡ header_of old
+header_stays level action result old new e = header_spared level old.beside new.beside e.spares
+
+pub stays_open : (level : LevelId) (action : Action) (did : Did) (old new : State) → Enters level action (Ok did) old new → is_open new ≡ true
+stays_open level action did old new e = open_takes new.phase e.comes.0
+  where
+    open_takes : (phase : Phase) → phase ≡ Open → takes_entries phase ≡ true
+    open_takes phase is = rw is refl
+
+-- a bureau that was open isn't stopped already
+pub was_open : (P : Type 0) (level : LevelId) (action : Action) (result : Result Did PoolFault) (old new : State) → Enters level action result old new → is_open old ≡ false → P
+was_open P level action result old new e closed = absurd (true≢false (sym e.was_open ∙ closed))
+
+pub is_stopped : (level : LevelId) (action : Action) (fault : PoolFault) (old new : State) → Enters level action (Err fault) old new → is_open new ≡ false
+is_stopped level action fault old new e = stopped_takes new.phase e.comes.0
+  where
+    stopped_takes : (phase : Phase) → phase ≡ Stopped → takes_entries phase ≡ false
+    stopped_takes phase is = rw is refl
+
+pub has_none : (level : LevelId) (action : Action) (fault : PoolFault) (old new : State) → Enters level action (Err fault) old new → has_worlds new.phase ≡ false
+has_none level action fault old new e = stopped_has new.phase e.comes.0
+  where
+    stopped_has : (phase : Phase) → phase ≡ Stopped → has_worlds phase ≡ false
+    stopped_has phase is = rw is refl
+
+-- the cause for which a fault stops it
+pub is_cause : (fault : PoolFault) (stop : Stop) → StopsBy fault stop → (answer : Result Did Stop) → answer ≡ Err stop → answer ≢ Err StoppedBefore
+is_cause Device stop by answer made is = let same : stop ≡ StopDevice = by in cc
+is_cause NoMemory stop by answer made is = let same : stop ≡ StopNoMemory = by in cc
+is_cause NoSector stop by answer made is = absurd by
+
+pub cause_failed : (level : LevelId) (action : Action) (fault : PoolFault) (stop : Stop) (old new : State) → Enters level action (Err fault) old new → StopsBy fault stop
+    → new.beside.state.failures ≡ old.beside.state.failures + failed_stop {T = Did} (Err stop)
+cause_failed level action Device stop old new e by = let same : stop ≡ StopDevice = by in rw same e.failures
+cause_failed level action NoMemory stop old new e by = let same : stop ≡ StopNoMemory = by in rw same e.failures
+cause_failed level action NoSector stop old new e by = absurd by
 
 -- ---- the end
 pub ends : (old : State) (new_one new_two : Level) (after : Around) → ClosesBoth (Ok tt) old.one old.two new_one new_two old.beside after

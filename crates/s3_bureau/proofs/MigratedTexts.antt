@@ -16,7 +16,7 @@ use Rattle.s3_solo.proofs.MigratedStarts.{migrated_run}
 use Rattle.s3_solo.proofs.SecondSteps.{end_same}
 use Rattle.s3_bureau.specs.declared.entry.Entry.{Entry}
 use Rattle.s3_bureau.specs.Entries.{own}
-use Rattle.s3_bureau.specs.Runs.{Texts, RunTexts, cards_of, entries_texts, level_texts, refusal_of, run_alone, run_texts, texts_after, texts_of, texts_over}
+use Rattle.s3_bureau.specs.Runs.{Texts, RunTexts, cards_of, level_texts, refusal_of, run_alone, run_texts, texts_after, texts_of, texts_over}
 use Rattle.s3_bureau.specs.Script.{entries_of}
 
 -- the end of a run shows no halt

@@ -1,4 +1,5 @@
-use Rattle.s3_bureau.proofs.Entering.{foreign_unchanged, lines_stay, other_keeps, other_kept, own_steps}
+use Rattle.std.proofs.Common.{refl}
+use Rattle.s3_bureau.proofs.Entering.{cause_failed, foreign_unchanged, has_none, header_stays, is_cause, is_stopped, lines_stay, other_keeps, other_kept, own_steps, stays_open, was_open}
 use Rattle.s3_bureau.proofs.bureau.Bureau.step.Goals as goal
 
 pub returns-in-Ok-clause-other : goal.returns-in-Ok-clause-other
@@ -33,3 +34,39 @@ returns-in-Err-clause-memory g c = λ is w held. c.in-Err.ensures.comes.2 w held
 
 pub returns-in-Err-clause-lines : goal.returns-in-Err-clause-lines
 returns-in-Err-clause-lines g c = lines_stay c.args.entry.level c.args.entry.action c.in-Err.fault _ _ c.in-Err.ensures
+
+pub returns-in-Ok-clause-stays : goal.returns-in-Ok-clause-stays
+returns-in-Ok-clause-stays g c = c.in-Ok.ensures.stays
+
+pub returns-in-Err-clause-stays : goal.returns-in-Err-clause-stays
+returns-in-Err-clause-stays g c = c.in-Err.ensures.stays
+
+pub returns-in-Ok-clause-header : goal.returns-in-Ok-clause-header
+returns-in-Ok-clause-header g c = header_stays c.args.entry.level c.args.entry.action _ _ _ c.in-Ok.ensures
+
+pub returns-in-Err-clause-header : goal.returns-in-Err-clause-header
+returns-in-Err-clause-header g c = header_stays c.args.entry.level c.args.entry.action _ _ _ c.in-Err.ensures
+
+pub returns-in-Ok-clause-stopped : goal.returns-in-Ok-clause-stopped
+returns-in-Ok-clause-stopped g c = was_open _ c.args.entry.level c.args.entry.action _ _ _ c.in-Ok.ensures
+
+pub returns-in-Err-clause-stopped : goal.returns-in-Err-clause-stopped
+returns-in-Err-clause-stopped g c = was_open _ c.args.entry.level c.args.entry.action _ _ _ c.in-Err.ensures
+
+pub returns-in-Err-clause-not_before : goal.returns-in-Err-clause-not_before
+returns-in-Err-clause-not_before g c = λ is. is_cause c.in-Err.fault c.stop_of.result c.stop_of.ensures _ refl
+
+pub returns-in-Ok-clause-goes_on : goal.returns-in-Ok-clause-goes_on
+returns-in-Ok-clause-goes_on g c = stays_open c.args.entry.level c.args.entry.action c.in-Ok.did _ _ c.in-Ok.ensures
+
+pub returns-in-Err-clause-stops : goal.returns-in-Err-clause-stops
+returns-in-Err-clause-stops g c = is_stopped c.args.entry.level c.args.entry.action c.in-Err.fault _ _ c.in-Err.ensures
+
+pub returns-in-Err-clause-holds_none : goal.returns-in-Err-clause-holds_none
+returns-in-Err-clause-holds_none g c = λ is. has_none c.args.entry.level c.args.entry.action c.in-Err.fault _ _ c.in-Err.ensures
+
+pub returns-in-Ok-clause-failures : goal.returns-in-Ok-clause-failures
+returns-in-Ok-clause-failures g c = c.in-Ok.ensures.failures
+
+pub returns-in-Err-clause-failures : goal.returns-in-Err-clause-failures
+returns-in-Err-clause-failures g c = cause_failed c.args.entry.level c.args.entry.action c.in-Err.fault c.stop_of.result _ _ c.in-Err.ensures c.stop_of.ensures
