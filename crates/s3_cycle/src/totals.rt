@@ -134,6 +134,7 @@ impl Stepper {
     }
 
     /// Step 10: MR is set, and the record is the current one of its file. Its fields are moved next.
+    #[inline(always)]
     fn move_record(&mut self, selection: Selection)
         requires running { IsRunning self.old }
         requires taken { IsTaken self.old.program self.old.progress selection }

@@ -68,6 +68,7 @@ fn entry_holds(bytes: &[u8], entry: &Option<RecordCode>) -> bool
     }
 }
 
+#[inline(always)]
 fn entries_hold(bytes: &[u8], entries: &[Option<RecordCode>]) -> bool
     ensures { result ≡ list_all (spec.entry_holds bytes.now) entries.now }
 {
