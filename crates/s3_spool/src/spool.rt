@@ -183,7 +183,7 @@ impl Spool {
     ///
     /// Refused `QuotaFull` exactly where the level has as many lines queued as its quota, and by the sectors' faults; refused, the
     /// queues stay. `sectors` are those of a pack: the spool's blocks are sectors 25 to 152.
-    #[tactic(auto, using(crate::proofs::BlocksLemmas::queued_quota, crate::proofs::BlocksLemmas::within_free))]
+    #[tactic(auto)]
     pub fn put<P: Sectors>(
         &mut self,
         level: LevelId,
