@@ -70,23 +70,26 @@ impl IndexSector {
         Ok(IndexSector { place, bytes })
     }
 
-    /// Goes on to the sector with entry `i`, which isn't read where it is this one.
+    /// Goes on to the sector with entry `i`, which isn't read where it is this one. So many entries lie in each.
     pub fn go_to<P: Sectors>(
         &mut self,
         file: &IndexedFile,
         pool: &mut P,
         i: u32,
+        per_sector: u32,
     ) -> Result<(), PoolFault>
         requires stored { AreStored file.now.file.sectors (P.state pool.old).contents }
         requires within { i < file.now.file.capacity }
         requires here { self.old.bytes ≡ index_sector file.now self.old.place (bytes_in file.now (P.state pool.old).contents) }
+        requires entries { per_sector ≡ entries_of file.now.key_length }
+        requires some { 0 < per_sector }
         ensures place { OnOk result (self.new.place ≡ i / entries_of file.now.key_length) }
         ensures ok { OnOk result (self.new.bytes ≡ index_sector file.now self.new.place (bytes_in file.now (P.state pool.old).contents)) }
         ensures keeps { KeepsContents (P.state pool.old) (P.state pool.new) }
         ensures failures { (P.state pool.new).failures ≡ (P.state pool.old).failures + failed_transfers result }
         ensures fault { IfErr result (λ fault. fault ≢ PoolFault.NoSector) }
     {
-        let place = i / entries_per_sector(file);
+        let place = i / per_sector;
         if self.place == place {
             return Ok(());
         }
@@ -111,8 +114,9 @@ impl IndexSector {
         ensures failures { (P.state pool.new).failures ≡ (P.state pool.old).failures + failed_transfers result }
         ensures fault { IfErr result (λ fault. fault ≢ PoolFault.NoSector) }
     {
-        self.go_to(file, pool, i)?;
-        let j = (i % entries_per_sector(file)) as usize;
+        let per_sector = entries_per_sector(file);
+        self.go_to(file, pool, i, per_sector)?;
+        let j = (i % per_sector) as usize;
         Ok(whole_entry(&self.bytes, j, usize::from(file.key_length)))
     }
 }

@@ -77,7 +77,7 @@ pub fn search_index<P: Sectors>(
     'halve: while low < high {
         let i = next_of(low, high, guess, per_sector);
         let j = (i % per_sector) as usize;
-        sector.go_to(file, pool, i)?;
+        sector.go_to(file, pool, i, per_sector)?;
         match compare_entry(&sector.bytes, j, key_length, key) {
             Ordering::Less => low = i + 1,
             Ordering::Equal => return Ok(Some(number_in(&sector.bytes, j, key_length))),
