@@ -1,10 +1,10 @@
 //! The parts of a session's input: two decks and a script, between markers.
 
-ghost use Rattle.std.specs.Prelude.{◌≡◌, ◌<◌, ◌≤◌, ◌+◌, ◌∷◌, ◌++◌, [], ◌^◌, ℕ, Some, None, length, take, drop, MatchOption, IfSome, option_map, is_some};
+ghost use Rattle.std.specs.Prelude.{◌≡◌, ◌<◌, ◌≤◌, ◌+◌, ◌-◌, ◌∷◌, ◌++◌, [], ◌^◌, ℕ, Some, None, length, slice_index, take, drop, MatchOption, IfSome, option_map, is_some};
 ghost use Rattle.s3_cli.specs.Inner.PartsView.{parts_view};
 ghost use Rattle.s3_cli.specs.Parts.{whole_lines, text_of, content_of, is_marker, has_marker, before_marker, after_marker, parts_of};
 
-use memchr::memchr;
+use memchr::{memchr, memrchr};
 use s3_cards::without_carriage_return;
 
 /// The texts between the markers of an input, each of whole lines.
@@ -48,21 +48,35 @@ fn is_marker_line(word: &[u8], line: &[u8]) -> bool
     content(line) == word
 }
 
-/// The text before the first marker with this word and the text after it, if there is one.
+/// Where the last line of a text begins, be it whole or not: at its end where the text ends with an LF.
+fn last_line_start(text: &[u8]) -> usize
+    ensures within { result ≤ length text.now }
+    ensures behind { 0 < result → slice_index text.now (result - 1) ≡ 10 }
+{
+    match memrchr(b'\n', text) {
+        Some(end) => end + 1,
+        None => 0,
+    }
+}
+
+/// The text before the first marker with this word, which begins with a colon, and the text after it, if there is one.
+/// Lines without a colon are passed over at once.
 fn split_at_marker<'a>(text: &'a [u8], word: &[u8]) -> Option<(&'a [u8], &'a [u8])>
+    requires { slice_index word.now 0 ≡ 58 }
     ensures found { IfSome result (λ texts.
         (texts.0.now ≡ text_of (before_marker word.now (whole_lines text.entry.now)))
         × (whole_lines texts.1.now ≡ after_marker word.now (whole_lines text.entry.now))
         × (texts.1.now ≡ text_of (after_marker word.now (whole_lines text.entry.now)))) }
     ensures some { is_some result ≡ has_marker word.now (whole_lines text.entry.now) }
 {
-    let mut start = 0;
-    while start < text.len() {
+    let mut passed = 0;
+    while let Some(colon) = memchr(b':', &text[passed..]) {
+        let start = passed + last_line_start(&text[passed..passed + colon]);
         let end = start + line_length(&text[start..]);
         if is_marker_line(word, &text[start..end]) {
             return Some((&text[..start], &text[end..]));
         }
-        start = end;
+        passed = end;
     }
     None
 }
