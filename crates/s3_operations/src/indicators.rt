@@ -55,6 +55,7 @@ impl Indicators {
     }
 
     /// Whether all conditions of a card hold.
+    #[inline(always)]
     pub fn all_hold(&self, conditions: &[Option<Condition>; 3]) -> bool
         ensures { result ≡ list_all (entry_holds self.now) conditions.now }
     {

@@ -1,5 +1,5 @@
 //! The texts of fields, by slot.
-ghost use Rattle.std.specs.Prelude.{◌≡◌, ◌++◌, List, ℕ, IfOk, OnOk, length, replicate};
+ghost use Rattle.std.specs.Prelude.{◌≡◌, ◌≤◌, ◌-◌, ◌++◌, List, ℕ, min, IfOk, OnOk, length, replicate};
 ghost use Rattle.s3_meaning.specs.Calculating.{moved_right, moved_left};
 ghost use Rattle.s3_operations.specs.Texts.{IsCut, texts_on, blank_texts, length_of as length_of_spec};
 
@@ -69,6 +69,16 @@ fn overlay_left(target: &mut [u8], text: &[u8])
     target[..count].copy_from_slice(&text[..count]);
 }
 
+/// How many characters of one text lie over another one.
+#[inline(always)]
+fn overlap(source: Span, target: Span) -> usize
+    requires source { source.from ≤ source.to }
+    requires target { target.from ≤ target.to }
+    ensures { result ≡ min (source.to - source.from) (target.to - target.from) }
+{
+    (source.to - source.from).min(target.to - target.from)
+}
+
 /// Makes a text blank.
 fn overlay_blanks(target: &mut [u8])
     ensures { target.new ≡ replicate (length target.old) BLANK }
@@ -122,6 +132,34 @@ impl Texts {
     {
         let span = self.spans[slot];
         overlay_left(&mut self.bytes[span.from..span.to], text);
+    }
+
+    /// Moves the text of a slot into that of another one, or of the same, right to right.
+    #[inline(always)]
+    pub fn copy_right(&mut self, from: usize, to: usize)
+        requires from { from < length self.old }
+        requires to { to < length self.old }
+        ensures { self.new ≡ slice_set self.old to (moved_right (text_at self.old from) (text_at self.old to)) }
+    {
+        let source = self.spans[from];
+        let target = self.spans[to];
+        let count = overlap(source, target);
+        self.bytes
+            .copy_within(source.to - count..source.to, target.to - count);
+    }
+
+    /// Moves the text of a slot into that of another one, or of the same, left to left.
+    #[inline(always)]
+    pub fn copy_left(&mut self, from: usize, to: usize)
+        requires from { from < length self.old }
+        requires to { to < length self.old }
+        ensures { self.new ≡ slice_set self.old to (moved_left (text_at self.old from) (text_at self.old to)) }
+    {
+        let source = self.spans[from];
+        let target = self.spans[to];
+        let count = overlap(source, target);
+        self.bytes
+            .copy_within(source.from..source.from + count, target.from);
     }
 
     /// Makes the text of a slot blank.
