@@ -22,6 +22,7 @@ pub mod FollowLemmas
 pub mod CourseLemmas
 pub mod CalculatingLemmas
 pub mod PerformingLemmas
+pub mod PreparedLemmas
 pub mod ForgetLemmas
 pub mod ChainingLemmas
 pub mod FoundLemmas

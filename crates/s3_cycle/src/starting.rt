@@ -14,6 +14,7 @@ use s3_operations::values::Values;
 use s3_output::carriage::Carriage;
 use s3_output::composition::Composition;
 use s3_output::conditions::overflow_of;
+use s3_prepared::preparing::prepared_lines;
 use s3_program::program::Program;
 use s3_sections::course::Course;
 use s3_sections::spot::Spot;
@@ -78,9 +79,11 @@ impl Stepper {
     {
         let state = State::first(alloc, &program, switches, date)?;
         let progress = Progress::first(alloc, &program, switches)?;
+        let prepared = prepared_lines(alloc, &program)?;
         let overflow = overflow_of(&program.files);
         let mut stepper = Stepper {
             program,
+            prepared,
             overflow,
             // nothing is asked for yet
             request: Request::End { at_once: false },

@@ -8,6 +8,7 @@ use crate::state::State;
 use s3_lines::indicator::Indicator;
 use s3_lines::sheet::FileLine;
 use s3_output::composition::Composition;
+use s3_prepared::line::PreparedLine;
 use s3_program::program::Program;
 
 /// A run that waits for the answer to its request.
@@ -15,6 +16,8 @@ use s3_program::program::Program;
 pub struct Stepper {
     /// The program that runs.
     pub program: Program,
+    /// Its calculations, as they are prepared.
+    pub prepared: Vec<PreparedLine>,
     /// The overflow indicator of its print file.
     pub overflow: Option<Indicator>,
     /// The request that waits for an answer.
