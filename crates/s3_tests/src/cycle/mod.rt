@@ -6,6 +6,7 @@ mod fitting;
 mod job;
 mod list_file;
 mod matching_rows;
+mod preparing;
 mod reading_rows;
 mod rows;
 mod sequence_rows;
