@@ -13,3 +13,4 @@ pub mod TypeLemmas
 pub mod MoveLemmas
 pub mod WithinLemmas
 pub mod ChainLemmas
+pub mod MovingLemmas

@@ -12,7 +12,7 @@ ghost use Rattle.s3_operations.specs.Fits.{tables, IsLineOf, TakesText, named_li
 ghost use Rattle.s3_operations.specs.Held.{IsSound, Changes, held};
 
 use crate::numbers::number_slot;
-use crate::operand::Operand;
+use crate::operand::{Operand, literal_codes, literal_number};
 use crate::values::Values;
 use s3_decimal::{Dec, move_bytes, move_to, zoned_write};
 use s3_lines::sheet::{CalculationLine, Factor, Shape};
@@ -125,16 +125,42 @@ impl Values {
         }
     }
 
+    /// MOVE of a field into a text.
+    fn move_field_to_text(
+        &mut self,
+        program: &Program,
+        line: &CalculationLine<Reference>,
+        from: usize,
+        to: usize,
+    )
+        requires sound { IsSound program.now self.old }
+        requires takes { TakesText program.now line.now }
+        requires from { line.now.factor2 ≡ Some (Factor.Named (Reference.Field from)) }
+        requires to { line.now.result ≡ Some (Reference.Field to) }
+        ensures { Changes program.now self.old self.new (λ source. with_move source (named_line program.now line.now)) }
+    {
+        if is_number(program, from) {
+            self.texts.move_number(to, self.numbers[from]);
+        } else {
+            self.texts.copy_right(from, to);
+        }
+    }
+
     /// MOVE into a text.
     fn move_to_text(&mut self, program: &Program, line: &CalculationLine<Reference>)
         requires sound { IsSound program.now self.old }
         requires takes { TakesText program.now line.now }
         ensures { Changes program.now self.old self.new (λ source. with_move source (named_line program.now line.now)) }
     {
-        let mut buffer = [0; LONGEST];
-        let count = self.bytes(program, &line.factor2, &mut buffer);
         let slot = text_slot(program, line);
-        self.texts.move_right(slot, &buffer[..count]);
+        match &line.factor2 {
+            Some(Factor::Named(Reference::Field(from))) => {
+                self.move_field_to_text(program, line, *from, slot);
+            }
+            Some(Factor::Number(literal)) => self.texts.move_number(slot, literal_number(literal)),
+            Some(Factor::Text(literal)) => self.texts.move_right(slot, literal_codes(literal)),
+            _ => unreachable!(),
+        }
     }
 
     /// MOVE: factor 2 to the result, from the right.
@@ -150,15 +176,17 @@ impl Values {
         }
     }
 
-    /// MOVEL: factor 2 to the result, from the left.
+    /// MOVEL: factor 2, which is a text, to the result, from the left.
     pub fn move_left(&mut self, program: &Program, line: &CalculationLine<Reference>)
         requires sound { IsSound program.now self.old }
         requires line { IsLineOf program.now line.now op.MoveLeft }
         ensures { Changes program.now self.old self.new (λ source. changed source (named_line program.now line.now) op.MoveLeft) }
     {
-        let mut buffer = [0; LONGEST];
-        let count = self.bytes(program, &line.factor2, &mut buffer);
         let slot = text_slot(program, line);
-        self.texts.move_left(slot, &buffer[..count]);
+        match &line.factor2 {
+            Some(Factor::Named(Reference::Field(from))) => self.texts.copy_left(*from, slot),
+            Some(Factor::Text(literal)) => self.texts.move_left(slot, literal_codes(literal)),
+            _ => unreachable!(),
+        }
     }
 }

@@ -1,15 +1,15 @@
 //! The values of factors.
-ghost use Rattle.std.specs.Prelude.{◌≡◌, true, IsTrue, Some};
+ghost use Rattle.std.specs.Prelude.{◌≡◌, ◌<◌, ◌≤◌, true, IsTrue, Some, length, take};
 ghost use Rattle.s3_meaning.specs.Environment.{Environment};
 ghost use Rattle.s3_program.specs.Tables.{meaning_at, name_of};
 ghost use Rattle.s3_program.specs.Stands.{source_named};
 ghost use Rattle.s3_program.specs.Meant.{is_defined};
-ghost use Rattle.s3_operations.specs.Fits.{tables, named_factor, meant_factor, is_value, is_number, is_number_literal, is_text};
+ghost use Rattle.s3_operations.specs.Fits.{tables, named_factor, meant_factor, is_value, is_number, is_number_literal, is_text, is_text_literal};
 ghost use Rattle.s3_operations.specs.Held.{IsSound, IsOperand, IsNumberOf, IsTextOf, IsValueOf, held};
 
 use crate::values::Values;
 use s3_decimal::Dec;
-use s3_lines::sheet::{Factor, NumberLiteral, Shape};
+use s3_lines::sheet::{Factor, NumberLiteral, Shape, TextLiteral};
 use s3_program::program::{Program, Reference};
 
 /// The value of a factor.
@@ -21,7 +21,7 @@ pub enum Operand<'a> {
 }
 
 /// The number that a literal writes.
-fn literal_number(literal: &NumberLiteral) -> Dec
+pub fn literal_number(literal: &NumberLiteral) -> Dec
     requires { is_number_literal literal.now ≡ true }
     ensures value { result.value ≡ literal.now.value }
     ensures digits { result.digits ≡ literal.now.digits }
@@ -32,6 +32,16 @@ fn literal_number(literal: &NumberLiteral) -> Dec
         digits: literal.digits,
         decimals: literal.decimals,
     }
+}
+
+/// The characters of a literal.
+pub fn literal_codes(literal: &TextLiteral) -> &[u8]
+    requires { is_text_literal literal.now ≡ true }
+    ensures text { result.now ≡ take literal.now.length literal.now.codes }
+    ensures some { 0 < length result.now }
+    ensures few { length result.now ≤ 8 }
+{
+    &literal.codes[..usize::from(literal.length)]
 }
 
 impl Values {
@@ -68,7 +78,7 @@ impl Values {
         match factor {
             Factor::Named(name) => self.named(program, *name),
             Factor::Number(literal) => Operand::Number(literal_number(literal)),
-            Factor::Text(literal) => Operand::Text(&literal.codes[..literal.length as usize]),
+            Factor::Text(literal) => Operand::Text(literal_codes(literal)),
         }
     }
 

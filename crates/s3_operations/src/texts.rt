@@ -1,13 +1,17 @@
 //! The texts of fields, by slot.
 ghost use Rattle.std.specs.Prelude.{◌≡◌, ◌≤◌, ◌-◌, ◌++◌, List, ℕ, min, IfOk, OnOk, length, replicate};
-ghost use Rattle.s3_meaning.specs.Calculating.{moved_right, moved_left};
+ghost use Rattle.s3_meaning.specs.Calculating.{moved_right, moved_left, zoned};
 ghost use Rattle.s3_operations.specs.Texts.{IsCut, texts_on, blank_texts, length_of as length_of_spec};
 
 use s3_cards::ebcdic::BLANK;
+use s3_decimal::{Dec, zoned_write};
 use s3_lines::sheet::Shape;
 use s3_program::program::Defined;
 use std::alloc::{AllocError, Global};
 use std::marker::Model;
+
+/// How many digits a number has at most.
+const MOST_DIGITS: usize = 15;
 
 /// Where the text of a slot lies.
 #[derive(Clone, Copy)]
@@ -123,6 +127,17 @@ impl Texts {
     {
         let span = self.spans[slot];
         overlay_right(&mut self.bytes[span.from..span.to], text);
+    }
+
+    /// Moves the zoned bytes of a number into the text of a slot, right to right.
+    pub fn move_number(&mut self, slot: usize, number: Dec)
+        requires { slot < length self.old }
+        ensures { self.new ≡ slice_set self.old slot (moved_right (zoned number.digits number.value) (text_at self.old slot)) }
+    {
+        let mut buffer = [0; MOST_DIGITS];
+        let digits = &mut buffer[..usize::from(number.digits)];
+        zoned_write(number, digits);
+        self.move_right(slot, digits);
     }
 
     /// Moves a text into that of a slot, left to left.
