@@ -24,8 +24,8 @@ const CALCULATIONS: &str = "6:C 18:ONE 28:ADD 33:TWO 43:ONE
 6:C 28:SETON 54:10
 6:C 28:SETOF 54:10
 6:C 18:AGAIN 28:TAG
-6:C 28:Z-ADD 33:ONE 43:TWO
 6:C 18:ONE 28:DIV 33:TWO 43:ONE
+6:C 28:Z-ADD 33:ONE 43:TWO
 6:C 18:TEXT 28:COMP 33:LONG 54:10
 6:C 28:MOVE 33:ONE 43:LONG";
 
@@ -38,6 +38,7 @@ fn name_of(work: Work) -> &'static str {
         Work::ZeroAdd(_) => "zero add",
         Work::ZeroSubtract(_) => "zero subtract",
         Work::Multiply(_) => "multiply",
+        Work::Divide(_) => "divide",
         Work::Compare(_) => "compare",
         Work::Move(_) => "move",
         Work::MoveLeft(_) => "move left",
@@ -56,7 +57,7 @@ fn cards_get_their_forms(rt: HostRuntime) -> Result<(), Fail> {
     }
     assert_eq!(&rt;
         names.as_str(),
-        "add, subtract, zero add, zero subtract, multiply, compare, move, move left, set on, set off, nothing, card, card, card, card"
+        "add, subtract, zero add, zero subtract, multiply, compare, move, move left, set on, set off, nothing, divide, card, card, card"
     );
     Ok(())
 }
