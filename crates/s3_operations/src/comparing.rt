@@ -27,7 +27,7 @@ fn code_at(text: &[u8], place: usize) -> u8
 }
 
 /// The order of two texts by their codes, the shorter one padded with blanks.
-fn text_order(left: &[u8], right: &[u8]) -> Ordering
+pub fn text_order(left: &[u8], right: &[u8]) -> Ordering
     ensures { result ≡ text_order_spec left.now right.now }
 {
     for place in 0..left.len().max(right.len()) {

@@ -55,15 +55,17 @@ pub(crate) fn marks(
     ]
 }
 
-/// The places of the entries for plus, minus and zero in 54-59 and 65-70; those for high, low and equal have the same.
-const PLUS_ENTRY: usize = 0;
+/// The place of the entry for plus in 54-59 and 65-70, and of that for high.
+pub const PLUS_ENTRY: usize = 0;
 
-const MINUS_ENTRY: usize = 1;
+/// The place of the entry for minus, and of that for low.
+pub const MINUS_ENTRY: usize = 1;
 
-const ZERO_ENTRY: usize = 2;
+/// The place of the entry for zero, and of that for equal.
+pub const ZERO_ENTRY: usize = 2;
 
 /// Which of the entries for plus, minus and zero a number turns on.
-fn sign_place(number: Dec) -> usize
+pub fn sign_place(number: Dec) -> usize
     ensures within { result < 3 }
     ensures marks { (indicators : List (Option Indicator)) → sign_marks_spec indicators number.value ≡ zip indicators (alone result) }
 {
@@ -77,7 +79,7 @@ fn sign_place(number: Dec) -> usize
 }
 
 /// Which of the entries for high, low and equal an order turns on.
-fn order_place(order: Ordering) -> usize
+pub fn order_place(order: Ordering) -> usize
     ensures within { result < 3 }
     ensures marks { (indicators : List (Option Indicator)) → order_marks_spec indicators order ≡ zip indicators (alone result) }
 {
