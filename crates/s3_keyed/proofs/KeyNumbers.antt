@@ -1,14 +1,18 @@
 -- Keys compared as bytes and as numbers.
-use Rattle.std.proofs.Common.{◌≡◌, ◌-◌, append-nil, ℕ, zero, suc, ◌+◌, ◌*◌, ◌^◌, ◌<◌, ◌≤◌, ◌⊎◌, inl, inr, List, [], ◌∷◌, ◌++◌, length, take, drop, replicate, slice_index, refl, sym, ap, subst, ◌∙◌, arith}
+use Rattle.std.proofs.Common.{◌≡◌, true, ◌-◌, ◌/◌, append-nil, ℕ, zero, suc, ◌+◌, ◌*◌, ◌^◌, ◌<◌, ◌≤◌, ◌⊎◌, inl, inr, List, [], ◌∷◌, ◌++◌, length, take, drop, replicate, slice_index, refl, sym, ap, subst, ◌∙◌, arith, length-append, length-drop, length-take-le}
 use Rattle.std.proofs.Math.Nat.{mul-le-mul_left}
 use Rattle.std.proofs.lemmas.Bool.Decides.{nat_tests}
-use Rattle.std.proofs.lemmas.List.{take_all, drop_all, take-replicate, length-replicate}
+use Rattle.std.proofs.lemmas.List.{take_all, drop_all, take-replicate, length-replicate, take-append-drop, take-take}
+use Rattle.std.proofs.lemmas.Nat.{pow-add, div-mul-add}
+use Rattle.std.proofs.Math.Seq.{drop-cons}
 use Rattle.std.proofs.lemmas.Slice.{put_mid-paste}
 use borrow.Rule.Slice.PartMut.{put_mid}
 use native.Mathlib.Numerals.{unary_clauses}
+use Rattle.std.specs.declared.cmp.Ordering.{Ordering}
 use Rattle.std.specs.declared.cmp.Ordering.TheVariants.{Less, Equal, Greater}
-use Rattle.std.specs.Ordering.{nat_cmp, ordering_then}
+use Rattle.std.specs.Ordering.{nat_cmp, ordering_then, is_ne}
 use Rattle.std.specs.Cmp.Lexicographic.{slice_cmp}
+use Rattle.byteorder.specs.Endian.{big_from, big_number}
 use Rattle.s3_keyed.specs.KeyOrder.{number_of}
 
 unfoldable pub AreBytes : List ℕ → Type 0
@@ -122,6 +126,14 @@ fits-zeros (suc n) (suc i) = fits-zeros n i
 pub fits-over : (n k : ℕ) (key v : List ℕ) → v ≡ key → length key ≡ k → k ≤ n → ((i : ℕ) → slice_index key i < 256) → (i : ℕ) → slice_index (put_mid (n - k) (n - (n - k)) (replicate n 0) v) i < 256
 fits-over n k key v is len fits h i = subst (λ l. slice_index l i < 256) (sym (ap (λ l. put_mid (n - k) (n - (n - k)) (replicate n 0) l) is ∙ zeros-over n k key len fits)) (fits-append (replicate (n - k) 0) key (fits-zeros (n - k)) h i)
 
+powers : (n k : ℕ) → 256 ^ k ≤ 256 ^ (n + k)
+powers zero k = let z : zero + k ≡ k = omega arith in rw z (omega arith)
+powers (suc n) k =
+    let z : suc n + k ≡ suc (n + k) = omega arith in
+    let whole : 256 ^ suc (n + k) ≡ 256 ^ (n + k) * 256 = simp unary_clauses (omega arith) in
+    let rest = powers n k in
+    rw z (omega (arith, whole, rest))
+
 -- a key of so many bytes has zeros before them
 pub short_drop : (n k : ℕ) (xs : List ℕ) → length xs ≡ n + k → number_of xs < 256 ^ k → number_of (drop n xs) ≡ number_of xs
 unfolding number_of
@@ -133,14 +145,100 @@ short_drop (suc n) k (x ∷ xs) len short =
     let head : x * 256 ^ length xs + number_of xs ≡ number_of xs = ap (λ y. y * 256 ^ length xs + number_of xs) none ∙ omega arith in
     short_drop n k xs long (subst (λ m. m < 256 ^ k) head short) ∙ sym head
   where
-    powers : (n k : ℕ) → 256 ^ k ≤ 256 ^ (n + k)
-    powers zero k = let z : zero + k ≡ k = omega arith in rw z (omega arith)
-    powers (suc n) k =
-        let z : suc n + k ≡ suc (n + k) = omega arith in
-        let whole : 256 ^ suc (n + k) ≡ 256 ^ (n + k) * 256 = simp unary_clauses (omega arith) in
-        let rest = powers n k in
-        rw z (omega (arith, whole, rest))
-
     none_of : (x m n k : ℕ) → x * 256 ^ (n + k) + m < 256 ^ k → x ≡ 0
     none_of zero m n k h = refl
     none_of (suc x) m n k h = let p = powers n k in let up : 1 ≤ suc x = omega arith in let least = mul-le-mul_left (256 ^ (n + k)) up in absurd (omega (arith, p, least))
+
+-- ---- the number of a part of bytes
+
+pub length_fits : (n : ℕ) (xs ys : List ℕ) → length xs ≡ length ys → length (drop n xs) ≡ length (drop n ys)
+length_fits n xs ys same = length-drop n xs ∙ ap (λ m. m - n) same ∙ sym (length-drop n ys)
+
+-- of bytes in two parts
+pub number_of-append : (xs ys : List ℕ) → number_of (xs ++ ys) ≡ number_of xs * 256 ^ length ys + number_of ys
+unfolding number_of
+number_of-append [] ys = omega arith
+number_of-append (x ∷ xs) ys =
+    let rest = number_of-append xs ys in
+    let long : 256 ^ length (xs ++ ys) ≡ 256 ^ length xs * 256 ^ length ys = ap (λ n. 256 ^ n) (length-append xs ys) ∙ pow-add 256 (length xs) (length ys) in
+    joined x (256 ^ length (xs ++ ys)) (256 ^ length xs) (256 ^ length ys) (number_of xs) (number_of (xs ++ ys)) (number_of ys) long rest
+  where
+    joined : (x whole p q a b c : ℕ) → whole ≡ p * q → b ≡ a * q + c → x * whole + b ≡ (x * p + a) * q + c
+    joined x whole p q a b c is rest = rw (is, rest) (omega arith)
+
+pub number_of-split : (n : ℕ) (xs : List ℕ) → number_of xs ≡ number_of (take n xs) * 256 ^ length (drop n xs) + number_of (drop n xs)
+number_of-split n xs = ap number_of (sym (take-append-drop n xs)) ∙ number_of-append (take n xs) (drop n xs)
+
+big_from-number : (i n : ℕ) (xs : List ℕ) → i + n ≤ length xs → big_from i n xs ≡ number_of (take n (drop i xs))
+unfolding number_of
+big_from-number i zero xs fits = refl
+big_from-number i (suc n) xs fits =
+    let rest = big_from-number (suc i) n xs (omega arith) in
+    let long : length (take n (drop (suc i) xs)) ≡ n = length-take-le n (drop (suc i) xs) (omega (arith, length-drop (suc i) xs)) in
+    let inside : i < length xs = omega arith in
+    let front : take (suc n) (drop i xs) ≡ slice_index xs i ∷ take n (drop (suc i) xs) = ap (take (suc n)) (drop-cons xs i 0 inside) in
+    rw (front, long, rest) refl
+
+-- the number in the first bytes
+pub big_number-first : (n : ℕ) (xs : List ℕ) → n ≤ length xs → big_number n xs ≡ number_of (take n xs)
+big_number-first n xs fits = big_from-number 0 n xs (omega arith)
+
+pub big_number-all : (n : ℕ) (xs : List ℕ) → length xs ≡ n → big_number n xs ≡ number_of xs
+big_number-all n xs long = big_number-first n xs (omega arith) ∙ ap number_of (take_all n xs (omega arith))
+
+-- bytes of one length compare as their first ones do, and then as the others
+pub headed : (n : ℕ) (xs ys : List ℕ) → length xs ≡ length ys → AreBytes xs → AreBytes ys → ordering_then (nat_cmp (number_of (take n xs)) (number_of (take n ys))) (nat_cmp (number_of (drop n xs)) (number_of (drop n ys))) ≡ nat_cmp (number_of xs) (number_of ys)
+headed n xs ys same h k =
+    let p = 256 ^ length (drop n xs) in
+    let fits = number_of-fits (drop n xs) (bytes_dropped n xs h) in
+    let even = length_fits n xs ys same in
+    let fits_too : number_of (drop n ys) < p = subst (λ m. number_of (drop n ys) < 256 ^ m) (sym even) (number_of-fits (drop n ys) (bytes_dropped n ys k)) in
+    let whole = number_of-split n xs in
+    let other : number_of ys ≡ number_of (take n ys) * p + number_of (drop n ys) = number_of-split n ys ∙ ap (λ m. number_of (take n ys) * 256 ^ m + number_of (drop n ys)) (sym even) in
+    digit_cmp (number_of (take n xs)) (number_of (take n ys)) p (number_of (drop n xs)) (number_of (drop n ys)) fits fits_too
+    ∙ sym (rw (whole, other) refl)
+
+-- ---- a key of at most eight bytes in a number of 64 bits
+
+two_pow : (m : ℕ) → 2 ^ (8 * m) ≡ 256 ^ m
+two_pow zero = refl
+two_pow (suc m) =
+    let rest = two_pow m in
+    let more : 8 * suc m ≡ 8 + 8 * m = omega arith in
+    let whole : 256 ^ suc m ≡ 256 ^ m * 256 = simp unary_clauses (omega arith) in
+    let high : 2 ^ (8 + 8 * m) ≡ 2 ^ 8 * 2 ^ (8 * m) = pow-add 2 8 (8 * m) in
+    rw more (omega (arith, high, whole, rest))
+
+-- what is left of the first eight bytes where those behind the key are shifted out
+pub shifted : (k : ℕ) (entry : List ℕ) → k ≤ 8 → 8 ≤ length entry → AreBytes entry → big_number 8 entry / 2 ^ (64 - 8 * k) ≡ number_of (take k entry)
+shifted k entry few long h =
+    let head = take 8 entry in
+    let eight : length head ≡ 8 = length-take-le 8 entry long in
+    let behind : length (drop k head) ≡ 8 - k = length-drop k head ∙ ap (λ n. n - k) eight in
+    let fits : number_of (drop k head) < 256 ^ (8 - k) = subst (λ n. number_of (drop k head) < 256 ^ n) behind (number_of-fits (drop k head) (bytes_dropped k head (bytes_taken 8 entry h))) in
+    let places : 2 ^ (64 - 8 * k) ≡ 256 ^ (8 - k) = ap (λ n. 2 ^ n) (omega arith) ∙ two_pow (8 - k) in
+    let whole : number_of head ≡ number_of (take k head) * 256 ^ (8 - k) + number_of (drop k head) = number_of-split k head ∙ ap (λ n. number_of (take k head) * 256 ^ n + number_of (drop k head)) behind in
+    rw (big_number-first 8 entry long, places, whole)
+    (div-mul-add (number_of (take k head)) (256 ^ (8 - k)) (number_of (drop k head)) fits ∙ ap number_of (take-take k 8 entry few))
+
+-- a key behind at least 24 zeros is its last eight bytes
+pub last_eight : (k : ℕ) (bytes : List ℕ) → k ≤ 8 → length bytes ≡ 32 → number_of bytes < 256 ^ k → big_number 8 (drop 24 bytes) ≡ number_of bytes
+last_eight k bytes few long short =
+    let up : 8 - k + k ≡ 8 = omega arith in
+    let within : 256 ^ k ≤ 256 ^ 8 = subst (λ n. 256 ^ k ≤ 256 ^ n) up (powers (8 - k) k) in
+    big_number-all 8 (drop 24 bytes) (length-drop 24 bytes ∙ ap (λ n. n - 24) long)
+    ∙ short_drop 24 8 bytes long (omega (arith, short, within))
+
+-- where the first bytes tell two apart
+told_apart : (found rest whole : Ordering) → ordering_then found rest ≡ whole → is_ne found ≡ true → found ≡ whole
+told_apart Less rest whole is apart = is
+told_apart Equal rest whole is apart = absurd cc
+told_apart Greater rest whole is apart = is
+
+pub head_tells : (k : ℕ) (entry key : List ℕ) (x y : ℕ) → 8 ≤ k → length entry ≡ k + 4 → length key ≡ k → AreBytes entry → AreBytes key → x ≡ big_number 8 entry → y ≡ big_number 8 key → is_ne (nat_cmp x y) ≡ true → nat_cmp x y ≡ nat_cmp (number_of (take k entry)) (number_of key)
+head_tells k entry key x y eight long same h g x_is y_is apart =
+    let front : length (take k entry) ≡ length key = length-take-le k entry (omega (arith, long)) ∙ sym same in
+    let first : x ≡ number_of (take 8 (take k entry)) = x_is ∙ big_number-first 8 entry (omega (arith, long, eight)) ∙ ap number_of (sym (take-take 8 k entry eight)) in
+    let second : y ≡ number_of (take 8 key) = y_is ∙ big_number-first 8 key (omega (arith, same, eight)) in
+    told_apart (nat_cmp x y) (nat_cmp (number_of (drop 8 (take k entry))) (number_of (drop 8 key))) (nat_cmp (number_of (take k entry)) (number_of key))
+    (rw (first, second) (headed 8 (take k entry) key front (bytes_taken k entry h) g)) apart

@@ -1,5 +1,5 @@
 //! Sectors of an index, whose entries are looked at where they lie.
-ghost use Rattle.std.specs.Prelude.{◌≡◌, ◌≢◌, ◌≤◌, ◌<◌, ◌+◌, ◌*◌, ◌/◌, ◌%◌, ◌^◌, ℕ, OnOk, IfOk, IfErr};
+ghost use Rattle.std.specs.Prelude.{◌≡◌, ◌≢◌, ◌≤◌, ◌<◌, ◌+◌, ◌*◌, ◌/◌, ◌%◌, ◌^◌, ℕ, length, take, OnOk, IfOk, IfErr};
 ghost use Rattle.std.specs.Ordering.{nat_cmp};
 ghost use Rattle.s3_store.specs.State.{KeepsContents};
 ghost use Rattle.s3_store.specs.Failures.{failed_transfers};
@@ -144,6 +144,43 @@ fn whole_entry(sector: &[u8; 256], j: usize, key_length: usize) -> IndexEntry
     }
 }
 
+/// How the key at the start of an entry, which has so many bytes, stands to another, byte by byte.
+fn compare_bytes(entry: &[u8], key_length: usize, key: &Key) -> Ordering
+    requires short { key_length ≤ 29 }
+    requires whole { length entry.now ≡ key_length + 4 }
+    requires short_key { number_of key.now.bytes < 256 ^ key_length }
+    ensures { result ≡ nat_cmp (number_of (take key_length entry.now)) (number_of key.now.bytes) }
+{
+    entry[..key_length].cmp(&key.bytes[32 - key_length..])
+}
+
+/// The same of a key of four to eight bytes: it is the highest bytes of a number of 64 bits.
+fn compare_number(entry: &[u8], key_length: usize, key: &Key) -> Ordering
+    requires long { 4 ≤ key_length }
+    requires short { key_length ≤ 8 }
+    requires whole { length entry.now ≡ key_length + 4 }
+    requires short_key { number_of key.now.bytes < 256 ^ key_length }
+    ensures { result ≡ nat_cmp (number_of (take key_length entry.now)) (number_of key.now.bytes) }
+{
+    let number = BigEndian::read_u64(entry) >> (64 - 8 * key_length);
+    number.cmp(&BigEndian::read_u64(&key.bytes[24..]))
+}
+
+/// The same of a longer key, by its first eight bytes where they aren't the same.
+fn compare_head(entry: &[u8], key_length: usize, key: &Key) -> Ordering
+    requires long { 8 ≤ key_length }
+    requires short { key_length ≤ 29 }
+    requires whole { length entry.now ≡ key_length + 4 }
+    requires short_key { number_of key.now.bytes < 256 ^ key_length }
+    ensures { result ≡ nat_cmp (number_of (take key_length entry.now)) (number_of key.now.bytes) }
+{
+    let head = BigEndian::read_u64(entry).cmp(&BigEndian::read_u64(&key.bytes[32 - key_length..]));
+    if head.is_ne() {
+        return head;
+    }
+    compare_bytes(entry, key_length, key)
+}
+
 /// How the key of entry `j` of a sector, which has so many bytes, stands to another.
 pub fn compare_entry(sector: &[u8; 256], j: usize, key_length: usize, key: &Key) -> Ordering
     requires short { key_length ≤ 29 }
@@ -151,7 +188,12 @@ pub fn compare_entry(sector: &[u8; 256], j: usize, key_length: usize, key: &Key)
     requires short_key { number_of key.now.bytes < 256 ^ key_length }
     ensures { result ≡ nat_cmp (entry_in key_length (part sector.now (j * (key_length + 4)) (key_length + 4))).key (number_of key.now.bytes) }
 {
-    entry_bytes(sector, j, key_length)[..key_length].cmp(&key.bytes[29 - key_length..])
+    let entry = entry_bytes(sector, j, key_length);
+    match key_length {
+        0..=3 => compare_bytes(entry, key_length, key),
+        4..=8 => compare_number(entry, key_length, key),
+        _ => compare_head(entry, key_length, key),
+    }
 }
 
 /// The number in entry `j` of a sector.

@@ -1,6 +1,6 @@
 //! Keys of records.
-ghost use Rattle.std.specs.Prelude.{◌≡◌, ◌≤◌, ◌<◌, ◌^◌, ℕ, length, slice_index, nat_lt, ◌==◌};
-ghost use Rattle.std.specs.Ordering.{nat_cmp};
+ghost use Rattle.std.specs.Prelude.{◌≡◌, ◌≤◌, ◌<◌, ◌^◌, ℕ, length, slice_index, take, drop, nat_lt, ◌==◌};
+ghost use Rattle.std.specs.Ordering.{nat_cmp, ordering_then};
 ghost use Rattle.s3_keyed.specs.KeyOrder.{number_of};
 
 use byteorder::{BigEndian, ByteOrder};
@@ -9,8 +9,8 @@ use std::cmp::Ordering;
 /// A key of at most 29 bytes, with zeros before it.
 #[derive(Clone, Copy)]
 pub struct Key {
-    /// Its bytes, behind zeros.
-    pub bytes: [u8; 29],
+    /// Its bytes, behind zeros: as many as two numbers of 128 bits have.
+    pub bytes: [u8; 32],
     ghost in_range: { (i : ℕ) → slice_index bytes i < 256 },
 }
 
@@ -21,16 +21,19 @@ impl Key {
         ensures number { number_of result.bytes ≡ number_of key.now }
         ensures short { number_of result.bytes < 256 ^ length key.now }
     {
-        let mut bytes = [0; 29];
-        bytes[29 - key.len()..].copy_from_slice(key);
+        let mut bytes = [0; 32];
+        bytes[32 - key.len()..].copy_from_slice(key);
         Key { bytes }
     }
 
     /// As a number.
-    pub fn number(&self) -> KeyNumber {
+    pub fn number(&self) -> KeyNumber
+        ensures high { result.high ≡ number_of (take 16 self.now.bytes) }
+        ensures low { result.low ≡ number_of (drop 16 self.now.bytes) }
+    {
         KeyNumber {
-            high: BigEndian::read_u128(&self.bytes[..16]),
-            low: BigEndian::read_u128(&self.bytes[13..]),
+            high: BigEndian::read_u128(&self.bytes),
+            low: BigEndian::read_u128(&self.bytes[16..]),
         }
     }
 
@@ -38,7 +41,7 @@ impl Key {
     pub fn compare(&self, other: &Key) -> Ordering
         ensures { result ≡ nat_cmp (number_of self.now.bytes) (number_of other.now.bytes) }
     {
-        self.bytes.cmp(&other.bytes)
+        self.number().compare(&other.number())
     }
 
     /// Whether another key is below this one.
@@ -56,18 +59,25 @@ impl Key {
     }
 }
 
-/// A key as a number, which is quick to compare. Nothing is proved of it, so that a search may begin by it alone.
+/// A key as a number, which is quick to compare.
 #[derive(Clone, Copy)]
 pub struct KeyNumber {
-    /// The first 16 bytes.
+    /// The first 16 of its 32 bytes.
     high: u128,
-    /// The last 16, three of which are in both.
+    /// The others.
     low: u128,
 }
 
 impl KeyNumber {
+    /// How it stands to another one.
+    pub fn compare(&self, other: &KeyNumber) -> Ordering
+        ensures { result ≡ ordering_then (nat_cmp self.now.high other.now.high) (nat_cmp self.now.low other.now.low) }
+    {
+        self.high.cmp(&other.high).then(self.low.cmp(&other.low))
+    }
+
     /// Whether it isn't above another one.
     pub fn is_up_to(&self, other: &KeyNumber) -> bool {
-        self.high < other.high || self.high == other.high && self.low <= other.low
+        self.compare(other).is_le()
     }
 }

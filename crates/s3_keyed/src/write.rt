@@ -71,7 +71,7 @@ fn encode(entry: &IndexEntry, key_length: usize, bytes: &mut [u8])
     ensures { entry_in key_length bytes.new ≡ entry_of entry.now }
 {
     let (key, number) = bytes.split_at_mut(key_length);
-    key.copy_from_slice(&entry.key.bytes[29 - key_length..]);
+    key.copy_from_slice(&entry.key.bytes[32 - key_length..]);
     BigEndian::write_u32(number, entry.number);
 }
 
