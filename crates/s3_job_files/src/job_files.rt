@@ -1,6 +1,7 @@
 //! The files of a job at work.
-ghost use Rattle.std.specs.Prelude.{◌≡◌, ◌≢◌, ◌<◌, ◌+◌, ◌++◌, [], ◌∷◌, true, false, length, map, option_map, slice_get, IfOk, IfErr, IfSome, OnOk};
+ghost use Rattle.std.specs.Prelude.{◌≡◌, ◌≢◌, ◌<◌, ◌+◌, ◌++◌, [], ◌∷◌, true, false, length, map, option_map, slice_get, nat_eq, IfOk, IfErr, IfSome, OnOk};
 ghost use Rattle.std.specs.List.{list_any, position_from};
+ghost use Rattle.std.specs.Cmp.Lexicographic.{pointwise};
 ghost use Rattle.s3_cards.specs.Names.{same_name};
 ghost use Rattle.s3_store.specs.State.{KeepsContents, KeepsInStep};
 ghost use Rattle.s3_store.specs.Failures.{failed_transfers};
@@ -28,12 +29,21 @@ pub struct JobFiles {
     pub files: Vec<OpenFile>,
 }
 
+/// Whether the codes of two names are the same, compared at once and not one by one.
+fn are_same(codes: &[u8; 8], others: &[u8; 8]) -> bool
+    ensures { result ≡ pointwise nat_eq codes.now others.now }
+{
+    u64::from_be_bytes(*codes) == u64::from_be_bytes(*others)
+}
+
 /// The first file that the program knows by this name.
 fn position_of(files: &Vec<OpenFile>, name: Name) -> Option<usize>
     ensures place { result ≡ position_from (λ file. same_name file.name name) 0 files.now.items }
     ensures within { IfSome result (λ place. place < length files.now.items) }
 {
-    files.iter().position(|file| file.name == name)
+    files
+        .iter()
+        .position(|file| are_same(&file.name.codes, &name.codes))
 }
 
 impl JobFiles {
