@@ -119,6 +119,13 @@ get_key layout count i bytes h = slice_get_map (key_of layout.key) (records_in l
 pub key_there : (layout : Layout) (i : ℕ) (bytes : List ℕ) → 1 ≤ layout.key.start → layout.key.start + layout.key.length ≤ layout.record_length + 1 → key_of layout.key (part bytes (i * layout.record_length) layout.record_length) ≡ number_of (part bytes (i * layout.record_length + (layout.key.start - 1)) layout.key.length)
 key_there layout i bytes some inside = ap number_of (part_part (i * layout.record_length) layout.record_length (layout.key.start - 1) layout.key.length bytes (omega arith))
 
+-- the key of a record in a sector of the file
+pub key_held : (layout : Layout) (i place start at : ℕ) (bytes sector : List ℕ) → 1 ≤ layout.key.start → layout.key.start + layout.key.length ≤ layout.record_length + 1 → at ≡ i * layout.record_length + (layout.key.start - 1) → place ≡ at / 256 → start ≡ at % 256 → start + layout.key.length ≤ 256 → sector ≡ part bytes (256 * place) 256 → number_of (part sector start layout.key.length) ≡ key_of layout.key (part bytes (i * layout.record_length) layout.record_length)
+key_held layout i place start at bytes sector some inside is_at is_place is_start within is_sector =
+    let whole : 256 * place + start ≡ at = omega arith in
+    ap number_of (ap (λ l. part l start layout.key.length) is_sector ∙ part_part (256 * place) 256 start layout.key.length bytes within ∙ ap (λ a. part bytes a layout.key.length) (whole ∙ is_at))
+    ∙ sym (key_there layout i bytes some inside)
+
 -- an entry, in the bytes of its sector
 pub entry_there : (layout : Layout) (i place : ℕ) (bytes sector : List ℕ) → layout.key.length ≤ 29 → place ≡ i / entries_per_sector layout.key.length → sector ≡ part bytes (256 * (record_sectors layout.capacity layout.record_length + place)) 256 → entry_in layout.key.length (part sector (i % entries_per_sector layout.key.length * (layout.key.length + 4)) (layout.key.length + 4)) ≡ entry_at layout bytes i
 unfolding entry_at

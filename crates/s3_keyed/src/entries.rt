@@ -1,5 +1,5 @@
 //! The entries of an index, and the keys of records.
-ghost use Rattle.std.specs.Prelude.{◌≡◌, ◌≢◌, ◌≤◌, ◌<◌, ◌+◌, ◌*◌, ◌^◌, ℕ, length, IfOk, IfErr};
+ghost use Rattle.std.specs.Prelude.{◌≡◌, ◌≢◌, ◌≤◌, ◌<◌, ◌+◌, ◌-◌, ◌*◌, ◌^◌, ℕ, length, IfOk, IfErr};
 ghost use Rattle.s3_store.specs.State.{KeepsContents};
 ghost use Rattle.s3_store.specs.Failures.{failed_transfers};
 ghost use Rattle.s3_store.specs.Bytes.{part};
@@ -47,6 +47,16 @@ pub fn read_entry<P: Sectors>(
     let key = Key::of(&bytes[..key_length]);
     let number = BigEndian::read_u32(&bytes[key_length..]);
     Ok(IndexEntry { key, number })
+}
+
+/// Where the key of a record begins in the bytes of the file.
+pub fn key_place(file: &IndexedFile, i: u32) -> u32
+    requires { i < file.now.file.capacity }
+    ensures place { result ≡ i * file.now.file.record_length + (file.now.key_start - 1) }
+    ensures within { result + file.now.key_length ≤ 256 * length file.now.file.sectors }
+    ensures some { 1 ≤ file.now.key_length }
+{
+    i * u32::from(file.file.record_length) + u32::from(file.key_start - 1)
 }
 
 /// Reads the key of a record.

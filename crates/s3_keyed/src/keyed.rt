@@ -17,7 +17,7 @@ use crate::entries::{read_entry, read_key};
 use crate::fault::KeyedFault;
 use crate::index_sector::entries_per_sector;
 use crate::indexed::{IndexEntry, IndexedFile};
-use crate::keys::{Key, KeyNumber};
+use crate::keys::{Key, QuickKey};
 use crate::search::{guess_of, is_above_index, search_index};
 use crate::write::{read_record, write_entry, write_record};
 use s3_slots::FileLabel;
@@ -36,7 +36,7 @@ pub struct Keyed {
     /// The entries of the others, in the order of their keys.
     pub(crate) added: Vec<IndexEntry>,
     /// The first key in each sector of the index as it was checked. A search begins by them, but doesn't rely on them.
-    pub(crate) firsts: Vec<KeyNumber>,
+    pub(crate) firsts: Vec<QuickKey>,
     ghost counted: { count ≤ file.file.capacity },
 }
 
@@ -153,7 +153,8 @@ impl Keyed {
 
     /// Where the search for a key begins: the first entry of the sector that the first keys name.
     fn guess(&self, key: &Key) -> u32 {
-        guess_of(&self.firsts, entries_per_sector(&self.file), key)
+        let key = QuickKey::of(key, self.file.key_length);
+        guess_of(&self.firsts, entries_per_sector(&self.file), &key)
     }
 
     /// The place of the record with a key, from 0. The index is looked into, and then the added entries.

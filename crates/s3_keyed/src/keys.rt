@@ -27,7 +27,7 @@ impl Key {
     }
 
     /// As a number.
-    pub fn number(&self) -> KeyNumber
+    fn number(&self) -> KeyNumber
         ensures high { result.high ≡ number_of (take 16 self.now.bytes) }
         ensures low { result.low ≡ number_of (drop 16 self.now.bytes) }
     {
@@ -59,9 +59,9 @@ impl Key {
     }
 }
 
-/// A key as a number, which is quick to compare.
+/// A key as a number.
 #[derive(Clone, Copy)]
-pub struct KeyNumber {
+struct KeyNumber {
     /// The first 16 of its 32 bytes.
     high: u128,
     /// The others.
@@ -70,14 +70,34 @@ pub struct KeyNumber {
 
 impl KeyNumber {
     /// How it stands to another one.
-    pub fn compare(&self, other: &KeyNumber) -> Ordering
+    fn compare(&self, other: &KeyNumber) -> Ordering
         ensures { result ≡ ordering_then (nat_cmp self.now.high other.now.high) (nat_cmp self.now.low other.now.low) }
     {
         self.high.cmp(&other.high).then(self.low.cmp(&other.low))
     }
+}
+
+/// A key with a number in front that tells it from nearly all others. Nothing is proved of it, so that a search may begin by it
+/// alone.
+#[derive(Clone, Copy)]
+pub struct QuickKey {
+    /// Its first eight bytes, or all of a shorter key.
+    head: u64,
+    key: Key,
+}
+
+impl QuickKey {
+    /// A key of so many bytes.
+    pub fn of(key: &Key, key_length: u8) -> Self {
+        let start = 24.min(32_usize.saturating_sub(usize::from(key_length)));
+        QuickKey {
+            head: BigEndian::read_u64(&key.bytes[start..]),
+            key: *key,
+        }
+    }
 
     /// Whether it isn't above another one.
-    pub fn is_up_to(&self, other: &KeyNumber) -> bool {
-        self.compare(other).is_le()
+    pub fn is_up_to(&self, other: &QuickKey) -> bool {
+        self.head < other.head || self.head == other.head && !self.key.is_above(&other.key)
     }
 }

@@ -12,6 +12,7 @@ mod indexed;
 mod keyed;
 mod keys;
 mod laws;
+mod record_sector;
 mod search;
 mod write;
 

@@ -11,14 +11,13 @@ ghost use Rattle.s3_keyed.specs.Inner.Shape.{layout_in, bytes_in};
 use crate::entries::read_entry;
 use crate::index_sector::{IndexSector, compare_entry, entries_per_sector, number_in};
 use crate::indexed::IndexedFile;
-use crate::keys::{Key, KeyNumber};
+use crate::keys::{Key, QuickKey};
 use s3_store::{PoolFault, Sectors};
 use std::cmp::Ordering;
 
 /// The first entry of the sector that a key lies in by the first keys of all sectors.
-pub fn guess_of(firsts: &[KeyNumber], per_sector: u32, key: &Key) -> u32 {
-    let number = key.number();
-    let sectors = firsts.partition_point(|first| first.is_up_to(&number));
+pub fn guess_of(firsts: &[QuickKey], per_sector: u32, key: &QuickKey) -> u32 {
+    let sectors = firsts.partition_point(|first| first.is_up_to(key));
     let sector = u32::try_from(sectors.saturating_sub(1)).unwrap_or(0);
     sector.saturating_mul(per_sector)
 }

@@ -1,5 +1,6 @@
-use Rattle.std.proofs.Common.{◌≡◌, ◌+◌, ◌-◌, Some, map, slice_get, inl, inr, refl, sym, ap, ◌∙◌, subst, arith}
+use Rattle.std.proofs.Common.{◌≡◌, ◌+◌, ◌-◌, ◌*◌, Some, map, slice_get, inl, inr, refl, sym, ap, ◌∙◌, subst, arith}
 use Rattle.s3_store.proofs.Frames.{keeps_refl, keeps_trans}
+use Rattle.s3_store.specs.Bytes.{part}
 use Rattle.s3_files.proofs.FileFrames.{stored_keeps}
 use Rattle.std.specs.List.{range_with_len}
 use Rattle.s3_keyed.specs.KeyOrder.{number_of}
@@ -85,6 +86,7 @@ loop-i-preserved g c =
           (omega (arith, number, c.if-entry-count.false, long))
           (its_key entry keys j _ _ _ number key read (sym c.is_same.ensures ∙ c.if-not-is_same.false));
       last = λ later. key ∙ ap (λ m. (entry m).key) (sym back);
+      records = c.in_ok-key.ensures.here ∙ ap (λ l. part (bytes_in f l) (256 * c.read_key.new.self.place) 256) (sym c.read_key.ensures.keeps.contents);
       sector = c.in_ok-entry.ensures.here ∙ ap (λ l. index_sector f c.read_entry.new.self.place (bytes_in f l)) (sym (keeps_trans _ _ _ c.read_entry.ensures.keeps c.read_key.ensures.keeps).contents);
       keeps = keeps_trans _ _ _ kept c.read_key.ensures.keeps;
       failures = omega (arith, c.in_ok-entry.ensures.failures, c.in_ok-key.ensures.failures, c.loop-i.invariant.failures);
@@ -106,6 +108,7 @@ loop-i-init g c =
     record {
       checked = checked-none (entry_at (layout_in f) (bytes_in f contents)) (keys_on f contents);
       last = λ later. absurd (omega (arith, later));
+      records = c.requires.records;
       sector = c.requires.here;
       keeps = keeps_refl (g.P.Sectors.state c.args.pool.now);
       failures = refl;
@@ -134,6 +137,11 @@ returns-then-entry-eq0-clause-failures g c = c.in_ok-entry.ensures.failures ∙ 
 
 pub returns-then-entry-count-clause-failures : goal.returns-then-entry-count-clause-failures
 returns-then-entry-count-clause-failures g c = c.in_ok-entry.ensures.failures ∙ ap (λ n. n + 0) c.loop-i.invariant.failures
+
+pub read_key-requires-clause-here : goal.read_key-requires-clause-here
+read_key-requires-clause-here g c =
+    let f = c.args.file.now in
+    c.loop-i.invariant.records ∙ ap (λ l. part (bytes_in f l) (256 * c.loop-i.records.place) 256) (sym c.read_entry.ensures.keeps.contents)
 
 pub read_key-requires-clause-stored : goal.read_key-requires-clause-stored
 read_key-requires-clause-stored g c = stored_keeps c.args.file.now.file.sectors _ _ c.requires.stored (keeps_trans _ _ _ c.loop-i.invariant.keeps c.read_entry.ensures.keeps)
