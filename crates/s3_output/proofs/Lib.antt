@@ -4,3 +4,4 @@ pub mod FitLemmas
 pub mod FieldLemmas
 pub mod ComposeLemmas
 pub mod LawLemmas
+pub mod GuardLemmas

@@ -1,6 +1,7 @@
 pub mod Carriages
 pub mod Compositions
 pub mod Composing
+pub mod Guards
 pub mod Inner
 pub mod Lines
 pub mod Requests

@@ -6,6 +6,7 @@ mod composing;
 pub mod composition;
 pub mod conditions;
 mod fields;
+pub mod guards;
 pub mod laws;
 mod numbers;
 pub mod requests;
