@@ -1,11 +1,12 @@
 -- Lines of the O sheet that are put out together: which of them are passed over, and what one that is due does.
-use Rattle.std.proofs.Common.{◌≡◌, ℕ, zero, suc, ◌+◌, ◌<◌, ◌≤◌, Bool, true, false, ◌&&◌, if◌then◌else◌, List, [], ◌∷◌, length, drop, filter, get_or, Option, Some, None, refl, sym, ◌∙◌, ap, true≢false, arith}
+use Rattle.std.proofs.Common.{◌≡◌, ℕ, zero, suc, ◌+◌, ◌<◌, ◌≤◌, Bool, true, false, not, ◌&&◌, if◌then◌else◌, List, [], ◌∷◌, length, drop, filter, get_or, Option, Some, None, refl, sym, ◌∙◌, ap, true≢false, arith}
 use Rattle.std.specs.Prelude.{slice_get, unwrap_or, option_map, is_some, filter_map}
 use Rattle.std.specs.List.{cons_option}
 use Rattle.std.proofs.lemmas.Bool.{and_parts}
 use Rattle.std.proofs.lemmas.Option.{slice_get-map, slice_get_read, slice_get_past, get_or_from_slice_get}
 use Rattle.s3_cards.specs.declared.name.Name.{Name}
 use Rattle.s3_cards.specs.Names.{no_name}
+use Rattle.s3_lines.specs.declared.indicator.Indicator.{Indicator}
 use Rattle.s3_lines.specs.declared.sheet.FileLine.{FileLine}
 use Rattle.s3_lines.specs.declared.sheet.OutputKind.{OutputKind}
 use Rattle.s3_lines.specs.declared.sheet.OutputKind.TheVariants.{Heading, Detail, Total, Exception}
@@ -29,6 +30,12 @@ use Rattle.s3_program.specs.Tables.{name_in}
 use Rattle.s3_program.specs.Valid.{file_entry}
 use Rattle.s3_operations.specs.Fits.{tables}
 use Rattle.s3_operations.specs.Held.{held}
+use Rattle.s3_prepared.specs.declared.guard.Guard.{Guard}
+use Rattle.s3_prepared.specs.Guards.{guard_holds}
+use Rattle.s3_output.specs.declared.guards.LineGuard.{LineGuard}
+use Rattle.s3_output.specs.declared.guards.LineGuard.TheVariants.{Group}
+use Rattle.s3_output.specs.declared.guards.LineGuards.{LineGuards}
+use Rattle.s3_output.specs.Guards.{AreGuarded, IsGroup, guards_of, is_always_used}
 use Rattle.s3_output.specs.Lines.{IsLineAt, IsStart}
 use Rattle.s3_output.proofs.ComposeLemmas.{StartsAt, starts_at}
 use Rattle.s3_output.proofs.LawLemmas.{line_starts, file_there, walked_start}
@@ -247,6 +254,40 @@ pub due_unused : (c : Stepper) (w : Walk) (place : ℕ) (starts : List OutputSta
 due_unused c w place starts d used same used_is off start there =
     let at : get_or starts place d ≡ start = get_or_from_slice_get starts place start d (ap (λ list. slice_get list place) same ∙ there) in
     off ∙ sym (ap (λ b. b && is_held c w (output_at (tables c.program) c.program.outputs.items start)) (ap (λ (s : OutputStart). is_used (held_by c) (slice_get c.program.files.items s.file)) (sym at) ∙ sym used_is ∙ off))
+
+-- a file without a condition is used
+always_used : (e : Environment) (o : Option FileLine) → is_always_used o ≡ true → is_used e o ≡ true
+always_used e None always = absurd (true≢false (sym always))
+always_used e (Some file) always = by file.condition refl always
+  where
+    by : (o : Option Indicator) → file.condition ≡ o → not (is_some o) ≡ true → is_served e file ≡ true
+    by None is h = rw is refl
+    by (Some indicator) is h = absurd (true≢false (sym h))
+
+-- lines that have guards aren't put out for the overflow indicator
+pub record IsGuardedBy (p : Program) (w : Walk) (start : OutputStart) (guard : Guard) : Type 0 where
+  pub group : IsGroup p start guard
+  pub elsewhere : is_at_overflow w ≡ false
+
+guarded_by : (p : Program) (guards : LineGuards) (w : Walk) (place : ℕ) (start : OutputStart) (guard : Guard) → AreGuarded p guards → slice_get (starts_of p.starts w) place ≡ Some start
+    → slice_get (guards_of guards w) place ≡ Some (Group guard) → IsGuardedBy p w start guard
+guarded_by p guards walk.Beginning place start guard are there at = record { group = are.beginning place start (Group guard) there at; elsewhere = refl }
+guarded_by p guards walk.Totals place start guard are there at = record { group = are.totals place start (Group guard) there at; elsewhere = refl }
+guarded_by p guards walk.Exceptions place start guard are there at = record { group = are.exceptions place start (Group guard) there at; elsewhere = refl }
+guarded_by p guards walk.Overflow place start guard are there at = cc
+
+-- a line that has one holds where it does
+pub due_guarded : (c : Stepper) (w : Walk) (place : ℕ) (guards : List LineGuard) (guard : Guard) (holds : Bool) → AreGuarded c.program c.guards → guards ≡ guards_of c.guards w
+    → slice_get guards place ≡ Some (Group guard) → holds ≡ guard_holds c.state.values.indicators guard
+    → (start : OutputStart) → slice_get (starts_of c.program.starts w) place ≡ Some start → holds ≡ is_due c w start
+unfolding environment
+due_guarded c w place guards guard holds are same at is start there =
+    let line = line_of c.program w place start there in
+    let by : IsGuardedBy c.program w start guard = guarded_by c.program c.guards w place start guard are there (ap (λ list. slice_get list place) (sym same) ∙ at) in
+    is ∙ by.group.holds c.state.values line.0 (others c.program c.state) line.1.there
+    ∙ ap (λ b. line_holds (own c) b (held_by c) line.0) (sym by.elsewhere)
+    ∙ ap (λ b. b && line_holds (own c) (is_at_overflow w) (held_by c) line.0) (sym (always_used (held_by c) (slice_get c.program.files.items start.file) by.group.used))
+    ∙ sym (due_by c w start line.0 line.1.there)
 
 -- ---- the next one that is due
 pub passes_none : (c : Stepper) (w : Walk) (next : ℕ) → PassesTo c w next next

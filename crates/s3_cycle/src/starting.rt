@@ -14,6 +14,7 @@ use s3_operations::values::Values;
 use s3_output::carriage::Carriage;
 use s3_output::composition::Composition;
 use s3_output::conditions::overflow_of;
+use s3_output::guards::line_guards;
 use s3_prepared::preparing::prepared_lines;
 use s3_program::program::Program;
 use s3_sections::course::Course;
@@ -81,10 +82,12 @@ impl Stepper {
         let progress = Progress::first(alloc, &program, switches)?;
         let prepared = prepared_lines(alloc, &program)?;
         let overflow = overflow_of(&program.files);
+        let guards = line_guards(alloc, &program, overflow)?;
         let mut stepper = Stepper {
             program,
             prepared,
             overflow,
+            guards,
             // nothing is asked for yet
             request: Request::End { at_once: false },
             point: Point::End { at_once: false },

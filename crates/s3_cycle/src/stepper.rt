@@ -8,6 +8,7 @@ use crate::state::State;
 use s3_lines::indicator::Indicator;
 use s3_lines::sheet::FileLine;
 use s3_output::composition::Composition;
+use s3_output::guards::LineGuards;
 use s3_prepared::line::PreparedLine;
 use s3_program::program::Program;
 
@@ -20,6 +21,8 @@ pub struct Stepper {
     pub prepared: Vec<PreparedLine>,
     /// The overflow indicator of its print file.
     pub overflow: Option<Indicator>,
+    /// When its output lines are put out, as it is told of their cards once.
+    pub guards: LineGuards,
     /// The request that waits for an answer.
     pub request: Request,
     /// What goes on with the answer.
