@@ -90,7 +90,7 @@ keeping c other = record c { progress = with_record c.progress other }
 
 pub keeps_running : (old new : Stepper) (bytes : List ℕ) → KeepsRecord old new bytes → IsRunning old → IsRunning new
 keeps_running old new bytes keeps running =
-    let kept : IsRunning (keeping old new.progress) = record { overflow = running.overflow; state = running.state; reading = running.reading; heads = running.heads; prepared = running.prepared; guards = running.guards } in
+    let kept : IsRunning (keeping old new.progress) = record { overflow = running.overflow; state = running.state; reading = running.reading; heads = running.heads; prepared = running.prepared; inputs = running.inputs; guards = running.guards } in
     subst IsRunning (sym keeps.same) kept
 
 pub keeps_calculates : (old new : Stepper) (bytes : List ℕ) → KeepsRecord old new bytes → CanCalculate old.program old.progress → CanCalculate new.program new.progress

@@ -169,7 +169,7 @@ put_within program start bytes input fields head e =
 
 -- ---- a run with another reading
 pub reading_running : (c : Stepper) (reading : Reading) → IsRunning c → IsReading c.program reading → All (IsHeadWithin c.program) reading.files.items → IsRunning (record c { progress = record c.progress { reading = reading } })
-reading_running c reading running sound heads = record { overflow = running.overflow; state = running.state; reading = sound; heads = heads; prepared = running.prepared; guards = running.guards }
+reading_running c reading running sound heads = record { overflow = running.overflow; state = running.state; reading = sound; heads = heads; prepared = running.prepared; inputs = running.inputs; guards = running.guards }
 
 -- one record more was read
 pub counted_heads : (program : Program) (old new : Reading) (place : ℕ) → place < length old.files.items → IsReading program old → IsReading program new → All (IsHeadWithin program) old.files.items

@@ -17,6 +17,7 @@ pub mod TotalLemmas
 pub mod CurrentLemmas
 pub mod RecordLemmas
 pub mod FieldLemmas
+pub mod InputLemmas
 pub mod AnswerLemmas
 pub mod FollowLemmas
 pub mod CourseLemmas

@@ -409,7 +409,7 @@ composed_runs old mid w place start line put composes =
 pub composed_running : (old mid : Stepper) (start : OutputStart) → ComposesLine old mid start → IsRunning old → IsRunning mid
 composed_running old mid start composes running =
     let P : Stepper → Type 0 = λ k. IsRunning k in
-    subst P (sym composes.same) (record { overflow = running.overflow; state = composes.sound; reading = running.reading; heads = running.heads; prepared = running.prepared; guards = running.guards })
+    subst P (sym composes.same) (record { overflow = running.overflow; state = composes.sound; reading = running.reading; heads = running.heads; prepared = running.prepared; inputs = running.inputs; guards = running.guards })
 
 pub composed_walk : (old mid : Stepper) (start : OutputStart) (w : Walk) → ComposesLine old mid start → IsWalk old.program old.progress w → IsWalk mid.program mid.progress w
 composed_walk old mid start w composes walks = let P : Stepper → Type 0 = λ k. IsWalk k.program k.progress w in subst P (sym composes.same) walks

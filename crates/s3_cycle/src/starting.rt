@@ -8,6 +8,7 @@ use crate::request::{Current, Request};
 use crate::state::State;
 use crate::stepper::Stepper;
 use arrayvec::ArrayVec;
+use s3_fields::preparing::prepared_inputs;
 use s3_match::controls::Controls;
 use s3_match::reading::Reading;
 use s3_operations::values::Values;
@@ -81,11 +82,13 @@ impl Stepper {
         let state = State::first(alloc, &program, switches, date)?;
         let progress = Progress::first(alloc, &program, switches)?;
         let prepared = prepared_lines(alloc, &program)?;
+        let inputs = prepared_inputs(alloc, &program)?;
         let overflow = overflow_of(&program.files);
         let guards = line_guards(alloc, &program, overflow)?;
         let mut stepper = Stepper {
             program,
             prepared,
+            inputs,
             overflow,
             guards,
             // nothing is asked for yet

@@ -5,6 +5,7 @@ ghost use Rattle.std.specs.Option.{option_copied};
 use crate::progress::{Point, Progress};
 use crate::request::Request;
 use crate::state::State;
+use s3_fields::input::PreparedInput;
 use s3_lines::indicator::Indicator;
 use s3_lines::sheet::FileLine;
 use s3_output::composition::Composition;
@@ -19,6 +20,8 @@ pub struct Stepper {
     pub program: Program,
     /// Its calculations, as they are prepared.
     pub prepared: Vec<PreparedLine>,
+    /// Its lines of the I sheet, as they are prepared.
+    pub inputs: Vec<PreparedInput>,
     /// The overflow indicator of its print file.
     pub overflow: Option<Indicator>,
     /// When its output lines are put out, as it is told of their cards once.

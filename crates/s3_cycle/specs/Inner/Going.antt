@@ -28,6 +28,7 @@ use Rattle.s3_match.specs.Reading.{IsReading, IsUnreadAt, input_at}
 use Rattle.s3_match.specs.Types.{is_type_start}
 use Rattle.s3_sections.specs.Courses.{IsCourse}
 use Rattle.s3_prepared.specs.Prepared.{ArePrepared}
+use Rattle.s3_fields.specs.Inputs.{ArePreparedInputs}
 use Rattle.s3_output.specs.Guards.{AreGuarded}
 use Rattle.s3_cycle.specs.declared.progress.Progress.{Progress}
 use Rattle.s3_cycle.specs.declared.progress.Selection.{Selection}
@@ -101,6 +102,7 @@ pub record IsRunning (c : Stepper) : Type 0 where
   pub reading : IsReading c.program c.progress.reading
   pub heads : All (IsHeadWithin c.program) c.progress.reading.files.items
   pub prepared : ArePrepared c.program c.prepared.items
+  pub inputs : ArePreparedInputs c.program.inputs.items c.inputs.items
   pub guards : AreGuarded c.program c.guards
 
 -- calculations go on
