@@ -1,6 +1,11 @@
-//! Calculations as they are prepared: the forms that cards get, which no contract asks for.
+//! What is prepared for a run: the forms that calculations, fields of records and output lines get, which no contract asks for.
 
 use crate::cycle::sources::{CARDS, PRINT, TOTAL, list_text, program_of};
+use s3_fields::form::Form;
+use s3_fields::input::PreparedInput;
+use s3_fields::preparing::prepared_inputs;
+use s3_output::conditions::overflow_of;
+use s3_output::guards::{LineGuard, line_guards};
 use s3_prepared::preparing::prepared_lines;
 use s3_prepared::work::Work;
 use std::test::Fail;
@@ -75,6 +80,101 @@ fn cards_get_their_forms(rt: HostRuntime) -> Result<(), Fail> {
     assert_eq!(&rt;
         names.as_str(),
         "add, subtract, zero add, zero subtract, multiply, compare, move, move left, set on, set off, nothing, divide, move remainder, add and cut, subtract and cut, zero add and cut, zero subtract and cut, compare texts, move to text, move to number, card, card, card"
+    );
+    Ok(())
+}
+
+/// A file of records on disk.
+const STOCK: &str = "6:F 7:STOCK 15:IS 19:F 26:20 40:DISK";
+
+/// Fields of either kind, one with an indicator for blank and one with a relation, and a packed one.
+const INPUTS: &str = "6:I 7:CARDS 15:AA 19:01
+6:I 14:OR 19:02
+6:I 47:1 51:5 52:1 53:ONE 65:10
+6:I 46:11 50:14 53:TEXT
+6:I 46:15 50:20 53:LONG 69:20
+6:I 46:21 50:25 52:0 53:TWO 63:02
+6:I 7:STOCK 15:BB 19:03
+6:I 43:P 47:1 51:3 52:0 53:PACKED";
+
+fn name_of_input(input: PreparedInput) -> &'static str {
+    match input {
+        PreparedInput::Field(Form::Card) => "card",
+        PreparedInput::Field(Form::Zoned(_)) => "zoned",
+        PreparedInput::Field(Form::Packed(_)) => "packed",
+        PreparedInput::Field(Form::Text(_)) => "text",
+        PreparedInput::Codes => "codes",
+        PreparedInput::Group => "group",
+    }
+}
+
+#[test]
+fn fields_get_their_forms(rt: HostRuntime) -> Result<(), Fail> {
+    let alloc = rt.alloc();
+    let program = program_of(alloc, &[CARDS, STOCK, PRINT, INPUTS, TOTAL])?;
+    let mut names = String::new(alloc);
+    for input in &prepared_inputs(alloc, &program)? {
+        list_text(&mut names, name_of_input(*input))?;
+    }
+    assert_eq!(&rt;
+        names.as_str(),
+        "group, codes, zoned, text, card, card, group, packed"
+    );
+    Ok(())
+}
+
+/// A print file with an overflow indicator, and a file on disk that U1 has used.
+const OUTPUT_FILES: &str = "6:F 7:PRINT 15:O 19:F 25:132 33:OA 40:PRINTER
+6:F 7:LIST 15:O 19:F 26:20 40:DISK 71:U1";
+
+/// A line of one group, one of two, one with an AND card, one of a file with a condition, and one for EXCPT.
+const OUTPUTS: &str = "6:O 7:PRINT 15:D 24:01
+6:O 43:5 45:'ONE'
+6:O 7:PRINT 15:H 24:1P
+6:O 14:OR 24:OA
+6:O 43:5 45:'TWO'
+6:O 7:PRINT 15:D 24:01
+6:O 14:AND 24:U1
+6:O 43:5 45:'AND'
+6:O 7:LIST 15:D 24:01
+6:O 43:5 45:'LIST'
+6:O 7:PRINT 15:D 24:OA
+6:O 43:5 45:'OVER'
+6:O 7:PRINT 15:E 24:01
+6:O 43:5 45:'E'";
+
+fn list_guards(names: &mut String, guards: &[LineGuard]) -> Result<(), Fail> {
+    for guard in guards {
+        let name = match guard {
+            LineGuard::Group(_) => "group",
+            LineGuard::Cards => "cards",
+        };
+        list_text(names, name)?;
+    }
+    Ok(())
+}
+
+#[test]
+fn lines_get_their_guards(rt: HostRuntime) -> Result<(), Fail> {
+    let alloc = rt.alloc();
+    let program = program_of(
+        alloc,
+        &[
+            CARDS,
+            OUTPUT_FILES,
+            "6:I 7:CARDS 15:AA 19:01",
+            OUTPUTS,
+            TOTAL,
+        ],
+    )?;
+    let guards = line_guards(alloc, &program, overflow_of(&program.files))?;
+    let mut names = String::new(alloc);
+    list_guards(&mut names, &guards.beginning)?;
+    list_guards(&mut names, &guards.totals)?;
+    list_guards(&mut names, &guards.exceptions)?;
+    assert_eq!(&rt;
+        names.as_str(),
+        "group, cards, cards, cards, cards, group, group"
     );
     Ok(())
 }
