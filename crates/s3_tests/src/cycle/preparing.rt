@@ -30,6 +30,7 @@ const CALCULATIONS: &str = "6:C 18:ONE 28:ADD 33:TWO 43:ONE
 6:C 28:SETON 54:10
 6:C 28:SETOF 54:10
 6:C 18:AGAIN 28:TAG
+6:C 28:GOTO 33:AGAIN
 6:C 18:ONE 28:DIV 33:TWO 43:ONE
 6:C 28:MVR 43:TWO
 6:C 18:ONE 28:ADD 33:TWO 43:TWO
@@ -47,6 +48,7 @@ fn name_of(work: Work) -> &'static str {
     match work {
         Work::Card => "card",
         Work::Nothing => "nothing",
+        Work::Request => "request",
         Work::Add(_) => "add",
         Work::Subtract(_) => "subtract",
         Work::ZeroAdd(_) => "zero add",
@@ -79,7 +81,7 @@ fn cards_get_their_forms(rt: HostRuntime) -> Result<(), Fail> {
     }
     assert_eq!(&rt;
         names.as_str(),
-        "add, subtract, zero add, zero subtract, multiply, compare, move, move left, set on, set off, nothing, divide, move remainder, add and cut, subtract and cut, zero add and cut, zero subtract and cut, compare texts, move to text, move to number, card, card, card"
+        "add, subtract, zero add, zero subtract, multiply, compare, move, move left, set on, set off, nothing, request, divide, move remainder, add and cut, subtract and cut, zero add and cut, zero subtract and cut, compare texts, move to text, move to number, card, card, card"
     );
     Ok(())
 }
