@@ -4,7 +4,7 @@ ghost use Rattle.s3_meaning.specs.Cycle.{again, last_time, record_time};
 ghost use Rattle.s3_meaning.specs.Environment.{with_last_record, turn};
 ghost use Rattle.s3_meaning.specs.Selection.{Selected, broken, is_matched as is_matched_spec, taken};
 ghost use Rattle.s3_match.specs.Choice.{IsHeadAt};
-ghost use Rattle.s3_match.specs.Reading.{reading_in};
+ghost use Rattle.s3_match.specs.Reading.{IsReading, reading_in};
 ghost use Rattle.s3_match.specs.Selecting.{selected_at};
 ghost use Rattle.s3_cycle.specs.Rest.{heads_read, inputs_in, selected_of};
 ghost use Rattle.s3_cycle.specs.Inner.Going.{AreSound, IsRunning, IsTaken, Changes, GoesOn, here};
@@ -75,6 +75,7 @@ impl Stepper {
     /// Step 4, the identifying indicator, and step 5, the control break.
     fn identify(&mut self, selection: Selection)
         requires sound { AreSound self.old.program self.old.state }
+        requires reading { IsReading self.old.program self.old.progress.reading }
         requires taken { IsTaken self.old.program self.old.progress selection }
         ensures { Changes self.old self.new (λ source. identified (selected_of self.old.program self.old.progress selection)) }
     {
@@ -82,7 +83,8 @@ impl Stepper {
         self.turn(indicator, true);
         let bytes = &self.progress.reading.files[selection.place].bytes;
         let controls = &mut self.state.controls;
-        let level = controls.break_and_hold(&self.program, selection.start, bytes);
+        let levels = self.progress.reading.levels;
+        let level = controls.break_and_hold(&self.program, selection.start, levels, bytes);
         self.state.values.raise_levels(&self.program, level);
     }
 }

@@ -9,10 +9,9 @@ use Rattle.s3_meaning.specs.Source.{own_fields}
 use Rattle.s3_meaning.specs.Selection.{levels, is_at, compared_field, match_field, match_key, control_field}
 use Rattle.s3_program.specs.declared.mark.Key.TheVariants as key
 use Rattle.s3_program.specs.declared.program.Program.{Program}
-use Rattle.s3_program.specs.declared.program.Reference.{Reference}
 use Rattle.s3_program.specs.declared.starts.TypeStart.{TypeStart}
 use Rattle.s3_match.specs.Types.{kind_at}
-use Rattle.s3_match.specs.Fields.{named_field, has_level, field_at}
+use Rattle.s3_match.specs.Fields.{has_level, field_at}
 use Rattle.s3_match.specs.Keys.{value_at, match_values}
 
 -- ---- fields at a level
@@ -92,20 +91,17 @@ pub more_room : (old new k : ℕ) → old ≤ 256 * k → new ≤ old + 256 → 
 more_room old new k h e = omega (arith, h, e)
 
 -- ---- the whole key
-key_is : (program : Program) (start : TypeStart) (bytes items : List ℕ) (given : Bool) (field : Option (FieldLine Reference))
-    → given ≡ is_some field → option_map (named_field program) field ≡ field_at program start key.Match None
+key_is : (program : Program) (start : TypeStart) (given : Bool) → given ≡ is_some (field_at program start key.Match None)
     → given ≡ list_any (λ field. is_some field.match_level) (own_fields (kind_at program start))
-key_is program start bytes items given field e f = e ∙ sym (is_some_map (named_field program) field) ∙ ap is_some f ∙ any_match program start
+key_is program start given e = e ∙ any_match program start
 
-pub no_key : (program : Program) (start : TypeStart) (bytes : List ℕ) (given : Bool) (field : Option (FieldLine Reference))
-    → given ≡ is_some field → option_map (named_field program) field ≡ field_at program start key.Match None → given ≡ false
+pub no_key : (program : Program) (start : TypeStart) (bytes : List ℕ) (given : Bool) → given ≡ is_some (field_at program start key.Match None) → given ≡ false
     → None ≡ match_key (kind_at program start) bytes
-no_key program start bytes given field e f off =
-    ap (λ (b : Bool). if b then Some (match_values program start bytes levels) else None) (sym off ∙ key_is program start bytes [] given field e f)
+no_key program start bytes given e off =
+    ap (λ (b : Bool). if b then Some (match_values program start bytes levels) else None) (sym off ∙ key_is program start given e)
 
-pub whole_key : (program : Program) (start : TypeStart) (bytes items : List ℕ) (given : Bool) (field : Option (FieldLine Reference))
-    → given ≡ is_some field → option_map (named_field program) field ≡ field_at program start key.Match None → given ≡ true
+pub whole_key : (program : Program) (start : TypeStart) (bytes items : List ℕ) (given : Bool) → given ≡ is_some (field_at program start key.Match None) → given ≡ true
     → items ≡ match_values program start bytes levels
     → Some items ≡ match_key (kind_at program start) bytes
-whole_key program start bytes items given field e f on same =
-    ap Some same ∙ ap (λ (b : Bool). if b then Some (match_values program start bytes levels) else None) (sym on ∙ key_is program start bytes items given field e f)
+whole_key program start bytes items given e on same =
+    ap Some same ∙ ap (λ (b : Bool). if b then Some (match_values program start bytes levels) else None) (sym on ∙ key_is program start given e)

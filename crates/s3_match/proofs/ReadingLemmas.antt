@@ -53,10 +53,11 @@ slots_stay files k x y within there same =
     ∙ set-get_or (slots_of files) k 0
 
 pub still_sound : (program : Program) (old new : Reading) (k : ℕ) (x y : InputFile) → k < length old.files.items → x ≡ get_or old.files.items k x → new.files.items ≡ set old.files.items k y
-    → y.file ≡ x.file → IsInput program y → IsReading program old → IsReading program new
-still_sound program old new k x y within there e same sound reading = record {
+    → new.levels ≡ old.levels → y.file ≡ x.file → IsInput program y → IsReading program old → IsReading program new
+still_sound program old new k x y within there e told same sound reading = record {
   inputs = subst (All (IsInput program)) (sym e) (All-set (IsInput program) old.files.items k y sound reading.inputs);
   slots = ap slots_of e ∙ slots_stay old.files.items k x y within there same ∙ reading.slots;
+  levels = told ∙ reading.levels;
 }
 
 pub inputs_change : (program : Program) (files : List InputFile) (k : ℕ) (x y : InputFile) (change : meaning.InputFile → meaning.InputFile) → k < length files → x ≡ get_or files k x

@@ -11,6 +11,7 @@ use Rattle.s3_program.specs.declared.starts.TypeStart.{TypeStart}
 use Rattle.s3_match.specs.declared.heads.InputFile.{InputFile}
 use Rattle.s3_match.specs.declared.reading.Reading.{Reading}
 use Rattle.s3_match.specs.Types.{kind_at}
+use Rattle.s3_match.specs.Fields.{named_levels}
 use Rattle.s3_match.specs.Heads.{no_file, file_at, is_unread, IsInput}
 use Rattle.s3_match.specs.Selecting.{reading_of}
 
@@ -27,10 +28,11 @@ input_slots program = filter (is_input_slot program) (range_with_len 0 (length p
 abbrev pub slots_of : List InputFile → List ℕ
 slots_of files = map (λ input. input.file) files
 
--- each primary and secondary file stands there once, in F order, with the key of its head
+-- each primary and secondary file stands there once, in F order, with the key of its head; whether there are match and control fields
 pub record IsReading (program : Program) (reading : Reading) : Type 0 where
   pub inputs : All (IsInput program) reading.files.items
   pub slots : slots_of reading.files.items ≡ input_slots program
+  pub levels : reading.levels ≡ named_levels program
 
 -- ---- one of the files
 -- what stands for the file where a place has none

@@ -10,10 +10,11 @@ ghost use Rattle.s3_meaning.specs.Source.{has_control_fields as has_control_fiel
 ghost use Rattle.s3_program.specs.Stands.{source_named};
 ghost use Rattle.s3_program.specs.Starts.{is_type};
 ghost use Rattle.s3_match.specs.Types.{is_type_start, kind_at};
+ghost use Rattle.s3_match.specs.Fields.{named_levels};
 ghost use Rattle.s3_match.specs.Controls as spec;
 
 use crate::control_fields::hold_fields;
-use crate::fields::field_at;
+use crate::fields::{NamedLevels, field_at};
 use crate::keys::RecordKey;
 use s3_lines::sheet::InputLine;
 use s3_program::mark::Key;
@@ -107,12 +108,22 @@ impl Controls {
     }
 
     /// The greatest level that the control fields of a record break, 0 if none. They are held then, of the levels that its type
-    /// names.
-    pub fn break_and_hold(&mut self, program: &Program, start: TypeStart, bytes: &[u8]) -> u8
-        requires { IsTrue (is_type_start program.now start) }
+    /// names. Where no line of the program has one, none is looked for.
+    pub fn break_and_hold(
+        &mut self,
+        program: &Program,
+        start: TypeStart,
+        levels: NamedLevels,
+        bytes: &[u8],
+    ) -> u8
+        requires starts { IsTrue (is_type_start program.now start) }
+        requires named { levels ≡ named_levels program.now }
         ensures level { result ≡ spec.break_of (spec.held_in self.old.held) (kind_at program.now start) bytes.now }
         ensures held { (level : ℕ) → spec.held_in self.new.held level ≡ option_or (control_value (kind_at program.now start) bytes.now level) (spec.held_in self.old.held level) }
     {
+        if !levels.controls {
+            return 0;
+        }
         hold_fields(&mut self.held, &mut self.value, program, start, bytes)
     }
 }

@@ -1,7 +1,8 @@
 //! Finds the match and control fields of a record type.
 
-ghost use Rattle.std.specs.Prelude.{◌≡◌, drop, IsTrue, IfSome, option_map};
+ghost use Rattle.std.specs.Prelude.{◌≡◌, drop, is_some, IsTrue, IfSome, None, option_map};
 ghost use Rattle.s3_lines.specs.Ranges.{field_in_range};
+ghost use Rattle.s3_program.specs.declared.mark.Key.TheVariants as key_of;
 ghost use Rattle.s3_match.specs.Types.{is_type_start, kind_at};
 ghost use Rattle.s3_match.specs.Fields as spec;
 
@@ -10,6 +11,15 @@ use s3_lines::sheet::{FieldLine, InputLine};
 use s3_program::mark::Key;
 use s3_program::program::{Program, Reference};
 use s3_program::starts::TypeStart;
+
+/// Whether the lines of a program have match and control fields, told once for all their records.
+#[derive(Clone, Copy)]
+pub struct NamedLevels {
+    /// A line has a match field.
+    pub matches: bool,
+    /// A line has a control field.
+    pub controls: bool,
+}
 
 /// A field with an entry in 63-64 is one of the types with that indicator alone.
 fn is_own(indicator: Indicator, relation: Option<Indicator>) -> bool
@@ -40,6 +50,32 @@ fn level_of(key: Key, field: &FieldLine<Reference>) -> Option<u8>
     match key {
         Key::Control => field.control_level,
         Key::Match => field.match_level,
+    }
+}
+
+/// Whether a line has a match field, or a control field.
+fn names_level(line: &InputLine<Reference>, key: Key) -> bool
+    ensures { result ≡ spec.names_level key line.now }
+{
+    match line {
+        InputLine::Field(field) => level_of(key, field).is_some(),
+        InputLine::Record(..) | InputLine::And(_) | InputLine::Or(..) => false,
+    }
+}
+
+fn some_names_level(program: &Program, key: Key) -> bool
+    ensures { result ≡ spec.some_names_level program.now key }
+{
+    program.inputs.iter().any(|line| names_level(line, key))
+}
+
+/// Whether the lines of a program have match and control fields.
+pub fn named_levels(program: &Program) -> NamedLevels
+    ensures { result ≡ spec.named_levels program.now }
+{
+    NamedLevels {
+        matches: some_names_level(program, Key::Match),
+        controls: some_names_level(program, Key::Control),
     }
 }
 
@@ -136,4 +172,17 @@ pub fn field_at(
         key,
         level,
     )
+}
+
+/// Whether a type has match fields; its lines are looked at only where some line has one.
+#[tactic(auto, using(crate::proofs::MatchFieldLemmas::looked_for))]
+pub(crate) fn has_match_fields(program: &Program, start: TypeStart, levels: NamedLevels) -> bool
+    requires starts { IsTrue (is_type_start program.now start) }
+    requires named { levels ≡ spec.named_levels program.now }
+    ensures { result ≡ is_some (spec.field_at program.now start key_of.Match None) }
+{
+    if !levels.matches {
+        return false;
+    }
+    field_at(program, start, Key::Match, None).is_some()
 }

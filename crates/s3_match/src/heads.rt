@@ -5,8 +5,10 @@ ghost use Rattle.s3_meaning.specs.Cycle.{counted_read};
 ghost use Rattle.s3_meaning.specs.Selection as meaning;
 ghost use Rattle.s3_program.specs.declared.program.Program.{Program};
 ghost use Rattle.s3_match.specs.Types.{is_type_start, kind_at};
+ghost use Rattle.s3_match.specs.Fields.{named_levels};
 ghost use Rattle.s3_match.specs.Heads as spec;
 
+use crate::fields::NamedLevels;
 use crate::keys::RecordKey;
 use arrayvec::ArrayVec;
 use s3_program::program::Program;
@@ -117,9 +119,16 @@ impl InputFile {
     }
 
     /// Puts a record of a type at the head, if it is in sequence.
-    pub fn put(&mut self, program: &Program, start: TypeStart, bytes: &[u8]) -> bool
+    pub fn put(
+        &mut self,
+        program: &Program,
+        start: TypeStart,
+        levels: NamedLevels,
+        bytes: &[u8],
+    ) -> bool
         requires unread { spec.is_unread self.old ≡ true }
         requires starts { IsTrue (is_type_start program.now start) }
+        requires named { levels ≡ named_levels program.now }
         requires fits { length bytes.now ≤ RECORD_BYTES }
         ensures in_sequence { result ≡ meaning.in_sequence (meaning.match_key (kind_at program.now start) bytes.now) (spec.input_of program.now self.old).last_key }
         ensures input { spec.input_of program.now self.new ≡ (if result then spec.put program.now start bytes.now (spec.input_of program.now self.old) else spec.input_of program.now self.old) }
@@ -127,7 +136,7 @@ impl InputFile {
         ensures slot { self.new.file ≡ self.old.file }
         ensures unread { spec.is_unread self.new ≡ not result }
     {
-        self.key.read(program, start, bytes);
+        self.key.read(program, start, levels, bytes);
         if self.key.is_less(&self.last_key) {
             return false;
         }

@@ -5,11 +5,12 @@ ghost use Rattle.arrayvec.specs.ArrayVec.{array_vec_len};
 ghost use Rattle.s3_lines.specs.Ranges.{field_in_range};
 ghost use Rattle.s3_meaning.specs.Selection as meaning;
 ghost use Rattle.s3_match.specs.Types.{is_type_start, kind_at};
+ghost use Rattle.s3_match.specs.Fields.{named_levels};
 ghost use Rattle.s3_match.specs.Keys as spec;
 ghost use Rattle.s3_match.specs.Inner.ControlFields.{compared_on};
 
 use crate::compared::{KEY_BYTES, are_zoned_digits, field_bytes, is_below, push_compared};
-use crate::fields::field_at;
+use crate::fields::{NamedLevels, field_at, has_match_fields};
 use arrayvec::ArrayVec;
 use s3_lines::sheet::{FieldForm, FieldLine};
 use s3_program::mark::Key;
@@ -80,12 +81,13 @@ impl RecordKey {
     }
 
     /// Becomes the key of a record of a type.
-    pub fn read(&mut self, program: &Program, start: TypeStart, bytes: &[u8])
-        requires { IsTrue (is_type_start program.now start) }
+    pub fn read(&mut self, program: &Program, start: TypeStart, levels: NamedLevels, bytes: &[u8])
+        requires starts { IsTrue (is_type_start program.now start) }
+        requires named { levels ≡ named_levels program.now }
         ensures { spec.key_in self.new ≡ meaning.match_key (kind_at program.now start) bytes.now }
     {
         self.bytes.clear();
-        self.is_given = field_at(program, start, Key::Match, None).is_some();
+        self.is_given = has_match_fields(program, start, levels);
         if !self.is_given {
             return;
         }

@@ -22,6 +22,7 @@ ghost use Rattle.s3_match.specs.Reading.{IsReading, IsUnreadAt, AreRead, IsNextU
 ghost use Rattle.s3_match.specs.Selecting.{inputs_of, selected_at};
 ghost use Rattle.s3_match.specs.Types.{is_type_start, kind_at, name_of_file};
 
+use crate::fields::{NamedLevels, named_levels};
 use crate::heads::{InputFile, RECORD_BYTES, Standing};
 use crate::keys::RecordKey;
 use crate::selection::is_primary;
@@ -39,6 +40,8 @@ pub struct Reading {
     pub files: Vec<InputFile>,
     /// The key of the last selected primary record with match fields.
     pub primary_key: RecordKey,
+    /// Whether there are match and control fields at all.
+    pub levels: NamedLevels,
 }
 
 /// Whether an indicator is on as a job begins: L0, 1P, and the switches as they are set, U1 the highest bit.
@@ -131,6 +134,7 @@ impl Reading {
         Ok(Reading {
             files,
             primary_key: RecordKey::none(),
+            levels: named_levels(program),
         })
     }
 
@@ -224,6 +228,6 @@ impl Reading {
         ensures unread { spec.is_unread_at self.new.files.items place ≡ not result }
         ensures reading { reading_in program.now self.new ≡ (if result then changed_at place (put_head program.now start bytes.now) (reading_in program.now self.old) else reading_in program.now self.old) }
     {
-        self.files[place].put(program, start, bytes)
+        self.files[place].put(program, start, self.levels, bytes)
     }
 }

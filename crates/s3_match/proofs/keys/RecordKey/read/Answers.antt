@@ -6,9 +6,9 @@ use Rattle.s3_match.proofs.keys.RecordKey.read.Goals as goal
 pub returns-then-not-self : goal.returns-then-not-self
 returns-then-not-self c =
     ap (λ (b : Bool). if b then Some c.clear.new.self.items else None) c.if-not-self.true
-    ∙ no_key c.args.program.now c.args.start c.args.bytes.now _ _ c.is_some-self.ensures c.field_at.ensures.field c.if-not-self.true
+    ∙ no_key c.args.program.now c.args.start c.args.bytes.now _ c.has_match_fields-self.ensures c.if-not-self.true
 
 pub returns : goal.returns
 returns c =
     ap (λ (b : Bool). if b then Some c.push_match_fields.new.compared.items else None) c.if-not-self.false
-    ∙ whole_key c.args.program.now c.args.start c.args.bytes.now _ _ _ c.is_some-self.ensures c.field_at.ensures.field c.if-not-self.false c.push_match_fields.ensures
+    ∙ whole_key c.args.program.now c.args.start c.args.bytes.now _ _ c.has_match_fields-self.ensures c.if-not-self.false c.push_match_fields.ensures
