@@ -31,6 +31,7 @@ impl Stepper {
         let length = self.program.files[start.file].record_length;
         compose(
             &self.program,
+            &self.guards.cards,
             &mut self.state.values,
             start,
             usize::from(length),

@@ -5,3 +5,4 @@ pub mod FieldLemmas
 pub mod ComposeLemmas
 pub mod LawLemmas
 pub mod GuardLemmas
+pub mod PreparedLemmas

@@ -4,5 +4,6 @@ pub mod Composing
 pub mod Guards
 pub mod Inner
 pub mod Lines
+pub mod Prepared
 pub mod Requests
 pub mod Rows

@@ -24,7 +24,7 @@ use s3_operations::values::Values;
 use s3_program::program::{Program, Reference};
 
 /// The slot of PAGE, which every program has first.
-const PAGE: usize = 0;
+pub const PAGE: usize = 0;
 
 /// The number of a page before 0.
 const LAST_PAGE: u64 = 9999;
@@ -72,7 +72,7 @@ pub fn count(program: &Program, values: &mut Values, slot: usize)
 }
 
 /// Lays a number over a record, by a form that fits.
-fn lay_number(
+pub fn lay_number(
     number: Dec,
     form: OutputForm,
     is_page: bool,

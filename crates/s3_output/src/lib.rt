@@ -9,6 +9,8 @@ mod fields;
 pub mod guards;
 pub mod laws;
 mod numbers;
+pub mod preparing;
 pub mod requests;
+mod slots;
 
 pub use composing::compose;
