@@ -11,7 +11,8 @@ use std::marker::Model;
 /// The run of a job, suspended at a request.
 #[derive(Drop)]
 pub struct Cycle {
-    stepper: Stepper,
+    // the run is large: so a cycle that is handed on isn't copied
+    stepper: Box<Stepper>,
 }
 
 impl Model for Cycle {
@@ -20,9 +21,9 @@ impl Model for Cycle {
 
     ghost Value = { Stepper };
 
-    ghost view = { λ c. c.stepper };
+    ghost view = { λ c. c.stepper.value };
 
-    ghost invariant = { λ c. IsWaiting c.stepper };
+    ghost invariant = { λ c. IsWaiting c.stepper.value };
 }
 
 impl Cycle {
@@ -52,7 +53,7 @@ impl Cycle {
         ensures { IfOk result (λ c. (source : Source) → Stands program source → StandsFor c source × ((answers : List MeantAnswer) → rest source c answers ≡ Req source switches date answers)) }
     {
         Ok(Cycle {
-            stepper: Stepper::start(alloc, program, switches, date)?,
+            stepper: Box::new(alloc, Stepper::start(alloc, program, switches, date)?)?,
         })
     }
 

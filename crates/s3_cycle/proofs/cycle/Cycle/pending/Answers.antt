@@ -1,4 +1,4 @@
-use Rattle.std.proofs.Common.{ap, subst}
+use Rattle.std.proofs.Common.{ap, subst, ◌∙◌}
 use Rattle.s3_cycle.specs.declared.stepper.Stepper.{Stepper}
 use Rattle.s3_cycle.specs.Requests.{FitsFile}
 use Rattle.s3_cycle.specs.Following.{asked, files, put}
@@ -7,7 +7,7 @@ use Rattle.s3_cycle.proofs.cycle.Cycle.pending.Goals as goal
 
 pub returns-clause-request : goal.returns-clause-request
 unfolding asked
-returns-clause-request c = ap (λ (k : Stepper). k.request) c.self.view_is
+returns-clause-request c = ap (λ (k : Stepper). k.request) (c.deref.ensures ∙ c.self.view_is)
 
 pub returns-clause-next : goal.returns-clause-next
 returns-clause-next c = waits_first c.args.self.now

@@ -8,19 +8,22 @@ use Rattle.s3_cycle.proofs.cycle.Cycle.record.Goals as goal
 
 pub returns-clause-value : goal.returns-clause-value
 unfolding put
-returns-clause-value c = c.codes.ensures ∙ ap (λ (k : Stepper). filled k.composition) c.self.view_is
+returns-clause-value c = c.codes.ensures ∙ ap (λ (k : Stepper). filled k.composition) (c.deref.ensures ∙ c.self.view_is)
 
 pub returns-clause-line : goal.returns-clause-line
 unfolding asked
 returns-clause-line c =
+    let inside : Stepper = c.self.inside.stepper.value in
     let P : Stepper → Type 0 = λ k. IsLine k.request c.codes.result.now in
-    let Q : List ℕ → Type 0 = λ text. IsLine c.self.inside.stepper.request text in
-    subst P c.self.view_is (subst Q (sym c.codes.ensures) (line_filled c.self.inside.stepper.request c.self.inside.stepper.composition c.self.invariant.line))
+    let Q : List ℕ → Type 0 = λ text. IsLine inside.request text in
+    let is_text = c.codes.ensures ∙ ap (λ (k : Stepper). filled k.composition) c.deref.ensures in
+    subst P c.self.view_is (subst Q (sym is_text) (line_filled inside.request inside.composition c.self.invariant.line))
 
 pub returns-clause-file : goal.returns-clause-file
 unfolding asked files
 returns-clause-file c =
-    let inside : Stepper = c.self.inside.stepper in
+    let inside : Stepper = c.self.inside.stepper.value in
     let P : Stepper → Type 0 = λ k. FitsFile k.program.files.items k.request c.codes.result.now in
     let Q : List ℕ → Type 0 = λ text. FitsFile inside.program.files.items inside.request text in
-    subst P c.self.view_is (subst Q (sym c.codes.ensures) (file_filled inside.program.files.items inside.request inside.composition c.self.invariant.fits))
+    let is_text = c.codes.ensures ∙ ap (λ (k : Stepper). filled k.composition) c.deref.ensures in
+    subst P c.self.view_is (subst Q (sym is_text) (file_filled inside.program.files.items inside.request inside.composition c.self.invariant.fits))

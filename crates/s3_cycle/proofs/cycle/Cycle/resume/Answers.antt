@@ -8,7 +8,7 @@ use Rattle.s3_cycle.proofs.cycle.Cycle.resume.Goals as goal
 
 pub go_on-requires-clause-fits : goal.go_on-requires-clause-fits
 unfolding is_fit waits
-go_on-requires-clause-fits c = ap (λ (k : Stepper). fits (request_of k.program k.composition k.request) (answer_of c.args.answer)) c.self.view_is ∙ c.requires
+go_on-requires-clause-fits c = ap (λ (k : Stepper). fits (request_of k.program k.composition k.request) (answer_of c.args.answer)) (c.deref_mut.ensures.value ∙ c.self.view_is) ∙ c.requires
 
 pub returns : goal.returns
-returns c = resumes c.args.self.now c.self.inside.stepper c.go_on.new.self c.args.answer c.self.view_is c.go_on.ensures
+returns c = resumes c.args.self.now c.deref_mut.result.now c.go_on.new.self c.args.answer (c.deref_mut.ensures.value ∙ c.self.view_is) c.go_on.ensures
