@@ -6,6 +6,7 @@ use s3_fields::input::PreparedInput;
 use s3_fields::preparing::prepared_inputs;
 use s3_output::conditions::overflow_of;
 use s3_output::guards::{LineGuard, line_guards};
+use s3_output::preparing::{FieldForm, PreparedOutput, prepared_outputs};
 use s3_prepared::preparing::prepared_lines;
 use s3_prepared::work::Work;
 use std::test::Fail;
@@ -177,6 +178,42 @@ fn lines_get_their_guards(rt: HostRuntime) -> Result<(), Fail> {
     assert_eq!(&rt;
         names.as_str(),
         "group, cards, cards, cards, cards, group, group"
+    );
+    Ok(())
+}
+
+/// Numbers and texts in their forms, and then what has none: a constant and PAGE.
+const OUTPUT_CARDS: &str = "6:O 7:PRINT 15:D 24:01
+6:O 14:AND 24:01
+6:O 32:ONE 42:10
+6:O 24:01 32:TWO 38:Z 42:20
+6:O 23:N01 32:TEXT 39:B 42:30
+6:O 42:36 45:'END'
+6:O 32:PAGE 42:40";
+
+fn name_of_output(card: PreparedOutput) -> &'static str {
+    match card {
+        PreparedOutput::Field(field) => match field.form {
+            FieldForm::Card => "card",
+            FieldForm::Number(_) => "number",
+            FieldForm::Text(_) => "text",
+        },
+        PreparedOutput::Conditions => "conditions",
+        PreparedOutput::Line => "line",
+    }
+}
+
+#[test]
+fn output_cards_get_their_forms(rt: HostRuntime) -> Result<(), Fail> {
+    let alloc = rt.alloc();
+    let program = program_of(alloc, &[CARDS, PRINT, FIELDS, OUTPUT_CARDS, TOTAL])?;
+    let mut names = String::new(alloc);
+    for card in &prepared_outputs(alloc, &program)? {
+        list_text(&mut names, name_of_output(*card))?;
+    }
+    assert_eq!(&rt;
+        names.as_str(),
+        "line, conditions, number, number, text, card, card, line, card"
     );
     Ok(())
 }
