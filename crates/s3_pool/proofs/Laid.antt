@@ -1,69 +1,126 @@
 -- Buffers laid over the sectors of a store.
-use Rattle.std.proofs.Common.{◌≡◌, ◌≢◌, ℕ, ◌<◌, true, false, List, [], ◌∷◌, ◌++◌, length, slice_get, slice_set, Option, Some, None, IsSome, nat_eq, refl, sym, ap, ◌∙◌, arith, length-set}
+use Rattle.std.proofs.Common.{◌≡◌, ◌≢◌, ℕ, zero, suc, ◌+◌, ◌<◌, true, false, List, [], ◌∷◌, ◌++◌, length, slice_get, slice_set, Option, Some, None, nat_eq, refl, sym, ap, ◌∙◌, arith, length-set, ◌⊎◌, inl, inr}
 use Rattle.std.proofs.lemmas.Bool.{eqb-true, eq-eqb}
-use Rattle.std.specs.Map.{lookup, lookup_entry, remove_entry, set_value}
-use Rattle.std.specs.Option.{option_map_or}
-use Rattle.lru.specs.LruCache.{promoted}
-use Rattle.lru.proofs.CallerLemmas.{Contains-lookup_entry}
-use Rattle.s3_store.proofs.SectorLists.{slice_get_set_same, slice_get_set_other, slice_set_set_same, slice_set_set_other}
+use Rattle.std.proofs.lemmas.Bool.Decides.{eqb_tells}
+use Rattle.std.specs.List.{position_from}
+use Rattle.s3_store.proofs.SectorLists.{slice_get_set_same, slice_get_set_other, slice_set_known, slice_set_set_same, slice_set_set_other}
 use Rattle.s3_pool.specs.declared.buffers.Buffer.{Buffer}
-use Rattle.s3_pool.specs.Buffers.{laid}
+use Rattle.s3_pool.specs.Buffers.{laid, IsAt, IsMissed}
 
-pub apart : (k j : ℕ) → nat_eq k j ≡ false → k ≢ j
+apart : (k j : ℕ) → nat_eq k j ≡ false → k ≢ j
 apart k j h e = let t = eq-eqb k j e in cc
 
-pub length_laid : (es : List (ℕ × Buffer)) (b : List (List ℕ)) → length (laid es b) ≡ length b
+pub length_laid : (xs : List Buffer) (b : List (List ℕ)) → length (laid xs b) ≡ length b
 length_laid [] b = refl
-length_laid (e ∷ es) b = length-set (laid es b) e.0 e.1.bytes.value ∙ length_laid es b
+length_laid (x ∷ xs) b = length-set (laid xs b) x.sector x.bytes.value ∙ length_laid xs b
 
--- ---- the buffers in another order
+-- ---- where a sector is
 
-laid_removed : (k : ℕ) (es : List (ℕ × Buffer)) (b : List (List ℕ)) (e : ℕ × Buffer) → lookup_entry (nat_eq k) es ≡ Some e → slice_set (laid (remove_entry (nat_eq k) es) b) e.0 e.1.bytes.value ≡ laid es b
-laid_removed k [] b e h = cc
-laid_removed k (f ∷ es) b e h = (elim (nat_eq k f.0) as (λ y. nat_eq k f.0 ≡ y → slice_set (laid (remove_entry (nat_eq k) (f ∷ es)) b) e.0 e.1.bytes.value ≡ laid (f ∷ es) b) [
-  | true ↦ λ t. let h' = rw t at h in let same : f ≡ e = cc in rw (t, ← same) refl
-  | false ↦ λ t. let h' = rw t at h in
-      let key : nat_eq k e.0 ≡ true = (Contains-lookup_entry (nat_eq k) es e h').1 in
-      let differ : e.0 ≢ f.0 = λ q. apart k f.0 t (eqb-true k e.0 key ∙ q) in
-      rw t (slice_set_set_other (laid (remove_entry (nat_eq k) es) b) f.0 e.0 f.1.bytes.value e.1.bytes.value differ ∙ ap (λ xs. slice_set xs f.0 f.1.bytes.value) (laid_removed k es b e h'))
+found_from : (n i : ℕ) (xs : List Buffer) (k : ℕ) → position_from (λ x. nat_eq x.sector n) i xs ≡ Some k → (j : ℕ) × (k ≡ i + j) × IsAt n j xs
+found_from n i [] k h = cc
+found_from n i (x ∷ xs) k h = (elim (nat_eq x.sector n) as (λ y. nat_eq x.sector n ≡ y → (j : ℕ) × (k ≡ i + j) × IsAt n j (x ∷ xs)) [
+  | true ↦ λ t. let h' = rw t at h in let same : i ≡ k = cc in (0, omega (arith, same), eqb-true x.sector n t)
+  | false ↦ λ t. let r = found_from n (i + 1) xs k (rw t at h) in (suc r.0, omega (arith, r.1), r.2)
 ]) refl
 
-laid_to_front : (k : ℕ) (es : List (ℕ × Buffer)) (b : List (List ℕ)) (o : Option (ℕ × Buffer)) → lookup_entry (nat_eq k) es ≡ o → laid (option_map_or (λ e. e ∷ remove_entry (nat_eq k) es) o es) b ≡ laid es b
-laid_to_front k es b None h = refl
-laid_to_front k es b (Some e) h = laid_removed k es b e h
+pub found : (n k : ℕ) (xs : List Buffer) → position_from (λ x. nat_eq x.sector n) 0 xs ≡ Some k → IsAt n k xs
+found n k xs h = let r = found_from n 0 xs k h in let same : r.0 ≡ k = omega (arith, r.1) in rw same at r.2
 
-pub laid_promoted : (k : ℕ) (es : List (ℕ × Buffer)) (b : List (List ℕ)) → laid (promoted (nat_eq k) es) b ≡ laid es b
-laid_promoted k es b = laid_to_front k es b (lookup_entry (nat_eq k) es) refl
-
--- ---- a sector
-
--- one that a buffer holds
-pub laid_held : (k : ℕ) (es : List (ℕ × Buffer)) (b : List (List ℕ)) (f : Buffer) → lookup (nat_eq k) es ≡ Some f → k < length b → slice_get (laid es b) k ≡ Some f.bytes.value
-laid_held k [] b f h l = cc
-laid_held k (e ∷ es) b f h l = (elim (nat_eq k e.0) as (λ y. nat_eq k e.0 ≡ y → slice_get (laid (e ∷ es) b) k ≡ Some f.bytes.value) [
-  | true ↦ λ t. let h' = rw t at h in let same : e.1 ≡ f = cc in let key : k ≡ e.0 = eqb-true k e.0 t in
-      rw (key, ← same) (slice_get_set_same (laid es b) e.0 e.1.bytes.value (omega (arith, length_laid es b)))
-  | false ↦ λ t. slice_get_set_other (laid es b) e.0 k e.1.bytes.value (apart k e.0 t) ∙ laid_held k es b f (rw t at h) l
-]) refl
-
--- one that no buffer holds
-pub laid_missed : (k : ℕ) (es : List (ℕ × Buffer)) (b : List (List ℕ)) → lookup (nat_eq k) es ≡ None → slice_get (laid es b) k ≡ slice_get b k
-laid_missed k [] b h = refl
-laid_missed k (e ∷ es) b h = (elim (nat_eq k e.0) as (λ y. nat_eq k e.0 ≡ y → slice_get (laid (e ∷ es) b) k ≡ slice_get b k) [
+missed_step : (n i : ℕ) (x : Buffer) (xs : List Buffer) → position_from (λ y. nat_eq y.sector n) i (x ∷ xs) ≡ None → (x.sector ≢ n) × (position_from (λ y. nat_eq y.sector n) (i + 1) xs ≡ None)
+missed_step n i x xs h = (elim (nat_eq x.sector n) as (λ y. nat_eq x.sector n ≡ y → (x.sector ≢ n) × (position_from (λ y. nat_eq y.sector n) (i + 1) xs ≡ None)) [
   | true ↦ λ t. let h' = rw t at h in absurd cc
-  | false ↦ λ t. slice_get_set_other (laid es b) e.0 k e.1.bytes.value (apart k e.0 t) ∙ laid_missed k es b (rw t at h)
+  | false ↦ λ t. (apart x.sector n t, rw t at h)
 ]) refl
 
--- one whose buffer is written
-pub laid_set_value : (k : ℕ) (es : List (ℕ × Buffer)) (b : List (List ℕ)) (w : Buffer) → IsSome (lookup (nat_eq k) es) → laid (set_value (nat_eq k) es w) b ≡ slice_set (laid es b) k w.bytes.value
-laid_set_value k [] b w h = absurd cc
-laid_set_value k (f ∷ es) b w h = (elim (nat_eq k f.0) as (λ y. nat_eq k f.0 ≡ y → laid (set_value (nat_eq k) (f ∷ es) w) b ≡ slice_set (laid (f ∷ es) b) k w.bytes.value) [
-  | true ↦ λ t. let same : k ≡ f.0 = eqb-true k f.0 t in rw (t, same) (sym (slice_set_set_same (laid es b) f.0 f.1.bytes.value w.bytes.value))
-  | false ↦ λ t. let h' = rw t at h in
-      rw t (ap (λ xs. slice_set xs f.0 f.1.bytes.value) (laid_set_value k es b w h') ∙ slice_set_set_other (laid es b) k f.0 w.bytes.value f.1.bytes.value (λ q. apart k f.0 t (sym q)))
-]) refl
+missed_from : (n i : ℕ) (xs : List Buffer) → position_from (λ x. nat_eq x.sector n) i xs ≡ None → IsMissed n xs
+missed_from n i [] h slot x on = absurd cc
+missed_from n i (y ∷ ys) h zero x on = let step = missed_step n i y ys h in let same : y ≡ x = cc in λ e. step.0 (ap (λ z. z.sector) same ∙ e)
+missed_from n i (y ∷ ys) h (suc slot) x on = missed_from n (i + 1) ys (missed_step n i y ys h).1 slot x on
 
--- the least recently used buffer lies next to the store
-pub laid_append : (es : List (ℕ × Buffer)) (e : ℕ × Buffer) (b : List (List ℕ)) → laid (es ++ e ∷ []) b ≡ laid es (slice_set b e.0 e.1.bytes.value)
-laid_append [] e b = refl
-laid_append (f ∷ es) e b = ap (λ xs. slice_set xs f.0 f.1.bytes.value) (laid_append es e b)
+pub missed : (n : ℕ) (xs : List Buffer) → position_from (λ x. nat_eq x.sector n) 0 xs ≡ None → IsMissed n xs
+missed n xs h = missed_from n 0 xs h
+
+-- ---- a sector that no buffer holds
+
+pub laid_missed : (n : ℕ) (xs : List Buffer) (b : List (List ℕ)) → IsMissed n xs → slice_get (laid xs b) n ≡ slice_get b n
+laid_missed n [] b m = refl
+laid_missed n (x ∷ xs) b m =
+    slice_get_set_other (laid xs b) x.sector n x.bytes.value (λ e. m 0 x refl (sym e)) ∙ laid_missed n xs b (λ j z on. m (suc j) z on)
+
+-- which the store has anew
+pub laid_written : (n : ℕ) (xs : List Buffer) (b : List (List ℕ)) (v : List ℕ) → IsMissed n xs → laid xs (slice_set b n v) ≡ slice_set (laid xs b) n v
+laid_written n [] b v m = refl
+laid_written n (x ∷ xs) b v m =
+    ap (λ l. slice_set l x.sector x.bytes.value) (laid_written n xs b v (λ j z on. m (suc j) z on))
+    ∙ slice_set_set_other (laid xs b) n x.sector v x.bytes.value (λ e. m 0 x refl e)
+
+pub laid_append : (xs : List Buffer) (y : Buffer) (b : List (List ℕ)) → laid (xs ++ y ∷ []) b ≡ laid xs (slice_set b y.sector y.bytes.value)
+laid_append [] y b = refl
+laid_append (x ∷ xs) y b = ap (λ l. slice_set l x.sector x.bytes.value) (laid_append xs y b)
+
+-- ---- one slot and the others
+
+-- no other slot has sector n
+abbrev pub IsElsewhere : ℕ → ℕ → List Buffer → Type 0
+IsElsewhere k n xs = (j : ℕ) (z : Buffer) → j ≢ k → slice_get xs j ≡ Some z → z.sector ≢ n
+
+pub but : ℕ → List Buffer → List Buffer
+but k [] = []
+but zero (x ∷ xs) = xs
+but (suc k) (x ∷ xs) = x ∷ but k xs
+
+pub but_missed : (k n : ℕ) (xs : List Buffer) → IsElsewhere k n xs → IsMissed n (but k xs)
+unfolding but
+but_missed k n [] other j z on = absurd cc
+but_missed zero n (x ∷ xs) other j z on = other (suc j) z (λ e. absurd (omega (arith, e))) on
+but_missed (suc k) n (x ∷ xs) other zero z on = other 0 z (λ e. absurd (omega (arith, e))) on
+but_missed (suc k) n (x ∷ xs) other (suc j) z on = but_missed k n xs (λ i w differ at. other (suc i) w (λ e. differ (omega (arith, e))) at) j z on
+
+pub but_set : (k : ℕ) (xs : List Buffer) (y : Buffer) → but k (slice_set xs k y) ≡ but k xs
+unfolding but
+but_set k [] y = refl
+but_set zero (x ∷ xs) y = refl
+but_set (suc k) (x ∷ xs) y = ap (λ l. x ∷ l) (but_set k xs y)
+
+-- a slot's buffer lies over the others
+pub laid_over : (k : ℕ) (xs : List Buffer) (x : Buffer) (b : List (List ℕ)) → slice_get xs k ≡ Some x → IsElsewhere k x.sector xs → laid xs b ≡ slice_set (laid (but k xs) b) x.sector x.bytes.value
+unfolding but
+laid_over k [] x b on other = cc
+laid_over zero (y ∷ ys) x b on other = let same : y ≡ x = cc in ap (λ z. slice_set (laid ys b) z.sector z.bytes.value) same
+laid_over (suc k) (y ∷ ys) x b on other =
+    ap (λ l. slice_set l y.sector y.bytes.value) (laid_over k ys x b on (λ i w differ at. other (suc i) w (λ e. differ (omega (arith, e))) at))
+    ∙ slice_set_set_other (laid (but k ys) b) x.sector y.sector x.bytes.value y.bytes.value (other 0 y (λ e. absurd (omega (arith, e))) refl)
+
+-- a sector that a slot has
+pub laid_held : (k : ℕ) (xs : List Buffer) (x : Buffer) (b : List (List ℕ)) → slice_get xs k ≡ Some x → IsElsewhere k x.sector xs → x.sector < length b → slice_get (laid xs b) x.sector ≡ Some x.bytes.value
+laid_held k xs x b on other within =
+    ap (λ l. slice_get l x.sector) (laid_over k xs x b on other) ∙ slice_get_set_same (laid (but k xs) b) x.sector x.bytes.value (omega (arith, within, length_laid (but k xs) b))
+
+-- ---- changed slots
+
+pub set_tells : (xs : List Buffer) (k : ℕ) (y : Buffer) → k < length xs → (j : ℕ) (z : Buffer) → slice_get (slice_set xs k y) j ≡ Some z → ((j ≡ k) × (y ≡ z)) ⊎ ((j ≢ k) × (slice_get xs j ≡ Some z))
+set_tells xs k y within j z on = elim (eqb_tells j k) [
+  | inl same ↦ let is = sym (slice_get_set_same xs k y within) ∙ ap (slice_get (slice_set xs k y)) (sym same.1) ∙ on in inl (same.1, cc)
+  | inr other ↦ inr (other.1, sym (slice_get_set_other xs k j y other.1) ∙ on)
+]
+
+pub append_tells : (xs : List Buffer) (y : Buffer) (j : ℕ) (z : Buffer) → slice_get (xs ++ y ∷ []) j ≡ Some z → ((j ≡ length xs) × (y ≡ z)) ⊎ ((j ≢ length xs) × (slice_get xs j ≡ Some z))
+append_tells [] y zero z on = inl (refl, cc)
+append_tells [] y (suc j) z on = absurd cc
+append_tells (x ∷ xs) y zero z on = inr (λ e. absurd (omega (arith, e)), on)
+append_tells (x ∷ xs) y (suc j) z on = elim (append_tells xs y j z on) [
+  | inl same ↦ inl (ap suc same.0, same.1)
+  | inr other ↦ inr (λ e. other.0 (omega (arith, e)), other.1)
+]
+
+-- a slot's buffer gives way to another
+pub laid_set : (k : ℕ) (xs : List Buffer) (y : Buffer) (b : List (List ℕ)) → k < length xs → IsElsewhere k y.sector xs → laid (slice_set xs k y) b ≡ slice_set (laid (but k xs) b) y.sector y.bytes.value
+laid_set k xs y b within other =
+    laid_over k (slice_set xs k y) y b (slice_get_set_same xs k y within) (λ j z differ on. other j z differ (sym (slice_get_set_other xs k j y differ) ∙ on))
+    ∙ ap (λ l. slice_set (laid l b) y.sector y.bytes.value) (but_set k xs y)
+
+-- where the store has what each buffer holds, nothing lies over it
+pub laid_nothing : (xs : List Buffer) (b : List (List ℕ)) → ((j : ℕ) (z : Buffer) → slice_get xs j ≡ Some z → slice_get b z.sector ≡ Some z.bytes.value) → laid xs b ≡ b
+laid_nothing [] b is = refl
+laid_nothing (x ∷ xs) b is =
+    ap (λ l. slice_set l x.sector x.bytes.value) (laid_nothing xs b (λ j z on. is (suc j) z on)) ∙ slice_set_known b x.sector x.bytes.value (is 0 x refl)

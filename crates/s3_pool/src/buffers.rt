@@ -1,26 +1,35 @@
 //! Up to 16 sectors in memory, and the transfers between them and a store.
-ghost use Rattle.std.specs.Prelude.{◌≡◌, ◌≢◌, ◌<◌, ◌≤◌, ◌+◌, ◌-◌, ◌↔◌, ℕ, [], length, slice_get, slice_set, take, Some, None, OnOk, OnErr, IfOk, IfErr, IsErrOf, IsSome, IsSomeAnd, IsTrue, nat_eq, false};
-ghost use Rattle.std.specs.Map.{lookup};
+ghost use Rattle.std.specs.Prelude.{◌≡◌, ◌≢◌, ◌<◌, ◌≤◌, ◌+◌, ◌++◌, ◌↔◌, ◌==◌, ℕ, [], ◌∷◌, length, slice_get, slice_set, Some, OnOk, OnErr, IfOk, IfErr, IfSome, IsErrOf, IsSomeAnd, IsTrue, MatchOption, false};
 ghost use Rattle.std.specs.Borrow.{sem};
-ghost use Rattle.lru.specs.LruCache.{IsValid};
+ghost use Rattle.std.specs.List.{position_from};
 ghost use Rattle.s3_store.specs.Failures.{failed_calls, failed_transfers};
-ghost use Rattle.s3_pool.specs.Buffers.{IsFirst, IsSound, KeepsLaid, Overwrites};
-ghost use Rattle.s3_pool.specs.Inner.BufferLending.{LendsBytes, LendsBuffer, with_new, without_displaced};
+ghost use Rattle.s3_pool.specs.Buffers.{IsAt, IsMissed, IsSound, KeepsLaid, Overwrites};
+ghost use Rattle.s3_pool.specs.Inner.BufferLending.{LendsBytes, LendsBuffer, IsInStep, with_taken};
 
 use lru::LruCache;
 use s3_store::{PackStore, PoolFault, StoreFault};
 use std::alloc::{AllocError, Global};
+use std::mem;
 use std::num::NonZeroUsize;
+use std::ops::Range;
 
 /// A sector in memory. Its bytes have a place of their own, so that they aren't moved with it.
 #[derive(Drop)]
 pub(crate) struct Buffer {
+    sector: u16,
     bytes: Box<[u8; 256]>,
     /// Whether the store may have other bytes.
     is_dirty: bool,
 }
 
 impl Buffer {
+    /// The bytes.
+    pub(crate) fn bytes(&self) -> &[u8; 256]
+        ensures { result.now ≡ self.now.bytes.value }
+    {
+        &self.bytes
+    }
+
     /// The bytes to write to, which are dirty from now on.
     pub(crate) fn bytes_mut(&mut self) -> &mut [u8; 256]
         ensures* writes_back { sem 𝓛 (LendsBytes self.entry result) }
@@ -31,250 +40,297 @@ impl Buffer {
     }
 }
 
-/// The sectors in memory, the most recently used first.
+/// The sectors in memory, each in a slot that it keeps while it is there.
 #[derive(Drop)]
 pub(crate) struct Buffers {
-    cache: LruCache<u16, Buffer>,
+    slots: Vec<Buffer>,
+    /// The slots in the order of their use. It says which one is displaced, and nothing rests on it.
+    order: LruCache<u8, ()>,
+    /// The slot that was used last.
+    last: usize,
+    /// The bytes that the next sector is read or copied into, before it displaces another.
+    spare: Box<[u8; 256]>,
 }
 
 /// How many sectors may be in memory.
 const ROOM: usize = 16;
 
+/// The spool's blocks: each is written whole and read once, so a buffer would be taken from another sector for nothing.
+const SPOOL_BLOCKS: Range<u16> = 25..153;
+
+/// The first of these slots that has sector `n`.
+#[inline(always)]
+fn slot_among(slots: &[Buffer], n: u16) -> Option<usize>
+    ensures { result ≡ position_from (λ x. x.sector == n) 0 slots.now }
+{
+    slots.iter().position(|buffer| buffer.sector == n)
+}
+
 impl Buffers {
     /// Room for 16 sectors.
     pub(crate) fn new(alloc: Global) -> Result<Self, AllocError>
-        ensures empty { IfOk result (λ buffers. buffers.cache.entries ≡ []) }
-        ensures room { IfOk result (λ buffers. buffers.cache.cap ≡ 16) }
+        ensures { IfOk result (λ buffers. buffers.slots.items ≡ []) }
     {
-        let cache = LruCache::new(alloc, NonZeroUsize::new(ROOM).unwrap())?;
-        Ok(Buffers { cache })
+        Ok(Buffers {
+            slots: Vec::with_capacity(alloc, ROOM)?,
+            order: LruCache::new(alloc, NonZeroUsize::new(ROOM).unwrap())?,
+            last: 0,
+            spare: Box::new(alloc, [0; 256])?,
+        })
     }
 
-    /// Whether sector `n` is the most recently used one.
-    fn is_first(&self, n: u16) -> bool
-        ensures { IsTrue result → IsFirst n self.now }
+    /// Whether there is room for one more sector, which displaces another else.
+    fn has_room(&self) -> bool
+        ensures room { IsTrue result → length self.now.slots.items < 16 }
+        ensures full { result ≡ false → 16 ≤ length self.now.slots.items }
     {
-        match self.cache.peek_mru() {
-            Some((first, _)) => *first == n,
+        self.slots.len() < ROOM
+    }
+
+    /// Whether the slot that was used last has sector `n`.
+    fn is_last(&self, n: u16) -> bool
+        ensures { IsTrue result → IsAt n self.now.last self.now.slots.items }
+    {
+        match self.slots.get(self.last) {
+            Some(buffer) => buffer.sector == n,
             None => false,
         }
     }
 
-    /// The bytes of the most recently used sector.
-    pub(crate) fn first_bytes(&self) -> &[u8; 256]
-        requires { IsSome (slice_get self.now.cache.entries 0) }
-        ensures { IsSomeAnd (slice_get self.now.cache.entries 0) (λ first. result.now ≡ first.1.bytes.value) }
+    /// The slot that has sector `n`. Mostly all slots are in use, and so many are looked through without a loop.
+    fn slot_of(&self, n: u16) -> Option<usize>
+        ensures { result ≡ position_from (λ x. x.sector == n) 0 self.now.slots.items }
     {
-        match self.cache.peek_mru() {
-            Some((_, buffer)) => &buffer.bytes,
-            None => unreachable!(),
+        if self.slots.len() == ROOM {
+            return slot_among(&self.slots[..ROOM], n);
+        }
+        slot_among(&self.slots, n)
+    }
+
+    /// Whether a buffer holds sector `n`.
+    fn holds(&self, n: u16) -> bool
+        ensures { result ≡ false → IsMissed n self.now.slots.items }
+    {
+        match self.slot_of(n) {
+            Some(_) => true,
+            None => false,
         }
     }
 
-    /// The buffer of a sector that is held.
-    pub(crate) fn buffer_mut(&mut self, n: u16) -> &mut Buffer
-        requires { IsSome (lookup (nat_eq n) self.old.cache.entries) }
-        ensures* writes_back { sem 𝓛 (LendsBuffer self.entry n result) }
-        ensures value { lookup (nat_eq n) self.old.cache.entries ≡ Some result.now }
+    /// Whether sector `n` is a spool block that no buffer holds.
+    pub(crate) fn is_unheld_block(&self, n: u16) -> bool
+        ensures { IsTrue result → IsMissed n self.now.slots.items }
     {
-        match self.cache.peek_mut(&n) {
-            Some(buffer) => buffer,
-            None => unreachable!(),
+        SPOOL_BLOCKS.contains(&n) && !self.holds(n)
+    }
+
+    /// The buffer in a slot.
+    pub(crate) fn buffer(&self, slot: usize) -> &Buffer
+        requires { slot < length self.now.slots.items }
+        ensures { slice_get self.now.slots.items slot ≡ Some result.now }
+    {
+        &self.slots[slot]
+    }
+
+    /// The buffer in a slot, to write to.
+    pub(crate) fn buffer_mut(&mut self, slot: usize) -> &mut Buffer
+        requires { slot < length self.old.slots.items }
+        ensures* writes_back { sem 𝓛 (LendsBuffer self.entry slot result) }
+        ensures value { slice_get self.old.slots.items slot ≡ Some result.now }
+    {
+        &mut self.slots[slot]
+    }
+
+    /// A slot is used.
+    fn note_use(&mut self, slot: usize)
+        ensures slots { self.new.slots ≡ self.old.slots }
+        ensures spare { self.new.spare ≡ self.old.spare }
+    {
+        self.last = slot;
+        self.order.promote(&((slot % ROOM) as u8));
+    }
+
+    /// The slot that was used before all others, of 16.
+    fn least_recent(&self) -> usize
+        requires { 0 < length self.now.slots.items }
+        ensures { result < length self.now.slots.items }
+    {
+        match self.order.peek_lru() {
+            Some((slot, _)) if usize::from(*slot) < self.slots.len() => usize::from(*slot),
+            _ => 0,
+        }
+    }
+
+    /// A new slot gets the spare bytes as those of sector `n`.
+    fn add(&mut self, n: u16, is_dirty: bool) -> Result<usize, PoolFault>
+        requires { length self.old.slots.items < 16 }
+        ensures added { IfOk result (λ slot. slot ≡ length self.old.slots.items) }
+        ensures ok { OnOk result (self.new.slots.items ≡ self.old.slots.items ++ record { sector = n; bytes = self.old.spare; is_dirty = is_dirty } ∷ []) }
+        ensures err { OnErr result (self.new.slots.items ≡ self.old.slots.items) }
+        ensures fault { IfErr result (λ fault. fault ≡ PoolFault.NoMemory) }
+    {
+        let slot = self.slots.len();
+        let next = Box::new(*self.order.allocator(), [0; 256])?;
+        self.order.put(slot as u8, ())?;
+        let bytes = mem::replace(&mut self.spare, next);
+        self.slots.push(Buffer {
+            sector: n,
+            bytes,
+            is_dirty,
+        })?;
+        self.last = slot;
+        Ok(slot)
+    }
+
+    /// A slot gets the spare bytes as those of sector `n`. What it had is spare from now on.
+    fn replace(&mut self, slot: usize, n: u16, is_dirty: bool)
+        requires { slot < length self.old.slots.items }
+        ensures { self.new.slots.items ≡ slice_set self.old.slots.items slot (record { sector = n; bytes = self.old.spare; is_dirty = is_dirty }) }
+    {
+        let buffer = &mut self.slots[slot];
+        mem::swap(&mut buffer.bytes, &mut self.spare);
+        buffer.sector = n;
+        buffer.is_dirty = is_dirty;
+        self.note_use(slot);
+    }
+
+    /// Sector `n` goes into a slot, or into a new one, with the spare bytes as its own.
+    fn take_in(&mut self, slot: Option<usize>, n: u16, is_dirty: bool) -> Result<usize, PoolFault>
+        requires { MatchOption slot (length self.old.slots.items < 16) (λ slot. slot < length self.old.slots.items) }
+        ensures ok { OnOk result (self.new.slots.items ≡ with_taken self.old.slots.items slot (record { sector = n; bytes = self.old.spare; is_dirty = is_dirty })) }
+        ensures at { IfOk result (λ slot. IsAt n slot self.new.slots.items) }
+        ensures err { OnErr result (self.new.slots.items ≡ self.old.slots.items) }
+        ensures fault { IfErr result (λ fault. fault ≡ PoolFault.NoMemory) }
+    {
+        match slot {
+            Some(slot) => {
+                self.replace(slot, n, is_dirty);
+                Ok(slot)
+            }
+            None => self.add(n, is_dirty),
         }
     }
 }
 
-/// Has the store hold what a buffer of sector `n` does.
-fn write_back<S: PackStore>(store: &mut S, n: u16, buffer: &Buffer) -> Result<(), StoreFault>
-    requires in_range { n < length (S.contents store.old) }
-    requires clean { buffer.now.is_dirty ≡ false → slice_get (S.contents store.old) n ≡ Some buffer.now.bytes.value }
-    ensures ok { OnOk result (S.contents store.new ≡ slice_set (S.contents store.old) n buffer.now.bytes.value) }
+/// Has the store hold what a buffer does.
+fn write_back<S: PackStore>(store: &mut S, buffer: &Buffer) -> Result<(), StoreFault>
+    requires in_range { buffer.now.sector < length (S.contents store.old) }
+    requires clean { buffer.now.is_dirty ≡ false → slice_get (S.contents store.old) buffer.now.sector ≡ Some buffer.now.bytes.value }
+    ensures ok { OnOk result (S.contents store.new ≡ slice_set (S.contents store.old) buffer.now.sector buffer.now.bytes.value) }
     ensures err { OnErr result (S.contents store.new ≡ S.contents store.old) }
     ensures failures { S.failures store.new ≡ S.failures store.old + failed_calls result }
 {
     if !buffer.is_dirty {
         return Ok(());
     }
-    store.write(n, &buffer.bytes)
+    store.write(buffer.sector, &buffer.bytes)
 }
 
-/// Gives up the least recently used buffer, once the store has it.
-fn evict<S: PackStore>(store: &mut S, buffers: &mut Buffers) -> Result<(), StoreFault>
-    requires sound { IsSound (S.contents store.old) buffers.old }
-    requires valid { IsValid nat_eq buffers.old.cache }
-    requires some { 0 < length buffers.old.cache.entries }
-    ensures keeps { KeepsLaid (S.contents store.old) buffers.old (S.contents store.new) buffers.new }
-    ensures entries { OnOk result (buffers.new.cache.entries ≡ take (length buffers.old.cache.entries - 1) buffers.old.cache.entries) }
+/// Where the next sector goes: into a new slot while there is room, else into the one that was used before all others, whose
+/// bytes the store has from now on.
+fn make_way<S: PackStore>(store: &mut S, buffers: &Buffers) -> Result<Option<usize>, StoreFault>
+    requires { IsSound (S.contents store.old) buffers.now.slots.items }
+    ensures keeps { KeepsLaid (S.contents store.old) buffers.now.slots.items (S.contents store.new) buffers.now.slots.items }
+    ensures way { IfOk result (λ way. MatchOption way (length buffers.now.slots.items < 16) (λ slot. IsInStep (S.contents store.new) buffers.now.slots.items slot)) }
     ensures failures { S.failures store.new ≡ S.failures store.old + failed_calls result }
 {
-    match buffers.cache.peek_lru() {
-        Some((n, buffer)) => write_back(store, *n, buffer)?,
-        None => unreachable!(),
+    if buffers.has_room() {
+        return Ok(None);
     }
-    buffers.cache.pop_lru();
-    Ok(())
+    let slot = buffers.least_recent();
+    write_back(store, buffers.buffer(slot))?;
+    Ok(Some(slot))
 }
 
-/// Where all buffers are taken, has the store hold what the least recently used one does, which the next one displaces.
-fn save_displaced<S: PackStore>(store: &mut S, buffers: &Buffers) -> Result<(), StoreFault>
-    requires sound { IsSound (S.contents store.old) buffers.now }
-    ensures keeps { KeepsLaid (S.contents store.old) buffers.now (S.contents store.new) buffers.now }
-    ensures displaced { OnOk result (KeepsLaid (S.contents store.old) buffers.now (S.contents store.new) (without_displaced buffers.now)) }
-    ensures failures { S.failures store.new ≡ S.failures store.old + failed_calls result }
-{
-    if buffers.cache.len() < ROOM {
-        return Ok(());
-    }
-    match buffers.cache.peek_lru() {
-        Some((n, buffer)) => write_back(store, *n, buffer)?,
-        None => unreachable!(),
-    }
-    Ok(())
-}
-
-/// A box to be read over: the spare one, as it is, or a new one.
-fn spare_or_new(
-    spare: Option<Box<[u8; 256]>>,
-    alloc: Global,
-) -> Result<Box<[u8; 256]>, AllocError> {
-    match spare {
-        Some(bytes) => Ok(bytes),
-        None => Ok(Box::new(alloc, [0; 256])?),
-    }
-}
-
-/// Puts a buffer of sector `n`, which none holds, first. Where all are taken it displaces the least recently used one, whose
-/// box is spare from now on.
-fn put_first(
-    buffers: &mut Buffers,
-    spare: &mut Option<Box<[u8; 256]>>,
-    n: u16,
-    buffer: Buffer,
-) -> Result<(), PoolFault>
-    ensures ok { OnOk result (buffers.new ≡ with_new buffers.old n buffer) }
-    ensures err { OnErr result (buffers.new ≡ buffers.old) }
-    ensures fault { IfErr result (λ fault. fault ≡ PoolFault.NoMemory) }
-{
-    let displaced = buffers.cache.push(n, buffer)?;
-    *spare = displaced.map(|(_, buffer)| buffer.bytes);
-    Ok(())
-}
-
-/// Reads sector `n`, which no buffer holds, into a new one.
-fn fetch<S: PackStore>(
-    store: &mut S,
-    buffers: &mut Buffers,
-    spare: &mut Option<Box<[u8; 256]>>,
-    n: u16,
-) -> Result<(), PoolFault>
-    requires sound { IsSound (S.contents store.old) buffers.old }
+/// Reads sector `n`, which no buffer holds, into a slot.
+fn fetch<S: PackStore>(store: &mut S, buffers: &mut Buffers, n: u16) -> Result<usize, PoolFault>
+    requires sound { IsSound (S.contents store.old) buffers.old.slots.items }
     requires in_range { n < length (S.contents store.old) }
-    requires missed { lookup (nat_eq n) buffers.old.cache.entries ≡ None }
-    ensures keeps { KeepsLaid (S.contents store.old) buffers.old (S.contents store.new) buffers.new }
-    ensures first { OnOk result (IsFirst n buffers.new) }
+    requires missed { IsMissed n buffers.old.slots.items }
+    ensures keeps { KeepsLaid (S.contents store.old) buffers.old.slots.items (S.contents store.new) buffers.new.slots.items }
+    ensures at { IfOk result (λ slot. IsAt n slot buffers.new.slots.items) }
     ensures failures { S.failures store.new ≡ S.failures store.old + failed_transfers result }
     ensures fault { IfErr result (λ fault. fault ≢ PoolFault.NoSector) }
 {
-    save_displaced(store, buffers)?;
-    let mut bytes = spare_or_new(spare.take(), *buffers.cache.allocator())?;
-    store.read(n, &mut bytes)?;
-    let read = Buffer {
-        bytes,
-        is_dirty: false,
-    };
-    put_first(buffers, spare, n, read)?;
-    Ok(())
+    let way = make_way(store, buffers)?;
+    store.read(n, &mut buffers.spare)?;
+    buffers.take_in(way, n, false)
 }
 
-/// Has sector `n` in a buffer, as the most recently used one.
+/// Has sector `n` in the slot that is given, as the one that was used last.
 pub(crate) fn load<S: PackStore>(
     store: &mut S,
     buffers: &mut Buffers,
-    spare: &mut Option<Box<[u8; 256]>>,
     n: u16,
-) -> Result<(), PoolFault>
-    requires { IsSound (S.contents store.old) buffers.old }
-    ensures keeps { KeepsLaid (S.contents store.old) buffers.old (S.contents store.new) buffers.new }
+) -> Result<usize, PoolFault>
+    requires { IsSound (S.contents store.old) buffers.old.slots.items }
+    ensures keeps { KeepsLaid (S.contents store.old) buffers.old.slots.items (S.contents store.new) buffers.new.slots.items }
     ensures in_range { OnOk result (n < length (S.contents store.old)) }
-    ensures first { OnOk result (IsFirst n buffers.new) }
+    ensures at { IfOk result (λ slot. IsAt n slot buffers.new.slots.items) }
     ensures failures { S.failures store.new ≡ S.failures store.old + failed_transfers result }
     ensures no_sector { (IsErrOf result PoolFault.NoSector) ↔ (length (S.contents store.old) ≤ n) }
 {
     if n >= store.sectors() {
         return Err(PoolFault::NoSector);
     }
-    if buffers.is_first(n) {
-        return Ok(());
+    if buffers.is_last(n) {
+        return Ok(buffers.last);
     }
-    if buffers.cache.promote(&n) {
-        return Ok(());
-    }
-    fetch(store, buffers, spare, n)
-}
-
-/// These bytes in the spare box, or in a new one.
-fn copied_into(
-    spare: Option<Box<[u8; 256]>>,
-    alloc: Global,
-    bytes: &[u8; 256],
-) -> Result<Box<[u8; 256]>, AllocError>
-    ensures { IfOk result (λ copy. copy.value ≡ bytes.now) }
-{
-    match spare {
-        Some(mut copy) => {
-            *copy = *bytes;
-            Ok(copy)
+    match buffers.slot_of(n) {
+        Some(slot) => {
+            buffers.note_use(slot);
+            Ok(slot)
         }
-        None => Ok(Box::new(alloc, *bytes)?),
+        None => fetch(store, buffers, n),
     }
 }
 
-/// Has a new buffer of sector `n`, which no buffer holds, have these bytes. The sector isn't read.
+/// Has a slot have these bytes as those of sector `n`, which no buffer holds. The sector isn't read.
 fn cover<S: PackStore>(
     store: &mut S,
     buffers: &mut Buffers,
-    spare: &mut Option<Box<[u8; 256]>>,
     n: u16,
     bytes: &[u8; 256],
 ) -> Result<(), PoolFault>
-    requires sound { IsSound (S.contents store.old) buffers.old }
+    requires sound { IsSound (S.contents store.old) buffers.old.slots.items }
     requires in_range { n < length (S.contents store.old) }
-    requires missed { lookup (nat_eq n) buffers.old.cache.entries ≡ None }
-    ensures ok { OnOk result (Overwrites n bytes.now (S.contents store.old) buffers.old (S.contents store.new) buffers.new) }
-    ensures err { OnErr result (KeepsLaid (S.contents store.old) buffers.old (S.contents store.new) buffers.new) }
+    requires missed { IsMissed n buffers.old.slots.items }
+    ensures ok { OnOk result (Overwrites n bytes.now (S.contents store.old) buffers.old.slots.items (S.contents store.new) buffers.new.slots.items) }
+    ensures err { OnErr result (KeepsLaid (S.contents store.old) buffers.old.slots.items (S.contents store.new) buffers.new.slots.items) }
     ensures failures { S.failures store.new ≡ S.failures store.old + failed_transfers result }
     ensures fault { IfErr result (λ fault. fault ≢ PoolFault.NoSector) }
 {
-    save_displaced(store, buffers)?;
-    let bytes = copied_into(spare.take(), *buffers.cache.allocator(), bytes)?;
-    let new = Buffer {
-        bytes,
-        is_dirty: true,
-    };
-    put_first(buffers, spare, n, new)?;
+    let way = make_way(store, buffers)?;
+    *buffers.spare = *bytes;
+    buffers.take_in(way, n, true)?;
     Ok(())
 }
 
-/// Has a buffer of sector `n` have these bytes, as the most recently used one. The sector isn't read.
+/// Has sector `n` have these bytes: in its buffer, or in a new one, or in the store where a spool block would displace another
+/// sector. The sector isn't read.
 pub(crate) fn overwrite<S: PackStore>(
     store: &mut S,
     buffers: &mut Buffers,
-    spare: &mut Option<Box<[u8; 256]>>,
     n: u16,
     bytes: &[u8; 256],
 ) -> Result<(), PoolFault>
-    requires sound { IsSound (S.contents store.old) buffers.old }
+    requires sound { IsSound (S.contents store.old) buffers.old.slots.items }
     requires in_range { n < length (S.contents store.old) }
-    ensures ok { OnOk result (Overwrites n bytes.now (S.contents store.old) buffers.old (S.contents store.new) buffers.new) }
-    ensures err { OnErr result (KeepsLaid (S.contents store.old) buffers.old (S.contents store.new) buffers.new) }
+    ensures ok { OnOk result (Overwrites n bytes.now (S.contents store.old) buffers.old.slots.items (S.contents store.new) buffers.new.slots.items) }
+    ensures err { OnErr result (KeepsLaid (S.contents store.old) buffers.old.slots.items (S.contents store.new) buffers.new.slots.items) }
     ensures failures { S.failures store.new ≡ S.failures store.old + failed_transfers result }
     ensures fault { IfErr result (λ fault. fault ≢ PoolFault.NoSector) }
 {
-    if let Some(buffer) = buffers.cache.get_mut(&n) {
-        *buffer.bytes_mut() = *bytes;
+    if let Some(slot) = buffers.slot_of(n) {
+        *buffers.buffer_mut(slot).bytes_mut() = *bytes;
+        buffers.note_use(slot);
         return Ok(());
     }
-    cover(store, buffers, spare, n, bytes)
+    if !buffers.has_room() && SPOOL_BLOCKS.contains(&n) {
+        store.write(n, bytes)?;
+        return Ok(());
+    }
+    cover(store, buffers, n, bytes)
 }
 
 /// Gives up all buffers, once the store has them.
@@ -282,14 +338,15 @@ pub(crate) fn give_up_all<S: PackStore>(
     store: &mut S,
     buffers: &mut Buffers,
 ) -> Result<(), StoreFault>
-    requires { IsSound (S.contents store.old) buffers.old }
-    ensures keeps { KeepsLaid (S.contents store.old) buffers.old (S.contents store.new) buffers.new }
-    ensures empty { OnOk result (buffers.new.cache.entries ≡ []) }
+    requires { IsSound (S.contents store.old) buffers.old.slots.items }
+    ensures keeps { KeepsLaid (S.contents store.old) buffers.old.slots.items (S.contents store.new) buffers.new.slots.items }
+    ensures empty { OnOk result (buffers.new.slots.items ≡ []) }
     ensures failures { S.failures store.new ≡ S.failures store.old + failed_calls result }
 {
-    // `len` also tells the proof that no sector is held twice, which `is_empty` doesn't.
-    while buffers.cache.len() > 0 {
-        evict(store, buffers)?;
+    for slot in 0..buffers.slots.len() {
+        write_back(store, buffers.buffer(slot))?;
     }
+    buffers.slots.clear();
+    buffers.order.clear();
     Ok(())
 }

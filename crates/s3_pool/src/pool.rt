@@ -16,8 +16,6 @@ use std::marker::Model;
 pub struct Pool<S: PackStore> {
     store: S,
     buffers: Buffers,
-    /// The box of the buffer that was displaced last, for the next one.
-    spare: Option<Box<[u8; 256]>>,
 }
 
 impl<S: PackStore> Model for Pool<S> {
@@ -28,7 +26,7 @@ impl<S: PackStore> Model for Pool<S> {
 
     ghost view = { λ p. pool_state (S.contents p.store) (S.failures p.store) p.buffers };
 
-    ghost invariant = { λ p. IsSound (S.contents p.store) p.buffers };
+    ghost invariant = { λ p. IsSound (S.contents p.store) p.buffers.slots.items };
 }
 
 impl<S: PackStore> Pool<S> {
@@ -42,11 +40,7 @@ impl<S: PackStore> Pool<S> {
         ensures value_returned { IfErr result (λ refused. refused.value ≡ store) }
     {
         match Buffers::new(alloc) {
-            Ok(buffers) => Ok(Pool {
-                store,
-                buffers,
-                spare: None,
-            }),
+            Ok(buffers) => Ok(Pool { store, buffers }),
             Err(_) => Err(AllocFailed { value: store }),
         }
     }
@@ -57,8 +51,8 @@ impl<S: PackStore> Pool<S> {
         ensures value { IfOk result (λ bytes. slice_get self.old.contents n ≡ Some bytes.now) }
         ensures no_sector { (IsErrOf result PoolFault.NoSector) ↔ (length self.old.contents ≤ n) }
     {
-        load(&mut self.store, &mut self.buffers, &mut self.spare, n)?;
-        Ok(self.buffers.first_bytes())
+        let slot = load(&mut self.store, &mut self.buffers, n)?;
+        Ok(self.buffers.buffer(slot).bytes())
     }
 
     /// Sector `n` to write to. The other sectors stay, and refused, all do.
@@ -67,8 +61,8 @@ impl<S: PackStore> Pool<S> {
         ensures value { IfOk result (λ bytes. slice_get self.old.contents n ≡ Some bytes.now) }
         ensures no_sector { (IsErrOf result PoolFault.NoSector) ↔ (length self.old.contents ≤ n) }
     {
-        load(&mut self.store, &mut self.buffers, &mut self.spare, n)?;
-        Ok(self.buffers.buffer_mut(n).bytes_mut())
+        let slot = load(&mut self.store, &mut self.buffers, n)?;
+        Ok(self.buffers.buffer_mut(slot).bytes_mut())
     }
 
     /// Has the store hold the contents. Afterwards no sector is in memory.
@@ -87,11 +81,7 @@ impl<S: PackStore> Pool<S> {
         ensures contents { S.contents result ≡ self.stored }
         ensures failures { S.failures result ≡ self.failures }
     {
-        let Pool {
-            store,
-            buffers: _,
-            spare: _,
-        } = self;
+        let Pool { store, buffers: _ } = self;
         store
     }
 }
@@ -104,19 +94,17 @@ impl<S: PackStore> Sectors for Pool<S> {
     }
 
     fn read_sector(&mut self, n: u16, bytes: &mut [u8; 256]) -> Result<(), PoolFault> {
+        if self.buffers.is_unheld_block(n) {
+            self.store.read(n, bytes)?;
+            return Ok(());
+        }
         let sector = self.sector(n)?;
         *bytes = *sector;
         Ok(())
     }
 
     fn write_sector(&mut self, n: u16, bytes: &[u8; 256]) -> Result<(), PoolFault> {
-        overwrite(
-            &mut self.store,
-            &mut self.buffers,
-            &mut self.spare,
-            n,
-            bytes,
-        )
+        overwrite(&mut self.store, &mut self.buffers, n, bytes)
     }
 
     fn change_sector(&mut self, n: u16, at: usize, piece: &[u8]) -> Result<(), PoolFault> {

@@ -1,8 +1,9 @@
 -- The bytes of a block.
 use Rattle.std.proofs.Common.{◌≡◌, ℕ, ◌+◌, ◌-◌, ◌<◌, ◌≤◌, List, [], ◌∷◌, ◌++◌, length, take, drop, replicate, sym, ap, ◌∙◌, arith, append_assoc, drop-drop, length-append}
 use Rattle.std.proofs.Math.Seq.{take-append_seam, drop-append_seam}
-use Rattle.std.proofs.lemmas.List.{drop-replicate, length-replicate}
+use Rattle.std.proofs.lemmas.List.{drop-replicate, length-replicate, take-take}
 use Rattle.byteorder.specs.Endian.{big_bytes}
+use Rattle.s3_store.specs.Bytes.{part}
 use Rattle.s3_cards.specs.Printed.{Printed}
 use Rattle.s3_cards.specs.declared.ebcdic.TheConstants.{BLANK}
 use Rattle.s3_spool.specs.Queues.{block_bytes, line_of_block, text_length}
@@ -35,8 +36,13 @@ take_padded text n padding same = ap (λ m. take m (text ++ padding)) same ∙ t
 pub drop_padded : (text : List ℕ) (n : ℕ) (padding : List ℕ) → n ≡ length text → drop n (text ++ padding) ≡ padding
 drop_padded text n padding same = ap (λ m. drop m (text ++ padding)) same ∙ drop-append_seam text padding
 
-pub blanks_left : (n : ℕ) → drop n (replicate 132 BLANK) ≡ replicate (132 - n) BLANK
-blanks_left n = drop-replicate n 132 BLANK
+-- all positions of a block, and those behind its text made blank
+pub text_of_positions : (block positions blanked : List ℕ) (n : ℕ) → n ≤ 132 → length positions ≡ 132 → positions ≡ take 132 (drop 4 block)
+    → blanked ≡ take n positions ++ replicate (length positions - n) BLANK → blanked ≡ part block 4 n ++ replicate (132 - n) BLANK
+text_of_positions block positions blanked n short whole are blanks =
+    blanks
+    ∙ ap (λ m. take n positions ++ replicate (m - n) BLANK) whole
+    ∙ ap (λ text. text ++ replicate (132 - n) BLANK) (ap (take n) are ∙ take-take n 132 (drop 4 block) short)
 
 length-kept : (n : ℕ) → 1 ≤ n → n ≤ 132 → text_length n ≡ n
 length-kept n low high = grind (arith, nat_tests)

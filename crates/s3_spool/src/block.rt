@@ -1,6 +1,7 @@
 //! A printed line in a spool block.
 ghost use Rattle.std.specs.Prelude.{◌≡◌, ◌<◌, ◌≤◌, ◌+◌, ◌-◌, ◌++◌, [], ◌∷◌, length, take, drop, replicate};
 ghost use Rattle.byteorder.specs.Endian.{big_bytes};
+ghost use Rattle.s3_store.specs.Bytes.{part};
 ghost use Rattle.s3_spool.specs.Queues.{block_bytes as block_bytes_spec, text_length as text_length_spec, line_of_block as line_of_block_spec};
 
 use byteorder::{BigEndian, ByteOrder};
@@ -27,22 +28,22 @@ fn head_of(page: u16, line: u8, length: u8) -> [u8; 4]
     bytes
 }
 
-/// The bytes of a block with this line.
+/// A block of zeros gets this line.
 #[tactic(auto, using(crate::proofs::BlockLemmas::block_put_together, crate::proofs::BlockLemmas::block_reads_back, crate::proofs::BlockLemmas::block_is_whole))]
-pub fn block_bytes(line: &PrintLine) -> [u8; 256]
-    ensures value { result ≡ block_bytes_spec line.now }
+#[inline(always)]
+pub fn lay_line(block: &mut [u8; 256], line: &PrintLine)
+    requires { block.old ≡ replicate 256 0 }
+    ensures value { block.new ≡ block_bytes_spec line.now }
     ensures reads { line_of_block_spec (block_bytes_spec line.now) ≡ line.now }
     ensures whole { length (block_bytes_spec line.now) ≡ 256 }
 {
     let text = line.text();
-    let mut bytes = [0; 256];
     put(
-        &mut bytes,
+        block,
         0,
         &head_of(line.page(), line.line(), text.len() as u8),
     );
-    put(&mut bytes, TEXT, text);
-    bytes
+    put(block, TEXT, text);
 }
 
 /// A length that a block says; one that no line has counts as 132.
@@ -57,28 +58,40 @@ fn text_length(length: u8) -> usize
     }
 }
 
-/// A text with blanks behind it.
-#[tactic(auto, using(crate::proofs::BlockLemmas::blanks_left))]
-fn padded(text: &[u8]) -> [u8; PRINT_POSITIONS]
-    requires { length text.now ≤ 132 }
-    ensures { result ≡ text.now ++ replicate (132 - length text.now) BLANK }
+/// Makes the positions behind a text blank.
+#[inline(always)]
+fn blank_behind(width: usize, positions: &mut [u8])
+    requires { width ≤ length positions.old }
+    ensures { positions.new ≡ take width positions.old ++ replicate (length positions.old - width) BLANK }
+{
+    positions[width..].fill(BLANK);
+}
+
+/// The positions of a line whose text has this width, with blanks behind it.
+#[inline(always)]
+fn positions_of(block: &[u8; 256], width: usize) -> [u8; PRINT_POSITIONS]
+    requires { width ≤ 132 }
+    ensures { result ≡ part block.now 4 width ++ replicate (132 - width) BLANK }
 {
     let mut positions = [BLANK; PRINT_POSITIONS];
-    positions[..text.len()].copy_from_slice(text);
+    positions.copy_from_slice(&block[TEXT..TEXT + PRINT_POSITIONS]);
+    if width < PRINT_POSITIONS {
+        blank_behind(width, &mut positions);
+    }
     positions
 }
 
 /// The line that the bytes of a block say.
 #[tactic(auto, using(crate::proofs::BlockLemmas::take_padded, crate::proofs::BlockLemmas::drop_padded))]
+#[inline(always)]
 pub fn line_of_block(bytes: &[u8; 256]) -> PrintLine
     ensures { result ≡ line_of_block_spec bytes.now }
 {
     let width = text_length(bytes[3]);
-    let positions = padded(&bytes[TEXT..TEXT + width]);
     PrintLine::new(
         BigEndian::read_u16(&bytes[..2]),
         bytes[2],
         width as u8,
-        positions,
+        positions_of(bytes, width),
     )
 }

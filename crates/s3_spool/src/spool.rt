@@ -7,7 +7,7 @@ ghost use Rattle.s3_store.specs.Bytes.{sector_bytes};
 ghost use Rattle.s3_store.specs.State.{KeepsContents, ChangesWithin};
 ghost use Rattle.s3_spool.specs.Queues.{times, blocks_of, quota_of, queue_of, with_queued, with_taken, AreBlocks, IsFreeSector, failed_by, line_of_block as line_of_block_spec, block_bytes as block_bytes_spec, block_sector};
 
-use crate::block::{block_bytes, line_of_block};
+use crate::block::{lay_line, line_of_block};
 use crate::fault::SpoolFault;
 use circular_buffer::HeapCircularBuffer;
 use s3_cards::{LevelId, PrintLine};
@@ -74,11 +74,14 @@ fn put_line<P: Sectors>(sectors: &mut P, block: u8, line: &PrintLine) -> Result<
     ensures failures { (P.state sectors.new).failures ≡ (P.state sectors.old).failures + failed_transfers result }
     ensures fault { IfErr result (λ fault. fault ≢ PoolFault.NoSector) }
 {
-    sectors.write_sector(FIRST_BLOCK + u16::from(block), &block_bytes(line))
+    let mut bytes = [0; 256];
+    lay_line(&mut bytes, line);
+    sectors.write_sector(FIRST_BLOCK + u16::from(block), &bytes)
 }
 
 /// The line in a block.
 #[tactic(auto, using(crate::proofs::BlocksLemmas::read_sector_bytes))]
+#[inline(always)]
 fn read_line<P: Sectors>(sectors: &mut P, block: u8) -> Result<PrintLine, PoolFault>
     requires { block_sector block < length (P.state sectors.old).contents }
     ensures ok { IfOk result (λ line. line ≡ line_of_block_spec (sector_bytes (P.state sectors.old).contents (block_sector block))) }
@@ -164,8 +167,7 @@ impl Spool {
         };
     }
 
-    /// A level's first block becomes the first free one, so that the next line goes into a block that most likely stands in a
-    /// buffer still.
+    /// A level's first block becomes the first free one.
     #[tactic(auto, using(crate::proofs::BlocksLemmas::kept_all_behind, crate::proofs::BlocksLemmas::back_from_one, crate::proofs::BlocksLemmas::back_from_two))]
     fn dequeue(&mut self, level: LevelId, block: u8)
         requires { slice_get (blocks_of level self.old) 0 ≡ Some block }

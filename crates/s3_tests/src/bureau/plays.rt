@@ -31,7 +31,8 @@ const LISTED: Part = Part {
     lines: &[b"ABC", b"DEF"],
 };
 
-/// Both levels list cards. Three lines wait at once, and all else stays in the pool up to the finish.
+/// Both levels list cards. The mount has filled the pool, so each of the four lines is written to its block and read from it;
+/// level 2's two are left to the finish.
 pub const CARD_LISTER: Session = Session {
     one: LISTED,
     two: LISTED,
@@ -39,8 +40,8 @@ pub const CARD_LISTER: Session = Session {
     rounds: 8,
     least: Failed {
         in_open: MOUNT,
-        in_steps: 0,
-        in_finish: 3,
+        in_steps: 4 + 2,
+        in_finish: 2,
     },
 };
 

@@ -1,19 +1,9 @@
-use Rattle.std.proofs.Common.{sym, ◌∙◌}
-use Rattle.s3_pool.proofs.Steps.{went_first, laid_trans, lookup_promoted, first_promoted, some_is, none_is}
+use Rattle.std.proofs.Common.{sym}
+use Rattle.s3_pool.proofs.Laid.{found, missed}
 use Rattle.s3_pool.proofs.buffers.load.Goals as goal
 
-pub returns-then-promote-clause-keeps : goal.returns-then-promote-clause-keeps
-returns-then-promote-clause-keeps g c = rw c.promote.ensures.entries (went_first _ c.args.buffers.now c.args.n c.requires)
-
-pub returns-then-promote-clause-first : goal.returns-then-promote-clause-first
-returns-then-promote-clause-first g c = rw c.promote.ensures.entries (first_promoted c.args.n c.args.buffers.now.cache.entries (some_is _ (sym c.promote.ensures.value ∙ c.if-promote.true)))
-
-pub fetch-requires-clause-sound : goal.fetch-requires-clause-sound
-fetch-requires-clause-sound g c = rw c.promote.ensures.entries (went_first _ c.args.buffers.now c.args.n c.requires).sound
-
 pub fetch-requires-clause-missed : goal.fetch-requires-clause-missed
-fetch-requires-clause-missed g c = rw (c.promote.ensures.entries, lookup_promoted) (none_is _ (sym c.promote.ensures.value ∙ c.if-promote.false))
+fetch-requires-clause-missed g c = missed c.args.n c.args.buffers.now.slots.items (sym c.in-None.ensures)
 
-pub returns-clause-keeps : goal.returns-clause-keeps
-returns-clause-keeps g c =
-    laid_trans (went_first _ c.args.buffers.now c.args.n c.requires) (rw c.promote.ensures.entries at c.fetch.ensures.keeps)
+pub returns-in-Some-clause-at : goal.returns-in-Some-clause-at
+returns-in-Some-clause-at g c = rw c.note_use.ensures.slots (found c.args.n c.in-Some.slot c.args.buffers.now.slots.items (sym c.in-Some.ensures))

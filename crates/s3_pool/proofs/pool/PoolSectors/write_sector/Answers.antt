@@ -6,7 +6,7 @@ use Rattle.s3_pool.proofs.pool.PoolSectors.write_sector.Goals as goal
 pub overwrite-requires-clause-in_range : goal.overwrite-requires-clause-in_range
 overwrite-requires-clause-in_range g c =
     let within = rw (← c.self.view_is) at c.requires in
-    omega (arith, within, length_laid c.self.inside.buffers.cache.entries (g.S.PackStore.contents c.self.inside.store))
+    omega (arith, within, length_laid c.self.inside.buffers.slots.items (g.S.PackStore.contents c.self.inside.store))
 
 pub returns-clause-within : goal.returns-clause-within
 returns-clause-within g c =
