@@ -1,5 +1,6 @@
 -- An index that is looked through, entry by entry.
-use Rattle.std.proofs.Common.{Fits, w32, ◌≡◌, ℕ, zero, suc, ◌+◌, ◌-◌, ◌<◌, ◌≤◌, ◌⊎◌, inl, inr, true, false, ◌==◌, List, [], ◌∷◌, length, map, slice_get, Some, refl, sym, ap, subst, ◌∙◌, arith}
+use Rattle.std.proofs.Common.{Fits, w32, ◌≡◌, ℕ, zero, suc, ◌+◌, ◌-◌, ◌^◌, ◌<◌, ◌≤◌, ◌⊎◌, inl, inr, true, false, ◌==◌, List, [], ◌∷◌, length, map, slice_get, Some, refl, sym, ap, subst, ◌∙◌, arith}
+use Rattle.std.proofs.Math.Nat.{one-le-pow}
 use Rattle.std.proofs.lemmas.Bool.{eqb-true, eq-eqb}
 use Rattle.std.proofs.lemmas.Bool.Decides.{nat_tests}
 use Rattle.std.specs.List.{range_with_len}
@@ -94,6 +95,10 @@ good-range entry keys n i good below = good.in_range i (entry i) (get-listed ent
 
 pub good-keyed : (entry : ℕ → Entry) (keys : List ℕ) (n i : ℕ) → IsGoodIndex (map entry (range_with_len 0 n)) keys → i < n → slice_get keys ((entry i).number - 1) ≡ Some (entry i).key
 good-keyed entry keys n i good below = good.keyed i (entry i) (get-listed entry n i below)
+
+-- no key at all is a short one
+pub none_short : (n k : ℕ) → n < 256 ^ 0 → n < 256 ^ k
+none_short n k none = let some = one-le-pow k 256 (omega arith) in omega (arith, some, none)
 
 -- why an index is refused
 pub not_after : (entry : ℕ → Entry) (keys : List ℕ) (n j last key : ℕ) → j < n → 0 < j → last ≡ (entry (j - 1)).key → key ≡ (entry j).key → key ≤ last → IsGoodIndex (map entry (range_with_len 0 n)) keys → ⊥

@@ -1,38 +1,40 @@
 //! Whether an index is that of the records.
-ghost use Rattle.std.specs.Prelude.{◌≡◌, ◌≢◌, ◌≤◌, ◌<◌, ◌+◌, ◌*◌, ℕ, IfOk, IfErr, MatchBool};
+ghost use Rattle.std.specs.Prelude.{◌≡◌, ◌≢◌, ◌≤◌, ◌<◌, ◌+◌, ◌*◌, ◌/◌, ◌^◌, ℕ, IfOk, IfErr, MatchBool};
 ghost use Rattle.s3_store.specs.State.{KeepsContents};
 ghost use Rattle.s3_store.specs.Failures.{failed_transfers};
 ghost use Rattle.s3_store.specs.Bytes.{part};
 ghost use Rattle.s3_files.specs.Files.{AreStored};
 ghost use Rattle.s3_keyed.specs.KeyOrder.{number_of, is_good_index};
-ghost use Rattle.s3_keyed.specs.Index.{index_in};
+ghost use Rattle.s3_keyed.specs.Index.{index_in, entry_in};
 ghost use Rattle.s3_keyed.specs.Inner.Shape.{layout_in, bytes_in, keys_on, index_sector};
 
-use crate::index_sector::{IndexSector, entries_per_sector};
+use crate::index_sector::{IndexSector, entries_per_sector, is_entry_above, is_key_of, number_in};
 use crate::indexed::IndexedFile;
 use crate::keys::{Key, QuickKey};
 use crate::record_sector::RecordSector;
 use s3_store::{PoolFault, Sectors};
 
-/// Whether the key of entry `i` is above the one before it.
-fn follows(i: u32, last: &Key, key: &Key) -> bool
-    ensures { MatchBool result (0 < i → number_of last.now.bytes < number_of key.now.bytes) ((0 < i) × (number_of key.now.bytes ≤ number_of last.now.bytes)) }
+/// Whether the key of entry `i` of the index, which is entry `j` of a sector, is above the one before it.
+fn follows(i: u32, sector: &[u8; 256], j: usize, key_length: usize, last: &Key) -> bool
+    requires short { key_length ≤ 29 }
+    requires inside { j < 256 / (key_length + 4) }
+    requires short_key { number_of last.now.bytes < 256 ^ key_length }
+    ensures { MatchBool result (0 < i → number_of last.now.bytes < (entry_in key_length (part sector.now (j * (key_length + 4)) (key_length + 4))).key) ((0 < i) × ((entry_in key_length (part sector.now (j * (key_length + 4)) (key_length + 4))).key ≤ number_of last.now.bytes)) }
 {
-    i == 0 || key.is_above(last)
+    i == 0 || is_entry_above(sector, j, key_length, last)
 }
 
-/// Keeps the key of entry `i` where the entry is the first of its sector.
+/// Keeps the key of entry `j` of a sector, of so many bytes, where the entry is the first of the sector.
 fn keep_first(
     firsts: &mut Vec<QuickKey>,
-    per_sector: u32,
-    i: u32,
-    key: QuickKey,
+    j: usize,
+    key: &Key,
+    key_length: u8,
 ) -> Result<(), PoolFault>
-    requires { 0 < per_sector }
     ensures { IfErr result (λ fault. fault ≡ PoolFault.NoMemory) }
 {
-    if i % per_sector == 0 {
-        firsts.push(key)?;
+    if j == 0 {
+        firsts.push(QuickKey::of(key, key_length))?;
     }
     Ok(())
 }
@@ -56,29 +58,27 @@ fn are_good<P: Sectors>(
 {
     let count = file.file.count;
     let per_sector = entries_per_sector(file);
+    let key_length = usize::from(file.key_length);
     let mut last = Key::of(&[]);
     for i in 0..count {
-        let entry = sector.read_entry(file, pool, i)?;
-        if !follows(i, &last, &entry.key) {
+        sector.go_to(file, pool, i, per_sector)?;
+        let j = (i % per_sector) as usize;
+        if !follows(i, &sector.bytes, j, key_length, &last) {
             return Ok(false);
         }
-        if entry.number == 0 {
+        let number = number_in(&sector.bytes, j, key_length);
+        if number == 0 {
             return Ok(false);
         }
-        if entry.number > count {
+        if number > count {
             return Ok(false);
         }
-        let key = records.read_key(file, pool, entry.number - 1)?;
-        if !key.is_same(&entry.key) {
+        let key = records.read_key(file, pool, number - 1)?;
+        if !is_key_of(&sector.bytes, j, key_length, &key) {
             return Ok(false);
         }
-        keep_first(
-            firsts,
-            per_sector,
-            i,
-            QuickKey::of(&entry.key, file.key_length),
-        )?;
-        last = entry.key;
+        keep_first(firsts, j, &key, file.key_length)?;
+        last = key;
     }
     Ok(true)
 }
@@ -98,7 +98,9 @@ pub fn is_good<P: Sectors>(
     if file.file.count == 0 {
         return Ok(true);
     }
-    let records = RecordSector::read(file, pool, 0)?;
-    let sector = IndexSector::read(file, pool, 0)?;
+    let mut records = RecordSector::blank();
+    records.read(file, pool, 0)?;
+    let mut sector = IndexSector::blank();
+    sector.read(file, pool, 0)?;
     are_good(file, pool, sector, records, firsts)
 }

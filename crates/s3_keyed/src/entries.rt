@@ -64,6 +64,7 @@ pub fn read_key<P: Sectors>(file: &IndexedFile, pool: &mut P, i: u32) -> Result<
     requires stored { AreStored file.now.file.sectors (P.state pool.old).contents }
     requires within { i < file.now.file.capacity }
     ensures ok { IfOk result (λ key. number_of key.bytes ≡ key_of (layout_in file.now).key (part (bytes_in file.now (P.state pool.old).contents) (i * file.now.file.record_length) file.now.file.record_length)) }
+    ensures short { IfOk result (λ key. number_of key.bytes < 256 ^ file.now.key_length) }
     ensures keeps { KeepsContents (P.state pool.old) (P.state pool.new) }
     ensures failures { (P.state pool.new).failures ≡ (P.state pool.old).failures + failed_transfers result }
     ensures fault { IfErr result (λ fault. fault ≢ PoolFault.NoSector) }

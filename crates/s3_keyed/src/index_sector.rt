@@ -1,5 +1,5 @@
 //! Sectors of an index, whose entries are looked at where they lie.
-ghost use Rattle.std.specs.Prelude.{◌≡◌, ◌≢◌, ◌≤◌, ◌<◌, ◌+◌, ◌*◌, ◌/◌, ◌%◌, ◌^◌, ℕ, length, take, OnOk, IfOk, IfErr};
+ghost use Rattle.std.specs.Prelude.{◌≡◌, ◌≢◌, ◌≤◌, ◌<◌, ◌+◌, ◌*◌, ◌/◌, ◌%◌, ◌^◌, ℕ, length, take, nat_lt, ◌==◌, OnOk, IfErr};
 ghost use Rattle.std.specs.Ordering.{nat_cmp};
 ghost use Rattle.s3_store.specs.State.{KeepsContents};
 ghost use Rattle.s3_store.specs.Failures.{failed_transfers};
@@ -7,11 +7,11 @@ ghost use Rattle.s3_store.specs.Bytes.{part};
 ghost use Rattle.s3_slots.specs.Slots.{entries_per_sector as entries_of};
 ghost use Rattle.s3_files.specs.Files.{AreStored};
 ghost use Rattle.s3_keyed.specs.KeyOrder.{number_of};
-ghost use Rattle.s3_keyed.specs.Index.{entry_at, entry_in};
-ghost use Rattle.s3_keyed.specs.Inner.Shape.{layout_in, bytes_in, entry_of, index_sector};
+ghost use Rattle.s3_keyed.specs.Index.{entry_in};
+ghost use Rattle.s3_keyed.specs.Inner.Shape.{bytes_in, index_sector};
 
 use crate::entries::place_of;
-use crate::indexed::{IndexEntry, IndexedFile};
+use crate::indexed::IndexedFile;
 use crate::keys::Key;
 use byteorder::{BigEndian, ByteOrder};
 use s3_files::read_bytes;
@@ -54,20 +54,32 @@ pub struct IndexSector {
 }
 
 impl IndexSector {
-    /// Reads the sector with entry `i`.
-    pub fn read<P: Sectors>(file: &IndexedFile, pool: &mut P, i: u32) -> Result<Self, PoolFault>
+    /// One that isn't read yet.
+    pub fn blank() -> Self {
+        IndexSector {
+            place: 0,
+            bytes: [0; 256],
+        }
+    }
+
+    /// Reads the sector with entry `i`, over what was here.
+    pub fn read<P: Sectors>(
+        &mut self,
+        file: &IndexedFile,
+        pool: &mut P,
+        i: u32,
+    ) -> Result<(), PoolFault>
         requires stored { AreStored file.now.file.sectors (P.state pool.old).contents }
         requires within { i < file.now.file.capacity }
-        ensures place { IfOk result (λ sector. sector.place ≡ i / entries_of file.now.key_length) }
-        ensures ok { IfOk result (λ sector. sector.bytes ≡ index_sector file.now sector.place (bytes_in file.now (P.state pool.old).contents)) }
+        ensures place { OnOk result (self.new.place ≡ i / entries_of file.now.key_length) }
+        ensures ok { OnOk result (self.new.bytes ≡ index_sector file.now self.new.place (bytes_in file.now (P.state pool.old).contents)) }
         ensures keeps { KeepsContents (P.state pool.old) (P.state pool.new) }
         ensures failures { (P.state pool.new).failures ≡ (P.state pool.old).failures + failed_transfers result }
         ensures fault { IfErr result (λ fault. fault ≢ PoolFault.NoSector) }
     {
-        let place = i / entries_per_sector(file);
-        let mut bytes = [0; 256];
-        read_around(file, pool, i, &mut bytes)?;
-        Ok(IndexSector { place, bytes })
+        read_around(file, pool, i, &mut self.bytes)?;
+        self.place = i / entries_per_sector(file);
+        Ok(())
     }
 
     /// Goes on to the sector with entry `i`, which isn't read where it is this one. So many entries lie in each.
@@ -97,28 +109,6 @@ impl IndexSector {
         self.place = place;
         Ok(())
     }
-
-    /// Reads an entry of the index, going on to its sector.
-    pub fn read_entry<P: Sectors>(
-        &mut self,
-        file: &IndexedFile,
-        pool: &mut P,
-        i: u32,
-    ) -> Result<IndexEntry, PoolFault>
-        requires stored { AreStored file.now.file.sectors (P.state pool.old).contents }
-        requires within { i < file.now.file.capacity }
-        requires here { self.old.bytes ≡ index_sector file.now self.old.place (bytes_in file.now (P.state pool.old).contents) }
-        ensures ok { IfOk result (λ entry. entry_of entry ≡ entry_at (layout_in file.now) (bytes_in file.now (P.state pool.old).contents) i) }
-        ensures here { IfOk result (λ _. self.new.bytes ≡ index_sector file.now self.new.place (bytes_in file.now (P.state pool.old).contents)) }
-        ensures keeps { KeepsContents (P.state pool.old) (P.state pool.new) }
-        ensures failures { (P.state pool.new).failures ≡ (P.state pool.old).failures + failed_transfers result }
-        ensures fault { IfErr result (λ fault. fault ≢ PoolFault.NoSector) }
-    {
-        let per_sector = entries_per_sector(file);
-        self.go_to(file, pool, i, per_sector)?;
-        let j = (i % per_sector) as usize;
-        Ok(whole_entry(&self.bytes, j, usize::from(file.key_length)))
-    }
 }
 
 /// The bytes of entry `j` of a sector, whose keys have so many bytes.
@@ -129,19 +119,6 @@ fn entry_bytes(sector: &[u8; 256], j: usize, key_length: usize) -> &[u8]
 {
     let width = key_length + 4;
     &sector[j * width..j * width + width]
-}
-
-/// Entry `j` of a sector, whose keys have so many bytes.
-fn whole_entry(sector: &[u8; 256], j: usize, key_length: usize) -> IndexEntry
-    requires short { key_length ≤ 29 }
-    requires inside { j < 256 / (key_length + 4) }
-    ensures { entry_of result ≡ entry_in key_length (part sector.now (j * (key_length + 4)) (key_length + 4)) }
-{
-    let (key, number) = entry_bytes(sector, j, key_length).split_at(key_length);
-    IndexEntry {
-        key: Key::of(key),
-        number: BigEndian::read_u32(number),
-    }
 }
 
 /// How the key at the start of an entry, which has so many bytes, stands to another, byte by byte.
@@ -194,6 +171,26 @@ pub fn compare_entry(sector: &[u8; 256], j: usize, key_length: usize, key: &Key)
         4..=8 => compare_number(entry, key_length, key),
         _ => compare_head(entry, key_length, key),
     }
+}
+
+/// Whether the key of entry `j` of a sector is above another.
+pub fn is_entry_above(sector: &[u8; 256], j: usize, key_length: usize, key: &Key) -> bool
+    requires short { key_length ≤ 29 }
+    requires inside { j < 256 / (key_length + 4) }
+    requires short_key { number_of key.now.bytes < 256 ^ key_length }
+    ensures { result ≡ nat_lt (number_of key.now.bytes) (entry_in key_length (part sector.now (j * (key_length + 4)) (key_length + 4))).key }
+{
+    compare_entry(sector, j, key_length, key) == Ordering::Greater
+}
+
+/// Whether the key of entry `j` of a sector is this one.
+pub fn is_key_of(sector: &[u8; 256], j: usize, key_length: usize, key: &Key) -> bool
+    requires short { key_length ≤ 29 }
+    requires inside { j < 256 / (key_length + 4) }
+    requires short_key { number_of key.now.bytes < 256 ^ key_length }
+    ensures { result ≡ (number_of key.now.bytes == (entry_in key_length (part sector.now (j * (key_length + 4)) (key_length + 4))).key) }
+{
+    compare_entry(sector, j, key_length, key) == Ordering::Equal
 }
 
 /// The number in entry `j` of a sector.

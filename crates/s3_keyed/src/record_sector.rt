@@ -1,5 +1,5 @@
 //! A sector of a file that was read, out of which keys of records are taken.
-ghost use Rattle.std.specs.Prelude.{◌≡◌, ◌≢◌, ◌≤◌, ◌<◌, ◌+◌, ◌*◌, ℕ, length, OnOk, IfOk, IfErr};
+ghost use Rattle.std.specs.Prelude.{◌≡◌, ◌≢◌, ◌≤◌, ◌<◌, ◌+◌, ◌*◌, ◌^◌, ℕ, length, OnOk, IfOk, IfErr};
 ghost use Rattle.s3_store.specs.State.{KeepsContents};
 ghost use Rattle.s3_store.specs.Failures.{failed_transfers};
 ghost use Rattle.s3_store.specs.Bytes.{part};
@@ -24,19 +24,32 @@ pub struct RecordSector {
 }
 
 impl RecordSector {
-    /// Reads a sector.
-    pub fn read<P: Sectors>(file: &IndexedFile, pool: &mut P, place: u32) -> Result<Self, PoolFault>
+    /// One that isn't read yet.
+    pub fn blank() -> Self {
+        RecordSector {
+            place: 0,
+            bytes: [0; 256],
+        }
+    }
+
+    /// Reads a sector, over what was here.
+    pub fn read<P: Sectors>(
+        &mut self,
+        file: &IndexedFile,
+        pool: &mut P,
+        place: u32,
+    ) -> Result<(), PoolFault>
         requires stored { AreStored file.now.file.sectors (P.state pool.old).contents }
         requires within { place < length file.now.file.sectors }
-        ensures ok { IfOk result (λ sector. sector.bytes ≡ part (bytes_in file.now (P.state pool.old).contents) (256 * sector.place) 256) }
-        ensures place { IfOk result (λ sector. sector.place ≡ place) }
+        ensures ok { OnOk result (self.new.bytes ≡ part (bytes_in file.now (P.state pool.old).contents) (256 * self.new.place) 256) }
+        ensures place { OnOk result (self.new.place ≡ place) }
         ensures keeps { KeepsContents (P.state pool.old) (P.state pool.new) }
         ensures failures { (P.state pool.new).failures ≡ (P.state pool.old).failures + failed_transfers result }
         ensures fault { IfErr result (λ fault. fault ≢ PoolFault.NoSector) }
     {
-        let mut bytes = [0; 256];
-        read_bytes(pool, &file.file.sectors, 256 * place, &mut bytes)?;
-        Ok(RecordSector { place, bytes })
+        read_bytes(pool, &file.file.sectors, 256 * place, &mut self.bytes)?;
+        self.place = place;
+        Ok(())
     }
 
     /// Goes on to a sector, which isn't read where it is this one.
@@ -58,8 +71,7 @@ impl RecordSector {
         if self.place == place {
             return Ok(());
         }
-        *self = Self::read(file, pool, place)?;
-        Ok(())
+        self.read(file, pool, place)
     }
 
     /// Reads the key of a record, going on to its sector. One that lies in two sectors is read by itself.
@@ -73,6 +85,7 @@ impl RecordSector {
         requires within { i < file.now.file.capacity }
         requires here { self.old.bytes ≡ part (bytes_in file.now (P.state pool.old).contents) (256 * self.old.place) 256 }
         ensures ok { IfOk result (λ key. number_of key.bytes ≡ key_of (layout_in file.now).key (part (bytes_in file.now (P.state pool.old).contents) (i * file.now.file.record_length) file.now.file.record_length)) }
+        ensures short { IfOk result (λ key. number_of key.bytes < 256 ^ file.now.key_length) }
         ensures here { IfOk result (λ _. self.new.bytes ≡ part (bytes_in file.now (P.state pool.old).contents) (256 * self.new.place) 256) }
         ensures keeps { KeepsContents (P.state pool.old) (P.state pool.new) }
         ensures failures { (P.state pool.new).failures ≡ (P.state pool.old).failures + failed_transfers result }

@@ -70,7 +70,8 @@ pub fn search_index<P: Sectors>(
     }
     let per_sector = entries_per_sector(file);
     let key_length = usize::from(file.key_length);
-    let mut sector = IndexSector::read(file, pool, guess.min(entries - 1))?;
+    let mut sector = IndexSector::blank();
+    sector.read(file, pool, guess.min(entries - 1))?;
     let mut low = 0;
     let mut high = entries;
     'halve: while low < high {

@@ -1,5 +1,5 @@
 -- A make over the sectors of a pack, and a list of makes on a copy.
-use Rattle.std.proofs.Common.{◌≡◌, ◌≢◌, ℕ, zero, suc, ◌+◌, ◌*◌, ◌/◌, ◌%◌, ◌≤◌, ◌<◌, true, List, [], ◌∷◌, ◌++◌, length, take, slice_get, Option, Some, Result, Ok, Err, drop, refl, sym, ap, ◌∙◌, arith, inl, inr}
+use Rattle.std.proofs.Common.{◌≡◌, ◌≢◌, ℕ, zero, suc, ◌+◌, ◌*◌, ◌/◌, ◌%◌, ◌≤◌, ◌<◌, true, List, [], ◌∷◌, ◌++◌, length, take, slice_get, Option, Some, Result, Ok, Err, drop, refl, sym, ap, ap₂, ◌∙◌, arith, inl, inr}
 use Rattle.std.specs.Prelude.{IsOk, is_ok}
 use Rattle.std.specs.List.{All}
 use Rattle.s3_cards.specs.declared.levels.LevelId.{LevelId}
@@ -21,6 +21,7 @@ use Rattle.s3_slots.specs.declared.making.NewFile.{NewFile}
 use Rattle.s3_slots.specs.declared.slot.Slot.{Slot}
 use Rattle.s3_slots.specs.declared.slot.Slot.TheVariants.{Sound}
 use Rattle.s3_slots.specs.declared.slot.Standing.{Standing}
+use Rattle.s3_slots.specs.declared.slot.Standing.TheVariants.{Absent}
 use Rattle.s3_slots.proofs.Ranges.{take_all}
 use Rattle.s3_slots.proofs.Keeping.{extents_inside, extents_there}
 use Rattle.s3_labels.specs.Areas.{Areas, IsReady, region_at, area_of, IsLabelSector, IsRecordOfDirect, IsOfMake, AreFilled}
@@ -147,3 +148,7 @@ planning_end format region masters news old i slots all so =
 pub found_own : (name : Name) (own masters : List Slot) (stands : Standing) → stands ≡ standing name own → file_in stands (standing name masters) ≡ found name own masters
 unfolding found
 found_own name own masters stands h = ap (λ s. file_in s (standing name masters)) h
+
+pub found_behind : (name : Name) (own masters : List Slot) (behind : Standing) → Absent ≡ standing name own → behind ≡ standing name masters → file_in Absent behind ≡ found name own masters
+unfolding found
+found_behind name own masters behind h b = ap₂ file_in h b

@@ -26,6 +26,15 @@ use Rattle.s3_labels.proofs.Mounts.{mounted_itself, tested}
 use Rattle.s3_labels.proofs.Regions.{IsRegion, accepted_regions}
 use Rattle.s3_labels.proofs.Sectors.{part_part, part_length, same_count, same_number, same_within, sector_here, seen_sector, slot_here}
 
+-- ---- headers of the second format
+abbrev second_header : (total : ℕ) (masters level_one level_two : Stretch) (quota_one quota_two : ℕ) → Header
+second_header total masters level_one level_two quota_one quota_two =
+    record { format = Second; total = total; masters = masters; level_one = level_one; level_two = level_two; quota_one = quota_one; quota_two = quota_two }
+
+same_header : (total was : ℕ) (masters masters_was one one_was two two_was : Stretch) (quota_one quota_two : ℕ) → total ≡ was → masters ≡ masters_was → one ≡ one_was → two ≡ two_was → quota_one ≡ 64 → quota_two ≡ 64
+    → second_header total masters one two quota_one quota_two ≡ second_header was masters_was one_was two_was 64 64
+same_header total was masters masters_was one one_was two two_was quota_one quota_two a b c d e f = rw (a, b, c, d, e, f) refl
+
 -- ---- the bytes before the labels
 module _ (old : List ℕ) (long : 256 ≤ length old) (first : format_in (part old 0 256) ≡ Some First) where
   text : take 8 (part (migrated_bytes 0 old) 0 256) ≡ codes "S3PACK02"
@@ -49,7 +58,8 @@ module _ (old : List ℕ) (long : 256 ≤ length old) (first : format_in (part o
   quota_two = ap (λ l. slice_index l 23) (part_migrated old 0 256) ∙ index_migrated 0 23 (part old 0 256) (omega (arith, part_length old 0 256 (omega (arith, long))))
 
   pub header_migrated : header_in Second (part (migrated_bytes 0 old) 0 256) ≡ in_second (header_in First (part old 0 256))
-  header_migrated = rw (number 8 (omega arith) (omega arith), region 10 (omega arith) (omega arith), region 14 (omega arith) (omega arith), region 18 (omega arith) (omega arith), quota_one, quota_two) refl
+  header_migrated =
+      same_header _ _ _ _ _ _ _ _ _ _ (number 8 (omega arith) (omega arith)) (region 10 (omega arith) (omega arith)) (region 14 (omega arith) (omega arith)) (region 18 (omega arith) (omega arith)) quota_one quota_two
 
   pub format_migrated : format_in (part (migrated_bytes 0 old) 0 256) ≡ Some Second
   format_migrated = second_format (part (migrated_bytes 0 old) 0 256) text

@@ -1,9 +1,10 @@
 //! Finds the type of a record by its codes.
 
-ghost use Rattle.std.specs.Prelude.{◌≡◌, ◌-◌, ◌<◌, ◌≤◌, length, drop, slice_index, option_map, IsTrue, IfSome};
+ghost use Rattle.std.specs.Prelude.{ℕ, List, ◌≡◌, ◌-◌, ◌<◌, ◌≤◌, length, drop, slice_index, option_map, None, IsTrue, IfSome};
 ghost use Rattle.std.specs.List.{list_all};
 ghost use Rattle.s3_meaning.specs.Selection as meaning;
 ghost use Rattle.s3_program.specs.Stands.{source_named};
+ghost use Rattle.s3_program.specs.Starts.{types_of_file, type_starts};
 ghost use Rattle.s3_match.specs.Types as spec;
 
 use s3_cards::ebcdic::{AMPERSAND, BLANK, MINUS};
@@ -86,7 +87,8 @@ fn further_codes_hold(bytes: &[u8], line: &InputLine<Reference>) -> Option<bool>
 }
 
 /// Whether the codes of the AND lines from there on hold.
-fn further_hold(inputs: &[InputLine<Reference>], from: usize, bytes: &[u8]) -> bool
+#[inline(never)]
+fn and_lines_hold(inputs: &[InputLine<Reference>], from: usize, bytes: &[u8]) -> bool
     requires { from ≤ length inputs.now }
     ensures { result ≡ spec.further_hold bytes.now (drop from inputs.now) }
 {
@@ -110,6 +112,37 @@ fn first_codes_hold(bytes: &[u8], line: &InputLine<Reference>) -> bool
         InputLine::Or(_, codes) => entries_hold(bytes, codes),
         InputLine::And(_) | InputLine::Field(_) => false,
     }
+}
+
+/// Whether the codes of a type end before the line.
+#[inline(always)]
+fn ends_codes(line: &InputLine<Reference>) -> bool
+    ensures { (bytes : List ℕ) → IsTrue result → spec.further_codes_hold bytes line.now ≡ None }
+{
+    match line {
+        InputLine::And(_) => false,
+        InputLine::Record(..) | InputLine::Or(..) | InputLine::Field(_) => true,
+    }
+}
+
+/// Whether no AND line stands there.
+#[inline(always)]
+fn has_no_further(inputs: &[InputLine<Reference>], place: usize) -> bool
+    ensures { (bytes : List ℕ) → IsTrue result → IsTrue (spec.further_hold bytes (drop place inputs.now)) }
+{
+    if place >= inputs.len() {
+        return true;
+    }
+    ends_codes(&inputs[place])
+}
+
+/// Whether the codes of the AND lines from there on hold; mostly there are none.
+#[inline(always)]
+fn further_hold(inputs: &[InputLine<Reference>], from: usize, bytes: &[u8]) -> bool
+    requires { from ≤ length inputs.now }
+    ensures { result ≡ spec.further_hold bytes.now (drop from inputs.now) }
+{
+    has_no_further(inputs, from) || and_lines_hold(inputs, from, bytes)
 }
 
 /// Whether a type starts there all of whose codes hold.
@@ -137,11 +170,63 @@ fn first_that_holds(
     None
 }
 
+/// Whether none of a line's entries has a code.
+#[inline(always)]
+fn are_blank(entries: &[Option<RecordCode>; 3]) -> bool
+    ensures { (bytes : List ℕ) → IsTrue result → IsTrue (list_all (spec.entry_holds bytes) entries.now) }
+{
+    matches!(entries, [None, None, None])
+}
+
+/// Whether the line is a record line without a code.
+#[inline(always)]
+fn starts_without_codes(line: &InputLine<Reference>) -> bool
+    ensures { (bytes : List ℕ) → IsTrue result → IsTrue (spec.first_codes_hold bytes line.now) }
+{
+    match line {
+        InputLine::Record(_, _, codes) => are_blank(codes),
+        InputLine::And(_) | InputLine::Or(..) | InputLine::Field(_) => false,
+    }
+}
+
+/// Whether a type without codes starts there, so that any record is of it.
+#[inline(always)]
+fn has_no_codes(inputs: &[InputLine<Reference>], place: usize) -> bool
+    ensures { (bytes : List ℕ) → IsTrue result → IsTrue (spec.type_holds bytes (drop place inputs.now)) }
+{
+    if place >= inputs.len() {
+        return false;
+    }
+    starts_without_codes(&inputs[place]) && has_no_further(inputs, place + 1)
+}
+
+/// The first type of a file all of whose codes hold, by a look at the codes of each.
+#[inline(never)]
+fn type_by_codes(program: &Program, file: usize, bytes: &[u8]) -> Option<TypeStart>
+    requires { file < length program.now.files.items }
+    ensures { result ≡ spec.first_that_holds bytes.now program.now.inputs.items (types_of_file (type_starts program.now.files.items program.now.inputs.items) file) }
+{
+    first_that_holds(&program.starts.types[file], &program.inputs, bytes)
+}
+
+/// The first type of a file all of whose codes hold; if the file's first has none, no byte is looked at.
+#[inline(always)]
+fn first_type(program: &Program, file: usize, bytes: &[u8]) -> Option<TypeStart>
+    requires { file < length program.now.files.items }
+    ensures { result ≡ spec.first_that_holds bytes.now program.now.inputs.items (types_of_file (type_starts program.now.files.items program.now.inputs.items) file) }
+{
+    let starts: &[TypeStart] = &program.starts.types[file];
+    if !starts.is_empty() && has_no_codes(&program.inputs, starts[0].place) {
+        return Some(starts[0]);
+    }
+    type_by_codes(program, file, bytes)
+}
+
 /// The first type of a file all of whose codes hold of a record.
 pub fn type_of(program: &Program, file: usize, bytes: &[u8]) -> Option<TypeStart>
     requires { file < length program.now.files.items }
     ensures found { option_map (spec.kind_at program.now) result ≡ meaning.type_of (source_named program.now) (spec.name_of_file program.now file) bytes.now }
     ensures starts { IfSome result (λ start. IsTrue (spec.is_type_start program.now start)) }
 {
-    first_that_holds(&program.starts.types[file], &program.inputs, bytes)
+    first_type(program, file, bytes)
 }

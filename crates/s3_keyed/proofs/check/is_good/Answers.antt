@@ -19,15 +19,15 @@ returns-then-file-eq0-clause-good g c =
     to_good (map entry (range_with_len 0 f.file.count)) keys (checked-good entry keys f.file.count (length_keys (layout_in f) f.file.count bytes) (subst (AreChecked entry keys) (sym c.if-file-eq0.true) (checked-none entry keys)))
 
 pub returns-clause-good : goal.returns-clause-good
-returns-clause-good g c = rw (c.in_ok-sector.ensures.keeps.contents, c.in_ok-records.ensures.keeps.contents) at c.are_good.ensures.good
+returns-clause-good g c = rw (c.in_ok-read-2.ensures.keeps.contents, c.in_ok-read.ensures.keeps.contents) at c.are_good.ensures.good
 
 pub are_good-requires-clause-records : goal.are_good-requires-clause-records
 are_good-requires-clause-records g c =
     let f = c.args.file.now in
-    let both = keeps_trans _ _ _ c.in_ok-records.ensures.keeps c.in_ok-sector.ensures.keeps in
-    c.in_ok-records.ensures.ok ∙ ap (λ l. part (bytes_in f l) (256 * c.in_ok-records.records.place) 256) (sym both.contents)
+    let both = keeps_trans _ _ _ c.in_ok-read.ensures.keeps c.in_ok-read-2.ensures.keeps in
+    c.in_ok-read.ensures.ok ∙ ap (λ l. part (bytes_in f l) (256 * c.read.new.self.place) 256) (sym both.contents)
 
 pub are_good-requires-clause-here : goal.are_good-requires-clause-here
 are_good-requires-clause-here g c =
     let f = c.args.file.now in
-    c.in_ok-sector.ensures.ok ∙ ap (λ l. index_sector f c.in_ok-sector.sector.place (bytes_in f l)) (sym c.in_ok-sector.ensures.keeps.contents)
+    c.in_ok-read-2.ensures.ok ∙ ap (λ l. index_sector f c.read-2.new.self.place (bytes_in f l)) (sym c.in_ok-read-2.ensures.keeps.contents)

@@ -21,7 +21,7 @@ halve-preserved-in-Less g c =
     ∙ ap (λ l. entry_at (layout_in f) (bytes_in f l) i) c.halve.invariant.keeps.contents in
     let said = rw (c.from-key_length.ensures, c.entries_per_sector-per_sector.ensures.result) at c.compare_entry.ensures in
     let less = subst (λ n. n < number_of c.args.key.now.bytes) (ap (λ e. e.key) there) (is_less _ _ c.compare_entry.result said c.in-Less.is) in
-    let ascending = subst (λ l. IsAscending (entry_at (layout_in f) (bytes_in f l)) c.args.entries) (sym c.in_ok-sector.ensures.keeps.contents) c.requires.ascending in
+    let ascending = subst (λ l. IsAscending (entry_at (layout_in f) (bytes_in f l)) c.args.entries) (sym c.in_ok-read.ensures.keeps.contents) c.requires.ascending in
     let next = c.next_of-i.ensures in
     let within = c.halve.invariant.within in
     record {
@@ -41,7 +41,7 @@ returns-in-Equal-clause-found g c =
     let i = c.next_of-i.result in
     let there : entry_in k (part c.go_to.new.self.bytes (i % entries_per_sector k * (k + 4)) (k + 4)) ≡ entry_at (layout_in f) (bytes_in f (g.P.Sectors.state c.args.pool.now).contents) i =
     entry_there (layout_in f) i c.go_to.new.self.place (bytes_in f (g.P.Sectors.state c.halve.pool).contents) c.go_to.new.self.bytes f.short_key c.in_ok-go_to.ensures.place c.in_ok-go_to.ensures.ok
-    ∙ ap (λ l. entry_at (layout_in f) (bytes_in f l) i) (c.halve.invariant.keeps.contents ∙ c.in_ok-sector.ensures.keeps.contents) in
+    ∙ ap (λ l. entry_at (layout_in f) (bytes_in f l) i) (c.halve.invariant.keeps.contents ∙ c.in_ok-read.ensures.keeps.contents) in
     let said = rw (c.from-key_length.ensures, c.entries_per_sector-per_sector.ensures.result) at c.compare_entry.ensures in
     let read = rw (c.from-key_length.ensures, c.entries_per_sector-per_sector.ensures.result) at c.number_in.ensures in
     let next = c.next_of-i.ensures in
@@ -62,7 +62,7 @@ halve-preserved g c =
     ∙ ap (λ l. entry_at (layout_in f) (bytes_in f l) i) c.halve.invariant.keeps.contents in
     let said = rw (c.from-key_length.ensures, c.entries_per_sector-per_sector.ensures.result) at c.compare_entry.ensures in
     let more = subst (λ n. number_of c.args.key.now.bytes < n) (ap (λ e. e.key) there) (is_greater _ _ c.compare_entry.result said c.in-Greater.is) in
-    let ascending = subst (λ l. IsAscending (entry_at (layout_in f) (bytes_in f l)) c.args.entries) (sym c.in_ok-sector.ensures.keeps.contents) c.requires.ascending in
+    let ascending = subst (λ l. IsAscending (entry_at (layout_in f) (bytes_in f l)) c.args.entries) (sym c.in_ok-read.ensures.keeps.contents) c.requires.ascending in
     let next = c.next_of-i.ensures in
     let within = c.halve.invariant.within in
     record {
@@ -83,7 +83,7 @@ halve-init g c =
       order = omega arith;
       below = λ i less. absurd (omega (arith, less));
       above = λ i from less. absurd (omega (arith, from, less));
-      sector = c.in_ok-sector.ensures.ok ∙ ap (λ l. index_sector f c.in_ok-sector.sector.place (bytes_in f l)) (sym c.in_ok-sector.ensures.keeps.contents);
+      sector = c.in_ok-read.ensures.ok ∙ ap (λ l. index_sector f c.read.new.self.place (bytes_in f l)) (sym c.in_ok-read.ensures.keeps.contents);
       keeps = keeps_refl (g.P.Sectors.state c.read.new.pool);
       failures = refl;
     }
@@ -104,7 +104,7 @@ pub returns-clause-found : goal.returns-clause-found
 returns-clause-found g c =
     let f = c.args.file.now in
     let k = number_of c.args.key.now.bytes in
-    subst (λ l. (i : ℕ) → i < c.args.entries → (entry_at (layout_in f) (bytes_in f l) i).key ≢ k) c.in_ok-sector.ensures.keeps.contents
+    subst (λ l. (i : ℕ) → i < c.args.entries → (entry_at (layout_in f) (bytes_in f l) i).key ≢ k) c.in_ok-read.ensures.keeps.contents
     (not_found (entry_at (layout_in f) (bytes_in f (g.P.Sectors.state c.read.new.pool).contents)) c.args.entries c.halve.low c.halve.high k c.halve-test.false c.halve.invariant.below c.halve.invariant.above)
 
 pub next_of-i-requires-clause-some : goal.next_of-i-requires-clause-some

@@ -1,6 +1,6 @@
 use Rattle.std.proofs.Common.{◌≡◌, drop}
 use Rattle.s3_match.specs.Types.{further_hold}
-use Rattle.s3_match.proofs.types.further_hold.Given as goal
+use Rattle.s3_match.proofs.types.and_lines_hold.Given as goal
 
 abbrev pub invariant-loop-place : goal.invariant-loop-place
 invariant-loop-place l = further_hold l.bytes (drop l.from l.inputs) ≡ further_hold l.bytes (drop l.place l.inputs)
