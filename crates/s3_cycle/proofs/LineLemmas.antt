@@ -30,12 +30,11 @@ use Rattle.s3_program.specs.Tables.{name_in}
 use Rattle.s3_program.specs.Valid.{file_entry}
 use Rattle.s3_operations.specs.Fits.{tables}
 use Rattle.s3_operations.specs.Held.{held}
-use Rattle.s3_prepared.specs.declared.guard.Guard.{Guard}
-use Rattle.s3_prepared.specs.Guards.{guard_holds}
+use Rattle.s3_operations.specs.declared.indicators.Indicators.{Indicators}
 use Rattle.s3_output.specs.declared.guards.LineGuard.{LineGuard}
-use Rattle.s3_output.specs.declared.guards.LineGuard.TheVariants.{Group}
+use Rattle.s3_output.specs.declared.guards.LineGuard.TheVariants.{Group, Either, OneOf, Cards}
 use Rattle.s3_output.specs.declared.guards.LineGuards.{LineGuards}
-use Rattle.s3_output.specs.Guards.{AreGuarded, IsGroup, guards_of, is_always_used}
+use Rattle.s3_output.specs.Guards.{AreGuarded, IsGuardedLine, IsLineGuard, guards_of, is_always_used, line_guard_holds}
 use Rattle.s3_output.specs.Lines.{IsLineAt, IsStart}
 use Rattle.s3_output.proofs.ComposeLemmas.{StartsAt, starts_at}
 use Rattle.s3_output.proofs.LawLemmas.{line_starts, file_there, walked_start}
@@ -265,28 +264,46 @@ always_used e (Some file) always = by file.condition refl always
     by (Some indicator) is h = absurd (true≢false (sym h))
 
 -- lines that have guards aren't put out for the overflow indicator
-pub record IsGuardedBy (p : Program) (w : Walk) (start : OutputStart) (guard : Guard) : Type 0 where
-  pub group : IsGroup p start guard
+pub record IsGuardedBy (p : Program) (w : Walk) (start : OutputStart) (guard : LineGuard) : Type 0 where
+  pub line : IsLineGuard p start guard
   pub elsewhere : is_at_overflow w ≡ false
 
-guarded_by : (p : Program) (guards : LineGuards) (w : Walk) (place : ℕ) (start : OutputStart) (guard : Guard) → AreGuarded p guards → slice_get (starts_of p.starts w) place ≡ Some start
-    → slice_get (guards_of guards w) place ≡ Some (Group guard) → IsGuardedBy p w start guard
-guarded_by p guards walk.Beginning place start guard are there at = record { group = are.beginning place start (Group guard) there at; elsewhere = refl }
-guarded_by p guards walk.Totals place start guard are there at = record { group = are.totals place start (Group guard) there at; elsewhere = refl }
-guarded_by p guards walk.Exceptions place start guard are there at = record { group = are.exceptions place start (Group guard) there at; elsewhere = refl }
+guarded_by : (p : Program) (guards : LineGuards) (w : Walk) (place : ℕ) (start : OutputStart) (guard : LineGuard) → AreGuarded p guards → slice_get (starts_of p.starts w) place ≡ Some start
+    → slice_get (guards_of guards w) place ≡ Some guard → IsGuardedBy p w start guard
+guarded_by p guards walk.Beginning place start guard are there at = record { line = are.beginning place start guard there at; elsewhere = refl }
+guarded_by p guards walk.Totals place start guard are there at = record { line = are.totals place start guard there at; elsewhere = refl }
+guarded_by p guards walk.Exceptions place start guard are there at = record { line = are.exceptions place start guard there at; elsewhere = refl }
 guarded_by p guards walk.Overflow place start guard are there at = cc
 
+-- the guard of a line that has one
+guarded_line : (p : Program) (start : OutputStart) (guard : LineGuard) (indicators : Indicators) (holds : Bool) → IsLineGuard p start guard → line_guard_holds indicators guard ≡ Some holds → IsGuardedLine p start guard
+guarded_line p start (Group one) indicators holds line is = line
+guarded_line p start (Either one two) indicators holds line is = line
+guarded_line p start (OneOf one two three) indicators holds line is = line
+guarded_line p start Cards indicators holds line is = cc
+
+guard_read : (guards : List LineGuard) (place : ℕ) (indicators : Indicators) (holds : Bool) → option_map (line_guard_holds indicators) (slice_get guards place) ≡ Some (Some holds)
+    → (guard : LineGuard) × ((slice_get guards place ≡ Some guard) × (line_guard_holds indicators guard ≡ Some holds))
+guard_read guards place indicators holds is = by (slice_get guards place) refl is
+  where
+    by : (o : Option LineGuard) → slice_get guards place ≡ o → option_map (line_guard_holds indicators) o ≡ Some (Some holds)
+        → (guard : LineGuard) × ((slice_get guards place ≡ Some guard) × (line_guard_holds indicators guard ≡ Some holds))
+    by None at is = cc
+    by (Some guard) at is = (guard, (at, ap (λ o. unwrap_or o None) is))
+
 -- a line that has one holds where it does
-pub due_guarded : (c : Stepper) (w : Walk) (place : ℕ) (guards : List LineGuard) (guard : Guard) (holds : Bool) → AreGuarded c.program c.guards → guards ≡ guards_of c.guards w
-    → slice_get guards place ≡ Some (Group guard) → holds ≡ guard_holds c.state.values.indicators guard
+pub due_guarded : (c : Stepper) (w : Walk) (place : ℕ) (guards : List LineGuard) (holds : Bool) → AreGuarded c.program c.guards → guards ≡ guards_of c.guards w
+    → option_map (line_guard_holds c.state.values.indicators) (slice_get guards place) ≡ Some (Some holds)
     → (start : OutputStart) → slice_get (starts_of c.program.starts w) place ≡ Some start → holds ≡ is_due c w start
 unfolding environment
-due_guarded c w place guards guard holds are same at is start there =
+due_guarded c w place guards holds are same is start there =
     let line = line_of c.program w place start there in
-    let by : IsGuardedBy c.program w start guard = guarded_by c.program c.guards w place start guard are there (ap (λ list. slice_get list place) (sym same) ∙ at) in
-    is ∙ by.group.holds c.state.values line.0 (others c.program c.state) line.1.there
+    let read = guard_read guards place c.state.values.indicators holds is in
+    let by : IsGuardedBy c.program w start read.0 = guarded_by c.program c.guards w place start read.0 are there (ap (λ list. slice_get list place) (sym same) ∙ read.1.0) in
+    let group : IsGuardedLine c.program start read.0 = guarded_line c.program start read.0 c.state.values.indicators holds by.line read.1.1 in
+    ap (λ o. unwrap_or o false) (sym read.1.1) ∙ group.holds c.state.values line.0 (others c.program c.state) line.1.there
     ∙ ap (λ b. line_holds (own c) b (held_by c) line.0) (sym by.elsewhere)
-    ∙ ap (λ b. b && line_holds (own c) (is_at_overflow w) (held_by c) line.0) (sym (always_used (held_by c) (slice_get c.program.files.items start.file) by.group.used))
+    ∙ ap (λ b. b && line_holds (own c) (is_at_overflow w) (held_by c) line.0) (sym (always_used (held_by c) (slice_get c.program.files.items start.file) group.used))
     ∙ sym (due_by c w start line.0 line.1.there)
 
 -- ---- the next one that is due

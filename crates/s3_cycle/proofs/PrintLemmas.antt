@@ -17,6 +17,9 @@ use Rattle.s3_lines.specs.declared.sheet.Spacing.{Spacing}
 use Rattle.s3_meaning.specs.Source.{Source, overflow_of, is_printer, is_updated}
 use Rattle.s3_meaning.specs.Environment.{Environment}
 use Rattle.s3_meaning.specs.OutputLines.{Output}
+use Rattle.s3_lines.specs.declared.sheet.OutputField.{OutputField}
+use Rattle.s3_output.specs.Compositions.{first_position}
+use Rattle.s3_output.proofs.FilledLemmas.{Alike, begins_alike, composed_alike}
 use Rattle.s3_meaning.specs.Carriage.{Carriage as Place, to_print, after_print}
 use Rattle.s3_meaning.specs.Requests as Meant
 use Rattle.s3_meaning.specs.Output.{Composed, composed, carriage, filled, put_carriage, printed, disk_request, stored_or_halted, file_line_put}
@@ -312,12 +315,12 @@ stores old new line k request w next running walk is asks fits same =
 
 -- ---- a line is put out
 -- it is composed
-pub composes_line : (old : Stepper) (start : OutputStart) (size : ℕ) (values : Values) (positions : List (Option ℕ)) (new : Stepper) (file : FileLine) → AreSound old.program old.state
-    → start.file < length old.program.files.items → file ≡ get_or old.program.files.items start.file file → size ≡ file.record_length
+pub composes_line : (old : Stepper) (start : OutputStart) (size : ℕ) (told : Bool) (values : Values) (positions : List (Option ℕ)) (new : Stepper) (file : FileLine) → AreSound old.program old.state
+    → start.file < length old.program.files.items → file ≡ get_or old.program.files.items start.file file → size ≡ file.record_length → told ≡ not (is_printer file.device)
     → new ≡ record old { state = record old.state { values = values }; composition = new.composition } → new.composition ≡ positions
-    → Composes old.program start size old.state.values values positions → ComposesLine old new start
+    → Composes old.program start size told old.state.values values positions → ComposesLine old new start
 unfolding environment
-composes_line old start size values positions new file sound within read is_size same is_put composes =
+composes_line old start size told values positions new file sound within read is_size is_told same is_put composes =
     let at : file ≡ file_at old.program start.file = file_read old.program start.file file within read in
     let is_state : new.state ≡ record old.state { values = values } = ap (λ (k : Stepper). k.state) same in
     let as_long : size ≡ (file_at old.program start.file).record_length = is_size ∙ ap (λ (f : FileLine). f.record_length) at in
@@ -326,7 +329,7 @@ composes_line old start size values positions new file sound within read is_size
       sound = let P : State → Type 0 = λ s. AreSound old.program s in subst P (sym is_state) (record { values = composes.sound; current = sound.current });
       sized = ap (λ (ps : List (Option ℕ)). length ps) is_put ∙ composes.sized ∙ as_long;
       composes = λ line line_is.
-          ap (λ n. composed (own old) line.fields (record { positions = replicate n None; after = held_by old })) (sym as_long)
+          (λ i. composed (own old) line.fields (record { positions = replicate (sym as_long i) (first_position (sym (is_told ∙ ap (λ (f : FileLine). not (is_printer f.device)) at) i)); after = held_by old }))
           ∙ (sym (composes.composed line (others old.program old.state) line_is)
           ∙ (ap (λ ps. let c : Composed = record { positions = ps; after = held old.program values (others old.program old.state) } in c) (sym is_put)
           ∙ ap (λ (s : State). let c : Composed = record { positions = new.composition; after = environment old.program s } in c) (sym is_state)));
@@ -391,6 +394,15 @@ pub not_printer : (d : Device) → (d ≡ CardReader) ⊎ (d ≡ Disk) → is_pr
 not_printer d (inl card) = ap is_printer card
 not_printer d (inr disk_file) = ap is_printer disk_file
 
+-- what is printed is the same where the record is blank at first
+begun_alike : (printed_so : Bool) (print : List ℕ → Rest) (store : List (Option ℕ) → Rest) (source : Source) (fields : List (OutputField Name)) (n : ℕ) (e : Environment)
+    → (let c : Composed = composed source fields (record { positions = replicate n None; after = e }) in (if printed_so then print (filled c.positions) else store c.positions) c.after)
+    ≡ (let c : Composed = composed source fields (record { positions = replicate n (first_position (not printed_so)); after = e }) in (if printed_so then print (filled c.positions) else store c.positions) c.after)
+begun_alike false print store source fields n e = refl
+begun_alike true print store source fields n e =
+    let alike : Alike _ _ = composed_alike source fields (record { positions = replicate n None; after = e }) (record { positions = replicate n (first_position false); after = e }) (begins_alike n e) in
+    λ i. print (alike.filled i) (alike.after i)
+
 -- it is composed, and then printed or stored
 composed_runs : (old mid : Stepper) (w : Walk) (place : ℕ) (start : OutputStart) (line : Output) → IsPut old w place start line → ComposesLine old mid start
     → here old (λ source program progress. lines_from source program progress w place)
@@ -401,7 +413,9 @@ composed_runs old mid w place start line put composes =
     let go : Rest = lines_from (own old) old.program old.progress w (place + 1) in
     let file : FileLine = file_at old.program start.file in
     put.runs
-    ∙ (ap (λ (c : Composed). (if is_printer file.device then printed (own old) line (filled c.positions) go else (λ e. ask (disk_request file line c.positions e) (λ answer. stored_or_halted (again (own old)) go answer e))) c.after)
+    ∙ (begun_alike (is_printer file.device) (λ text. printed (own old) line text go) (λ positions e. ask (disk_request file line positions e) (λ answer. stored_or_halted (again (own old)) go answer e))
+    (own old) line.fields file.record_length (held_by old)
+    ∙ ap (λ (c : Composed). (if is_printer file.device then printed (own old) line (filled c.positions) go else (λ e. ask (disk_request file line c.positions e) (λ answer. stored_or_halted (again (own old)) go answer e))) c.after)
     (composes.composes line put.is_line.there)
     ∙ sym (ap (λ (k : Stepper). here k (λ source program progress. (if is_printer (file_at program start.file).device then printed source line (filled mid.composition) (lines_from source program progress w (place + 1))
     else (λ e. ask (disk_request (file_at program start.file) line mid.composition e) (λ answer. stored_or_halted (again source) (lines_from source program progress w (place + 1)) answer e))))) composes.same))

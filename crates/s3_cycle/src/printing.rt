@@ -1,5 +1,6 @@
 //! The request that an output line makes.
-ghost use Rattle.std.specs.Prelude.{◌≡◌, ◌<◌, ◌≤◌, true, length};
+ghost use Rattle.std.specs.Prelude.{◌≡◌, ◌<◌, ◌≤◌, not, true, length};
+ghost use Rattle.s3_meaning.specs.Source.{is_printer};
 ghost use Rattle.s3_meaning.specs.OutputLines.{Output};
 ghost use Rattle.s3_meaning.specs.Cycle.{again};
 ghost use Rattle.s3_meaning.specs.Runs.{ask};
@@ -15,10 +16,21 @@ ghost use Rattle.s3_cycle.specs.Inner.Printing.{CanStore, ComposesLine};
 use crate::progress::Point;
 use crate::request::Request;
 use crate::stepper::Stepper;
+use s3_lines::sheet::Device;
 use s3_output::carriage::{Carriage, Moved};
 use s3_output::compose;
 use s3_output::requests::{DiskRequest, disk_request, is_addition, spacing};
 use s3_program::starts::{OutputStart, Walk};
+
+/// Of a record that isn't printed it is told what is put in it.
+fn is_told(device: Device) -> bool
+    ensures { result ≡ not (is_printer device) }
+{
+    match device {
+        Device::Printer => false,
+        Device::CardReader | Device::Disk => true,
+    }
+}
 
 impl Stepper {
     /// Composes the line that starts there.
@@ -28,13 +40,16 @@ impl Stepper {
         requires file { start.now.file < length self.old.program.files.items }
         ensures { ComposesLine self.old self.new start.now }
     {
-        let length = self.program.files[start.file].record_length;
+        let file = &self.program.files[start.file];
+        let length = usize::from(file.record_length);
+        let is_told = is_told(file.device);
         compose(
             &self.program,
             &self.guards.cards,
             &mut self.state.values,
             start,
-            usize::from(length),
+            length,
+            is_told,
             &mut self.composition,
         );
     }

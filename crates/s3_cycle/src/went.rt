@@ -19,3 +19,14 @@ pub enum Calculated {
     /// There was none: all sections that were open have ended.
     Over,
 }
+
+/// What is left where the next line isn't done as it is prepared.
+#[derive(Clone, Copy)]
+pub enum Left {
+    /// A calculation whose conditions hold.
+    Undone,
+    /// The section: it has ended above the line.
+    Ended,
+    /// All: the cards tell what comes next.
+    Untold,
+}

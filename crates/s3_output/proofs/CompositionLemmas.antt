@@ -1,10 +1,10 @@
 -- The positions of a record, where a content is laid over it.
-use Rattle.std.proofs.Common.{◌≡◌, ℕ, ◌+◌, ◌-◌, ◌<◌, ◌≤◌, get_or, List, [], ◌∷◌, ◌++◌, Bool, true, false, zero, suc, length, take, drop, map, refl, sym, ◌∙◌, ap, subst, arith}
+use Rattle.std.proofs.Common.{◌≡◌, ℕ, ◌+◌, ◌-◌, ◌<◌, ◌≤◌, get_or, List, [], ◌∷◌, ◌++◌, Bool, true, false, not, ◌||◌, zero, suc, length, take, drop, map, refl, sym, ◌∙◌, ap, subst, arith}
 use Rattle.std.specs.Prelude.{Option, Some, None, unwrap_or, replicate, slice_get}
 use Rattle.std.proofs.lemmas.List.{map-append, length-map, length-append, length-drop, length-take-le, take-take, take-map, drop-map, drop-take, length-replicate}
 use Rattle.s3_cards.specs.declared.ebcdic.TheConstants.{BLANK}
 use Rattle.s3_meaning.specs.Output.{filled, laid}
-use Rattle.s3_output.specs.Compositions.{position, positions_on}
+use Rattle.s3_output.specs.Compositions.{first_position, position, positions_in, positions_on}
 
 none_on : (puts : List Bool) → positions_on puts [] ≡ []
 none_on [] = refl
@@ -119,9 +119,6 @@ filled_laid end content codes positions are =
     ∙ (λ i. (filled_split (take left positions) B ∙ (λ j. (sym (take-map or_blank left positions) ∙ ap (take left) are) j ++ filled_some content j)) i
     ++ (sym (drop-map or_blank end positions) ∙ ap (drop end) are) i)
 
-pub filled_take : (n : ℕ) (codes : List ℕ) (positions : List (Option ℕ)) → filled positions ≡ codes → take n codes ≡ filled (take n positions)
-filled_take n codes positions are = ap (take n) (sym are) ∙ take-map or_blank n positions
-
 -- ---- a record begins
 pub cleared_on : (n : ℕ) (puts puts' : List Bool) (codes codes' : List ℕ) → codes' ≡ replicate n BLANK ++ drop n codes → puts' ≡ replicate n false ++ drop n puts
     → positions_on puts' codes' ≡ replicate n None ++ drop n (positions_on puts codes)
@@ -130,48 +127,87 @@ cleared_on n puts puts' codes codes' codes_are puts_are =
     ∙ split_on (replicate n false) (drop n puts) (replicate n BLANK) (drop n codes) (length-replicate n false ∙ sym (length-replicate n BLANK))
     ∙ (λ i. blank_on n i ++ drop_on n puts codes i)
 
-filled_none : (n : ℕ) → filled (replicate n None) ≡ replicate n BLANK
-filled_none zero = refl
-filled_none (suc n) = ap (λ ds. BLANK ∷ ds) (filled_none n)
-
-pub cleared_filled : (n : ℕ) (codes : List ℕ) (positions : List (Option ℕ)) → filled positions ≡ codes → filled (replicate n None ++ drop n positions) ≡ replicate n BLANK ++ drop n codes
-cleared_filled n codes positions are =
-    filled_split (replicate n None) (drop n positions) ∙ (λ i. filled_none n i ++ (sym (drop-map or_blank n positions) ∙ ap (drop n) are) i)
-
 pub cleared_take : (n : ℕ) (positions : List (Option ℕ)) → take n (replicate n None ++ positions) ≡ replicate n None
 cleared_take zero positions = refl
 cleared_take (suc n) positions = ap (λ ds. None ∷ ds) (cleared_take n positions)
 
-pub all_blank : (n : ℕ) → filled (positions_on (replicate n false) (replicate n BLANK)) ≡ replicate n BLANK
-all_blank n = ap filled (blank_on n) ∙ filled_none n
+-- ---- codes that are told of no positions
+some_take : (n : ℕ) (codes : List ℕ) → take n (map (λ code. Some code) codes) ≡ map (λ code. Some code) (take n codes)
+some_take n codes = take-map (λ code. Some code) n codes
+
+some_laid : (end : ℕ) (content codes codes' : List ℕ) → codes' ≡ take (end - length content) codes ++ content ++ drop end codes
+    → map (λ code. Some code) codes' ≡ laid end content (map (λ code. Some code) codes)
+some_laid end content codes codes' codes_are =
+    let left : ℕ = end - length content in
+    ap (map (λ code. Some code)) codes_are
+    ∙ (map-append (λ code. Some code) (take left codes ++ content) (drop end codes)
+    ∙ (λ i. (map-append (λ code. Some code) (take left codes) content ∙ (λ j. sym (take-map (λ code. Some code) left codes) j ++ map (λ code. Some code) content)) i ++ sym (drop-map (λ code. Some code) end codes) i))
+
+some_blank : (n : ℕ) → map (λ code. Some code) (replicate n BLANK) ≡ replicate n (Some BLANK)
+some_blank zero = refl
+some_blank (suc n) = ap (λ ds. Some BLANK ∷ ds) (some_blank n)
 
 -- ---- all steps of a record
-pub lay_filled : (puts puts' : List Bool) (codes codes' content : List ℕ) (end count : ℕ) → count ≡ length content → length puts ≡ length codes → count ≤ end → end ≤ length codes
-    → codes' ≡ take (end - length content) codes ++ content ++ drop end codes → puts' ≡ take (end - count) puts ++ replicate count true ++ drop end puts
-    → filled (positions_on puts codes) ≡ codes → filled (positions_on puts' codes') ≡ codes'
-lay_filled puts puts' codes codes' content end count counts same begins ends codes_are puts_are are =
-    ap filled (laid_on puts puts' codes codes' content end count counts same begins ends codes_are puts_are)
-    ∙ filled_laid end content codes (positions_on puts codes) are ∙ sym codes_are
+length_in : (told : Bool) (puts : List Bool) (codes : List ℕ) → length puts ≡ length codes → length (positions_in told puts codes) ≡ length codes
+length_in true puts codes same = length_on puts codes same
+length_in false puts codes same = length-map codes (λ code. Some code)
 
-pub lay_view : (n : ℕ) (puts puts' : List Bool) (codes codes' content : List ℕ) (end count : ℕ) → count ≡ length content → length puts ≡ length codes → count ≤ end → end ≤ n → n ≤ length codes
-    → codes' ≡ take (end - length content) codes ++ content ++ drop end codes → puts' ≡ take (end - count) puts ++ replicate count true ++ drop end puts
-    → take n (positions_on puts' codes') ≡ laid end content (take n (positions_on puts codes))
-lay_view n puts puts' codes codes' content end count counts same begins ends within codes_are puts_are =
-    ap (take n) (laid_on puts puts' codes codes' content end count counts same begins (omega (arith, ends, within)) codes_are puts_are)
-    ∙ take_laid n end content (positions_on puts codes) (subst (λ k. k ≤ end) counts begins) ends (subst (λ k. n ≤ k) (sym (length_on puts codes same)) within)
+laid_in : (told : Bool) (puts puts' : List Bool) (codes codes' content : List ℕ) (end count : ℕ) → count ≡ length content → length puts ≡ length codes → count ≤ end → end ≤ length codes
+    → codes' ≡ take (end - length content) codes ++ content ++ drop end codes → (told ≡ true → puts' ≡ take (end - count) puts ++ replicate count true ++ drop end puts)
+    → positions_in told puts' codes' ≡ laid end content (positions_in told puts codes)
+laid_in true puts puts' codes codes' content end count counts same begins ends codes_are puts_are = laid_on puts puts' codes codes' content end count counts same begins ends codes_are (puts_are refl)
+laid_in false puts puts' codes codes' content end count counts same begins ends codes_are puts_are = some_laid end content codes codes' codes_are
 
-pub view_length : (n : ℕ) (puts : List Bool) (codes : List ℕ) → length puts ≡ length codes → n ≤ length codes → length (take n (positions_on puts codes)) ≡ n
-view_length n puts codes same within = length-take-le n (positions_on puts codes) (subst (λ k. n ≤ k) (sym (length_on puts codes same)) within)
+pub lay_view : (n : ℕ) (told : Bool) (puts puts' : List Bool) (codes codes' content : List ℕ) (end count : ℕ) → count ≡ length content → length puts ≡ length codes → count ≤ end → end ≤ n → n ≤ length codes
+    → codes' ≡ take (end - length content) codes ++ content ++ drop end codes → (told ≡ true → puts' ≡ take (end - count) puts ++ replicate count true ++ drop end puts)
+    → take n (positions_in told puts' codes') ≡ laid end content (take n (positions_in told puts codes))
+lay_view n told puts puts' codes codes' content end count counts same begins ends within codes_are puts_are =
+    ap (take n) (laid_in told puts puts' codes codes' content end count counts same begins (omega (arith, ends, within)) codes_are puts_are)
+    ∙ take_laid n end content (positions_in told puts codes) (subst (λ k. k ≤ end) counts begins) ends (subst (λ k. n ≤ k) (sym (length_in told puts codes same)) within)
 
-pub clear_filled : (n : ℕ) (puts puts' : List Bool) (codes codes' : List ℕ) → codes' ≡ replicate n BLANK ++ drop n codes → puts' ≡ replicate n false ++ drop n puts
-    → filled (positions_on puts codes) ≡ codes → filled (positions_on puts' codes') ≡ codes'
-clear_filled n puts puts' codes codes' codes_are puts_are are =
-    ap filled (cleared_on n puts puts' codes codes' codes_are puts_are) ∙ cleared_filled n codes (positions_on puts codes) are ∙ sym codes_are
+-- the codes of a content that is laid over them
+laid_take : (n end : ℕ) (content codes : List ℕ) → length content ≤ end → end ≤ n → n ≤ length codes
+    → take n (take (end - length content) codes ++ content ++ drop end codes) ≡ take (end - length content) (take n codes) ++ content ++ drop end (take n codes)
+laid_take n end content codes begins ends within =
+    let laid_codes : List ℕ = take (end - length content) codes ++ content ++ drop end codes in
+    let somes : List (Option ℕ) = map (λ code. Some code) codes in
+    sym (filled_some (take n laid_codes))
+    ∙ (ap filled (sym (some_take n laid_codes) ∙ ap (take n) (some_laid end content codes laid_codes refl)
+    ∙ take_laid n end content somes begins ends (subst (λ k. n ≤ k) (sym (length-map codes (λ code. Some code))) within))
+    ∙ filled_laid end content (take n codes) (take n somes) (ap filled (some_take n codes) ∙ filled_some (take n codes)))
 
-pub clear_view : (n : ℕ) (puts puts' : List Bool) (codes codes' : List ℕ) → codes' ≡ replicate n BLANK ++ drop n codes → puts' ≡ replicate n false ++ drop n puts
-    → take n (positions_on puts' codes') ≡ replicate n None
-clear_view n puts puts' codes codes' codes_are puts_are =
-    ap (take n) (cleared_on n puts puts' codes codes' codes_are puts_are) ∙ cleared_take n (drop n (positions_on puts codes))
+pub lay_filled : (n : ℕ) (told : Bool) (puts puts' : List Bool) (codes codes' content : List ℕ) (end count : ℕ) → count ≡ length content → length puts ≡ length codes → count ≤ end → end ≤ n → n ≤ length codes
+    → codes' ≡ take (end - length content) codes ++ content ++ drop end codes → (told ≡ true → puts' ≡ take (end - count) puts ++ replicate count true ++ drop end puts)
+    → filled (take n (positions_in told puts codes)) ≡ take n codes → filled (take n (positions_in told puts' codes')) ≡ take n codes'
+lay_filled n told puts puts' codes codes' content end count counts same begins ends within codes_are puts_are are =
+    ap filled (lay_view n told puts puts' codes codes' content end count counts same begins ends within codes_are puts_are)
+    ∙ (filled_laid end content (take n codes) (take n (positions_in told puts codes)) are
+    ∙ (sym (laid_take n end content codes (subst (λ k. k ≤ end) counts begins) ends within) ∙ ap (take n) (sym codes_are)))
+
+pub view_length : (n : ℕ) (told : Bool) (puts : List Bool) (codes : List ℕ) → length puts ≡ length codes → n ≤ length codes → length (take n (positions_in told puts codes)) ≡ n
+view_length n told puts codes same within = length-take-le n (positions_in told puts codes) (subst (λ k. n ≤ k) (sym (length_in told puts codes same)) within)
+
+-- ---- a record begins
+taken_first : {X : Type 0} (n : ℕ) (x : X) (xs : List X) → take n (replicate n x ++ xs) ≡ replicate n x
+taken_first zero x xs = refl
+taken_first (suc n) x xs = ap (λ ds. x ∷ ds) (taken_first n x xs)
+
+pub clear_view : (n : ℕ) (told : Bool) (puts puts' : List Bool) (codes codes' : List ℕ) → codes' ≡ replicate n BLANK ++ drop n codes → (told ≡ true → puts' ≡ replicate n false ++ drop n puts)
+    → take n (positions_in told puts' codes') ≡ replicate n (first_position told)
+clear_view n true puts puts' codes codes' codes_are puts_are =
+    ap (take n) (cleared_on n puts puts' codes codes' codes_are (puts_are refl)) ∙ cleared_take n (drop n (positions_on puts codes))
+clear_view n false puts puts' codes codes' codes_are puts_are =
+    some_take n codes' ∙ (ap (map (λ code. Some code)) (ap (take n) codes_are ∙ taken_first n BLANK (drop n codes)) ∙ some_blank n)
+
+pub filled_first : (n : ℕ) (told : Bool) → filled (replicate n (first_position told)) ≡ replicate n BLANK
+filled_first zero told = refl
+filled_first (suc n) true = ap (λ ds. BLANK ∷ ds) (filled_first n true)
+filled_first (suc n) false = ap (λ ds. BLANK ∷ ds) (filled_first n false)
+
+pub clear_filled : (n : ℕ) (told : Bool) (puts puts' : List Bool) (codes codes' : List ℕ) → codes' ≡ replicate n BLANK ++ drop n codes → (told ≡ true → puts' ≡ replicate n false ++ drop n puts)
+    → filled (take n (positions_in told puts' codes')) ≡ take n codes'
+clear_filled n told puts puts' codes codes' codes_are puts_are =
+    ap filled (clear_view n told puts puts' codes codes' codes_are puts_are) ∙ (filled_first n told ∙ sym (ap (take n) codes_are ∙ taken_first n BLANK (drop n codes)))
 
 -- an end position within a record of the array
 pub record EndsWithin (n end : ℕ) (puts : List Bool) (codes : List ℕ) : Type 0 where
@@ -180,12 +216,12 @@ pub record EndsWithin (n end : ℕ) (puts : List Bool) (codes : List ℕ) : Type
   pub whole : n ≤ length codes
   pub inside : end ≤ length codes
 
-pub ends_within : (n end : ℕ) (puts : List Bool) (codes : List ℕ) (now : List (Option ℕ)) → length codes ≡ 1024 → length puts ≡ 1024 → n ≤ 1024
-    → take n (positions_on puts codes) ≡ now → end ≤ length now → EndsWithin n end puts codes
-ends_within n end puts codes now code_size put_size few view ends =
+pub ends_within : (n end : ℕ) (told : Bool) (puts : List Bool) (codes : List ℕ) (now : List (Option ℕ)) → length codes ≡ 1024 → length puts ≡ 1024 → n ≤ 1024
+    → take n (positions_in told puts codes) ≡ now → end ≤ length now → EndsWithin n end puts codes
+ends_within n end told puts codes now code_size put_size few view ends =
     let same : length puts ≡ length codes = put_size ∙ sym code_size in
     let whole : n ≤ length codes = subst (λ k. n ≤ k) (sym code_size) few in
-    let inside : end ≤ n = subst (λ k. end ≤ k) (ap length (sym view) ∙ view_length n puts codes same whole) ends in
+    let inside : end ≤ n = subst (λ k. end ≤ k) (ap length (sym view) ∙ view_length n told puts codes same whole) ends in
     record { same = same; within = inside; whole = whole; inside = omega (arith, inside, whole) }
 
 -- ---- one position
@@ -201,13 +237,23 @@ position_on (put ∷ puts) [] k same within = absurd (omega (arith, within))
 position_on (put ∷ puts) (code ∷ codes) zero same within = refl
 position_on (put ∷ puts) (code ∷ codes) (suc k) same within = position_on puts codes k (omega (arith, same)) (omega (arith, within))
 
-pub position_at : (n k : ℕ) (puts : List Bool) (codes : List ℕ) (now : List (Option ℕ)) (put : Bool) → length codes ≡ 1024 → length puts ≡ 1024 → n ≤ 1024 → take n (positions_on puts codes) ≡ now
-    → k < length now → get_or puts k false ≡ put → slice_get now k ≡ Some (position put (get_or codes k 0))
-position_at n k puts codes now put code_size put_size few view within is =
+position_in : (told : Bool) (puts : List Bool) (codes : List ℕ) (k : ℕ) → length puts ≡ length codes → k < length codes
+    → slice_get (positions_in told puts codes) k ≡ Some (position (not told || get_or puts k false) (get_or codes k 0))
+position_in true puts codes k same within = position_on puts codes k same within
+position_in false puts codes k same within = some_at codes k within
+  where
+    some_at : (codes : List ℕ) (k : ℕ) → k < length codes → slice_get (map (λ code. Some code) codes) k ≡ Some (Some (get_or codes k 0))
+    some_at [] k within = absurd (omega (arith, within))
+    some_at (code ∷ codes) zero within = refl
+    some_at (code ∷ codes) (suc k) within = some_at codes k (omega (arith, within))
+
+pub position_at : (n k : ℕ) (told : Bool) (puts : List Bool) (codes : List ℕ) (now : List (Option ℕ)) (put : Bool) → length codes ≡ 1024 → length puts ≡ 1024 → n ≤ 1024 → take n (positions_in told puts codes) ≡ now
+    → k < length now → (not told || get_or puts k false) ≡ put → slice_get now k ≡ Some (position put (get_or codes k 0))
+position_at n k told puts codes now put code_size put_size few view within is =
     let same : length puts ≡ length codes = put_size ∙ sym code_size in
     let whole : n ≤ length codes = subst (λ j. n ≤ j) (sym code_size) few in
-    let inside : k < length (take n (positions_on puts codes)) = subst (λ ds. k < length ds) (sym view) within in
-    let below : k < n = subst (λ j. k < j) (view_length n puts codes same whole) inside in
+    let inside : k < length (take n (positions_in told puts codes)) = subst (λ ds. k < length ds) (sym view) within in
+    let below : k < n = subst (λ j. k < j) (view_length n told puts codes same whole) inside in
     ap (λ ds. slice_get ds k) (sym view)
-    ∙ (taken_at (positions_on puts codes) n k inside
-    ∙ (position_on puts codes k same (omega (arith, below, whole)) ∙ ap (λ b. Some (position b (get_or codes k 0))) is))
+    ∙ (taken_at (positions_in told puts codes) n k inside
+    ∙ (position_in told puts codes k same (omega (arith, below, whole)) ∙ ap (λ b. Some (position b (get_or codes k 0))) is))

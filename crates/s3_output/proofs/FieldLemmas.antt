@@ -1,12 +1,15 @@
 -- What a field is put out as, and what becomes of it.
-use Rattle.std.proofs.Common.{◌≡◌, ℕ, ◌<◌, ◌≤◌, ◌==◌, List, Bool, true, false, not, ◌&&◌, length, get_or, refl, sym, ◌∙◌, ap, subst, arith}
-use Rattle.std.specs.Prelude.{ℤ, pos, ◌+ℤ◌, unsigned_abs, Option, Some, None, slice_get, nat_le, replicate, if◌then◌else◌}
+use Rattle.std.proofs.Common.{◌≡◌, ℕ, zero, suc, ◌+◌, ◌/◌, ◌<◌, ◌≤◌, ◌==◌, List, Bool, true, false, not, ◌&&◌, length, take, get_or, refl, sym, ◌∙◌, ap, subst, arith}
+use Rattle.std.specs.Prelude.{ℤ, pos, ◌+ℤ◌, unsigned_abs, Option, Some, None, option_map, unwrap_or, is_some, IsSomeAnd, slice_get, nat_le, replicate, if◌then◌else◌}
 use Rattle.std.proofs.lemmas.Bool.{true≢false}
 use Rattle.std.proofs.lemmas.Bool.Decides.{nat_tests}
+use Rattle.std.proofs.lemmas.List.{take_all}
 use Rattle.s3_decimal.specs.declared.number.Dec.{Dec}
 use Rattle.s3_decimal.specs.Exact.{is_negative}
-use Rattle.s3_decimal.specs.Records.{zoned_bytes}
+use Rattle.s3_decimal.specs.Records.{packed_bytes, zoned_bytes}
+use Rattle.s3_edit.specs.declared.code.EditCode.{EditCode}
 use Rattle.s3_edit.specs.declared.code.EditCode.TheVariants.{Suppressed}
+use Rattle.s3_edit.specs.Picture.{pictured, width_of}
 use Rattle.s3_cards.specs.declared.ebcdic.TheConstants.{BLANK}
 use Rattle.s3_cards.specs.declared.name.Name.{Name}
 use Rattle.s3_cards.specs.Names.{same_name}
@@ -24,7 +27,7 @@ use Rattle.s3_program.specs.declared.program.Defined.{Defined}
 use Rattle.s3_program.specs.declared.program.Reference.TheVariants.{Field as FieldSlot}
 use Rattle.s3_program.specs.declared.program.Meaning.TheVariants as meaning
 use Rattle.s3_program.specs.Meant.{is_defined}
-use Rattle.s3_program.specs.Operands.{field_put_fits, text_fits, number_fits}
+use Rattle.s3_program.specs.Operands.{field_put_fits, is_within_end, text_fits, number_fits}
 use Rattle.s3_program.specs.Shapes.{shape_meant}
 use Rattle.s3_program.specs.Tables.{name_of, meaning_at, or_undefined}
 use Rattle.s3_program.specs.Stands.{parts_of, source_named}
@@ -34,7 +37,9 @@ use Rattle.s3_operations.specs.Fits.{tables}
 use Rattle.s3_operations.specs.Held.{IsSound, Changes, IsNumberIn, IsTextIn, held}
 use Rattle.s3_operations.proofs.ValueLemmas.{FieldAt, NumberAt, NumberField, field_entry, field_at, field_number, number_held, number_read, within_fields, within_numbers, digits_when, decimals_when, text_when}
 use Rattle.s3_operations.proofs.BeginLemmas.{page_at}
-use Rattle.s3_output.specs.Inner.Contents.{number_put, cleared, HasPageForm}
+use Rattle.s3_output.specs.declared.preparing.SlotOutput.{SlotOutput}
+use Rattle.s3_output.specs.Prepared.{shape_width}
+use Rattle.s3_output.specs.Inner.Contents.{FitsNumber, HasPageForm, cleared, edited_width, has_width, number_of, number_put, number_width, shown_form}
 
 -- ---- a field that is there
 pub record Defines (p : Program) (slot : ℕ) : Type 0 where
@@ -119,6 +124,93 @@ number_fits_in p slot end form e n there fits is =
     by (Alphanumeric size) shaped fits = absurd (true≢false (sym is.numeric ∙ text_when (source_named p) _ size shaped))
     by (Numeric digits decimals) shaped fits =
         (λ i. number_fits form ((sym is.digits ∙ digits_when (source_named p) _ digits decimals shaped) i) ((sym is.decimals ∙ decimals_when (source_named p) _ digits decimals shaped) i) end) ∙ fits
+
+-- ---- how long a number is put out
+length_zoned : (b : Bool) (n v : ℕ) → length (zoned_bytes b n v) ≡ n
+length_zoned b zero v = refl
+length_zoned b (suc n) v = ap (λ k. suc k) (length_zoned b n v)
+
+length_packed : (b : Bool) (n v : ℕ) → length (packed_bytes b n v) ≡ n
+length_packed b zero v = refl
+length_packed b (suc n) v = ap (λ k. suc k) (length_packed b n v)
+
+length_pictured : (code : EditCode) (decimals : ℕ) (b : Bool) (v n : ℕ) → length (pictured code decimals b v n) ≡ n
+length_pictured code decimals b v zero = refl
+length_pictured code decimals b v (suc n) = ap (λ k. suc k) (length_pictured code decimals b v n)
+
+number_length : (form : OutputForm) (digits decimals : ℕ) (v : ℤ) → length (number_put form false digits decimals v) ≡ number_width form digits decimals
+number_length Plain digits decimals v = length_zoned (is_negative v) digits (unsigned_abs v)
+number_length Packed digits decimals v = length_packed (is_negative v) (digits / 2 + 1) (unsigned_abs v)
+number_length (Edited code) digits decimals v = length_pictured code decimals (is_negative v) (unsigned_abs v) (edited_width code digits decimals)
+
+pub laid_length : (n : Dec) (output : SlotOutput) → FitsNumber n output → output.width ≡ length (number_of n output)
+laid_length n output fits = fits.width ∙ sym (number_length output.form n.digits n.decimals n.value)
+
+least : (m n : ℕ) → nat_le m n ≡ true → m ≤ n
+least m n h = grind (arith, nat_tests, h)
+
+width_least : (form : OutputForm) (digits decimals end : ℕ) → number_fits form digits decimals end ≡ true → number_width form digits decimals ≤ end
+width_least Plain digits decimals end h = least digits end h
+width_least Packed digits decimals end h = least (digits / 2 + 1) end h
+width_least (Edited code) digits decimals end h = by (width_of code digits decimals) h
+  where
+    by : (o : Option ℕ) → is_within_end end o ≡ true → unwrap_or o 0 ≤ end
+    by None h = absurd (true≢false (sym h))
+    by (Some n) h = least n end h
+
+pub laid_begins : (n : Dec) (output : SlotOutput) → FitsNumber n output → output.width ≤ output.end
+laid_begins n output fits = subst (λ k. k ≤ output.end) (sym fits.width) (width_least output.form n.digits n.decimals output.end fits.fits)
+
+widths : (form : OutputForm) (digits decimals end : ℕ) → number_fits form digits decimals end ≡ true → has_width form digits decimals ≡ true
+widths Plain digits decimals end h = refl
+widths Packed digits decimals end h = refl
+widths (Edited code) digits decimals end h = by (width_of code digits decimals) h
+  where
+    by : (o : Option ℕ) → is_within_end end o ≡ true → is_some o ≡ true
+    by None h = absurd (true≢false (sym h))
+    by (Some n) h = refl
+
+pub laid_has_width : (n : Dec) (output : SlotOutput) → FitsNumber n output → has_width output.form n.digits n.decimals ≡ true
+laid_has_width n output fits = widths output.form n.digits n.decimals output.end fits.fits
+
+-- a code has room for as many characters as its width
+pub edit_room : (o : Option ℕ) (n : ℕ) → is_some o ≡ true → n ≡ unwrap_or o 0 → IsSomeAnd o (λ w. w ≤ n)
+edit_room None n some is = absurd (true≢false (sym some))
+edit_room (Some w) n some is = omega (arith, is)
+
+pub edited_all : (code : EditCode) (n : Dec) (bytes : List ℕ) (w : ℕ) → width_of code n.digits n.decimals ≡ Some w → length bytes ≡ edited_width code n.digits n.decimals
+    → take w bytes ≡ pictured code n.decimals (is_negative n.value) (unsigned_abs n.value) w → bytes ≡ edited code n.digits n.decimals n.value
+edited_all code n bytes w wide long written =
+    let e : length bytes ≡ w = long ∙ ap (λ o. unwrap_or o 0) wide in
+    sym (take_all w bytes (omega (arith, e))) ∙ (written ∙ ap (λ o. pictured code n.decimals (is_negative n.value) (unsigned_abs n.value) (unwrap_or o 0)) (sym wide))
+
+-- PAGE, by the form in which it is shown
+pub shown_fits : (form : OutputForm) (is_page : Bool) (n : Dec) (end : ℕ) → number_fits form n.digits n.decimals end ≡ true → (is_page ≡ true → HasPageForm n)
+    → number_fits (shown_form form is_page) n.digits n.decimals end ≡ true
+shown_fits Packed is_page n end fits paged = fits
+shown_fits (Edited code) is_page n end fits paged = fits
+shown_fits Plain false n end fits paged = fits
+shown_fits Plain true n end fits paged =
+    let own : HasPageForm n = paged refl in
+    (λ i. number_fits (Edited Suppressed) (own.digits i) (own.decimals i) end) ∙ (ap (λ k. nat_le k end) (sym own.digits) ∙ fits)
+
+pub shown_put : (form : OutputForm) (is_page : Bool) (n : Dec) → (is_page ≡ true → HasPageForm n) → number_put (shown_form form is_page) false n.digits n.decimals n.value ≡ number_put form is_page n.digits n.decimals n.value
+shown_put Packed is_page n paged = refl
+shown_put (Edited code) is_page n paged = refl
+shown_put Plain false n paged = refl
+shown_put Plain true n paged = let own : HasPageForm n = paged refl in λ i. edited Suppressed (own.digits i) (own.decimals i) n.value
+
+pub number_width_in : (p : Program) (slot width : ℕ) (form : OutputForm) (e : Environment) (n : Dec) → is_defined (meaning_at (tables p) (FieldSlot slot)) ≡ true
+    → option_map (shape_width form) (shape_meant (meaning_at (tables p) (FieldSlot slot))) ≡ Some width → IsNumberIn (source_named p) e (name_of (tables p) (FieldSlot slot)) n
+    → width ≡ number_width form n.digits n.decimals
+number_width_in p slot width form e n there wide is =
+    let d : Defines p slot = defines p slot there in
+    by d.shape (ap (shape_of (source_named p)) d.field.named ∙ d.field.shaped) (ap (λ o. unwrap_or o 0) (sym wide ∙ ap (option_map (shape_width form)) d.meant))
+  where
+    by : (shape : Shape) → shape_of (source_named p) (name_of (tables p) (FieldSlot slot)) ≡ shape → width ≡ shape_width form shape → width ≡ number_width form n.digits n.decimals
+    by (Alphanumeric size) shaped wide = absurd (true≢false (sym is.numeric ∙ text_when (source_named p) _ size shaped))
+    by (Numeric digits decimals) shaped wide =
+        wide ∙ sym (λ i. number_width form ((sym is.digits ∙ digits_when (source_named p) _ digits decimals shaped) i) ((sym is.decimals ∙ decimals_when (source_named p) _ digits decimals shaped) i))
 
 pub page_form_in : (p : Program) (slot : ℕ) (e : Environment) (n : Dec) (is_page : Bool) → is_page ≡ same_name (name_of (tables p) (FieldSlot slot)) page
     → IsNumberIn (source_named p) e (name_of (tables p) (FieldSlot slot)) n → is_page ≡ true → HasPageForm n

@@ -1,4 +1,5 @@
 pub mod CompositionLemmas
+pub mod FilledLemmas
 pub mod GroupLemmas
 pub mod FitLemmas
 pub mod FieldLemmas

@@ -1,5 +1,6 @@
 -- What a record holds while it is composed: at each position a code that was put there, or none.
-use Rattle.std.specs.Prelude.{◌≡◌, ℕ, Bool, List, [], ◌∷◌, Option, Some, None, if◌then◌else◌}
+use Rattle.std.specs.Prelude.{◌≡◌, ℕ, Bool, List, [], ◌∷◌, map, take, Option, Some, None, if◌then◌else◌}
+use Rattle.s3_cards.specs.declared.ebcdic.TheConstants.{BLANK}
 use Rattle.s3_meaning.specs.Output.{filled}
 
 abbrev pub position : Bool → ℕ → Option ℕ
@@ -11,6 +12,14 @@ positions_on [] codes = []
 positions_on (put ∷ puts) [] = []
 positions_on (put ∷ puts) (code ∷ codes) = position put code ∷ positions_on puts codes
 
--- where nothing is put the code is a blank
-abbrev pub are_filled : List Bool → List ℕ → Type 0
-are_filled puts codes = filled (positions_on puts codes) ≡ codes
+-- where it isn't told whether something is put, the code there is
+abbrev pub positions_in : (is_told : Bool) → List Bool → List ℕ → List (Option ℕ)
+positions_in is_told puts codes = if is_told then positions_on puts codes else map (λ code. Some code) codes
+
+-- of the first so many positions: where nothing is put the code is a blank
+abbrev pub are_filled : ℕ → (is_told : Bool) → List Bool → List ℕ → Type 0
+are_filled count is_told puts codes = filled (take count (positions_in is_told puts codes)) ≡ take count codes
+
+-- what stands at each position of a record that begins
+abbrev pub first_position : (is_told : Bool) → Option ℕ
+first_position is_told = if is_told then None else Some BLANK

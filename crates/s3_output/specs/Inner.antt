@@ -1,3 +1,4 @@
 pub mod Cards
 pub mod Contents
 pub mod Groups
+pub mod Guarded

@@ -2,9 +2,13 @@
 ghost use Rattle.std.specs.Prelude.{◌≡◌, ◌+◌, ◌-◌, ◌≤◌, ◌<◌, ◌++◌, List, ℕ, Option, Some, None, true, false, length, take, drop, replicate, slice_get};
 ghost use Rattle.s3_cards.specs.declared.ebcdic.TheConstants.{BLANK};
 ghost use Rattle.s3_meaning.specs.Output.{filled, laid};
-ghost use Rattle.s3_output.specs.Compositions.{positions_on, are_filled};
+ghost use Rattle.s3_output.specs.Compositions.{positions_in, are_filled, first_position};
+ghost use Rattle.s3_output.specs.Inner.Contents.{FitsNumber, number_of};
 
+use crate::numbers::put_number;
+use crate::preparing::SlotOutput;
 use s3_cards::ebcdic::BLANK;
+use s3_decimal::Dec;
 use std::marker::Model;
 
 /// The longest record, in bytes.
@@ -15,17 +19,19 @@ pub const LONGEST_RECORD: usize = 1024;
 pub struct Composition {
     /// A blank where nothing is put.
     codes: [u8; LONGEST_RECORD],
-    /// Where something is put.
+    /// Where something is put, if that is told.
     put: [bool; LONGEST_RECORD],
     length: usize,
+    /// It is told where something is put; else a blank is put wherever nothing else is.
+    is_told: bool,
 }
 
 impl Model for Composition {
     ghost Value = { List (Option ℕ) };
 
-    ghost view = { λ c. take c.length (positions_on c.put c.codes) };
+    ghost view = { λ c. take c.length (positions_in c.is_told c.put c.codes) };
 
-    ghost invariant = { λ c. (c.length ≤ 1024) × are_filled c.put c.codes };
+    ghost invariant = { λ c. (c.length ≤ 1024) × are_filled c.length c.is_told c.put c.codes };
 }
 
 /// Lays a content over a text, up to an end position.
@@ -37,13 +43,29 @@ fn overlay(text: &mut [u8], end: usize, content: &[u8])
     text[end - content.len()..end].copy_from_slice(content);
 }
 
-/// Something is put at so many positions, up to an end position.
-fn mark(put: &mut [bool], end: usize, count: usize)
+/// Writes a number over a text, as its field is put out.
+fn overlay_number(text: &mut [u8], number: Dec, output: &SlotOutput)
+    requires fits { FitsNumber number output.now }
+    requires ends { output.now.end ≤ length text.old }
+    ensures { text.new ≡ take (output.now.end - length (number_of number output.now)) text.old ++ number_of number output.now ++ drop output.now.end text.old }
+{
+    put_number(
+        number,
+        &output.form,
+        &mut text[output.end - output.width..output.end],
+    );
+}
+
+/// Something is put at so many positions, up to an end position, if that is told.
+#[inline(always)]
+fn mark(put: &mut [bool], is_told: bool, end: usize, count: usize)
     requires begins { count ≤ end }
     requires ends { end ≤ length put.old }
-    ensures { put.new ≡ take (end - count) put.old ++ replicate count true ++ drop end put.old }
+    ensures { is_told ≡ true → put.new ≡ take (end - count) put.old ++ replicate count true ++ drop end put.old }
 {
-    put[end - count..end].fill(true);
+    if is_told {
+        put[end - count..end].fill(true);
+    }
 }
 
 /// Makes the first positions of a text blank.
@@ -54,12 +76,15 @@ fn blank(text: &mut [u8], count: usize)
     text[..count].fill(BLANK);
 }
 
-/// Nothing is put at the first positions.
-fn unmark(put: &mut [bool], count: usize)
+/// Nothing is put at the first positions, if that is told.
+#[inline(always)]
+fn unmark(put: &mut [bool], is_told: bool, count: usize)
     requires { count ≤ length put.old }
-    ensures { put.new ≡ replicate count false ++ drop count put.old }
+    ensures { is_told ≡ true → put.new ≡ replicate count false ++ drop count put.old }
 {
-    put[..count].fill(false);
+    if is_told {
+        put[..count].fill(false);
+    }
 }
 
 impl Composition {
@@ -71,17 +96,20 @@ impl Composition {
             codes: [BLANK; LONGEST_RECORD],
             put: [false; LONGEST_RECORD],
             length: 0,
+            is_told: false,
         }
     }
 
-    /// Begins a record of a length, in which nothing is put yet.
-    pub fn clear(&mut self, length: usize)
+    /// Begins a record of a length: one in which nothing is put yet, or, where that needn't be told, one of blanks.
+    #[inline(always)]
+    pub fn clear(&mut self, length: usize, is_told: bool)
         requires { length ≤ 1024 }
-        ensures { self.new ≡ replicate length None }
+        ensures { self.new ≡ replicate length (first_position is_told) }
     {
         blank(&mut self.codes, length);
-        unmark(&mut self.put, length);
+        unmark(&mut self.put, is_told, length);
         self.length = length;
+        self.is_told = is_told;
     }
 
     /// Lays a content over the record, up to an end position.
@@ -92,7 +120,18 @@ impl Composition {
         ensures value { self.new ≡ laid end content.now self.old }
     {
         overlay(&mut self.codes, end, content);
-        mark(&mut self.put, end, content.len());
+        mark(&mut self.put, self.is_told, end, content.len());
+    }
+
+    /// Lays a number over the record, as its field is put out.
+    pub fn lay_number(&mut self, number: &Dec, output: &SlotOutput)
+        requires fits { FitsNumber number.now output.now }
+        requires ends { output.now.end ≤ length self.old }
+        ensures size { length self.new ≡ length self.old }
+        ensures value { self.new ≡ laid output.now.end (number_of number.now output.now) self.old }
+    {
+        overlay_number(&mut self.codes, *number, output);
+        mark(&mut self.put, self.is_told, output.end, output.width);
     }
 
     /// How many positions the record has.
@@ -114,6 +153,9 @@ impl Composition {
         requires { place < length self.now }
         ensures { slice_get self.now place ≡ Some result }
     {
+        if !self.is_told {
+            return Some(self.codes[place]);
+        }
         if self.put[place] {
             Some(self.codes[place])
         } else {

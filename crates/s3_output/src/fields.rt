@@ -13,11 +13,13 @@ ghost use Rattle.s3_program.specs.Stands.{source_named};
 ghost use Rattle.s3_program.specs.Tables.{meaning_at, name_of};
 ghost use Rattle.s3_operations.specs.Fits.{tables};
 ghost use Rattle.s3_operations.specs.Held.{IsSound, Changes, held};
-ghost use Rattle.s3_output.specs.Inner.Contents.{number_put, cleared, HasPageForm};
+ghost use Rattle.s3_output.specs.Inner.Contents.{number_put, shown_form as shown_form_spec, cleared, HasPageForm};
 
 use crate::composition::Composition;
-use crate::numbers::{LONGEST_NUMBER, put_number};
+use crate::numbers::number_width;
+use crate::preparing::SlotOutput;
 use s3_decimal::Dec;
+use s3_edit::EditCode;
 use s3_lines::sheet::{FieldOutput, OutputForm, Shape};
 use s3_operations::operand::Operand;
 use s3_operations::values::Values;
@@ -71,8 +73,18 @@ pub fn count(program: &Program, values: &mut Values, slot: usize)
     }
 }
 
+/// PAGE without an edit code is put out as under Z.
+fn shown_form(form: OutputForm, is_page: bool) -> OutputForm
+    ensures { result ≡ shown_form_spec form is_page }
+{
+    match form {
+        OutputForm::Plain if is_page => OutputForm::Edited(EditCode::Suppressed),
+        _ => form,
+    }
+}
+
 /// Lays a number over a record, by a form that fits.
-pub fn lay_number(
+fn lay_number(
     number: Dec,
     form: OutputForm,
     is_page: bool,
@@ -85,12 +97,19 @@ pub fn lay_number(
     ensures size { length composition.new ≡ length composition.old }
     ensures value { composition.new ≡ laid end (number_put form is_page number.digits number.decimals number.value) composition.old }
 {
-    let mut buffer = [0; LONGEST_NUMBER];
-    let count = put_number(number, form, is_page, &mut buffer, end);
-    composition.lay(end, &buffer[..count]);
+    let form = shown_form(form, is_page);
+    let output = SlotOutput {
+        slot: PAGE,
+        form,
+        width: number_width(form, number.digits, number.decimals),
+        end,
+        blank_after: false,
+    };
+    composition.lay_number(&number, &output);
 }
 
 /// Lays what a field is put out as over a record.
+#[inline(never)]
 pub fn lay_field(
     program: &Program,
     values: &Values,

@@ -1,8 +1,10 @@
 -- The line that is composed, and the record that is put into its file.
-use Rattle.std.specs.Prelude.{◌≡◌, length, replicate, None}
+use Rattle.std.specs.Prelude.{◌≡◌, not, length, replicate}
 use Rattle.s3_meaning.specs.OutputLines.{Output}
+use Rattle.s3_meaning.specs.Source.{is_printer}
 use Rattle.s3_meaning.specs.Output.{composed}
 use Rattle.s3_program.specs.declared.starts.OutputStart.{OutputStart}
+use Rattle.s3_output.specs.Compositions.{first_position}
 use Rattle.s3_output.specs.Lines.{IsLineAt}
 use Rattle.s3_match.specs.Heads.{file_at}
 use Rattle.s3_cycle.specs.declared.stepper.Stepper.{Stepper}
@@ -10,13 +12,13 @@ use Rattle.s3_cycle.specs.Requests.{IsDiskFile, TakesRecord}
 use Rattle.s3_cycle.specs.Inner.Environment.{environment}
 use Rattle.s3_cycle.specs.Inner.Going.{AreSound, own, held_by}
 
--- values and the composed record alone have changed, as the meaning composes the line
+-- values and the composed record alone have changed, as the meaning composes the line; one that is printed is blank at first
 pub record ComposesLine (old new : Stepper) (start : OutputStart) : Type 0 where
   pub same : new ≡ record old { state = new.state; composition = new.composition }
   pub sound : AreSound old.program new.state
   pub sized : length new.composition ≡ (file_at old.program start.file).record_length
   pub composes : (line : Output) → IsLineAt old.program start line
-      → composed (own old) line.fields (record { positions = replicate (file_at old.program start.file).record_length None; after = held_by old })
+      → composed (own old) line.fields (record { positions = replicate (file_at old.program start.file).record_length (first_position (not (is_printer (file_at old.program start.file).device))); after = held_by old })
       ≡ record { positions = new.composition; after = environment old.program new.state }
 
 -- the record of the line that starts there is composed, and its file takes it

@@ -1,9 +1,11 @@
 -- What a number is put out as.
-use Rattle.std.specs.Prelude.{◌≡◌, ℕ, ◌+◌, ◌/◌, ℤ, pos, Bool, unsigned_abs, List, replicate, if◌then◌else◌}
+use Rattle.std.specs.Prelude.{◌≡◌, ℕ, ◌+◌, ◌/◌, ℤ, pos, Bool, true, false, unsigned_abs, List, replicate, is_some, unwrap_or, if◌then◌else◌}
 use Rattle.s3_decimal.specs.declared.number.Dec.{Dec}
 use Rattle.s3_decimal.specs.Exact.{is_negative}
 use Rattle.s3_decimal.specs.Records.{zoned_bytes, packed_bytes}
+use Rattle.s3_edit.specs.declared.code.EditCode.{EditCode}
 use Rattle.s3_edit.specs.declared.code.EditCode.TheVariants.{Suppressed}
+use Rattle.s3_edit.specs.Picture.{width_of}
 use Rattle.s3_lines.specs.declared.sheet.OutputForm.{OutputForm}
 use Rattle.s3_lines.specs.declared.sheet.OutputForm.TheVariants.{Plain, Packed, Edited}
 use Rattle.s3_cards.specs.declared.ebcdic.TheConstants.{BLANK}
@@ -11,6 +13,8 @@ use Rattle.s3_cards.specs.declared.name.Name.{Name}
 use Rattle.s3_meaning.specs.Source.{Source, is_numeric, length_of}
 use Rattle.s3_meaning.specs.Environment.{Environment, put_number, put_text}
 use Rattle.s3_meaning.specs.Output.{edited}
+use Rattle.s3_program.specs.Operands.{number_fits}
+use Rattle.s3_output.specs.declared.preparing.SlotOutput.{SlotOutput}
 
 -- a number of so many digits and decimals; PAGE without an edit code as under Z
 abbrev pub number_put : OutputForm → (is_page : Bool) → (digits decimals : ℕ) → ℤ → List ℕ
@@ -18,6 +22,32 @@ number_put Packed is_page digits decimals value = packed_bytes (is_negative valu
 number_put (Edited code) is_page digits decimals value = edited code digits decimals value
 number_put Plain is_page digits decimals value =
     if is_page then edited Suppressed 4 0 value else zoned_bytes (is_negative value) digits (unsigned_abs value)
+
+-- PAGE without an edit code is put out as under Z
+abbrev pub shown_form : OutputForm → (is_page : Bool) → OutputForm
+shown_form Plain is_page = if is_page then Edited Suppressed else Plain
+shown_form form is_page = form
+
+-- how many bytes that are, where its form has a width
+abbrev pub edited_width : EditCode → (digits decimals : ℕ) → ℕ
+edited_width code digits decimals = unwrap_or (width_of code digits decimals) 0
+
+abbrev pub number_width : OutputForm → (digits decimals : ℕ) → ℕ
+number_width Plain digits decimals = digits
+number_width Packed digits decimals = digits / 2 + 1
+number_width (Edited code) digits decimals = edited_width code digits decimals
+
+abbrev pub has_width : OutputForm → (digits decimals : ℕ) → Bool
+has_width (Edited code) digits decimals = is_some (width_of code digits decimals)
+has_width _ digits decimals = true
+
+-- a number is put out as its field is prepared
+abbrev pub number_of : Dec → SlotOutput → List ℕ
+number_of number output = number_put output.form false number.digits number.decimals number.value
+
+pub record FitsNumber (number : Dec) (output : SlotOutput) : Type 0 where
+  pub fits : number_fits output.form number.digits number.decimals output.end ≡ true
+  pub width : output.width ≡ number_width output.form number.digits number.decimals
 
 -- PAGE has four digits
 pub record HasPageForm (number : Dec) : Type 0 where

@@ -130,7 +130,8 @@ fn fields_get_their_forms(rt: HostRuntime) -> Result<(), Fail> {
 const OUTPUT_FILES: &str = "6:F 7:PRINT 15:O 19:F 25:132 33:OA 40:PRINTER
 6:F 7:LIST 15:O 19:F 26:20 40:DISK 71:U1";
 
-/// A line of one group, one of two, one with an AND card, one of a file with a condition, and one for EXCPT.
+/// A line of one group, one with another for overflow, one with an AND card, one of a file with a condition, one for overflow
+/// alone, and ones of one to four groups for EXCPT.
 const OUTPUTS: &str = "6:O 7:PRINT 15:D 24:01
 6:O 43:5 45:'ONE'
 6:O 7:PRINT 15:H 24:1P
@@ -144,12 +145,26 @@ const OUTPUTS: &str = "6:O 7:PRINT 15:D 24:01
 6:O 7:PRINT 15:D 24:OA
 6:O 43:5 45:'OVER'
 6:O 7:PRINT 15:E 24:01
+6:O 43:5 45:'E'
+6:O 7:PRINT 15:E 24:01
+6:O 14:OR 23:N01
+6:O 43:5 45:'E'
+6:O 7:PRINT 15:E 24:01
+6:O 14:OR 23:N01
+6:O 14:OR 24:LR
+6:O 43:5 45:'E'
+6:O 7:PRINT 15:E 24:01
+6:O 14:OR 23:N01
+6:O 14:OR 24:LR
+6:O 14:OR 24:U1
 6:O 43:5 45:'E'";
 
 fn list_guards(names: &mut String, guards: &[LineGuard]) -> Result<(), Fail> {
     for guard in guards {
         let name = match guard {
             LineGuard::Group(_) => "group",
+            LineGuard::Either(_, _) => "either",
+            LineGuard::OneOf(_, _, _) => "one of",
             LineGuard::Cards => "cards",
         };
         list_text(names, name)?;
@@ -177,7 +192,7 @@ fn lines_get_their_guards(rt: HostRuntime) -> Result<(), Fail> {
     list_guards(&mut names, &guards.exceptions)?;
     assert_eq!(&rt;
         names.as_str(),
-        "group, cards, cards, cards, cards, group, group"
+        "group, group, cards, cards, cards, group, group, either, one of, cards"
     );
     Ok(())
 }

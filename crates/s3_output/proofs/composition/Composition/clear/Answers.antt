@@ -3,7 +3,7 @@ use Rattle.s3_output.proofs.composition.Composition.clear.Goals as goal
 
 pub invariant_of-self : goal.invariant_of-self
 invariant_of-self c =
-    (c.requires, clear_filled c.args.length c.self.inside.put c.unmark.new.put c.self.inside.codes c.blank.new.text c.blank.ensures c.unmark.ensures c.self.invariant.1)
+    (c.requires, clear_filled c.args.length c.args.is_told c.self.inside.put c.unmark.new.put c.self.inside.codes c.blank.new.text c.blank.ensures c.unmark.ensures)
 
 pub returns : goal.returns
-returns c = clear_view c.args.length c.self.inside.put c.unmark.new.put c.self.inside.codes c.blank.new.text c.blank.ensures c.unmark.ensures
+returns c = clear_view c.args.length c.args.is_told c.self.inside.put c.unmark.new.put c.self.inside.codes c.blank.new.text c.blank.ensures c.unmark.ensures
