@@ -55,3 +55,19 @@ four_digits n few =
     ∙ ap (λ t. (t ++ (48 + n / 10 % 10) ∷ []) ++ (48 + n % 10) ∷ []) (one_digit_more 0 (n / 100) (omega arith))
     ∙ ap (λ t. ((t ++ (48 + n / 100 % 10) ∷ []) ++ (48 + n / 10 % 10) ∷ []) ++ (48 + n % 10) ∷ []) (one_digit 0 (n / 100 / 10) (omega arith))
     ∙ ap (λ d. d ∷ (48 + n / 100 % 10) ∷ (48 + n / 10 % 10) ∷ (48 + n % 10) ∷ []) first
+
+-- the same by the two digits of numbers below 100
+pub two_by_pair : (n : ℕ) → n < 100 → in_digits 2 n ≡ (48 + n / 10) ∷ (48 + n % 10) ∷ []
+two_by_pair n few =
+    let first : 48 + n / 10 % 10 ≡ 48 + n / 10 = omega arith in
+    two_digits n few ∙ ap (λ d. d ∷ (48 + n % 10) ∷ []) first
+
+pub four_by_pairs : (n : ℕ) → n < 10000 → in_digits 4 n ≡ (48 + n / 100 / 10) ∷ (48 + n / 100 % 10) ∷ (48 + n % 100 / 10) ∷ (48 + n % 100 % 10) ∷ []
+four_by_pairs n few =
+    let first : 48 + n / 1000 % 10 ≡ 48 + n / 100 / 10 = omega arith in
+    let third : 48 + n / 10 % 10 ≡ 48 + n % 100 / 10 = omega arith in
+    let last : 48 + n % 10 ≡ 48 + n % 100 % 10 = omega arith in
+    four_digits n few
+    ∙ ap (λ d. d ∷ (48 + n / 100 % 10) ∷ (48 + n / 10 % 10) ∷ (48 + n % 10) ∷ []) first
+    ∙ ap (λ d. (48 + n / 100 / 10) ∷ (48 + n / 100 % 10) ∷ d ∷ (48 + n % 10) ∷ []) third
+    ∙ ap (λ d. (48 + n / 100 / 10) ∷ (48 + n / 100 % 10) ∷ (48 + n % 100 / 10) ∷ d ∷ []) last

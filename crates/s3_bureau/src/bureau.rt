@@ -67,6 +67,7 @@ fn stop_of(fault: PoolFault) -> Stop
 }
 
 /// One entry of a level. It is proved once, for either level.
+#[inline(always)]
 fn act<S: PackStore>(
     level: &mut Level,
     pack: &mut Pack<Pool<S>>,

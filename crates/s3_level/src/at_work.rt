@@ -27,6 +27,10 @@ impl Level {
     ghost use Rattle.s3_level.specs.Inner.Turning.{Pends, request_by, waits_by, FitsJob, Comes, AtWorkBecomes, Serves, Turns};
 
     /// Performs the pending request of the job at work, or begins the next job.
+    ///
+    /// It is a few tests on the way to what is asked for: they are inlined where turns are repeated, and what is large or rare is
+    /// not.
+    #[inline(always)]
     #[tactic(auto, using(crate::proofs::Turns::none_open, crate::proofs::Turns::halted_turn))]
     pub(crate) fn step<P: Sectors>(
         &mut self,
@@ -79,6 +83,7 @@ impl Level {
     }
 
     /// Ends the job at work: its files are closed.
+    #[inline(never)]
     pub(crate) fn end_job<P: Sectors>(&mut self, pack: &mut Pack<P>) -> Result<(), PoolFault>
         requires ready { IsReady self.old (seen pack.old.areas (P.state pack.old.pool).contents) }
         ensures world { (s : Shown) → OnOk result (Becomes job_ended (HoldsParts self.old (with_seen (seen pack.old.areas (P.state pack.old.pool).contents) s)) (HoldsParts self.new (with_seen (seen pack.new.areas (P.state pack.new.pool).contents) s))) }

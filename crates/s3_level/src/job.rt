@@ -25,6 +25,9 @@ use s3_labels::Pack;
 use s3_output::composition::{Composition, LONGEST_RECORD};
 use s3_store::{PoolFault, Sectors};
 
+/// The most bytes of a record that goes by way of a room of no more: a room for the longest takes longer to make ready.
+const SHORT_RECORD: u16 = 128;
+
 /// A job at work: its number, its program's cycle, its files, and the places of its data cards that are not yet read.
 #[derive(Drop)]
 pub struct OpenJob {
@@ -87,10 +90,10 @@ fn file_current(current: Option<Current>) -> Option<s3_job_files::Current>
 }
 
 /// What an update puts at each position, and how many positions there are.
-fn laid_out(changes: &Composition, positions: &mut [Option<u8>; LONGEST_RECORD]) -> usize
-    requires { length changes.now ≤ 1024 }
+fn laid_out(changes: &Composition, positions: &mut [Option<u8>]) -> usize
+    requires { length changes.now ≤ length positions.old }
     ensures count { result ≡ length changes.now }
-    ensures within { result ≤ 1024 }
+    ensures within { result ≤ length positions.new }
     ensures same { slice_range positions.new 0 result ≡ changes.now }
 {
     let count = changes.length();
@@ -179,6 +182,11 @@ fn change<P: Sectors>(
     ensures says { OnOk result (KeepsSaid job_files.now.level pack.old.areas (P.state pack.old.pool).contents pack.new.areas (P.state pack.new.pool).contents) }
     ensures fault { IfErr result (λ fault. fault ≢ PoolFault.NoSector) }
 {
+    if changes.length() <= SHORT_RECORD as usize {
+        let mut positions = [None; SHORT_RECORD as usize];
+        let count = laid_out(changes, &mut positions);
+        return job_files.update(pack, place, file_current(current), &positions[..count]);
+    }
     let mut positions = [None; LONGEST_RECORD];
     let count = laid_out(changes, &mut positions);
     job_files.update(pack, place, file_current(current), &positions[..count])
@@ -221,6 +229,7 @@ impl OpenJob {
     ghost use Rattle.s3_cycle.specs.Requests.{FitsFile, IsDiskFile};
 
     /// Reads the next data card, if there is one, and goes on with it.
+    #[inline(always)]
     pub fn read_card(&mut self, deck: &Deck)
         requires { asked self.old.cycle ≡ asks.Card }
         ensures resumes { Resumes self.old.cycle self.new.cycle (card_answer (slice_range deck.now self.old.next self.old.end)) }
@@ -267,6 +276,7 @@ impl OpenJob {
     /// Serves the pending request, one to a file, and goes on with the answer; answers whether the job has that file in use.
     ///
     /// It fails only where the job has the file. After a fault of the sectors no request is to be made.
+    #[inline(always)]
     pub fn serve<P: Sectors>(&mut self, pack: &mut Pack<P>) -> Result<bool, PoolFault>
         requires ready { AreFilesReady self.old.files.level self.old.files.files.items (seen pack.old.areas (P.state pack.old.pool).contents) }
         requires job { IsJobReady self.old.files.level self.old }
@@ -319,6 +329,7 @@ impl OpenJob {
     }
 
     /// Serves the pending request, one for a record of a file.
+    #[inline(always)]
     fn read<P: Sectors>(
         &mut self,
         pack: &mut Pack<P>,
@@ -342,17 +353,48 @@ impl OpenJob {
         ensures says { OnOk result (KeepsSaid self.old.files.level pack.old.areas (P.state pack.old.pool).contents pack.new.areas (P.state pack.new.pool).contents) }
         ensures fault { IfErr result (λ fault. fault ≢ PoolFault.NoSector) }
     {
+        if length <= SHORT_RECORD {
+            let mut room = [0; SHORT_RECORD as usize];
+            return self.read_into(pack, file, &mut room[..length as usize]);
+        }
+        let mut room = [0; LONGEST_RECORD];
+        self.read_into(pack, file, &mut room[..length as usize])
+    }
+
+    /// Serves the pending request, one for a record of a file of so many bytes.
+    #[inline(never)]
+    fn read_into<P: Sectors>(
+        &mut self,
+        pack: &mut Pack<P>,
+        file: usize,
+        bytes: &mut [u8],
+    ) -> Result<bool, PoolFault>
+        requires asks { IsForFile file (asked self.old.cycle) }
+        requires long { IsForRecord (length bytes.old) (asked self.old.cycle) }
+        requires fits { FitsFile (files self.old.cycle) (asked self.old.cycle) (put self.old.cycle) }
+        requires ready { AreFilesReady self.old.files.level self.old.files.files.items (seen pack.old.areas (P.state pack.old.pool).contents) }
+        requires job { IsJobReady self.old.files.level self.old }
+        ensures serves { IfOk result (λ served. ServesFile served self.old self.new (seen pack.old.areas (P.state pack.old.pool).contents) (seen pack.new.areas (P.state pack.new.pool).contents)) }
+        ensures fails { OnErr result (HasFile self.old (seen pack.old.areas (P.state pack.old.pool).contents)) }
+        ensures ready { OnOk result (AreFilesReady self.new.files.level self.new.files.files.items (seen pack.new.areas (P.state pack.new.pool).contents)) }
+        ensures job { IsJobReady self.new.files.level self.new }
+        ensures place { KeepsPlace self.old self.new }
+        ensures others { KeepsOthers self.old.files.level pack.old.areas pack.new.areas (P.state pack.old.pool) (P.state pack.new.pool) }
+        ensures untouched { IfOk result (λ served. served ≡ false → IsUntouched pack.old.areas pack.new.areas (P.state pack.old.pool) (P.state pack.new.pool)) }
+        ensures failures { (P.state pack.new.pool).failures ≡ (P.state pack.old.pool).failures + failed_transfers result }
+        ensures says { OnOk result (KeepsSaid self.old.files.level pack.old.areas (P.state pack.old.pool).contents pack.new.areas (P.state pack.new.pool).contents) }
+        ensures fault { IfErr result (λ fault. fault ≢ PoolFault.NoSector) }
+    {
         let Some(place) = self.place_of(file) else {
             return Ok(false);
         };
-        let mut room = [0; LONGEST_RECORD];
-        let bytes = &mut room[..length as usize];
         let found = find(&self.cycle, &mut self.files, pack, place, bytes)?;
         self.cycle.resume(record_answer(found, bytes));
         Ok(true)
     }
 
     /// Serves the pending request, one that puts a record into a file or changes one there.
+    #[inline(never)]
     fn write<P: Sectors>(&mut self, pack: &mut Pack<P>, file: usize) -> Result<bool, PoolFault>
         requires asks { IsForFile file (asked self.old.cycle) }
         requires puts { IsPut (asked self.old.cycle) }

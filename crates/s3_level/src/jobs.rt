@@ -35,6 +35,7 @@ impl Level {
     ghost use Rattle.s3_level.specs.Inner.Turning.{NextIs, Begins, Starts};
 
     /// Begins the next job, if there is one.
+    #[inline(never)]
     pub(crate) fn begin<P: Sectors>(&mut self, pack: &mut Pack<P>) -> Result<Did, PoolFault>
         requires ready { IsReady self.old (seen pack.old.areas (P.state pack.old.pool).contents) }
         requires rests { self.old.job ≡ None }

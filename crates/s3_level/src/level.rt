@@ -82,6 +82,7 @@ impl Level {
     /// It is idle, takes no memory and changes nothing where a halt waits, where no job is at work and none is left, and
     /// where the job would print and its quota of lines is queued. After it ran out of memory, or its sectors failed, nothing
     /// is said of the worlds that are held, and no entry is to be taken.
+    #[inline(always)]
     #[tactic(auto, using(crate::proofs::Turns::turn_wholly))]
     pub fn turn<P: Sectors>(
         &mut self,
@@ -107,6 +108,7 @@ impl Level {
     /// Answers the halt that waits with a digit, and a job at work goes on with it to its next request: refused with 1 where
     /// no halt waits, and with 2 where it doesn't allow the digit; then it takes no memory and changes nothing. After it ran
     /// out of memory, or its sectors failed, nothing is said of the worlds that are held, and no entry is to be taken.
+    #[inline(never)]
     #[tactic(auto, using(crate::proofs::Replies::reply_refused, crate::proofs::Replies::reply_taken))]
     pub fn answer<P: Sectors>(&mut self, digit: u8, pack: &mut Pack<P>) -> Result<Did, PoolFault>
         requires ready { IsReady self.old (seen pack.old.areas (P.state pack.old.pool).contents) }
@@ -129,6 +131,7 @@ impl Level {
     }
 
     /// Takes the first queued line into the printed output; refused with 3, without taking memory, where none is queued.
+    #[inline(never)]
     pub fn drain<P: Sectors>(
         &mut self,
         pack: &mut Pack<P>,

@@ -22,6 +22,7 @@ impl Level {
     ghost use Rattle.s3_level.specs.Inner.Turning.{request_by, waits_by, AtWorkBecomes, Serves, FileServed, FileThere, on_files};
 
     /// Reads a card for the job at work.
+    #[inline(always)]
     #[tactic(auto, using(crate::proofs::Running::card_served))]
     pub(crate) fn read_card<P: Sectors>(&mut self, pack: &mut Pack<P>) -> Result<Did, PoolFault>
         requires asks { request_by self.old.job ≡ Some asks.Card }
@@ -41,6 +42,7 @@ impl Level {
     }
 
     /// Gives the job at work its next card, if there is one.
+    #[inline(always)]
     #[tactic(auto, using(crate::proofs::Running::card_taken))]
     fn take_card(&mut self)
         requires { request_by self.old.job ≡ Some asks.Card }
@@ -54,6 +56,7 @@ impl Level {
     }
 
     /// Serves the pending request of the job at work, one to a file.
+    #[inline(always)]
     #[tactic(auto, using(crate::proofs::Said::said_then))]
     pub(crate) fn serve_file<P: Sectors>(&mut self, pack: &mut Pack<P>) -> Result<Did, PoolFault>
         requires ready { IsReady self.old (seen pack.old.areas (P.state pack.old.pool).contents) }
@@ -76,6 +79,7 @@ impl Level {
     }
 
     /// Gives the pending request of the job at work the answer of its files, if it has that file in use.
+    #[inline(always)]
     fn take_file<P: Sectors>(&mut self, pack: &mut Pack<P>) -> Result<bool, PoolFault>
         requires ready { IsReady self.old (seen pack.old.areas (P.state pack.old.pool).contents) }
         ensures served { (s : Shown) → IfOk result (λ took. FileServed took (HoldsParts self.old (with_seen (seen pack.old.areas (P.state pack.old.pool).contents) s)) (HoldsParts self.new (with_seen (seen pack.new.areas (P.state pack.new.pool).contents) s))) }
@@ -95,6 +99,7 @@ impl Level {
     }
 
     /// Prints the line of the job at work, unless the queue is full.
+    #[inline(never)]
     #[tactic(auto, using(crate::proofs::Fitting::line_done, crate::proofs::Printing::line_waits, crate::proofs::Beside::spares_none, crate::proofs::Said::said_then))]
     pub(crate) fn print<P: Sectors>(
         &mut self,

@@ -1,6 +1,6 @@
 -- What is known in the middle of a run. These words serve the contracts of private functions alone: what a run gives is
 -- said in Runs.
-use Rattle.std.specs.Prelude.{◌≡◌, ◌<◌, ℕ, List, [], Option, Result, Ok, Err, slice_index, ⊤}
+use Rattle.std.specs.Prelude.{◌≡◌, ◌+◌, ◌/◌, ◌%◌, ◌<◌, ℕ, List, [], Option, Result, Ok, Err, slice_index, ⊤}
 use Rattle.std.specs.List.{concat}
 use Rattle.s3_cards.specs.declared.levels.LevelId.{LevelId}
 use Rattle.s3_cards.specs.declared.levels.LevelId.TheVariants.{One, Two}
@@ -22,6 +22,7 @@ use Rattle.s3_bureau.specs.declared.run_fault.RunFault.{RunFault}
 use Rattle.s3_bureau.specs.declared.run_fault.RunFault.TheVariants.{Script, Mount, Device, NoMemory}
 use Rattle.s3_bureau.specs.Runs.{HasFiles, LeavesSo, Texts, RunTexts, cards_of, outcome_texts, refusal_of, texts_over}
 use Rattle.s3_bureau.specs.Texts.{shown_byte, report_of, halt_text_of}
+use Rattle.s3_bureau.specs.declared.report.Tables.{Tables}
 
 -- what is read of a deck: its cards, or why it was refused
 pub record ReadsDeck (text : List ℕ) (cards : List (List ℕ)) (refusal : Option (ℕ × ℕ)) : Type 0 where
@@ -83,3 +84,17 @@ RunsOver contents deck1 deck2 entries (Err (Mount fault)) = texts_over (mounted 
 -- the table has the byte that shows each code
 abbrev pub ShowsCodes : List ℕ → Type 0
 ShowsCodes table = (code : ℕ) → code < 256 → slice_index table code ≡ shown_byte code
+
+-- the table has the first of two digits of each number below 100
+abbrev pub HasTens : List ℕ → Type 0
+HasTens table = (number : ℕ) → number < 100 → slice_index table number ≡ 48 + number / 10
+
+-- the table has the last digit of each number below 100
+abbrev pub HasOnes : List ℕ → Type 0
+HasOnes table = (number : ℕ) → number < 100 → slice_index table number ≡ 48 + number % 10
+
+-- the tables that a report is made with have what they say
+pub record AreTables (tables : Tables) : Type 0 where
+  pub shown : ShowsCodes tables.shown
+  pub tens : HasTens tables.tens
+  pub ones : HasOnes tables.ones

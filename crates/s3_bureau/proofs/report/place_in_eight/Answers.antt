@@ -1,16 +1,16 @@
-use Rattle.std.proofs.Common.{refl}
-use Rattle.s3_bureau.proofs.Digits.{four_digits, two_digits}
+use Rattle.std.proofs.Common.{◌/◌, ◌%◌, refl, arith}
+use Rattle.s3_bureau.proofs.Digits.{four_by_pairs, two_by_pair}
 use Rattle.s3_bureau.proofs.report.place_in_eight.Goals as goal
 
 pub returns : goal.returns
 returns c =
     rw (
-      four_digits c.args.page c.requires.page,
-      two_digits c.args.line c.requires.line,
-      c.last_digit.ensures,
-      c.last_digit-2.ensures,
-      c.last_digit-3.ensures,
-      c.last_digit-4.ensures,
-      c.last_digit-5.ensures,
-      c.last_digit-6.ensures,
+      four_by_pairs c.args.page c.requires.page,
+      two_by_pair c.args.line c.requires.line,
+      c.requires.tables.tens (c.args.page / 100) (omega arith),
+      c.requires.tables.ones (c.args.page / 100) (omega arith),
+      c.requires.tables.tens (c.args.page % 100) (omega arith),
+      c.requires.tables.ones (c.args.page % 100) (omega arith),
+      c.requires.tables.tens c.args.line c.requires.line,
+      c.requires.tables.ones c.args.line c.requires.line,
     ) refl

@@ -11,13 +11,13 @@ one_more xs ys i x within same there =
     ∙ ap (λ zs. zs ++ x ∷ []) same
     ∙ sym (take_more ys i x (slice_get_within ys i x there) ∙ ap (λ y. take i ys ++ y ∷ []) (get_or_from_slice_get ys i x x there))
 
-within : (i count long n : ℕ) → i < count → count ≡ long → long ≤ 1024 → n ≡ 1024 → i < n
-within i count long n less is few same = omega (arith, less, is, few, same)
+within : (i count long room n : ℕ) → i < count → count ≡ long → long ≤ room → n ≡ room → i < n
+within i count long room n less is few same = omega (arith, less, is, few, same)
 
 pub loop-place-preserved : goal.loop-place-preserved
 loop-place-preserved c = record {
   long = length-set c.loop-place.positions c.loop-place.place c.at.result ∙ c.loop-place.invariant.long;
   same = one_more c.loop-place.positions c.args.changes.now c.loop-place.place c.at.result
-      (within c.loop-place.place c.length-count.result (length c.args.changes.now) (length c.loop-place.positions) c.loop-place-test.true c.length-count.ensures c.requires c.loop-place.invariant.long)
+      (within c.loop-place.place c.length-count.result (length c.args.changes.now) (length c.args.positions.now) (length c.loop-place.positions) c.loop-place-test.true c.length-count.ensures c.requires c.loop-place.invariant.long)
       c.loop-place.invariant.same c.at.ensures;
 }
