@@ -100,13 +100,12 @@ module _ (sectors : List ℕ) (at n w : ℕ) (sector : List ℕ) (is : slice_get
   place : 256 * (at / 256) + at % 256 ≡ at
   place = omega arith
 
-  pub part-read : (contents : List (List ℕ)) → slice_get contents n ≡ Some sector → part (bytes_at sectors contents) at w ≡ part sector (at % 256) w
+  pub part-read : (contents : List (List ℕ)) → sector_bytes contents n ≡ sector → part (bytes_at sectors contents) at w ≡ part sector (at % 256) w
   unfolding bytes_at
-  part-read contents there =
+  part-read contents same =
       let f = sector_bytes contents in
       let xs = flat_map f (take (at / 256) sectors) in
       let zs = flat_map f (drop (suc (at / 256)) sectors) in
-      let same : f n ≡ sector = sector_bytes-there contents n sector there whole in
       let split : bytes_at sectors contents ≡ xs ++ (sector ++ zs) = joined-split f (length-sector_bytes contents) sectors (at / 256) n is ∙ ap (λ l. xs ++ (l ++ zs)) same in
       ap (λ l. part l at w) split
       ∙ ap (λ m. part (xs ++ (sector ++ zs)) m w) (sym place)
@@ -125,6 +124,12 @@ module _ (sectors : List ℕ) (at n w : ℕ) (sector : List ℕ) (is : slice_get
       let placed : SameOutside at w (xs ++ (sector ++ zs)) (xs ++ (v ++ zs)) = subst (λ m. SameOutside m w (xs ++ (sector ++ zs)) (xs ++ (v ++ zs))) place inside in
       rw (before, after) placed
 
+-- a piece of a sector is read
+pub piece-read : {T : Type 0} (sectors : List ℕ) (at n w : ℕ) (contents : List (List ℕ)) (piece : List ℕ) (r : Result T PoolFault) → slice_get sectors (at / 256) ≡ Some n → at % 256 + w ≤ 256 → OnOk r (piece ≡ part (sector_bytes contents n) (at % 256) w) → OnOk r (piece ≡ part (bytes_at sectors contents) at w)
+piece-read sectors at n w contents piece (Ok x) is fits read =
+    read ∙ sym (part-read sectors at n w (sector_bytes contents n) is fits (length-sector_bytes contents n) contents refl)
+piece-read sectors at n w contents piece (Err fault) is fits read = tt
+
 -- a piece of a sector is changed
 module _ (sectors : List ℕ) (at n : ℕ) (piece : List ℕ) (is : slice_get sectors (at / 256) ≡ Some n) (fits : at % 256 + length piece ≤ 256) (old new : List (List ℕ)) (below : n < length old) where
   abbrev changed : List ℕ
@@ -141,7 +146,7 @@ module _ (sectors : List ℕ) (at n : ℕ) (piece : List ℕ) (is : slice_get se
 
   pub piece-written : {T : Type 0} (r : Result T PoolFault) → OnOk r (new ≡ with_piece old n (at % 256) piece) → OnOk r (part (bytes_at sectors new) at (length piece) ≡ piece)
   piece-written (Ok x) set =
-      part-read sectors at n (length piece) changed is fits long new (there set)
+      part-read sectors at n (length piece) changed is fits long new (sector_bytes-there new n changed (there set) long)
       ∙ part-with_part (sector_bytes old n) (at % 256) piece inside
   piece-written (Err fault) set = tt
 

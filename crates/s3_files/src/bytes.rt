@@ -10,14 +10,6 @@ ghost use Rattle.s3_files.specs.Files.{AreStored};
 use crate::file_sectors::FileSectors;
 use s3_store::{PoolFault, Sectors};
 
-/// Copies the part of these bytes that begins at a place.
-fn copy_part(bytes: &[u8], at: usize, piece: &mut [u8])
-    requires { at + length piece.old ≤ length bytes.now }
-    ensures { piece.new ≡ part bytes.now at (length piece.old) }
-{
-    piece.copy_from_slice(&bytes[at..at + piece.len()]);
-}
-
 /// Reads bytes that lie in one sector.
 fn read_piece<P: Sectors>(
     pool: &mut P,
@@ -33,10 +25,7 @@ fn read_piece<P: Sectors>(
     ensures failures { (P.state pool.new).failures ≡ (P.state pool.old).failures + failed_transfers result }
     ensures fault { IfErr result (λ e. e ≢ PoolFault.NoSector) }
 {
-    let mut sector = [0; 256];
-    pool.read_sector(sectors.sector_at(at / 256), &mut sector)?;
-    copy_part(&sector, at % 256, piece);
-    Ok(())
+    pool.read_part(sectors.sector_at(at / 256), at % 256, piece)
 }
 
 /// Writes bytes that lie in one sector.

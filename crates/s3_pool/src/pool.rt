@@ -5,7 +5,7 @@ ghost use Rattle.s3_store.specs.Failures.{failed_transfers};
 ghost use Rattle.s3_store.specs.State.{KeepsContents};
 
 use crate::buffers::{Buffers, give_up_all, load, overwrite};
-use s3_store::{PackStore, PoolFault, Sectors, put_part};
+use s3_store::{PackStore, PoolFault, Sectors, put_part, take_part};
 use std::alloc::{AllocFailed, Global};
 use std::marker::Model;
 
@@ -100,6 +100,12 @@ impl<S: PackStore> Sectors for Pool<S> {
         }
         let sector = self.sector(n)?;
         *bytes = *sector;
+        Ok(())
+    }
+
+    fn read_part(&mut self, n: u16, at: usize, piece: &mut [u8]) -> Result<(), PoolFault> {
+        let sector = self.sector(n)?;
+        take_part(sector, at, piece);
         Ok(())
     }
 

@@ -15,7 +15,7 @@ pub use extents::Extents;
 pub use fuse::FuseStore;
 pub use memory::MemoryStore;
 pub use pack_store::{PackStore, StoreFault};
-pub use part::put_part;
+pub use part::{put_part, take_part};
 pub use pool_fault::PoolFault;
 pub use sectors::Sectors;
 pub use stretch::Stretch;

@@ -1,6 +1,14 @@
 //! Parts of bytes.
 ghost use Rattle.std.specs.Prelude.{◌≡◌, ◌≤◌, ◌+◌, length};
-ghost use Rattle.s3_store.specs.Bytes.{with_part};
+ghost use Rattle.s3_store.specs.Bytes.{part, with_part};
+
+/// Copies the bytes that begin at a place.
+pub fn take_part(bytes: &[u8], at: usize, piece: &mut [u8])
+    requires { at + length piece.old ≤ length bytes.now }
+    ensures { piece.new ≡ part bytes.now at (length piece.old) }
+{
+    piece.copy_from_slice(&bytes[at..at + piece.len()]);
+}
 
 /// Writes bytes over those that begin at a place.
 pub fn put_part(bytes: &mut [u8], at: usize, piece: &[u8])

@@ -1,11 +1,11 @@
 //! What the layers above see: one list of sectors, over a store or over a pool.
 ghost use Rattle.std.specs.Prelude.{◌≡◌, ◌≢◌, ◌<◌, ◌≤◌, ◌+◌, ℕ, List, length, slice_get, slice_set, Some, OnOk, OnErr, IfErr};
 ghost use Rattle.s3_store.specs.State.{PoolState, KeepsContents, ChangesWithin};
-ghost use Rattle.s3_store.specs.Bytes.{with_piece};
+ghost use Rattle.s3_store.specs.Bytes.{part, sector_bytes, with_piece};
 ghost use Rattle.s3_store.specs.Failures.{failed_transfers};
 
 use crate::pack_store::PackStore;
-use crate::part::put_part;
+use crate::part::{put_part, take_part};
 use crate::pool_fault::PoolFault;
 
 /// Sectors of 256 bytes, numbered from 0, over some store.
@@ -21,6 +21,15 @@ pub trait Sectors {
     fn read_sector(&mut self, n: u16, bytes: &mut [u8; 256]) -> Result<(), PoolFault>
         requires { n < length (state self.old).contents }
         ensures ok { OnOk result (slice_get (state self.old).contents n ≡ Some bytes.new) }
+        ensures keeps { KeepsContents (state self.old) (state self.new) }
+        ensures failures { (state self.new).failures ≡ (state self.old).failures + failed_transfers result }
+        ensures fault { IfErr result (λ fault. fault ≢ PoolFault.NoSector) };
+
+    /// Reads the bytes of sector `n` that begin at `at`.
+    fn read_part(&mut self, n: u16, at: usize, piece: &mut [u8]) -> Result<(), PoolFault>
+        requires there { n < length (state self.old).contents }
+        requires fits { at + length piece.old ≤ 256 }
+        ensures ok { OnOk result (piece.new ≡ part (sector_bytes (state self.old).contents n) at (length piece.old)) }
         ensures keeps { KeepsContents (state self.old) (state self.new) }
         ensures failures { (state self.new).failures ≡ (state self.old).failures + failed_transfers result }
         ensures fault { IfErr result (λ fault. fault ≢ PoolFault.NoSector) };
@@ -55,6 +64,13 @@ impl<S: PackStore> Sectors for S {
 
     fn read_sector(&mut self, n: u16, bytes: &mut [u8; 256]) -> Result<(), PoolFault> {
         self.read(n, bytes)?;
+        Ok(())
+    }
+
+    fn read_part(&mut self, n: u16, at: usize, piece: &mut [u8]) -> Result<(), PoolFault> {
+        let mut bytes = [0; 256];
+        self.read(n, &mut bytes)?;
+        take_part(&bytes, at, piece);
         Ok(())
     }
 
