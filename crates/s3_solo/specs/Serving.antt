@@ -90,7 +90,7 @@ with_card_read job = record job { cards = drop 1 job.cards }
 abbrev pub line_put : (page line : ℕ) → List ℕ → World → World
 line_put page line text w = record w { lines = with_line (record { page = page; line = line; text = text }) w.lines }
 
--- a line is printed, unless 64 are queued
+-- a line is printed, unless as many are queued as the level's quota
 abbrev pub line_printed : (page line : ℕ) → List ℕ → JobAtWork → World → Outcome
 line_printed page line text job w = if has_room w.lines then acted (answered Done job (line_put page line text w)) else idle w
 

@@ -11,6 +11,8 @@ const SECTORS: usize = 200;
 const FIRST: u16 = 100;
 /// How many are written: one more than there are buffers.
 const COUNT: u8 = 17;
+/// The first of the spool's blocks.
+const BLOCK: u16 = 25;
 
 /// Sectors of zeros.
 fn blank_store(alloc: Global) -> Result<MemoryStore, AllocError> {
@@ -42,9 +44,9 @@ fn first_bytes(bytes: &[u8]) -> [u8; 17] {
 
 const WRITTEN: [u8; 17] = [1, 2, 3, 4, 5, 6, 7, 8, 9, 10, 11, 12, 13, 14, 15, 16, 17];
 
-/// Writes 01 to 11 (hexadecimal) as the first bytes of sectors 100 to 116.
-fn write_all<S: PackStore>(pool: &mut Pool<S>) -> Result<(), PoolFault> {
-    for i in 0..COUNT {
+/// Writes 1, 2, 3 and so on as the first bytes of so many sectors from the first written one on.
+fn write_first<S: PackStore>(pool: &mut Pool<S>, count: u8) -> Result<(), PoolFault> {
+    for i in 0..count {
         set_first_byte(pool, FIRST + u16::from(i), i + 1)?;
     }
     Ok(())
@@ -62,7 +64,7 @@ fn read_all<S: PackStore>(pool: &mut Pool<S>) -> Result<[u8; 17], PoolFault> {
 #[test]
 fn the_seventeenth_sector_sends_the_first_one_to_the_store(rt: HostRuntime) -> Result<(), Fail> {
     let mut pool = Pool::new(rt.alloc(), blank_store(rt.alloc())?).map_err(|_| "memory")?;
-    let written = write_all(&mut pool);
+    let written = write_first(&mut pool, COUNT);
     let bytes = pool.into_store().into_bytes();
     assert_eq!(rt; written, Ok(()));
     assert_eq!(rt;
@@ -76,7 +78,7 @@ fn the_seventeenth_sector_sends_the_first_one_to_the_store(rt: HostRuntime) -> R
 #[test]
 fn all_are_read_back_and_flushed(rt: HostRuntime) -> Result<(), Fail> {
     let mut pool = Pool::new(rt.alloc(), blank_store(rt.alloc())?).map_err(|_| "memory")?;
-    let written = write_all(&mut pool);
+    let written = write_first(&mut pool, COUNT);
     let read = read_all(&mut pool);
     let flushed = pool.flush();
     let read_again = read_all(&mut pool);
@@ -125,6 +127,24 @@ fn a_whole_sector_is_written_without_a_read(rt: HostRuntime) -> Result<(), Fail>
     assert_eq!(rt; kept, Ok(7));
     assert_eq!(rt; flushed, Ok(()));
     assert_eq!(rt; first_bytes(&bytes)[0], 7);
+    Ok(())
+}
+
+/// The store has a spool block at once where all buffers are in use, and no other sector is displaced for it.
+#[test]
+fn a_spool_block_goes_past_a_full_pool(rt: HostRuntime) -> Result<(), Fail> {
+    let mut pool = Pool::new(rt.alloc(), blank_store(rt.alloc())?).map_err(|_| "memory")?;
+    let filled = write_first(&mut pool, COUNT - 1);
+    let put = if BLOCK < pool.sector_count() {
+        pool.write_sector(BLOCK, &[7; 256])
+    } else {
+        Err(PoolFault::NoSector)
+    };
+    let bytes = pool.into_store().into_bytes();
+    assert_eq!(rt; filled, Ok(()));
+    assert_eq!(rt; put, Ok(()));
+    assert_eq!(rt; first_bytes(&bytes), [0; 17]);
+    assert_eq!(rt; bytes.get(usize::from(BLOCK) * 256), Some(&7));
     Ok(())
 }
 
