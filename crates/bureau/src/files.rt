@@ -35,13 +35,14 @@ pub fn read_pack(rt: &HostRuntime, path: &str) -> io::Result<Vec<u8>> {
 }
 
 /// Saves a pack whole or not at all where the path names a regular file or none: it is written to a new file beside it,
-/// which then takes its name and has its mode. A link is followed. Anything else, as a device, is written in place.
+/// which then takes its name and has its mode. A file that is write-protected keeps its name. A link is followed. Anything else, as
+/// a device, is written in place.
 pub fn save_pack(rt: &HostRuntime, path: &str, bytes: &[u8]) -> io::Result<()> {
     let followed = followed(rt, path)?;
     let place = followed.as_path();
     match existing(rt, place)? {
         None => replace(rt, place, None, bytes),
-        Some(old) if old.is_file() => replace(rt, place, Some(old.permissions()), bytes),
+        Some(old) if old.is_file() => replace_old(rt, place, old.permissions(), bytes),
         Some(_) => write_in_place(rt, place, bytes),
     }
 }
@@ -82,6 +83,19 @@ fn existing(rt: &HostRuntime, place: Path<'_>) -> io::Result<Option<Metadata>> {
 fn write_in_place(rt: &HostRuntime, place: Path<'_>, bytes: &[u8]) -> io::Result<()> {
     let mut file = OpenOptions::new().write(true).open(rt, place)?;
     file.write_all(bytes)
+}
+
+/// The same where there is an old file, if its mode allows it.
+fn replace_old(
+    rt: &HostRuntime,
+    place: Path<'_>,
+    mode: Permissions,
+    bytes: &[u8],
+) -> io::Result<()> {
+    if mode.readonly() {
+        return Err(io::Error::from(ErrorKind::PermissionDenied));
+    }
+    replace(rt, place, Some(mode), bytes)
 }
 
 /// Writes a new file and gives it the name of the old one. The new file goes where anything fails.

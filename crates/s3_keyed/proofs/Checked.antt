@@ -23,7 +23,7 @@ checked-none entry keys = record {
   keyed = λ i below. absurd (omega arith);
 }
 
-below_or_at : (i n : ℕ) → i < n + 1 → (i < n) ⊎ (i ≡ n)
+pub below_or_at : (i n : ℕ) → i < n + 1 → (i < n) ⊎ (i ≡ n)
 below_or_at zero zero h = inr refl
 below_or_at zero (suc n) h = inl (omega arith)
 below_or_at (suc i) zero h = absurd (omega arith)
@@ -117,6 +117,26 @@ not_its_key entry keys n j number key k below is is_key read other good =
 pub its_key : (entry : ℕ → Entry) (keys : List ℕ) (j number key k : ℕ) → number ≡ (entry j).number → key ≡ (entry j).key → slice_get keys (number - 1) ≡ Some k → (k == key) ≡ true → slice_get keys ((entry j).number - 1) ≡ Some (entry j).key
 its_key entry keys j number key k is is_key read same = ap (λ m. slice_get keys (m - 1)) (sym is) ∙ read ∙ ap Some (eqb-true k key same ∙ is_key)
 
+-- ---- entries that ascend
+
+pub ascends_one : (entry : ℕ → Entry) → IsAscending entry 1
+ascends_one entry i j lt below = absurd (omega (arith, lt, below))
+
+pub ascends_more : (entry : ℕ → Entry) (n : ℕ) → 0 < n → IsAscending entry n → (entry (n - 1)).key < (entry n).key → IsAscending entry (n + 1)
+ascends_more entry n some up last i j lt below = elim (below_or_at j n below) [
+  | inl before ↦ up i j lt before
+  | inr here ↦ subst (λ m. (entry i).key < (entry m).key) (sym here) (to_last (omega (arith, lt, here)))
+]
+  where
+    to_last : i < n → (entry i).key < (entry n).key
+    to_last less = elim (below_or_at i (n - 1) (omega (arith, less))) [
+      | inl before ↦ let step = up i (n - 1) before (omega (arith, some)) in omega (arith, step, last)
+      | inr at ↦ subst (λ m. (entry m).key < (entry n).key) (sym at) last
+    ]
+
+pub not_ascending : (entry : ℕ → Entry) (n j : ℕ) → 0 < j → j < n → (entry j).key ≤ (entry (j - 1)).key → IsAscending entry n → ⊥
+not_ascending entry n j some below le up = let step = up (j - 1) j (omega (arith, some)) below in omega (arith, step, le)
+
 -- ---- a search by halves
 
 pub lower_half : (entry : ℕ → Entry) (n middle k : ℕ) → IsAscending entry n → middle < n → (entry middle).key < k → (i : ℕ) → i < middle + 1 → (entry i).key < k
@@ -129,6 +149,13 @@ pub upper_half : (entry : ℕ → Entry) (n middle k : ℕ) → IsAscending entr
 upper_half entry n middle k up more i from below = elim (below_or_at middle i (omega arith)) [
   | inl before ↦ let step = up middle i before below in omega arith
   | inr here ↦ subst (λ m. k < (entry m).key) here more
+]
+
+-- the same where an entry's key may be the one that is sought
+pub upper_half_from : (entry : ℕ → Entry) (n middle k : ℕ) → IsAscending entry n → k ≤ (entry middle).key → (i : ℕ) → middle ≤ i → i < n → k ≤ (entry i).key
+upper_half_from entry n middle k up more i from below = elim (below_or_at middle i (omega arith)) [
+  | inl before ↦ let step = up middle i before below in omega arith
+  | inr here ↦ subst (λ m. k ≤ (entry m).key) here more
 ]
 
 pub not_found : (entry : ℕ → Entry) (n low high k : ℕ) → high ≤ low → ((i : ℕ) → i < low → (entry i).key < k) → ((i : ℕ) → high ≤ i → i < n → k < (entry i).key) → (i : ℕ) → i < n → (entry i).key ≡ k → ⊥

@@ -221,13 +221,18 @@ shifted k entry few long h =
     rw (big_number-first 8 entry long, places, whole)
     (div-mul-add (number_of (take k head)) (256 ^ (8 - k)) (number_of (drop k head)) fits ∙ ap number_of (take-take k 8 entry few))
 
+-- a key of at most eight bytes is a number of eight
+pub fits_eight : (k n : ℕ) → k ≤ 8 → n < 256 ^ k → n < 256 ^ 8
+fits_eight k n few short =
+    let up : 8 - k + k ≡ 8 = omega arith in
+    let within : 256 ^ k ≤ 256 ^ 8 = subst (λ m. 256 ^ k ≤ 256 ^ m) up (powers (8 - k) k) in
+    omega (arith, short, within)
+
 -- a key behind at least 24 zeros is its last eight bytes
 pub last_eight : (k : ℕ) (bytes : List ℕ) → k ≤ 8 → length bytes ≡ 32 → number_of bytes < 256 ^ k → big_number 8 (drop 24 bytes) ≡ number_of bytes
 last_eight k bytes few long short =
-    let up : 8 - k + k ≡ 8 = omega arith in
-    let within : 256 ^ k ≤ 256 ^ 8 = subst (λ n. 256 ^ k ≤ 256 ^ n) up (powers (8 - k) k) in
     big_number-all 8 (drop 24 bytes) (length-drop 24 bytes ∙ ap (λ n. n - 24) long)
-    ∙ short_drop 24 8 bytes long (omega (arith, short, within))
+    ∙ short_drop 24 8 bytes long (fits_eight k (number_of bytes) few short)
 
 -- where the first bytes tell two apart
 told_apart : (found rest whole : Ordering) → ordering_then found rest ≡ whole → is_ne found ≡ true → found ≡ whole

@@ -11,3 +11,4 @@ mod Merging
 mod Order
 mod Ordered
 mod Places
+mod Sectors

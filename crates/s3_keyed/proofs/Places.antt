@@ -4,7 +4,7 @@ use Rattle.std.proofs.lemmas.List.{drop-drop, drop-take, take-take, length-repli
 use Rattle.std.proofs.Math.Nat.{mul-le-mul_left}
 use Rattle.std.specs.List.{range_with_len}
 use borrow.Rule.Slice.PartMut.{mid_of}
-use Rattle.byteorder.specs.Endian.{big_bytes}
+use Rattle.byteorder.specs.Endian.{big_bytes, big_number}
 use Rattle.byteorder.specs.Numbers.{big_number-reads_back}
 use Rattle.s3_store.specs.Bytes.{part, SameOutside}
 use Rattle.s3_slots.specs.Slots.{record_sectors, entries_per_sector}
@@ -26,7 +26,7 @@ div-le n a b pos le = by (a / n) (b / n) (omega arith) (omega arith)
     by : (q r : ℕ) → n * q ≤ a → b < n * (r + 1) → q ≤ r
     by q r low high = not_below q r (λ below. let up : r + 1 ≤ q = omega arith in let m = mul-le-mul_left n up in omega arith)
 
-rows-fit : (per j capacity : ℕ) → 0 < per → j < capacity → j / per + 1 ≤ (capacity + per - 1) / per
+pub rows-fit : (per j capacity : ℕ) → 0 < per → j < capacity → j / per + 1 ≤ (capacity + per - 1) / per
 rows-fit per j capacity pos below = by (j / per) ((capacity + per - 1) / per) (omega arith) (omega arith)
   where
     by : (r q : ℕ) → per * r ≤ j → capacity + per - 1 < per * (q + 1) → r + 1 ≤ q
@@ -137,6 +137,15 @@ entry_there layout i place bytes sector short is_place is_sector =
     let order : j * w + start ≡ entry_place layout i = rw is_place (omega arith) in
     ap (entry_in layout.key.length)
     (ap (λ l. part l (j * w) w) is_sector ∙ part_part start 256 (j * w) w bytes (entry_inside w j (omega arith) (omega arith)) ∙ ap (λ a. part bytes a w) (omega (arith, order)))
+
+-- the number of an entry lies behind its key
+pub number_there : (layout : Layout) (i at : ℕ) (bytes : List ℕ) → at ≡ entry_place layout i + layout.key.length → big_number 4 (part bytes at 4) ≡ (entry_at layout bytes i).number
+unfolding entry_at
+number_there layout i at bytes is =
+    let k = layout.key.length in
+    let place = entry_place layout i in
+    ap (λ a. big_number 4 (part bytes a 4)) is
+    ∙ ap (big_number 4) (sym (drop-take k 4 (drop place bytes) ∙ ap (take 4) (drop-drop k place bytes)))
 
 -- ---- an entry is written
 

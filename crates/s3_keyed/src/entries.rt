@@ -1,18 +1,28 @@
 //! The entries of an index, and the keys of records.
-ghost use Rattle.std.specs.Prelude.{◌≡◌, ◌≢◌, ◌≤◌, ◌<◌, ◌+◌, ◌-◌, ◌*◌, ◌^◌, ℕ, length, IfOk, IfErr};
+ghost use Rattle.std.specs.Prelude.{◌≡◌, ◌≢◌, ◌≤◌, ◌<◌, ◌+◌, ◌-◌, ◌*◌, ◌^◌, ◌==◌, ℕ, length, IfOk, IfErr};
 ghost use Rattle.s3_store.specs.State.{KeepsContents};
 ghost use Rattle.s3_store.specs.Failures.{failed_transfers};
 ghost use Rattle.s3_store.specs.Bytes.{part};
+ghost use Rattle.s3_slots.specs.Slots.{record_sectors};
 ghost use Rattle.s3_files.specs.Files.{AreStored};
 ghost use Rattle.s3_keyed.specs.KeyOrder.{number_of};
 ghost use Rattle.s3_keyed.specs.Index.{entry_place, entry_at, key_of};
 ghost use Rattle.s3_keyed.specs.Inner.Shape.{layout_in, bytes_in, entry_of};
 
+use crate::index_sector::are_same_first;
 use crate::indexed::{IndexEntry, IndexedFile};
 use crate::keys::Key;
 use byteorder::{BigEndian, ByteOrder};
 use s3_files::read_bytes;
 use s3_store::{PoolFault, Sectors};
+
+/// How many sectors of the file lie before its index.
+pub fn sectors_before(file: &IndexedFile) -> u32
+    ensures { result ≡ record_sectors file.now.file.capacity file.now.file.record_length }
+{
+    let records = file.file.capacity * u32::from(file.file.record_length);
+    (records + 255) / 256
+}
 
 /// Where an entry of the index begins in the bytes of the file.
 pub fn place_of(file: &IndexedFile, i: u32) -> u32
@@ -22,8 +32,7 @@ pub fn place_of(file: &IndexedFile, i: u32) -> u32
 {
     let width = u32::from(file.key_length) + 4;
     let per_sector = 256 / width;
-    let records = file.file.capacity * u32::from(file.file.record_length);
-    256 * ((records + 255) / 256 + i / per_sector) + i % per_sector * width
+    256 * (sectors_before(file) + i / per_sector) + i % per_sector * width
 }
 
 /// Reads an entry of the index.
@@ -47,6 +56,21 @@ pub fn read_entry<P: Sectors>(
     let key = Key::of(&bytes[..key_length]);
     let number = BigEndian::read_u32(&bytes[key_length..]);
     Ok(IndexEntry { key, number })
+}
+
+/// Reads the number in an entry of the index.
+pub fn read_number<P: Sectors>(file: &IndexedFile, pool: &mut P, i: u32) -> Result<u32, PoolFault>
+    requires stored { AreStored file.now.file.sectors (P.state pool.old).contents }
+    requires within { i < file.now.file.capacity }
+    ensures ok { IfOk result (λ number. number ≡ (entry_at (layout_in file.now) (bytes_in file.now (P.state pool.old).contents) i).number) }
+    ensures keeps { KeepsContents (P.state pool.old) (P.state pool.new) }
+    ensures failures { (P.state pool.new).failures ≡ (P.state pool.old).failures + failed_transfers result }
+    ensures fault { IfErr result (λ fault. fault ≢ PoolFault.NoSector) }
+{
+    let mut bytes = [0; 4];
+    let at = place_of(file, i) + u32::from(file.key_length);
+    read_bytes(pool, &file.file.sectors, at, &mut bytes)?;
+    Ok(BigEndian::read_u32(&bytes))
 }
 
 /// Where the key of a record begins in the bytes of the file.
@@ -74,4 +98,27 @@ pub fn read_key<P: Sectors>(file: &IndexedFile, pool: &mut P, i: u32) -> Result<
     let at = i * u32::from(file.file.record_length) + u32::from(file.key_start - 1);
     read_bytes(pool, &file.file.sectors, at, bytes)?;
     Ok(Key::of(bytes))
+}
+
+/// Whether a record has the same key as one of these bytes.
+pub fn has_key_of<P: Sectors>(
+    file: &IndexedFile,
+    pool: &mut P,
+    i: u32,
+    bytes: &[u8],
+) -> Result<bool, PoolFault>
+    requires stored { AreStored file.now.file.sectors (P.state pool.old).contents }
+    requires within { i < file.now.file.capacity }
+    requires long { length bytes.now ≡ file.now.file.record_length }
+    ensures ok { IfOk result (λ same. same ≡ (key_of (layout_in file.now).key (part (bytes_in file.now (P.state pool.old).contents) (i * file.now.file.record_length) file.now.file.record_length) == key_of (layout_in file.now).key bytes.now)) }
+    ensures keeps { KeepsContents (P.state pool.old) (P.state pool.new) }
+    ensures failures { (P.state pool.new).failures ≡ (P.state pool.old).failures + failed_transfers result }
+    ensures fault { IfErr result (λ fault. fault ≢ PoolFault.NoSector) }
+{
+    let key_length = usize::from(file.key_length);
+    let start = usize::from(file.key_start - 1);
+    let mut buffer = [0; 29];
+    let key = &mut buffer[..key_length];
+    read_bytes(pool, &file.file.sectors, key_place(file, i), key)?;
+    Ok(are_same_first(key, &bytes[start..], key_length))
 }

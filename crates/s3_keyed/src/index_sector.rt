@@ -1,16 +1,15 @@
 //! Sectors of an index, whose entries are looked at where they lie.
-ghost use Rattle.std.specs.Prelude.{◌≡◌, ◌≢◌, ◌≤◌, ◌<◌, ◌+◌, ◌*◌, ◌/◌, ◌%◌, ◌^◌, ℕ, length, take, nat_lt, ◌==◌, OnOk, IfErr};
+ghost use Rattle.std.specs.Prelude.{◌≡◌, ◌≢◌, ◌≤◌, ◌<◌, ◌+◌, ◌*◌, ◌/◌, ◌^◌, ℕ, length, take, nat_lt, ◌==◌, OnOk, IfErr};
 ghost use Rattle.std.specs.Ordering.{nat_cmp};
 ghost use Rattle.s3_store.specs.State.{KeepsContents};
 ghost use Rattle.s3_store.specs.Failures.{failed_transfers};
 ghost use Rattle.s3_store.specs.Bytes.{part};
-ghost use Rattle.s3_slots.specs.Slots.{entries_per_sector as entries_of};
+ghost use Rattle.s3_slots.specs.Slots.{entries_per_sector as entries_of, index_sectors};
 ghost use Rattle.s3_files.specs.Files.{AreStored};
 ghost use Rattle.s3_keyed.specs.KeyOrder.{number_of};
-ghost use Rattle.s3_keyed.specs.Index.{entry_in};
-ghost use Rattle.s3_keyed.specs.Inner.Shape.{bytes_in, index_sector};
+ghost use Rattle.s3_keyed.specs.Inner.Shape.{bytes_in, index_sector, entry_here};
 
-use crate::entries::place_of;
+use crate::entries::sectors_before;
 use crate::indexed::IndexedFile;
 use crate::keys::Key;
 use byteorder::{BigEndian, ByteOrder};
@@ -26,89 +25,26 @@ pub fn entries_per_sector(file: &IndexedFile) -> u32
     256 / (u32::from(file.key_length) + 4)
 }
 
-/// Reads the sector of the index with entry `i`.
-fn read_around<P: Sectors>(
+/// Reads a sector of the index, from 0.
+pub fn read_sector<P: Sectors>(
     file: &IndexedFile,
     pool: &mut P,
-    i: u32,
+    place: u32,
     bytes: &mut [u8; 256],
 ) -> Result<(), PoolFault>
     requires stored { AreStored file.now.file.sectors (P.state pool.old).contents }
-    requires within { i < file.now.file.capacity }
-    ensures ok { OnOk result (bytes.new ≡ index_sector file.now (i / entries_of file.now.key_length) (bytes_in file.now (P.state pool.old).contents)) }
+    requires within { place < index_sectors file.now.file.capacity file.now.key_length }
+    ensures ok { OnOk result (bytes.new ≡ index_sector file.now place (bytes_in file.now (P.state pool.old).contents)) }
     ensures keeps { KeepsContents (P.state pool.old) (P.state pool.new) }
     ensures failures { (P.state pool.new).failures ≡ (P.state pool.old).failures + failed_transfers result }
     ensures fault { IfErr result (λ fault. fault ≢ PoolFault.NoSector) }
 {
-    let before = i % entries_per_sector(file) * (u32::from(file.key_length) + 4);
-    read_bytes(pool, &file.file.sectors, place_of(file, i) - before, bytes)
-}
-
-/// A sector of an index that was read.
-#[derive(Clone, Copy)]
-pub struct IndexSector {
-    /// Which one of the index it is, from 0.
-    pub place: u32,
-    /// Its bytes.
-    pub bytes: [u8; 256],
-}
-
-impl IndexSector {
-    /// One that isn't read yet.
-    pub fn blank() -> Self {
-        IndexSector {
-            place: 0,
-            bytes: [0; 256],
-        }
-    }
-
-    /// Reads the sector with entry `i`, over what was here.
-    pub fn read<P: Sectors>(
-        &mut self,
-        file: &IndexedFile,
-        pool: &mut P,
-        i: u32,
-    ) -> Result<(), PoolFault>
-        requires stored { AreStored file.now.file.sectors (P.state pool.old).contents }
-        requires within { i < file.now.file.capacity }
-        ensures place { OnOk result (self.new.place ≡ i / entries_of file.now.key_length) }
-        ensures ok { OnOk result (self.new.bytes ≡ index_sector file.now self.new.place (bytes_in file.now (P.state pool.old).contents)) }
-        ensures keeps { KeepsContents (P.state pool.old) (P.state pool.new) }
-        ensures failures { (P.state pool.new).failures ≡ (P.state pool.old).failures + failed_transfers result }
-        ensures fault { IfErr result (λ fault. fault ≢ PoolFault.NoSector) }
-    {
-        read_around(file, pool, i, &mut self.bytes)?;
-        self.place = i / entries_per_sector(file);
-        Ok(())
-    }
-
-    /// Goes on to the sector with entry `i`, which isn't read where it is this one. So many entries lie in each.
-    pub fn go_to<P: Sectors>(
-        &mut self,
-        file: &IndexedFile,
-        pool: &mut P,
-        i: u32,
-        per_sector: u32,
-    ) -> Result<(), PoolFault>
-        requires stored { AreStored file.now.file.sectors (P.state pool.old).contents }
-        requires within { i < file.now.file.capacity }
-        requires here { self.old.bytes ≡ index_sector file.now self.old.place (bytes_in file.now (P.state pool.old).contents) }
-        requires entries { per_sector ≡ entries_of file.now.key_length }
-        requires some { 0 < per_sector }
-        ensures place { OnOk result (self.new.place ≡ i / entries_of file.now.key_length) }
-        ensures ok { OnOk result (self.new.bytes ≡ index_sector file.now self.new.place (bytes_in file.now (P.state pool.old).contents)) }
-        ensures keeps { KeepsContents (P.state pool.old) (P.state pool.new) }
-        ensures failures { (P.state pool.new).failures ≡ (P.state pool.old).failures + failed_transfers result }
-        ensures fault { IfErr result (λ fault. fault ≢ PoolFault.NoSector) }
-    {
-        let place = i / per_sector;
-        if self.place == place {
-            return Ok(());
-        }
-        read_around(file, pool, i, &mut self.bytes)?;
-        self.place = place;
-        Ok(())
-    }
+    read_bytes(
+        pool,
+        &file.file.sectors,
+        256 * (sectors_before(file) + place),
+        bytes,
+    )
 }
 
 /// The bytes of entry `j` of a sector, whose keys have so many bytes.
@@ -121,6 +57,26 @@ fn entry_bytes(sector: &[u8; 256], j: usize, key_length: usize) -> &[u8]
     &sector[j * width..j * width + width]
 }
 
+/// The number whose bytes are the first four to eight of these: the highest ones of a number of 64 bits.
+pub fn number_at(bytes: &[u8], key_length: usize) -> u64
+    requires long { 4 ≤ key_length }
+    requires short { key_length ≤ 8 }
+    requires whole { 8 ≤ length bytes.now }
+    ensures { result ≡ number_of (take key_length bytes.now) }
+{
+    BigEndian::read_u64(bytes) >> (64 - 8 * key_length)
+}
+
+/// The key of entry `j` of a sector, which has four to eight bytes, as a number.
+pub fn key_number(sector: &[u8; 256], j: usize, key_length: usize) -> u64
+    requires long { 4 ≤ key_length }
+    requires short { key_length ≤ 8 }
+    requires inside { j < 256 / (key_length + 4) }
+    ensures { result ≡ (entry_here key_length sector.now j).key }
+{
+    number_at(entry_bytes(sector, j, key_length), key_length)
+}
+
 /// How the key at the start of an entry, which has so many bytes, stands to another, byte by byte.
 fn compare_bytes(entry: &[u8], key_length: usize, key: &Key) -> Ordering
     requires short { key_length ≤ 29 }
@@ -131,7 +87,7 @@ fn compare_bytes(entry: &[u8], key_length: usize, key: &Key) -> Ordering
     entry[..key_length].cmp(&key.bytes[32 - key_length..])
 }
 
-/// The same of a key of four to eight bytes: it is the highest bytes of a number of 64 bits.
+/// The same of a key of four to eight bytes.
 fn compare_number(entry: &[u8], key_length: usize, key: &Key) -> Ordering
     requires long { 4 ≤ key_length }
     requires short { key_length ≤ 8 }
@@ -139,8 +95,7 @@ fn compare_number(entry: &[u8], key_length: usize, key: &Key) -> Ordering
     requires short_key { number_of key.now.bytes < 256 ^ key_length }
     ensures { result ≡ nat_cmp (number_of (take key_length entry.now)) (number_of key.now.bytes) }
 {
-    let number = BigEndian::read_u64(entry) >> (64 - 8 * key_length);
-    number.cmp(&BigEndian::read_u64(&key.bytes[24..]))
+    number_at(entry, key_length).cmp(&key.short_number())
 }
 
 /// The same of a longer key, by its first eight bytes where they aren't the same.
@@ -163,7 +118,7 @@ pub fn compare_entry(sector: &[u8; 256], j: usize, key_length: usize, key: &Key)
     requires short { key_length ≤ 29 }
     requires inside { j < 256 / (key_length + 4) }
     requires short_key { number_of key.now.bytes < 256 ^ key_length }
-    ensures { result ≡ nat_cmp (entry_in key_length (part sector.now (j * (key_length + 4)) (key_length + 4))).key (number_of key.now.bytes) }
+    ensures { result ≡ nat_cmp (entry_here key_length sector.now j).key (number_of key.now.bytes) }
 {
     let entry = entry_bytes(sector, j, key_length);
     match key_length {
@@ -173,14 +128,34 @@ pub fn compare_entry(sector: &[u8; 256], j: usize, key_length: usize, key: &Key)
     }
 }
 
+/// The key of entry `j` of a sector.
+pub fn key_of_entry(sector: &[u8; 256], j: usize, key_length: usize) -> Key
+    requires short { key_length ≤ 29 }
+    requires inside { j < 256 / (key_length + 4) }
+    ensures key { number_of result.bytes ≡ (entry_here key_length sector.now j).key }
+    ensures short { number_of result.bytes < 256 ^ key_length }
+{
+    Key::of(&entry_bytes(sector, j, key_length)[..key_length])
+}
+
 /// Whether the key of entry `j` of a sector is above another.
 pub fn is_entry_above(sector: &[u8; 256], j: usize, key_length: usize, key: &Key) -> bool
     requires short { key_length ≤ 29 }
     requires inside { j < 256 / (key_length + 4) }
     requires short_key { number_of key.now.bytes < 256 ^ key_length }
-    ensures { result ≡ nat_lt (number_of key.now.bytes) (entry_in key_length (part sector.now (j * (key_length + 4)) (key_length + 4))).key }
+    ensures { result ≡ nat_lt (number_of key.now.bytes) (entry_here key_length sector.now j).key }
 {
     compare_entry(sector, j, key_length, key) == Ordering::Greater
+}
+
+/// Whether the key of entry `j` of a sector is below another.
+pub fn is_entry_below(sector: &[u8; 256], j: usize, key_length: usize, key: &Key) -> bool
+    requires short { key_length ≤ 29 }
+    requires inside { j < 256 / (key_length + 4) }
+    requires short_key { number_of key.now.bytes < 256 ^ key_length }
+    ensures { result ≡ nat_lt (entry_here key_length sector.now j).key (number_of key.now.bytes) }
+{
+    compare_entry(sector, j, key_length, key) == Ordering::Less
 }
 
 /// Whether the key of entry `j` of a sector is this one.
@@ -188,16 +163,66 @@ pub fn is_key_of(sector: &[u8; 256], j: usize, key_length: usize, key: &Key) -> 
     requires short { key_length ≤ 29 }
     requires inside { j < 256 / (key_length + 4) }
     requires short_key { number_of key.now.bytes < 256 ^ key_length }
-    ensures { result ≡ (number_of key.now.bytes == (entry_in key_length (part sector.now (j * (key_length + 4)) (key_length + 4))).key) }
+    ensures { result ≡ (number_of key.now.bytes == (entry_here key_length sector.now j).key) }
 {
     compare_entry(sector, j, key_length, key) == Ordering::Equal
+}
+
+/// How the first so many bytes of one text stand to those of another.
+fn compare_first(one: &[u8], other: &[u8], count: usize) -> Ordering
+    requires one { count ≤ length one.now }
+    requires other { count ≤ length other.now }
+    ensures { result ≡ nat_cmp (number_of (take count one.now)) (number_of (take count other.now)) }
+{
+    one[..count].cmp(&other[..count])
+}
+
+/// Whether two texts begin with the same so many bytes.
+pub fn are_same_first(one: &[u8], other: &[u8], count: usize) -> bool
+    requires one { count ≤ length one.now }
+    requires other { count ≤ length other.now }
+    ensures { result ≡ (number_of (take count one.now) == number_of (take count other.now)) }
+{
+    compare_first(other, one, count) == Ordering::Equal
+}
+
+/// Whether the key of entry `j` of a sector, which has so many bytes, is the one at the start of these.
+fn is_key_in(sector: &[u8; 256], j: usize, key_length: usize, bytes: &[u8]) -> bool
+    requires short { key_length ≤ 29 }
+    requires inside { j < 256 / (key_length + 4) }
+    requires whole { key_length ≤ length bytes.now }
+    ensures { result ≡ (number_of (take key_length bytes.now) == (entry_here key_length sector.now j).key) }
+{
+    are_same_first(bytes, entry_bytes(sector, j, key_length), key_length)
+}
+
+/// Whether the key of entry `j` of a sector, which has so many bytes, is the one at a place in another sector.
+pub fn is_key_at(
+    sector: &[u8; 256],
+    j: usize,
+    key_length: usize,
+    other: &[u8; 256],
+    start: usize,
+) -> bool
+    requires short { key_length ≤ 29 }
+    requires inside { j < 256 / (key_length + 4) }
+    requires whole { start + key_length ≤ 256 }
+    ensures { result ≡ (number_of (part other.now start key_length) == (entry_here key_length sector.now j).key) }
+{
+    let bytes = &other[start..];
+    match key_length {
+        4..=8 if bytes.len() >= 8 => {
+            key_number(sector, j, key_length) == number_at(bytes, key_length)
+        }
+        _ => is_key_in(sector, j, key_length, bytes),
+    }
 }
 
 /// The number in entry `j` of a sector.
 pub fn number_in(sector: &[u8; 256], j: usize, key_length: usize) -> u32
     requires short { key_length ≤ 29 }
     requires inside { j < 256 / (key_length + 4) }
-    ensures { result ≡ (entry_in key_length (part sector.now (j * (key_length + 4)) (key_length + 4))).number }
+    ensures { result ≡ (entry_here key_length sector.now j).number }
 {
     BigEndian::read_u32(&entry_bytes(sector, j, key_length)[key_length..])
 }

@@ -13,9 +13,8 @@ ghost use Rattle.s3_keyed.specs.Calls.{place_of_key, nth_by_key as nth_by_key_sp
 use crate::added::{insert_added, is_above_added, number_among};
 use crate::check::is_good;
 use crate::close::merge;
-use crate::entries::{read_entry, read_key};
+use crate::entries::{has_key_of, read_number};
 use crate::fault::KeyedFault;
-use crate::index_sector::entries_per_sector;
 use crate::indexed::{IndexEntry, IndexedFile};
 use crate::keys::{Key, QuickKey};
 use crate::search::{guess_of, is_above_index, search_index};
@@ -133,8 +132,7 @@ impl Keyed {
         if i >= self.count {
             return Err(KeyedFault::NoKey);
         }
-        let old = read_key(&self.file, pool, i)?;
-        if !old.is_same(&self.key_in(bytes)) {
+        if !has_key_of(&self.file, pool, i, bytes)? {
             return Err(KeyedFault::KeyChanged);
         }
         write_record(&self.file, pool, i, bytes)?;
@@ -151,10 +149,9 @@ impl Keyed {
         Key::of(&bytes[start..start + usize::from(self.file.key_length)])
     }
 
-    /// Where the search for a key begins: the first entry of the sector that the first keys name.
+    /// Where the search for a key begins: the sector of the index that the first keys name.
     fn guess(&self, key: &Key) -> u32 {
-        let key = QuickKey::of(key, self.file.key_length);
-        guess_of(&self.firsts, entries_per_sector(&self.file), &key)
+        guess_of(&self.firsts, key, self.file.key_length)
     }
 
     /// The place of the record with a key, from 0. The index is looked into, and then the added entries.
@@ -208,8 +205,8 @@ impl Keyed {
         if n >= self.file.file.count {
             return Err(KeyedFault::NoKey);
         }
-        let entry = read_entry(&self.file, pool, n)?;
-        Ok(entry.number - 1)
+        let number = read_number(&self.file, pool, n)?;
+        Ok(number - 1)
     }
 
     /// Adds a record behind the last one, under a key that no other has. The index on the pack stays as it is until the close.

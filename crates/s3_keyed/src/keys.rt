@@ -37,6 +37,14 @@ impl Key {
         }
     }
 
+    /// As a number, where it has at most eight bytes.
+    pub fn short_number(&self) -> u64
+        requires { number_of self.now.bytes < 256 ^ 8 }
+        ensures { result ≡ number_of self.now.bytes }
+    {
+        BigEndian::read_u64(&self.bytes[24..])
+    }
+
     /// How it stands to another key of the same length.
     pub fn compare(&self, other: &Key) -> Ordering
         ensures { result ≡ nat_cmp (number_of self.now.bytes) (number_of other.now.bytes) }
@@ -96,7 +104,12 @@ impl QuickKey {
         }
     }
 
-    /// Whether it isn't above another one.
+    /// Whether it isn't above another one, where both have at most eight bytes: their heads are all of them.
+    pub fn is_short_up_to(&self, other: &QuickKey) -> bool {
+        self.head <= other.head
+    }
+
+    /// The same of keys of any length.
     pub fn is_up_to(&self, other: &QuickKey) -> bool {
         self.head < other.head || self.head == other.head && !self.key.is_above(&other.key)
     }

@@ -14,6 +14,7 @@ mod keys;
 mod laws;
 mod record_sector;
 mod search;
+mod sector_search;
 mod write;
 
 pub use fault::KeyedFault;

@@ -1,16 +1,15 @@
 //! A sector of a file that was read, out of which keys of records are taken.
-ghost use Rattle.std.specs.Prelude.{◌≡◌, ◌≢◌, ◌≤◌, ◌<◌, ◌+◌, ◌*◌, ◌^◌, ℕ, length, OnOk, IfOk, IfErr};
+ghost use Rattle.std.specs.Prelude.{◌≡◌, ◌≢◌, ◌≤◌, ◌<◌, ◌+◌, ◌*◌, ◌/◌, ◌==◌, ℕ, length, OnOk, IfOk, IfErr, MatchBool};
 ghost use Rattle.s3_store.specs.State.{KeepsContents};
 ghost use Rattle.s3_store.specs.Failures.{failed_transfers};
 ghost use Rattle.s3_store.specs.Bytes.{part};
 ghost use Rattle.s3_files.specs.Files.{AreStored};
-ghost use Rattle.s3_keyed.specs.KeyOrder.{number_of};
 ghost use Rattle.s3_keyed.specs.Index.{key_of};
-ghost use Rattle.s3_keyed.specs.Inner.Shape.{layout_in, bytes_in};
+ghost use Rattle.s3_keyed.specs.Inner.Shape.{layout_in, bytes_in, keys_on, entry_here, IsOfRecord};
 
 use crate::entries::{key_place, read_key};
+use crate::index_sector::{is_key_at, is_key_of, number_in};
 use crate::indexed::IndexedFile;
-use crate::keys::Key;
 use s3_files::read_bytes;
 use s3_store::{PoolFault, Sectors};
 
@@ -74,18 +73,21 @@ impl RecordSector {
         self.read(file, pool, place)
     }
 
-    /// Reads the key of a record, going on to its sector. One that lies in two sectors is read by itself.
-    pub fn read_key<P: Sectors>(
+    /// Whether the key of a record is that of entry `j` of a sector of the index, going on to the record's sector. One that lies in
+    /// two sectors is read by itself.
+    fn has_key<P: Sectors>(
         &mut self,
         file: &IndexedFile,
         pool: &mut P,
         i: u32,
-    ) -> Result<Key, PoolFault>
+        index: &[u8; 256],
+        j: usize,
+    ) -> Result<bool, PoolFault>
         requires stored { AreStored file.now.file.sectors (P.state pool.old).contents }
         requires within { i < file.now.file.capacity }
+        requires inside { j < 256 / (file.now.key_length + 4) }
         requires here { self.old.bytes ≡ part (bytes_in file.now (P.state pool.old).contents) (256 * self.old.place) 256 }
-        ensures ok { IfOk result (λ key. number_of key.bytes ≡ key_of (layout_in file.now).key (part (bytes_in file.now (P.state pool.old).contents) (i * file.now.file.record_length) file.now.file.record_length)) }
-        ensures short { IfOk result (λ key. number_of key.bytes < 256 ^ file.now.key_length) }
+        ensures ok { IfOk result (λ is. is ≡ (key_of (layout_in file.now).key (part (bytes_in file.now (P.state pool.old).contents) (i * file.now.file.record_length) file.now.file.record_length) == (entry_here file.now.key_length index.now j).key)) }
         ensures here { IfOk result (λ _. self.new.bytes ≡ part (bytes_in file.now (P.state pool.old).contents) (256 * self.new.place) 256) }
         ensures keeps { KeepsContents (P.state pool.old) (P.state pool.new) }
         ensures failures { (P.state pool.new).failures ≡ (P.state pool.old).failures + failed_transfers result }
@@ -95,9 +97,45 @@ impl RecordSector {
         let start = (at % 256) as usize;
         let key_length = usize::from(file.key_length);
         if start + key_length > 256 {
-            return read_key(file, pool, i);
+            let key = read_key(file, pool, i)?;
+            return Ok(is_key_of(index, j, key_length, &key));
         }
         self.go_to(file, pool, at / 256)?;
-        Ok(Key::of(&self.bytes[start..start + key_length]))
+        Ok(is_key_at(index, j, key_length, &self.bytes, start))
+    }
+
+    /// Whether the first so many entries of a sector of the index have numbers of records, and the keys of those.
+    pub fn have_keys<P: Sectors>(
+        &mut self,
+        file: &IndexedFile,
+        pool: &mut P,
+        index: &[u8; 256],
+        entries: usize,
+    ) -> Result<bool, PoolFault>
+        requires stored { AreStored file.now.file.sectors (P.state pool.old).contents }
+        requires inside { entries ≤ 256 / (file.now.key_length + 4) }
+        requires here { self.old.bytes ≡ part (bytes_in file.now (P.state pool.old).contents) (256 * self.old.place) 256 }
+        ensures good { IfOk result (λ good. MatchBool good
+            ((j : ℕ) → j < entries → IsOfRecord (keys_on file.now (P.state pool.old).contents) (entry_here file.now.key_length index.now j))
+            ((j : ℕ) × (j < entries) × (IsOfRecord (keys_on file.now (P.state pool.old).contents) (entry_here file.now.key_length index.now j) → ⊥))) }
+        ensures here { IfOk result (λ _. self.new.bytes ≡ part (bytes_in file.now (P.state pool.old).contents) (256 * self.new.place) 256) }
+        ensures keeps { KeepsContents (P.state pool.old) (P.state pool.new) }
+        ensures failures { (P.state pool.new).failures ≡ (P.state pool.old).failures + failed_transfers result }
+        ensures fault { IfErr result (λ fault. fault ≢ PoolFault.NoSector) }
+    {
+        let key_length = usize::from(file.key_length);
+        for j in 0..entries {
+            let number = number_in(index, j, key_length);
+            if number == 0 {
+                return Ok(false);
+            }
+            if number > file.file.count {
+                return Ok(false);
+            }
+            if !self.has_key(file, pool, number - 1, index, j)? {
+                return Ok(false);
+            }
+        }
+        Ok(true)
     }
 }

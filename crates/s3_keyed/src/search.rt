@@ -9,44 +9,41 @@ ghost use Rattle.s3_keyed.specs.Index.{entry_at, index_in};
 ghost use Rattle.s3_keyed.specs.Inner.Shape.{layout_in, bytes_in};
 
 use crate::entries::read_entry;
-use crate::index_sector::{IndexSector, compare_entry, entries_per_sector, number_in};
+use crate::index_sector::{entries_per_sector, read_sector};
 use crate::indexed::IndexedFile;
 use crate::keys::{Key, QuickKey};
+use crate::sector_search::{Standing, find_entry};
 use s3_store::{PoolFault, Sectors};
-use std::cmp::Ordering;
 
-/// The first entry of the sector that a key lies in by the first keys of all sectors.
-pub fn guess_of(firsts: &[QuickKey], per_sector: u32, key: &QuickKey) -> u32 {
-    let sectors = firsts.partition_point(|first| first.is_up_to(key));
-    let sector = u32::try_from(sectors.saturating_sub(1)).unwrap_or(0);
-    sector.saturating_mul(per_sector)
+/// The sector of the index that a key of so many bytes lies in by the first keys of all sectors.
+pub fn guess_of(firsts: &[QuickKey], key: &Key, key_length: u8) -> u32 {
+    let key = QuickKey::of(key, key_length);
+    let sectors = if key_length <= 8 {
+        firsts.partition_point(|first| first.is_short_up_to(&key))
+    } else {
+        firsts.partition_point(|first| first.is_up_to(&key))
+    };
+    u32::try_from(sectors.saturating_sub(1)).unwrap_or(0)
 }
 
-/// Which entry is compared next, of those from `low` up to but without `high`: the one in the middle of those in the guessed
-/// sector, then the one behind that sector, and then the one in the middle of all, or the first of its sector if that comes
-/// behind `low`.
-fn next_of(low: u32, high: u32, guess: u32, per_sector: u32) -> u32
+/// Which sector is looked into next, of those from `low` up to but without `high`: the guessed one, then the one behind it, and
+/// then the one in the middle.
+fn next_of(low: u32, high: u32, guess: u32) -> u32
     requires some { low < high }
-    requires entries { 0 < per_sector }
     ensures from { low ≤ result }
     ensures below { result < high }
 {
-    let behind = guess.saturating_add(per_sector);
-    let from = low.max(guess);
-    let to = high.min(behind);
-    if from < to {
-        return from + (to - from) / 2;
+    if low <= guess && guess < high {
+        return guess;
     }
-    if low == behind {
+    if low == guess.saturating_add(1) {
         return low;
     }
-    let middle = low + (high - low) / 2;
-    let first = middle - middle % per_sector;
-    if first > low { first } else { middle }
+    low + (high - low) / 2
 }
 
 /// The number of the record with a key among the first so many entries of the index. Its sectors are halved, and then the
-/// entries of one; where the guess is the first entry of that sector, no other is read.
+/// entries of one; where the guess is that sector, no other is read.
 pub fn search_index<P: Sectors>(
     file: &IndexedFile,
     pool: &mut P,
@@ -65,23 +62,19 @@ pub fn search_index<P: Sectors>(
     ensures failures { (P.state pool.new).failures ≡ (P.state pool.old).failures + failed_transfers result }
     ensures fault { IfErr result (λ fault. fault ≢ PoolFault.NoSector) }
 {
-    if entries == 0 {
-        return Ok(None);
-    }
     let per_sector = entries_per_sector(file);
     let key_length = usize::from(file.key_length);
-    let mut sector = IndexSector::blank();
-    sector.read(file, pool, guess.min(entries - 1))?;
+    let mut sector = [0; 256];
     let mut low = 0;
-    let mut high = entries;
+    let mut high = entries.div_ceil(per_sector);
     'halve: while low < high {
-        let i = next_of(low, high, guess, per_sector);
-        let j = (i % per_sector) as usize;
-        sector.go_to(file, pool, i, per_sector)?;
-        match compare_entry(&sector.bytes, j, key_length, key) {
-            Ordering::Less => low = i + 1,
-            Ordering::Equal => return Ok(Some(number_in(&sector.bytes, j, key_length))),
-            Ordering::Greater => high = i,
+        let place = next_of(low, high, guess);
+        read_sector(file, pool, place, &mut sector)?;
+        let count = per_sector.min(entries - place * per_sector) as usize;
+        match find_entry(&sector, count, key_length, key) {
+            Standing::Before => high = place,
+            Standing::Within(found) => return Ok(found),
+            Standing::Behind => low = place + 1,
         }
     }
     Ok(None)

@@ -7,3 +7,5 @@ pub mod ComposeLemmas
 pub mod LawLemmas
 pub mod GuardLemmas
 pub mod PreparedLemmas
+pub mod AmountLemmas
+pub mod CardLemmas

@@ -1,6 +1,7 @@
 //! What an output line puts out: whether it holds, the record that it composes, and how it moves the carriage.
 #![tactic(auto)]
 
+mod amounts;
 pub mod carriage;
 mod composing;
 pub mod composition;

@@ -1,44 +1,13 @@
 -- Buffers laid over the sectors of a store.
-use Rattle.std.proofs.Common.{◌≡◌, ◌≢◌, ℕ, zero, suc, ◌+◌, ◌<◌, true, false, List, [], ◌∷◌, ◌++◌, length, slice_get, slice_set, Option, Some, None, nat_eq, refl, sym, ap, ◌∙◌, arith, length-set, ◌⊎◌, inl, inr}
-use Rattle.std.proofs.lemmas.Bool.{eqb-true, eq-eqb}
+use Rattle.std.proofs.Common.{◌≡◌, ◌≢◌, ℕ, zero, suc, ◌<◌, List, [], ◌∷◌, ◌++◌, length, slice_get, slice_set, Some, refl, sym, ap, ◌∙◌, arith, length-set, ◌⊎◌, inl, inr}
 use Rattle.std.proofs.lemmas.Bool.Decides.{eqb_tells}
-use Rattle.std.specs.List.{position_from}
-use Rattle.s3_store.proofs.SectorLists.{slice_get_set_same, slice_get_set_other, slice_set_known, slice_set_set_same, slice_set_set_other}
+use Rattle.s3_store.proofs.SectorLists.{slice_get_set_same, slice_get_set_other, slice_set_known, slice_set_set_other}
 use Rattle.s3_pool.specs.declared.buffers.Buffer.{Buffer}
-use Rattle.s3_pool.specs.Buffers.{laid, IsAt, IsMissed}
-
-apart : (k j : ℕ) → nat_eq k j ≡ false → k ≢ j
-apart k j h e = let t = eq-eqb k j e in cc
+use Rattle.s3_pool.specs.Buffers.{laid, IsMissed}
 
 pub length_laid : (xs : List Buffer) (b : List (List ℕ)) → length (laid xs b) ≡ length b
 length_laid [] b = refl
 length_laid (x ∷ xs) b = length-set (laid xs b) x.sector x.bytes.value ∙ length_laid xs b
-
--- ---- where a sector is
-
-found_from : (n i : ℕ) (xs : List Buffer) (k : ℕ) → position_from (λ x. nat_eq x.sector n) i xs ≡ Some k → (j : ℕ) × (k ≡ i + j) × IsAt n j xs
-found_from n i [] k h = cc
-found_from n i (x ∷ xs) k h = (elim (nat_eq x.sector n) as (λ y. nat_eq x.sector n ≡ y → (j : ℕ) × (k ≡ i + j) × IsAt n j (x ∷ xs)) [
-  | true ↦ λ t. let h' = rw t at h in let same : i ≡ k = cc in (0, omega (arith, same), eqb-true x.sector n t)
-  | false ↦ λ t. let r = found_from n (i + 1) xs k (rw t at h) in (suc r.0, omega (arith, r.1), r.2)
-]) refl
-
-pub found : (n k : ℕ) (xs : List Buffer) → position_from (λ x. nat_eq x.sector n) 0 xs ≡ Some k → IsAt n k xs
-found n k xs h = let r = found_from n 0 xs k h in let same : r.0 ≡ k = omega (arith, r.1) in rw same at r.2
-
-missed_step : (n i : ℕ) (x : Buffer) (xs : List Buffer) → position_from (λ y. nat_eq y.sector n) i (x ∷ xs) ≡ None → (x.sector ≢ n) × (position_from (λ y. nat_eq y.sector n) (i + 1) xs ≡ None)
-missed_step n i x xs h = (elim (nat_eq x.sector n) as (λ y. nat_eq x.sector n ≡ y → (x.sector ≢ n) × (position_from (λ y. nat_eq y.sector n) (i + 1) xs ≡ None)) [
-  | true ↦ λ t. let h' = rw t at h in absurd cc
-  | false ↦ λ t. (apart x.sector n t, rw t at h)
-]) refl
-
-missed_from : (n i : ℕ) (xs : List Buffer) → position_from (λ x. nat_eq x.sector n) i xs ≡ None → IsMissed n xs
-missed_from n i [] h slot x on = absurd cc
-missed_from n i (y ∷ ys) h zero x on = let step = missed_step n i y ys h in let same : y ≡ x = cc in λ e. step.0 (ap (λ z. z.sector) same ∙ e)
-missed_from n i (y ∷ ys) h (suc slot) x on = missed_from n (i + 1) ys (missed_step n i y ys h).1 slot x on
-
-pub missed : (n : ℕ) (xs : List Buffer) → position_from (λ x. nat_eq x.sector n) 0 xs ≡ None → IsMissed n xs
-missed n xs h = missed_from n 0 xs h
 
 -- ---- a sector that no buffer holds
 

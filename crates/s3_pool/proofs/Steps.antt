@@ -1,5 +1,5 @@
 -- What each step of a pool keeps.
-use Rattle.std.proofs.Common.{◌≡◌, ◌≢◌, ℕ, zero, suc, ◌+◌, ◌<◌, ◌≤◌, true, false, List, [], ◌∷◌, ◌++◌, length, slice_get, slice_set, Option, Result, Ok, Err, OnOk, OnErr, IsErrOf, ◌↔◌, Some, None, IsSome, IsSomeAnd, MatchOption, refl, sym, ap, ◌∙◌, subst, arith, length-set, ◌⊎◌, inl, inr}
+use Rattle.std.proofs.Common.{◌≡◌, ◌≢◌, ℕ, ◌+◌, ◌<◌, ◌≤◌, true, false, List, [], length, slice_get, slice_set, Option, Result, Ok, Err, OnOk, OnErr, IsErrOf, ◌↔◌, Some, None, IsSomeAnd, MatchOption, refl, sym, ap, ◌∙◌, subst, arith, length-set, ◌⊎◌, inl, inr}
 use Rattle.std.proofs.lemmas.Option.{slice_get_within}
 use Rattle.std.proofs.lemmas.Bool.Decides.{eqb_tells}
 use Rattle.s3_store.specs.declared.pool_fault.PoolFault.{PoolFault}
@@ -11,7 +11,8 @@ use Rattle.s3_store.proofs.SectorLists.{slice_get_set_same, slice_get_set_other,
 use Rattle.s3_pool.specs.declared.buffers.Buffer.{Buffer}
 use Rattle.s3_pool.specs.declared.buffers.Buffers.{Buffers}
 use Rattle.s3_pool.specs.Buffers.{laid, IsAt, IsMissed, IsSound, KeepsLaid, Overwrites, pool_state}
-use Rattle.s3_pool.specs.Inner.BufferLending.{dirty, with_buffer, with_taken, IsInStep}
+use Rattle.s3_pool.specs.Inner.BufferLending.{dirty, with_buffer, place, with_taken, IsInStep}
+use Rattle.s3_pool.specs.Inner.Places.{IsPlaced, IsIndexed}
 use Rattle.s3_pool.specs.Lending.{ChangesSector, KeepsAll}
 use Rattle.s3_pool.proofs.Laid.{but, but_missed, length_laid, laid_missed, laid_written, laid_append, IsElsewhere, laid_over, laid_held, set_tells, append_tells, laid_set, laid_nothing}
 
@@ -93,11 +94,6 @@ all_gone {b} {b'} {xs} keeps is = record {
 abbrev pub IsOpen : List (List ℕ) → List Buffer → Option ℕ → Type 0
 IsOpen b xs way = MatchOption way (length xs < 16) (λ slot. IsInStep b xs slot)
 
--- where it goes
-place : List Buffer → Option ℕ → ℕ
-place xs None = length xs
-place xs (Some k) = k
-
 known : (b : List (List ℕ)) (xs : List Buffer) (k : ℕ) → IsInStep b xs k → (x : Buffer) × (slice_get xs k ≡ Some x) × (slice_get b x.sector ≡ Some x.bytes.value)
 known b xs k step = of (slice_get xs k) refl step
   where
@@ -110,7 +106,6 @@ in_range_of b xs None way_is = way_is
 in_range_of b xs (Some k) way_is = let x = known b xs k way_is in slice_get_within xs k x.0 x.1
 
 taken_tells : (b : List (List ℕ)) (xs : List Buffer) (way : Option ℕ) (y : Buffer) → IsOpen b xs way → (j : ℕ) (z : Buffer) → slice_get (with_taken xs way y) j ≡ Some z → ((j ≡ place xs way) × (y ≡ z)) ⊎ ((j ≢ place xs way) × (slice_get xs j ≡ Some z))
-unfolding place
 taken_tells b xs None y way_is j z on = append_tells xs y j z on
 taken_tells b xs (Some k) y way_is j z on = set_tells xs k y (in_range_of b xs (Some k) way_is) j z on
 
@@ -168,6 +163,46 @@ pub took : {b b' : List (List ℕ)} {xs ys : List Buffer} (way : Option ℕ) (y 
 took {b} {b'} {xs} way y (Ok slot) ok err keeps taken = subst (λ l. KeepsLaid b xs b' l) (sym ok) taken
 took {b} {b'} {xs} way y (Err fault) ok err keeps taken = subst (λ l. KeepsLaid b xs b' l) (sym err) keeps
 
+-- ---- the places of sectors
+
+-- a store that is written to has as many sectors
+pub still_indexed : {b b' : List (List ℕ)} {xs ys : List Buffer} (f : Buffers) → KeepsLaid b xs b' ys → IsIndexed b f → IsIndexed b' f
+still_indexed f keeps i = record { whole = i.whole ∙ sym (same_length keeps); placed = i.placed }
+
+-- buffers that stay where they are have their places
+pub unmoved : {b b' : List (List ℕ)} {xs ys : List Buffer} (f f' : Buffers) → KeepsLaid b xs b' ys → IsIndexed b f → f'.slots.items ≡ f.slots.items → f'.places.items ≡ f.places.items → IsIndexed b' f'
+unmoved f f' keeps i slots places = record {
+  whole = ap length places ∙ i.whole ∙ sym (same_length keeps);
+  placed = subst (λ l. IsPlaced l f'.slots.items) (sym places) (subst (λ l. IsPlaced f.places.items l) (sym slots) i.placed);
+}
+
+-- no buffer, no place to know
+pub none_indexed : {b b' : List (List ℕ)} {xs ys : List Buffer} (f f' : Buffers) → KeepsLaid b xs b' ys → IsIndexed b f → f'.places.items ≡ f.places.items → f'.slots.items ≡ [] → IsIndexed b' f'
+none_indexed f f' keeps i places none = record {
+  whole = ap length places ∙ i.whole ∙ sym (same_length keeps);
+  placed = λ j z on. let on' = rw none at on in absurd cc;
+}
+
+taken_placed : (b : List (List ℕ)) (places : List ℕ) (xs : List Buffer) (way : Option ℕ) (y : Buffer) → IsOpen b xs way → IsMissed y.sector xs → y.sector < length places → IsPlaced places xs → IsPlaced (slice_set places y.sector (place xs way)) (with_taken xs way y)
+taken_placed b places xs way y way_is missed within placed = λ j z on. elim (taken_tells b xs way y way_is j z on) [
+  | inl new ↦ ap (λ u. slice_get (slice_set places y.sector (place xs way)) u.sector) (sym new.1) ∙ slice_get_set_same places y.sector (place xs way) within ∙ ap Some (sym new.0)
+  | inr old ↦ slice_get_set_other places y.sector z.sector (place xs way) (missed j z old.1) ∙ placed j z old.1
+]
+
+-- a sector that gets a slot has it as its place
+pub taken_indexed : {b b' : List (List ℕ)} (f f' : Buffers) (way : Option ℕ) (y : Buffer) → KeepsLaid b f.slots.items b' f.slots.items → IsOpen b' f.slots.items way → IsMissed y.sector f.slots.items → y.sector < length b → IsIndexed b f → f'.slots.items ≡ with_taken f.slots.items way y → f'.places.items ≡ slice_set f.places.items y.sector (place f.slots.items way) → IsIndexed b' f'
+taken_indexed {b} {b'} f f' way y keeps way_is missed within i slots places =
+    let placed = taken_placed b' f.places.items f.slots.items way y way_is missed (omega (arith, within, i.whole)) i.placed in
+    record {
+      whole = ap length places ∙ length-set f.places.items y.sector (place f.slots.items way) ∙ i.whole ∙ sym (same_length keeps);
+      placed = subst (λ l. IsPlaced l f'.slots.items) (sym places) (subst (λ l. IsPlaced (slice_set f.places.items y.sector (place f.slots.items way)) l) (sym slots) placed);
+    }
+
+-- in either answer
+pub took_indexed : {b b' : List (List ℕ)} (f f' : Buffers) (way : Option ℕ) (y : Buffer) (r : Result ℕ PoolFault) → KeepsLaid b f.slots.items b' f.slots.items → IsOpen b' f.slots.items way → IsMissed y.sector f.slots.items → y.sector < length b → IsIndexed b f → OnOk r (f'.slots.items ≡ with_taken f.slots.items way y) → OnOk r (f'.places.items ≡ slice_set f.places.items y.sector (place f.slots.items way)) → OnErr r (f'.slots.items ≡ f.slots.items) → OnErr r (f'.places.items ≡ f.places.items) → IsIndexed b' f'
+took_indexed f f' way y (Ok slot) keeps way_is missed within i slots places same_slots same_places = taken_indexed f f' way y keeps way_is missed within i slots places
+took_indexed f f' way y (Err fault) keeps way_is missed within i slots places same_slots same_places = unmoved f f' keeps i same_slots same_places
+
 -- ---- what is lent
 
 at_of : (n k : ℕ) (xs : List Buffer) → IsAt n k xs → (x : Buffer) × (slice_get xs k ≡ Some x) × (x.sector ≡ n)
@@ -205,6 +240,18 @@ written_sound b xs k x w on s =
       clean = λ i u at c. elim (tells i u at) [
         | inl one ↦ let is_dirty : true ≡ u.is_dirty = ap (λ y. y.is_dirty) one.1 in absurd cc
         | inr one ↦ s.clean i u one.1 c
+      ];
+    }
+
+-- and its place
+pub written_indexed : {b : List (List ℕ)} (f : Buffers) (k : ℕ) (x : Buffer) (w : List ℕ) → slice_get f.slots.items k ≡ Some x → IsIndexed b f → IsIndexed b (with_buffer f k (dirty x w))
+written_indexed f k x w on i =
+    let xs = f.slots.items in
+    record {
+      whole = i.whole;
+      placed = λ j z at. elim (set_tells xs k (dirty x w) (slice_get_within xs k x on) j z at) [
+        | inl new ↦ ap (λ u. slice_get f.places.items u.sector) (sym new.1) ∙ i.placed k x on ∙ ap Some (sym new.0)
+        | inr old ↦ i.placed j z old.1
       ];
     }
 

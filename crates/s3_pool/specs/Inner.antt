@@ -1,2 +1,3 @@
 -- Words of inner functions and of proofs: none of them says what the product means.
 pub mod BufferLending
+pub mod Places

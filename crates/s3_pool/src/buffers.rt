@@ -1,10 +1,10 @@
 //! Up to 16 sectors in memory, and the transfers between them and a store.
-ghost use Rattle.std.specs.Prelude.{◌≡◌, ◌≢◌, ◌<◌, ◌≤◌, ◌+◌, ◌++◌, ◌↔◌, ◌==◌, ℕ, [], ◌∷◌, length, slice_get, slice_set, Some, OnOk, OnErr, IfOk, IfErr, IfSome, IsErrOf, IsSomeAnd, IsTrue, MatchOption, false};
+ghost use Rattle.std.specs.Prelude.{◌≡◌, ◌≢◌, ◌<◌, ◌≤◌, ◌+◌, ◌++◌, ◌↔◌, [], ◌∷◌, length, slice_get, slice_set, Some, OnOk, OnErr, IfOk, IfErr, IsErrOf, IsTrue, MatchOption, false};
 ghost use Rattle.std.specs.Borrow.{sem};
-ghost use Rattle.std.specs.List.{position_from};
 ghost use Rattle.s3_store.specs.Failures.{failed_calls, failed_transfers};
 ghost use Rattle.s3_pool.specs.Buffers.{IsAt, IsMissed, IsSound, KeepsLaid, Overwrites};
-ghost use Rattle.s3_pool.specs.Inner.BufferLending.{LendsBytes, LendsBuffer, IsInStep, with_taken};
+ghost use Rattle.s3_pool.specs.Inner.BufferLending.{LendsBytes, LendsBuffer, IsInStep, place, with_taken};
+ghost use Rattle.s3_pool.specs.Inner.Places.{IsPlaced, IsIndexed};
 
 use lru::LruCache;
 use s3_store::{PackStore, PoolFault, StoreFault};
@@ -44,10 +44,13 @@ impl Buffer {
 #[derive(Drop)]
 pub(crate) struct Buffers {
     slots: Vec<Buffer>,
+    /// For each sector of the store the slot that has it. Where none does, it is one that had it, or the first: the slot itself
+    /// says which sector it has.
+    places: Vec<u8>,
     /// The slots in the order of their use. It says which one is displaced, and nothing rests on it.
     order: LruCache<u8, ()>,
     /// The slot that was used last.
-    last: usize,
+    last: u8,
     /// The bytes that the next sector is read or copied into, before it displaces another.
     spare: Box<[u8; 256]>,
 }
@@ -58,21 +61,15 @@ const ROOM: usize = 16;
 /// The spool's blocks: each is written whole and read once, so a buffer would be taken from another sector for nothing.
 const SPOOL_BLOCKS: Range<u16> = 25..153;
 
-/// The first of these slots that has sector `n`.
-#[inline(always)]
-fn slot_among(slots: &[Buffer], n: u16) -> Option<usize>
-    ensures { result ≡ position_from (λ x. x.sector == n) 0 slots.now }
-{
-    slots.iter().position(|buffer| buffer.sector == n)
-}
-
 impl Buffers {
-    /// Room for 16 sectors.
-    pub(crate) fn new(alloc: Global) -> Result<Self, AllocError>
-        ensures { IfOk result (λ buffers. buffers.slots.items ≡ []) }
+    /// Room for 16 of so many sectors.
+    pub(crate) fn new(alloc: Global, sectors: u16) -> Result<Self, AllocError>
+        ensures empty { IfOk result (λ buffers. buffers.slots.items ≡ []) }
+        ensures places { IfOk result (λ buffers. length buffers.places.items ≡ sectors) }
     {
         Ok(Buffers {
             slots: Vec::with_capacity(alloc, ROOM)?,
+            places: vec![in alloc; 0; usize::from(sectors)]?,
             order: LruCache::new(alloc, NonZeroUsize::new(ROOM).unwrap())?,
             last: 0,
             spare: Box::new(alloc, [0; 256])?,
@@ -87,28 +84,23 @@ impl Buffers {
         self.slots.len() < ROOM
     }
 
-    /// Whether the slot that was used last has sector `n`.
-    fn is_last(&self, n: u16) -> bool
-        ensures { IsTrue result → IsAt n self.now.last self.now.slots.items }
+    /// The slot that has sector `n`.
+    fn slot_of(&self, n: u16) -> Option<u8>
+        requires in_range { n < length self.now.places.items }
+        requires placed { IsPlaced self.now.places.items self.now.slots.items }
+        ensures { MatchOption result (IsMissed n self.now.slots.items) (λ slot. IsAt n slot self.now.slots.items) }
     {
-        match self.slots.get(self.last) {
-            Some(buffer) => buffer.sector == n,
-            None => false,
+        let slot = self.places[usize::from(n)];
+        match self.slots.get(usize::from(slot)) {
+            Some(buffer) if buffer.sector == n => Some(slot),
+            _ => None,
         }
-    }
-
-    /// The slot that has sector `n`. Mostly all slots are in use, and so many are looked through without a loop.
-    fn slot_of(&self, n: u16) -> Option<usize>
-        ensures { result ≡ position_from (λ x. x.sector == n) 0 self.now.slots.items }
-    {
-        if self.slots.len() == ROOM {
-            return slot_among(&self.slots[..ROOM], n);
-        }
-        slot_among(&self.slots, n)
     }
 
     /// Whether a buffer holds sector `n`.
     fn holds(&self, n: u16) -> bool
+        requires in_range { n < length self.now.places.items }
+        requires placed { IsPlaced self.now.places.items self.now.slots.items }
         ensures { result ≡ false → IsMissed n self.now.slots.items }
     {
         match self.slot_of(n) {
@@ -119,87 +111,102 @@ impl Buffers {
 
     /// Whether sector `n` is a spool block that no buffer holds.
     pub(crate) fn is_unheld_block(&self, n: u16) -> bool
+        requires in_range { n < length self.now.places.items }
+        requires placed { IsPlaced self.now.places.items self.now.slots.items }
         ensures { IsTrue result → IsMissed n self.now.slots.items }
     {
         SPOOL_BLOCKS.contains(&n) && !self.holds(n)
     }
 
     /// The buffer in a slot.
-    pub(crate) fn buffer(&self, slot: usize) -> &Buffer
+    pub(crate) fn buffer(&self, slot: u8) -> &Buffer
         requires { slot < length self.now.slots.items }
         ensures { slice_get self.now.slots.items slot ≡ Some result.now }
     {
-        &self.slots[slot]
+        &self.slots[usize::from(slot)]
     }
 
     /// The buffer in a slot, to write to.
-    pub(crate) fn buffer_mut(&mut self, slot: usize) -> &mut Buffer
+    pub(crate) fn buffer_mut(&mut self, slot: u8) -> &mut Buffer
         requires { slot < length self.old.slots.items }
         ensures* writes_back { sem 𝓛 (LendsBuffer self.entry slot result) }
         ensures value { slice_get self.old.slots.items slot ≡ Some result.now }
     {
-        &mut self.slots[slot]
+        &mut self.slots[usize::from(slot)]
     }
 
     /// A slot is used.
-    fn note_use(&mut self, slot: usize)
+    #[inline(always)]
+    fn note_use(&mut self, slot: u8)
         ensures slots { self.new.slots ≡ self.old.slots }
-        ensures spare { self.new.spare ≡ self.old.spare }
+        ensures places { self.new.places ≡ self.old.places }
     {
-        self.last = slot;
-        self.order.promote(&((slot % ROOM) as u8));
+        if slot != self.last {
+            self.last = slot;
+            self.order.promote(&slot);
+        }
     }
 
     /// The slot that was used before all others, of 16.
-    fn least_recent(&self) -> usize
+    fn least_recent(&self) -> u8
         requires { 0 < length self.now.slots.items }
         ensures { result < length self.now.slots.items }
     {
         match self.order.peek_lru() {
-            Some((slot, _)) if usize::from(*slot) < self.slots.len() => usize::from(*slot),
+            Some((slot, _)) if usize::from(*slot) < self.slots.len() => *slot,
             _ => 0,
         }
     }
 
-    /// A new slot gets the spare bytes as those of sector `n`.
-    fn add(&mut self, n: u16, is_dirty: bool) -> Result<usize, PoolFault>
-        requires { length self.old.slots.items < 16 }
+    /// A new slot gets the spare bytes as those of sector `n`. Few calls come here, so that it stands apart.
+    #[inline(never)]
+    fn add(&mut self, n: u16, is_dirty: bool) -> Result<u8, PoolFault>
+        requires room { length self.old.slots.items < 16 }
+        requires in_range { n < length self.old.places.items }
         ensures added { IfOk result (λ slot. slot ≡ length self.old.slots.items) }
         ensures ok { OnOk result (self.new.slots.items ≡ self.old.slots.items ++ record { sector = n; bytes = self.old.spare; is_dirty = is_dirty } ∷ []) }
+        ensures places { OnOk result (self.new.places.items ≡ slice_set self.old.places.items n (length self.old.slots.items)) }
         ensures err { OnErr result (self.new.slots.items ≡ self.old.slots.items) }
+        ensures err_places { OnErr result (self.new.places.items ≡ self.old.places.items) }
         ensures fault { IfErr result (λ fault. fault ≡ PoolFault.NoMemory) }
     {
-        let slot = self.slots.len();
+        let slot = self.slots.len() as u8;
         let next = Box::new(*self.order.allocator(), [0; 256])?;
-        self.order.put(slot as u8, ())?;
+        self.order.put(slot, ())?;
         let bytes = mem::replace(&mut self.spare, next);
         self.slots.push(Buffer {
             sector: n,
             bytes,
             is_dirty,
         })?;
-        self.last = slot;
+        self.places[usize::from(n)] = slot;
         Ok(slot)
     }
 
     /// A slot gets the spare bytes as those of sector `n`. What it had is spare from now on.
-    fn replace(&mut self, slot: usize, n: u16, is_dirty: bool)
-        requires { slot < length self.old.slots.items }
-        ensures { self.new.slots.items ≡ slice_set self.old.slots.items slot (record { sector = n; bytes = self.old.spare; is_dirty = is_dirty }) }
+    fn replace(&mut self, slot: u8, n: u16, is_dirty: bool)
+        requires slot { slot < length self.old.slots.items }
+        requires in_range { n < length self.old.places.items }
+        ensures places { self.new.places.items ≡ slice_set self.old.places.items n slot }
+        ensures slots { self.new.slots.items ≡ slice_set self.old.slots.items slot (record { sector = n; bytes = self.old.spare; is_dirty = is_dirty }) }
     {
-        let buffer = &mut self.slots[slot];
+        let buffer = &mut self.slots[usize::from(slot)];
         mem::swap(&mut buffer.bytes, &mut self.spare);
         buffer.sector = n;
         buffer.is_dirty = is_dirty;
-        self.note_use(slot);
+        self.places[usize::from(n)] = slot;
     }
 
     /// Sector `n` goes into a slot, or into a new one, with the spare bytes as its own.
-    fn take_in(&mut self, slot: Option<usize>, n: u16, is_dirty: bool) -> Result<usize, PoolFault>
-        requires { MatchOption slot (length self.old.slots.items < 16) (λ slot. slot < length self.old.slots.items) }
+    #[inline(always)]
+    fn take_in(&mut self, slot: Option<u8>, n: u16, is_dirty: bool) -> Result<u8, PoolFault>
+        requires in_range { n < length self.old.places.items }
+        requires slot { MatchOption slot (length self.old.slots.items < 16) (λ slot. slot < length self.old.slots.items) }
         ensures ok { OnOk result (self.new.slots.items ≡ with_taken self.old.slots.items slot (record { sector = n; bytes = self.old.spare; is_dirty = is_dirty })) }
         ensures at { IfOk result (λ slot. IsAt n slot self.new.slots.items) }
+        ensures places { OnOk result (self.new.places.items ≡ slice_set self.old.places.items n (place self.old.slots.items slot)) }
         ensures err { OnErr result (self.new.slots.items ≡ self.old.slots.items) }
+        ensures err_places { OnErr result (self.new.places.items ≡ self.old.places.items) }
         ensures fault { IfErr result (λ fault. fault ≡ PoolFault.NoMemory) }
     {
         match slot {
@@ -228,7 +235,7 @@ fn write_back<S: PackStore>(store: &mut S, buffer: &Buffer) -> Result<(), StoreF
 
 /// Where the next sector goes: into a new slot while there is room, else into the one that was used before all others, whose
 /// bytes the store has from now on.
-fn make_way<S: PackStore>(store: &mut S, buffers: &Buffers) -> Result<Option<usize>, StoreFault>
+fn make_way<S: PackStore>(store: &mut S, buffers: &Buffers) -> Result<Option<u8>, StoreFault>
     requires { IsSound (S.contents store.old) buffers.now.slots.items }
     ensures keeps { KeepsLaid (S.contents store.old) buffers.now.slots.items (S.contents store.new) buffers.now.slots.items }
     ensures way { IfOk result (λ way. MatchOption way (length buffers.now.slots.items < 16) (λ slot. IsInStep (S.contents store.new) buffers.now.slots.items slot)) }
@@ -243,12 +250,14 @@ fn make_way<S: PackStore>(store: &mut S, buffers: &Buffers) -> Result<Option<usi
 }
 
 /// Reads sector `n`, which no buffer holds, into a slot.
-fn fetch<S: PackStore>(store: &mut S, buffers: &mut Buffers, n: u16) -> Result<usize, PoolFault>
+fn fetch<S: PackStore>(store: &mut S, buffers: &mut Buffers, n: u16) -> Result<u8, PoolFault>
     requires sound { IsSound (S.contents store.old) buffers.old.slots.items }
+    requires indexed { IsIndexed (S.contents store.old) buffers.old }
     requires in_range { n < length (S.contents store.old) }
     requires missed { IsMissed n buffers.old.slots.items }
     ensures keeps { KeepsLaid (S.contents store.old) buffers.old.slots.items (S.contents store.new) buffers.new.slots.items }
     ensures at { IfOk result (λ slot. IsAt n slot buffers.new.slots.items) }
+    ensures indexed { IsIndexed (S.contents store.new) buffers.new }
     ensures failures { S.failures store.new ≡ S.failures store.old + failed_transfers result }
     ensures fault { IfErr result (λ fault. fault ≢ PoolFault.NoSector) }
 {
@@ -262,27 +271,25 @@ pub(crate) fn load<S: PackStore>(
     store: &mut S,
     buffers: &mut Buffers,
     n: u16,
-) -> Result<usize, PoolFault>
-    requires { IsSound (S.contents store.old) buffers.old.slots.items }
+) -> Result<u8, PoolFault>
+    requires sound { IsSound (S.contents store.old) buffers.old.slots.items }
+    requires indexed { IsIndexed (S.contents store.old) buffers.old }
     ensures keeps { KeepsLaid (S.contents store.old) buffers.old.slots.items (S.contents store.new) buffers.new.slots.items }
     ensures in_range { OnOk result (n < length (S.contents store.old)) }
     ensures at { IfOk result (λ slot. IsAt n slot buffers.new.slots.items) }
+    ensures indexed { IsIndexed (S.contents store.new) buffers.new }
     ensures failures { S.failures store.new ≡ S.failures store.old + failed_transfers result }
     ensures no_sector { (IsErrOf result PoolFault.NoSector) ↔ (length (S.contents store.old) ≤ n) }
 {
     if n >= store.sectors() {
         return Err(PoolFault::NoSector);
     }
-    if buffers.is_last(n) {
-        return Ok(buffers.last);
-    }
-    match buffers.slot_of(n) {
-        Some(slot) => {
-            buffers.note_use(slot);
-            Ok(slot)
-        }
-        None => fetch(store, buffers, n),
-    }
+    let slot = match buffers.slot_of(n) {
+        Some(slot) => slot,
+        None => fetch(store, buffers, n)?,
+    };
+    buffers.note_use(slot);
+    Ok(slot)
 }
 
 /// Has a slot have these bytes as those of sector `n`, which no buffer holds. The sector isn't read.
@@ -293,16 +300,19 @@ fn cover<S: PackStore>(
     bytes: &[u8; 256],
 ) -> Result<(), PoolFault>
     requires sound { IsSound (S.contents store.old) buffers.old.slots.items }
+    requires indexed { IsIndexed (S.contents store.old) buffers.old }
     requires in_range { n < length (S.contents store.old) }
     requires missed { IsMissed n buffers.old.slots.items }
     ensures ok { OnOk result (Overwrites n bytes.now (S.contents store.old) buffers.old.slots.items (S.contents store.new) buffers.new.slots.items) }
     ensures err { OnErr result (KeepsLaid (S.contents store.old) buffers.old.slots.items (S.contents store.new) buffers.new.slots.items) }
+    ensures indexed { IsIndexed (S.contents store.new) buffers.new }
     ensures failures { S.failures store.new ≡ S.failures store.old + failed_transfers result }
     ensures fault { IfErr result (λ fault. fault ≢ PoolFault.NoSector) }
 {
     let way = make_way(store, buffers)?;
     *buffers.spare = *bytes;
-    buffers.take_in(way, n, true)?;
+    let slot = buffers.take_in(way, n, true)?;
+    buffers.note_use(slot);
     Ok(())
 }
 
@@ -315,9 +325,11 @@ pub(crate) fn overwrite<S: PackStore>(
     bytes: &[u8; 256],
 ) -> Result<(), PoolFault>
     requires sound { IsSound (S.contents store.old) buffers.old.slots.items }
+    requires indexed { IsIndexed (S.contents store.old) buffers.old }
     requires in_range { n < length (S.contents store.old) }
     ensures ok { OnOk result (Overwrites n bytes.now (S.contents store.old) buffers.old.slots.items (S.contents store.new) buffers.new.slots.items) }
     ensures err { OnErr result (KeepsLaid (S.contents store.old) buffers.old.slots.items (S.contents store.new) buffers.new.slots.items) }
+    ensures indexed { IsIndexed (S.contents store.new) buffers.new }
     ensures failures { S.failures store.new ≡ S.failures store.old + failed_transfers result }
     ensures fault { IfErr result (λ fault. fault ≢ PoolFault.NoSector) }
 {
@@ -338,13 +350,15 @@ pub(crate) fn give_up_all<S: PackStore>(
     store: &mut S,
     buffers: &mut Buffers,
 ) -> Result<(), StoreFault>
-    requires { IsSound (S.contents store.old) buffers.old.slots.items }
+    requires sound { IsSound (S.contents store.old) buffers.old.slots.items }
+    requires indexed { IsIndexed (S.contents store.old) buffers.old }
     ensures keeps { KeepsLaid (S.contents store.old) buffers.old.slots.items (S.contents store.new) buffers.new.slots.items }
+    ensures indexed { IsIndexed (S.contents store.new) buffers.new }
     ensures empty { OnOk result (buffers.new.slots.items ≡ []) }
     ensures failures { S.failures store.new ≡ S.failures store.old + failed_calls result }
 {
     for slot in 0..buffers.slots.len() {
-        write_back(store, buffers.buffer(slot))?;
+        write_back(store, &buffers.slots[slot])?;
     }
     buffers.slots.clear();
     buffers.order.clear();

@@ -21,12 +21,13 @@ pub struct Pool<S: PackStore> {
 impl<S: PackStore> Model for Pool<S> {
     ghost use Rattle.s3_store.specs.State.{PoolState};
     ghost use Rattle.s3_pool.specs.Buffers.{IsSound, pool_state};
+    ghost use Rattle.s3_pool.specs.Inner.Places.{IsIndexed};
 
     ghost Value = { PoolState };
 
     ghost view = { λ p. pool_state (S.contents p.store) (S.failures p.store) p.buffers };
 
-    ghost invariant = { λ p. IsSound (S.contents p.store) p.buffers.slots.items };
+    ghost invariant = { λ p. IsSound (S.contents p.store) p.buffers.slots.items × IsIndexed (S.contents p.store) p.buffers };
 }
 
 impl<S: PackStore> Pool<S> {
@@ -39,7 +40,7 @@ impl<S: PackStore> Pool<S> {
         ensures failures { IfOk result (λ pool. pool.failures ≡ S.failures store) }
         ensures value_returned { IfErr result (λ refused. refused.value ≡ store) }
     {
-        match Buffers::new(alloc) {
+        match Buffers::new(alloc, store.sectors()) {
             Ok(buffers) => Ok(Pool { store, buffers }),
             Err(_) => Err(AllocFailed { value: store }),
         }

@@ -1,11 +1,11 @@
 -- What the definitions see of an indexed file and of an entry in memory.
-use Rattle.std.specs.Prelude.{ℕ, ◌+◌, ◌*◌, List}
+use Rattle.std.specs.Prelude.{◌≡◌, ◌≤◌, ℕ, ◌+◌, ◌-◌, ◌*◌, List, Some, length, slice_get}
 use Rattle.s3_store.specs.Bytes.{bytes_at, part}
 use Rattle.s3_slots.specs.Slots.{record_sectors}
 use Rattle.s3_keyed.specs.declared.indexed.IndexedFile.{IndexedFile}
 use Rattle.s3_keyed.specs.declared.indexed.IndexEntry.{IndexEntry}
 use Rattle.s3_keyed.specs.KeyOrder.{number_of, Entry}
-use Rattle.s3_keyed.specs.Index.{Layout, keys_at}
+use Rattle.s3_keyed.specs.Index.{Layout, keys_at, entry_in}
 
 abbrev pub layout_in : IndexedFile → Layout
 layout_in f = record {
@@ -28,3 +28,13 @@ keys_on f contents = keys_at (layout_in f) f.file.count (bytes_in f contents)
 
 abbrev pub entry_of : IndexEntry → Entry
 entry_of e = record { key = number_of e.key.bytes; number = e.number }
+
+-- entry j of a sector of an index, whose keys have so many bytes
+abbrev pub entry_here : (key_length : ℕ) → List ℕ → ℕ → Entry
+entry_here key_length sector j = entry_in key_length (part sector (j * (key_length + 4)) (key_length + 4))
+
+-- an entry has the number of one of the records with these keys, and that one's key
+pub record IsOfRecord (keys : List ℕ) (e : Entry) : Type 0 where
+  pub some : 1 ≤ e.number
+  pub within : e.number ≤ length keys
+  pub keyed : slice_get keys (e.number - 1) ≡ Some e.key

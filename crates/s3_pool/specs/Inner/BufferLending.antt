@@ -1,5 +1,5 @@
 -- What the buffers end as, once a reference into one has ended.
-use Rattle.std.specs.Prelude.{◌≡◌, ℕ, List, [], ◌∷◌, ◌++◌, Option, Some, None, IsSomeAnd, true, slice_get, slice_set}
+use Rattle.std.specs.Prelude.{◌≡◌, ℕ, List, [], ◌∷◌, ◌++◌, Option, Some, None, IsSomeAnd, true, length, slice_get, slice_set}
 use Rattle.std.specs.Borrow.{Fml, MutBor, Lends, Array, u8}
 use Rattle.std.specs.Box.{with_value}
 use Rattle.std.specs.Vec.{with_item}
@@ -23,7 +23,12 @@ with_buffer s slot b = record s { slots = with_item s.slots slot b }
 abbrev pub LendsBuffer : MutBor Buffers → ℕ → MutBor Buffer → Fml
 LendsBuffer s slot r = Lends buffers.the_row buffer.the_row s r (with_buffer s.now slot)
 
--- the slots with this buffer in one of them, or in a new one
+-- where a buffer goes: into this slot, or into a new one
+abbrev pub place : List Buffer → Option ℕ → ℕ
+place slots None = length slots
+place slots (Some slot) = slot
+
+-- the slots with this buffer there
 abbrev pub with_taken : List Buffer → Option ℕ → Buffer → List Buffer
 with_taken slots None x = slots ++ x ∷ []
 with_taken slots (Some slot) x = slice_set slots slot x

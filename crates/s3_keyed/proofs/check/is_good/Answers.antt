@@ -1,33 +1,204 @@
-use Rattle.std.proofs.Common.{◌*◌, map, sym, ap, ◌∙◌, subst}
+use Rattle.std.proofs.Common.{◌≡◌, ◌*◌, ◌+◌, ◌-◌, ◌<◌, ◌≤◌, ℕ, map, min, refl, ap, ◌∙◌, subst, sym, arith}
+use Rattle.std.specs.List.{range_with_len}
 use Rattle.s3_store.proofs.Frames.{keeps_trans}
 use Rattle.s3_store.specs.Bytes.{part}
-use Rattle.std.specs.List.{range_with_len}
+use Rattle.s3_keyed.specs.KeyOrder.{number_of, IsAscending}
 use Rattle.s3_keyed.specs.Index.{entry_at, index_in}
-use Rattle.s3_keyed.specs.Inner.Shape.{layout_in, bytes_in, keys_on, index_sector}
-use Rattle.s3_keyed.proofs.Goodness.{to_good}
+use Rattle.s3_keyed.specs.Inner.Shape.{layout_in, bytes_in, keys_on, index_sector, entry_here, IsOfRecord}
+use Rattle.s3_keyed.proofs.Checked.{AreChecked, checked-none, checked-good, none_short, not_after}
+use Rattle.s3_keyed.proofs.Goodness.{to_good, not_good}
 use Rattle.s3_keyed.proofs.Places.{length_keys}
-use Rattle.s3_keyed.proofs.Checked.{AreChecked, checked-none, checked-good}
+use Rattle.s3_keyed.proofs.Sectors.{starts, all_places, covers, upto_place, upto_next, later, not_first, all_held, good-sector-ascends, good-of-record, checked-sector}
 use Rattle.s3_keyed.proofs.check.is_good.Goals as goal
 
-pub returns-then-file-eq0-clause-good : goal.returns-then-file-eq0-clause-good
+pub returns-then-count-eq0-clause-good : goal.returns-then-count-eq0-clause-good
 unfolding index_in
-returns-then-file-eq0-clause-good g c =
+returns-then-count-eq0-clause-good g c =
     let f = c.args.file.now in
     let bytes = bytes_in f (g.P.Sectors.state c.args.pool.now).contents in
     let entry = entry_at (layout_in f) bytes in
     let keys = keys_on f (g.P.Sectors.state c.args.pool.now).contents in
-    to_good (map entry (range_with_len 0 f.file.count)) keys (checked-good entry keys f.file.count (length_keys (layout_in f) f.file.count bytes) (subst (AreChecked entry keys) (sym c.if-file-eq0.true) (checked-none entry keys)))
+    to_good (map entry (range_with_len 0 f.file.count)) keys (checked-good entry keys f.file.count (length_keys (layout_in f) f.file.count bytes) (subst (AreChecked entry keys) (sym c.if-count-eq0.true) (checked-none entry keys)))
+
+pub loop-place-init : goal.loop-place-init
+loop-place-init g c =
+    let f = c.args.file.now in
+    let contents = (g.P.Sectors.state c.args.pool.now).contents in
+    let none : 0 ≡ min (0 * c.entries_per_sector-per_sector.result) f.file.count = omega arith in
+    let entry = entry_at (layout_in f) (bytes_in f contents) in
+    record {
+      checked = subst (AreChecked entry (keys_on f contents)) none (checked-none entry (keys_on f contents));
+      last = λ first. absurd (omega (arith, first));
+      short = none_short _ f.key_length c.of-last.ensures.short;
+      records = c.in_ok-read.ensures.ok ∙ ap (λ l. part (bytes_in f l) (256 * c.read.new.self.place) 256) (sym c.read.ensures.keeps.contents);
+      keeps = c.read.ensures.keeps;
+      failures = omega (arith, c.in_ok-read.ensures.failures);
+    }
+
+pub returns-in_err-read_sector-clause-keeps : goal.returns-in_err-read_sector-clause-keeps
+returns-in_err-read_sector-clause-keeps g c = keeps_trans _ _ _ c.loop-place.invariant.keeps c.read_sector.ensures.keeps
+
+pub overflow_mul-place : goal.overflow_mul-place
+overflow_mul-place g c =
+    let n = c.args.file.now.file.count in
+    let place = c.loop-place.place in
+    let starts = starts n c.entries_per_sector-per_sector.result place c.entries_per_sector-per_sector.ensures.some (subst (λ e. place < e) c.div_ceil-place-end.ensures c.loop-place-test.true) in
+    omega (arith, starts)
+
+pub overflow_sub-count : goal.overflow_sub-count
+overflow_sub-count g c =
+    let n = c.args.file.now.file.count in
+    let place = c.loop-place.place in
+    let starts = starts n c.entries_per_sector-per_sector.result place c.entries_per_sector-per_sector.ensures.some (subst (λ e. place < e) c.div_ceil-place-end.ensures c.loop-place-test.true) in
+    omega (arith, starts)
+
+pub returns-then-not-follows-clause-good : goal.returns-then-not-follows-clause-good
+unfolding index_in
+returns-then-not-follows-clause-good g c =
+    let f = c.args.file.now in
+    let p = c.entries_per_sector-per_sector.result in
+    let n = f.file.count in
+    let m = c.min-entries.result in
+    let place = c.loop-place.place in
+    let contents = (g.P.Sectors.state c.args.pool.now).contents in
+    let bytes = bytes_in f contents in
+    let entry = entry_at (layout_in f) bytes in
+    let keys = keys_on f contents in
+    let sector = c.read_sector.new.bytes in
+    let starts = starts n p place c.entries_per_sector-per_sector.ensures.some (subst (λ e. place < e) c.div_ceil-place-end.ensures c.loop-place-test.true) in
+    let here = covers p n place m c.entries_per_sector-per_sector.ensures.some starts c.min-entries.ensures in
+    let is = c.in_ok-read_sector.ensures.ok ∙ ap (λ l. index_sector f place (bytes_in f l)) c.loop-place.invariant.keeps.contents in
+    let same = all_held (layout_in f) place p m f.key_length bytes sector refl c.entries_per_sector-per_sector.ensures.result f.short_key here.few is in
+    let apart = rw c.from-key_length.ensures at c.if-not-follows.ensures in
+    let is_last = c.loop-place.invariant.last apart.0 ∙ ap (λ i. (entry (i - 1)).key) (upto_place p n place starts) in
+    let at : place * p + 0 ≡ place * p = omega arith in
+    let is_key = ap (λ e. e.key) (same 0 here.some ∙ ap entry at) in
+    not_good (map entry (range_with_len 0 n)) keys (not_after entry keys n (place * p) _ _ starts (later p place c.entries_per_sector-per_sector.ensures.some apart.0) is_last is_key apart.1)
+
+pub returns-then-not-follows-clause-keeps : goal.returns-then-not-follows-clause-keeps
+returns-then-not-follows-clause-keeps g c =
+    keeps_trans _ _ _ c.loop-place.invariant.keeps c.read_sector.ensures.keeps
+
+pub returns-then-not-ascend-clause-keeps : goal.returns-then-not-ascend-clause-keeps
+returns-then-not-ascend-clause-keeps g c =
+    keeps_trans _ _ _ c.loop-place.invariant.keeps c.read_sector.ensures.keeps
+
+pub returns-in_err-have_keys-clause-keeps : goal.returns-in_err-have_keys-clause-keeps
+returns-in_err-have_keys-clause-keeps g c =
+    keeps_trans _ _ _ (keeps_trans _ _ _ c.loop-place.invariant.keeps c.read_sector.ensures.keeps) c.have_keys.ensures.keeps
+
+pub returns-then-not-branch-clause-keeps : goal.returns-then-not-branch-clause-keeps
+returns-then-not-branch-clause-keeps g c =
+    keeps_trans _ _ _ (keeps_trans _ _ _ c.loop-place.invariant.keeps c.read_sector.ensures.keeps) c.have_keys.ensures.keeps
+
+pub returns-in_err-push-clause-keeps : goal.returns-in_err-push-clause-keeps
+returns-in_err-push-clause-keeps g c =
+    keeps_trans _ _ _ (keeps_trans _ _ _ c.loop-place.invariant.keeps c.read_sector.ensures.keeps) c.have_keys.ensures.keeps
+
+pub ascend-requires-clause-some : goal.ascend-requires-clause-some
+ascend-requires-clause-some g c =
+    let n = c.args.file.now.file.count in
+    let place = c.loop-place.place in
+    let some = c.entries_per_sector-per_sector.ensures.some in
+    let starts = starts n c.entries_per_sector-per_sector.result place some (subst (λ e. place < e) c.div_ceil-place-end.ensures c.loop-place-test.true) in
+    (covers c.entries_per_sector-per_sector.result n place c.min-entries.result some starts c.min-entries.ensures).some
+
+pub overflow_sub-entries : goal.overflow_sub-entries
+overflow_sub-entries g c =
+    let n = c.args.file.now.file.count in
+    let place = c.loop-place.place in
+    let some = c.entries_per_sector-per_sector.ensures.some in
+    let starts = starts n c.entries_per_sector-per_sector.result place some (subst (λ e. place < e) c.div_ceil-place-end.ensures c.loop-place-test.true) in
+    (covers c.entries_per_sector-per_sector.result n place c.min-entries.result some starts c.min-entries.ensures).some
+
+pub returns-then-not-ascend-clause-good : goal.returns-then-not-ascend-clause-good
+unfolding index_in
+returns-then-not-ascend-clause-good g c =
+    let f = c.args.file.now in
+    let p = c.entries_per_sector-per_sector.result in
+    let n = f.file.count in
+    let m = c.min-entries.result in
+    let place = c.loop-place.place in
+    let contents = (g.P.Sectors.state c.args.pool.now).contents in
+    let bytes = bytes_in f contents in
+    let entry = entry_at (layout_in f) bytes in
+    let keys = keys_on f contents in
+    let sector = c.read_sector.new.bytes in
+    let starts = starts n p place c.entries_per_sector-per_sector.ensures.some (subst (λ e. place < e) c.div_ceil-place-end.ensures c.loop-place-test.true) in
+    let here = covers p n place m c.entries_per_sector-per_sector.ensures.some starts c.min-entries.ensures in
+    let is = c.in_ok-read_sector.ensures.ok ∙ ap (λ l. index_sector f place (bytes_in f l)) c.loop-place.invariant.keeps.contents in
+    let same = all_held (layout_in f) place p m f.key_length bytes sector refl c.entries_per_sector-per_sector.ensures.result f.short_key here.few is in
+    let not_up = rw c.from-key_length.ensures at c.if-not-ascend.ensures in
+    not_good (map entry (range_with_len 0 n)) keys (λ good. not_up (good-sector-ascends entry (entry_here f.key_length sector) keys (place * p) m n same here.within good))
+
+pub returns-then-not-branch-clause-good : goal.returns-then-not-branch-clause-good
+unfolding index_in
+returns-then-not-branch-clause-good g c =
+    let f = c.args.file.now in
+    let p = c.entries_per_sector-per_sector.result in
+    let n = f.file.count in
+    let m = c.min-entries.result in
+    let place = c.loop-place.place in
+    let contents = (g.P.Sectors.state c.args.pool.now).contents in
+    let bytes = bytes_in f contents in
+    let entry = entry_at (layout_in f) bytes in
+    let keys = keys_on f contents in
+    let sector = c.read_sector.new.bytes in
+    let starts = starts n p place c.entries_per_sector-per_sector.ensures.some (subst (λ e. place < e) c.div_ceil-place-end.ensures c.loop-place-test.true) in
+    let here = covers p n place m c.entries_per_sector-per_sector.ensures.some starts c.min-entries.ensures in
+    let is = c.in_ok-read_sector.ensures.ok ∙ ap (λ l. index_sector f place (bytes_in f l)) c.loop-place.invariant.keeps.contents in
+    let same = all_held (layout_in f) place p m f.key_length bytes sector refl c.entries_per_sector-per_sector.ensures.result f.short_key here.few is in
+    let kept = keeps_trans _ _ _ c.loop-place.invariant.keeps c.read_sector.ensures.keeps in
+    let bad = rw (c.if-not-branch.true, kept.contents) at c.in_ok-have_keys.ensures.good in
+    not_good (map entry (range_with_len 0 n)) keys (λ good. bad.2 (good-of-record entry (entry_here f.key_length sector) keys (place * p) m n bad.0 same here.within bad.1 good))
+
+pub loop-place-preserved : goal.loop-place-preserved
+loop-place-preserved g c =
+    let f = c.args.file.now in
+    let p = c.entries_per_sector-per_sector.result in
+    let n = f.file.count in
+    let m = c.min-entries.result in
+    let place = c.loop-place.place in
+    let contents = (g.P.Sectors.state c.args.pool.now).contents in
+    let bytes = bytes_in f contents in
+    let entry = entry_at (layout_in f) bytes in
+    let keys = keys_on f contents in
+    let sector = c.read_sector.new.bytes in
+    let starts = starts n p place c.entries_per_sector-per_sector.ensures.some (subst (λ e. place < e) c.div_ceil-place-end.ensures c.loop-place-test.true) in
+    let here = covers p n place m c.entries_per_sector-per_sector.ensures.some starts c.min-entries.ensures in
+    let is = c.in_ok-read_sector.ensures.ok ∙ ap (λ l. index_sector f place (bytes_in f l)) c.loop-place.invariant.keeps.contents in
+    let same = all_held (layout_in f) place p m f.key_length bytes sector refl c.entries_per_sector-per_sector.ensures.result f.short_key here.few is in
+    let kept = keeps_trans _ _ _ c.loop-place.invariant.keeps c.read_sector.ensures.keeps in
+    let of : (j : ℕ) → j < m → IsOfRecord keys (entry_here f.key_length sector j) = rw (c.if-not-branch.false, kept.contents) at c.in_ok-have_keys.ensures.good in
+    let up : IsAscending (entry_here f.key_length sector) m = rw c.from-key_length.ensures at c.if-not-ascend.ensures in
+    let after : 0 < place → number_of c.loop-place.last.bytes < (entry_here f.key_length sector 0).key = rw c.from-key_length.ensures at c.if-not-follows.ensures in
+    let before = subst (AreChecked entry keys) (upto_place p n place starts) c.loop-place.invariant.checked in
+    let at : place * p + 0 ≡ place * p = omega arith in
+    let first : (entry_here f.key_length sector 0).key ≡ (entry (place * p)).key = ap (λ e. e.key) (same 0 here.some ∙ ap entry at) in
+    let next = upto_next p n place m starts c.min-entries.ensures in
+    let end : place * p + (m - 1) ≡ place * p + m - 1 = omega (arith, here.some) in
+    let key : number_of c.key_of_entry-last.result.bytes ≡ (entry_here f.key_length sector (m - 1)).key = rw c.from-key_length.ensures at c.key_of_entry-last.ensures.key in
+    record {
+      checked = subst (AreChecked entry keys) (sym next) (checked-sector entry (entry_here f.key_length sector) keys (place * p) m same before
+          (λ some. border (entry (place * p - 1)).key (number_of c.loop-place.last.bytes) _ _ (c.loop-place.invariant.last (not_first p place some) ∙ ap (λ i. (entry (i - 1)).key) (upto_place p n place starts)) first (after (not_first p place some)))
+          up of);
+      last = λ _. key ∙ ap (λ e. e.key) (same (m - 1) (omega (arith, here.some))) ∙ ap (λ i. (entry i).key) end ∙ ap (λ i. (entry (i - 1)).key) (sym next);
+      short = rw c.from-key_length.ensures at c.key_of_entry-last.ensures.short;
+      records = c.in_ok-have_keys.ensures.here ∙ ap (λ l. part (bytes_in f l) (256 * c.have_keys.new.self.place) 256) (sym c.have_keys.ensures.keeps.contents);
+      keeps = keeps_trans _ _ _ kept c.have_keys.ensures.keeps;
+      failures = omega (arith, c.in_ok-read_sector.ensures.failures, c.in_ok-have_keys.ensures.failures, c.loop-place.invariant.failures);
+    }
+  where
+    border : (before last first key : ℕ) → last ≡ before → first ≡ key → last < first → before < key
+    border before last first key is_last is_first less = omega (arith, is_last, is_first, less)
 
 pub returns-clause-good : goal.returns-clause-good
-returns-clause-good g c = rw (c.in_ok-read-2.ensures.keeps.contents, c.in_ok-read.ensures.keeps.contents) at c.are_good.ensures.good
-
-pub are_good-requires-clause-records : goal.are_good-requires-clause-records
-are_good-requires-clause-records g c =
+unfolding index_in
+returns-clause-good g c =
     let f = c.args.file.now in
-    let both = keeps_trans _ _ _ c.in_ok-read.ensures.keeps c.in_ok-read-2.ensures.keeps in
-    c.in_ok-read.ensures.ok ∙ ap (λ l. part (bytes_in f l) (256 * c.read.new.self.place) 256) (sym both.contents)
-
-pub are_good-requires-clause-here : goal.are_good-requires-clause-here
-are_good-requires-clause-here g c =
-    let f = c.args.file.now in
-    c.in_ok-read-2.ensures.ok ∙ ap (λ l. index_sector f c.read-2.new.self.place (bytes_in f l)) (sym c.in_ok-read-2.ensures.keeps.contents)
+    let contents = (g.P.Sectors.state c.args.pool.now).contents in
+    let entry = entry_at (layout_in f) (bytes_in f contents) in
+    let keys = keys_on f contents in
+    let place = c.loop-place.place in
+    let whole = all_places f.file.count c.entries_per_sector-per_sector.result place c.entries_per_sector-per_sector.ensures.some (subst (λ e. e ≤ place) c.div_ceil-place-end.ensures c.loop-place-test.false) in
+    to_good (map entry (range_with_len 0 f.file.count)) keys (checked-good entry keys f.file.count (length_keys (layout_in f) f.file.count (bytes_in f contents)) (subst (AreChecked entry keys) whole c.loop-place.invariant.checked))

@@ -1,22 +1,17 @@
-use Rattle.std.proofs.Common.{sym}
-use Rattle.s3_pool.proofs.Laid.{found, missed}
 use Rattle.s3_pool.proofs.Steps.{at_within, held_overwritten, stored_overwritten}
 use Rattle.s3_pool.proofs.buffers.overwrite.Goals as goal
 
 pub buffer_mut-requires : goal.buffer_mut-requires
-buffer_mut-requires g c =
-    let slots = c.args.buffers.now.slots.items in
-    at_within c.args.n c.in-Some.slot slots (found c.args.n c.in-Some.slot slots (sym c.in-Some.ensures))
+buffer_mut-requires g c = at_within c.args.n c.in-Some.slot c.args.buffers.now.slots.items c.in-Some.ensures
 
 pub returns-in-Some-clause-ok : goal.returns-in-Some-clause-ok
 returns-in-Some-clause-ok g c =
-    let slots = c.args.buffers.now.slots.items in
     rw c.note_use.ensures.slots
-    (held_overwritten c.args.n c.in-Some.slot c.buffer_mut.result.now c.args.bytes.now c.requires.sound (found c.args.n c.in-Some.slot slots (sym c.in-Some.ensures)) c.buffer_mut.ensures.value)
+    (held_overwritten c.args.n c.in-Some.slot c.buffer_mut.result.now c.args.bytes.now c.requires.sound c.in-Some.ensures c.buffer_mut.ensures.value)
 
 pub returns-then-contains-clause-ok : goal.returns-then-contains-clause-ok
 returns-then-contains-clause-ok g c =
-    rw c.in_ok-write.ensures.ok (stored_overwritten c.args.n c.args.bytes.now c.requires.sound (missed c.args.n c.args.buffers.now.slots.items (sym c.in_default.ensures)))
+    rw c.in_ok-write.ensures.ok (stored_overwritten c.args.n c.args.bytes.now c.requires.sound c.in_default.ensures)
 
 pub cover-requires-clause-missed : goal.cover-requires-clause-missed
-cover-requires-clause-missed g c = missed c.args.n c.args.buffers.now.slots.items (sym c.in_default.ensures)
+cover-requires-clause-missed g c = c.in_default.ensures

@@ -1,6 +1,6 @@
 use Rattle.std.proofs.Common.{Some, refl, sym, ap, ◌∙◌, add-zero}
 use Rattle.std.proofs.lemmas.Result.{err_from_is_err_and}
-use Rattle.s3_pool.proofs.Steps.{kept, held_contents, written, written_sound, no_sector_err, no_sector_ok, at_within}
+use Rattle.s3_pool.proofs.Steps.{kept, held_contents, written, written_sound, written_indexed, no_sector_err, no_sector_ok, at_within}
 use Rattle.s3_pool.proofs.pool.Pool.sector_mut.Goals as goal
 
 pub returns-in_err-slot : goal.returns-in_err-slot
@@ -20,7 +20,10 @@ pub buffer_mut-requires : goal.buffer_mut-requires
 buffer_mut-requires g c = at_within c.args.n c.in_ok-slot.slot c.load.new.buffers.slots.items c.in_ok-slot.ensures.at
 
 pub invariant_of-self-lent : goal.invariant_of-self-lent
-invariant_of-self-lent g c = λ w. written_sound _ c.load.new.buffers.slots.items c.in_ok-slot.slot c.buffer_mut.result.now w c.buffer_mut.ensures.value c.load.ensures.keeps.sound
+invariant_of-self-lent g c = λ w. (
+  written_sound _ c.load.new.buffers.slots.items c.in_ok-slot.slot c.buffer_mut.result.now w c.buffer_mut.ensures.value c.load.ensures.keeps.sound,
+  written_indexed c.load.new.buffers c.in_ok-slot.slot c.buffer_mut.result.now w c.buffer_mut.ensures.value c.load.ensures.indexed,
+)
 
 pub returns : goal.returns
 returns g c =

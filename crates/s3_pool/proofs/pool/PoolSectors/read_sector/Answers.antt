@@ -2,6 +2,11 @@ use Rattle.std.proofs.Common.{refl, ◌∙◌, arith}
 use Rattle.s3_pool.proofs.Laid.{length_laid, laid_missed}
 use Rattle.s3_pool.proofs.pool.PoolSectors.read_sector.Goals as goal
 
+pub is_unheld_block-requires-clause-in_range : goal.is_unheld_block-requires-clause-in_range
+is_unheld_block-requires-clause-in_range g c =
+    let within = rw (← c.self.view_is) at c.requires in
+    omega (arith, within, c.self.invariant.1.whole, length_laid c.self.inside.buffers.slots.items (g.S.PackStore.contents c.self.inside.store))
+
 pub read-requires : goal.read-requires
 read-requires g c =
     let within = rw (← c.self.view_is) at c.requires in

@@ -1,0 +1,12 @@
+-- Where a key lies among entries in the order of their keys.
+use Rattle.std.specs.Prelude.{◌≡◌, ◌+◌, ◌-◌, ◌<◌, ℕ, None, Some}
+use Rattle.s3_keyed.specs.KeyOrder.{Entry}
+use Rattle.s3_keyed.specs.declared.sector_search.Standing.{Standing}
+use Rattle.s3_keyed.specs.declared.sector_search.Standing.TheVariants.{Before, Within, Behind}
+
+-- what is said of the first n entries: all are above the key, or all below it, or one has it, or it lies between two
+abbrev pub StandsAs : (ℕ → Entry) → (n key : ℕ) → Standing → Type 0
+StandsAs entry n key Before = key < (entry 0).key
+StandsAs entry n key (Within None) = (i : ℕ) × (i + 1 < n) × ((entry i).key < key) × (key < (entry (i + 1)).key)
+StandsAs entry n key (Within (Some number)) = (i : ℕ) × (i < n) × (entry i ≡ record { key = key; number = number })
+StandsAs entry n key Behind = (entry (n - 1)).key < key

@@ -1,0 +1,103 @@
+//! Where a key lies among the entries of one sector of an index.
+ghost use Rattle.std.specs.Prelude.{◌≤◌, ◌<◌, ◌+◌, ◌/◌, ◌^◌, ℕ};
+ghost use Rattle.s3_keyed.specs.KeyOrder.{number_of, IsAscending};
+ghost use Rattle.s3_keyed.specs.Inner.Shape.{entry_here};
+ghost use Rattle.s3_keyed.specs.Inner.Sought.{StandsAs};
+
+use crate::index_sector::{is_entry_below, is_key_of, key_number, number_in};
+use crate::keys::Key;
+
+/// Where a key lies as to the entries of a sector.
+#[derive(Clone, Copy)]
+pub enum Standing {
+    /// Before all of them.
+    Before,
+    /// Among them, with the number of its record where one has it.
+    Within(Option<u32>),
+    /// Behind all of them.
+    Behind,
+}
+
+/// How many of the first so many entries of a sector have a key below this one, which has four to eight bytes.
+fn count_lower(sector: &[u8; 256], entries: usize, key_length: usize, key: u64) -> usize
+    requires long { 4 ≤ key_length }
+    requires short { key_length ≤ 8 }
+    requires inside { entries ≤ 256 / (key_length + 4) }
+    requires ascending { IsAscending (entry_here key_length sector.now) entries }
+    ensures within { result ≤ entries }
+    ensures below { (i : ℕ) → i < result → (entry_here key_length sector.now i).key < key }
+    ensures from { (i : ℕ) → result ≤ i → i < entries → key ≤ (entry_here key_length sector.now i).key }
+{
+    let mut low = 0;
+    let mut high = entries;
+    'halve: while low < high {
+        let middle = low + (high - low) / 2;
+        if key_number(sector, middle, key_length) < key {
+            low = middle + 1;
+        } else {
+            high = middle;
+        }
+    }
+    low
+}
+
+/// The same of a key of any length.
+fn count_below(sector: &[u8; 256], entries: usize, key_length: usize, key: &Key) -> usize
+    requires short { key_length ≤ 29 }
+    requires inside { entries ≤ 256 / (key_length + 4) }
+    requires short_key { number_of key.now.bytes < 256 ^ key_length }
+    requires ascending { IsAscending (entry_here key_length sector.now) entries }
+    ensures within { result ≤ entries }
+    ensures below { (i : ℕ) → i < result → (entry_here key_length sector.now i).key < number_of key.now.bytes }
+    ensures from { (i : ℕ) → result ≤ i → i < entries → number_of key.now.bytes ≤ (entry_here key_length sector.now i).key }
+{
+    let mut low = 0;
+    let mut high = entries;
+    'halve: while low < high {
+        let middle = low + (high - low) / 2;
+        if is_entry_below(sector, middle, key_length, key) {
+            low = middle + 1;
+        } else {
+            high = middle;
+        }
+    }
+    low
+}
+
+/// The same, by numbers where the key is short enough.
+fn entries_below(sector: &[u8; 256], entries: usize, key_length: usize, key: &Key) -> usize
+    requires short { key_length ≤ 29 }
+    requires inside { entries ≤ 256 / (key_length + 4) }
+    requires short_key { number_of key.now.bytes < 256 ^ key_length }
+    requires ascending { IsAscending (entry_here key_length sector.now) entries }
+    ensures within { result ≤ entries }
+    ensures below { (i : ℕ) → i < result → (entry_here key_length sector.now i).key < number_of key.now.bytes }
+    ensures from { (i : ℕ) → result ≤ i → i < entries → number_of key.now.bytes ≤ (entry_here key_length sector.now i).key }
+{
+    match key_length {
+        4..=8 => count_lower(sector, entries, key_length, key.short_number()),
+        _ => count_below(sector, entries, key_length, key),
+    }
+}
+
+/// Looks for a key among the first so many entries of a sector, which are halved.
+pub fn find_entry(sector: &[u8; 256], entries: usize, key_length: usize, key: &Key) -> Standing
+    requires short { key_length ≤ 29 }
+    requires some { 0 < entries }
+    requires inside { entries ≤ 256 / (key_length + 4) }
+    requires short_key { number_of key.now.bytes < 256 ^ key_length }
+    requires ascending { IsAscending (entry_here key_length sector.now) entries }
+    ensures { StandsAs (entry_here key_length sector.now) entries (number_of key.now.bytes) result }
+{
+    let below = entries_below(sector, entries, key_length, key);
+    if below == entries {
+        return Standing::Behind;
+    }
+    if is_key_of(sector, below, key_length, key) {
+        return Standing::Within(Some(number_in(sector, below, key_length)));
+    }
+    if below == 0 {
+        return Standing::Before;
+    }
+    Standing::Within(None)
+}

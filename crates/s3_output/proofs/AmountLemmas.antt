@@ -1,0 +1,129 @@
+-- Room for the digits of an amount, and blanks in front of them.
+use Rattle.std.proofs.Common.{◌≡◌, ◌≢◌, ℕ, ◌+◌, ◌-◌, ◌/◌, ◌^◌, ◌<◌, ◌≤◌, refl, arith, sym, ◌∙◌, ap, Bool, true, false, not, ◌&&◌, nat_lt, if◌then◌else◌, List, length, slice_set, get_or, get_or-set_other, get_or-set_same, Option, Some, None, subst}
+use Rattle.std.specs.Prelude.{is_some, unwrap_or, ◌==◌, ◌%◌}
+use Rattle.std.proofs.lemmas.Bool.{true≢false}
+use Rattle.std.proofs.Math.Nat.{div-eq_of_lt}
+use Rattle.std.proofs.lemmas.Bool.Decides.{nat_tests}
+use Rattle.s3_decimal.proofs.Powers.{ten_le}
+use Rattle.s3_edit.specs.declared.code.Amount.{Amount}
+use Rattle.s3_edit.specs.declared.code.EditCode.TheVariants.{Edited}
+use Rattle.s3_edit.specs.Picture.{body_width, comma_width, is_form, point_width, sign_width, suppressed_at, whole_digits, width_of}
+use Rattle.s3_edit.proofs.Places.{below, is_lt, lt_true, not_lt, split, suppressed_digit, tenth}
+
+-- ---- the digits that are left
+pub part_below : (v k m : ℕ) → v < 10 ^ (k + m) → v / 10 ^ k < 10 ^ m
+part_below v k m h = below (v / 10 ^ k) m (split v k m ∙ div-eq_of_lt h)
+
+room_by : (b : Bool) (n q end r : ℕ) → n < 10 ^ end → r ≡ n / 10 ^ q → 0 < r → nat_lt q end ≡ b → q < end
+room_by true n q end r fits left some t = is_lt q end t
+room_by false n q end r fits left some t =
+    let none : n / 10 ^ q ≡ 0 = div-eq_of_lt (omega (arith, fits, ten_le end q (not_lt q end t))) in
+    absurd (omega (arith, none, left, some))
+
+-- a digit that is left has its place
+pub digit_room : (n q end r : ℕ) → n < 10 ^ end → r ≡ n / 10 ^ q → 0 < r → q < end
+digit_room n q end r fits left some = room_by (nat_lt q end) n q end r fits left some refl
+
+comma_by : (b : Bool) (v e : ℕ) → 999 < v → v < 10 ^ whole_digits true e → nat_lt 3 (whole_digits true e) ≡ b → 4 < e
+comma_by true v e many fits t =
+    let more : 3 < whole_digits true e = is_lt 3 (whole_digits true e) t in
+    omega (arith, more)
+comma_by false v e many fits t =
+    let few : whole_digits true e ≤ 3 = not_lt 3 (whole_digits true e) t in
+    let thousand : 10 ^ 3 ≡ 1000 = refl in
+    absurd (omega (arith, many, fits, thousand, ten_le (whole_digits true e) 3 few))
+
+-- three digits and a comma have theirs where more than three digits are left
+pub comma_room : (v e : ℕ) → 999 < v → v < 10 ^ whole_digits true e → 4 < e
+comma_room v e many fits = comma_by (nat_lt 3 (whole_digits true e)) v e many fits refl
+
+pub next_room : (v e : ℕ) → 4 < e → v < 10 ^ whole_digits true e → v / 10 ^ 3 < 10 ^ whole_digits true (e - 4)
+next_room v e long fits =
+    let count : whole_digits true e ≡ 3 + whole_digits true (e - 4) = omega arith in
+    part_below v 3 (whole_digits true (e - 4)) (subst (λ k. v < 10 ^ k) count fits)
+
+pub last_room : (commas : Bool) (v e : ℕ) → v < 10 ^ whole_digits commas e → v < 10 ^ e
+last_room true v e fits =
+    let few : whole_digits true e ≤ e = omega arith in
+    omega (arith, fits, ten_le (whole_digits true e) e few)
+last_room false v e fits = fits
+
+-- and no comma stands in front of the last ones
+pub no_comma : (commas : Bool) (v room : ℕ) → (commas && nat_lt 999 v) ≡ false → (commas && (nat_lt 999 v && nat_lt 3 room)) ≡ false
+no_comma false v room h = refl
+no_comma true v room h = ap (λ b. b && nat_lt 3 room) h
+
+-- ---- blanks in front of the digits
+pub blank_digit : (n q : ℕ) → n < 10 ^ q → 0x40 ≡ suppressed_at n q
+blank_digit n q h = rw (lt_true n (10 ^ q) h) refl
+
+pub blank_over : (n q p : ℕ) → n < 10 ^ q → q ≤ p → 0x40 ≡ suppressed_at n p
+blank_over n q p h l = blank_digit n p (omega (arith, h, ten_le q p l))
+
+none_by : (b : Bool) (n end q : ℕ) (text : List ℕ) → n < 10 ^ q → ((k : ℕ) → k < q → get_or text (end - 1 - k) 0 ≡ suppressed_at n k) → ((i : ℕ) → i < end - q → get_or text i 0 ≡ 0x40) → (place : ℕ) → place < end → nat_lt place q ≡ b → get_or text (end - 1 - place) 0 ≡ suppressed_at n place
+none_by true n end q text none written before place h t = written place (is_lt place q t)
+none_by false n end q text none written before place h t =
+    let l : q ≤ place = not_lt place q t in
+    before (end - 1 - place) (omega (arith, l, h)) ∙ blank_over n q place none l
+
+-- every digit is written
+pub none_left : (n end q : ℕ) (text : List ℕ) → n / 10 ^ q ≡ 0 → ((k : ℕ) → k < q → get_or text (end - 1 - k) 0 ≡ suppressed_at n k) → ((i : ℕ) → i < end - q → get_or text i 0 ≡ 0x40) → (place : ℕ) → place < end → get_or text (end - 1 - place) 0 ≡ suppressed_at n place
+none_left n end q text none written before place h = none_by (nat_lt place q) n end q text (below n q none) written before place h refl
+
+first_by : (b t : Bool) (n end q r : ℕ) (text : List ℕ) → q < end → end ≤ length text → r ≡ n / 10 ^ q → 0 < r → r ≤ 9 → ((k : ℕ) → k < q → get_or text (end - 1 - k) 0 ≡ suppressed_at n k) → ((i : ℕ) → i < end - q → get_or text i 0 ≡ 0x40) → (place : ℕ) → place < end → nat_lt place q ≡ b → nat_lt place (q + 1) ≡ t
+    → get_or (slice_set text (end - 1 - q) (0xf0 + r)) (end - 1 - place) 0 ≡ suppressed_at n place
+first_by true t n end q r text room long left some few written before place h e e' =
+    let l : place < q = is_lt place q e in
+    let ne : end - 1 - place ≢ end - 1 - q = omega arith in
+    rw get_or-set_other (written place l)
+first_by false true n end q r text room long left some few written before place h e e' =
+    let l : q ≤ place = not_lt place q e in
+    let m : place < q + 1 = is_lt place (q + 1) e' in
+    let same : place ≡ q = omega (arith, l, m) in
+    let lt : end - 1 - q < length text = omega arith in
+    let digit : r % 10 ≡ r = omega (arith, few) in
+    let set : get_or (slice_set text (end - 1 - q) (0xf0 + r)) (end - 1 - q) 0 ≡ 0xf0 + r = rw get_or-set_same refl in
+    ap (λ k. get_or (slice_set text (end - 1 - q) (0xf0 + r)) (end - 1 - k) 0) same ∙ set ∙ ap (λ d. 0xf0 + d) (sym digit) ∙ suppressed_digit n q r left some ∙ ap (λ k. suppressed_at n k) (sym same)
+first_by false false n end q r text room long left some few written before place h e e' =
+    let l : q + 1 ≤ place = not_lt place (q + 1) e' in
+    let ne : end - 1 - place ≢ end - 1 - q = omega (arith, l, h) in
+    let last : r / 10 ≡ 0 = omega (arith, few) in
+    let none : n / 10 ^ (q + 1) ≡ 0 = sym (tenth n q) ∙ ap (λ v. v / 10) (sym left) ∙ last in
+    rw get_or-set_other (before (end - 1 - place) (omega (arith, l, h)) ∙ blank_over n (q + 1) place (below n (q + 1) none) l)
+
+-- and so it is with the first one, which is what is left of the number
+pub first_digit : (n end q r : ℕ) (text : List ℕ) → q < end → end ≤ length text → r ≡ n / 10 ^ q → 0 < r → r ≤ 9 → ((k : ℕ) → k < q → get_or text (end - 1 - k) 0 ≡ suppressed_at n k) → ((i : ℕ) → i < end - q → get_or text i 0 ≡ 0x40) → (place : ℕ) → place < end
+    → get_or (slice_set text (end - 1 - q) (0xf0 + r)) (end - 1 - place) 0 ≡ suppressed_at n place
+first_digit n end q r text room long left some few written before place h = first_by (nat_lt place q) (nat_lt place (q + 1)) n end q r text room long left some few written before place h refl refl
+
+-- ---- the width of an amount
+known_by : (b : Bool) (total width : ℕ) → (if b then Some total else None) ≡ Some width → total ≡ width
+known_by true total width h = ap (λ o. unwrap_or o 0) h
+known_by false total width h = absurd (true≢false (sym (ap (λ o. is_some o) h)))
+
+pub width_is : (style : Amount) (digits decimals width : ℕ) → width_of (Edited style) digits decimals ≡ Some width → body_width style digits decimals + sign_width style.sign ≡ width
+width_is style digits decimals width h = known_by (is_form digits decimals) (body_width style digits decimals + sign_width style.sign) width h
+
+whole_fits : (commas : Bool) (digits decimals : ℕ) → digits - decimals ≤ whole_digits commas (digits - decimals + comma_width commas digits decimals)
+whole_fits true digits decimals = omega arith
+whole_fits false digits decimals = omega arith
+
+behind : (digits decimals commas point sign width : ℕ) → decimals ≤ digits → digits + commas + point + sign ≡ width → width - sign - (decimals + point) ≡ digits - decimals + commas
+behind digits decimals commas point sign width h e = omega (arith, h, e)
+
+-- the digits of a whole part have room in front of the point
+pub whole_room : (style : Amount) (n digits decimals width : ℕ) → n < 10 ^ digits → decimals ≤ digits → width_of (Edited style) digits decimals ≡ Some width → n / 10 ^ decimals < 10 ^ whole_digits style.commas (width - sign_width style.sign - (decimals + point_width decimals))
+whole_room style n digits decimals width fits few known =
+    let both : digits ≡ decimals + (digits - decimals) = omega (arith, few) in
+    let part : n / 10 ^ decimals < 10 ^ (digits - decimals) = part_below n decimals (digits - decimals) (subst (λ k. n < 10 ^ k) both fits) in
+    let room : width - sign_width style.sign - (decimals + point_width decimals) ≡ digits - decimals + comma_width style.commas digits decimals =
+    behind digits decimals (comma_width style.commas digits decimals) (point_width decimals) (sign_width style.sign) width few (width_is style digits decimals width known) in
+    subst (λ e. n / 10 ^ decimals < 10 ^ whole_digits style.commas e) (sym room) (omega (arith, part, ten_le (digits - decimals) (whole_digits style.commas (digits - decimals + comma_width style.commas digits decimals)) (whole_fits style.commas digits decimals)))
+
+-- an amount other than 0 is shown
+pub some_shown : (style : Amount) (n : ℕ) → n ≢ 0 → (n == 0 && not style.zero_printed) ≡ false
+some_shown style n h = grind (arith, nat_tests)
+
+pub some_known : (o : Option ℕ) (n : ℕ) → is_some o ≡ true → n ≡ unwrap_or o 0 → o ≡ Some n
+some_known None n some is = absurd (true≢false (sym some))
+some_known (Some w) n some is = ap (λ k. Some k) (sym is)

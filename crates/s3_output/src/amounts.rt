@@ -1,0 +1,212 @@
+//! Amounts other than 0 and of up to 32 bits, as nearly all are. `edit` would write the same, digit by digit of 64 bits.
+ghost use Rattle.std.specs.Prelude.{◌≡◌, ◌≢◌, ℕ, ◌+◌, ◌-◌, ◌*◌, ◌/◌, ◌^◌, ◌<◌, ◌≤◌, ◌&&◌, nat_lt, Some, length, slice_index, unsigned_abs};
+ghost use Rattle.s3_cards.specs.declared.ebcdic.TheConstants.{BLANK, PERIOD};
+ghost use Rattle.s3_decimal.specs.Exact.{is_negative};
+ghost use Rattle.s3_decimal.specs.Records.{digit_at};
+ghost use Rattle.s3_edit.specs.declared.code.EditCode.TheVariants.{Edited};
+ghost use Rattle.s3_edit.specs.Inner.Passes.{whole_at};
+ghost use Rattle.s3_edit.specs.Picture.{amount_at, character_of, digit_character, digits_right, is_shown, place_kind, point_width, sign_at, sign_width as sign_width_of, suppressed_at, whole_digits, width_of};
+
+use s3_cards::ebcdic::{BLANK, COMMA, DIGIT_0, LETTER_C, LETTER_R, MINUS, PERIOD};
+use s3_decimal::Dec;
+use s3_edit::{Amount, Sign};
+
+/// Makes a text blank that is as long as some blanks, or up to twice as long: they are laid at both of its ends.
+#[inline(always)]
+fn blank_ends(blanks: &[u8], text: &mut [u8])
+    requires blanks { (i : ℕ) → i < length blanks.now → slice_index blanks.now i ≡ BLANK }
+    requires reaches { length blanks.now ≤ length text.old }
+    requires covers { length text.old ≤ 2 * length blanks.now }
+    ensures { (i : ℕ) → i < length text.old → slice_index text.new i ≡ BLANK }
+{
+    let last = text.len() - blanks.len();
+    text[..blanks.len()].copy_from_slice(blanks);
+    text[last..].copy_from_slice(blanks);
+}
+
+/// Makes a text blank, in two steps where it has a usual width.
+#[inline(always)]
+fn blank(text: &mut [u8])
+    ensures { (i : ℕ) → i < length text.old → slice_index text.new i ≡ BLANK }
+{
+    match text.len() {
+        8..=16 => blank_ends(&[BLANK; 8], text),
+        4..=7 => blank_ends(&[BLANK; 4], text),
+        _ => text.fill(BLANK),
+    }
+}
+
+/// Writes the last digits of a number, so many, up to `end`, and gives what is left of the number.
+#[inline(always)]
+fn put_digits(number: u32, count: usize, end: usize, text: &mut [u8]) -> u32
+    requires begins { count ≤ end }
+    requires ends { end ≤ length text.old }
+    ensures left { result ≡ number / 10 ^ count }
+    ensures digits { (place : ℕ) → place < count → slice_index text.new (end - 1 - place)
+        ≡ digit_character (digit_at place number) }
+    ensures before { (i : ℕ) → i < end - count → slice_index text.new i ≡ slice_index text.old i }
+    ensures rest { (i : ℕ) → end ≤ i → slice_index text.new i ≡ slice_index text.old i }
+{
+    let mut rest = number;
+    for place in 0..count {
+        text[end - 1 - place] = DIGIT_0 + (rest % 10) as u8;
+        rest /= 10;
+    }
+    rest
+}
+
+/// Writes decimals up to `end`, and gives the whole part. The most usual counts stand apart: where the count is known to the
+/// compiler, the digits take no loop.
+#[inline(always)]
+fn put_decimals(number: u32, count: usize, end: usize, text: &mut [u8]) -> u32
+    requires begins { count ≤ end }
+    requires ends { end ≤ length text.old }
+    ensures left { result ≡ number / 10 ^ count }
+    ensures digits { (place : ℕ) → place < count → slice_index text.new (end - 1 - place)
+        ≡ digit_character (digit_at place number) }
+    ensures before { (i : ℕ) → i < end - count → slice_index text.new i ≡ slice_index text.old i }
+    ensures rest { (i : ℕ) → end ≤ i → slice_index text.new i ≡ slice_index text.old i }
+{
+    match count {
+        2 => put_digits(number, 2, end, text),
+        3 => put_digits(number, 3, end, text),
+        _ => put_digits(number, count, end, text),
+    }
+}
+
+/// Writes the point in front of the decimals, and gives where the whole part ends.
+#[inline(always)]
+fn put_point(decimals: usize, end: usize, text: &mut [u8]) -> usize
+    requires begins { point_width decimals ≤ end }
+    requires ends { end ≤ length text.old }
+    ensures end { result ≡ end - point_width decimals }
+    ensures point { decimals ≢ 0 → slice_index text.new (end - 1) ≡ PERIOD }
+    ensures before { (i : ℕ) → i < end - point_width decimals → slice_index text.new i ≡ slice_index text.old i }
+    ensures rest { (i : ℕ) → end ≤ i → slice_index text.new i ≡ slice_index text.old i }
+{
+    if decimals == 0 {
+        return end;
+    }
+    text[end - 1] = PERIOD;
+    end - 1
+}
+
+/// Writes the digits of a number over blanks, up to `end`; none of a 0.
+#[inline(always)]
+fn put_suppressed(number: u32, end: usize, text: &mut [u8])
+    requires ends { end ≤ length text.old }
+    requires fits { number < 10 ^ end }
+    requires blanks { (i : ℕ) → i < end → slice_index text.old i ≡ BLANK }
+    ensures picture { (place : ℕ) → place < end → slice_index text.new (end - 1 - place)
+        ≡ suppressed_at number place }
+    ensures rest { (i : ℕ) → end ≤ i → slice_index text.new i ≡ slice_index text.old i }
+{
+    let mut rest = number;
+    let mut place = 0;
+    'digits: while rest > 9 {
+        text[end - 1 - place] = DIGIT_0 + (rest % 10) as u8;
+        rest /= 10;
+        place += 1;
+    }
+    if rest > 0 {
+        text[end - 1 - place] = DIGIT_0 + rest as u8;
+    }
+}
+
+/// Whether a comma stands in front of the last three digits of a whole part.
+#[inline(always)]
+fn has_comma(commas: bool, number: u32) -> bool
+    ensures { result ≡ (commas && nat_lt 999 number) }
+{
+    commas && number > 999
+}
+
+/// Writes a whole part over blanks, up to `end`: three digits and a comma while more digits are left, then the first ones.
+#[inline(always)]
+fn put_whole(number: u32, commas: bool, end: usize, text: &mut [u8])
+    requires ends { end ≤ length text.old }
+    requires fits { number < 10 ^ whole_digits commas end }
+    requires blanks { (i : ℕ) → i < end → slice_index text.old i ≡ BLANK }
+    ensures picture { (place : ℕ) → place < end → slice_index text.new (end - 1 - place)
+        ≡ whole_at commas number place }
+    ensures rest { (i : ℕ) → end ≤ i → slice_index text.new i ≡ slice_index text.old i }
+{
+    let mut rest = number;
+    let mut place = 0;
+    'threes: while has_comma(commas, rest) {
+        rest = put_digits(rest, 3, end - place, text);
+        text[end - 4 - place] = COMMA;
+        place += 4;
+    }
+    put_suppressed(rest, end - place, text);
+}
+
+/// Writes a number without its sign over blanks.
+#[inline(always)]
+fn put_body(magnitude: u32, decimals: usize, commas: bool, width: usize, text: &mut [u8])
+    requires some { magnitude ≢ 0 }
+    requires unit { decimals < width }
+    requires room { width ≤ length text.old }
+    requires fits { magnitude / 10 ^ decimals < 10 ^ whole_digits commas (width - (decimals + point_width decimals)) }
+    requires blanks { (i : ℕ) → i < width → slice_index text.old i ≡ BLANK }
+    ensures picture { (place : ℕ) → place < width → slice_index text.new (width - 1 - place)
+        ≡ character_of (place_kind commas decimals place) (is_shown commas decimals magnitude place)
+        (digit_at (digits_right commas decimals place) magnitude) }
+    ensures rest { (i : ℕ) → width ≤ i → slice_index text.new i ≡ slice_index text.old i }
+{
+    let whole = put_decimals(magnitude, decimals, width, text);
+    let end = put_point(decimals, width - decimals, text);
+    put_whole(whole, commas, end, text);
+}
+
+/// How many places a sign takes.
+#[inline(always)]
+fn sign_width(sign: Sign) -> usize
+    ensures { result ≡ sign_width_of sign }
+{
+    match sign {
+        Sign::Never => 0,
+        Sign::Credit => 2,
+        Sign::Minus => 1,
+    }
+}
+
+/// Writes a sign over blanks at `at`.
+#[inline(always)]
+fn put_sign(sign: Sign, is_negative: bool, at: usize, text: &mut [u8])
+    requires room { at + sign_width_of sign ≤ length text.old }
+    requires blanks { (i : ℕ) → at ≤ i → i < length text.old → slice_index text.old i ≡ BLANK }
+    ensures picture { (place : ℕ) → place < sign_width_of sign
+        → slice_index text.new (at + sign_width_of sign - 1 - place) ≡ sign_at sign is_negative place }
+    ensures before { (i : ℕ) → i < at → slice_index text.new i ≡ slice_index text.old i }
+{
+    match sign {
+        Sign::Credit if is_negative => {
+            text[at] = LETTER_C;
+            text[at + 1] = LETTER_R;
+        }
+        Sign::Minus if is_negative => text[at] = MINUS,
+        _ => {}
+    }
+}
+
+/// Writes an amount that isn't 0, from its magnitude.
+#[inline(always)]
+pub fn put_amount(number: Dec, magnitude: u32, style: Amount, text: &mut [u8])
+    requires magnitude { magnitude ≡ unsigned_abs number.value }
+    requires some { magnitude ≢ 0 }
+    requires room { width_of (Edited style) number.digits number.decimals ≡ Some (length text.old) }
+    ensures { (place : ℕ) → place < length text.old → slice_index text.new (length text.old - 1 - place)
+        ≡ amount_at style number.decimals (is_negative number.value) (unsigned_abs number.value) place }
+{
+    blank(text);
+    let body = text.len() - sign_width(style.sign);
+    put_body(
+        magnitude,
+        usize::from(number.decimals),
+        style.commas,
+        body,
+        text,
+    );
+    put_sign(style.sign, number.is_negative(), body, text);
+}
