@@ -35,8 +35,8 @@ pub fn read_pack(rt: &HostRuntime, path: &str) -> io::Result<Vec<u8>> {
 }
 
 /// Saves a pack whole or not at all where the path names a regular file or none: it is written to a new file beside it,
-/// which then takes its name and has its mode. A file that is write-protected keeps its name. A link is followed. Anything else, as
-/// a device, is written in place.
+/// which then takes its name and has its mode. A write-protected file is left as it is, and the save refused. A link is
+/// followed. Anything else, as a device, is written in place.
 pub fn save_pack(rt: &HostRuntime, path: &str, bytes: &[u8]) -> io::Result<()> {
     let followed = followed(rt, path)?;
     let place = followed.as_path();
@@ -85,7 +85,7 @@ fn write_in_place(rt: &HostRuntime, place: Path<'_>, bytes: &[u8]) -> io::Result
     file.write_all(bytes)
 }
 
-/// The same where there is an old file, if its mode allows it.
+/// Replaces an old file of this mode, unless it is write-protected.
 fn replace_old(
     rt: &HostRuntime,
     place: Path<'_>,
