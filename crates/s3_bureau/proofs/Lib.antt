@@ -4,12 +4,12 @@ pub mod Closing
 pub mod Counts
 pub mod Digits
 pub mod Entering
+pub mod Laying
 pub mod Memory
 pub mod Opening
 pub mod OtherLevel
 pub mod Performing
 pub mod Running
 pub mod Scripts
-pub mod Showing
 pub mod Trimming
 pub mod MigratedTexts

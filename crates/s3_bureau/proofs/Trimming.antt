@@ -1,5 +1,5 @@
 -- Blanks at the end of a text.
-use Rattle.std.proofs.Common.{◌≡◌, ℕ, false, List, [], ◌∷◌, ◌++◌, refl, sym, ap, ◌∙◌, eqb, take, drop, replicate, take-append-drop}
+use Rattle.std.proofs.Common.{◌≡◌, ℕ, zero, suc, false, List, [], ◌∷◌, ◌++◌, refl, sym, ap, ◌∙◌, eqb, take, drop, replicate, take-append-drop}
 use Rattle.s3_bureau.specs.Texts.{trimmed, before_trimmed}
 
 -- a blank at the end goes
@@ -17,8 +17,13 @@ trimmed_same_front : (text more : List ℕ) → trimmed more ≡ [] → trimmed 
 trimmed_same_front [] more blank = blank
 trimmed_same_front (code ∷ codes) more blank = ap (before_trimmed code) (trimmed_same_front codes more blank)
 
--- eight blanks at the end go
-pub eight_trimmed : (text front last : List ℕ) (n : ℕ) → front ≡ take n text → last ≡ drop n text → last ≡ replicate 8 0x40 → trimmed front ≡ trimmed text
-eight_trimmed text front last n is_front is_last blank =
+trimmed_blanks : (n : ℕ) → trimmed (replicate n 0x40) ≡ []
+trimmed_blanks zero = refl
+trimmed_blanks (suc n) = ap (before_trimmed 0x40) (trimmed_blanks n)
+
+-- so many blanks at the end go
+pub blanks_trimmed : (text front last : List ℕ) (n blanks : ℕ) → front ≡ take n text → last ≡ drop n text → last ≡ replicate blanks 0x40
+    → trimmed front ≡ trimmed text
+blanks_trimmed text front last n blanks is_front is_last blank =
     let whole : front ++ last ≡ text = rw (is_front, is_last) (take-append-drop n text) in
-    sym (trimmed_same_front front last (rw blank refl)) ∙ ap trimmed whole
+    sym (trimmed_same_front front last (ap trimmed blank ∙ trimmed_blanks blanks)) ∙ ap trimmed whole

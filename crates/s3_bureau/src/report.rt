@@ -1,21 +1,27 @@
 //! A level's report: its printed lines as a text.
-ghost use Rattle.std.specs.Prelude.{◌≡◌, ◌++◌, ◌∷◌, [], ◌≤◌, ◌<◌, length, map, take, OnOk, IfOk};
+ghost use Rattle.std.specs.Prelude.{◌≡◌, ◌++◌, ◌∷◌, [], ◌≤◌, ◌<◌, ◌+◌, length, map, take, OnOk, IfOk};
 ghost use Rattle.s3_bureau.specs.Texts.{in_digits, shown_byte, trimmed, report_line, report_of};
-ghost use Rattle.s3_bureau.specs.Inner.Underway.{AreTables, HasOnes, HasTens, ShowsCodes};
+ghost use Rattle.s3_bureau.specs.Inner.Underway.{AreTables, HasOnes, HasTens, IsLaid, ShowsCodes, ShowsPairs, ShowsPairsWith};
 
-use super::number::push_number;
+use itoa::Buffer;
 use s3_cards::ebcdic::BLANK;
 use s3_cards::{PRINT_POSITIONS, PrintLine, host_byte};
 use std::alloc::{AllocError, Global};
 
-/// The most bytes of a printed line behind its page and line, with what ends it.
-const LONGEST_LINE: usize = PRINT_POSITIONS + 1;
+/// The most bytes of a line of a report: page and line in up to five digits with a blank behind each, the text, and what ends it.
+const LONGEST_LINE: usize = 12 + PRINT_POSITIONS + 1;
 
-/// What each line of a report is made with, so that each of its codes and of its numbers costs one look-up.
+/// A report gets room for so many bytes of each line at first.
+const USUAL_LINE: usize = 64;
+
+/// How many bytes may be laid out before they go into the report together.
+const ROOM: usize = 2_048;
+
+/// What each line of a report is made with, so that two of its codes cost one look-up, and each digit of its page.
 #[derive(Drop)]
 struct Tables {
-    /// The byte that shows each code, in the order of the codes.
-    shown: [u8; 256],
+    /// The bytes that show each two codes, as one number whose first byte is the low one, at the place that the codes have so.
+    shown: Vec<u16>,
     /// The first digit of each number below 100, in two.
     tens: [u8; 100],
     /// The second one.
@@ -26,64 +32,144 @@ struct Tables {
 pub fn report_text(alloc: Global, lines: &[PrintLine]) -> Result<Vec<u8>, AllocError>
     ensures { IfOk result (λ text. text.items ≡ report_of lines.now) }
 {
-    let tables = Tables {
-        shown: shown_bytes(),
-        tens: first_digits(),
-        ones: last_digits(),
-    };
-    let mut room = [b' '; LONGEST_LINE];
-    let mut text = Vec::new(alloc);
-    for line in lines {
-        push_line(&mut text, &tables, &mut room, line)?;
+    if lines.is_empty() {
+        return Ok(Vec::new(alloc));
     }
+    let tables = report_tables(alloc)?;
+    let mut text = Vec::with_capacity(alloc, lines.len().saturating_mul(USUAL_LINE))?;
+    let mut room = [b' '; ROOM];
+    let mut end = 0;
+    for line in lines {
+        let start = with_room(&mut text, &room, end)?;
+        end = lay_line(&mut room, start, &tables, line);
+    }
+    text.extend_from_slice(&room[..end])?;
     Ok(text)
 }
 
-/// Appends a printed line to a report. Its characters are laid out in the room first, and go into the report as a whole.
-#[tactic(auto, using(crate::proofs::Showing::line_whole), unfolding(crate::specs::Texts::report_line))]
-fn push_line(
-    report: &mut Vec<u8>,
-    tables: &Tables,
-    room: &mut [u8; LONGEST_LINE],
-    line: &PrintLine,
-) -> Result<(), AllocError>
-    requires { AreTables tables.now }
-    ensures { OnOk result (report.new.items ≡ report.old.items ++ report_line line.now) }
+/// Where the next line goes: behind those that are laid out, or where the room may be too short for it, to its front once they went
+/// into the report.
+fn with_room(report: &mut Vec<u8>, room: &[u8; ROOM], end: usize) -> Result<usize, AllocError>
+    requires { end ≤ 2048 }
+    ensures same { IfOk result (λ start. report.new.items ++ take start room.now ≡ report.old.items ++ take end room.now) }
+    ensures fits { IfOk result (λ start. start + 145 ≤ 2048) }
 {
-    push_place(report, tables, line.page(), line.line())?;
-    let end = lay_codes(room, tables, trim_end(line.text()));
-    report.extend_from_slice(&room[..end])
-}
-
-/// Lays out the characters of at most 132 codes and what ends their line; answers how many bytes these are.
-#[tactic(auto, using(crate::proofs::Showing::shown_end))]
-fn lay_codes(room: &mut [u8; LONGEST_LINE], tables: &Tables, codes: &[u8]) -> usize
-    requires tables { AreTables tables.now }
-    requires fits { length codes.now ≤ 132 }
-    ensures line { take result room.new ≡ map shown_byte codes.now ++ 10 ∷ [] }
-    ensures within { result ≤ 133 }
-{
-    for (column, code) in codes.iter().enumerate() {
-        room[column] = tables.shown[*code as usize];
+    if end + LONGEST_LINE <= ROOM {
+        return Ok(end);
     }
-    let end = codes.len();
-    room[end] = b'\n';
-    end + 1
+    report.extend_from_slice(&room[..end])?;
+    Ok(0)
 }
 
-/// Appends the page of a printed line and its line there, with a blank behind each.
-fn push_place(report: &mut Vec<u8>, tables: &Tables, page: u16, line: u8) -> Result<(), AllocError>
-    requires { AreTables tables.now }
-    ensures { OnOk result (report.new.items ≡ report.old.items ++ in_digits 4 page ++ 32 ∷ [] ++ in_digits 2 line ++ 32 ∷ []) }
+/// Lays out a printed line from a place on, and answers where it ends.
+#[tactic(auto, using(crate::proofs::Laying::line_whole), unfolding(crate::specs::Texts::report_line))]
+fn lay_line(room: &mut [u8; ROOM], at: usize, tables: &Tables, line: &PrintLine) -> usize
+    requires tables { AreTables tables.now }
+    requires fits { at + 145 ≤ 2048 }
+    ensures laid { IsLaid at result room.old room.new (report_line line.now) }
+    ensures within { result ≤ 2048 }
+{
+    let text = lay_place(room, at, tables, line.page(), line.line());
+    let end = lay_codes(room, text, tables, trim_end(line.text()));
+    lay(room, end, b"\n")
+}
+
+/// Copies bytes to a place, and answers where they end.
+fn lay(room: &mut [u8; ROOM], at: usize, bytes: &[u8]) -> usize
+    requires { at + length bytes.now ≤ 2048 }
+    ensures { IsLaid at result room.old room.new bytes.now }
+{
+    let end = at + bytes.len();
+    room[at..end].copy_from_slice(bytes);
+    end
+}
+
+/// Lays out the characters of codes. Sixteen of them go without a test in between.
+fn lay_codes(room: &mut [u8; ROOM], at: usize, tables: &Tables, codes: &[u8]) -> usize
+    requires tables { AreTables tables.now }
+    requires fits { at + length codes.now ≤ 2048 }
+    ensures { IsLaid at result room.old room.new (map shown_byte codes.now) }
+{
+    let mut end = at;
+    let mut rest = codes;
+    while let Some((sixteen, after)) = rest.split_first_chunk::<16>() {
+        end = lay_pairs(room, end, tables, sixteen);
+        rest = after;
+    }
+    lay_pairs(room, end, tables, rest)
+}
+
+/// Lays out the characters of codes, two at a time.
+#[inline(always)]
+fn lay_pairs(room: &mut [u8; ROOM], at: usize, tables: &Tables, codes: &[u8]) -> usize
+    requires tables { AreTables tables.now }
+    requires fits { at + length codes.now ≤ 2048 }
+    ensures { IsLaid at result room.old room.new (map shown_byte codes.now) }
+{
+    let mut end = at;
+    let mut rest = codes;
+    while let Some((two, after)) = rest.split_first_chunk::<2>() {
+        let [first, second] = tables.shown_pair(*two);
+        room[end] = first;
+        room[end + 1] = second;
+        end += 2;
+        rest = after;
+    }
+    if let Some(last) = rest.first() {
+        room[end] = host_byte(*last);
+        end += 1;
+    }
+    end
+}
+
+impl Tables {
+    /// The bytes that show two codes.
+    fn shown_pair(&self, codes: [u8; 2]) -> [u8; 2]
+        requires { AreTables self.now }
+        ensures { result ≡ map shown_byte codes }
+    {
+        self.shown[usize::from(u16::from_le_bytes(codes))].to_le_bytes()
+    }
+}
+
+/// Lays out the page of a printed line and its line there, with a blank behind each.
+fn lay_place(room: &mut [u8; ROOM], at: usize, tables: &Tables, page: u16, line: u8) -> usize
+    requires tables { AreTables tables.now }
+    requires fits { at + 12 ≤ 2048 }
+    ensures laid { IsLaid at result room.old room.new (in_digits 4 page ++ 32 ∷ [] ++ in_digits 2 line ++ 32 ∷ []) }
+    ensures within { result ≤ at + 12 }
 {
     if page < 10_000 && line < 100 {
-        return report.extend_from_slice(&place_in_eight(tables, page, line));
+        lay(room, at, &place_in_eight(tables, page, line))
+    } else {
+        lay_long_place(room, at, page, line)
     }
-    push_number(report, page, 4)?;
-    report.push(b' ')?;
-    push_number(report, u16::from(line), 2)?;
-    report.push(b' ')?;
-    Ok(())
+}
+
+/// Lays out a page and a line, either of which may be too great for its digits.
+#[inline(never)]
+fn lay_long_place(room: &mut [u8; ROOM], at: usize, page: u16, line: u8) -> usize
+    requires { at + 12 ≤ 2048 }
+    ensures laid { IsLaid at result room.old room.new (in_digits 4 page ++ 32 ∷ [] ++ in_digits 2 line ++ 32 ∷ []) }
+    ensures within { result ≤ at + 12 }
+{
+    let behind_page = lay_number(room, at, page, 4);
+    let second = lay(room, behind_page, b" ");
+    let behind_line = lay_number(room, second, u16::from(line), 2);
+    lay(room, behind_line, b" ")
+}
+
+/// Lays out a number with zeros in front up to a width of at most five.
+fn lay_number(room: &mut [u8; ROOM], at: usize, number: u16, width: usize) -> usize
+    requires { (at + 5 ≤ 2048) × (width ≤ 5) }
+    ensures laid { IsLaid at result room.old room.new (in_digits width number) }
+    ensures within { result ≤ at + 5 }
+{
+    let mut buffer = Buffer::new();
+    let digits = buffer.format(number).as_bytes();
+    let zeros = width.saturating_sub(digits.len());
+    let first = lay(room, at, &[b'0'; 5][..zeros]);
+    lay(room, first, digits)
 }
 
 /// A page of at most four digits and a line of at most two, with a blank behind each.
@@ -105,6 +191,42 @@ fn place_in_eight(tables: &Tables, page: u16, line: u8) -> [u8; 8]
         tables.ones[line as usize],
         b' ',
     ]
+}
+
+/// What the lines of a report are made with.
+fn report_tables(alloc: Global) -> Result<Tables, AllocError>
+    ensures { IfOk result AreTables }
+{
+    Ok(Tables {
+        shown: shown_pairs(alloc)?,
+        tens: first_digits(),
+        ones: last_digits(),
+    })
+}
+
+/// The bytes that show each two codes, a row for each second one.
+fn shown_pairs(alloc: Global) -> Result<Vec<u16>, AllocError>
+    ensures pairs { IfOk result (λ pairs. ShowsPairs pairs.items) }
+    ensures all { IfOk result (λ pairs. length pairs.items ≡ 65536) }
+{
+    let shown = shown_bytes();
+    let mut pairs = Vec::with_capacity(alloc, 65_536)?;
+    for second in 0..256usize {
+        pairs.extend_from_slice(&shown_row(&shown, shown[second]))?;
+    }
+    Ok(pairs)
+}
+
+/// The bytes that show each code with this byte behind it.
+fn shown_row(shown: &[u8; 256], second: u8) -> [u16; 256]
+    requires { ShowsCodes shown.now }
+    ensures { ShowsPairsWith second result }
+{
+    let mut row = [0; 256];
+    for first in 0..256usize {
+        row[first] = u16::from_le_bytes([shown[first], second]);
+    }
+    row
 }
 
 /// The byte that shows each code, in the order of the codes.
@@ -145,20 +267,32 @@ fn trim_end(text: &[u8]) -> &[u8]
     ensures value { result.now ≡ trimmed text.now }
     ensures shorter { length result.now ≤ length text.now }
 {
-    trim_blanks(trim_eights(text))
+    trim_blanks(trim_fours(trim_sixteens(text)))
 }
 
-/// Eight blanks.
-const EIGHT_BLANKS: [u8; 8] = [BLANK; 8];
-
-/// A text without those blanks at its end that stand by eights, as in the 132 positions of a short line.
-fn trim_eights(text: &[u8]) -> &[u8]
+/// A text without those blanks at its end that stand by sixteens, as in the 132 positions of a short line.
+fn trim_sixteens(text: &[u8]) -> &[u8]
     ensures value { trimmed result.now ≡ trimmed text.now }
     ensures shorter { length result.now ≤ length text.now }
 {
     let mut rest = text;
-    while let Some((front, last)) = rest.split_last_chunk::<8>() {
-        if *last != EIGHT_BLANKS {
+    while let Some((front, last)) = rest.split_last_chunk::<16>() {
+        if *last != [BLANK; 16] {
+            return rest;
+        }
+        rest = front;
+    }
+    rest
+}
+
+/// A text without those blanks at its end that stand by fours.
+fn trim_fours(text: &[u8]) -> &[u8]
+    ensures value { trimmed result.now ≡ trimmed text.now }
+    ensures shorter { length result.now ≤ length text.now }
+{
+    let mut rest = text;
+    while let Some((front, last)) = rest.split_last_chunk::<4>() {
+        if *last != [BLANK; 4] {
             return rest;
         }
         rest = front;

@@ -4,6 +4,7 @@ pub mod EndLemmas
 pub mod LineLemmas
 pub mod PrintLemmas
 pub mod HaltLemmas
+pub mod ClearingLemmas
 pub mod HeadLemmas
 pub mod TurnLemmas
 pub mod AskLemmas

@@ -32,7 +32,7 @@ use Rattle.s3_operations.specs.Fits.{tables}
 use Rattle.s3_operations.specs.Held.{held}
 use Rattle.s3_operations.specs.declared.indicators.Indicators.{Indicators}
 use Rattle.s3_output.specs.declared.guards.LineGuard.{LineGuard}
-use Rattle.s3_output.specs.declared.guards.LineGuard.TheVariants.{Group, Either, OneOf, Cards}
+use Rattle.s3_output.specs.declared.guards.LineGuard.TheVariants.{One, Group, Either, OneOf, Cards}
 use Rattle.s3_output.specs.declared.guards.LineGuards.{LineGuards}
 use Rattle.s3_output.specs.Guards.{AreGuarded, IsGuardedLine, IsLineGuard, guards_of, is_always_used, line_guard_holds}
 use Rattle.s3_output.specs.Lines.{IsLineAt, IsStart}
@@ -277,6 +277,7 @@ guarded_by p guards walk.Overflow place start guard are there at = cc
 
 -- the guard of a line that has one
 guarded_line : (p : Program) (start : OutputStart) (guard : LineGuard) (indicators : Indicators) (holds : Bool) → IsLineGuard p start guard → line_guard_holds indicators guard ≡ Some holds → IsGuardedLine p start guard
+guarded_line p start (One one) indicators holds line is = line
 guarded_line p start (Group one) indicators holds line is = line
 guarded_line p start (Either one two) indicators holds line is = line
 guarded_line p start (OneOf one two three) indicators holds line is = line

@@ -12,3 +12,4 @@ pub mod Selecting
 pub mod Starting
 pub mod Answers
 pub mod Chaining
+pub mod Clearing

@@ -23,8 +23,7 @@ use crate::request::{Current, Request, Sought};
 use crate::stepper::Stepper;
 use crate::went::Calculated;
 use s3_lines::indicator::Indicator;
-use s3_match::fields::indicator_of;
-use s3_match::type_of;
+use s3_match::heads::keep_record;
 use s3_operations::chaining::chained_file;
 use s3_operator::HaltCode;
 use s3_program::starts::TypeStart;
@@ -129,7 +128,7 @@ impl Stepper {
         ensures { GoesOn self.old self.new (here self.old (λ source program progress. chain_answered source program progress place (Found bytes.now))) }
     {
         self.turn_entry(self.first_indicator(place), false);
-        match type_of(&self.program, file, bytes) {
+        match self.progress.reading.type_in(&self.program, file, bytes) {
             Some(start) => self.take_chained(file, start, bytes),
             None => self.halt(HaltCode::UnidentifiedRecord, Continuation::Calculations),
         }
@@ -145,8 +144,7 @@ impl Stepper {
         requires typed { type_of_spec (own self.old) (name_of_file self.old.program file) bytes.now ≡ Some (kind_at self.old.program start) }
         ensures { GoesOn self.old self.new (here self.old (λ source program progress. chained_to (again source) (name_of_file program file) bytes.now (Some (kind_at program start)) (calculating source program progress))) }
     {
-        let indicator = indicator_of(&self.program, start);
-        self.turn(indicator, true);
+        self.identify_type(start);
         self.make_chained_current(file);
         self.keep(bytes);
         self.move_chained(start.fields);
@@ -166,9 +164,6 @@ impl Stepper {
         requires { length bytes.now ≤ 1024 }
         ensures { KeepsRecord self.old self.new bytes.now }
     {
-        self.progress.record.clear();
-        if self.progress.record.try_extend_from_slice(bytes).is_err() {
-            unreachable!()
-        }
+        keep_record(&mut self.progress.record, bytes);
     }
 }

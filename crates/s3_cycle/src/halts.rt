@@ -38,12 +38,11 @@ impl Stepper {
     fn has_halt(&self) -> bool
         ensures { result ≡ false → AreOff self.now 0 10 }
     {
+        let mut some_on = false;
         for number in 0..=LAST_HALT {
-            if self.is_on(Indicator::Halt(number)) {
-                return true;
-            }
+            some_on |= self.is_on(Indicator::Halt(number));
         }
-        false
+        some_on
     }
 
     /// The first of H1 to H9, from a number on, that is on.

@@ -1,12 +1,56 @@
 //! The indicators of a run.
-ghost use Rattle.std.specs.Prelude.{◌≡◌, true};
+ghost use Rattle.std.specs.Prelude.{◌≡◌, true, IsTrue};
 ghost use Rattle.s3_meaning.specs.Environment.{turn, with_last_record};
-ghost use Rattle.s3_operations.specs.Indicators.{is_settable, is_settable_entry};
+ghost use Rattle.s3_lines.specs.declared.indicator.Indicator.{Indicator as MeantIndicator};
+ghost use Rattle.s3_match.specs.Reading.{AreNumbersOf, IsReading, indicators_on};
+ghost use Rattle.s3_match.specs.Types.{is_type_start, kind_at};
+ghost use Rattle.s3_operations.specs.Held.{IsSound as AreValues, Changes as ValuesChange};
+ghost use Rattle.s3_operations.specs.Indicating.{cleared_of};
+ghost use Rattle.s3_operations.specs.Indicators.{is_settable, is_settable_entry, on_in};
+ghost use Rattle.s3_cycle.specs.Inner.Clearing.{turned_off};
 ghost use Rattle.s3_cycle.specs.Inner.Going.{AreSound, Changes, held_by};
 ghost use Rattle.s3_cycle.specs.Inner.Entries.{turn_entry, is_entry_on};
 
 use crate::stepper::Stepper;
 use s3_lines::indicator::Indicator;
+use s3_match::reading::Reading;
+use s3_operations::indicators::Indicators;
+use s3_operations::values::Values;
+use s3_program::program::Program;
+use s3_program::starts::TypeStart;
+
+/// Record identifying indicators go off, by their numbers.
+fn turn_off(indicators: &mut Indicators, program: &Program, numbers: &[usize])
+    requires { AreNumbersOf program.now.inputs.items numbers.now }
+    ensures { (other : MeantIndicator) → on_in indicators.new other ≡ turned_off (indicators_on program.now.inputs.items) other (on_in indicators.old other) }
+{
+    for number in numbers {
+        indicators.on[*number] = false;
+    }
+}
+
+/// A cycle clears what the one before it has set: record identifying indicators, by their numbers, and L1 to L9 unless LR is
+/// on, which sets them.
+pub fn clear(values: &mut Values, program: &Program, numbers: &[usize])
+    requires sound { AreValues program.now values.old }
+    requires numbers { AreNumbersOf program.now.inputs.items numbers.now }
+    ensures { ValuesChange program.now values.old values.new cleared_of }
+{
+    let is_last = values.is_on(program, Indicator::LastRecord);
+    turn_off(&mut values.indicators, program, numbers);
+    values.turn_levels(program, is_last);
+}
+
+/// The record identifying indicator of a type goes on, by its number.
+fn show_type(values: &mut Values, program: &Program, reading: &Reading, start: TypeStart)
+    requires sound { AreValues program.now values.old }
+    requires reading { IsReading program.now reading.now }
+    requires starts { IsTrue (is_type_start program.now start) }
+    ensures { ValuesChange program.now values.old values.new (λ source. turn (kind_at program.now start).indicator true) }
+{
+    let number = reading.number_of(program, start);
+    values.indicators.on[number] = true;
+}
 
 impl Stepper {
     /// Whether an indicator is on.
@@ -33,6 +77,17 @@ impl Stepper {
         ensures { Changes self.old self.new (λ source. turn indicator to) }
     {
         self.state.values.turn(&self.program, indicator, to);
+    }
+
+    /// The record identifying indicator of a type goes on.
+    pub fn identify_type(&mut self, start: TypeStart)
+        requires sound { AreSound self.old.program self.old.state }
+        requires reading { IsReading self.old.program self.old.progress.reading }
+        requires starts { IsTrue (is_type_start self.old.program start) }
+        ensures { Changes self.old self.new (λ source. turn (kind_at self.old.program start).indicator true) }
+    {
+        let reading = &self.progress.reading;
+        show_type(&mut self.state.values, &self.program, reading, start);
     }
 
     /// An indicator goes on or off, if there is one.

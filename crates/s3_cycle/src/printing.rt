@@ -34,6 +34,7 @@ fn is_told(device: Device) -> bool
 
 impl Stepper {
     /// Composes the line that starts there.
+    #[inline(never)]
     pub fn compose(&mut self, start: &OutputStart)
         requires running { IsRunning self.old }
         requires starts { IsStart self.old.program start.now }

@@ -5,12 +5,13 @@ ghost use Rattle.s3_meaning.specs.Cycle.{again, file_read};
 ghost use Rattle.s3_meaning.specs.Selection.{type_of};
 ghost use Rattle.s3_program.specs.Stands.{source_named};
 ghost use Rattle.s3_operations.specs.Indicating.{cleared_of};
-ghost use Rattle.s3_match.specs.Reading.{IsUnreadAt, input_at, on_record, read_from};
+ghost use Rattle.s3_match.specs.Reading.{IsReading, IsUnreadAt, input_at, on_record, read_from};
 ghost use Rattle.s3_match.specs.Types.{is_type_start, kind_at};
 ghost use Rattle.s3_cycle.specs.Rest.{cycle_from, head_answered, head_put, heads_read, inputs_in};
 ghost use Rattle.s3_cycle.specs.Inner.Going.{AreSound, IsRunning, CanBegin, Changes, GoesOn, here};
 ghost use Rattle.s3_cycle.specs.Inner.Heads.{IsRecordOf};
 
+use crate::indicating::clear;
 use crate::progress::{Continuation, Point};
 use crate::request::Request;
 use crate::stepper::Stepper;
@@ -36,10 +37,12 @@ impl Stepper {
 
     /// Step 2: indicators of record types go off, and L1 to L9, which LR sets.
     fn clear(&mut self)
-        requires { AreSound self.old.program self.old.state }
+        requires sound { AreSound self.old.program self.old.state }
+        requires reading { IsReading self.old.program self.old.progress.reading }
         ensures { Changes self.old self.new cleared_of }
     {
-        self.state.values.clear(&self.program);
+        let numbers = &self.progress.reading.type_numbers;
+        clear(&mut self.state.values, &self.program, numbers);
     }
 
     /// Step 3 of a cycle that begins; where no file is to be read, none has a head.

@@ -13,7 +13,6 @@ ghost use Rattle.s3_cycle.specs.Inner.Selecting.{Takes, identified};
 use crate::progress::Selection;
 use crate::stepper::Stepper;
 use s3_match::choice::select;
-use s3_match::fields::indicator_of;
 use s3_match::selection::is_matched;
 
 impl Stepper {
@@ -79,8 +78,7 @@ impl Stepper {
         requires taken { IsTaken self.old.program self.old.progress selection }
         ensures { Changes self.old self.new (λ source. identified (selected_of self.old.program self.old.progress selection)) }
     {
-        let indicator = indicator_of(&self.program, selection.start);
-        self.turn(indicator, true);
+        self.identify_type(selection.start);
         let bytes = &self.progress.reading.files[selection.place].bytes;
         let controls = &mut self.state.controls;
         let levels = self.progress.reading.levels;

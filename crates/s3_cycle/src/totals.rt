@@ -8,13 +8,12 @@ ghost use Rattle.s3_meaning.specs.Requests.{NthRead};
 ghost use Rattle.s3_meaning.specs.Environment.{put_current};
 ghost use Rattle.s3_cycle.specs.Inner.Going.{CanCalculate, Changes, GoesOn, IsRunning, IsTaken, here};
 
-use crate::progress::{Selection, Time};
+use crate::progress::{Selection, Time, restart};
 use crate::request::Current;
 use crate::stepper::Stepper;
 use crate::went::Went;
 use s3_lines::indicator::Indicator;
 use s3_program::starts::Walk;
-use s3_sections::course::Course;
 use s3_sections::spot::Spot;
 
 impl Stepper {
@@ -24,7 +23,7 @@ impl Stepper {
         ensures { GoesOn self.old self.new (here self.old (λ source program progress. last_time source (again source))) }
     {
         self.progress.time = Time::Last;
-        self.progress.course = Course::new(Spot::totals(&self.program));
+        restart(&mut self.progress.course, Spot::totals(&self.program));
         self.calculate_last();
     }
 
@@ -60,7 +59,7 @@ impl Stepper {
         ensures { GoesOn self.old self.new (here self.old (λ source program progress. totals_spec source (again source) (totals_done source program progress selection))) }
     {
         self.progress.time = Time::Totals(selection);
-        self.progress.course = Course::new(Spot::totals(&self.program));
+        restart(&mut self.progress.course, Spot::totals(&self.program));
         self.calculate_totals(selection);
     }
 

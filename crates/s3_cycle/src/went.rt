@@ -30,3 +30,12 @@ pub enum Left {
     /// All: the cards tell what comes next.
     Untold,
 }
+
+/// How far the calculation that begins at a place has led, as it is prepared.
+#[derive(Clone, Copy)]
+pub enum Led {
+    /// It is done or passed over: behind it the calculations go on at this place.
+    To(usize),
+    /// Nowhere.
+    Nowhere(Left),
+}

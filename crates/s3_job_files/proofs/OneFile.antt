@@ -242,6 +242,10 @@ updated_after label changes records place i old mid new result is same puts =
     subst (λ p. IfOk result (λ put. Puts (updated label changes p (records_of records old)) put (records_of records old) (records_of records new))) (sym is)
     (subst (λ c. IfOk result (λ put. Puts (updated label changes (Some i) (records_of records c)) put (records_of records c) (records_of records new))) same puts)
 
+pub found_there : (records : OpenRecords) (i : ℕ) (found : Bool) (bytes : List ℕ) (old mid : List (List ℕ)) → found ≡ true → found_record found bytes ≡ slice_get (records_of records old) i → mid ≡ old
+    → slice_get (records_of records mid) i ≡ Some bytes
+found_there records i found bytes old mid is there same = ap (λ c. slice_get (records_of records c) i) same ∙ sym there ∙ ap (λ b. found_record b bytes) is
+
 pub updated_found : (label : FileLabel) (changes : List (Option ℕ)) (records : OpenRecords) (i : ℕ) (found : Bool) (bytes laid : List ℕ) (old mid new : List (List ℕ)) (result : Result Put PoolFault) → found ≡ true
     → found_record found bytes ≡ slice_get (records_of records old) i → laid ≡ overlaid changes bytes → mid ≡ old
     → IfOk result (λ put. Puts (updated_at label i laid (records_of records mid)) put (records_of records mid) (records_of records new))

@@ -179,15 +179,18 @@ pub fn add<P: Sectors>(file: &mut Keyed, pool: &mut P, bytes: &[u8]) -> Result<P
     }
 }
 
-/// Writes a record over the one at a place, from 0, under the same key.
-pub fn update<P: Sectors>(
+/// Writes a record over the one at a place, from 0, which is `old`, under the same key.
+pub fn replace<P: Sectors>(
     file: &Keyed,
     pool: &mut P,
     i: u32,
+    old: &[u8],
     bytes: &[u8],
 ) -> Result<Put, PoolFault>
     requires stored { AreStored (shown file.now).sectors (P.state pool.old).contents }
     requires ordered { HasKeyOrder (shown file.now) (P.state pool.old).contents }
+    requires there { slice_get (records_now (shown file.now) (P.state pool.old).contents) i ≡ Some old.now }
+    requires old { length old.now ≡ (shown file.now).layout.record_length }
     requires long { length bytes.now ≡ (shown file.now).layout.record_length }
     ensures puts { IfOk result (λ put. Puts (by_key (with_updated (shown file.now).layout.key i bytes.now (records_now (shown file.now) (P.state pool.old).contents))) put (records_now (shown file.now) (P.state pool.old).contents) (records_now (shown file.now) (P.state pool.new).contents)) }
     ensures ordered { OnOk result (HasKeyOrder (shown file.now) (P.state pool.new).contents) }
@@ -195,7 +198,7 @@ pub fn update<P: Sectors>(
     ensures failures { (P.state pool.new).failures ≡ (P.state pool.old).failures + failed_transfers result }
     ensures fault { IfErr result (λ fault. fault ≢ PoolFault.NoSector) }
 {
-    match file.update(pool, i, bytes) {
+    match file.replace(pool, i, old, bytes) {
         Ok(()) => Ok(Put::Done),
         Err(fault) => {
             pass_on(fault)?;

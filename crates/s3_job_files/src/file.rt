@@ -19,6 +19,12 @@ use s3_slots::{FileLabel, Organization};
 use s3_store::{PoolFault, Sectors};
 use std::alloc::Global;
 
+/// The most bytes of a record.
+const LONGEST_RECORD: usize = 1024;
+
+/// The most bytes of a record that goes by way of a room of no more: a room for the longest takes longer to make ready.
+const SHORT_RECORD: usize = 128;
+
 /// A file of the job at work.
 #[derive(Drop)]
 pub struct OpenFile {
@@ -275,9 +281,17 @@ impl OpenFile {
         }
     }
 
-    /// Writes a record over the one at a place, from 0, where there is one: in an indexed file under the same key.
-    fn put<P: Sectors>(&self, pool: &mut P, i: u32, bytes: &[u8]) -> Result<Put, PoolFault>
+    /// Writes a record over the one at a place, from 0, which is `old`: in an indexed file under the same key.
+    fn put<P: Sectors>(
+        &self,
+        pool: &mut P,
+        i: u32,
+        old: &[u8],
+        bytes: &[u8],
+    ) -> Result<Put, PoolFault>
         requires usable { IsUsable (P.state pool.old).contents self.now.label self.now.records }
+        requires there { slice_get (records_of self.now.records (P.state pool.old).contents) i ≡ Some old.now }
+        requires old { length old.now ≡ self.now.label.record_length }
         requires long { length bytes.now ≡ self.now.label.record_length }
         ensures puts { IfOk result (λ put. Puts (updated_at self.now.label i bytes.now (records_of self.now.records (P.state pool.old).contents)) put (records_of self.now.records (P.state pool.old).contents) (records_of self.now.records (P.state pool.new).contents)) }
         ensures of_label { OnOk result (AreOf self.now.label (P.state pool.new).contents self.now.records) }
@@ -287,8 +301,34 @@ impl OpenFile {
     {
         match &self.records {
             OpenRecords::InOrder(file) => in_order::put(file, pool, i, bytes),
-            OpenRecords::ByKey(file) => by_key::update(file, pool, i, bytes),
+            OpenRecords::ByKey(file) => by_key::replace(file, pool, i, old, bytes),
         }
+    }
+
+    /// Changes the record at a place, from 0, where there is one, by way of two rooms of its length.
+    fn update_in<P: Sectors>(
+        &self,
+        pool: &mut P,
+        i: u32,
+        changes: &[Option<u8>],
+        old: &mut [u8],
+        bytes: &mut [u8],
+    ) -> Result<Put, PoolFault>
+        requires usable { IsUsable (P.state pool.old).contents self.now.label self.now.records }
+        requires old { length old.old ≡ self.now.label.record_length }
+        requires long { length bytes.old ≡ self.now.label.record_length }
+        ensures puts { IfOk result (λ put. Puts (updated self.now.label changes.now (Some i) (records_of self.now.records (P.state pool.old).contents)) put (records_of self.now.records (P.state pool.old).contents) (records_of self.now.records (P.state pool.new).contents)) }
+        ensures of_label { OnOk result (AreOf self.now.label (P.state pool.new).contents self.now.records) }
+        ensures within { ChangesWithin (Contains (sectors_of self.now.label)) (P.state pool.old) (P.state pool.new) }
+        ensures failures { (P.state pool.new).failures ≡ (P.state pool.old).failures + failed_transfers result }
+        ensures fault { IfErr result (λ fault. fault ≢ PoolFault.NoSector) }
+    {
+        if !self.get(pool, i, old)? {
+            return Ok(Put::Refused(HaltCode::NothingToUpdate));
+        }
+        bytes.copy_from_slice(old);
+        overlay(changes, bytes);
+        self.put(pool, i, old, bytes)
     }
 
     /// Changes the record at a place, from 0, where there is one.
@@ -305,13 +345,13 @@ impl OpenFile {
         ensures failures { (P.state pool.new).failures ≡ (P.state pool.old).failures + failed_transfers result }
         ensures fault { IfErr result (λ fault. fault ≢ PoolFault.NoSector) }
     {
-        let mut buffer = [0; 1024];
-        let bytes = &mut buffer[..usize::from(self.label.record_length)];
-        if !self.get(pool, i, bytes)? {
-            return Ok(Put::Refused(HaltCode::NothingToUpdate));
+        let length = usize::from(self.label.record_length);
+        if length <= SHORT_RECORD {
+            let (mut old, mut bytes) = ([0; SHORT_RECORD], [0; SHORT_RECORD]);
+            return self.update_in(pool, i, changes, &mut old[..length], &mut bytes[..length]);
         }
-        overlay(changes, bytes);
-        self.put(pool, i, bytes)
+        let (mut old, mut bytes) = ([0; LONGEST_RECORD], [0; LONGEST_RECORD]);
+        self.update_in(pool, i, changes, &mut old[..length], &mut bytes[..length])
     }
 
     /// The place of the current record, from 0.
@@ -412,9 +452,10 @@ fn records_of_label<P: Sectors>(
 fn overlay(changes: &[Option<u8>], bytes: &mut [u8])
     ensures { bytes.new ≡ overlaid changes.now bytes.old }
 {
-    for (place, byte) in bytes.iter_mut().enumerate() {
-        if let Some(put) = changes.get(place).copied().flatten() {
-            *byte = put;
+    let count = changes.len().min(bytes.len());
+    for place in 0..count {
+        if let Some(put) = changes[place] {
+            bytes[place] = put;
         }
     }
 }

@@ -1,6 +1,7 @@
 -- The calls of a file with keys, as calls of a list of records.
 use Rattle.std.proofs.Common.{◌≡◌, ◌≢◌, ℕ, zero, suc, ◌<◌, ◌≤◌, Bool, true, false, ◌==◌, if◌then◌else◌, List, [], ◌∷◌, length, map, slice_get, slice_set, Some, None, Ok, Err, refl, sym, ap, subst, ◌∙◌, arith}
 use Rattle.std.proofs.lemmas.Bool.{eqb-true, eq-eqb}
+use Rattle.std.proofs.lemmas.Option.{slice_get_within}
 use Rattle.s3_files.specs.Records.{records_in, with_record}
 use Rattle.s3_files.specs.declared.fault.FileFault.TheVariants.{NoRecord}
 use Rattle.s3_files.proofs.RecordLemmas.{length_records}
@@ -19,6 +20,10 @@ got_none (x ∷ xs) (suc i) h = got_none xs i (omega arith)
 
 pub no_record : (long count i : ℕ) (bytes : List ℕ) → count ≤ i → slice_get (records_in long count bytes) i ≡ None
 no_record long count i bytes h = got_none (records_in long count bytes) i (omega (arith, length_records long count bytes))
+
+-- a record that is there has a place below the count
+pub place_there : (long count i : ℕ) (bytes old : List ℕ) → slice_get (records_in long count bytes) i ≡ Some old → i < count
+place_there long count i bytes old there = subst (λ n. i < n) (length_records long count bytes) (slice_get_within (records_in long count bytes) i old there)
 
 not_equal : (a b : ℕ) → (a == b) ≡ false → (b == a) ≡ false
 not_equal a b h = (elim (b == a) as (λ x. (b == a) ≡ x → x ≡ false) [

@@ -122,3 +122,14 @@ pub fn has_key_of<P: Sectors>(
     read_bytes(pool, &file.file.sectors, key_place(file, i), key)?;
     Ok(are_same_first(key, &bytes[start..], key_length))
 }
+
+/// Whether two records have the same key.
+pub fn have_same_key(file: &IndexedFile, one: &[u8], other: &[u8]) -> bool
+    requires one { length one.now ≡ file.now.file.record_length }
+    requires other { length other.now ≡ file.now.file.record_length }
+    ensures { result ≡ (key_of (layout_in file.now).key one.now == key_of (layout_in file.now).key other.now) }
+{
+    let key_length = usize::from(file.key_length);
+    let start = usize::from(file.key_start - 1);
+    are_same_first(&one[start..], &other[start..], key_length)
+}

@@ -1,5 +1,5 @@
 //! A file with keys that is open.
-ghost use Rattle.std.specs.Prelude.{◌≡◌, ◌≢◌, ◌≤◌, ◌<◌, ◌+◌, ◌-◌, ◌*◌, ◌^◌, ◌/◌, [], ◌∷◌, ◌++◌, ℕ, true, nat_lt, Ok, Err, None, Some, length, take, OnOk, OnErr, IfOk, IfErr, IsErrOf, IsTrue, ◌↔◌};
+ghost use Rattle.std.specs.Prelude.{◌≡◌, ◌≢◌, ◌≤◌, ◌<◌, ◌+◌, ◌-◌, ◌*◌, ◌^◌, ◌/◌, [], ◌∷◌, ◌++◌, ℕ, true, nat_lt, Ok, Err, None, Some, length, slice_get, take, OnOk, OnErr, IfOk, IfErr, IsErrOf, IsTrue, ◌↔◌};
 ghost use Rattle.std.specs.List.{Contains, list_all};
 ghost use Rattle.s3_store.specs.State.{KeepsContents, ChangesWithin};
 ghost use Rattle.s3_store.specs.Failures.{failed_transfers};
@@ -13,7 +13,7 @@ ghost use Rattle.s3_keyed.specs.Calls.{place_of_key, nth_by_key as nth_by_key_sp
 use crate::added::{insert_added, is_above_added, number_among};
 use crate::check::is_good;
 use crate::close::merge;
-use crate::entries::{has_key_of, read_number};
+use crate::entries::{has_key_of, have_same_key, read_number};
 use crate::fault::KeyedFault;
 use crate::indexed::{IndexEntry, IndexedFile};
 use crate::keys::{Key, QuickKey};
@@ -133,6 +133,33 @@ impl Keyed {
             return Err(KeyedFault::NoKey);
         }
         if !has_key_of(&self.file, pool, i, bytes)? {
+            return Err(KeyedFault::KeyChanged);
+        }
+        write_record(&self.file, pool, i, bytes)?;
+        Ok(())
+    }
+
+    /// Writes a record over the one at a place, from 0, which is `old`, under the same key. Refused with `KeyChanged` where it has
+    /// another one.
+    pub fn replace<P: Sectors>(
+        &self,
+        pool: &mut P,
+        i: u32,
+        old: &[u8],
+        bytes: &[u8],
+    ) -> Result<(), KeyedFault>
+        requires stored { AreStored (shown self.now).sectors (P.state pool.old).contents }
+        requires ordered { HasKeyOrder (shown self.now) (P.state pool.old).contents }
+        requires there { slice_get (records_now (shown self.now) (P.state pool.old).contents) i ≡ Some old.now }
+        requires old { length old.now ≡ (shown self.now).layout.record_length }
+        requires long { length bytes.now ≡ (shown self.now).layout.record_length }
+        ensures updated { Leaves (with_updated (shown self.now).layout.key i bytes.now (records_now (shown self.now) (P.state pool.old).contents)) result (records_now (shown self.now) (P.state pool.new).contents) }
+        ensures ordered { OnOk result (HasKeyOrder (shown self.now) (P.state pool.new).contents) }
+        ensures refused { OnRefusal result (KeepsContents (P.state pool.old) (P.state pool.new)) }
+        ensures within { ChangesWithin (Contains (shown self.now).sectors) (P.state pool.old) (P.state pool.new) }
+        ensures failures { (P.state pool.new).failures ≡ (P.state pool.old).failures + failed_keyed_transfers result }
+    {
+        if !have_same_key(&self.file, old, bytes) {
             return Err(KeyedFault::KeyChanged);
         }
         write_record(&self.file, pool, i, bytes)?;

@@ -138,6 +138,7 @@ impl Level {
     }
 
     /// Lets the job at work go on with the answer to its pending request.
+    #[inline(always)]
     #[tactic(auto, using(crate::proofs::Running::then_stands))]
     pub(crate) fn resume<P: Sectors>(
         &mut self,
@@ -206,6 +207,7 @@ impl Level {
     }
 
     /// Shows a halt.
+    #[inline(never)]
     pub(crate) fn show(
         &mut self,
         number: u16,

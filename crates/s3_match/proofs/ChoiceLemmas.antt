@@ -1,5 +1,5 @@
 -- Which head is processed next.
-use Rattle.std.proofs.Common.{◌≡◌, ℕ, ◌+◌, ◌<◌, ◌≤◌, ◌++◌, ◌&&◌, length, drop, get_or, List, [], ◌∷◌, Bool, true, false, not, refl, sym, ◌∙◌, ap, subst}
+use Rattle.std.proofs.Common.{◌≡◌, ℕ, ◌+◌, ◌<◌, ◌≤◌, ◌++◌, ◌&&◌, length, drop, get_or, List, [], ◌∷◌, Bool, true, false, not, refl, sym, ◌∙◌, ap, subst, arith}
 use Rattle.std.specs.Prelude.{Option, Some, None, IfSome, is_some, find, filter, option_map, slice_get, unwrap_or, if◌then◌else◌}
 use Rattle.std.specs.Option.{option_and_then, option_or}
 use Rattle.std.specs.List.{All, list_any, cons_option}
@@ -7,7 +7,7 @@ use Rattle.std.proofs.lemmas.Bool.{and_parts, true≢false}
 use Rattle.std.proofs.lemmas.List.{at_drop_more, at_drop_all}
 use Rattle.std.proofs.lemmas.Option.{slice_get-get_or}
 use Rattle.s3_meaning.specs.Selection as meaning
-use Rattle.s3_meaning.specs.Selection.{Selected, selectable, key_of, is_less, same_key, lesser, least, primary_first, has_met_end}
+use Rattle.s3_meaning.specs.Selection.{Selected, selectable, key_of, head_of, is_less, same_key, lesser, least, primary_first, has_met_end}
 use Rattle.s3_program.specs.declared.program.Program.{Program}
 use Rattle.s3_match.specs.declared.choice.Group.{Group}
 use Rattle.s3_match.specs.declared.choice.Group.TheVariants as group
@@ -18,9 +18,9 @@ use Rattle.s3_match.specs.declared.keys.RecordKey.{RecordKey}
 use Rattle.s3_match.specs.Keys.{key_in}
 use Rattle.s3_match.specs.Heads.{file_at, is_head_standing, has_head, input_of, IsInput}
 use Rattle.s3_match.specs.Selecting.{inputs_of, reading_of, selected_of, selected_at}
-use Rattle.s3_match.specs.Choice.{heads, standing_at, has_head_at, IsHeadAt, is_keyless, in_group, is_in, least_onto}
+use Rattle.s3_match.specs.Choice.{heads, standing_at, has_head_at, IsHeadAt, is_keyless, is_keyless_alone, in_group, is_in, least_onto}
 use Rattle.s3_match.proofs.ControlLemmas.{given}
-use Rattle.s3_match.proofs.SelectLemmas.{Seen, seen, with_standing, passes, any_kept, mapped}
+use Rattle.s3_match.proofs.SelectLemmas.{Seen, seen, head_seen, with_standing, passes, any_kept, mapped}
 
 -- ---- the head at a place
 selected_here : (program : Program) (files : List InputFile) (k : ℕ) (d : InputFile) → k < length files → selected_at program files k ≡ selected_of program (get_or files k d)
@@ -218,6 +218,35 @@ selects_keyless program files key met (Some k) is off stands sound found some =
 
     is_there : is_some (selected_at program files k) ≡ true
     is_there = at_input (slice_get files k) stands.head
+
+-- ---- one file alone, with a record without match fields at its head
+lone_goes_on : (input : meaning.InputFile) (ends : Bool) → input.file.ends_job ≡ ends → is_some (head_of input) ≡ true → has_met_end (input ∷ []) ≡ false
+lone_goes_on input true is head = rw is (rw head refl)
+lone_goes_on input false is head = rw is (rw head refl)
+
+pub alone_stands : (files : List InputFile) → is_keyless_alone files ≡ true → IsHeadAt files 0
+alone_stands [] alone = absurd (true≢false (sym alone))
+alone_stands (input ∷ []) alone = stands_at (input ∷ []) 0 input (not input.key.is_given) (omega arith) alone
+alone_stands (input ∷ other ∷ files) alone = absurd (true≢false (sym alone))
+
+pub selects_alone : (program : Program) (files : List InputFile) (key : RecordKey) → All (IsInput program) files → is_keyless_alone files ≡ true → selected_at program files 0 ≡ meaning.select (reading_of program files key)
+selects_alone program [] key sound alone = absurd (true≢false (sym alone))
+selects_alone program (input ∷ []) key sound alone =
+    let head = (and_parts (has_head input) (not input.key.is_given) alone).0 in
+    selects_keyless program (input ∷ []) key false (Some 0)
+    (sym (lone_goes_on (input_of program input) (file_at program input.file).ends_job refl (sym (head_seen program input) ∙ head))) refl
+    (alone_stands (input ∷ []) alone) sound (keyless_here program (input ∷ []) 0 input sound (omega arith) alone refl) refl
+selects_alone program (input ∷ other ∷ files) key sound alone = absurd (true≢false (sym alone))
+
+pub alone_is : (files : List InputFile) (d : InputFile) → length files ≡ 1 → is_keyless (get_or files 0 d) ≡ is_keyless_alone files
+alone_is [] d one = absurd (omega (arith, one))
+alone_is (input ∷ []) d one = refl
+alone_is (input ∷ other ∷ files) d one = absurd (omega (arith, one))
+
+pub not_alone : (files : List InputFile) → (length files ≡ 1 → ⊥) → false ≡ is_keyless_alone files
+not_alone [] more = refl
+not_alone (input ∷ []) more = absurd (more refl)
+not_alone (input ∷ other ∷ files) more = refl
 
 pub selects_by_key : (program : Program) (files : List InputFile) (key : RecordKey) (met : Bool) (first : Option ℕ) (selected : Option Selected) → met ≡ has_met_end (inputs_of program files) → met ≡ false
     → standing_at program files first ≡ keyless_in program files → is_some first ≡ false → selected ≡ least (primary_first (heads program files)) → selected ≡ meaning.select (reading_of program files key)

@@ -14,6 +14,7 @@ pub mod SlotLemmas
 pub mod ReadingLemmas
 pub mod TakeLemmas
 pub mod BeginLemmas
+pub mod ToldLemmas
 pub mod UnreadLemmas
 pub mod HoldLemmas
 pub mod HoldingLemmas

@@ -23,7 +23,7 @@ use Rattle.s3_match.specs.Types.{tables_in, is_type_start}
 use Rattle.s3_match.specs.Keys.{key_in}
 use Rattle.s3_match.specs.Heads.{no_file, file_at, is_unread, is_unread_standing, has_head, is_head_standing, input_of, IsInput}
 use Rattle.s3_match.specs.Selecting.{inputs_of, reading_of, selected_of, selected_at}
-use Rattle.s3_match.specs.Reading.{no_input, input_at, slots_of, bytes_at, is_unread_at, changed_at, head_with, IsReading, IsUnreadAt}
+use Rattle.s3_match.specs.Reading.{no_input, input_at, slots_of, bytes_at, is_unread_at, changed_at, head_with, IsReading, AreOnlyTypes, AreNumbersOf, AreLineNumbers, IsUnreadAt}
 use Rattle.s3_match.proofs.SelectLemmas.{with_standing}
 use Rattle.s3_match.proofs.SlotLemmas.{slot_kept}
 
@@ -53,11 +53,14 @@ slots_stay files k x y within there same =
     ∙ set-get_or (slots_of files) k 0
 
 pub still_sound : (program : Program) (old new : Reading) (k : ℕ) (x y : InputFile) → k < length old.files.items → x ≡ get_or old.files.items k x → new.files.items ≡ set old.files.items k y
-    → new.levels ≡ old.levels → y.file ≡ x.file → IsInput program y → IsReading program old → IsReading program new
-still_sound program old new k x y within there e told same sound reading = record {
+    → new.levels ≡ old.levels → new.only_types ≡ old.only_types → new.type_numbers ≡ old.type_numbers → new.line_numbers ≡ old.line_numbers → y.file ≡ x.file → IsInput program y → IsReading program old → IsReading program new
+still_sound program old new k x y within there e told types numbers lines same sound reading = record {
   inputs = subst (All (IsInput program)) (sym e) (All-set (IsInput program) old.files.items k y sound reading.inputs);
   slots = ap slots_of e ∙ slots_stay old.files.items k x y within there same ∙ reading.slots;
   levels = told ∙ reading.levels;
+  only_types = subst (λ (xs : List (Option TypeStart)). AreOnlyTypes program xs) (sym (ap (λ v. v.items) types)) reading.only_types;
+  type_numbers = subst (λ (xs : List ℕ). AreNumbersOf program.inputs.items xs) (sym (ap (λ v. v.items) numbers)) reading.type_numbers;
+  line_numbers = subst (λ (xs : List ℕ). AreLineNumbers program.inputs.items xs) (sym (ap (λ v. v.items) lines)) reading.line_numbers;
 }
 
 pub inputs_change : (program : Program) (files : List InputFile) (k : ℕ) (x y : InputFile) (change : meaning.InputFile → meaning.InputFile) → k < length files → x ≡ get_or files k x

@@ -113,8 +113,43 @@ other_is_matched program files primary_key place d selected matched sound within
     ∙ ap (λ (b : Bool). if b then list_any (λ other. is_designated Secondary other.file && same_key (key_of other) (key_of selected)) (filter_map selectable (inputs_of program files)) else same_key (key_of selected) (key_in primary_key))
     (sym (ap (is_designated Primary) (sees.file selected own) ∙ other))
 
+-- one without match fields
+no_key_is : (key : Option (List ℕ)) → same_key key None ≡ false
+no_key_is None = refl
+no_key_is (Some bytes) = refl
+
+none_has_none : (heads : List Selected) → list_any (λ other. is_designated Secondary other.file && same_key (key_of other) None) heads ≡ false
+none_has_none [] = refl
+none_has_none (other ∷ heads) =
+    (λ i. (is_designated Secondary other.file && no_key_is (key_of other) i) || none_has_none heads i) ∙ nothing (is_designated Secondary other.file)
+  where
+    nothing : (b : Bool) → (b && false || false) ≡ false
+    nothing true = refl
+    nothing false = refl
+
+abbrev matched_by : List Selected → Option (List ℕ) → Option (List ℕ) → Bool → Bool
+matched_by heads primary_key key primary =
+    if primary then list_any (λ other. is_designated Secondary other.file && same_key (key_of other) key) heads else same_key key primary_key
+
+keyless_by : (heads : List Selected) (primary_key : Option (List ℕ)) (primary : Bool) → matched_by heads primary_key None primary ≡ false
+keyless_by heads primary_key true = none_has_none heads
+keyless_by heads primary_key false = refl
+
+pub keyless_is_not_matched : (program : Program) (files : List InputFile) (primary_key : RecordKey) (place : ℕ) (d : InputFile) (selected : Selected)
+    → All (IsInput program) files → place < length files → selected_at program files place ≡ Some selected → (get_or files place d).key.is_given ≡ false
+    → false ≡ is_matched (reading_of program files primary_key) selected
+keyless_is_not_matched program files primary_key place d selected sound within e none =
+    let sees = seen program (get_or files place d) (sound place d within) in
+    let own = own_head program files place d selected sound within e in
+    let heads : List Selected = filter_map selectable (inputs_of program files) in
+    sym (keyless_by heads (key_in primary_key) (is_designated Primary selected.file))
+    ∙ ap (λ (key : Option (List ℕ)). matched_by heads (key_in primary_key) key (is_designated Primary selected.file)) (sym (sees.key selected own ∙ no_key (get_or files place d).key none))
+  where
+    no_key : (key : RecordKey) → key.is_given ≡ false → key_in key ≡ None
+    no_key key none = rw none refl
+
 -- ---- the end of the job
-head_seen : (program : Program) (input : InputFile) → has_head input ≡ is_some (head_of (input_of program input))
+pub head_seen : (program : Program) (input : InputFile) → has_head input ≡ is_some (head_of (input_of program input))
 head_seen program input = on input.standing
   where
     on : (standing : Standing) → is_head_standing standing ≡ is_some (head_of (with_standing program input standing))

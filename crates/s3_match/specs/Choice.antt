@@ -44,3 +44,8 @@ is_in program group last input = has_head input && in_group group last (file_at 
 abbrev pub least_onto : List Selected → Option Selected → Option Selected
 least_onto [] behind = behind
 least_onto (selected ∷ others) behind = Some (lesser selected (least_onto others behind))
+
+-- one file alone, with a record without match fields at its head
+abbrev pub is_keyless_alone : List InputFile → Bool
+is_keyless_alone (input ∷ []) = is_keyless input
+is_keyless_alone _ = false

@@ -1,17 +1,21 @@
 -- What the cycle holds of its reading, and the files that are still to be read.
-use Rattle.std.specs.Prelude.{ℕ, ◌≡◌, ◌+◌, ◌<◌, ◌≤◌, Bool, true, false, List, [], ◌++◌, map, filter, take, drop, length, slice_get, slice_set, slice_index_or, unwrap_or, option_map, None}
+use Rattle.std.specs.Prelude.{ℕ, ◌≡◌, ◌+◌, ◌<◌, ◌≤◌, Bool, true, false, List, [], ◌++◌, map, filter, filter_map, take, drop, length, get_or, Option, slice_get, slice_set, slice_index_or, unwrap_or, option_map, None}
 use Rattle.std.specs.List.{All, range_with_len}
+use Rattle.s3_lines.specs.Indicators.{indicator_number}
+use Rattle.s3_lines.specs.declared.indicator.Indicator.{Indicator}
+use Rattle.s3_lines.specs.declared.sheet.InputLine.{InputLine}
 use Rattle.s3_meaning.specs.Source.{Source, is_input}
 use Rattle.s3_meaning.specs.Requests.{Answer, Found}
 use Rattle.s3_meaning.specs.Runs.{Rest, Anew}
 use Rattle.s3_meaning.specs.Selection as meaning
 use Rattle.s3_meaning.specs.Cycle.{files_read, typed}
 use Rattle.s3_program.specs.declared.program.Program.{Program}
+use Rattle.s3_program.specs.declared.program.Reference.{Reference}
 use Rattle.s3_program.specs.declared.starts.TypeStart.{TypeStart}
 use Rattle.s3_match.specs.declared.heads.InputFile.{InputFile}
 use Rattle.s3_match.specs.declared.reading.Reading.{Reading}
-use Rattle.s3_match.specs.Types.{kind_at}
-use Rattle.s3_match.specs.Fields.{named_levels}
+use Rattle.s3_match.specs.Types.{IsOnlyType, kind_at}
+use Rattle.s3_match.specs.Fields.{indicator_on, named_levels}
 use Rattle.s3_match.specs.Heads.{no_file, file_at, is_unread, IsInput}
 use Rattle.s3_match.specs.Selecting.{reading_of}
 
@@ -28,11 +32,36 @@ input_slots program = filter (is_input_slot program) (range_with_len 0 (length p
 abbrev pub slots_of : List InputFile → List ℕ
 slots_of files = map (λ input. input.file) files
 
--- each primary and secondary file stands there once, in F order, with the key of its head; whether there are match and control fields
+-- for each file the type of each of its records, if there is such a type
+pub record AreOnlyTypes (program : Program) (types : List (Option TypeStart)) : Type 0 where
+  pub many : length types ≡ length program.files.items
+  pub each : (file : ℕ) (d : Option TypeStart) → file < length types → IsOnlyType program file (get_or types file d)
+
+-- the record identifying indicators on these lines
+abbrev pub indicators_on : List (InputLine Reference) → List Indicator
+indicators_on lines = filter_map indicator_on lines
+
+-- their numbers
+pub record AreNumbersOf (lines : List (InputLine Reference)) (numbers : List ℕ) : Type 0 where
+  pub numbered : numbers ≡ map indicator_number (indicators_on lines)
+  pub within : All (λ number. number < 2048) numbers
+
+-- the number of a line's record identifying indicator, 0 if it has none
+abbrev pub number_on : InputLine Reference → ℕ
+number_on line = unwrap_or (option_map indicator_number (indicator_on line)) 0
+
+pub record AreLineNumbers (lines : List (InputLine Reference)) (numbers : List ℕ) : Type 0 where
+  pub numbered : numbers ≡ map number_on lines
+  pub within : All (λ number. number < 2048) numbers
+
+-- each primary and secondary file stands there once, in F order, with the key of its head; and what is told once of all records
 pub record IsReading (program : Program) (reading : Reading) : Type 0 where
   pub inputs : All (IsInput program) reading.files.items
   pub slots : slots_of reading.files.items ≡ input_slots program
   pub levels : reading.levels ≡ named_levels program
+  pub only_types : AreOnlyTypes program reading.only_types.items
+  pub type_numbers : AreNumbersOf program.inputs.items reading.type_numbers.items
+  pub line_numbers : AreLineNumbers program.inputs.items reading.line_numbers.items
 
 -- ---- one of the files
 -- what stands for the file where a place has none

@@ -1,5 +1,5 @@
 -- Record types by where they start among the I lines of a program.
-use Rattle.std.specs.Prelude.{ℕ, Bool, true, false, ◌&&◌, List, [], ◌∷◌, Option, Some, None, is_some, unwrap_or, find, drop}
+use Rattle.std.specs.Prelude.{ℕ, ◌≡◌, IfSome, Bool, true, false, ◌&&◌, List, [], ◌∷◌, Option, Some, None, is_some, unwrap_or, find, drop}
 use Rattle.std.specs.List.{list_all}
 use Rattle.s3_cards.specs.declared.name.Name.{Name}
 use Rattle.s3_cards.specs.Names.{no_name}
@@ -14,6 +14,7 @@ use Rattle.s3_program.specs.declared.program.Reference.{Reference}
 use Rattle.s3_program.specs.declared.starts.TypeStart.{TypeStart}
 use Rattle.s3_program.specs.Stands.{parts_of}
 use Rattle.s3_program.specs.Started.{type_at}
+use Rattle.s3_program.specs.Starts.{types_of_file, type_starts}
 use Rattle.s3_program.specs.Tables.{Tables, name_in}
 use Rattle.s3_program.specs.Valid.{tables_of}
 
@@ -70,3 +71,8 @@ type_holds bytes (line ∷ lines) = first_codes_hold bytes line && further_hold 
 
 abbrev pub first_that_holds : List ℕ → List (InputLine Reference) → List TypeStart → Option TypeStart
 first_that_holds bytes inputs starts = find (λ start. type_holds bytes (drop start.place inputs)) starts
+
+-- the type of each record of a file, if there is such a type
+abbrev pub IsOnlyType : Program → (file : ℕ) → Option TypeStart → Type 0
+IsOnlyType program file only =
+    IfSome only (λ start. (bytes : List ℕ) → Some start ≡ first_that_holds bytes program.inputs.items (types_of_file (type_starts program.files.items program.inputs.items) file))

@@ -103,6 +103,13 @@ fn is_keyless(input: &InputFile) -> bool
     input.has_head() && !input.key.is_given
 }
 
+/// Whether there is one file alone, with a head without match fields: mostly it is so.
+fn is_keyless_alone(files: &[InputFile]) -> bool
+    ensures { result ≡ spec.is_keyless_alone files.now }
+{
+    files.len() == 1 && is_keyless(&files[0])
+}
+
 fn first_without_key(files: &[InputFile]) -> Option<usize>
     ensures head { IfSome result (spec.IsHeadAt files.now) }
     ensures first { (program : Program) → All (IsInput program) files.now → spec.standing_at program files.now result ≡ find (λ selected. not (is_some (key_of selected))) (spec.heads program files.now) }
@@ -146,6 +153,9 @@ pub fn select(program: &Program, files: &[InputFile], primary_key: &RecordKey) -
     ensures head { IfSome result (spec.IsHeadAt files.now) }
     ensures selected { spec.standing_at program.now files.now result ≡ meaning.select (reading_of program.now files.now primary_key.now) }
 {
+    if is_keyless_alone(files) {
+        return Some(0);
+    }
     if has_met_end(program, files) {
         return select_at_end(program, files, primary_key);
     }

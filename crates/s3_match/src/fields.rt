@@ -133,7 +133,7 @@ fn first_field(
 }
 
 /// The record identifying indicator of a line where a type starts.
-fn indicator_on(line: &InputLine<Reference>) -> Option<Indicator>
+pub(crate) fn indicator_on(line: &InputLine<Reference>) -> Option<Indicator>
     ensures { result ≡ spec.indicator_on line.now }
 {
     match line {

@@ -48,6 +48,21 @@ pub struct InputFile {
     pub last_key: RecordKey,
 }
 
+/// Keeps the bytes of a record; mostly one of the same length is there, which they are laid over.
+pub fn keep_record(kept: &mut ArrayVec<u8, RECORD_BYTES>, bytes: &[u8])
+    requires { length bytes.now ≤ RECORD_BYTES }
+    ensures { kept.new.items ≡ bytes.now }
+{
+    if kept.len() == bytes.len() {
+        kept.as_mut_slice().copy_from_slice(bytes);
+        return;
+    }
+    kept.clear();
+    if kept.try_extend_from_slice(bytes).is_err() {
+        unreachable!()
+    }
+}
+
 impl InputFile {
     /// A file of which nothing was read.
     pub fn unread(file: usize) -> InputFile
@@ -148,18 +163,11 @@ impl InputFile {
         true
     }
 
-    /// Keeps the bytes of a record; mostly one of the same length is there, which they are laid over.
+    /// Keeps the bytes of a record.
     fn keep(&mut self, bytes: &[u8])
         requires { length bytes.now ≤ RECORD_BYTES }
         ensures { spec.Keeps self.old self.new bytes.now }
     {
-        if self.bytes.len() == bytes.len() {
-            self.bytes.as_mut_slice().copy_from_slice(bytes);
-            return;
-        }
-        self.bytes.clear();
-        if self.bytes.try_extend_from_slice(bytes).is_err() {
-            unreachable!()
-        }
+        keep_record(&mut self.bytes, bytes);
     }
 }

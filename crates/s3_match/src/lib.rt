@@ -12,5 +12,3 @@ pub mod laws;
 pub mod reading;
 pub mod selection;
 mod types;
-
-pub use types::type_of;

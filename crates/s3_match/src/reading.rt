@@ -1,9 +1,12 @@
 //! What the cycle holds of its reading: the primary and secondary files, and the last primary key.
 
-ghost use Rattle.std.specs.Prelude.{◌≡◌, ◌+◌, ◌<◌, ◌≤◌, length, not, true, IfOk, IfSome, IsTrue, option_map, slice_index_or, MatchOption, if◌then◌else◌};
+ghost use Rattle.std.specs.Prelude.{List, [], ◌∷◌, ◌++◌, ◌≡◌, ◌+◌, ◌<◌, ◌≤◌, length, not, true, IfOk, IfSome, IsTrue, option_map, slice_index_or, MatchOption, if◌then◌else◌};
 ghost use Rattle.std.specs.Option.{option_or};
 ghost use Rattle.std.specs.List.{list_any};
 ghost use Rattle.s3_lines.specs.declared.sheet.Designation.TheVariants.{Primary};
+ghost use Rattle.s3_lines.specs.Indicators.{indicator_number};
+ghost use Rattle.s3_lines.specs.declared.sheet.InputLine.{InputLine as MeantLine};
+ghost use Rattle.s3_program.specs.declared.program.Reference.{Reference as MeantReference};
 ghost use Rattle.s3_meaning.specs.Cycle.{counted_read, first_reading};
 ghost use Rattle.s3_meaning.specs.Environment.{Environment, on_at_first};
 ghost use Rattle.s3_meaning.specs.Source.{is_designated, is_input};
@@ -18,18 +21,18 @@ ghost use Rattle.s3_match.specs.Heads.{ended, file_at, put as put_head};
 ghost use Rattle.s3_match.specs.Inner.Beginning.{IsFirst, AreFirst};
 ghost use Rattle.s3_match.specs.Keys.{key_in};
 ghost use Rattle.s3_match.specs.Reading as spec;
-ghost use Rattle.s3_match.specs.Reading.{IsReading, IsUnreadAt, AreRead, IsNextUnread, reading_in, changed_at, input_at, head_with};
+ghost use Rattle.s3_match.specs.Reading.{IsReading, AreOnlyTypes, AreNumbersOf, AreLineNumbers, IsUnreadAt, AreRead, IsNextUnread, reading_in, changed_at, input_at, head_with};
 ghost use Rattle.s3_match.specs.Selecting.{inputs_of, selected_at};
 ghost use Rattle.s3_match.specs.Types.{is_type_start, kind_at, name_of_file};
 
-use crate::fields::{NamedLevels, named_levels};
+use crate::fields::{NamedLevels, indicator_on, named_levels};
 use crate::heads::{InputFile, RECORD_BYTES, Standing};
 use crate::keys::RecordKey;
 use crate::selection::is_primary;
-use crate::types::type_of;
+use crate::types::{only_type, type_of};
 use s3_lines::indicator::Indicator;
-use s3_lines::sheet::{Designation, FileLine};
-use s3_program::program::Program;
+use s3_lines::sheet::{Designation, FileLine, InputLine};
+use s3_program::program::{Program, Reference};
 use s3_program::starts::TypeStart;
 use std::alloc::{AllocError, Global};
 
@@ -42,6 +45,12 @@ pub struct Reading {
     pub primary_key: RecordKey,
     /// Whether there are match and control fields at all.
     pub levels: NamedLevels,
+    /// For each file of the program, the type of each of its records if its first type has no codes.
+    pub only_types: Vec<Option<TypeStart>>,
+    /// The numbers of the record identifying indicators.
+    pub type_numbers: Vec<usize>,
+    /// By lines of the I sheet, the number of each one's record identifying indicator, 0 if it has none.
+    pub line_numbers: Vec<usize>,
 }
 
 /// Whether an indicator is on as a job begins: L0, 1P, and the switches as they are set, U1 the highest bit.
@@ -112,11 +121,73 @@ fn add_first(
     Ok(())
 }
 
+/// For each file, the type of each of its records if its first type has no codes.
+fn only_types(alloc: Global, program: &Program) -> Result<Vec<Option<TypeStart>>, AllocError>
+    ensures { IfOk result (λ types. AreOnlyTypes program.now types.items) }
+{
+    let mut types = Vec::with_capacity(alloc, program.files.len())?;
+    for file in 0..program.files.len() {
+        types.push(only_type(program, file))?;
+    }
+    Ok(types)
+}
+
+/// Puts the number of a line's record identifying indicator behind the others, if it has one.
+fn add_number(numbers: &mut Vec<usize>, line: &InputLine<Reference>) -> Result<(), AllocError>
+    ensures { IfOk result (λ done. (lines : List (MeantLine MeantReference)) → AreNumbersOf lines numbers.old.items → AreNumbersOf (lines ++ line.now ∷ []) numbers.new.items) }
+{
+    if let Some(indicator) = indicator_on(line) {
+        numbers.push(indicator.number())?;
+    }
+    Ok(())
+}
+
+/// The numbers of the record identifying indicators.
+fn type_numbers(alloc: Global, program: &Program) -> Result<Vec<usize>, AllocError>
+    ensures { IfOk result (λ numbers. AreNumbersOf program.now.inputs.items numbers.items) }
+{
+    let mut numbers = Vec::new(alloc);
+    for line in &program.inputs {
+        add_number(&mut numbers, line)?;
+    }
+    Ok(numbers)
+}
+
+/// The number of a line's record identifying indicator, 0 if it has none.
+fn number_on(line: &InputLine<Reference>) -> usize
+    ensures number { result ≡ spec.number_on line.now }
+    ensures within { result < 2048 }
+{
+    match indicator_on(line) {
+        Some(indicator) => indicator.number(),
+        None => 0,
+    }
+}
+
+/// Puts the number of a line's record identifying indicator behind those of the lines before.
+fn add_line_number(numbers: &mut Vec<usize>, line: &InputLine<Reference>) -> Result<(), AllocError>
+    ensures { IfOk result (λ done. (lines : List (MeantLine MeantReference)) → AreLineNumbers lines numbers.old.items → AreLineNumbers (lines ++ line.now ∷ []) numbers.new.items) }
+{
+    numbers.push(number_on(line))?;
+    Ok(())
+}
+
+/// By lines of the I sheet, the number of each one's record identifying indicator.
+fn line_numbers(alloc: Global, program: &Program) -> Result<Vec<usize>, AllocError>
+    ensures { IfOk result (λ numbers. AreLineNumbers program.now.inputs.items numbers.items) }
+{
+    let mut numbers = Vec::new(alloc);
+    for line in &program.inputs {
+        add_line_number(&mut numbers, line)?;
+    }
+    Ok(numbers)
+}
+
 /// Keeps the key of a primary record with match fields.
 fn keep_primary(primary_key: &mut RecordKey, program: &Program, input: &InputFile)
     ensures { key_in primary_key.new ≡ (if is_designated Primary (file_at program.now input.now.file) then option_or (key_in input.now.key) (key_in primary_key.old) else key_in primary_key.old) }
 {
-    if is_primary(program, input) && input.key.is_given {
+    if input.key.is_given && is_primary(program, input) {
         primary_key.copy_from(&input.key);
     }
 }
@@ -135,6 +206,9 @@ impl Reading {
             files,
             primary_key: RecordKey::none(),
             levels: named_levels(program),
+            only_types: only_types(alloc, program)?,
+            type_numbers: type_numbers(alloc, program)?,
+            line_numbers: line_numbers(alloc, program)?,
         })
     }
 
@@ -155,7 +229,32 @@ impl Reading {
         ensures found { option_map (kind_at program.now) result ≡ meaning.type_of (source_named program.now) (input_at (reading_in program.now self.now).files place).file.name bytes.now }
         ensures starts { IfSome result (λ start. IsTrue (is_type_start program.now start)) }
     {
-        type_of(program, self.slot(place), bytes)
+        self.type_in(program, self.slot(place), bytes)
+    }
+
+    /// The first type of the file of a slot all of whose codes hold of a record.
+    #[inline(always)]
+    pub fn type_in(&self, program: &Program, file: usize, bytes: &[u8]) -> Option<TypeStart>
+        requires sound { IsReading program.now self.now }
+        requires within { file < length program.now.files.items }
+        ensures found { option_map (kind_at program.now) result ≡ meaning.type_of (source_named program.now) (name_of_file program.now file) bytes.now }
+        ensures starts { IfSome result (λ start. IsTrue (is_type_start program.now start)) }
+    {
+        let only = self.only_types[file];
+        if only.is_some() {
+            return only;
+        }
+        type_of(program, file, bytes)
+    }
+
+    /// The number of the record identifying indicator of a type.
+    pub fn number_of(&self, program: &Program, start: TypeStart) -> usize
+        requires sound { IsReading program.now self.now }
+        requires starts { IsTrue (is_type_start program.now start) }
+        ensures number { result ≡ indicator_number (kind_at program.now start).indicator }
+        ensures within { result < 2048 }
+    {
+        self.line_numbers[start.place]
     }
 
     /// The type of the record at the head of the file there.

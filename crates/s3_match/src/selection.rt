@@ -85,6 +85,9 @@ pub fn is_matched(
     ensures { (selected : Selected) → spec.selected_at program.now files.now place ≡ Some selected → result ≡ meaning.is_matched (spec.reading_of program.now files.now primary_key.now) selected }
 {
     let input = &files[place];
+    if !input.key.is_given {
+        return false;
+    }
     if is_primary(program, input) {
         some_secondary_has(program, files, &input.key)
     } else {

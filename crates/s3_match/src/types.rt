@@ -209,24 +209,24 @@ fn type_by_codes(program: &Program, file: usize, bytes: &[u8]) -> Option<TypeSta
     first_that_holds(&program.starts.types[file], &program.inputs, bytes)
 }
 
-/// The first type of a file all of whose codes hold; if the file's first has none, no byte is looked at.
-#[inline(always)]
-fn first_type(program: &Program, file: usize, bytes: &[u8]) -> Option<TypeStart>
+/// The type of each record of a file, if its first type has no codes.
+pub(crate) fn only_type(program: &Program, file: usize) -> Option<TypeStart>
     requires { file < length program.now.files.items }
-    ensures { result ≡ spec.first_that_holds bytes.now program.now.inputs.items (types_of_file (type_starts program.now.files.items program.now.inputs.items) file) }
+    ensures { spec.IsOnlyType program.now file result }
 {
     let starts: &[TypeStart] = &program.starts.types[file];
     if !starts.is_empty() && has_no_codes(&program.inputs, starts[0].place) {
-        return Some(starts[0]);
+        Some(starts[0])
+    } else {
+        None
     }
-    type_by_codes(program, file, bytes)
 }
 
 /// The first type of a file all of whose codes hold of a record.
-pub fn type_of(program: &Program, file: usize, bytes: &[u8]) -> Option<TypeStart>
+pub(crate) fn type_of(program: &Program, file: usize, bytes: &[u8]) -> Option<TypeStart>
     requires { file < length program.now.files.items }
     ensures found { option_map (spec.kind_at program.now) result ≡ meaning.type_of (source_named program.now) (spec.name_of_file program.now file) bytes.now }
     ensures starts { IfSome result (λ start. IsTrue (spec.is_type_start program.now start)) }
 {
-    first_type(program, file, bytes)
+    type_by_codes(program, file, bytes)
 }

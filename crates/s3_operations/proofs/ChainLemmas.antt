@@ -1,5 +1,5 @@
 -- What a CHAIN of a valid program brings: a chained file, and a key or a record number for it.
-use Rattle.std.proofs.Common.{◌≡◌, ℕ, ◌≤◌, ◌<◌, ◌==◌, List, [], ◌∷◌, Bool, true, false, not, refl, sym, ◌∙◌, ap, subst, arith, zero, suc, length, take, inl, inr}
+use Rattle.std.proofs.Common.{◌≡◌, ℕ, ◌≤◌, ◌<◌, ◌==◌, List, [], ◌∷◌, Bool, true, false, not, refl, sym, ◌∙◌, ap, subst, arith, zero, suc, length, inl, inr}
 use Rattle.std.specs.Prelude.{Option, Some, None, is_some, map, find, slice_get, unwrap_or, option_map, nat_le, unsigned_abs}
 use Rattle.std.specs.List.{list_any}
 use Rattle.std.specs.Map.{keys_of}
@@ -246,26 +246,26 @@ keyed_fits p line field is keyed =
     let c : Chains p line.factor1 line.factor2 = chains p line is in
     sym (ap (λ (k : Option KeyField). is_key k (meant_factor p line.factor1)) (sym (ap key_field c.found) ∙ keyed)) ∙ c.fits
 
-pub key_long : (p : Program) (s : Values) (line : CalculationLine Reference) (count : ℕ) (buffer : List ℕ) (field : KeyField) → IsSound p s → IsLineOf p line op.Chain → is_literal line.factor1 ≡ false
-    → ((rest : Environment) → take count buffer ≡ bytes_in (source_named p) (held p s rest) (named_factor p line.factor1)) → key_field (file_sought p line) ≡ Some field → length (take count buffer) ≡ field.length
-key_long p s line count buffer field sound is plain bytes keyed =
+pub key_long : (p : Program) (s : Values) (line : CalculationLine Reference) (found : List ℕ) (field : KeyField) → IsSound p s → IsLineOf p line op.Chain → is_literal line.factor1 ≡ false
+    → ((rest : Environment) → found ≡ bytes_in (source_named p) (held p s rest) (named_factor p line.factor1)) → key_field (file_sought p line) ≡ Some field → length found ≡ field.length
+key_long p s line found field sound is plain bytes keyed =
     let rest : Environment = at_first (source_named p) 0 [] in
     ap (λ (xs : List ℕ). length xs) (bytes rest) ∙ bytes_long p s rest line.factor1 field sound (chain_value p line is) (keyed_fits p line field is keyed) plain
 
-pub key_few : (p : Program) (s : Values) (line : CalculationLine Reference) (count : ℕ) (buffer : List ℕ) → IsSound p s → IsLineOf p line op.Chain → has_key (file_sought p line) ≡ true → is_literal line.factor1 ≡ false
-    → ((rest : Environment) → take count buffer ≡ bytes_in (source_named p) (held p s rest) (named_factor p line.factor1)) → length (take count buffer) ≤ 29
+pub key_few : (p : Program) (s : Values) (line : CalculationLine Reference) (found : List ℕ) → IsSound p s → IsLineOf p line op.Chain → has_key (file_sought p line) ≡ true → is_literal line.factor1 ≡ false
+    → ((rest : Environment) → found ≡ bytes_in (source_named p) (held p s rest) (named_factor p line.factor1)) → length found ≤ 29
 unfolding are_in_range
-key_few p s line count buffer sound is keyed plain bytes =
+key_few p s line found sound is keyed plain bytes =
     let c : Chains p line.factor1 line.factor2 = chains p line is in
     let keeps : Kept (parts_of p) = kept (parts_of p) p.valid in
     let ranged : file_in_range c.file ≡ true = all_at file_in_range p.files.items c.slot c.file (and_parts _ _ (and_parts _ _ (and_parts _ _ keeps.ranged).0).0).0 c.there in
     on c.file.key refl ranged (sym (ap has_key c.found) ∙ keyed)
   where
-    on : (key : Option KeyField) → (chains p line is).file.key ≡ key → file_in_range (chains p line is).file ≡ true → is_some (chains p line is).file.key ≡ true → length (take count buffer) ≤ 29
+    on : (key : Option KeyField) → (chains p line is).file.key ≡ key → file_in_range (chains p line is).file ≡ true → is_some (chains p line is).file.key ≡ true → length found ≤ 29
     on None e ranged some = absurd (true≢false (sym some ∙ ap (λ (k : Option KeyField). is_some k) e))
     on (Some key) e ranged some =
         let few : key.length ≤ 29 = few_of_key (chains p line is).file key ranged e in
-        let size = key_long p s line count buffer key sound is plain bytes (ap key_field (chains p line is).found ∙ e) in
+        let size = key_long p s line found key sound is plain bytes (ap key_field (chains p line is).found ∙ e) in
         omega (arith, few, size)
 
 -- a literal text that is one

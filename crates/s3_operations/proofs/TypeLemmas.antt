@@ -1,8 +1,7 @@
 -- The record types of a file are those that start at its places, and their indicators go off file by file.
-use Rattle.std.proofs.Common.{◌≡◌, ℕ, ◌+◌, ◌<◌, ◌≤◌, ◌==◌, ◌&&◌, length, drop, take, get_or, List, [], ◌∷◌, Bool, true, false, not, refl, sym, ◌∙◌, ap, arith, zero, suc, ◌||◌}
+use Rattle.std.proofs.Common.{◌≡◌, ℕ, ◌+◌, ◌<◌, ◌≤◌, ◌&&◌, length, drop, take, get_or, List, [], ◌∷◌, Bool, true, false, not, refl, sym, ◌∙◌, ap, arith, zero, suc, ◌||◌}
 use Rattle.std.specs.Prelude.{Option, Some, None, map, filter, filter_map, nat_lt, if◌then◌else◌}
 use Rattle.std.specs.List.{list_any, list_all}
-use Rattle.std.proofs.Math.Path.{fun_ext}
 use Rattle.std.proofs.lemmas.Bool.{and_parts}
 use Rattle.std.proofs.lemmas.Bool.Decides.{nat_tests}
 use Rattle.std.proofs.lemmas.List.{length-map, map-append, take_more}
@@ -13,8 +12,6 @@ use Rattle.s3_lines.specs.declared.indicator.Indicator.{Indicator}
 use Rattle.s3_lines.specs.declared.sheet.InputLine.{InputLine}
 use Rattle.s3_lines.specs.declared.sheet.InputLine.TheVariants.{Record, And as AndCodes, Or as OrCodes, Field as InputField}
 use Rattle.s3_meaning.specs.Names.{same_indicator, is_indicator}
-use Rattle.s3_meaning.specs.Environment.{Environment}
-use Rattle.s3_meaning.specs.Cycle.{without_types}
 use Rattle.s3_program.specs.declared.program.Program.{Program}
 use Rattle.s3_program.specs.declared.program.Reference.{Reference}
 use Rattle.s3_program.specs.declared.program.Reference.TheVariants as slot
@@ -29,7 +26,7 @@ use Rattle.s3_program.proofs.StartedLemmas.{types_stand}
 use Rattle.s3_program.proofs.TypeLemmas.{both, same_file, starts_have_files}
 use Rattle.s3_operations.specs.declared.values.Values.{Values}
 use Rattle.s3_operations.specs.Fits.{tables}
-use Rattle.s3_operations.specs.Held.{held, IsSound, Changes}
+use Rattle.s3_operations.specs.Held.{IsSound, Changes}
 use Rattle.s3_operations.specs.Indicators.{on_in, turned_all}
 use Rattle.s3_operations.specs.Indicating.{type_indicator, start_indicator, without_types_of}
 use Rattle.s3_operations.proofs.IndicatingLemmas.{turned_by, turn_once, off_where}
@@ -164,100 +161,3 @@ types_of_cleared p file old new sound within numbers texts division turned =
     ∙ ap (λ b. on_in old.indicators other && not b) (any_mapped (is_indicator other) (start_indicator p.inputs.items) (types_of_file starts file)
     ∙ any_kept (shows p other) (is_type_of file) starts ∙ own_types p file other within)) in
     record { sound = change.sound; held = change.held }
-
--- ---- file by file
--- the indicators of the types of the first files go off
-abbrev pub without_first : Program → ℕ → Environment → Environment
-without_first p k e = record e { on = λ other. e.on other && not (list_any (λ start. nat_lt start.file k && shows p other start) (type_starts p.files.items p.inputs.items)) }
-
-none_first : {X : Type 0} (f : X → ℕ) (p : X → Bool) (xs : List X) → list_any (λ x. nat_lt (f x) 0 && p x) xs ≡ false
-none_first f p [] = refl
-none_first f p (x ∷ xs) = rw (below (f x)) (none_first f p xs)
-  where
-    below : (n : ℕ) → nat_lt n 0 ≡ false
-    below n = grind (arith, nat_tests)
-
-not_none : (v : Bool) → v ≡ (v && not false)
-not_none true = refl
-not_none false = refl
-
-pub first_none : (p : Program) (old : Values) → IsSound p old → Changes p old old (λ source. without_first p 0)
-unfolding held
-first_none p old sound = record {
-  sound = sound;
-  held = λ rest i. record (held p old rest) {
-    on = fun_ext (λ (other : Indicator). not_none (on_in old.indicators other)
-        ∙ ap (λ b. on_in old.indicators other && not b) (sym (none_first (λ (start : TypeStart). start.file) (shows p other) (type_starts p.files.items p.inputs.items)))) i;
-  };
-}
-
-next_of : (b c d p : Bool) → (b || c) ≡ d → ((b && p) || (c && p)) ≡ (d && p)
-next_of true true d p e = rw (sym e) (twice p)
-  where
-    twice : (p : Bool) → (p || p) ≡ p
-    twice true = refl
-    twice false = refl
-next_of true false d p e = rw (sym e) (plain p)
-  where
-    plain : (p : Bool) → (p || false) ≡ p
-    plain true = refl
-    plain false = refl
-next_of false true d p e = rw (sym e) refl
-next_of false false d p e = rw (sym e) refl
-
-mixed : (a b c d : Bool) → ((a || b) || (c || d)) ≡ ((a || c) || (b || d))
-mixed true b c d = refl
-mixed false b true d = either b
-  where
-    either : (b : Bool) → (b || true) ≡ true
-    either true = refl
-    either false = refl
-mixed false b false d = refl
-
-any_next : {X : Type 0} (f : X → ℕ) (p : X → Bool) (k : ℕ) (xs : List X)
-    → (list_any (λ x. nat_lt (f x) k && p x) xs || list_any (λ x. (f x == k) && p x) xs) ≡ list_any (λ x. nat_lt (f x) (k + 1) && p x) xs
-any_next f p k [] = refl
-any_next f p k (x ∷ xs) =
-    mixed (nat_lt (f x) k && p x) (list_any (λ x. nat_lt (f x) k && p x) xs) ((f x == k) && p x) (list_any (λ x. (f x == k) && p x) xs)
-    ∙ (λ i. next_of (nat_lt (f x) k) (f x == k) (nat_lt (f x) (k + 1)) (p x) (next (f x)) i || any_next f p k xs i)
-  where
-    next : (n : ℕ) → (nat_lt n k || (n == k)) ≡ nat_lt n (k + 1)
-    next n = grind (arith, nat_tests)
-
-and_twice : (v a b : Bool) → ((v && not a) && not b) ≡ (v && not (a || b))
-and_twice true true b = refl
-and_twice true false b = refl
-and_twice false a b = refl
-
-pub first_more : (p : Program) (k : ℕ) (old mid new : Values) → k < length p.files.items → Changes p old mid (λ source. without_first p k)
-    → Changes p mid new (without_types_of (name_of (tables p) (slot.File k))) → Changes p old new (λ source. without_first p (k + 1))
-first_more p k old mid new within before now =
-    let starts : List TypeStart = type_starts p.files.items p.inputs.items in
-    record {
-      sound = now.sound;
-      held = λ rest. now.held rest ∙ ap (without_types_of (name_of (tables p) (slot.File k)) (source_named p)) (before.held rest)
-          ∙ (λ i. record (held p old rest) {
-            on = fun_ext (λ (other : Indicator).
-                and_twice ((held p old rest).on other) (list_any (λ start. nat_lt start.file k && shows p other start) starts)
-                (list_any (λ kind. same_name kind.file (name_of (tables p) (slot.File k)) && same_indicator other kind.indicator) (source_named p).types)
-                ∙ ap (λ b. (held p old rest).on other && not b)
-                (ap (λ b. list_any (λ start. nat_lt start.file k && shows p other start) starts || b) (sym (own_types p k other within))
-                ∙ any_next (λ (start : TypeStart). start.file) (shows p other) k starts)) i;
-          });
-    }
-
-pub first_all : (p : Program) (k : ℕ) (old new : Values) → length p.files.items ≤ k → k ≤ length p.files.items → Changes p old new (λ source. without_first p k) → Changes p old new without_types
-first_all p k old new past within change =
-    let starts : List TypeStart = type_starts p.files.items p.inputs.items in
-    let count : length (tables p).files ≡ k = grind (arith, length-map, past, within) in
-    record {
-      sound = change.sound;
-      held = λ rest. change.held rest
-          ∙ (λ i. record (held p old rest) {
-            on = fun_ext (λ (other : Indicator). ap (λ b. (held p old rest).on other && not b)
-                (sym (any_found (type_at (tables p) p.inputs.items) (has_file p) (λ start. nat_lt start.file k && shows p other start) (λ kind. same_indicator other kind.indicator)
-                (λ start good. type_passes (tables p) p.inputs.items start (λ name. true) other ∙ ap (λ b. b && shows p other start) (sym (ap (nat_lt start.file) (sym count) ∙ good)))
-                starts (starts_have_files p))
-                ∙ ap (list_any (λ kind. same_indicator other kind.indicator)) (types_stand p))) i;
-          });
-    }

@@ -3,16 +3,18 @@ ghost use Rattle.std.specs.Prelude.{◌≡◌, ◌<◌, ◌≤◌, true, false, 
 ghost use Rattle.s3_lines.specs.Ranges.{factor_in_range, if_given};
 ghost use Rattle.s3_lines.specs.declared.sheet.KeyField.{KeyField};
 ghost use Rattle.s3_lines.specs.declared.sheet.Operation.TheVariants as op;
-ghost use Rattle.s3_meaning.specs.Calculating.{bytes_in, number_in};
+ghost use Rattle.s3_meaning.specs.Calculating.{bytes_in, number_in, zoned};
 ghost use Rattle.s3_meaning.specs.Environment.{Environment};
 ghost use Rattle.s3_program.specs.Stands.{source_named};
 ghost use Rattle.s3_operations.specs.Chaining.{IsLiteral, file_sought, has_key, is_chained_file, is_literal, key_field, names_file};
 ghost use Rattle.s3_operations.specs.Fits.{IsLineOf, named_factor};
 ghost use Rattle.s3_operations.specs.Held.{IsSound, held};
 
-use crate::moving::LONGEST;
+use crate::operand::Operand;
+use crate::texts::MOST_DIGITS;
 use crate::values::Values;
 use arrayvec::ArrayVec;
+use s3_decimal::{Dec, zoned_write};
 use s3_lines::sheet::{CalculationLine, Factor};
 use s3_program::program::{Program, Reference};
 
@@ -52,6 +54,16 @@ fn key_of(bytes: &[u8]) -> ArrayVec<u8, KEY_BYTES>
     }
 }
 
+/// A key of the zoned bytes of a number.
+fn zoned_key(number: Dec) -> ArrayVec<u8, KEY_BYTES>
+    ensures { result.items ≡ zoned number.digits number.value }
+{
+    let mut buffer = [0; MOST_DIGITS];
+    let digits = &mut buffer[..usize::from(number.digits)];
+    zoned_write(number, digits);
+    key_of(digits)
+}
+
 /// The characters of a factor that is a literal text.
 fn literal_text(factor: &Option<Factor<Reference>>) -> Option<&[u8]>
     requires { if_given factor_in_range factor.now ≡ true }
@@ -78,9 +90,10 @@ impl Values {
         ensures bytes { (rest : Environment) → result.items ≡ bytes_in (source_named program.now) (held program.now self.now rest) (named_factor program.now line.now.factor1) }
         ensures long { (field : KeyField) → key_field (file_sought program.now line.now) ≡ Some field → length result.items ≡ field.length }
     {
-        let mut buffer = [0; LONGEST];
-        let count = self.bytes(program, &line.factor1, &mut buffer);
-        key_of(&buffer[..count])
+        match self.operand(program, &line.factor1) {
+            Operand::Number(number) => zoned_key(number),
+            Operand::Text(text) => key_of(text),
+        }
     }
 
     /// The key that a CHAIN to an indexed file seeks: the characters of a text, the zoned bytes of a number. It is as long as

@@ -3,14 +3,13 @@ ghost use Rattle.std.specs.Prelude.{◌≡◌, ◌<◌, ◌||◌, length, map, n
 ghost use Rattle.std.specs.List.{list_all};
 ghost use Rattle.s3_lines.specs.declared.indicator.Indicator.{Indicator};
 ghost use Rattle.s3_meaning.specs.Environment.{Environment, turn, turn_levels, with_last_record};
-ghost use Rattle.s3_meaning.specs.Cycle.{without_types};
 ghost use Rattle.s3_meaning.specs.Selection.{is_level_to};
 ghost use Rattle.s3_meaning.specs.Output.{is_served};
 ghost use Rattle.s3_program.specs.Tables.{name_of};
 ghost use Rattle.s3_operations.specs.Fits.{tables};
 ghost use Rattle.s3_operations.specs.Held.{IsSound, Changes, held};
 ghost use Rattle.s3_operations.specs.Indicators.{on_in, is_settable, is_settable_entry, turned_all};
-ghost use Rattle.s3_operations.specs.Indicating.{type_indicator as type_indicator_spec, start_indicator, without_types_of, with_levels_to, cleared_of};
+ghost use Rattle.s3_operations.specs.Indicating.{type_indicator as type_indicator_spec, start_indicator, without_types_of, with_levels_to};
 
 use crate::indicators::Indicators;
 use crate::values::Values;
@@ -114,26 +113,5 @@ impl Values {
     {
         self.indicators
             .clear_types(&program.inputs, &program.starts.types[file]);
-    }
-
-    /// The record identifying indicators go off.
-    pub fn clear_types(&mut self, program: &Program)
-        requires sound { IsSound program.now self.old }
-        ensures { Changes program.now self.old self.new without_types }
-    {
-        for file in 0..program.files.len() {
-            self.clear_types_of(program, file);
-        }
-    }
-
-    /// A cycle clears what the one before it has set: record identifying indicators, and L1 to L9 unless LR is on, which
-    /// sets them.
-    pub fn clear(&mut self, program: &Program)
-        requires sound { IsSound program.now self.old }
-        ensures { Changes program.now self.old self.new cleared_of }
-    {
-        let is_last = self.is_on(program, Indicator::LastRecord);
-        self.clear_types(program);
-        self.turn_levels(program, is_last);
     }
 }

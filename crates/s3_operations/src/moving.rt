@@ -14,12 +14,9 @@ ghost use Rattle.s3_operations.specs.Held.{IsSound, Changes, held};
 use crate::numbers::number_slot;
 use crate::operand::{Operand, literal_codes, literal_number};
 use crate::values::Values;
-use s3_decimal::{Dec, move_bytes, move_to, zoned_write};
+use s3_decimal::{Dec, move_bytes, move_to};
 use s3_lines::sheet::{CalculationLine, Factor, Shape};
 use s3_program::program::{Program, Reference};
-
-/// The longest value of a factor, in bytes.
-pub const LONGEST: usize = 256;
 
 /// The slot of a result that is a text.
 fn text_slot(program: &Program, line: &CalculationLine<Reference>) -> usize
@@ -98,31 +95,6 @@ impl Values {
         let target = self.numbers[slot];
         let moved = self.moved(program, &line.factor2, target);
         self.put(program, line, slot, moved);
-    }
-
-    /// The bytes of a factor: the characters of a text, the zoned bytes of a number. Their count, and they first in the buffer.
-    pub fn bytes(
-        &self,
-        program: &Program,
-        factor: &Option<Factor<Reference>>,
-        buffer: &mut [u8; LONGEST],
-    ) -> usize
-        requires sound { IsSound program.now self.now }
-        requires fits { is_value (meant_factor program.now factor.now) ≡ true }
-        ensures count { result ≤ 256 }
-        ensures bytes { (rest : Environment) → take result buffer.new ≡ bytes_in (source_named program.now) (held program.now self.now rest) (named_factor program.now factor.now) }
-    {
-        match self.operand(program, factor) {
-            Operand::Number(number) => {
-                let count = usize::from(number.digits);
-                zoned_write(number, &mut buffer[..count]);
-                count
-            }
-            Operand::Text(text) => {
-                buffer[..text.len()].copy_from_slice(text);
-                text.len()
-            }
-        }
     }
 
     /// MOVE of a field into a text.

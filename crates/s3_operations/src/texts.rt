@@ -1,5 +1,5 @@
 //! The texts of fields, by slot.
-ghost use Rattle.std.specs.Prelude.{◌≡◌, ◌≤◌, ◌-◌, ◌++◌, List, ℕ, min, IfOk, OnOk, length, replicate};
+ghost use Rattle.std.specs.Prelude.{◌≡◌, ◌≤◌, ◌+◌, ◌-◌, ◌++◌, List, ℕ, min, take, drop, IfOk, OnOk, length, replicate};
 ghost use Rattle.s3_meaning.specs.Calculating.{moved_right, moved_left, zoned};
 ghost use Rattle.s3_operations.specs.Texts.{IsCut, texts_on, blank_texts, length_of as length_of_spec};
 
@@ -11,7 +11,7 @@ use std::alloc::{AllocError, Global};
 use std::marker::Model;
 
 /// How many digits a number has at most.
-const MOST_DIGITS: usize = 15;
+pub(crate) const MOST_DIGITS: usize = 15;
 
 /// Where the text of a slot lies.
 #[derive(Clone, Copy)]
@@ -56,13 +56,46 @@ fn add_blanks(bytes: &mut Vec<u8>, count: usize) -> Result<(), AllocError>
     Ok(())
 }
 
+/// Lays so many characters of a text, from a place on, over the same ones of another text.
+#[inline(always)]
+fn lay_part<const N: usize>(target: &mut [u8], text: &[u8], at: usize)
+    requires size { length target.old ≡ length text.now }
+    requires within { at + N ≤ length text.now }
+    ensures { target.new ≡ take at target.old ++ (take N (drop at text.now) ++ drop (at + N) target.old) }
+{
+    match <[u8; N]>::try_from(&text[at..at + N]) {
+        Ok(part) => target[at..at + N].copy_from_slice(&part),
+        Err(_) => unreachable!(),
+    }
+}
+
+/// Lays a text over another one as long. Of a short one the first and the last characters are laid, some of them maybe twice:
+/// that takes less than a call.
+#[inline(always)]
+fn lay(target: &mut [u8], text: &[u8])
+    requires { length target.old ≡ length text.now }
+    ensures { target.new ≡ text.now }
+{
+    match text.len() {
+        4..=7 => {
+            lay_part::<4>(target, text, 0);
+            lay_part::<4>(target, text, text.len() - 4);
+        }
+        8..=16 => {
+            lay_part::<8>(target, text, 0);
+            lay_part::<8>(target, text, text.len() - 8);
+        }
+        _ => target.copy_from_slice(text),
+    }
+}
+
 /// Lays a text over another one of a fixed length, right to right.
 fn overlay_right(target: &mut [u8], text: &[u8])
     ensures { target.new ≡ moved_right text.now target.old }
 {
     let count = target.len().min(text.len());
     let kept = target.len() - count;
-    target[kept..].copy_from_slice(&text[text.len() - count..]);
+    lay(&mut target[kept..], &text[text.len() - count..]);
 }
 
 /// Lays a text over another one of a fixed length, left to left.
@@ -70,7 +103,7 @@ fn overlay_left(target: &mut [u8], text: &[u8])
     ensures { target.new ≡ moved_left text.now target.old }
 {
     let count = target.len().min(text.len());
-    target[..count].copy_from_slice(&text[..count]);
+    lay(&mut target[..count], &text[..count]);
 }
 
 /// How many characters of one text lie over another one.

@@ -1,6 +1,6 @@
 -- Room for the digits of an amount, and blanks in front of them.
-use Rattle.std.proofs.Common.{◌≡◌, ◌≢◌, ℕ, ◌+◌, ◌-◌, ◌/◌, ◌^◌, ◌<◌, ◌≤◌, refl, arith, sym, ◌∙◌, ap, Bool, true, false, not, ◌&&◌, nat_lt, if◌then◌else◌, List, length, slice_set, get_or, get_or-set_other, get_or-set_same, Option, Some, None, subst}
-use Rattle.std.specs.Prelude.{is_some, unwrap_or, ◌==◌, ◌%◌}
+use Rattle.std.proofs.Common.{◌≡◌, ◌≢◌, ℕ, ◌+◌, ◌-◌, ◌/◌, ◌^◌, ◌<◌, ◌≤◌, refl, arith, sym, ◌∙◌, ap, Bool, true, false, not, ◌&&◌, nat_lt, if◌then◌else◌, List, [], ◌∷◌, zero, suc, length, slice_set, get_or, get_or-set_other, get_or-set_same, Option, Some, None, subst}
+use Rattle.std.specs.Prelude.{is_some, unwrap_or, ◌==◌, ◌%◌, ◌*◌}
 use Rattle.std.proofs.lemmas.Bool.{true≢false}
 use Rattle.std.proofs.Math.Nat.{div-eq_of_lt}
 use Rattle.std.proofs.lemmas.Bool.Decides.{nat_tests}
@@ -9,6 +9,69 @@ use Rattle.s3_edit.specs.declared.code.Amount.{Amount}
 use Rattle.s3_edit.specs.declared.code.EditCode.TheVariants.{Edited}
 use Rattle.s3_edit.specs.Picture.{body_width, comma_width, is_form, point_width, sign_width, suppressed_at, whole_digits, width_of}
 use Rattle.s3_edit.proofs.Places.{below, is_lt, lt_true, not_lt, split, suppressed_digit, tenth}
+
+-- ---- pairs of digits
+-- of so many numbers, from a first one on
+abbrev pub pairs_from : (count first : ℕ) → List ℕ
+pairs_from zero first = []
+pairs_from (suc count) first = (0xf0 + first / 10) ∷ (0xf0 + first % 10) ∷ pairs_from count (first + 1)
+
+tens_from : (count first place : ℕ) → place < count → get_or (pairs_from count first) (2 * place) 0 ≡ 0xf0 + (first + place) / 10
+tens_from zero first place h = absurd (omega (arith, h))
+tens_from (suc count) first zero h = ap (λ n. 0xf0 + n / 10) (omega arith)
+tens_from (suc count) first (suc place) h =
+    let further : 2 * suc place ≡ suc (suc (2 * place)) = omega arith in
+    ap (λ i. get_or (pairs_from (suc count) first) i 0) further ∙ tens_from count (first + 1) place (omega (arith, h)) ∙ ap (λ n. 0xf0 + n / 10) (omega arith)
+
+units_from : (count first place : ℕ) → place < count → get_or (pairs_from count first) (2 * place + 1) 0 ≡ 0xf0 + (first + place) % 10
+units_from zero first place h = absurd (omega (arith, h))
+units_from (suc count) first zero h = ap (λ n. 0xf0 + n % 10) (omega arith)
+units_from (suc count) first (suc place) h =
+    let further : 2 * suc place + 1 ≡ suc (suc (2 * place + 1)) = omega arith in
+    ap (λ i. get_or (pairs_from (suc count) first) i 0) further ∙ units_from count (first + 1) place (omega (arith, h)) ∙ ap (λ n. 0xf0 + n % 10) (omega arith)
+
+-- the table has those of all numbers below 100
+pub tens_at : (n : ℕ) → n < 100 → get_or (pairs_from 100 0) (2 * n) 0 ≡ 0xf0 + n / 10
+tens_at n h = tens_from 100 0 n h ∙ ap (λ k. 0xf0 + k / 10) (omega arith)
+
+pub units_at : (n : ℕ) → n < 100 → get_or (pairs_from 100 0) (2 * n + 1) 0 ≡ 0xf0 + n % 10
+units_at n h = units_from 100 0 n h ∙ ap (λ k. 0xf0 + k % 10) (omega arith)
+
+pair_by : (b : Bool) (n end place : ℕ) (text : List ℕ) → 2 ≤ end → get_or text (end - 2) 0 ≡ 0xf0 + n % 100 / 10 → get_or text (end - 1) 0 ≡ 0xf0 + n % 100 % 10 → place < 2 → nat_lt 0 place ≡ b
+    → get_or text (end - 1 - place) 0 ≡ 0xf0 + n / 10 ^ place % 10
+pair_by true n end place text room tens units h t =
+    let one : place ≡ 1 = omega (arith, h, is_lt 0 place t) in
+    let digit : n % 100 / 10 ≡ n / 10 ^ 1 % 10 = omega arith in
+    ap (λ i. get_or text i 0) (omega (arith, one, room)) ∙ tens ∙ ap (λ d. 0xf0 + d) digit ∙ ap (λ k. 0xf0 + n / 10 ^ k % 10) (sym one)
+pair_by false n end place text room tens units h t =
+    let none : place ≡ 0 = omega (arith, not_lt 0 place t) in
+    let digit : n % 100 % 10 ≡ n / 10 ^ 0 % 10 = omega arith in
+    ap (λ i. get_or text i 0) (omega (arith, none, room)) ∙ units ∙ ap (λ d. 0xf0 + d) digit ∙ ap (λ k. 0xf0 + n / 10 ^ k % 10) (sym none)
+
+-- the last two places of a number
+pub pair_digit : (n end place : ℕ) (text : List ℕ) → 2 ≤ end → get_or text (end - 2) 0 ≡ 0xf0 + n % 100 / 10 → get_or text (end - 1) 0 ≡ 0xf0 + n % 100 % 10 → place < 2
+    → get_or text (end - 1 - place) 0 ≡ 0xf0 + n / 10 ^ place % 10
+pair_digit n end place text room tens units h = pair_by (nat_lt 0 place) n end place text room tens units h refl
+
+written_by : (b t : Bool) (n q r end : ℕ) (text now : List ℕ) → r ≡ n / 10 ^ q → 9 < r → q + 2 ≤ end → ((k : ℕ) → k < q → get_or text (end - 1 - k) 0 ≡ suppressed_at n k)
+    → ((place : ℕ) → place < 2 → get_or now (end - q - 1 - place) 0 ≡ 0xf0 + r / 10 ^ place % 10) → ((i : ℕ) → end - q ≤ i → get_or now i 0 ≡ get_or text i 0)
+    → (k : ℕ) → k < q + 2 → nat_lt k q ≡ b → nat_lt k (q + 1) ≡ t → get_or now (end - 1 - k) 0 ≡ suppressed_at n k
+written_by true t n q r end text now left many room written digits rest k h e f =
+    let l : k < q = is_lt k q e in
+    rest (end - 1 - k) (omega (arith, l, room)) ∙ written k l
+written_by false true n q r end text now left many room written digits rest k h e f =
+    let same : k ≡ q = omega (arith, not_lt k q e, is_lt k (q + 1) f) in
+    let digit : r / 10 ^ 0 % 10 ≡ r % 10 = omega arith in
+    ap (λ i. get_or now i 0) (omega (arith, same)) ∙ digits 0 (omega arith) ∙ ap (λ d. 0xf0 + d) digit ∙ suppressed_digit n q r left (omega (arith, many)) ∙ ap (λ j. suppressed_at n j) (sym same)
+written_by false false n q r end text now left many room written digits rest k h e f =
+    let same : k ≡ q + 1 = omega (arith, not_lt k (q + 1) f, h) in
+    ap (λ i. get_or now i 0) (omega (arith, same)) ∙ digits 1 (omega arith) ∙ suppressed_digit n (q + 1) (r / 10) (ap (λ v. v / 10) left ∙ tenth n q) (omega (arith, many)) ∙ ap (λ j. suppressed_at n j) (sym same)
+
+-- two digits more are written
+pub pair_written : (n q r end : ℕ) (text now : List ℕ) → r ≡ n / 10 ^ q → 9 < r → q + 2 ≤ end → ((k : ℕ) → k < q → get_or text (end - 1 - k) 0 ≡ suppressed_at n k)
+    → ((place : ℕ) → place < 2 → get_or now (end - q - 1 - place) 0 ≡ 0xf0 + r / 10 ^ place % 10) → ((i : ℕ) → end - q ≤ i → get_or now i 0 ≡ get_or text i 0)
+    → (k : ℕ) → k < q + 2 → get_or now (end - 1 - k) 0 ≡ suppressed_at n k
+pair_written n q r end text now left many room written digits rest k h = written_by (nat_lt k q) (nat_lt k (q + 1)) n q r end text now left many room written digits rest k h refl refl
 
 -- ---- the digits that are left
 pub part_below : (v k m : ℕ) → v < 10 ^ (k + m) → v / 10 ^ k < 10 ^ m
@@ -23,6 +86,13 @@ room_by false n q end r fits left some t =
 -- a digit that is left has its place
 pub digit_room : (n q end r : ℕ) → n < 10 ^ end → r ≡ n / 10 ^ q → 0 < r → q < end
 digit_room n q end r fits left some = room_by (nat_lt q end) n q end r fits left some refl
+
+-- and two digits that are left have theirs
+pub pair_room : (n q end r : ℕ) → n < 10 ^ end → r ≡ n / 10 ^ q → 9 < r → q + 2 ≤ end
+pair_room n q end r fits left many =
+    let some : 0 < r / 10 = omega (arith, many) in
+    let room : q + 1 < end = digit_room n (q + 1) end (r / 10) fits (ap (λ v. v / 10) left ∙ tenth n q) some in
+    omega (arith, room)
 
 comma_by : (b : Bool) (v e : ℕ) → 999 < v → v < 10 ^ whole_digits true e → nat_lt 3 (whole_digits true e) ≡ b → 4 < e
 comma_by true v e many fits t =

@@ -119,18 +119,6 @@ filled_laid end content codes positions are =
     ∙ (λ i. (filled_split (take left positions) B ∙ (λ j. (sym (take-map or_blank left positions) ∙ ap (take left) are) j ++ filled_some content j)) i
     ++ (sym (drop-map or_blank end positions) ∙ ap (drop end) are) i)
 
--- ---- a record begins
-pub cleared_on : (n : ℕ) (puts puts' : List Bool) (codes codes' : List ℕ) → codes' ≡ replicate n BLANK ++ drop n codes → puts' ≡ replicate n false ++ drop n puts
-    → positions_on puts' codes' ≡ replicate n None ++ drop n (positions_on puts codes)
-cleared_on n puts puts' codes codes' codes_are puts_are =
-    (λ i. positions_on (puts_are i) (codes_are i))
-    ∙ split_on (replicate n false) (drop n puts) (replicate n BLANK) (drop n codes) (length-replicate n false ∙ sym (length-replicate n BLANK))
-    ∙ (λ i. blank_on n i ++ drop_on n puts codes i)
-
-pub cleared_take : (n : ℕ) (positions : List (Option ℕ)) → take n (replicate n None ++ positions) ≡ replicate n None
-cleared_take zero positions = refl
-cleared_take (suc n) positions = ap (λ ds. None ∷ ds) (cleared_take n positions)
-
 -- ---- codes that are told of no positions
 some_take : (n : ℕ) (codes : List ℕ) → take n (map (λ code. Some code) codes) ≡ map (λ code. Some code) (take n codes)
 some_take n codes = take-map (λ code. Some code) n codes
@@ -188,26 +176,17 @@ pub view_length : (n : ℕ) (told : Bool) (puts : List Bool) (codes : List ℕ) 
 view_length n told puts codes same within = length-take-le n (positions_in told puts codes) (subst (λ k. n ≤ k) (sym (length_in told puts codes same)) within)
 
 -- ---- a record begins
-taken_first : {X : Type 0} (n : ℕ) (x : X) (xs : List X) → take n (replicate n x ++ xs) ≡ replicate n x
-taken_first zero x xs = refl
-taken_first (suc n) x xs = ap (λ ds. x ∷ ds) (taken_first n x xs)
-
-pub clear_view : (n : ℕ) (told : Bool) (puts puts' : List Bool) (codes codes' : List ℕ) → codes' ≡ replicate n BLANK ++ drop n codes → (told ≡ true → puts' ≡ replicate n false ++ drop n puts)
-    → take n (positions_in told puts' codes') ≡ replicate n (first_position told)
-clear_view n true puts puts' codes codes' codes_are puts_are =
-    ap (take n) (cleared_on n puts puts' codes codes' codes_are (puts_are refl)) ∙ cleared_take n (drop n (positions_on puts codes))
-clear_view n false puts puts' codes codes' codes_are puts_are =
-    some_take n codes' ∙ (ap (map (λ code. Some code)) (ap (take n) codes_are ∙ taken_first n BLANK (drop n codes)) ∙ some_blank n)
+pub clear_view : (n : ℕ) (told : Bool) (puts : List Bool) (codes : List ℕ) → take n codes ≡ replicate n BLANK → (told ≡ true → take n puts ≡ replicate n false) → take n (positions_in told puts codes) ≡ replicate n (first_position told)
+clear_view n true puts codes blanks unput = sym (take_on n puts codes) ∙ ((λ i. positions_on (unput refl i) (blanks i)) ∙ blank_on n)
+clear_view n false puts codes blanks unput = some_take n codes ∙ (ap (map (λ code. Some code)) blanks ∙ some_blank n)
 
 pub filled_first : (n : ℕ) (told : Bool) → filled (replicate n (first_position told)) ≡ replicate n BLANK
 filled_first zero told = refl
 filled_first (suc n) true = ap (λ ds. BLANK ∷ ds) (filled_first n true)
 filled_first (suc n) false = ap (λ ds. BLANK ∷ ds) (filled_first n false)
 
-pub clear_filled : (n : ℕ) (told : Bool) (puts puts' : List Bool) (codes codes' : List ℕ) → codes' ≡ replicate n BLANK ++ drop n codes → (told ≡ true → puts' ≡ replicate n false ++ drop n puts)
-    → filled (take n (positions_in told puts' codes')) ≡ take n codes'
-clear_filled n told puts puts' codes codes' codes_are puts_are =
-    ap filled (clear_view n told puts puts' codes codes' codes_are puts_are) ∙ (filled_first n told ∙ sym (ap (take n) codes_are ∙ taken_first n BLANK (drop n codes)))
+pub clear_filled : (n : ℕ) (told : Bool) (puts : List Bool) (codes : List ℕ) → take n codes ≡ replicate n BLANK → (told ≡ true → take n puts ≡ replicate n false) → filled (take n (positions_in told puts codes)) ≡ take n codes
+clear_filled n told puts codes blanks unput = ap filled (clear_view n told puts codes blanks unput) ∙ (filled_first n told ∙ sym blanks)
 
 -- an end position within a record of the array
 pub record EndsWithin (n end : ℕ) (puts : List Bool) (codes : List ℕ) : Type 0 where

@@ -1,5 +1,5 @@
 //! Amounts other than 0 and of up to 32 bits, as nearly all are. `edit` would write the same, digit by digit of 64 bits.
-ghost use Rattle.std.specs.Prelude.{◌≡◌, ◌≢◌, ℕ, ◌+◌, ◌-◌, ◌*◌, ◌/◌, ◌^◌, ◌<◌, ◌≤◌, ◌&&◌, nat_lt, Some, length, slice_index, unsigned_abs};
+ghost use Rattle.std.specs.Prelude.{◌≡◌, ◌≢◌, ℕ, ◌+◌, ◌-◌, ◌*◌, ◌/◌, ◌%◌, ◌^◌, ◌<◌, ◌≤◌, ◌&&◌, nat_lt, Some, length, slice_index, unsigned_abs};
 ghost use Rattle.s3_cards.specs.declared.ebcdic.TheConstants.{BLANK, PERIOD};
 ghost use Rattle.s3_decimal.specs.Exact.{is_negative};
 ghost use Rattle.s3_decimal.specs.Records.{digit_at};
@@ -10,6 +10,23 @@ ghost use Rattle.s3_edit.specs.Picture.{amount_at, character_of, digit_character
 use s3_cards::ebcdic::{BLANK, COMMA, DIGIT_0, LETTER_C, LETTER_R, MINUS, PERIOD};
 use s3_decimal::Dec;
 use s3_edit::{Amount, Sign};
+
+/// The two digits of each number below 100.
+static PAIRS: [u8; 200] = [
+    0xf0, 0xf0, 0xf0, 0xf1, 0xf0, 0xf2, 0xf0, 0xf3, 0xf0, 0xf4, 0xf0, 0xf5, 0xf0, 0xf6, 0xf0, 0xf7,
+    0xf0, 0xf8, 0xf0, 0xf9, 0xf1, 0xf0, 0xf1, 0xf1, 0xf1, 0xf2, 0xf1, 0xf3, 0xf1, 0xf4, 0xf1, 0xf5,
+    0xf1, 0xf6, 0xf1, 0xf7, 0xf1, 0xf8, 0xf1, 0xf9, 0xf2, 0xf0, 0xf2, 0xf1, 0xf2, 0xf2, 0xf2, 0xf3,
+    0xf2, 0xf4, 0xf2, 0xf5, 0xf2, 0xf6, 0xf2, 0xf7, 0xf2, 0xf8, 0xf2, 0xf9, 0xf3, 0xf0, 0xf3, 0xf1,
+    0xf3, 0xf2, 0xf3, 0xf3, 0xf3, 0xf4, 0xf3, 0xf5, 0xf3, 0xf6, 0xf3, 0xf7, 0xf3, 0xf8, 0xf3, 0xf9,
+    0xf4, 0xf0, 0xf4, 0xf1, 0xf4, 0xf2, 0xf4, 0xf3, 0xf4, 0xf4, 0xf4, 0xf5, 0xf4, 0xf6, 0xf4, 0xf7,
+    0xf4, 0xf8, 0xf4, 0xf9, 0xf5, 0xf0, 0xf5, 0xf1, 0xf5, 0xf2, 0xf5, 0xf3, 0xf5, 0xf4, 0xf5, 0xf5,
+    0xf5, 0xf6, 0xf5, 0xf7, 0xf5, 0xf8, 0xf5, 0xf9, 0xf6, 0xf0, 0xf6, 0xf1, 0xf6, 0xf2, 0xf6, 0xf3,
+    0xf6, 0xf4, 0xf6, 0xf5, 0xf6, 0xf6, 0xf6, 0xf7, 0xf6, 0xf8, 0xf6, 0xf9, 0xf7, 0xf0, 0xf7, 0xf1,
+    0xf7, 0xf2, 0xf7, 0xf3, 0xf7, 0xf4, 0xf7, 0xf5, 0xf7, 0xf6, 0xf7, 0xf7, 0xf7, 0xf8, 0xf7, 0xf9,
+    0xf8, 0xf0, 0xf8, 0xf1, 0xf8, 0xf2, 0xf8, 0xf3, 0xf8, 0xf4, 0xf8, 0xf5, 0xf8, 0xf6, 0xf8, 0xf7,
+    0xf8, 0xf8, 0xf8, 0xf9, 0xf9, 0xf0, 0xf9, 0xf1, 0xf9, 0xf2, 0xf9, 0xf3, 0xf9, 0xf4, 0xf9, 0xf5,
+    0xf9, 0xf6, 0xf9, 0xf7, 0xf9, 0xf8, 0xf9, 0xf9,
+];
 
 /// Makes a text blank that is as long as some blanks, or up to twice as long: they are laid at both of its ends.
 #[inline(always)]
@@ -55,8 +72,51 @@ fn put_digits(number: u32, count: usize, end: usize, text: &mut [u8]) -> u32
     rest
 }
 
-/// Writes decimals up to `end`, and gives the whole part. The most usual counts stand apart: where the count is known to the
-/// compiler, the digits take no loop.
+/// The digits of a number below 100.
+#[inline(always)]
+fn pair_of(number: u32) -> [u8; 2]
+    requires { number < 100 }
+    ensures tens { slice_index result 0 ≡ digit_character (number / 10) }
+    ensures units { slice_index result 1 ≡ digit_character (number % 10) }
+{
+    let place = 2 * number as usize;
+    [PAIRS[place], PAIRS[place + 1]]
+}
+
+/// Writes the last two digits of a number up to `end`, and gives what is left of the number.
+#[inline(always)]
+fn put_pair(number: u32, end: usize, text: &mut [u8]) -> u32
+    requires begins { 2 ≤ end }
+    requires ends { end ≤ length text.old }
+    ensures left { result ≡ number / 10 ^ 2 }
+    ensures digits { (place : ℕ) → place < 2 → slice_index text.new (end - 1 - place)
+        ≡ digit_character (digit_at place number) }
+    ensures before { (i : ℕ) → i < end - 2 → slice_index text.new i ≡ slice_index text.old i }
+    ensures rest { (i : ℕ) → end ≤ i → slice_index text.new i ≡ slice_index text.old i }
+{
+    let pair = pair_of(number % 100);
+    text[end - 2] = pair[0];
+    text[end - 1] = pair[1];
+    number / 100
+}
+
+/// Writes the last three digits of a number up to `end`, and gives what is left of the number.
+#[inline(always)]
+fn put_three(number: u32, end: usize, text: &mut [u8]) -> u32
+    requires begins { 3 ≤ end }
+    requires ends { end ≤ length text.old }
+    ensures left { result ≡ number / 10 ^ 3 }
+    ensures digits { (place : ℕ) → place < 3 → slice_index text.new (end - 1 - place)
+        ≡ digit_character (digit_at place number) }
+    ensures before { (i : ℕ) → i < end - 3 → slice_index text.new i ≡ slice_index text.old i }
+    ensures rest { (i : ℕ) → end ≤ i → slice_index text.new i ≡ slice_index text.old i }
+{
+    let rest = put_pair(number, end, text);
+    text[end - 3] = DIGIT_0 + (rest % 10) as u8;
+    rest / 10
+}
+
+/// Writes decimals up to `end`, and gives the whole part. The most usual counts stand apart.
 #[inline(always)]
 fn put_decimals(number: u32, count: usize, end: usize, text: &mut [u8]) -> u32
     requires begins { count ≤ end }
@@ -68,8 +128,8 @@ fn put_decimals(number: u32, count: usize, end: usize, text: &mut [u8]) -> u32
     ensures rest { (i : ℕ) → end ≤ i → slice_index text.new i ≡ slice_index text.old i }
 {
     match count {
-        2 => put_digits(number, 2, end, text),
-        3 => put_digits(number, 3, end, text),
+        2 => put_pair(number, end, text),
+        3 => put_three(number, end, text),
         _ => put_digits(number, count, end, text),
     }
 }
@@ -103,12 +163,13 @@ fn put_suppressed(number: u32, end: usize, text: &mut [u8])
 {
     let mut rest = number;
     let mut place = 0;
-    'digits: while rest > 9 {
-        text[end - 1 - place] = DIGIT_0 + (rest % 10) as u8;
-        rest /= 10;
-        place += 1;
+    'pairs: while rest > 99 {
+        rest = put_pair(rest, end - place, text);
+        place += 2;
     }
-    if rest > 0 {
+    if rest > 9 {
+        put_pair(rest, end - place, text);
+    } else if rest > 0 {
         text[end - 1 - place] = DIGIT_0 + rest as u8;
     }
 }
@@ -134,7 +195,7 @@ fn put_whole(number: u32, commas: bool, end: usize, text: &mut [u8])
     let mut rest = number;
     let mut place = 0;
     'threes: while has_comma(commas, rest) {
-        rest = put_digits(rest, 3, end - place, text);
+        rest = put_three(rest, end - place, text);
         text[end - 4 - place] = COMMA;
         place += 4;
     }
@@ -191,22 +252,17 @@ fn put_sign(sign: Sign, is_negative: bool, at: usize, text: &mut [u8])
 }
 
 /// Writes an amount that isn't 0, from its magnitude.
-#[inline(always)]
-pub fn put_amount(number: Dec, magnitude: u32, style: Amount, text: &mut [u8])
-    requires magnitude { magnitude ≡ unsigned_abs number.value }
+#[inline(never)]
+pub fn put_amount(number: &Dec, magnitude: u32, style: &Amount, text: &mut [u8])
+    requires magnitude { magnitude ≡ unsigned_abs number.now.value }
     requires some { magnitude ≢ 0 }
-    requires room { width_of (Edited style) number.digits number.decimals ≡ Some (length text.old) }
+    requires room { width_of (Edited style.now) number.now.digits number.now.decimals ≡ Some (length text.old) }
     ensures { (place : ℕ) → place < length text.old → slice_index text.new (length text.old - 1 - place)
-        ≡ amount_at style number.decimals (is_negative number.value) (unsigned_abs number.value) place }
+        ≡ amount_at style.now number.now.decimals (is_negative number.now.value) (unsigned_abs number.now.value) place }
 {
     blank(text);
     let body = text.len() - sign_width(style.sign);
-    put_body(
-        magnitude,
-        usize::from(number.decimals),
-        style.commas,
-        body,
-        text,
-    );
+    let decimals = usize::from(number.decimals);
+    put_body(magnitude, decimals, style.commas, body, text);
     put_sign(style.sign, number.is_negative(), body, text);
 }

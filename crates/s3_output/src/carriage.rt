@@ -64,13 +64,20 @@ fn is_blank(spacing: &Spacing) -> bool
 impl Moved {
     ghost use Rattle.s3_output.specs.Carriages.{place_moved};
 
-    /// So many lines on; line 1 of the next page comes after line 66.
+    /// So many lines on; line 1 of the next page comes after line 66. Above the overflow line, as mostly, nothing else changes.
     fn spaced(self, lines: u8) -> Moved
         requires { lines ≤ 3 }
         ensures { place_moved result ≡ meaning.spaced lines (place_moved self) }
     {
         let from = self.carriage;
         let to = from.line + lines;
+        if to <= OVERFLOW_LINE {
+            let carriage = Carriage {
+                page: from.page,
+                line: to,
+            };
+            return Moved { carriage, ..self };
+        }
         let overflow = self.overflow || passes(from.line, to);
         let carriage = if to > LAST_LINE {
             Carriage {

@@ -1,5 +1,5 @@
 //! A record as it is composed.
-ghost use Rattle.std.specs.Prelude.{◌≡◌, ◌+◌, ◌-◌, ◌≤◌, ◌<◌, ◌++◌, List, ℕ, Option, Some, None, true, false, length, take, drop, replicate, slice_get};
+ghost use Rattle.std.specs.Prelude.{◌≡◌, ◌+◌, ◌-◌, ◌*◌, ◌≤◌, ◌<◌, ◌++◌, List, ℕ, Option, Some, None, true, false, length, take, drop, replicate, slice_get};
 ghost use Rattle.s3_cards.specs.declared.ebcdic.TheConstants.{BLANK};
 ghost use Rattle.s3_meaning.specs.Output.{filled, laid};
 ghost use Rattle.s3_output.specs.Compositions.{positions_in, are_filled, first_position};
@@ -13,6 +13,9 @@ use std::marker::Model;
 
 /// The longest record, in bytes.
 pub const LONGEST_RECORD: usize = 1024;
+
+/// The longest line that is printed.
+const LONGEST_PRINT_LINE: usize = 132;
 
 /// A record as it is composed, of up to 1,024 positions: what is put at each of them, if anything is.
 #[derive(Drop)]
@@ -34,20 +37,49 @@ impl Model for Composition {
     ghost invariant = { λ c. (c.length ≤ 1024) × are_filled c.length c.is_told c.put c.codes };
 }
 
+/// Copies both ends, of this length, of a text that is at most twice as long.
+#[inline(always)]
+fn copy_ends(size: usize, from: &[u8], to: &mut [u8])
+    requires same { length to.old ≡ length from.now }
+    requires reaches { size ≤ length from.now }
+    requires covers { length from.now ≤ 2 * size }
+    ensures { to.new ≡ from.now }
+{
+    let last = from.len() - size;
+    to[..size].copy_from_slice(&from[..size]);
+    to[last..].copy_from_slice(&from[last..]);
+}
+
+/// Copies a text, in two steps where it has a usual length.
+#[inline(always)]
+fn copy(from: &[u8], to: &mut [u8])
+    requires { length to.old ≡ length from.now }
+    ensures { to.new ≡ from.now }
+{
+    match from.len() {
+        4..=8 => copy_ends(4, from, to),
+        9..=16 => copy_ends(8, from, to),
+        17..=32 => copy_ends(16, from, to),
+        _ => to.copy_from_slice(from),
+    }
+}
+
 /// Lays a content over a text, up to an end position.
+#[inline(always)]
 fn overlay(text: &mut [u8], end: usize, content: &[u8])
     requires begins { length content.now ≤ end }
     requires ends { end ≤ length text.old }
     ensures { text.new ≡ take (end - length content.now) text.old ++ content.now ++ drop end text.old }
 {
-    text[end - content.len()..end].copy_from_slice(content);
+    copy(content, &mut text[end - content.len()..end]);
 }
 
 /// Writes a number over a text, as its field is put out.
-fn overlay_number(text: &mut [u8], number: Dec, output: &SlotOutput)
-    requires fits { FitsNumber number output.now }
+#[inline(always)]
+fn overlay_number(text: &mut [u8], number: &Dec, output: &SlotOutput)
+    requires fits { FitsNumber number.now output.now }
     requires ends { output.now.end ≤ length text.old }
-    ensures { text.new ≡ take (output.now.end - length (number_of number output.now)) text.old ++ number_of number output.now ++ drop output.now.end text.old }
+    ensures { text.new ≡ take (output.now.end - length (number_of number.now output.now)) text.old ++ number_of number.now output.now ++ drop output.now.end text.old }
 {
     put_number(
         number,
@@ -68,19 +100,24 @@ fn mark(put: &mut [bool], is_told: bool, end: usize, count: usize)
     }
 }
 
-/// Makes the first positions of a text blank.
-fn blank(text: &mut [u8], count: usize)
-    requires { count ≤ length text.old }
-    ensures { text.new ≡ replicate count BLANK ++ drop count text.old }
+/// Makes the first positions of a text blank; as many as a printed line has are so in few steps.
+#[inline(always)]
+fn blank(codes: &mut [u8; LONGEST_RECORD], count: usize)
+    requires { count ≤ length codes.old }
+    ensures { take count codes.new ≡ replicate count BLANK }
 {
-    text[..count].fill(BLANK);
+    if count <= LONGEST_PRINT_LINE {
+        codes[..LONGEST_PRINT_LINE].fill(BLANK);
+    } else {
+        codes.fill(BLANK);
+    }
 }
 
 /// Nothing is put at the first positions, if that is told.
 #[inline(always)]
 fn unmark(put: &mut [bool], is_told: bool, count: usize)
     requires { count ≤ length put.old }
-    ensures { is_told ≡ true → put.new ≡ replicate count false ++ drop count put.old }
+    ensures { is_told ≡ true → take count put.new ≡ replicate count false }
 {
     if is_told {
         put[..count].fill(false);
@@ -113,6 +150,7 @@ impl Composition {
     }
 
     /// Lays a content over the record, up to an end position.
+    #[inline(always)]
     pub fn lay(&mut self, end: usize, content: &[u8])
         requires begins { length content.now ≤ end }
         requires ends { end ≤ length self.old }
@@ -124,13 +162,14 @@ impl Composition {
     }
 
     /// Lays a number over the record, as its field is put out.
+    #[inline(always)]
     pub fn lay_number(&mut self, number: &Dec, output: &SlotOutput)
         requires fits { FitsNumber number.now output.now }
         requires ends { output.now.end ≤ length self.old }
         ensures size { length self.new ≡ length self.old }
         ensures value { self.new ≡ laid output.now.end (number_of number.now output.now) self.old }
     {
-        overlay_number(&mut self.codes, *number, output);
+        overlay_number(&mut self.codes, number, output);
         mark(&mut self.put, self.is_told, output.end, output.width);
     }
 

@@ -1,6 +1,7 @@
 -- What is known in the middle of a run. These words serve the contracts of private functions alone: what a run gives is
 -- said in Runs.
-use Rattle.std.specs.Prelude.{◌≡◌, ◌+◌, ◌/◌, ◌%◌, ◌<◌, ℕ, List, [], Option, Result, Ok, Err, slice_index, ⊤}
+use Rattle.std.specs.Prelude.{◌≡◌, ◌+◌, ◌/◌, ◌%◌, ◌<◌, ◌++◌, ℕ, List, [], ◌∷◌, Option, Result, Ok, Err, length, slice_index, take, ⊤}
+use Rattle.std.specs.Int.{from_le_bytes, to_le_bytes, w16}
 use Rattle.std.specs.List.{concat}
 use Rattle.s3_cards.specs.declared.levels.LevelId.{LevelId}
 use Rattle.s3_cards.specs.declared.levels.LevelId.TheVariants.{One, Two}
@@ -85,6 +86,16 @@ RunsOver contents deck1 deck2 entries (Err (Mount fault)) = texts_over (mounted 
 abbrev pub ShowsCodes : List ℕ → Type 0
 ShowsCodes table = (code : ℕ) → code < 256 → slice_index table code ≡ shown_byte code
 
+-- the row has the bytes that show each code with this byte behind it
+abbrev pub ShowsPairsWith : (second : ℕ) → List ℕ → Type 0
+ShowsPairsWith second row = (code : ℕ) → code < 256 → to_le_bytes w16 (slice_index row code) ≡ shown_byte code ∷ second ∷ []
+
+-- the table has the bytes that show each two codes
+abbrev pub ShowsPairs : List ℕ → Type 0
+ShowsPairs table =
+    (first second : ℕ) → first < 256 → second < 256
+    → to_le_bytes w16 (slice_index table (from_le_bytes w16 (first ∷ second ∷ []))) ≡ shown_byte first ∷ shown_byte second ∷ []
+
 -- the table has the first of two digits of each number below 100
 abbrev pub HasTens : List ℕ → Type 0
 HasTens table = (number : ℕ) → number < 100 → slice_index table number ≡ 48 + number / 10
@@ -95,6 +106,12 @@ HasOnes table = (number : ℕ) → number < 100 → slice_index table number ≡
 
 -- the tables that a report is made with have what they say
 pub record AreTables (tables : Tables) : Type 0 where
-  pub shown : ShowsCodes tables.shown
+  pub shown : ShowsPairs tables.shown.items
+  pub all : length tables.shown.items ≡ 65536
   pub tens : HasTens tables.tens
   pub ones : HasOnes tables.ones
+
+-- these bytes were laid out from one place of a room to another, and those in front stay
+pub record IsLaid (at end : ℕ) (old new : List ℕ) (bytes : List ℕ) : Type 0 where
+  pub laid : take end new ≡ take at old ++ bytes
+  pub ends : end ≡ at + length bytes

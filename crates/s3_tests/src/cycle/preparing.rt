@@ -1,12 +1,12 @@
 //! What is prepared for a run: the forms that calculations, fields of records and output lines get, which no contract asks for.
 
 use crate::cycle::sources::{CARDS, PRINT, TOTAL, list_text, program_of};
-use s3_fields::form::Form;
 use s3_fields::input::PreparedInput;
 use s3_fields::preparing::prepared_inputs;
 use s3_output::conditions::overflow_of;
 use s3_output::guards::{LineGuard, line_guards};
 use s3_output::preparing::{FieldForm, PreparedOutput, prepared_outputs};
+use s3_prepared::line::{PreparedLine, Told};
 use s3_prepared::preparing::prepared_lines;
 use s3_prepared::work::Work;
 use std::test::Fail;
@@ -19,7 +19,7 @@ const FIELDS: &str = "6:I 7:CARDS 15:AA 19:01
 6:I 46:15 50:20 53:LONG
 6:I 46:21 50:35 52:9 53:FINE";
 
-/// A card for each form, and then ones that have none.
+/// A card for each form, then ones that have none, and then a calculation of two cards and one of three.
 const CALCULATIONS: &str = "6:C 18:ONE 28:ADD 33:TWO 43:ONE
 6:C 18:ONE 28:SUB 33:.5 43:ONE
 6:C 28:Z-ADD 33:TWO 43:ONE
@@ -43,7 +43,12 @@ const CALCULATIONS: &str = "6:C 18:ONE 28:ADD 33:TWO 43:ONE
 6:C 28:MOVE 33:TEXT 43:ONE
 6:C 18:FINE 28:MULT 33:FINE 43:ONE
 6:C 18:TEXT 28:COMP 33:'A' 54:10
-6:C 28:MOVE 33:5 43:LONG";
+6:C 28:MOVE 33:5 43:LONG
+6:C 10:01
+6:C 7:OR 9:N10 18:ONE 28:ADD 33:TWO 43:ONE
+6:C 10:01
+6:C 7:AN 9:N10
+6:C 7:OR 10:10 18:ONE 28:SUB 33:TWO 43:ONE";
 
 fn name_of(work: Work) -> &'static str {
     match work {
@@ -72,17 +77,24 @@ fn name_of(work: Work) -> &'static str {
     }
 }
 
+fn name_of_line(line: PreparedLine) -> &'static str {
+    match line.told {
+        Told::Never => "untold",
+        _ => name_of(line.work),
+    }
+}
+
 #[test]
 fn cards_get_their_forms(rt: HostRuntime) -> Result<(), Fail> {
     let alloc = rt.alloc();
     let program = program_of(alloc, &[CARDS, PRINT, FIELDS, CALCULATIONS, TOTAL])?;
     let mut names = String::new(alloc);
     for line in &prepared_lines(alloc, &program)? {
-        list_text(&mut names, name_of(line.work))?;
+        list_text(&mut names, name_of_line(*line))?;
     }
     assert_eq!(&rt;
         names.as_str(),
-        "add, subtract, zero add, zero subtract, multiply, compare, move, move left, set on, set off, nothing, request, divide, move remainder, add and cut, subtract and cut, zero add and cut, zero subtract and cut, compare texts, move to text, move to number, card, card, card"
+        "add, subtract, zero add, zero subtract, multiply, compare, move, move left, set on, set off, nothing, request, divide, move remainder, add and cut, subtract and cut, zero add and cut, zero subtract and cut, compare texts, move to text, move to number, card, card, card, add, untold, untold, untold, untold"
     );
     Ok(())
 }
@@ -90,7 +102,7 @@ fn cards_get_their_forms(rt: HostRuntime) -> Result<(), Fail> {
 /// A file of records on disk.
 const STOCK: &str = "6:F 7:STOCK 15:IS 19:F 26:20 40:DISK";
 
-/// Fields of either kind, one with an indicator for blank and one with a relation, and a packed one.
+/// Fields of either kind, one with an indicator for blank and one with a relation, and two packed ones.
 const INPUTS: &str = "6:I 7:CARDS 15:AA 19:01
 6:I 14:OR 19:02
 6:I 47:1 51:5 52:1 53:ONE 65:10
@@ -98,14 +110,16 @@ const INPUTS: &str = "6:I 7:CARDS 15:AA 19:01
 6:I 46:15 50:20 53:LONG 69:20
 6:I 46:21 50:25 52:0 53:TWO 63:02
 6:I 7:STOCK 15:BB 19:03
-6:I 43:P 47:1 51:3 52:0 53:PACKED";
+6:I 43:P 47:1 51:3 52:0 53:PACKED
+6:I 43:P 47:4 51:7 52:0 53:SHORT";
 
 fn name_of_input(input: PreparedInput) -> &'static str {
     match input {
-        PreparedInput::Field(Form::Card) => "card",
-        PreparedInput::Field(Form::Zoned(_)) => "zoned",
-        PreparedInput::Field(Form::Packed(_)) => "packed",
-        PreparedInput::Field(Form::Text(_)) => "text",
+        PreparedInput::Card => "card",
+        PreparedInput::Zoned(_) => "zoned",
+        PreparedInput::Packed(_) => "packed",
+        PreparedInput::ShortPacked(_) => "short packed",
+        PreparedInput::Text(_) => "text",
         PreparedInput::Codes => "codes",
         PreparedInput::Group => "group",
     }
@@ -121,7 +135,7 @@ fn fields_get_their_forms(rt: HostRuntime) -> Result<(), Fail> {
     }
     assert_eq!(&rt;
         names.as_str(),
-        "group, codes, zoned, text, card, card, group, packed"
+        "group, codes, zoned, text, card, card, group, packed, short packed"
     );
     Ok(())
 }
@@ -130,7 +144,7 @@ fn fields_get_their_forms(rt: HostRuntime) -> Result<(), Fail> {
 const OUTPUT_FILES: &str = "6:F 7:PRINT 15:O 19:F 25:132 33:OA 40:PRINTER
 6:F 7:LIST 15:O 19:F 26:20 40:DISK 71:U1";
 
-/// A line of one group, one with another for overflow, one with an AND card, one of a file with a condition, one for overflow
+/// A line of one condition, one with another for overflow, one with an AND card, one of a file with a condition, one for overflow
 /// alone, and ones of one to four groups for EXCPT.
 const OUTPUTS: &str = "6:O 7:PRINT 15:D 24:01
 6:O 43:5 45:'ONE'
@@ -144,7 +158,7 @@ const OUTPUTS: &str = "6:O 7:PRINT 15:D 24:01
 6:O 43:5 45:'LIST'
 6:O 7:PRINT 15:D 24:OA
 6:O 43:5 45:'OVER'
-6:O 7:PRINT 15:E 24:01
+6:O 7:PRINT 15:E 24:01 27:LR
 6:O 43:5 45:'E'
 6:O 7:PRINT 15:E 24:01
 6:O 14:OR 23:N01
@@ -162,6 +176,7 @@ const OUTPUTS: &str = "6:O 7:PRINT 15:D 24:01
 fn list_guards(names: &mut String, guards: &[LineGuard]) -> Result<(), Fail> {
     for guard in guards {
         let name = match guard {
+            LineGuard::One(_) => "one",
             LineGuard::Group(_) => "group",
             LineGuard::Either(_, _) => "either",
             LineGuard::OneOf(_, _, _) => "one of",
@@ -192,7 +207,7 @@ fn lines_get_their_guards(rt: HostRuntime) -> Result<(), Fail> {
     list_guards(&mut names, &guards.exceptions)?;
     assert_eq!(&rt;
         names.as_str(),
-        "group, group, cards, cards, cards, group, group, either, one of, cards"
+        "one, one, cards, cards, cards, one, group, either, one of, cards"
     );
     Ok(())
 }

@@ -1,8 +1,11 @@
 -- The characters so far.
-use Rattle.std.proofs.Common.{◌≡◌, take}
+use Rattle.std.proofs.Common.{◌≡◌, ◌+◌, ◌++◌, take, length}
 use Rattle.std.specs.Prelude.{map}
 use Rattle.s3_bureau.specs.Texts.{shown_byte}
 use Rattle.s3_bureau.proofs.report.lay_codes.Given as goal
 
-abbrev pub invariant-loop-column : goal.invariant-loop-column
-invariant-loop-column l = take l.column l.room ≡ map shown_byte (take l.column l.codes)
+abbrev pub invariant-loop-sixteen : goal.invariant-loop-sixteen
+invariant-loop-sixteen l = (take l.end l.room ++ map shown_byte l.rest ≡ take l.at l.initial.room ++ map shown_byte l.codes) × (l.end + length l.rest ≡ l.at + length l.codes)
+
+abbrev pub decreases-loop-sixteen : goal.decreases-loop-sixteen
+decreases-loop-sixteen l = length l.rest

@@ -1,7 +1,13 @@
-use Rattle.std.proofs.Common.{◌≡◌}
+use Rattle.std.proofs.Common.{◌≡◌, ℕ, List, length}
+use Rattle.std.specs.Prelude.{Option}
 use Rattle.s3_job_files.specs.Records.{overlaid}
 use Rattle.s3_job_files.proofs.Overlaid.{laid_to}
 use Rattle.s3_job_files.proofs.file.overlay.Given as goal
 
+-- the changes of the positions before a place are laid over the bytes that were in the room
+pub record AreLaid (changes : List (Option ℕ)) (old bytes : List ℕ) (place : ℕ) : Type 0 where
+  pub long : length bytes ≡ length old
+  pub laid : laid_to changes bytes place ≡ overlaid changes old
+
 abbrev pub invariant-loop-place : goal.invariant-loop-place
-invariant-loop-place l = laid_to l.changes l.bytes l.place ≡ overlaid l.changes l.initial.bytes
+invariant-loop-place l = AreLaid l.changes l.initial.bytes l.bytes l.place

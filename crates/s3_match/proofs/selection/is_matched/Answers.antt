@@ -7,8 +7,13 @@ use Rattle.s3_match.specs.declared.heads.InputFile.{InputFile}
 use Rattle.s3_match.specs.Keys.{key_in}
 use Rattle.s3_match.specs.Heads.{file_at}
 use Rattle.s3_match.specs.Selecting.{is_secondary_with_key}
-use Rattle.s3_match.proofs.SelectLemmas.{primary_is_matched, other_is_matched}
+use Rattle.s3_match.proofs.SelectLemmas.{keyless_is_not_matched, primary_is_matched, other_is_matched}
 use Rattle.s3_match.proofs.selection.is_matched.Goals as goal
+
+pub returns-then-not-input : goal.returns-then-not-input
+returns-then-not-input c = λ selected e.
+    keyless_is_not_matched c.args.program.now c.args.files.now c.args.primary_key.now c.args.place c.index-files-place.result selected c.requires.sound c.requires.within e
+    (subst (λ (y : InputFile). y.key.is_given ≡ false) c.index-files-place.is c.if-not-input.true)
 
 pub returns-then-is_primary : goal.returns-then-is_primary
 returns-then-is_primary c = λ selected e.

@@ -7,17 +7,17 @@ use Rattle.s3_output.proofs.amounts.put_amount.Goals as goal
 
 pub put_body-requires-clause-fits : goal.put_body-requires-clause-fits
 put_body-requires-clause-fits c =
-    let n : c.args.magnitude < 10 ^ c.args.number.digits = subst (λ v. v < 10 ^ c.args.number.digits) (sym c.requires.magnitude) c.args.number.within_digits in
-    rw (c.from.ensures, c.sign_width.ensures, c.blank.auto.text) (whole_room c.args.style c.args.magnitude c.args.number.digits c.args.number.decimals (length c.args.text.now) n c.args.number.decimals_within c.requires.room)
+    let n : c.args.magnitude < 10 ^ c.args.number.now.digits = subst (λ v. v < 10 ^ c.args.number.now.digits) (sym c.requires.magnitude) c.args.number.now.within_digits in
+    rw (c.from-decimals.ensures, c.sign_width.ensures, c.blank.auto.text) (whole_room c.args.style.now c.args.magnitude c.args.number.now.digits c.args.number.now.decimals (length c.args.text.now) n c.args.number.now.decimals_within c.requires.room)
 
 pub returns : goal.returns
 returns c =
-    let width = width_is c.args.style c.args.number.digits c.args.number.decimals (length c.args.text.now) c.requires.room in
+    let width = width_is c.args.style.now c.args.number.now.digits c.args.number.now.decimals (length c.args.text.now) c.requires.room in
     let body = length c.blank.new.text - c.sign_width.result in
     λ p l.
-    let at : length c.args.text.now - 1 - p ≡ body + sign_width c.args.style.sign - 1 - p = omega (arith, width, c.sign_width.ensures, c.blank.auto.text) in
-    rw (← c.requires.magnitude, ← c.is_negative.ensures, ← c.from.ensures)
+    let at : length c.args.text.now - 1 - p ≡ body + sign_width c.args.style.now.sign - 1 - p = omega (arith, width, c.sign_width.ensures, c.blank.auto.text) in
+    rw (← c.requires.magnitude, ← c.is_negative.ensures, ← c.from-decimals.ensures)
     (ap (λ i. get_or c.put_sign.new.text i 0) at
-    ∙ joined c.args.style c.from.result c.is_negative.result c.args.magnitude body c.put_body.new.text c.put_sign.new.text
-    (λ k h. c.put_body.ensures.picture k h ∙ shown_body c.args.style c.from.result c.args.magnitude k (some_shown c.args.style c.args.magnitude c.requires.some))
+    ∙ joined c.args.style.now c.from-decimals.result c.is_negative.result c.args.magnitude body c.put_body.new.text c.put_sign.new.text
+    (λ k h. c.put_body.ensures.picture k h ∙ shown_body c.args.style.now c.from-decimals.result c.args.magnitude k (some_shown c.args.style.now c.args.magnitude c.requires.some))
     c.put_sign.ensures.picture c.put_sign.ensures.before p (omega (arith, l, width, c.sign_width.ensures, c.blank.auto.text)))

@@ -1,27 +1,44 @@
-use Rattle.std.proofs.Common.{arith, ◌≢◌, ◌<◌, ◌-◌, ◌/◌, ◌∙◌, sym, ap, length, below_more, get_or-set_other, get_or-set_same}
-use Rattle.s3_edit.proofs.Places.{suppressed_digit, tenth}
-use Rattle.s3_output.proofs.AmountLemmas.{digit_room, first_digit, none_left}
+use Rattle.std.proofs.Common.{arith, ◌≡◌, ◌<◌, ◌≤◌, ◌+◌, ◌/◌, ◌^◌, ◌∙◌, sym, ap}
+use Rattle.s3_edit.proofs.Places.{split}
+use Rattle.s3_output.proofs.AmountLemmas.{digit_room, first_digit, none_left, pair_room, pair_written}
 use Rattle.s3_output.proofs.amounts.put_suppressed.Goals as goal
 
-pub digits-preserved : goal.digits-preserved
-digits-preserved c =
-    let some : 0 < c.digits.rest = omega (arith, c.digits-test.true) in
-    let room : c.digits.place < c.args.end = digit_room c.args.number c.digits.place c.args.end c.digits.rest c.requires.fits c.digits.invariant.left some in
+pub put_pair-rest-requires-clause-begins : goal.put_pair-rest-requires-clause-begins
+put_pair-rest-requires-clause-begins c =
+    let room : c.pairs.place + 2 ≤ c.args.end = pair_room c.args.number c.pairs.place c.args.end c.pairs.rest c.requires.fits c.pairs.invariant.left (omega (arith, c.pairs-test.true)) in
+    omega (arith, room)
+
+pub pairs-preserved : goal.pairs-preserved
+pairs-preserved c =
+    let many : 9 < c.pairs.rest = omega (arith, c.pairs-test.true) in
+    let room : c.pairs.place + 2 ≤ c.args.end = pair_room c.args.number c.pairs.place c.args.end c.pairs.rest c.requires.fits c.pairs.invariant.left many in
     record {
-      within = omega (arith, room);
-      left = ap (λ r. r / 10) c.digits.invariant.left ∙ tenth c.args.number c.digits.place;
-      written = below_more _ _
-          (λ k h. let ne : c.args.end - 1 - k ≢ c.args.end - 1 - c.digits.place = omega (arith, h, room) in rw get_or-set_other (c.digits.invariant.written k h))
-          (let lt : c.args.end - 1 - c.digits.place < length c.digits.text = omega arith in rw get_or-set_same (suppressed_digit c.args.number c.digits.place c.digits.rest c.digits.invariant.left some));
-      before = λ i h. let ne : i ≢ c.args.end - 1 - c.digits.place = omega (arith, h, room) in rw get_or-set_other (c.digits.invariant.before i (omega (arith, h)));
-      kept = λ i h. let ne : i ≢ c.args.end - 1 - c.digits.place = omega (arith, h, room) in rw get_or-set_other (c.digits.invariant.kept i h);
+      within = room;
+      left = c.put_pair-rest.ensures.left ∙ ap (λ r. r / 10 ^ 2) c.pairs.invariant.left ∙ split c.args.number c.pairs.place 2;
+      written = pair_written c.args.number c.pairs.place c.pairs.rest c.args.end c.pairs.text c.put_pair-rest.new.text c.pairs.invariant.left many room c.pairs.invariant.written c.put_pair-rest.ensures.digits c.put_pair-rest.ensures.rest;
+      before = λ i h. c.put_pair-rest.ensures.before i (omega (arith, h)) ∙ c.pairs.invariant.before i (omega (arith, h));
+      kept = λ i h. c.put_pair-rest.ensures.rest i (omega arith) ∙ c.pairs.invariant.kept i h;
     }
+
+pub put_pair-requires-clause-begins : goal.put_pair-requires-clause-begins
+put_pair-requires-clause-begins c =
+    let room : c.pairs.place + 2 ≤ c.args.end = pair_room c.args.number c.pairs.place c.args.end c.pairs.rest c.requires.fits c.pairs.invariant.left c.if-rest-gt9.true in
+    omega (arith, room)
+
+pub returns-then-rest-gt9-clause-picture : goal.returns-then-rest-gt9-clause-picture
+returns-then-rest-gt9-clause-picture c =
+    let room : c.pairs.place + 2 ≤ c.args.end = pair_room c.args.number c.pairs.place c.args.end c.pairs.rest c.requires.fits c.pairs.invariant.left c.if-rest-gt9.true in
+    let last : c.pairs.rest / 10 ^ 2 ≡ 0 = omega (arith, c.pairs-test.false) in
+    let none : c.args.number / 10 ^ (c.pairs.place + 2) ≡ 0 = sym (split c.args.number c.pairs.place 2) ∙ ap (λ r. r / 10 ^ 2) (sym c.pairs.invariant.left) ∙ last in
+    none_left c.args.number c.args.end (c.pairs.place + 2) c.put_pair.new.text none
+    (pair_written c.args.number c.pairs.place c.pairs.rest c.args.end c.pairs.text c.put_pair.new.text c.pairs.invariant.left c.if-rest-gt9.true room c.pairs.invariant.written c.put_pair.ensures.digits c.put_pair.ensures.rest)
+    (λ i h. c.put_pair.ensures.before i (omega (arith, h)) ∙ c.pairs.invariant.before i (omega (arith, h)))
 
 pub returns-then-rest-gt0-clause-picture : goal.returns-then-rest-gt0-clause-picture
 returns-then-rest-gt0-clause-picture c =
-    let room : c.digits.place < c.args.end = digit_room c.args.number c.digits.place c.args.end c.digits.rest c.requires.fits c.digits.invariant.left c.if-rest-gt0.true in
-    first_digit c.args.number c.args.end c.digits.place c.digits.rest c.digits.text room (omega arith) c.digits.invariant.left c.if-rest-gt0.true (omega (arith, c.digits-test.false)) c.digits.invariant.written c.digits.invariant.before
+    let room : c.pairs.place < c.args.end = digit_room c.args.number c.pairs.place c.args.end c.pairs.rest c.requires.fits c.pairs.invariant.left c.if-rest-gt0.true in
+    first_digit c.args.number c.args.end c.pairs.place c.pairs.rest c.pairs.text room (omega arith) c.pairs.invariant.left c.if-rest-gt0.true (omega (arith, c.if-rest-gt9.false)) c.pairs.invariant.written c.pairs.invariant.before
 
 pub returns-else-rest-gt0-clause-picture : goal.returns-else-rest-gt0-clause-picture
 returns-else-rest-gt0-clause-picture c =
-    none_left c.args.number c.args.end c.digits.place c.digits.text (sym c.digits.invariant.left ∙ omega (arith, c.if-rest-gt0.false)) c.digits.invariant.written c.digits.invariant.before
+    none_left c.args.number c.args.end c.pairs.place c.pairs.text (sym c.pairs.invariant.left ∙ omega (arith, c.if-rest-gt0.false)) c.pairs.invariant.written c.pairs.invariant.before

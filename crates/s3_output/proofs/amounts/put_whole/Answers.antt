@@ -18,22 +18,22 @@ threes-preserved c =
     let less : c.threes.rest / 10 ^ 3 < 10 ^ whole_digits c.args.commas (c.args.end - (c.threes.place + 4)) =
     subst (λ b. c.threes.rest / 10 ^ 3 < 10 ^ whole_digits b (c.args.end - (c.threes.place + 4))) (sym commas) (subst (λ k. c.threes.rest / 10 ^ 3 < 10 ^ whole_digits true k) next (next_room c.threes.rest e room fits)) in
     let of_three : (k : ℕ) → whole_at true c.threes.rest k ≡ whole_at c.args.commas c.threes.rest k = λ k. ap (λ b. whole_at b c.threes.rest k) (sym commas) in
-    let digits : (k : ℕ) → k < 3 → get_or c.put_digits-rest.new.text (c.args.end - c.threes.place - 1 - k) 0 ≡ whole_at c.args.commas c.threes.rest k = λ k h. c.put_digits-rest.ensures.digits k h ∙ three_digit c.threes.rest k many h ∙ of_three k in
-    let long : c.args.end ≤ length c.put_digits-rest.new.text = omega arith in
+    let digits : (k : ℕ) → k < 3 → get_or c.put_three-rest.new.text (c.args.end - c.threes.place - 1 - k) 0 ≡ whole_at c.args.commas c.threes.rest k = λ k h. c.put_three-rest.ensures.digits k h ∙ three_digit c.threes.rest k many h ∙ of_three k in
+    let long : c.args.end ≤ length c.put_three-rest.new.text = omega arith in
     record {
       within = omega (arith, room);
-      fits = subst (λ r. r < 10 ^ whole_digits c.args.commas (c.args.end - (c.threes.place + 4))) (sym c.put_digits-rest.ensures.left) less;
+      fits = subst (λ r. r < 10 ^ whole_digits c.args.commas (c.args.end - (c.threes.place + 4))) (sym c.put_three-rest.ensures.left) less;
       ahead = λ k.
           let at : k + (c.threes.place + 4) ≡ k + 4 + c.threes.place = omega arith in
-          ap (λ i. whole_at c.args.commas c.args.number i) at ∙ c.threes.invariant.ahead (k + 4) ∙ three_ahead c.args.commas c.threes.rest c.put_digits-rest.result k commas c.put_digits-rest.ensures.left;
-      written = three_written (λ k. whole_at c.args.commas c.args.number k) (λ k. whole_at c.args.commas c.threes.rest k) c.threes.place c.args.end c.threes.text c.put_digits-rest.new.text (omega (arith, room)) long
-          c.threes.invariant.ahead c.threes.invariant.written digits (three_comma c.threes.rest many ∙ of_three 3) c.put_digits-rest.ensures.rest;
+          ap (λ i. whole_at c.args.commas c.args.number i) at ∙ c.threes.invariant.ahead (k + 4) ∙ three_ahead c.args.commas c.threes.rest c.put_three-rest.result k commas c.put_three-rest.ensures.left;
+      written = three_written (λ k. whole_at c.args.commas c.args.number k) (λ k. whole_at c.args.commas c.threes.rest k) c.threes.place c.args.end c.threes.text c.put_three-rest.new.text (omega (arith, room)) long
+          c.threes.invariant.ahead c.threes.invariant.written digits (three_comma c.threes.rest many ∙ of_three 3) c.put_three-rest.ensures.rest;
       before = λ i h.
           let ne : i ≢ c.args.end - 4 - c.threes.place = omega (arith, room, h) in
-          rw get_or-set_other (c.put_digits-rest.ensures.before i (omega (arith, room, h)) ∙ c.threes.invariant.before i (omega (arith, room, h)));
+          rw get_or-set_other (c.put_three-rest.ensures.before i (omega (arith, room, h)) ∙ c.threes.invariant.before i (omega (arith, room, h)));
       kept = λ i h.
           let ne : i ≢ c.args.end - 4 - c.threes.place = omega (arith, room) in
-          rw get_or-set_other (c.put_digits-rest.ensures.rest i (omega arith) ∙ c.threes.invariant.kept i h);
+          rw get_or-set_other (c.put_three-rest.ensures.rest i (omega arith) ∙ c.threes.invariant.kept i h);
     }
 
 pub put_suppressed-requires-clause-fits : goal.put_suppressed-requires-clause-fits

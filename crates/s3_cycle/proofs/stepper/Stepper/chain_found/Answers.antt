@@ -4,6 +4,7 @@ use Rattle.s3_meaning.specs.Calculating.{chained_to}
 use Rattle.s3_operations.specs.Indicators.{is_settable_entry}
 use Rattle.s3_cycle.proofs.ChainingLemmas.{chain_settable}
 use Rattle.s3_cycle.proofs.FoundLemmas.{found_then}
+use Rattle.s3_cycle.proofs.GoingLemmas.{changed_running}
 use Rattle.s3_cycle.proofs.stepper.Stepper.chain_found.Goals as goal
 
 pub turn_entry-requires-clause-settable : goal.turn_entry-requires-clause-settable
@@ -23,6 +24,9 @@ returns-in-None c =
     let at = c.requires.chain in
     found_then c.args.self.now c.turn_entry.new.self c.halt.new.self c.args.place c.args.file c.args.bytes.now None c.first_indicator.result at (c.first_indicator.ensures at.line at.there) c.turn_entry.ensures
     c.in-None.ensures.found c.halt.ensures
+
+pub type_in-requires-clause-sound : goal.type_in-requires-clause-sound
+type_in-requires-clause-sound c = (changed_running c.args.self.now c.turn_entry.new.self _ c.turn_entry.ensures c.requires.running).reading
 
 pub take_chained-requires-clause-typed : goal.take_chained-requires-clause-typed
 take_chained-requires-clause-typed c = sym c.in-Some.ensures.found

@@ -3,6 +3,6 @@ use Rattle.s3_cycle.proofs.stepper.Stepper.total_last.Goals as goal
 
 pub returns : goal.returns
 returns c =
-    last_totals c.args.self.now _ c.totals.result c.new-self.result
-    (record { is = c.new-self.ensures.course _ c.totals.ensures.spot c.totals.ensures.outside; here = c.new-self.ensures.here; returns = c.new-self.ensures.returns; whole = c.totals.ensures.whole; all = c.totals.ensures.all })
+    last_totals c.args.self.now _ c.totals.result c.restart.new.course
+    (record { is = c.restart.ensures.course _ c.totals.ensures.spot c.totals.ensures.outside; here = c.restart.ensures.here; returns = c.restart.ensures.returns; whole = c.totals.ensures.whole; all = c.totals.ensures.all })
     c.calculate_last.ensures

@@ -5,7 +5,7 @@ use Rattle.s3_match.proofs.reading.Reading.put.Goals as goal
 
 pub returns-clause-sound : goal.returns-clause-sound
 returns-clause-sound c =
-    still_sound c.args.program.now c.args.self.now _ c.args.place c.index_mut.result.now c.put.new.self c.requires.unread.within c.index_mut.ensures.value refl refl c.put.ensures.slot c.put.ensures.sound c.requires.sound
+    still_sound c.args.program.now c.args.self.now _ c.args.place c.index_mut.result.now c.put.new.self c.requires.unread.within c.index_mut.ensures.value refl refl refl refl refl c.put.ensures.slot c.put.ensures.sound c.requires.sound
 
 pub returns-clause-unread : goal.returns-clause-unread
 returns-clause-unread c = unread_set c.args.self.now.files.items c.args.place c.put.new.self c.requires.unread.within ∙ c.put.ensures.unread

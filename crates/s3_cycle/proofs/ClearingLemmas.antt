@@ -1,0 +1,100 @@
+-- Step 2: record identifying indicators go off, by their numbers.
+use Rattle.std.proofs.Common.{◌≡◌, ℕ, ◌+◌, ◌<◌, ◌||◌, ◌&&◌, not, zero, suc, length, get_or, map, take, List, [], ◌∷◌, Bool, true, false, refl, sym, ◌∙◌, ap, subst, arith}
+use Rattle.std.specs.Prelude.{slice_set, filter_map, if◌then◌else◌}
+use Rattle.std.specs.List.{All, list_any, list_all}
+use Rattle.std.proofs.lemmas.Bool.{and_parts}
+use Rattle.std.proofs.lemmas.List.{take_more, length-map, get_or-map}
+use Rattle.std.proofs.lemmas.List.Folds.{list_any-append}
+use Rattle.s3_cards.specs.declared.name.Name.{Name}
+use Rattle.s3_cards.specs.Names.{no_name}
+use Rattle.s3_lines.specs.Indicators.{indicator_number}
+use Rattle.s3_lines.specs.declared.indicator.Indicator.{Indicator}
+use Rattle.s3_lines.specs.declared.sheet.InputLine.{InputLine}
+use Rattle.s3_lines.specs.declared.sheet.InputLine.TheVariants.{Record, And as AndCodes, Or as OrCodes, Field as InputField}
+use Rattle.s3_meaning.specs.Names.{same_indicator}
+use Rattle.s3_meaning.specs.RecordTypes.{RecordType, types_from}
+use Rattle.s3_meaning.specs.Cycle.{without_types}
+use Rattle.s3_meaning.specs.Environment.{turn}
+use Rattle.s3_program.specs.declared.program.Program.{Program}
+use Rattle.s3_program.specs.declared.program.Reference.{Reference}
+use Rattle.s3_program.specs.declared.starts.TypeStart.{TypeStart}
+use Rattle.s3_program.specs.Stands.{source_named}
+use Rattle.s3_program.specs.Tables.{Tables}
+use Rattle.s3_program.specs.Valid.{named, named_input}
+use Rattle.s3_match.specs.Types.{tables_in, is_type_start, kind_at}
+use Rattle.s3_match.specs.Reading.{AreNumbersOf, indicators_on}
+use Rattle.s3_operations.specs.declared.indicators.Indicators.{Indicators}
+use Rattle.s3_operations.specs.declared.values.Values.{Values}
+use Rattle.s3_operations.specs.Held.{IsSound, Changes}
+use Rattle.s3_operations.specs.Indicating.{type_indicator}
+use Rattle.s3_operations.specs.Indicators.{on_in, is_settable, is_settable_entry}
+use Rattle.s3_operations.proofs.IndicatorLemmas.{turned_to}
+use Rattle.s3_operations.proofs.IndicatingLemmas.{turned_by, turn_once, off_where, types_settable}
+use Rattle.s3_cycle.specs.Inner.Clearing.{turned_off}
+use Rattle.s3_cycle.proofs.IdentifyLemmas.{kind_settable}
+
+-- ---- one after the other
+settable_kept : (lines : List (InputLine Reference)) → list_all is_settable_entry (map type_indicator lines) ≡ true → list_all is_settable (indicators_on lines) ≡ true
+settable_kept [] all = refl
+settable_kept (Record file indicator codes ∷ lines) all =
+    let parts = and_parts (is_settable indicator) (list_all is_settable_entry (map type_indicator lines)) all in
+    (λ i. parts.0 i && settable_kept lines parts.1 i)
+settable_kept (AndCodes codes ∷ lines) all = settable_kept lines all
+settable_kept (OrCodes indicator codes ∷ lines) all =
+    let parts = and_parts (is_settable indicator) (list_all is_settable_entry (map type_indicator lines)) all in
+    (λ i. parts.0 i && settable_kept lines parts.1 i)
+settable_kept (InputField field ∷ lines) all = settable_kept lines all
+
+settable_at : (types : List Indicator) (k : ℕ) (d : Indicator) → list_all is_settable types ≡ true → k < length types → is_settable (get_or types k d) ≡ true
+settable_at [] k d all within = absurd (omega (arith, within))
+settable_at (type ∷ types) zero d all within = (and_parts (is_settable type) (list_all is_settable types) all).0
+settable_at (type ∷ types) (suc k) d all within = settable_at types k d (and_parts (is_settable type) (list_all is_settable types) all).1 (omega (arith, within))
+
+one_off : (types : List Indicator) (k : ℕ) (d other : Indicator) (v w : Bool) → k < length types → w ≡ turned_off (take k types) other v
+    → (if same_indicator other (get_or types k d) then false else w) ≡ turned_off (take (k + 1) types) other v
+one_off types k d other v w within before =
+    rw (before, take_more types k d within, list_any-append (same_indicator other) (take k types) (get_or types k d ∷ []))
+    (turn_once (list_any (same_indicator other) (take k types)) (same_indicator other (get_or types k d)) false v)
+
+pub one_more_off : (p : Program) (indicators : Indicators) (numbers : List ℕ) (k number : ℕ) (d other : Indicator) (v : Bool) → AreNumbersOf p.inputs.items numbers → k < length numbers
+    → number ≡ get_or numbers k 0 → number < length indicators.on
+    → on_in indicators other ≡ turned_off (take k (indicators_on p.inputs.items)) other v
+    → on_in (record indicators { on = slice_set indicators.on number false }) other ≡ turned_off (take (k + 1) (indicators_on p.inputs.items)) other v
+one_more_off p indicators numbers k number d other v are within is few before =
+    let types : List Indicator = indicators_on p.inputs.items in
+    let inside : k < length types = omega (arith, within, ap length are.numbered, length-map types indicator_number) in
+    let there : number ≡ indicator_number (get_or types k d) = is ∙ ap (λ (xs : List ℕ). get_or xs k 0) are.numbered ∙ get_or-map indicator_number types k d 0 inside in
+    turned_to indicators (get_or types k d) other false number (settable_at types k d (settable_kept p.inputs.items (types_settable p)) inside) there few
+    ∙ one_off types k d other v (on_in indicators other) inside before
+
+-- ---- all of them are the types of the source
+types_shown : (tables : Tables) (other : Indicator) (file : Name) (lines : List (InputLine Reference))
+    → list_any (same_indicator other) (indicators_on lines) ≡ list_any (λ (kind : RecordType). same_indicator other kind.indicator) (types_from file (map (named_input tables) lines))
+types_shown tables other file [] = refl
+types_shown tables other file (Record next indicator codes ∷ lines) = ap (λ (b : Bool). same_indicator other indicator || b) (types_shown tables other _ lines)
+types_shown tables other file (AndCodes codes ∷ lines) = types_shown tables other file lines
+types_shown tables other file (OrCodes indicator codes ∷ lines) = ap (λ (b : Bool). same_indicator other indicator || b) (types_shown tables other file lines)
+types_shown tables other file (InputField field ∷ lines) = types_shown tables other file lines
+
+all_shown : (p : Program) (other : Indicator)
+    → list_any (same_indicator other) (indicators_on p.inputs.items) ≡ list_any (λ (kind : RecordType). same_indicator other kind.indicator) (source_named p).types
+unfolding named
+all_shown p other = types_shown (tables_in p) other no_name p.inputs.items
+
+pub types_cleared : (p : Program) (old new : Values) → IsSound p old → new.numbers.items ≡ old.numbers.items → new.texts ≡ old.texts → new.division ≡ old.division
+    → ((other : Indicator) → on_in new.indicators other ≡ turned_off (indicators_on p.inputs.items) other (on_in old.indicators other)) → Changes p old new without_types
+types_cleared p old new sound numbers texts division turned =
+    let change = turned_by (λ on other. on other && not (list_any (λ (kind : RecordType). same_indicator other kind.indicator) (source_named p).types)) p old new sound numbers texts division
+    (λ other. turned other ∙ off_where (list_any (same_indicator other) (indicators_on p.inputs.items)) (on_in old.indicators other)
+    ∙ ap (λ (b : Bool). on_in old.indicators other && not b) (all_shown p other)) in
+    record { sound = change.sound; held = change.held }
+
+-- ---- the indicator of one type goes on
+pub type_turned : (p : Program) (values new : Values) (start : TypeStart) (number : ℕ) → IsSound p values → is_type_start p start ≡ true → number ≡ indicator_number (kind_at p start).indicator
+    → number < length values.indicators.on → new ≡ record values { indicators = record values.indicators { on = slice_set values.indicators.on number true } }
+    → Changes p values new (λ source. turn (kind_at p start).indicator true)
+type_turned p values new start number sound starts is within same =
+    let shown : Indicator = (kind_at p start).indicator in
+    subst (λ (v : Values). Changes p values v (λ source. turn shown true)) (sym same)
+    (turned_by (λ on other. if same_indicator other shown then true else on other) p values (record values { indicators = record values.indicators { on = slice_set values.indicators.on number true } })
+    sound refl refl refl (λ other. turned_to values.indicators shown other true number (kind_settable p start starts) is within))

@@ -1,0 +1,10 @@
+use Rattle.std.proofs.Common.{refl, rules}
+use Rattle.s3_lines.specs.declared.indicator.Indicator.TheVariants.{LastRecord}
+use Rattle.s3_operations.specs.Indicators.{on_in}
+use Rattle.s3_cycle.proofs.ClearingLemmas.{one_more_off}
+use Rattle.s3_cycle.proofs.indicating.turn_off.Goals as goal
+
+pub loop-number-preserved : goal.loop-number-preserved
+loop-number-preserved c = λ other.
+    one_more_off c.args.program.now c.loop-number.indicators c.args.numbers.now c.loop-number.number-index _ LastRecord other (on_in c.args.indicators.now other) c.requires c.loop-number-test.true refl
+    (search rules) (c.loop-number.invariant other)
