@@ -1,5 +1,5 @@
 -- What the calls of a level come to, with what is beside it.
-use Rattle.std.proofs.Common.{◌≡◌, ℕ, ◌+◌, Result, Ok, Err, refl}
+use Rattle.std.proofs.Common.{◌≡◌, ℕ, ◌≤◌, ◌+◌, Result, Ok, Err, refl, sym, ap, ◌∙◌, replicate, arith}
 use Rattle.std.specs.Prelude.{IfErr, IfOk, OnOk, OnErr, ◌≢◌}
 use Rattle.s3_store.specs.Failures.{failed_transfers}
 use Rattle.s3_store.specs.State.{PoolState}
@@ -11,14 +11,15 @@ use Rattle.s3_labels.specs.Labelled.{KeepsSaid}
 use Rattle.s3_level.proofs.Said.{said_same}
 use Rattle.s3_spool.specs.Queues.{Blocks}
 use Rattle.s3_job_files.specs.Holds.{seen}
+use Rattle.s3_solo.specs.declared.action.Action.{Action}
 use Rattle.s3_solo.specs.declared.action.Action.TheVariants.{Turn, Reply, Drain}
 use Rattle.s3_solo.specs.declared.action.Did.{Did}
 use Rattle.s3_solo.specs.World.{World}
-use Rattle.s3_solo.specs.Solo.{step_of}
+use Rattle.s3_solo.specs.Solo.{solo, step_of}
 use Rattle.s3_level.specs.declared.level.Level.{Level}
-use Rattle.s3_level.specs.Holds.{AreAll, Around, Holds, IsQuiet, IsReady, IsUntouched, KeepsOthers, Spares, Stays, Steps, around}
+use Rattle.s3_level.specs.Holds.{AreAll, Around, Holds, IsQuiet, IsReady, IsUntouched, KeepsOthers, Repeats, Spares, Stays, Steps, around}
 use Rattle.s3_level.proofs.Beside.{spares_files}
-use Rattle.s3_bureau.specs.Inner.Calls.{Acts}
+use Rattle.s3_bureau.specs.Inner.Calls.{Acts, jumps_as, once}
 use Rattle.s3_bureau.proofs.Memory.{turn_acts, reply_acts, drain_acts}
 use Rattle.s3_solo.specs.declared.action.Did.TheVariants.{Acted, Idle, Refused}
 
@@ -26,7 +27,35 @@ use Rattle.s3_solo.specs.declared.action.Did.TheVariants.{Acted, Idle, Refused}
 beside_same : (before after : Around) → IsUntouched before.areas after.areas before.state after.state → after.blocks ≡ before.blocks → after ≡ before
 beside_same before after untouched queues = λ i. record { areas = untouched.0 i; state = untouched.1 i; blocks = queues i }
 
-pub turned : (result : Result Did PoolFault) (old new : Level) (before after : Around)
+-- one step
+steps_once : (action : Action) (did : Did) (old new : World → Type 0) → Steps action did old new → Repeats action 1 did old new
+steps_once action did old new steps w held = (λ n few. first n (omega (arith, few)), (steps w held).1)
+  where
+    first : (n : ℕ) → n ≡ 0 → did ≡ (step_of (solo w (replicate n action)) action).did
+    first n none = (steps w held).0 ∙ ap (λ (k : ℕ). (step_of (solo w (replicate k action)) action).did) (sym none)
+
+-- jumps that are passed are so many turns
+pub jumped : (most : ℕ) (result : Result ℕ PoolFault) (old new : Level) (areas new_areas : Areas) (s t : PoolState) (blocks : Blocks)
+    → IsPackReady areas s.contents
+    → AreAll blocks
+    → IfOk result (λ turns. 1 ≤ turns)
+    → IfOk result (λ turns. turns ≤ most)
+    → ((blocks : Blocks) → AreAll blocks → IfOk result (λ turns. Repeats Turn turns Acted (Holds old (around areas s blocks)) (Holds new (around new_areas t blocks))))
+    → ((blocks : Blocks) (w : World) → Holds old (around areas s blocks) w → (step_of w Turn).did ≡ Acted)
+    → OnOk result (IsReady new (seen new_areas t.contents))
+    → KeepsOthers old.id areas new_areas s t
+    → t.failures ≡ s.failures + failed_transfers result
+    → Stays old new
+    → OnOk result (KeepsSaid old.id areas s.contents new_areas t.contents)
+    → IfErr result (λ fault. fault ≢ NoSector)
+    → Acts Turn most (jumps_as result) old new (around areas s blocks) (around new_areas t blocks)
+jumped most (Ok turns) old new areas new_areas s t blocks pack are some few steps acts ready others failures stays says fault =
+    record { id = stays.id; spares = spares_files old.id areas new_areas blocks s t pack are others; says = says; quiet = λ idles. absurd (idles refl); times = record { some = some; few = few }; fault = fault; failures = failures; comes = (ready, steps blocks are) }
+jumped most (Err fault) old new areas new_areas s t blocks pack are some few steps acts ready others failures stays says finds =
+    record { id = stays.id; spares = spares_files old.id areas new_areas blocks s t pack are others; says = says; quiet = tt; times = tt; fault = finds; failures = failures; comes = (stays.drained, acts blocks) }
+
+pub turned : (most : ℕ) (result : Result Did PoolFault) (old new : Level) (before after : Around)
+    → 1 ≤ most
     → IfOk result (λ did. Steps Turn did (Holds old before) (Holds new after))
     → ((w : World) → Holds old before w → (step_of w Turn).did ≡ Idle → result ≡ Ok Idle)
     → OnOk result (IsReady new (seen after.areas after.state.contents))
@@ -37,16 +66,17 @@ pub turned : (result : Result Did PoolFault) (old new : Level) (before after : A
     → IfOk result (λ did. IsQuiet did before.areas after.areas before.state after.state)
     → IfOk result (λ did. did ≢ Acted → after.blocks ≡ before.blocks)
     → IfErr result (λ fault. fault ≢ NoSector)
-    → Acts Turn result old new before after
-turned (Ok did) old new before after steps idle ready spares failures stays says quiet queues fault =
-    record { id = stays.id; spares = spares; says = says; quiet = λ idles. beside_same before after (quiet idles) (queues idles); fault = fault; failures = failures; comes = (ready, steps) }
-turned (Err fault) old new before after steps idle ready spares failures stays says quiet queues finds =
-    record { id = stays.id; spares = spares; says = says; quiet = tt; fault = finds; failures = failures; comes = (stays.drained, λ w held. turn_acts w (never w held)) }
+    → Acts Turn most (once result) old new before after
+turned most (Ok did) old new before after some steps idle ready spares failures stays says quiet queues fault =
+    record { id = stays.id; spares = spares; says = says; quiet = λ idles. beside_same before after (quiet idles) (queues idles); fault = fault; failures = failures; times = record { some = omega arith; few = some }; comes = (ready, steps_once Turn did (Holds old before) (Holds new after) steps) }
+turned most (Err fault) old new before after some steps idle ready spares failures stays says quiet queues finds =
+    record { id = stays.id; spares = spares; says = says; quiet = tt; times = tt; fault = finds; failures = failures; comes = (stays.drained, λ w held. turn_acts w (never w held)) }
   where
     never : (w : World) → Holds old before w → (step_of w Turn).did ≡ Idle → ⊥
     never w held rests = let same : Err fault ≡ Ok Idle = idle w held rests in cc
 
-pub replied : (digit : ℕ) (result : Result Did PoolFault) (old new : Level) (areas new_areas : Areas) (s t : PoolState) (blocks : Blocks)
+pub replied : (most digit : ℕ) (result : Result Did PoolFault) (old new : Level) (areas new_areas : Areas) (s t : PoolState) (blocks : Blocks)
+    → 1 ≤ most
     → IsPackReady areas s.contents
     → AreAll blocks
     → ((blocks : Blocks) → AreAll blocks → IfOk result (λ did. Steps (Reply digit) did (Holds old (around areas s blocks)) (Holds new (around new_areas t blocks))))
@@ -58,16 +88,17 @@ pub replied : (digit : ℕ) (result : Result Did PoolFault) (old new : Level) (a
     → OnOk result (KeepsSaid old.id areas s.contents new_areas t.contents)
     → IfOk result (λ did. IsQuiet did areas new_areas s t)
     → IfErr result (λ fault. fault ≢ NoSector)
-    → Acts (Reply digit) result old new (around areas s blocks) (around new_areas t blocks)
-replied digit (Ok did) old new areas new_areas s t blocks pack are steps refused ready others failures stays says quiet fault =
-    record { id = stays.id; spares = spares_files old.id areas new_areas blocks s t pack are others; says = says; quiet = λ refuses. beside_same (around areas s blocks) (around new_areas t blocks) (quiet refuses) refl; fault = fault; failures = failures; comes = (ready, steps blocks are) }
-replied digit (Err fault) old new areas new_areas s t blocks pack are steps refused ready others failures stays says quiet finds =
-    record { id = stays.id; spares = spares_files old.id areas new_areas blocks s t pack are others; says = says; quiet = tt; fault = finds; failures = failures; comes = (stays.drained, λ w held. reply_acts digit w (never w held)) }
+    → Acts (Reply digit) most (once result) old new (around areas s blocks) (around new_areas t blocks)
+replied most digit (Ok did) old new areas new_areas s t blocks some pack are steps refused ready others failures stays says quiet fault =
+    record { id = stays.id; spares = spares_files old.id areas new_areas blocks s t pack are others; says = says; quiet = λ refuses. beside_same (around areas s blocks) (around new_areas t blocks) (quiet refuses) refl; fault = fault; failures = failures; times = record { some = omega arith; few = some }; comes = (ready, steps_once (Reply digit) did (Holds old (around areas s blocks)) (Holds new (around new_areas t blocks)) (steps blocks are)) }
+replied most digit (Err fault) old new areas new_areas s t blocks some pack are steps refused ready others failures stays says quiet finds =
+    record { id = stays.id; spares = spares_files old.id areas new_areas blocks s t pack are others; says = says; quiet = tt; times = tt; fault = finds; failures = failures; comes = (stays.drained, λ w held. reply_acts digit w (never w held)) }
   where
     never : (w : World) → Holds old (around areas s blocks) w → (number : ℕ) → (step_of w (Reply digit)).did ≡ Refused number → ⊥
     never w held number is = let same : Err fault ≡ Ok (Refused number) = refused blocks w number held is in cc
 
-pub drained : (result : Result Did PoolFault) (old new : Level) (before after : Around)
+pub drained : (most : ℕ) (result : Result Did PoolFault) (old new : Level) (before after : Around)
+    → 1 ≤ most
     → IfOk result (λ did. Steps Drain did (Holds old before) (Holds new after))
     → ((w : World) (number : ℕ) → Holds old before w → (step_of w Drain).did ≡ Refused number → result ≡ Ok (Refused number))
     → OnErr result (new.lines.items ≡ old.lines.items)
@@ -80,11 +111,11 @@ pub drained : (result : Result Did PoolFault) (old new : Level) (before after : 
     → IfOk result (λ did. IsQuiet did before.areas after.areas before.state after.state)
     → IfOk result (λ did. did ≢ Acted → after.blocks ≡ before.blocks)
     → IfErr result (λ fault. fault ≢ NoSector)
-    → Acts Drain result old new before after
-drained (Ok did) old new before after steps refused lines ready spares failures id same keeps quiet queues fault =
-    record { id = id; spares = spares; says = said_same old.id before.areas after.areas before.state after.state keeps same; quiet = λ refuses. beside_same before after (quiet refuses) (queues refuses); fault = fault; failures = failures; comes = (ready, steps) }
-drained (Err fault) old new before after steps refused lines ready spares failures id same keeps quiet queues finds =
-    record { id = id; spares = spares; says = tt; quiet = tt; fault = finds; failures = failures; comes = (lines, λ w held. drain_acts w (never w held)) }
+    → Acts Drain most (once result) old new before after
+drained most (Ok did) old new before after some steps refused lines ready spares failures id same keeps quiet queues fault =
+    record { id = id; spares = spares; says = said_same old.id before.areas after.areas before.state after.state keeps same; quiet = λ refuses. beside_same before after (quiet refuses) (queues refuses); fault = fault; failures = failures; times = record { some = omega arith; few = some }; comes = (ready, steps_once Drain did (Holds old before) (Holds new after) steps) }
+drained most (Err fault) old new before after some steps refused lines ready spares failures id same keeps quiet queues finds =
+    record { id = id; spares = spares; says = tt; quiet = tt; times = tt; fault = finds; failures = failures; comes = (lines, λ w held. drain_acts w (never w held)) }
   where
     never : (w : World) → Holds old before w → (number : ℕ) → (step_of w Drain).did ≡ Refused number → ⊥
     never w held number is = let same : Err fault ≡ Ok (Refused number) = refused w number held is in cc

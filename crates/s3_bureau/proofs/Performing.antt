@@ -1,5 +1,5 @@
 -- Entries, one after the other.
-use Rattle.std.proofs.Common.{◌≡◌, ◌+◌, ◌-◌, ◌≤◌, ℕ, List, [], ◌∷◌, ◌++◌, take, drop, refl, sym, ap, ◌∙◌, subst, replicate, inl, inr, arith}
+use Rattle.std.proofs.Common.{◌≡◌, ◌⊎◌, zero, suc, ◌+◌, ◌-◌, ◌≤◌, ℕ, List, [], ◌∷◌, ◌++◌, take, drop, refl, sym, ap, ◌∙◌, subst, replicate, inl, inr, arith}
 use Rattle.std.specs.List.{flat_map}
 use Rattle.std.proofs.lemmas.List.{replicate-append-replicate, append-nil, take-append-drop}
 use Rattle.std.proofs.lemmas.Grind.{flat_map-append}
@@ -41,22 +41,51 @@ performs_then xs ys first middle last before after = λ level w held.
     subst (λ (v : World). last level v) (sym (ap (solo w) (own-append level xs ys) ∙ solo-append w (own level xs) (own level ys)))
     (after level (solo w (own level xs)) (before level w held))
 
-both : (from : LevelId) (action : Action) (old new : LevelId → World → Type 0) → ((w : World) → old from w → new from (step_of w action).world)
-    → ((w : World) → old (other from) w → new (other from) w)
-    → (level : LevelId) (w : World) → old level w → new level (solo w (with_action level from action []))
-both One action old new mine his One w held = mine w held
-both One action old new mine his Two w held = his w held
-both Two action old new mine his One w held = his w held
-both Two action old new mine his Two w held = mine w held
+-- so many entries of a level are as many actions of it, and none of the other
+own-replicate : (n : ℕ) (entry : Entry) → own entry.level (replicate n entry) ≡ replicate n entry.action
+own-replicate zero entry = refl
+own-replicate (suc n) entry = mine entry.level entry.action (own entry.level (replicate n entry)) ∙ ap (λ (actions : List Action). entry.action ∷ actions) (own-replicate n entry)
+  where
+    mine : (level : LevelId) (action : Action) (actions : List Action) → with_action level level action actions ≡ action ∷ actions
+    mine One action actions = refl
+    mine Two action actions = refl
 
--- one entry more, so many times
-pub one_more : (entry : Entry) (n : ℕ) (first middle last : LevelId → World → Type 0) → Performs (replicate n entry) first middle
-    → ((w : World) → middle entry.level w → last entry.level (step_of w entry.action).world)
+other-replicate : (n : ℕ) (entry : Entry) → own (other entry.level) (replicate n entry) ≡ []
+other-replicate zero entry = refl
+other-replicate (suc n) entry = his entry.level entry.action (own (other entry.level) (replicate n entry)) ∙ other-replicate n entry
+  where
+    his : (level : LevelId) (action : Action) (actions : List Action) → with_action (other level) level action actions ≡ actions
+    his One action actions = refl
+    his Two action actions = refl
+
+both : (from level : LevelId) → (level ≡ from) ⊎ (level ≡ other from)
+both One One = inl refl
+both One Two = inr refl
+both Two One = inr refl
+both Two Two = inl refl
+
+-- an entry so many times
+times_performed : (entry : Entry) (times : ℕ) (old new : LevelId → World → Type 0) → ((w : World) → old entry.level w → new entry.level (solo w (replicate times entry.action)))
+    → ((w : World) → old (other entry.level) w → new (other entry.level) w)
+    → Performs (replicate times entry) old new
+times_performed entry times old new mine his level w held = by (both entry.level level)
+  where
+    by : (level ≡ entry.level) ⊎ (level ≡ other entry.level) → new level (solo w (own level (replicate times entry)))
+    by (inl same) =
+        subst (λ (l : LevelId). new l (solo w (own l (replicate times entry)))) (sym same)
+        (subst (λ (actions : List Action). new entry.level (solo w actions)) (sym (own-replicate times entry)) (mine w (subst (λ (l : LevelId). old l w) same held)))
+    by (inr same) =
+        subst (λ (l : LevelId). new l (solo w (own l (replicate times entry)))) (sym same)
+        (subst (λ (actions : List Action). new (other entry.level) (solo w actions)) (sym (other-replicate times entry)) (his w (subst (λ (l : LevelId). old l w) same held)))
+
+-- so many entries more
+pub times_more : (entry : Entry) (n times : ℕ) (first middle last : LevelId → World → Type 0) → Performs (replicate n entry) first middle
+    → ((w : World) → middle entry.level w → last entry.level (solo w (replicate times entry.action)))
     → ((w : World) → middle (other entry.level) w → last (other entry.level) w)
-    → Performs (replicate (n + 1) entry) first last
-one_more entry n first middle last before mine his =
-    subst (λ (entries : List Entry). Performs entries first last) (replicate-append-replicate n 1 entry)
-    (performs_then (replicate n entry) (entry ∷ []) first middle last before (both entry.level entry.action middle last mine his))
+    → Performs (replicate (n + times) entry) first last
+times_more entry n times first middle last before mine his =
+    subst (λ (entries : List Entry). Performs entries first last) (replicate-append-replicate n times entry)
+    (performs_then (replicate n entry) (replicate times entry) first middle last before (times_performed entry times middle last mine his))
 
 -- one command more
 pub command_more : (front all : List Command) (command : Command) (first middle last : LevelId → World → Type 0) → all ≡ front ++ command ∷ []
@@ -131,17 +160,20 @@ leaves_entry entry old new stays unchanged header = record {
     idle_by Two One none keeps = record { count = keeps.count; contents = λ n is. keeps.contents n (inr is); stored = λ n is in_step. keeps.stored n (inr is) in_step }
     idle_by Two Two none keeps = absurd cc
 
--- one entry more, so many times
-pub leaves_more : (entry : Entry) (n : ℕ) (first middle last : State) → Leaves (replicate n entry) first middle → Leaves (entry ∷ []) middle last → Leaves (replicate (n + 1) entry) first last
-leaves_more entry n first middle last before after =
-    subst (λ (entries : List Entry). Leaves entries first last) (replicate-append-replicate n 1 entry) (leaves_then (replicate n entry) (entry ∷ []) first middle last before after)
+-- so many entries more
+pub leaves_more : (entry : Entry) (n times : ℕ) (first middle last : State) → 1 ≤ times → Leaves (replicate n entry) first middle → Leaves (entry ∷ []) middle last → Leaves (replicate (n + times) entry) first last
+leaves_more entry n times first middle last some before after =
+    subst (λ (entries : List Entry). Leaves entries first last) (replicate-append-replicate n times entry)
+    (leaves_then (replicate n entry) (replicate times entry) first middle last before
+    (subst (λ (entries : List Entry). Leaves entries middle last)
+    (replicate-append-replicate 1 (times - 1) entry ∙ ap (λ (k : ℕ). replicate k entry) (omega (arith, some)))
+    (leaves_fewer (entry ∷ []) (replicate (times - 1) entry) middle last after)))
 
 -- it stopped at one of them
 pub leaves_stopped : (entry : Entry) (n count : ℕ) (first middle last : State) → n + 1 ≤ count → Leaves (replicate n entry) first middle → Leaves (entry ∷ []) middle last → Leaves (replicate count entry) first last
 leaves_stopped entry n count first middle last few before after =
-    subst (λ (entries : List Entry). Leaves entries first last)
-    (replicate-append-replicate (n + 1) (count - (n + 1)) entry ∙ ap (λ (k : ℕ). replicate k entry) (omega (arith, few)))
-    (leaves_fewer (replicate (n + 1) entry) (replicate (count - (n + 1)) entry) first last (leaves_more entry n first middle last before after))
+    subst (λ (entries : List Entry). Leaves entries first last) (ap (λ (k : ℕ). replicate k entry) (omega (arith, few)))
+    (leaves_more entry n (count - n) first middle last (omega (arith, few)) before after)
 
 -- one command more
 pub commands_leave : (front all : List Command) (command : Command) (first middle last : State) → all ≡ front ++ command ∷ [] → Leaves (flat_map entries_by front) first middle → Leaves (entries_by command) middle last

@@ -1,5 +1,6 @@
 //! The bureau: two levels, each with its own deck, that take turns over one pack.
-ghost use Rattle.std.specs.Prelude.{◌≡◌, ◌≢◌};
+ghost use Rattle.std.specs.Prelude.{◌≡◌, ◌≢◌, ◌≤◌};
+ghost use Rattle.s3_solo.specs.declared.action.Action.TheVariants.{Turn};
 ghost use Rattle.s3_job_files.specs.Holds.{seen};
 ghost use Rattle.s3_level.specs.Holds.{AreAll, IsReady, around};
 ghost use Rattle.s3_bureau.specs.Held.{IsReadyFor};
@@ -8,6 +9,7 @@ ghost use Rattle.s3_bureau.specs.Inner.Calls.{Acts, ClosesLevel, ClosesBoth};
 
 use crate::entry::Entry;
 use crate::stop::Stop;
+use crate::taken::{Taken, jumped, once};
 use s3_cards::{Deck, LevelId, PrintLine};
 use s3_labels::{Pack, Refusal, RefusedStore};
 use s3_level::{Action, Did, Halt, Level};
@@ -66,22 +68,44 @@ fn stop_of(fault: PoolFault) -> Stop
     }
 }
 
-/// One entry of a level. It is proved once, for either level.
+/// Turns of a level, so many at most and at least one: several only where they pass jumps.
+#[inline(always)]
+fn turn<S: PackStore>(
+    level: &mut Level,
+    pack: &mut Pack<Pool<S>>,
+    spool: &mut Spool,
+    most: u16,
+) -> Result<Taken, PoolFault>
+    requires ready { IsReady level.old (seen pack.old.areas pack.old.pool.contents) }
+    requires blocks { AreAll spool.old }
+    requires some { 1 ≤ most }
+    ensures { Acts Turn most result level.old level.new (around pack.old.areas pack.old.pool spool.old) (around pack.new.areas pack.new.pool spool.new) }
+{
+    if level.has_jump() {
+        jumped(level.pass_jumps(most, pack))
+    } else {
+        once(level.turn(pack, spool))
+    }
+}
+
+/// An entry of a level, so many times at most and at least once. It is proved once, for either level.
 #[inline(always)]
 fn act<S: PackStore>(
     level: &mut Level,
     pack: &mut Pack<Pool<S>>,
     spool: &mut Spool,
     action: Action,
-) -> Result<Did, PoolFault>
+    most: u16,
+) -> Result<Taken, PoolFault>
     requires ready { IsReady level.old (seen pack.old.areas pack.old.pool.contents) }
     requires blocks { AreAll spool.old }
-    ensures { Acts action result level.old level.new (around pack.old.areas pack.old.pool spool.old) (around pack.new.areas pack.new.pool spool.new) }
+    requires some { 1 ≤ most }
+    ensures { Acts action most result level.old level.new (around pack.old.areas pack.old.pool spool.old) (around pack.new.areas pack.new.pool spool.new) }
 {
     match action {
-        Action::Turn => level.turn(pack, spool),
-        Action::Reply(digit) => level.answer(digit, pack),
-        Action::Drain => level.drain(pack, spool),
+        Action::Turn => turn(level, pack, spool, most),
+        Action::Reply(digit) => once(level.answer(digit, pack)),
+        Action::Drain => once(level.drain(pack, spool)),
     }
 }
 
@@ -124,7 +148,7 @@ fn store_of<S: PackStore>(pack: Pack<Pool<S>>) -> S
 }
 
 impl<S: PackStore> Bureau<S> {
-    ghost use Rattle.std.specs.Prelude.{◌≡◌, ◌≢◌, ◌+◌, ℕ, true, false, Ok, Err, map, IfOk, IfErr, OnOk, OnErr};
+    ghost use Rattle.std.specs.Prelude.{◌≡◌, ◌≢◌, ◌≤◌, ◌+◌, ℕ, true, false, Ok, Err, map, IfOk, IfErr, OnOk, OnErr};
     ghost use Rattle.s3_cards.specs.Levels.{other};
     ghost use Rattle.s3_cards.specs.declared.levels.LevelId.{LevelId};
     ghost use Rattle.s3_store.specs.State.{KeepsInStep};
@@ -138,9 +162,9 @@ impl<S: PackStore> Bureau<S> {
     ghost use Rattle.s3_solo.specs.Lines.{drained_lines};
     ghost use Rattle.s3_solo.specs.World.{World, at_start};
     ghost use Rattle.s3_solo.specs.Solo.{step_of, closed};
-    ghost use Rattle.s3_level.specs.Holds.{Holds, Spares, Steps};
+    ghost use Rattle.s3_level.specs.Holds.{Holds, Repeats, Spares, Steps};
     ghost use Rattle.s3_bureau.specs.Stops.{failed_stop};
-    ghost use Rattle.s3_bureau.specs.Inner.Calls.{Closes, Enters};
+    ghost use Rattle.s3_bureau.specs.Inner.Calls.{Closes, Enters, IsUpTo};
     ghost use Rattle.s3_bureau.specs.Held.{HasNoWork, HoldsFor, IsCommon, IsForeign, IsOwn, IsSaid, halts_at, header_of, is_open, has_worlds, level_of, lines_at, rests};
 
     /// A bureau over the pack on a store, with a deck for each level, before its first entry.
@@ -252,19 +276,52 @@ impl<S: PackStore> Bureau<S> {
         ensures failures { self.new.beside.state.failures ≡ self.old.beside.state.failures + failed_stop result }
         ensures lines { OnErr result ((level : LevelId) → lines_at level self.new ≡ lines_at level self.old) }
     {
+        Ok(self.repeat(entry, 1)?.did)
+    }
+
+    /// One entry of a script so many times at most, and at least once: several times only where its level takes turns that pass
+    /// jumps.
+    ///
+    /// It stops as `step` does.
+    pub fn repeat(&mut self, entry: Entry, most: u16) -> Result<Taken, Stop>
+        requires { 1 ≤ most }
+        ensures times { IfOk result (λ taken. IsUpTo most taken) }
+
+        // The level's own world takes so many such entries, each with this answer.
+        ensures own { IfOk result (λ taken. Repeats entry.action taken.times taken.did (HoldsFor entry.level self.old) (HoldsFor entry.level self.new)) }
+
+        // What else changes, what stays, and how it stops is as `step` says.
+        ensures other { OnOk result ((w : World) → HoldsFor (other entry.level) self.old w → HoldsFor (other entry.level) self.new w) }
+        ensures no_other { OnOk result ((w : World) → HoldsFor (other entry.level) self.new w → HoldsFor (other entry.level) self.old w) }
+        ensures said { OnOk result ((level : LevelId) → IsSaid level self.old → IsSaid level self.new) }
+        ensures quiet { IfOk result (λ taken. taken.did ≢ Acted → self.new.beside ≡ self.old.beside) }
+        ensures stays { level_of (other entry.level) self.new ≡ level_of (other entry.level) self.old }
+        ensures spares { is_open self.old ≡ true → Spares entry.level self.old.beside self.new.beside }
+        ensures unchanged { KeepsInStep (IsForeign entry.level (header_of self.old)) self.old.beside.state self.new.beside.state }
+        ensures header { header_of self.new ≡ header_of self.old }
+        ensures stopped { is_open self.old ≡ false → (result ≡ Err Stop.Stopped) × (self.new ≡ self.old) }
+        ensures not_before { is_open self.old ≡ true → result ≢ Err Stop.Stopped }
+        ensures goes_on { OnOk result (is_open self.new ≡ true) }
+        ensures stops { OnErr result (is_open self.new ≡ false) }
+        ensures holds_none { OnErr result (is_open self.old ≡ true → has_worlds self.new.phase ≡ false) }
+        ensures memory { OnErr result (is_open self.old ≡ true → (w : World) → HoldsFor entry.level self.old w → (step_of w entry.action).did ≡ Acted) }
+        ensures failures { self.new.beside.state.failures ≡ self.old.beside.state.failures + failed_stop result }
+        ensures lines { OnErr result ((level : LevelId) → lines_at level self.new ≡ lines_at level self.old) }
+    {
         if self.phase != Phase::Open {
             return Err(Stop::Stopped);
         }
-        match self.enter(entry) {
-            Ok(did) => Ok(did),
+        match self.enter(entry, most) {
+            Ok(taken) => Ok(taken),
             Err(fault) => Err(stop_of(fault)),
         }
     }
 
     /// Performs an entry in its level, or stops.
-    fn enter(&mut self, entry: Entry) -> Result<Did, PoolFault>
-        requires { is_open self.old ≡ true }
-        ensures { Enters entry.level entry.action result self.old self.new }
+    fn enter(&mut self, entry: Entry, most: u16) -> Result<Taken, PoolFault>
+        requires takes { is_open self.old ≡ true }
+        requires some { 1 ≤ most }
+        ensures { Enters entry.level entry.action most result self.old self.new }
     {
         match entry.level {
             LevelId::One => match act(
@@ -272,8 +329,9 @@ impl<S: PackStore> Bureau<S> {
                 &mut self.pack,
                 &mut self.spool,
                 entry.action,
+                most,
             ) {
-                Ok(did) => Ok(did),
+                Ok(taken) => Ok(taken),
                 Err(fault) => {
                     self.phase = Phase::Stopped;
                     Err(fault)
@@ -284,8 +342,9 @@ impl<S: PackStore> Bureau<S> {
                 &mut self.pack,
                 &mut self.spool,
                 entry.action,
+                most,
             ) {
-                Ok(did) => Ok(did),
+                Ok(taken) => Ok(taken),
                 Err(fault) => {
                     self.phase = Phase::Stopped;
                     Err(fault)

@@ -12,6 +12,7 @@ mod run_fault;
 mod runs;
 mod script;
 mod stop;
+mod taken;
 
 pub use bureau::Bureau;
 pub use entry::Entry;
@@ -25,3 +26,4 @@ pub use runs::run;
 pub use s3_labels::{Refusal, RefusedStore};
 pub use s3_level::{Action, Did, Halt, HaltCode};
 pub use stop::Stop;
+pub use taken::Taken;

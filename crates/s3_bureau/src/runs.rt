@@ -153,9 +153,11 @@ fn repeat<S: PackStore>(bureau: &mut Bureau<S>, entry: Entry, count: u16) -> Res
     ensures failures { bureau.new.beside.state.failures ≡ bureau.old.beside.state.failures + failed_stop result }
     ensures not_stopped { result ≢ Err Stopped }
 {
-    for _time in 0..count {
-        // What the entry did isn't told: a turn, a reply or a drain that was idle or refused leaves no mark in the texts.
-        let _did = bureau.step(entry)?;
+    let mut left = count;
+    while left > 0 {
+        // What the entries did isn't told: a turn, a reply or a drain that was idle or refused leaves no mark in the texts.
+        let taken = bureau.repeat(entry, left)?;
+        left -= taken.times;
     }
     Ok(())
 }

@@ -33,7 +33,9 @@ use Rattle.s3_match.specs.Heads.{no_file, file_at}
 use Rattle.s3_match.specs.Types.{name_of_file}
 use Rattle.s3_match.proofs.ReadingLemmas.{file_named}
 use Rattle.s3_sections.specs.declared.course.Course.{Course}
+use Rattle.s3_sections.specs.Spots.{at_place}
 use Rattle.s3_sections.specs.Courses.{rest_at, spots_of}
+use Rattle.s3_sections.proofs.PerformLemmas.{performs}
 use Rattle.s3_cycle.specs.declared.progress.Progress.{Progress}
 use Rattle.s3_cycle.specs.declared.progress.Point.TheVariants as at
 use Rattle.s3_cycle.specs.declared.request.Request.TheVariants as asks
@@ -46,7 +48,7 @@ use Rattle.s3_cycle.specs.Rest.{calculating, answered, chain_answered}
 use Rattle.s3_cycle.specs.Inner.Going.{own, held_by, here, IsRunning, CanCalculate, IsChainOf, GoesOn, Changes}
 use Rattle.s3_cycle.specs.Inner.Calculating.{Does, IsPerformed, ShowsMiss, Misses, lines_left}
 use Rattle.s3_cycle.proofs.GoingLemmas.{changed_running, changed_program, changed_progress, changed_stays, here_changed, goes_as, goes_then, goes_wait, goes_changed}
-use Rattle.s3_cycle.proofs.CourseLemmas.{at_place, moved, moved_course, performs, fewer_left}
+use Rattle.s3_cycle.proofs.CourseLemmas.{moved, moved_course, fewer_left}
 use Rattle.s3_cycle.proofs.CalculatingLemmas.{with_course, moved_running, moved_calculates, calculating_from, calculating_here, line_read}
 use Rattle.s3_cycle.proofs.PerformingLemmas.{behind}
 use Rattle.s3_cycle.proofs.FileLemmas.{file_tabled, chained_on_disk}

@@ -1,7 +1,7 @@
 -- Step 2: record identifying indicators go off, by their numbers.
 use Rattle.std.proofs.Common.{◌≡◌, ℕ, ◌+◌, ◌<◌, ◌||◌, ◌&&◌, not, zero, suc, length, get_or, map, take, List, [], ◌∷◌, Bool, true, false, refl, sym, ◌∙◌, ap, subst, arith}
-use Rattle.std.specs.Prelude.{slice_set, filter_map, if◌then◌else◌}
-use Rattle.std.specs.List.{All, list_any, list_all}
+use Rattle.std.specs.Prelude.{slice_set, if◌then◌else◌}
+use Rattle.std.specs.List.{list_any, list_all}
 use Rattle.std.proofs.lemmas.Bool.{and_parts}
 use Rattle.std.proofs.lemmas.List.{take_more, length-map, get_or-map}
 use Rattle.std.proofs.lemmas.List.Folds.{list_any-append}
@@ -45,12 +45,12 @@ settable_kept (OrCodes indicator codes ∷ lines) all =
     (λ i. parts.0 i && settable_kept lines parts.1 i)
 settable_kept (InputField field ∷ lines) all = settable_kept lines all
 
-settable_at : (types : List Indicator) (k : ℕ) (d : Indicator) → list_all is_settable types ≡ true → k < length types → is_settable (get_or types k d) ≡ true
-settable_at [] k d all within = absurd (omega (arith, within))
-settable_at (type ∷ types) zero d all within = (and_parts (is_settable type) (list_all is_settable types) all).0
-settable_at (type ∷ types) (suc k) d all within = settable_at types k d (and_parts (is_settable type) (list_all is_settable types) all).1 (omega (arith, within))
+pub holds_at : {X : Type 0} (p : X → Bool) (xs : List X) (k : ℕ) (d : X) → list_all p xs ≡ true → k < length xs → p (get_or xs k d) ≡ true
+holds_at p [] k d all within = absurd (omega (arith, within))
+holds_at p (x ∷ xs) zero d all within = (and_parts (p x) (list_all p xs) all).0
+holds_at p (x ∷ xs) (suc k) d all within = holds_at p xs k d (and_parts (p x) (list_all p xs) all).1 (omega (arith, within))
 
-one_off : (types : List Indicator) (k : ℕ) (d other : Indicator) (v w : Bool) → k < length types → w ≡ turned_off (take k types) other v
+pub one_off : (types : List Indicator) (k : ℕ) (d other : Indicator) (v w : Bool) → k < length types → w ≡ turned_off (take k types) other v
     → (if same_indicator other (get_or types k d) then false else w) ≡ turned_off (take (k + 1) types) other v
 one_off types k d other v w within before =
     rw (before, take_more types k d within, list_any-append (same_indicator other) (take k types) (get_or types k d ∷ []))
@@ -64,7 +64,7 @@ one_more_off p indicators numbers k number d other v are within is few before =
     let types : List Indicator = indicators_on p.inputs.items in
     let inside : k < length types = omega (arith, within, ap length are.numbered, length-map types indicator_number) in
     let there : number ≡ indicator_number (get_or types k d) = is ∙ ap (λ (xs : List ℕ). get_or xs k 0) are.numbered ∙ get_or-map indicator_number types k d 0 inside in
-    turned_to indicators (get_or types k d) other false number (settable_at types k d (settable_kept p.inputs.items (types_settable p)) inside) there few
+    turned_to indicators (get_or types k d) other false number (holds_at is_settable types k d (settable_kept p.inputs.items (types_settable p)) inside) there few
     ∙ one_off types k d other v (on_in indicators other) inside before
 
 -- ---- all of them are the types of the source

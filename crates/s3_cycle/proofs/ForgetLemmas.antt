@@ -6,21 +6,18 @@ use Rattle.s3_cards.specs.Names.{same_name}
 use Rattle.s3_meaning.specs.Environment.{Environment}
 use Rattle.s3_meaning.specs.Calculating.{forgotten}
 use Rattle.s3_meaning.specs.Requests as Meant
-use Rattle.s3_program.specs.declared.program.Reference.TheVariants.{File}
-use Rattle.s3_program.specs.Tables.{name_of}
 use Rattle.s3_operations.specs.declared.values.Values.{Values}
-use Rattle.s3_operations.specs.Fits.{tables}
 use Rattle.s3_operations.specs.Held.{held, Changes as ChangesValues}
-use Rattle.s3_operations.specs.Indicating.{without_types_of}
 use Rattle.s3_match.specs.Types.{name_of_file}
 use Rattle.s3_cycle.specs.declared.request.Current.{Current}
 use Rattle.s3_cycle.specs.declared.stepper.Stepper.{Stepper}
+use Rattle.s3_cycle.specs.Inner.Clearing.{without_types_of}
 use Rattle.s3_cycle.specs.Inner.Environment.{current_in, environment, others}
 use Rattle.s3_cycle.specs.Inner.Going.{AreSound, Changes}
 use Rattle.s3_cycle.proofs.CurrentLemmas.{current_set}
 
 pub forgets : (c : Stepper) (file : ℕ) (current : Vec (Option Current) Global) (values : Values) → AreSound c.program c.state → file < length c.program.files.items → current.items ≡ slice_set c.state.current.items file None
-    → ChangesValues c.program c.state.values values (without_types_of (name_of (tables c.program) (File file)))
+    → ChangesValues c.program c.state.values values (without_types_of (name_of_file c.program file))
     → Changes c (record c { state = record c.state { current = current; values = values } }) (λ source. forgotten source (name_of_file c.program file))
 unfolding environment held
 forgets c file current values sound within is changes =

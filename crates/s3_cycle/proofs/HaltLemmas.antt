@@ -1,8 +1,6 @@
 -- Step 1 behind its lines: each of H1 to H9 that is on halts.
-use Rattle.std.proofs.Common.{◌≡◌, ℕ, zero, suc, ◌+◌, ◌-◌, ◌<◌, ◌≤◌, ◌||◌, nat_le, Bool, true, false, if◌then◌else◌, List, [], ◌∷◌, drop, refl, sym, ◌∙◌, ap, inl, inr, arith}
-use Rattle.std.specs.Prelude.{nat_lt}
-use Rattle.std.proofs.lemmas.Bool.Decides.{nat_tests}
-use Rattle.std.proofs.lemmas.Bool.{and_parts, leb-true, true≢false, cases_Bool}
+use Rattle.std.proofs.Common.{◌≡◌, ℕ, zero, suc, ◌+◌, ◌-◌, ◌<◌, ◌≤◌, nat_le, Bool, true, false, if◌then◌else◌, List, [], ◌∷◌, drop, refl, sym, ◌∙◌, ap, arith}
+use Rattle.std.proofs.lemmas.Bool.{and_parts, leb-true}
 use Rattle.s3_lines.specs.Ranges.{is_between}
 use Rattle.s3_lines.specs.declared.indicator.Indicator.TheVariants.{Halt}
 use Rattle.s3_operator.specs.declared.halt_code.HaltCode.TheVariants.{HaltIndicator}
@@ -17,14 +15,6 @@ use Rattle.s3_cycle.specs.Rest.{cycle_from, halts_from}
 use Rattle.s3_cycle.specs.Inner.Going.{own, held_by, here, GoesOn}
 use Rattle.s3_cycle.specs.Inner.Halting.{IsFirstHalt, AreOff}
 use Rattle.s3_cycle.proofs.GoingLemmas.{goes_as}
-
--- ---- none is on so far
-pub off_more : (c : Stepper) (to : ℕ) (some here : Bool) → (some ≡ false → AreOff c 0 to) → here ≡ (held_by c).on (Halt to) → (some || here) ≡ false → AreOff c 0 (to + 1)
-off_more c to true here before is off = absurd (true≢false off)
-off_more c to false here before is off = λ n from within. elim (cases_Bool (nat_lt n to)) [
-  | inl below ↦ before refl n from (grind (arith, nat_tests, below))
-  | inr last ↦ let same : n ≡ to = grind (arith, nat_tests, last, within) in ap (λ (k : ℕ). (held_by c).on (Halt k)) same ∙ sym is ∙ off
-]
 
 -- ---- the numbers that are left
 abbrev numbers : List ℕ

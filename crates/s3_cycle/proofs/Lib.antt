@@ -1,5 +1,6 @@
 pub mod GoingLemmas
 pub mod FileLemmas
+pub mod FileTypeLemmas
 pub mod EndLemmas
 pub mod LineLemmas
 pub mod PrintLemmas
@@ -23,6 +24,7 @@ pub mod AnswerLemmas
 pub mod FollowLemmas
 pub mod CourseLemmas
 pub mod CalculatingLemmas
+pub mod JumpLemmas
 pub mod PerformingLemmas
 pub mod PreparedLemmas
 pub mod ForgetLemmas

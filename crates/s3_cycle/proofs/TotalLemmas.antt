@@ -134,11 +134,9 @@ overflow_begun old new selection running on goes =
     ∙ sym (ap (λ (rest : Rest). rest (held_by old)) (all_lines old.program walk.Overflow (λ e. record_moved (own old) old.program old.progress selection (without_overflow (own old) e))))) goes
 
 pub overflow_passed : (old new : Stepper) (selection : Selection) → IsRunning old → is_entry_on (held_by old) old.overflow ≡ false
-    → GoesOn (at_time old (time.Totals selection) old.progress.course) new (here (at_time old (time.Totals selection) old.progress.course) (λ source program progress. record_moved source program progress selection))
+    → GoesOn old new (here old (λ source program progress. record_moved source program progress selection))
     → GoesOn old new (here old (λ source program progress. overflow_lines source (again source) (record_moved source program progress selection)))
-unfolding record_moved
-overflow_passed old new selection running off goes =
-    goes_then old (at_time old (time.Totals selection) old.progress.course) new _ _ refl (overflow_when old selection false running off) goes
+overflow_passed old new selection running off goes = goes_as old new _ _ (overflow_when old selection false running off) goes
 
 -- behind its lines the overflow indicator goes off
 pub overflow_ended : (old mid turned new : Stepper) (selection : Selection) (next : ℕ) → IsRunning old → mid ≡ old → PassesAll old walk.Overflow next → old.progress.time ≡ time.Totals selection

@@ -1,9 +1,9 @@
 -- A suspended run, as those above it see it.
-use Rattle.std.specs.Prelude.{◌≡◌, ℕ, Bool, List, ◌∷◌, ◌++◌, Option}
+use Rattle.std.specs.Prelude.{◌≡◌, ◌<◌, ℕ, Bool, List, ◌∷◌, ◌++◌, Option, replicate}
 use Rattle.s3_lines.specs.declared.sheet.FileLine.{FileLine}
 use Rattle.s3_meaning.specs.Source.{Source}
 use Rattle.s3_meaning.specs.Requests as Meant
-use Rattle.s3_meaning.specs.Requests.{Answer}
+use Rattle.s3_meaning.specs.Requests.{Answer, Done}
 use Rattle.s3_meaning.specs.Requests.{fits}
 use Rattle.s3_meaning.specs.Cycle.{Req}
 use Rattle.s3_program.specs.Stands.{Stands}
@@ -39,6 +39,11 @@ is_fit c answer = fits (waits c) (answer_of answer)
 pub record Follows (source : Source) (switches : ℕ) (date : List ℕ) (past : List Answer) (c : Stepper) : Type 0 where
   pub stands : StandsFor c source
   pub runs : (answers : List Answer) → rest source c answers ≡ Req source switches date (past ++ answers)
+
+-- a run that goes on behind so many jumps, each of them done
+pub record PassesJumps (old new : Stepper) (jumps : ℕ) : Type 0 where
+  pub asks : (source : Source) → StandsFor old source → (n : ℕ) → n < jumps → rest source old (replicate n Done) ≡ Meant.Jump
+  pub goes : (source : Source) → StandsFor old source → StandsFor new source × ((answers : List Answer) → rest source new answers ≡ rest source old (replicate jumps Done ++ answers))
 
 -- a run that goes on with one more answer
 abbrev pub Resumes : (old new : Stepper) → Answer → Type 0

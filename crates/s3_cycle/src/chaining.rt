@@ -10,6 +10,7 @@ ghost use Rattle.s3_meaning.specs.Cycle.{again};
 ghost use Rattle.s3_meaning.specs.Calculating.{chained_to, first_indicator as first_indicator_spec, forgotten, sought_in};
 ghost use Rattle.s3_operations.specs.Fits.{named_line};
 ghost use Rattle.s3_match.specs.Heads.{file_at};
+ghost use Rattle.s3_match.specs.Reading.{IsReading};
 ghost use Rattle.s3_match.specs.Types.{is_type_start, kind_at, name_of_file};
 ghost use Rattle.s3_cycle.specs.Requests.{IsSoughtBy, sought_of};
 ghost use Rattle.s3_cycle.specs.Rest.{calculating, chain_answered};
@@ -18,6 +19,7 @@ ghost use Rattle.s3_cycle.specs.Inner.Heads.{IsRecordOf};
 ghost use Rattle.s3_cycle.specs.Inner.Chaining.{KeepsRecord};
 ghost use Rattle.s3_cycle.specs.Inner.Calculating.{Does, IsPerformed, Misses};
 
+use crate::indicating::clear_types_of;
 use crate::progress::{Continuation, Point};
 use crate::request::{Current, Request, Sought};
 use crate::stepper::Stepper;
@@ -54,11 +56,13 @@ impl Stepper {
     /// A file has no current record, and its record identifying indicators go off.
     fn forget(&mut self, file: usize)
         requires sound { AreSound self.old.program self.old.state }
+        requires reading { IsReading self.old.program self.old.progress.reading }
         requires within { file < length self.old.program.files.items }
         ensures { Changes self.old self.new (λ source. forgotten source (name_of_file self.old.program file)) }
     {
         self.state.current[file] = None;
-        self.state.values.clear_types_of(&self.program, file);
+        let reading = &self.progress.reading;
+        clear_types_of(&mut self.state.values, &self.program, reading, file);
     }
 
     /// The key, or the record number, that factor 1 has.

@@ -27,11 +27,12 @@ impl Model for Cycle {
 }
 
 impl Cycle {
-    ghost use Rattle.std.specs.Prelude.{◌≡◌, IfOk, IsTrue, List, [], ◌∷◌, Some, slice_get};
+    ghost use Rattle.std.specs.Prelude.{◌≡◌, ◌≤◌, ◌<◌, ℕ, IfOk, IsTrue, List, [], ◌∷◌, ◌++◌, Some, slice_get, replicate};
     ghost use Rattle.std.specs.Option.{option_copied};
     ghost use Rattle.s3_lines.specs.declared.sheet.FileLine.{FileLine};
     ghost use Rattle.s3_meaning.specs.Source.{Source};
-    ghost use Rattle.s3_meaning.specs.Requests.{Answer as MeantAnswer};
+    ghost use Rattle.s3_meaning.specs.Requests.{Answer as MeantAnswer, Done, Jump as MeantJump};
+    ghost use Rattle.s3_cycle.specs.declared.request.Request.TheVariants.{Jump};
     ghost use Rattle.s3_meaning.specs.Output.{filled};
     ghost use Rattle.s3_meaning.specs.Cycle.{Req};
     ghost use Rattle.s3_program.specs.Stands.{Stands};
@@ -96,5 +97,18 @@ impl Cycle {
         ensures { (source : Source) → StandsFor self.old source → StandsFor self.new source × ((answers : List MeantAnswer) → rest source self.new answers ≡ rest source self.old (answer_of answer.entry ∷ answers)) }
     {
         self.stepper.go_on(answer);
+    }
+
+    /// Goes on past the jump that pends, as after the answer `Done`, and past those behind it, so many at most; how many it was.
+    /// It takes no memory.
+    pub fn pass_jumps(&mut self, most: u16) -> u16
+        requires jump { asked self.old ≡ Jump }
+        requires some { 1 ≤ most }
+        ensures some { 1 ≤ result }
+        ensures few { result ≤ most }
+        ensures jumps { (source : Source) → StandsFor self.old source → (n : ℕ) → n < result → rest source self.old (replicate n Done) ≡ MeantJump }
+        ensures goes { (source : Source) → StandsFor self.old source → StandsFor self.new source × ((answers : List MeantAnswer) → rest source self.new answers ≡ rest source self.old (replicate result Done ++ answers)) }
+    {
+        self.stepper.pass_jumps(most)
     }
 }

@@ -1,13 +1,14 @@
 //! The indicators of a run.
-ghost use Rattle.std.specs.Prelude.{◌≡◌, true, IsTrue};
+ghost use Rattle.std.specs.Prelude.{◌≡◌, ◌<◌, length, true, IsTrue};
+ghost use Rattle.std.specs.List.{list_all};
 ghost use Rattle.s3_meaning.specs.Environment.{turn, with_last_record};
 ghost use Rattle.s3_lines.specs.declared.indicator.Indicator.{Indicator as MeantIndicator};
 ghost use Rattle.s3_match.specs.Reading.{AreNumbersOf, IsReading, indicators_on};
-ghost use Rattle.s3_match.specs.Types.{is_type_start, kind_at};
+ghost use Rattle.s3_match.specs.Types.{is_type_start, kind_at, name_of_file};
 ghost use Rattle.s3_operations.specs.Held.{IsSound as AreValues, Changes as ValuesChange};
 ghost use Rattle.s3_operations.specs.Indicating.{cleared_of};
 ghost use Rattle.s3_operations.specs.Indicators.{is_settable, is_settable_entry, on_in};
-ghost use Rattle.s3_cycle.specs.Inner.Clearing.{turned_off};
+ghost use Rattle.s3_cycle.specs.Inner.Clearing.{shown_by, turned_off, without_types_of};
 ghost use Rattle.s3_cycle.specs.Inner.Going.{AreSound, Changes, held_by};
 ghost use Rattle.s3_cycle.specs.Inner.Entries.{turn_entry, is_entry_on};
 
@@ -29,6 +30,22 @@ fn turn_off(indicators: &mut Indicators, program: &Program, numbers: &[usize])
     }
 }
 
+/// The record identifying indicators of types go off, by their numbers.
+fn turn_types_off(
+    indicators: &mut Indicators,
+    program: &Program,
+    reading: &Reading,
+    starts: &[TypeStart],
+)
+    requires reading { IsReading program.now reading.now }
+    requires starts { list_all (is_type_start program.now) starts.now ≡ true }
+    ensures { (other : MeantIndicator) → on_in indicators.new other ≡ turned_off (shown_by program.now starts.now) other (on_in indicators.old other) }
+{
+    for start in starts {
+        indicators.on[reading.number_of(program, *start)] = false;
+    }
+}
+
 /// A cycle clears what the one before it has set: record identifying indicators, by their numbers, and L1 to L9 unless LR is
 /// on, which sets them.
 pub fn clear(values: &mut Values, program: &Program, numbers: &[usize])
@@ -39,6 +56,21 @@ pub fn clear(values: &mut Values, program: &Program, numbers: &[usize])
     let is_last = values.is_on(program, Indicator::LastRecord);
     turn_off(&mut values.indicators, program, numbers);
     values.turn_levels(program, is_last);
+}
+
+/// The record identifying indicators of a file go off.
+pub fn clear_types_of(values: &mut Values, program: &Program, reading: &Reading, file: usize)
+    requires sound { AreValues program.now values.old }
+    requires reading { IsReading program.now reading.now }
+    requires file { file < length program.now.files.items }
+    ensures { ValuesChange program.now values.old values.new (without_types_of (name_of_file program.now file)) }
+{
+    turn_types_off(
+        &mut values.indicators,
+        program,
+        reading,
+        &program.starts.types[file],
+    );
 }
 
 /// The record identifying indicator of a type goes on, by its number.

@@ -34,7 +34,7 @@ fn is_told(device: Device) -> bool
 
 impl Stepper {
     /// Composes the line that starts there.
-    #[inline(never)]
+    #[inline(always)]
     pub fn compose(&mut self, start: &OutputStart)
         requires running { IsRunning self.old }
         requires starts { IsStart self.old.program start.now }
@@ -46,7 +46,7 @@ impl Stepper {
         let is_told = is_told(file.device);
         compose(
             &self.program,
-            &self.guards.cards,
+            &self.guards.outputs,
             &mut self.state.values,
             start,
             length,

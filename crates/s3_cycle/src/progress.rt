@@ -1,15 +1,9 @@
 //! How far a run has come.
-ghost use Rattle.std.specs.Prelude.{◌≡◌, [], None};
-ghost use Rattle.s3_program.specs.declared.program.Program.{Program};
-ghost use Rattle.s3_sections.specs.Courses.{IsCourse};
-ghost use Rattle.s3_sections.specs.Spots.{IsSpot, subroutine_in};
-
 use arrayvec::ArrayVec;
 use s3_match::heads::RECORD_BYTES;
 use s3_match::reading::Reading;
 use s3_program::starts::{TypeStart, Walk};
 use s3_sections::course::Course;
-use s3_sections::spot::Spot;
 
 /// The record that is processed.
 #[derive(Clone, Copy)]
@@ -131,14 +125,4 @@ pub struct Progress {
     pub course: Course,
     /// The record that CHAIN found last.
     pub record: ArrayVec<u8, RECORD_BYTES>,
-}
-
-/// A course begins at a spot outside of all subroutines; the room of its returns isn't written again.
-pub fn restart(course: &mut Course, here: Spot)
-    ensures here { course.new.here ≡ here }
-    ensures returns { course.new.returns.items ≡ [] }
-    ensures course { (program : Program) → IsSpot program here → subroutine_in here ≡ None → IsCourse program course.new }
-{
-    course.here = here;
-    course.returns.clear();
 }

@@ -1,7 +1,7 @@
 //! The beginning of a run.
 ghost use Rattle.std.specs.Prelude.{◌≡◌, None, replicate, IfOk};
 ghost use Rattle.s3_operations.specs.Beginning.{IsDate};
-ghost use Rattle.s3_cycle.specs.Inner.Starting.{BeginsProgress, BeginsState, Starts};
+ghost use Rattle.s3_cycle.specs.Inner.Starting.{BeginsProgress, Starts};
 
 use crate::progress::{Point, Progress, Time};
 use crate::request::{Current, Request};
@@ -33,27 +33,6 @@ fn no_records(alloc: Global, files: usize) -> Result<Vec<Option<Current>>, Alloc
     Ok(current)
 }
 
-impl State {
-    /// The values at the beginning of a job.
-    fn first(
-        alloc: Global,
-        program: &Program,
-        switches: u8,
-        date: [u8; 6],
-    ) -> Result<State, AllocError>
-        requires { IsDate date }
-        ensures { IfOk result (BeginsState program.now switches date) }
-    {
-        Ok(State {
-            values: Values::new(alloc, program, switches, date)?,
-            current: no_records(alloc, program.files.len())?,
-            controls: Controls::none(),
-            is_totals_due: false,
-            carriage: Carriage { page: 1, line: 1 },
-        })
-    }
-}
-
 impl Progress {
     /// Nothing is read yet.
     fn first(alloc: Global, program: &Program, switches: u8) -> Result<Progress, AllocError>
@@ -79,7 +58,8 @@ impl Stepper {
         requires { IsDate date }
         ensures { IfOk result (Starts program switches date) }
     {
-        let state = State::first(alloc, &program, switches, date)?;
+        let values = Values::new(alloc, &program, switches, date)?;
+        let current = no_records(alloc, program.files.len())?;
         let progress = Progress::first(alloc, &program, switches)?;
         let prepared = prepared_lines(alloc, &program)?;
         let inputs = prepared_inputs(alloc, &program)?;
@@ -94,7 +74,14 @@ impl Stepper {
             // nothing is asked for yet
             request: Request::End { at_once: false },
             point: Point::End { at_once: false },
-            state,
+            // built where it stays, since what is held of control fields is long
+            state: State {
+                values,
+                current,
+                controls: Controls::none(),
+                is_totals_due: false,
+                carriage: Carriage { page: 1, line: 1 },
+            },
             progress,
             composition: Composition::new(),
         };

@@ -8,7 +8,7 @@ ghost use Rattle.s3_meaning.specs.Requests.{NthRead};
 ghost use Rattle.s3_meaning.specs.Environment.{put_current};
 ghost use Rattle.s3_cycle.specs.Inner.Going.{CanCalculate, Changes, GoesOn, IsRunning, IsTaken, here};
 
-use crate::progress::{Selection, Time, restart};
+use crate::progress::{Selection, Time};
 use crate::request::Current;
 use crate::stepper::Stepper;
 use crate::went::Went;
@@ -23,7 +23,7 @@ impl Stepper {
         ensures { GoesOn self.old self.new (here self.old (λ source program progress. last_time source (again source))) }
     {
         self.progress.time = Time::Last;
-        restart(&mut self.progress.course, Spot::totals(&self.program));
+        self.progress.course.restart(Spot::totals(&self.program));
         self.calculate_last();
     }
 
@@ -59,7 +59,7 @@ impl Stepper {
         ensures { GoesOn self.old self.new (here self.old (λ source program progress. totals_spec source (again source) (totals_done source program progress selection))) }
     {
         self.progress.time = Time::Totals(selection);
-        restart(&mut self.progress.course, Spot::totals(&self.program));
+        self.progress.course.restart(Spot::totals(&self.program));
         self.calculate_totals(selection);
     }
 
@@ -103,13 +103,14 @@ impl Stepper {
     }
 
     /// Step 9 where the overflow indicator is on, and the steps behind it.
+    #[inline(always)]
     pub fn begin_overflow(&mut self, selection: Selection)
         requires running { IsRunning self.old }
         requires taken { IsTaken self.old.program self.old.progress selection }
         ensures { GoesOn self.old self.new (here self.old (λ source program progress. overflow_lines source (again source) (record_moved source program progress selection))) }
     {
-        self.progress.time = Time::Totals(selection);
         if self.is_entry_on(self.overflow) {
+            self.progress.time = Time::Totals(selection);
             self.put_overflow(selection, 0);
         } else {
             self.move_record(selection);

@@ -9,6 +9,15 @@ pub enum Went {
     ToEnd,
 }
 
+/// How far a run went on past jumps.
+#[derive(Clone, Copy)]
+pub struct Passed {
+    /// How far it went.
+    pub went: Went,
+    /// How many jumps it passed.
+    pub jumps: u16,
+}
+
 /// What one calculation came to.
 #[derive(Clone, Copy)]
 pub enum Calculated {
@@ -18,24 +27,4 @@ pub enum Calculated {
     Waits,
     /// There was none: all sections that were open have ended.
     Over,
-}
-
-/// What is left where the next line isn't done as it is prepared.
-#[derive(Clone, Copy)]
-pub enum Left {
-    /// A calculation whose conditions hold.
-    Undone,
-    /// The section: it has ended above the line.
-    Ended,
-    /// All: the cards tell what comes next.
-    Untold,
-}
-
-/// How far the calculation that begins at a place has led, as it is prepared.
-#[derive(Clone, Copy)]
-pub enum Led {
-    /// It is done or passed over: behind it the calculations go on at this place.
-    To(usize),
-    /// Nowhere.
-    Nowhere(Left),
 }

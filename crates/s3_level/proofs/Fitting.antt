@@ -42,11 +42,6 @@ line_done (Some job) page line is =
     let asks_it : asked job.cycle ≡ asks.Print page line = cc in
     by_meaning job.cycle (Meant.Print page line _) answers.Done (waits_print job.cycle page line asks_it) refl
 
-pub jump_done : (o : Option OpenJob) → request_by o ≡ Some asks.Jump → FitsJob o answers.Done
-unfolding answer_of
-jump_done None is = none-some asks.Jump is
-jump_done (Some job) is = let asks_it : asked job.cycle ≡ asks.Jump = cc in by_meaning job.cycle Meant.Jump answers.Done (waits_jump job.cycle asks_it) refl
-
 -- ---- replies
 asked_by : (request : Request) (code : HaltCode) → code_asked request ≡ Some code → request ≡ asks.Ask code
 asked_by (asks.Ask other) code is = ap (λ c. asks.Ask c) (let same : other ≡ code = cc in same)

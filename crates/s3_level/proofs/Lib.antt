@@ -3,6 +3,7 @@ pub mod Dates
 pub mod Running
 pub mod Fitting
 pub mod Turns
+pub mod Jumping
 pub mod Replies
 pub mod Starting
 pub mod Beginning

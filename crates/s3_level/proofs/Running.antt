@@ -2,7 +2,7 @@
 use Rattle.std.proofs.Common.{◌≡◌, ◌≤◌, ℕ, length, List, [], ◌∷◌, ◌++◌, refl, sym, ◌∙◌, ap, subst, Bool, true, false, if◌then◌else◌, Option, Some, None, Result, Ok, Err, OnOk, drop, map, slice_range}
 use Rattle.std.proofs.lemmas.Option.{none-some}
 use Rattle.s3_meaning.specs.Source.{Source}
-use Rattle.s3_meaning.specs.Requests.{Answer, Request, Card, Read, Chain, Append, Add, Update, Print, Jump, Ask, End, Done}
+use Rattle.s3_meaning.specs.Requests.{Answer, Request, Card, Read, Chain, Append, Add, Update, Print, Jump, Ask, End}
 use Rattle.s3_operator.specs.declared.halt_code.HaltCode.{HaltCode}
 use Rattle.s3_cycle.specs.declared.request.Request as code
 use Rattle.s3_cycle.specs.declared.request.Request.TheVariants as asks
@@ -14,7 +14,7 @@ use Rattle.s3_level.specs.declared.level.Level.{Level}
 use Rattle.s3_level.specs.declared.next.Next.TheVariants.{Halts, IsOver, GoesOn}
 use Rattle.s3_solo.specs.declared.action.Did.TheVariants.{Acted}
 use Rattle.s3_solo.specs.World.{World, JobAtWork}
-use Rattle.s3_solo.specs.Serving.{answered, at_work, card_answer, halting, job_ended, line_put, over, pending, served, standing_at, with_answer, with_card_read}
+use Rattle.s3_solo.specs.Serving.{at_work, card_answer, halting, job_ended, line_put, over, pending, served, standing_at, with_answer, with_card_read}
 use Rattle.s3_job_files.specs.Holds.{HoldsFiles, job_file_of}
 use Rattle.s3_job_files.specs.declared.file.OpenFile.{OpenFile}
 use Rattle.s3_job_files.specs.declared.job_files.JobFiles.{JobFiles}
@@ -23,7 +23,7 @@ use Rattle.s3_level.specs.Inner.Turning.{AtWorkBecomes, Comes, KeepsPlace, Pends
 
 -- ---- the open job and the world's
 -- where the level has a job at work, so has the world
-job_held : (deck : List (List ℕ)) (open_job : OpenJob) (w : World) (job : JobAtWork) (o : Option OpenJob) (meant : Option JobAtWork) → o ≡ Some open_job → meant ≡ Some job
+pub job_held : (deck : List (List ℕ)) (open_job : OpenJob) (w : World) (job : JobAtWork) (o : Option OpenJob) (meant : Option JobAtWork) → o ≡ Some open_job → meant ≡ Some job
     → HoldsAtWork deck o w meant → HoldsJob deck open_job w job
 job_held deck open_job w job o meant is_open is_job held =
     let P : Option OpenJob → Type 0 = λ k. HoldsAtWork deck k w (Some job) in
@@ -215,11 +215,6 @@ card_served old middle new takes stands w job is_job held = (
       (Some (with_answer (card_answer job.cards) (with_card_read job))))
       (stands (record w { job = Some (with_answer (card_answer job.cards) (with_card_read job)) }) (with_answer (card_answer job.cards) (with_card_read job)) refl (takes w job is_job held)),
 )
-
-pub jump_served : (old new : World → Type 0)
-    → AtWorkBecomes (answered Done) old new
-    → (w : World) (job : JobAtWork) → w.job ≡ Some job → old w → (Acted ≡ (served Jump job w).did) × new (served Jump job w).world
-jump_served old new resumes w job is_job held = (refl, resumes w job is_job held)
 
 -- a job at work stays as it is while a line is put
 still : (page line : ℕ) (text : List ℕ) (w : World) (deck : List (List ℕ)) (o : Option OpenJob) (meant : Option JobAtWork) → HoldsAtWork deck o w meant → HoldsAtWork deck o (line_put page line text w) meant

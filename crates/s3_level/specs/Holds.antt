@@ -1,5 +1,5 @@
 -- What it is that a level holds a world, with what it is shown of the pack and the spool.
-use Rattle.std.specs.Prelude.{◌≡◌, ◌≢◌, ℕ, ◌≤◌, ◌<◌, List, [], ◌++◌, length, map, slice_range, Option, Some, None}
+use Rattle.std.specs.Prelude.{◌≡◌, ◌≢◌, ℕ, ◌≤◌, ◌<◌, Bool, true, false, not, ◌&&◌, List, [], ◌++◌, length, map, replicate, slice_range, Option, Some, None}
 use Rattle.indexmap.specs.IndexMap.{get}
 use Rattle.s3_cards.specs.declared.levels.LevelId.{LevelId}
 use Rattle.s3_cards.specs.Levels.{other}
@@ -16,7 +16,10 @@ use Rattle.s3_job_files.specs.Holds.{Seen, seen, HoldsFiles, IsOutOfReach, job_f
 use Rattle.s3_meaning.specs.Source.{Source}
 use Rattle.s3_program.specs.Stands.{Stands}
 use Rattle.s3_program.specs.declared.program.Program.{Program}
-use Rattle.s3_cycle.specs.Following.{Follows, files}
+use Rattle.s3_operator.specs.Halts.{is_waiting}
+use Rattle.s3_cycle.specs.declared.request.Request.{Request}
+use Rattle.s3_cycle.specs.declared.request.Request.TheVariants.{Jump}
+use Rattle.s3_cycle.specs.Following.{Follows, asked, files}
 use Rattle.s3_ocl.specs.Streams.{jobs_from}
 use Rattle.s3_opening.specs.OpenFiles.{AreOfLines}
 use Rattle.s3_solo.specs.declared.action.Action.{Action}
@@ -24,7 +27,7 @@ use Rattle.s3_solo.specs.declared.action.Did.{Did}
 use Rattle.s3_solo.specs.declared.action.Did.TheVariants.{Acted}
 use Rattle.s3_solo.specs.Asked.{IsAsked}
 use Rattle.s3_solo.specs.Lines.{Lines}
-use Rattle.s3_solo.specs.Solo.{step_of}
+use Rattle.s3_solo.specs.Solo.{solo, step_of}
 use Rattle.s3_solo.specs.World.{World, JobAtWork}
 use Rattle.s3_level.specs.declared.job.OpenJob.{OpenJob}
 use Rattle.s3_level.specs.declared.level.Level.{Level}
@@ -116,6 +119,20 @@ pub record Holds (level : Level) (beside : Around) (w : World) : Type 0 where
   pub parts : HoldsParts level (shown level.id beside) w
   pub asked : IsAsked w
 
+-- ---- jumps
+abbrev pub is_jump : Request → Bool
+is_jump Jump = true
+is_jump request = false
+
+-- the open job, if there is one, waits at a jump
+abbrev pub jumps : Option OpenJob → Bool
+jumps None = false
+jumps (Some job) = is_jump (asked job.cycle)
+
+-- a jump pends that turns can pass: no halt waits
+abbrev pub has_jump : Level → Bool
+has_jump level = jumps level.job && not (is_waiting level.halts)
+
 -- ---- whatever it holds
 -- the files of an open job are those of its program's F lines, as far as the job uses them
 pub record IsJobReady (level : LevelId) (job : OpenJob) : Type 0 where
@@ -144,6 +161,11 @@ Becomes change old new = (w : World) → old w → new (change w)
 -- each world that was held takes one step of the solo run, with this answer
 abbrev pub Steps : Action → Did → (World → Type 0) → (World → Type 0) → Type 0
 Steps action did old new = (w : World) → old w → (did ≡ (step_of w action).did) × new (step_of w action).world
+
+-- each world that was held takes so many such steps of the solo run, one after the other, each with this answer
+abbrev pub Repeats : Action → (times : ℕ) → Did → (World → Type 0) → (World → Type 0) → Type 0
+Repeats action times did old new =
+    (w : World) → old w → ((n : ℕ) → n < times → did ≡ (step_of (solo w (replicate n action)) action).did) × new (solo w (replicate times action))
 
 -- which level it is and its deck never change; the drained lines don't but by draining
 pub record Stays (old new : Level) : Type 0 where

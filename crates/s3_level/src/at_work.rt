@@ -11,7 +11,7 @@ use s3_store::{PoolFault, Sectors};
 use std::alloc::AllocError;
 
 impl Level {
-    ghost use Rattle.std.specs.Prelude.{◌≡◌, ◌+◌, None, IfOk, IsOk, OnOk, ◌≢◌, IfErr};
+    ghost use Rattle.std.specs.Prelude.{◌≡◌, ◌≤◌, ◌+◌, None, IfOk, IsOk, OnOk, ◌≢◌, IfErr};
     ghost use Rattle.std.specs.Option.{option_copied};
     ghost use Rattle.s3_store.specs.Failures.{failed_transfers};
     ghost use Rattle.s3_labels.specs.Labelled.{KeepsSaid};
@@ -24,7 +24,7 @@ impl Level {
     ghost use Rattle.s3_solo.specs.World.{World, JobAtWork};
     ghost use Rattle.s3_solo.specs.Serving.{answered, at_work, halting, job_ended, served, with_answer};
     ghost use Rattle.s3_level.specs.Holds.{Shown, AreAll, around, shown, with_seen, HoldsParts, IsQuiet, IsReady, Becomes, Stays, Spares, KeepsOthers};
-    ghost use Rattle.s3_level.specs.Inner.Turning.{Pends, request_by, waits_by, FitsJob, Comes, AtWorkBecomes, Serves, Turns};
+    ghost use Rattle.s3_level.specs.Inner.Turning.{Pends, request_by, waits_by, FitsJob, Comes, AtWorkBecomes, JumpsBecome, Serves, Turns};
 
     /// Performs the pending request of the job at work, or begins the next job.
     ///
@@ -120,7 +120,6 @@ impl Level {
     }
 
     /// Lets the job at work go on behind a jump.
-    #[tactic(auto, using(crate::proofs::Fitting::jump_done, crate::proofs::Running::jump_served), unfolding(s3_cycle::specs::Requests::answer_of))]
     fn jump<P: Sectors>(&mut self, pack: &mut Pack<P>) -> Result<Did, PoolFault>
         requires asks { request_by self.old.job ≡ Some asks.Jump }
         requires ready { IsReady self.old (seen pack.old.areas (P.state pack.old.pool).contents) }
@@ -133,8 +132,49 @@ impl Level {
         ensures fault { IfErr result (λ fault. fault ≢ PoolFault.NoSector) }
         ensures stays { Stays self.old self.new }
     {
-        self.resume(Answer::Done, pack)?;
+        let _one = self.go_past_jumps(1, pack)?;
         Ok(Did::Acted)
+    }
+
+    /// Lets the job at work go on behind the jump that pends and those behind it, so many at most: how many they were.
+    pub(crate) fn go_past_jumps<P: Sectors>(
+        &mut self,
+        most: u16,
+        pack: &mut Pack<P>,
+    ) -> Result<u16, PoolFault>
+        requires asks { request_by self.old.job ≡ Some asks.Jump }
+        requires some { 1 ≤ most }
+        requires ready { IsReady self.old (seen pack.old.areas (P.state pack.old.pool).contents) }
+        ensures some { IfOk result (λ jumps. 1 ≤ jumps) }
+        ensures few { IfOk result (λ jumps. jumps ≤ most) }
+        ensures world { (s : Shown) → IfOk result (λ jumps. JumpsBecome jumps at_work (HoldsParts self.old (with_seen (seen pack.old.areas (P.state pack.old.pool).contents) s)) (HoldsParts self.new (with_seen (seen pack.new.areas (P.state pack.new.pool).contents) s))) }
+        ensures ready { OnOk result (IsReady self.new (seen pack.new.areas (P.state pack.new.pool).contents)) }
+        ensures others { KeepsOthers self.old.id pack.old.areas pack.new.areas (P.state pack.old.pool) (P.state pack.new.pool) }
+        ensures failures { (P.state pack.new.pool).failures ≡ (P.state pack.old.pool).failures + failed_transfers result }
+        ensures says { OnOk result (KeepsSaid self.old.id pack.old.areas (P.state pack.old.pool).contents pack.new.areas (P.state pack.new.pool).contents) }
+        ensures fault { IfErr result (λ fault. fault ≢ PoolFault.NoSector) }
+        ensures stays { Stays self.old self.new }
+    {
+        let jumps = self.take_jumps(most);
+        self.stand(pack)?;
+        Ok(jumps)
+    }
+
+    /// Gives the jump that pends and those behind it, so many at most, their answers: how many they were.
+    #[tactic(auto, using(crate::proofs::Jumping::jumps_taken))]
+    fn take_jumps(&mut self, most: u16) -> u16
+        requires asks { request_by self.old.job ≡ Some asks.Jump }
+        requires some { 1 ≤ most }
+        ensures some { 1 ≤ result }
+        ensures few { result ≤ most }
+        ensures world { (s : Shown) → JumpsBecome result (λ job w. record w { job = Some job }) (HoldsParts self.old s) (HoldsParts self.new s) }
+        ensures ready { (pack : Seen) → IsReady self.old pack → IsReady self.new pack }
+        ensures stays { Stays self.old self.new }
+    {
+        match &mut self.job {
+            Some(job) => job.pass_jumps(most),
+            None => unreachable!(),
+        }
     }
 
     /// Lets the job at work go on with the answer to its pending request.

@@ -11,7 +11,7 @@ ghost use Rattle.s3_job_files.specs.Holds.{seen, job_file_of, opened_as, AllAt, 
 ghost use Rattle.s3_match.specs.Types.{name_of_file};
 ghost use Rattle.s3_labels.specs.Areas.{IsReady as IsPackReady};
 ghost use Rattle.s3_meaning.specs.Requests.{fits, fits_done, refuses_update};
-ghost use Rattle.s3_cycle.specs.Following.{Resumes, asked, is_fit, put, waits};
+ghost use Rattle.s3_cycle.specs.Following.{PassesJumps, Resumes, asked, is_fit, put, waits};
 ghost use Rattle.s3_cycle.specs.Requests.{answer_of, current_of, sought_of};
 ghost use Rattle.s3_cycle.specs.declared.request.Request.TheVariants as asks;
 ghost use Rattle.s3_solo.specs.Serving.{card_answer};
@@ -256,6 +256,20 @@ impl OpenJob {
         ensures place { KeepsPlace self.old self.new }
     {
         self.cycle.resume(answer);
+    }
+
+    /// Goes on past the jump that pends and those behind it, so many at most; how many it was.
+    pub fn pass_jumps(&mut self, most: u16) -> u16
+        requires jump { asked self.old.cycle ≡ asks.Jump }
+        requires some { 1 ≤ most }
+        ensures some { 1 ≤ result }
+        ensures few { result ≤ most }
+        ensures passes { PassesJumps self.old.cycle self.new.cycle result }
+        ensures ready { IsJobReady self.old.files.level self.old → IsJobReady self.new.files.level self.new }
+        ensures files { self.new.files ≡ self.old.files }
+        ensures place { KeepsPlace self.old self.new }
+    {
+        self.cycle.pass_jumps(most)
     }
 
     /// Closes its files.

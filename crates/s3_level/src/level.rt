@@ -5,6 +5,7 @@ use crate::job::OpenJob;
 use crate::job_number::JobNumber;
 use indexmap::IndexMap;
 use s3_cards::{Deck, LevelId, Name, PrintLine};
+use s3_cycle::Request;
 use s3_labels::Pack;
 use s3_operator::{Halt, HaltLog};
 use s3_program::program::Program;
@@ -33,7 +34,7 @@ pub struct Level {
 }
 
 impl Level {
-    ghost use Rattle.std.specs.Prelude.{◌≡◌, ◌≢◌, ◌+◌, ℕ, [], map, None, IfOk, IsOk, OnOk, OnErr, IfErr};
+    ghost use Rattle.std.specs.Prelude.{◌≡◌, ◌≢◌, ◌≤◌, ◌+◌, ℕ, true, [], map, None, IfOk, IsOk, OnOk, OnErr, IfErr};
     ghost use Rattle.s3_store.specs.Failures.{failed_transfers};
     ghost use Rattle.s3_labels.specs.Labelled.{KeepsSaid};
     ghost use Rattle.s3_store.specs.State.{KeepsContents};
@@ -46,7 +47,7 @@ impl Level {
     ghost use Rattle.s3_solo.specs.World.{World, at_start};
     ghost use Rattle.s3_solo.specs.Serving.{job_ended};
     ghost use Rattle.s3_solo.specs.Solo.{step_of};
-    ghost use Rattle.s3_level.specs.Holds.{Around, AreAll, around, Holds, IsFresh, IsQuiet, IsReady, Becomes, Steps, Stays, Spares, KeepsOthers};
+    ghost use Rattle.s3_level.specs.Holds.{Around, AreAll, around, Holds, IsFresh, IsQuiet, has_jump, IsReady, Becomes, Repeats, Steps, Stays, Spares, KeepsOthers};
 
     /// A level with this deck, before its first entry.
     pub fn new(alloc: Global, id: LevelId, deck: Deck) -> Level
@@ -103,6 +104,42 @@ impl Level {
         ensures stays { Stays self.old self.new }
     {
         self.step(pack, spool)
+    }
+
+    /// Whether a jump pends that turns can pass.
+    #[inline(always)]
+    pub fn has_jump(&self) -> bool
+        ensures { result ≡ has_jump self.now }
+    {
+        match self.pending() {
+            Some(Request::Jump) => !self.halts.is_waiting(),
+            _ => false,
+        }
+    }
+
+    /// Takes a turn at the jump that pends and at each one behind it, so many at most: how many turns it took.
+    ///
+    /// After it ran out of memory, or its sectors failed, nothing is said of the worlds that are held, and no entry is to be taken.
+    pub fn pass_jumps<P: Sectors>(
+        &mut self,
+        most: u16,
+        pack: &mut Pack<P>,
+    ) -> Result<u16, PoolFault>
+        requires jump { has_jump self.old ≡ true }
+        requires some { 1 ≤ most }
+        requires ready { IsReady self.old (seen pack.old.areas (P.state pack.old.pool).contents) }
+        ensures some { IfOk result (λ turns. 1 ≤ turns) }
+        ensures few { IfOk result (λ turns. turns ≤ most) }
+        ensures step { (blocks : Blocks) → AreAll blocks → IfOk result (λ turns. Repeats Turn turns Acted (Holds self.old (around pack.old.areas (P.state pack.old.pool) blocks)) (Holds self.new (around pack.new.areas (P.state pack.new.pool) blocks))) }
+        ensures acts { (blocks : Blocks) (w : World) → Holds self.old (around pack.old.areas (P.state pack.old.pool) blocks) w → (step_of w Turn).did ≡ Acted }
+        ensures ready { OnOk result (IsReady self.new (seen pack.new.areas (P.state pack.new.pool).contents)) }
+        ensures others { KeepsOthers self.old.id pack.old.areas pack.new.areas (P.state pack.old.pool) (P.state pack.new.pool) }
+        ensures failures { (P.state pack.new.pool).failures ≡ (P.state pack.old.pool).failures + failed_transfers result }
+        ensures says { OnOk result (KeepsSaid self.old.id pack.old.areas (P.state pack.old.pool).contents pack.new.areas (P.state pack.new.pool).contents) }
+        ensures fault { IfErr result (λ fault. fault ≢ PoolFault.NoSector) }
+        ensures stays { Stays self.old self.new }
+    {
+        self.go_past_jumps(most, pack)
     }
 
     /// Answers the halt that waits with a digit, and a job at work goes on with it to its next request: refused with 1 where

@@ -1,7 +1,6 @@
 //! Requests of the job at work: cards, lines and records.
 
 use crate::level::Level;
-use s3_cards::PrintLine;
 use s3_cycle::Answer;
 use s3_labels::Pack;
 use s3_solo::Did;
@@ -153,8 +152,7 @@ impl Level {
         let Some(job) = &self.job else {
             return Ok(());
         };
-        let text = PrintLine::with_text(page, line, job.cycle.record());
-        match spool.put(self.id, &text, &mut pack.pool) {
+        match spool.put(self.id, page, line, job.cycle.record(), &mut pack.pool) {
             Ok(()) => Ok(()),
             Err(SpoolFault::Sectors(fault)) => Err(fault),
             Err(SpoolFault::QuotaFull) => unreachable!(),

@@ -1,5 +1,5 @@
 -- Indicators that the cycle turns by itself.
-use Rattle.std.proofs.Common.{◌≡◌, ℕ, ◌+◌, ◌<◌, List, [], ◌∷◌, Bool, true, false, not, ◌&&◌, ◌||◌, refl, ◌∙◌, ap, arith, zero, suc, length, get_or}
+use Rattle.std.proofs.Common.{◌≡◌, ℕ, ◌+◌, List, [], ◌∷◌, Bool, true, false, not, ◌&&◌, ◌||◌, refl, ◌∙◌, ap, arith, length}
 use Rattle.std.specs.Prelude.{map, if◌then◌else◌}
 use Rattle.std.specs.List.{list_all}
 use Rattle.std.proofs.Math.Path.{fun_ext}
@@ -99,13 +99,6 @@ turn_once true true to v = refl
 turn_once true false to v = refl
 turn_once false true to v = refl
 turn_once false false to v = refl
-
-pub type_settable : (inputs : List (InputLine Reference)) (k : ℕ) (d : InputLine Reference) → list_all is_settable_entry (map type_indicator inputs) ≡ true → k < length inputs
-    → is_settable_entry (type_indicator (get_or inputs k d)) ≡ true
-type_settable [] k d all within = absurd (omega (arith, within))
-type_settable (line ∷ lines) zero d all within = (and_parts (is_settable_entry (type_indicator line)) (list_all is_settable_entry (map type_indicator lines)) all).0
-type_settable (line ∷ lines) (suc k) d all within =
-    type_settable lines k d (and_parts (is_settable_entry (type_indicator line)) (list_all is_settable_entry (map type_indicator lines)) all).1 (omega (arith, within))
 
 pub record_settable : (indicator : Indicator) → is_record_indicator indicator ≡ true → is_settable indicator ≡ true
 record_settable (General n) h = refl

@@ -1,4 +1,5 @@
 pub mod IndicatorLemmas
+pub mod LayingLemmas
 pub mod TextLemmas
 pub mod ValueLemmas
 pub mod FitLemmas
@@ -9,7 +10,6 @@ pub mod GroupLemmas
 pub mod BeginLemmas
 pub mod FieldLemmas
 pub mod IndicatingLemmas
-pub mod TypeLemmas
 pub mod MoveLemmas
 pub mod WithinLemmas
 pub mod ChainLemmas

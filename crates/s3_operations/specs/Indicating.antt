@@ -1,19 +1,14 @@
 -- Indicators that the cycle turns by itself.
-use Rattle.std.specs.Prelude.{ℕ, not, ◌&&◌, ◌||◌, List, [], ◌∷◌, drop, Option, Some, None}
-use Rattle.std.specs.List.{list_any}
-use Rattle.s3_cards.specs.declared.name.Name.{Name}
-use Rattle.s3_cards.specs.Names.{same_name}
+use Rattle.std.specs.Prelude.{ℕ, ◌||◌, Option, Some, None}
 use Rattle.s3_lines.specs.declared.indicator.Indicator.{Indicator}
 use Rattle.s3_lines.specs.declared.indicator.Indicator.TheVariants.{LastRecord}
 use Rattle.s3_lines.specs.declared.sheet.InputLine.{InputLine}
 use Rattle.s3_lines.specs.declared.sheet.InputLine.TheVariants.{Record, And as AndCodes, Or as OrCodes, Field as InputField}
-use Rattle.s3_meaning.specs.Names.{same_indicator}
 use Rattle.s3_meaning.specs.Source.{Source}
 use Rattle.s3_meaning.specs.Environment.{Environment, turn_levels}
 use Rattle.s3_meaning.specs.Cycle.{without_types}
 use Rattle.s3_meaning.specs.Selection.{is_level_to}
 use Rattle.s3_program.specs.declared.program.Reference.{Reference}
-use Rattle.s3_program.specs.declared.starts.TypeStart.{TypeStart}
 
 -- of a line where a record type starts
 abbrev pub type_indicator : InputLine Reference → Option Indicator
@@ -21,19 +16,6 @@ type_indicator (Record file indicator codes) = Some indicator
 type_indicator (AndCodes codes) = None
 type_indicator (OrCodes indicator codes) = Some indicator
 type_indicator (InputField field) = None
-
--- of the record type that starts there
-abbrev pub start_indicator : List (InputLine Reference) → TypeStart → Option Indicator
-start_indicator inputs start = on_first (drop start.place inputs)
-  where
-    on_first : List (InputLine Reference) → Option Indicator
-    on_first [] = None
-    on_first (line ∷ lines) = type_indicator line
-
--- the record identifying indicators of one file go off
-abbrev pub without_types_of : Name → Source → Environment → Environment
-without_types_of file source e =
-    record e { on = λ other. e.on other && not (list_any (λ kind. same_name kind.file file && same_indicator other kind.indicator) source.types) }
 
 -- the indicators of a control break at a level
 abbrev pub with_levels_to : ℕ → Environment → Environment

@@ -11,6 +11,7 @@ pub mod fields;
 pub mod groups;
 pub mod indicating;
 pub mod indicators;
+pub mod laying;
 pub mod moves;
 pub mod moving;
 pub mod numbers;

@@ -3,6 +3,7 @@ ghost use Rattle.std.specs.Prelude.{◌≡◌, ◌≤◌, ◌+◌, ◌-◌, ◌+
 ghost use Rattle.s3_meaning.specs.Calculating.{moved_right, moved_left, zoned};
 ghost use Rattle.s3_operations.specs.Texts.{IsCut, texts_on, blank_texts, length_of as length_of_spec};
 
+use crate::laying::{lay, lay_within};
 use s3_cards::ebcdic::BLANK;
 use s3_decimal::{Dec, zoned_write};
 use s3_lines::sheet::Shape;
@@ -54,39 +55,6 @@ fn add_blanks(bytes: &mut Vec<u8>, count: usize) -> Result<(), AllocError>
         bytes.push(BLANK)?;
     }
     Ok(())
-}
-
-/// Lays so many characters of a text, from a place on, over the same ones of another text.
-#[inline(always)]
-fn lay_part<const N: usize>(target: &mut [u8], text: &[u8], at: usize)
-    requires size { length target.old ≡ length text.now }
-    requires within { at + N ≤ length text.now }
-    ensures { target.new ≡ take at target.old ++ (take N (drop at text.now) ++ drop (at + N) target.old) }
-{
-    match <[u8; N]>::try_from(&text[at..at + N]) {
-        Ok(part) => target[at..at + N].copy_from_slice(&part),
-        Err(_) => unreachable!(),
-    }
-}
-
-/// Lays a text over another one as long. Of a short one the first and the last characters are laid, some of them maybe twice:
-/// that takes less than a call.
-#[inline(always)]
-fn lay(target: &mut [u8], text: &[u8])
-    requires { length target.old ≡ length text.now }
-    ensures { target.new ≡ text.now }
-{
-    match text.len() {
-        4..=7 => {
-            lay_part::<4>(target, text, 0);
-            lay_part::<4>(target, text, text.len() - 4);
-        }
-        8..=16 => {
-            lay_part::<8>(target, text, 0);
-            lay_part::<8>(target, text, text.len() - 8);
-        }
-        _ => target.copy_from_slice(text),
-    }
 }
 
 /// Lays a text over another one of a fixed length, right to right.
@@ -163,6 +131,7 @@ impl Texts {
     }
 
     /// Moves the zoned bytes of a number into the text of a slot, right to right.
+    #[inline(never)]
     pub fn move_number(&mut self, slot: usize, number: Dec)
         requires { slot < length self.old }
         ensures { self.new ≡ slice_set self.old slot (moved_right (zoned number.digits number.value) (text_at self.old slot)) }
@@ -192,8 +161,12 @@ impl Texts {
         let source = self.spans[from];
         let target = self.spans[to];
         let count = overlap(source, target);
-        self.bytes
-            .copy_within(source.to - count..source.to, target.to - count);
+        lay_within(
+            &mut self.bytes,
+            source.to - count,
+            source.to,
+            target.to - count,
+        );
     }
 
     /// Moves the text of a slot into that of another one, or of the same, left to left.
@@ -206,8 +179,12 @@ impl Texts {
         let source = self.spans[from];
         let target = self.spans[to];
         let count = overlap(source, target);
-        self.bytes
-            .copy_within(source.from..source.from + count, target.from);
+        lay_within(
+            &mut self.bytes,
+            source.from,
+            source.from + count,
+            target.from,
+        );
     }
 
     /// Makes the text of a slot blank.

@@ -236,3 +236,12 @@ position_at n k told puts codes now put code_size put_size few view within is =
     ap (λ ds. slice_get ds k) (sym view)
     ∙ (taken_at (positions_in told puts codes) n k inside
     ∙ (position_in told puts codes k same (omega (arith, below, whole)) ∙ ap (λ b. Some (position b (get_or codes k 0))) is))
+
+-- ---- marks
+pub all_marked : (marks : List Bool) (n : ℕ) → length marks ≡ n → ((i : ℕ) → i < n → slice_get marks i ≡ Some true) → marks ≡ replicate n true
+all_marked [] zero size marked = refl
+all_marked [] (suc n) size marked = absurd (omega (arith, size))
+all_marked (mark ∷ marks) zero size marked = absurd (omega (arith, size))
+all_marked (mark ∷ marks) (suc n) size marked =
+    (λ i. unwrap_or (marked 0 (omega arith) i) mark ∷ marks)
+    ∙ ap (λ rest. true ∷ rest) (all_marked marks n (omega (arith, size)) (λ i within. marked (suc i) (omega (arith, within))))

@@ -9,6 +9,7 @@ use crate::numbers::put_number;
 use crate::preparing::SlotOutput;
 use s3_cards::ebcdic::BLANK;
 use s3_decimal::Dec;
+use s3_operations::laying::lay;
 use std::marker::Model;
 
 /// The longest record, in bytes.
@@ -37,33 +38,6 @@ impl Model for Composition {
     ghost invariant = { λ c. (c.length ≤ 1024) × are_filled c.length c.is_told c.put c.codes };
 }
 
-/// Copies both ends, of this length, of a text that is at most twice as long.
-#[inline(always)]
-fn copy_ends(size: usize, from: &[u8], to: &mut [u8])
-    requires same { length to.old ≡ length from.now }
-    requires reaches { size ≤ length from.now }
-    requires covers { length from.now ≤ 2 * size }
-    ensures { to.new ≡ from.now }
-{
-    let last = from.len() - size;
-    to[..size].copy_from_slice(&from[..size]);
-    to[last..].copy_from_slice(&from[last..]);
-}
-
-/// Copies a text, in two steps where it has a usual length.
-#[inline(always)]
-fn copy(from: &[u8], to: &mut [u8])
-    requires { length to.old ≡ length from.now }
-    ensures { to.new ≡ from.now }
-{
-    match from.len() {
-        4..=8 => copy_ends(4, from, to),
-        9..=16 => copy_ends(8, from, to),
-        17..=32 => copy_ends(16, from, to),
-        _ => to.copy_from_slice(from),
-    }
-}
-
 /// Lays a content over a text, up to an end position.
 #[inline(always)]
 fn overlay(text: &mut [u8], end: usize, content: &[u8])
@@ -71,7 +45,7 @@ fn overlay(text: &mut [u8], end: usize, content: &[u8])
     requires ends { end ≤ length text.old }
     ensures { text.new ≡ take (end - length content.now) text.old ++ content.now ++ drop end text.old }
 {
-    copy(content, &mut text[end - content.len()..end]);
+    lay(&mut text[end - content.len()..end], content);
 }
 
 /// Writes a number over a text, as its field is put out.
@@ -88,6 +62,32 @@ fn overlay_number(text: &mut [u8], number: &Dec, output: &SlotOutput)
     );
 }
 
+/// Marks a field that is as long as some marks, or up to twice as long: they are laid at both of its ends.
+#[inline(always)]
+fn mark_ends(marks: &[bool], field: &mut [bool])
+    requires marks { (i : ℕ) → i < length marks.now → slice_get marks.now i ≡ Some true }
+    requires reaches { length marks.now ≤ length field.old }
+    requires covers { length field.old ≤ 2 * length marks.now }
+    ensures { (i : ℕ) → i < length field.old → slice_get field.new i ≡ Some true }
+{
+    let last = field.len() - marks.len();
+    field[..marks.len()].copy_from_slice(marks);
+    field[last..].copy_from_slice(marks);
+}
+
+/// Marks a field, in two steps where it has a usual length.
+#[tactic(auto, using(crate::proofs::CompositionLemmas::all_marked))]
+#[inline(always)]
+fn mark_field(field: &mut [bool])
+    ensures { field.new ≡ replicate (length field.old) true }
+{
+    match field.len() {
+        4..=8 => mark_ends(&[true; 4], field),
+        9..=16 => mark_ends(&[true; 8], field),
+        _ => field.fill(true),
+    }
+}
+
 /// Something is put at so many positions, up to an end position, if that is told.
 #[inline(always)]
 fn mark(put: &mut [bool], is_told: bool, end: usize, count: usize)
@@ -96,7 +96,7 @@ fn mark(put: &mut [bool], is_told: bool, end: usize, count: usize)
     ensures { is_told ≡ true → put.new ≡ take (end - count) put.old ++ replicate count true ++ drop end put.old }
 {
     if is_told {
-        put[end - count..end].fill(true);
+        mark_field(&mut put[end - count..end]);
     }
 }
 

@@ -6,3 +6,4 @@ pub mod LabelLemmas
 pub mod NameLemmas
 pub mod JumpLemmas
 pub mod CourseLemmas
+pub mod PerformLemmas

@@ -3,6 +3,7 @@ ghost use Rattle.std.specs.Prelude.{◌≡◌, [], None};
 ghost use Rattle.s3_lines.specs.declared.sheet.Operation.TheVariants as op;
 ghost use Rattle.s3_meaning.specs.Calculations.{name_in};
 ghost use Rattle.s3_operations.specs.Fits.{named_line};
+ghost use Rattle.s3_sections.specs.Jumps.{IsSubroutineOf};
 ghost use Rattle.s3_sections.specs.Sections.{rest_of};
 ghost use Rattle.s3_sections.specs.Spots.{IsSpot, IsLineAt, IsOfSection, subroutine_in};
 ghost use Rattle.s3_sections.specs.Courses as spec;
@@ -38,6 +39,16 @@ impl Course {
         }
     }
 
+    /// Begins anew at a spot outside of all subroutines; the room of its returns isn't written again.
+    pub fn restart(&mut self, here: Spot)
+        ensures here { self.new.here ≡ here }
+        ensures returns { self.new.returns.items ≡ [] }
+        ensures course { (program : Program) → IsSpot program here → subroutine_in here ≡ None → spec.IsCourse program self.new }
+    {
+        self.here = here;
+        self.returns.clear();
+    }
+
     /// Goes on at another place of the section in which it stands.
     pub fn move_to(&mut self, place: usize)
         ensures here { self.new.here ≡ record self.old.here { place = place } }
@@ -47,11 +58,19 @@ impl Course {
         self.here.place = place;
     }
 
-    /// Goes to the subroutine that the EXSR at a place calls.
-    pub fn enter(&mut self, program: &Program, line: &CalculationLine<Reference>, place: usize)
+    /// Goes to the subroutine that the EXSR at a place calls: behind its BEGSR.
+    #[inline(always)]
+    pub fn enter(
+        &mut self,
+        program: &Program,
+        line: &CalculationLine<Reference>,
+        place: usize,
+        begsr: usize,
+    )
         requires course { spec.IsCourse program.now self.old }
         requires line { IsLineAt program.now place line.now op.ExecuteSubroutine }
         requires inside { IsOfSection program.now self.old.here place line.now }
+        requires begsr { IsSubroutineOf program.now line.now begsr }
         ensures { spec.Enters program.now (name_in (named_line program.now line.now).factor2) place self.old self.new }
     {
         self.returns.push(Spot {
@@ -59,7 +78,7 @@ impl Course {
             begin: self.here.begin,
             place: place + 1,
         });
-        self.here = Spot::subroutine(program, line);
+        self.here = Spot::subroutine(program, line, begsr);
     }
 
     /// At the end of a section, goes on behind the EXSR that called it; false where none did.

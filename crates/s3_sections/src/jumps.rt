@@ -61,47 +61,71 @@ fn subroutine_place(program: &Program, name: Option<Reference>) -> Option<usize>
     }
 }
 
+/// The place of the TAG that a GOTO names.
+pub fn tag_of(program: &Program, line: &CalculationLine<Reference>) -> usize
+    requires { IsLineOf program.now line.now op.GoTo }
+    ensures { spec.IsTagOf program.now line.now result }
+{
+    match tag_place(program, named(line.factor2)) {
+        Some(tag) => tag,
+        None => unreachable!(),
+    }
+}
+
+/// The place of the BEGSR that an EXSR names.
+pub fn subroutine_of(program: &Program, line: &CalculationLine<Reference>) -> usize
+    requires { IsLineOf program.now line.now op.ExecuteSubroutine }
+    ensures { spec.IsSubroutineOf program.now line.now result }
+{
+    match subroutine_place(program, named(line.factor2)) {
+        Some(begsr) => begsr,
+        None => unreachable!(),
+    }
+}
+
 impl Spot {
-    /// Where the GOTO at a place goes, which is of this spot's section.
-    pub fn go_to(self, program: &Program, line: &CalculationLine<Reference>, place: usize) -> Jump
+    /// Where the GOTO at a place goes, which is of this spot's section and names the tag at another place.
+    #[inline(always)]
+    pub fn go_to(
+        self,
+        program: &Program,
+        line: &CalculationLine<Reference>,
+        place: usize,
+        tag: usize,
+    ) -> Jump
         requires spot { IsSpot program.now self }
         requires line { IsLineAt program.now place line.now op.GoTo }
         requires inside { IsOfSection program.now self place line.now }
+        requires tag { spec.IsTagOf program.now line.now tag }
         ensures { spec.GoesTo program.now self place (name_in (named_line program.now line.now).factor2) result }
     {
-        match tag_place(program, named(line.factor2)) {
-            Some(tag) => {
-                let target = Spot {
-                    section: self.section,
-                    begin: self.begin,
-                    place: tag + 1,
-                };
-                if place < tag {
-                    Jump::Below(target)
-                } else {
-                    Jump::Above(target)
-                }
-            }
-            None => unreachable!(),
+        let target = Spot {
+            section: self.section,
+            begin: self.begin,
+            place: tag + 1,
+        };
+        if place < tag {
+            Jump::Below(target)
+        } else {
+            Jump::Above(target)
         }
     }
 
     /// Where the subroutine begins that an EXSR calls: behind its BEGSR.
-    pub fn subroutine(program: &Program, line: &CalculationLine<Reference>) -> Spot
-        requires { IsLineOf program.now line.now op.ExecuteSubroutine }
+    #[inline(always)]
+    pub fn subroutine(program: &Program, line: &CalculationLine<Reference>, begsr: usize) -> Spot
+        requires line { IsLineOf program.now line.now op.ExecuteSubroutine }
+        requires begsr { spec.IsSubroutineOf program.now line.now begsr }
         ensures spot { IsSpot program.now result }
         ensures section { result.section ≡ Section.Subroutine }
         ensures all { result.place ≡ result.begin }
         ensures calls { called (meant_factor program.now line.now.factor2) ≡ subroutine_in result }
         ensures whole { body (source_named program.now) (name_in (named_line program.now line.now).factor2) ≡ rest_of program.now Section.Subroutine result.begin }
     {
-        match subroutine_place(program, named(line.factor2)) {
-            Some(place) => Spot {
-                section: Section::Subroutine,
-                begin: place + 1,
-                place: place + 1,
-            },
-            None => unreachable!(),
+        Spot {
+            section: Section::Subroutine,
+            begin: begsr + 1,
+            place: begsr + 1,
         }
     }
 }

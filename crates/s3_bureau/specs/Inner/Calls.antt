@@ -1,5 +1,5 @@
 -- What calls on the parts of a bureau do, refused or not. These words serve the contracts of private functions alone.
-use Rattle.std.specs.Prelude.{◌≡◌, ◌≢◌, ◌+◌, true, None, Result, Ok, Err, IfErr, IfOk, IsOk, OnOk, ⊤}
+use Rattle.std.specs.Prelude.{◌≡◌, ◌≢◌, ◌+◌, ◌≤◌, ℕ, true, None, Result, Ok, Err, IfErr, IfOk, IsOk, OnOk, ⊤}
 use Rattle.s3_cards.specs.Levels.{other}
 use Rattle.s3_cards.specs.declared.levels.LevelId.{LevelId}
 use Rattle.s3_cards.specs.declared.levels.LevelId.TheVariants.{One, Two}
@@ -18,21 +18,38 @@ use Rattle.s3_solo.specs.declared.action.Did.TheVariants.{Acted}
 use Rattle.s3_solo.specs.Solo.{closed, step_of}
 use Rattle.s3_solo.specs.World.{World}
 use Rattle.s3_level.specs.declared.level.Level.{Level}
-use Rattle.s3_level.specs.Holds.{Around, Becomes, Holds, IsReady, Spares, Steps}
+use Rattle.s3_level.specs.Holds.{Around, Becomes, Holds, IsReady, Repeats, Spares}
+use Rattle.s3_bureau.specs.declared.taken.Taken.{Taken}
 use Rattle.s3_bureau.specs.declared.bureau.Phase.TheVariants.{Open, Finished, Stopped}
 use Rattle.s3_bureau.specs.Held.{HasNoWork, IsCommon, IsDone, IsOwn, IsReadyFor, State, header_of, is_open, level_of, rests}
 
 -- ---- one level, and what is beside it
--- an entry was performed, or it stopped: then it would have acted, and the drained lines are the same
-abbrev pub ActsTo : Action → Result Did PoolFault → (old new : Level) → (before after : Around) → Type 0
-ActsTo action (Ok did) old new before after = IsReady new (seen after.areas after.state.contents) × Steps action did (Holds old before) (Holds new after)
+-- one entry
+abbrev pub once : Result Did PoolFault → Result Taken PoolFault
+once (Ok did) = Ok (record { did = did; times = 1 })
+once (Err fault) = Err fault
+
+-- turns that passed as many jumps
+abbrev pub jumps_as : Result ℕ PoolFault → Result Taken PoolFault
+jumps_as (Ok turns) = Ok (record { did = Acted; times = turns })
+jumps_as (Err fault) = Err fault
+
+-- at least one, and no more than that
+pub record IsUpTo (most : ℕ) (taken : Taken) : Type 0 where
+  pub some : 1 ≤ taken.times
+  pub few : taken.times ≤ most
+
+-- an entry was performed so many times, or it stopped: then it would have acted, and the drained lines are the same
+abbrev pub ActsTo : Action → Result Taken PoolFault → (old new : Level) → (before after : Around) → Type 0
+ActsTo action (Ok taken) old new before after = IsReady new (seen after.areas after.state.contents) × Repeats action taken.times taken.did (Holds old before) (Holds new after)
 ActsTo action (Err fault) old new before after = (new.lines.items ≡ old.lines.items) × ((w : World) → Holds old before w → (step_of w action).did ≡ Acted)
 
-pub record Acts (action : Action) (result : Result Did PoolFault) (old new : Level) (before after : Around) : Type 0 where
+pub record Acts (action : Action) (most : ℕ) (result : Result Taken PoolFault) (old new : Level) (before after : Around) : Type 0 where
   pub id : new.id ≡ old.id
   pub spares : Spares old.id before after
   pub says : OnOk result (KeepsSaid old.id before.areas before.state.contents after.areas after.state.contents)
-  pub quiet : IfOk result (λ did. did ≢ Acted → after ≡ before)
+  pub quiet : IfOk result (λ taken. taken.did ≢ Acted → after ≡ before)
+  pub times : IfOk result (λ taken. IsUpTo most taken)
   pub fault : IfErr result (λ fault. fault ≢ NoSector)
   pub failures : after.state.failures ≡ before.state.failures + failed_transfers result
   pub comes : ActsTo action result old new before after
@@ -79,20 +96,21 @@ pub record ClosesBoth (result : Result (Unit {0}) PoolFault) (one two new_one ne
   pub comes : BothTo result one two new_one new_two before after
 
 -- ---- a bureau
--- an entry of a level was performed, or the bureau stopped
-abbrev pub EntersTo : LevelId → Action → Result Did PoolFault → (old new : State) → Type 0
-EntersTo level action (Ok did) old new = (new.phase ≡ Open) × Steps action did (Holds (level_of level old) old.beside) (Holds (level_of level new) new.beside)
+-- an entry of a level was performed so many times, or the bureau stopped
+abbrev pub EntersTo : LevelId → Action → Result Taken PoolFault → (old new : State) → Type 0
+EntersTo level action (Ok taken) old new = (new.phase ≡ Open) × Repeats action taken.times taken.did (Holds (level_of level old) old.beside) (Holds (level_of level new) new.beside)
 EntersTo level action (Err fault) old new =
     (new.phase ≡ Stopped) × ((level_of level new).lines.items ≡ (level_of level old).lines.items)
     × ((w : World) → Holds (level_of level old) old.beside w → (step_of w action).did ≡ Acted)
 
-pub record Enters (level : LevelId) (action : Action) (result : Result Did PoolFault) (old new : State) : Type 0 where
+pub record Enters (level : LevelId) (action : Action) (most : ℕ) (result : Result Taken PoolFault) (old new : State) : Type 0 where
   pub was_open : is_open old ≡ true
   pub ready : IsReadyFor old.one old.two old.beside
   pub stays : level_of (other level) new ≡ level_of (other level) old
   pub spares : Spares level old.beside new.beside
   pub says : OnOk result ((one_or_two : LevelId) → KeepsSaid one_or_two old.beside.areas old.beside.state.contents new.beside.areas new.beside.state.contents)
-  pub quiet : IfOk result (λ did. did ≢ Acted → new.beside ≡ old.beside)
+  pub quiet : IfOk result (λ taken. taken.did ≢ Acted → new.beside ≡ old.beside)
+  pub times : IfOk result (λ taken. IsUpTo most taken)
   pub fault : IfErr result (λ fault. fault ≢ NoSector)
   pub failures : new.beside.state.failures ≡ old.beside.state.failures + failed_transfers result
   pub comes : EntersTo level action result old new

@@ -1,9 +1,9 @@
 -- How a turn goes on, step by step. These words serve the contracts of private functions alone: what a turn does to a world
 -- is said in Serving and Solo, and what it is to hold one in Holds.
-use Rattle.std.specs.Prelude.{◌≡◌, ℕ, length, Bool, List, ◌∷◌, true, false, IsTrue, Option, Some, None, option_map, Result, Ok, Err}
+use Rattle.std.specs.Prelude.{◌≡◌, ◌<◌, ℕ, length, Bool, List, ◌∷◌, ◌++◌, replicate, true, false, IsTrue, Option, Some, None, option_map, Result, Ok, Err}
 use Rattle.s3_operator.specs.declared.halt_code.HaltCode.{HaltCode}
 use Rattle.s3_operator.specs.Replies.{is_allowed}
-use Rattle.s3_meaning.specs.Requests.{Request, Ask, End, Answer}
+use Rattle.s3_meaning.specs.Requests.{Request, Ask, End, Jump, Answer, Done}
 use Rattle.s3_cycle.specs.Following.{Resumes, asked, waits, is_fit}
 use Rattle.s3_cycle.specs.declared.request.Request.{Request as ProgramRequest}
 use Rattle.s3_cycle.specs.declared.request.Request.TheVariants as asks
@@ -72,6 +72,16 @@ MayReply digit w = (job : JobAtWork) → w.job ≡ Some job → (code : HaltCode
 -- each world that was held with a job at work becomes this one
 abbrev pub AtWorkBecomes : (JobAtWork → World → World) → (World → Type 0) → (World → Type 0) → Type 0
 AtWorkBecomes change old new = (w : World) (job : JobAtWork) → w.job ≡ Some job → old w → new (change job w)
+
+-- the answers to so many jumps come last
+abbrev pub with_done : (jumps : ℕ) → JobAtWork → JobAtWork
+with_done jumps job = record job { past = job.past ++ replicate jumps Done }
+
+-- in each world that was held with a job at work so many jumps pend, one after the other, and behind their answers it becomes this one
+abbrev pub JumpsBecome : (jumps : ℕ) → (JobAtWork → World → World) → (World → Type 0) → (World → Type 0) → Type 0
+JumpsBecome jumps change old new =
+    (w : World) (job : JobAtWork) → w.job ≡ Some job → old w
+    → ((n : ℕ) → n < jumps → pending (with_done n job) w ≡ Jump) × new (change (with_done jumps job) w)
 
 -- each world that was held with a job at work is served like this; it fails only where it acts
 abbrev pub Serves : {E : Type 0} → (JobAtWork → World → Outcome) → Result Did E → (World → Type 0) → (World → Type 0) → Type 0

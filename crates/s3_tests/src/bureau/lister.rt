@@ -1,10 +1,10 @@
 //! The card lister's eight turns.
 
+use crate::bureau::packs::new_pack;
 use s3_bureau::{Action, Bureau, Did, Entry, Refusal, RefusedStore, Stop};
 use s3_cards::{Deck, DeckFault, LevelId};
-use s3_labels::{ImageFault, image};
+use s3_labels::ImageFault;
 use s3_store::{MemoryStore, PoolFault};
-use std::alloc::Global;
 use std::process::Abort;
 use std::test::Fail;
 
@@ -19,11 +19,6 @@ const TURN: Entry = Entry {
     level: LevelId::One,
     action: Action::Turn,
 };
-
-/// A new pack with one track a region.
-fn new_pack(alloc: Global) -> Result<MemoryStore, ImageFault> {
-    Ok(MemoryStore::from_bytes(image(alloc, None, 1, 1, 1)?))
-}
 
 /// With ample memory nothing is refused: the lister ends with both lines.
 #[test]

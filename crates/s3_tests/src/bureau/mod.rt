@@ -3,6 +3,7 @@
 
 mod decks;
 mod fuse_rows;
+mod jumps;
 mod lister;
 mod memory_rows;
 mod packs;

@@ -54,7 +54,7 @@ fn name_of(work: Work) -> &'static str {
     match work {
         Work::Card => "card",
         Work::Nothing => "nothing",
-        Work::Request => "request",
+        Work::Request | Work::GoTo(_) | Work::ExecuteSubroutine(_) => "request",
         Work::Add(_) => "add",
         Work::Subtract(_) => "subtract",
         Work::ZeroAdd(_) => "zero add",
@@ -95,6 +95,29 @@ fn cards_get_their_forms(rt: HostRuntime) -> Result<(), Fail> {
     assert_eq!(&rt;
         names.as_str(),
         "add, subtract, zero add, zero subtract, multiply, compare, move, move left, set on, set off, nothing, request, divide, move remainder, add and cut, subtract and cut, zero add and cut, zero subtract and cut, compare texts, move to text, move to number, card, card, card, add, untold, untold, untold, untold"
+    );
+    Ok(())
+}
+
+fn way_on(line: PreparedLine) -> &'static str {
+    match line.told {
+        Told::Never => "untold",
+        _ if line.goes_on => "on",
+        _ => "off",
+    }
+}
+
+#[test]
+fn lines_go_on_to_the_next(rt: HostRuntime) -> Result<(), Fail> {
+    let alloc = rt.alloc();
+    let program = program_of(alloc, &[CARDS, PRINT, FIELDS, CALCULATIONS, TOTAL])?;
+    let mut names = String::new(alloc);
+    for line in &prepared_lines(alloc, &program)? {
+        list_text(&mut names, way_on(*line))?;
+    }
+    assert_eq!(&rt;
+        names.as_str(),
+        "on, on, on, on, on, on, on, on, on, on, on, on, on, on, on, on, on, on, on, on, on, on, on, on, off, untold, untold, untold, untold"
     );
     Ok(())
 }
@@ -221,16 +244,16 @@ const OUTPUT_CARDS: &str = "6:O 7:PRINT 15:D 24:01
 6:O 42:36 45:'END'
 6:O 32:PAGE 42:40";
 
-fn name_of_output(card: PreparedOutput) -> &'static str {
-    match card {
-        PreparedOutput::Field(field) => match field.form {
+fn list_fields(names: &mut String, line: &PreparedOutput) -> Result<(), Fail> {
+    for field in &line.fields {
+        let name = match field.form {
             FieldForm::Card => "card",
             FieldForm::Number(_) => "number",
             FieldForm::Text(_) => "text",
-        },
-        PreparedOutput::Conditions => "conditions",
-        PreparedOutput::Line => "line",
+        };
+        list_text(names, name)?;
     }
+    Ok(())
 }
 
 #[test]
@@ -238,12 +261,9 @@ fn output_cards_get_their_forms(rt: HostRuntime) -> Result<(), Fail> {
     let alloc = rt.alloc();
     let program = program_of(alloc, &[CARDS, PRINT, FIELDS, OUTPUT_CARDS, TOTAL])?;
     let mut names = String::new(alloc);
-    for card in &prepared_outputs(alloc, &program)? {
-        list_text(&mut names, name_of_output(*card))?;
+    for line in &prepared_outputs(alloc, &program)? {
+        list_fields(&mut names, line)?;
     }
-    assert_eq!(&rt;
-        names.as_str(),
-        "line, conditions, number, number, text, card, card, line, card"
-    );
+    assert_eq!(&rt; names.as_str(), "number, number, text, card, card, card");
     Ok(())
 }

@@ -1,23 +1,34 @@
-use Rattle.std.proofs.Common.{arith}
+use Rattle.std.proofs.Common.{◌≡◌, ◌+◌, ◌-◌, ℕ, replicate, subst, arith}
 use Rattle.s3_bureau.specs.Held.{held_by}
-use Rattle.s3_bureau.proofs.Performing.{leaves_entry, leaves_more, leaves_stopped, one_more}
+use Rattle.s3_bureau.specs.Inner.Underway.{Leaves, Performs}
+use Rattle.s3_bureau.proofs.Performing.{leaves_entry, leaves_more, leaves_stopped, times_more}
 use Rattle.s3_bureau.proofs.runs.repeat.Goals as goal
 
-pub loop-time-preserved : goal.loop-time-preserved
-loop-time-preserved g c = (
-  one_more c.args.entry c.loop-time._time (held_by c.args.bureau.now) (held_by c.loop-time.bureau) (held_by c.step.new.self) c.loop-time.invariant.0 (λ w held. (c.in_ok-_did.ensures.own w held).1)
-      c.in_ok-_did.ensures.other,
-  (
-    c.in_ok-_did.ensures.goes_on,
-    (
-      leaves_more c.args.entry c.loop-time._time c.args.bureau.now c.loop-time.bureau c.step.new.self c.loop-time.invariant.1.1.0
-          (leaves_entry c.args.entry c.loop-time.bureau c.step.new.self c.in_ok-_did.ensures.stays c.in_ok-_did.ensures.unchanged c.in_ok-_did.ensures.header),
-      (omega (arith, c.in_ok-_did.ensures.failures, c.loop-time.invariant.1.1.1.0), λ level said. c.in_ok-_did.ensures.said level (c.loop-time.invariant.1.1.1.1 level said)),
-    ),
-  ),
-)
+pub loop-left-preserved : goal.loop-left-preserved
+loop-left-preserved g c =
+    let some = c.in_ok-taken.ensures.times.some in
+    let few = c.in_ok-taken.ensures.times.few in
+    let within = c.loop-left.invariant.1.1.1.1.1 in
+    let further : (c.args.count - c.loop-left.left) + c.in_ok-taken.taken.times ≡ c.args.count - (c.loop-left.left - c.in_ok-taken.taken.times) = omega (arith, few, within) in (
+      subst (λ (n : ℕ). Performs (replicate n c.args.entry) (held_by c.args.bureau.now) (held_by c.repeat.new.self)) further
+          (times_more c.args.entry (c.args.count - c.loop-left.left) c.in_ok-taken.taken.times (held_by c.args.bureau.now) (held_by c.loop-left.bureau) (held_by c.repeat.new.self) c.loop-left.invariant.0 (λ w held. (c.in_ok-taken.ensures.own w held).1)
+          c.in_ok-taken.ensures.other),
+      (
+        c.in_ok-taken.ensures.goes_on,
+        (
+          subst (λ (n : ℕ). Leaves (replicate n c.args.entry) c.args.bureau.now c.repeat.new.self) further
+              (leaves_more c.args.entry (c.args.count - c.loop-left.left) c.in_ok-taken.taken.times c.args.bureau.now c.loop-left.bureau c.repeat.new.self some c.loop-left.invariant.1.1.0
+              (leaves_entry c.args.entry c.loop-left.bureau c.repeat.new.self c.in_ok-taken.ensures.stays c.in_ok-taken.ensures.unchanged c.in_ok-taken.ensures.header)),
+          (
+            omega (arith, c.in_ok-taken.ensures.failures, c.loop-left.invariant.1.1.1.0),
+            (λ level said. c.in_ok-taken.ensures.said level (c.loop-left.invariant.1.1.1.1.0 level said), omega (arith, few, within)),
+          ),
+        ),
+      ),
+    )
 
-pub returns-in_err-_did-clause-leaves : goal.returns-in_err-_did-clause-leaves
-returns-in_err-_did-clause-leaves g c =
-    leaves_stopped c.args.entry c.loop-time._time c.args.count c.args.bureau.now c.loop-time.bureau c.step.new.self (omega (arith, c.loop-time-test.true)) c.loop-time.invariant.1.1.0
-    (leaves_entry c.args.entry c.loop-time.bureau c.step.new.self c.in_err-_did.ensures.stays c.in_err-_did.ensures.unchanged c.in_err-_did.ensures.header)
+pub returns-in_err-taken-clause-leaves : goal.returns-in_err-taken-clause-leaves
+returns-in_err-taken-clause-leaves g c =
+    let within = c.loop-left.invariant.1.1.1.1.1 in
+    leaves_stopped c.args.entry (c.args.count - c.loop-left.left) c.args.count c.args.bureau.now c.loop-left.bureau c.repeat.new.self (omega (arith, c.loop-left-test.true, within)) c.loop-left.invariant.1.1.0
+    (leaves_entry c.args.entry c.loop-left.bureau c.repeat.new.self c.in_err-taken.ensures.stays c.in_err-taken.ensures.unchanged c.in_err-taken.ensures.header)

@@ -1,10 +1,13 @@
 -- The entry was performed so many times, and the bureau is open.
-use Rattle.std.proofs.Common.{◌≡◌, replicate, true}
+use Rattle.std.proofs.Common.{◌≡◌, ◌≤◌, ◌-◌, replicate, true}
 use Rattle.s3_bureau.specs.Held.{held_by, is_open}
 use Rattle.s3_bureau.specs.Inner.Underway.{KeepSaying, Leaves, Performs}
 use Rattle.s3_bureau.proofs.runs.repeat.Given as goal
 
-abbrev pub invariant-loop-time : goal.invariant-loop-time
-invariant-loop-time g l =
-    Performs (replicate l._time l.entry) (held_by l.initial.bureau) (held_by l.bureau)
-    × ((is_open l.bureau ≡ true) × (Leaves (replicate l._time l.entry) l.initial.bureau l.bureau × ((l.bureau.beside.state.failures ≡ l.initial.bureau.beside.state.failures) × KeepSaying l.initial.bureau l.bureau)))
+abbrev pub invariant-loop-left : goal.invariant-loop-left
+invariant-loop-left g l =
+    Performs (replicate (l.count - l.left) l.entry) (held_by l.initial.bureau) (held_by l.bureau)
+    × ((is_open l.bureau ≡ true) × (Leaves (replicate (l.count - l.left) l.entry) l.initial.bureau l.bureau × ((l.bureau.beside.state.failures ≡ l.initial.bureau.beside.state.failures) × (KeepSaying l.initial.bureau l.bureau × (l.left ≤ l.count)))))
+
+abbrev pub decreases-loop-left : goal.decreases-loop-left
+decreases-loop-left g l = l.left

@@ -51,6 +51,9 @@ sought-requires-clause-chain c =
 pub forget-requires-clause-sound : goal.forget-requires-clause-sound
 forget-requires-clause-sound c = c.requires.running.state
 
+pub forget-requires-clause-reading : goal.forget-requires-clause-reading
+forget-requires-clause-reading c = c.requires.running.reading
+
 pub forget-requires-clause-within : goal.forget-requires-clause-within
 forget-requires-clause-within c = c.chained_file-file.ensures.within
 

@@ -3,4 +3,4 @@ use Rattle.s3_cycle.proofs.ForgetLemmas.{forgets}
 use Rattle.s3_cycle.proofs.stepper.Stepper.forget.Goals as goal
 
 pub returns : goal.returns
-returns c = forgets c.args.self.now c.args.file _ c.clear_types_of.new.self c.requires.sound c.requires.within refl c.clear_types_of.ensures
+returns c = forgets c.args.self.now c.args.file _ c.clear_types_of.new.values c.requires.sound c.requires.within refl c.clear_types_of.ensures

@@ -3,6 +3,6 @@ use Rattle.s3_cycle.proofs.stepper.Stepper.total.Goals as goal
 
 pub returns : goal.returns
 returns c =
-    record_totals c.args.self.now _ c.args.selection c.totals.result c.restart.new.course
+    record_totals c.args.self.now _ c.args.selection c.totals.result c.restart.new.self
     (record { is = c.restart.ensures.course _ c.totals.ensures.spot c.totals.ensures.outside; here = c.restart.ensures.here; returns = c.restart.ensures.returns; whole = c.totals.ensures.whole; all = c.totals.ensures.all })
     c.calculate_totals.ensures

@@ -1,0 +1,83 @@
+//! Texts are laid over others, short ones by their two ends.
+ghost use Rattle.std.specs.Prelude.{◌≡◌, ◌≤◌, ◌+◌, ◌-◌, ◌*◌, List, ℕ, take, drop, length};
+ghost use Rattle.std.specs.List.{copy_within};
+
+/// So many characters of a text, from a place on.
+#[inline(always)]
+fn part<const N: usize>(text: &[u8], at: usize) -> [u8; N]
+    requires { at + N ≤ length text.now }
+    ensures { result ≡ take N (drop at text.now) }
+{
+    match <[u8; N]>::try_from(&text[at..at + N]) {
+        Ok(part) => part,
+        Err(_) => unreachable!(),
+    }
+}
+
+/// Lays the first and the last characters of a text over another one as long, some of them maybe twice.
+#[inline(always)]
+fn lay_ends<const N: usize>(target: &mut [u8], first: &[u8; N], last: &[u8; N])
+    requires reaches { N ≤ length target.old }
+    requires covers { length target.old ≤ 2 * N }
+    ensures { (text : List ℕ) → length text ≡ length target.old → first.now ≡ take N text → last.now ≡ drop (length text - N) text → target.new ≡ text }
+{
+    let end = target.len();
+    target[..N].copy_from_slice(first);
+    target[end - N..end].copy_from_slice(last);
+}
+
+#[inline(always)]
+fn lay_by_ends<const N: usize>(target: &mut [u8], text: &[u8])
+    requires same { length target.old ≡ length text.now }
+    requires reaches { N ≤ length text.now }
+    requires covers { length text.now ≤ 2 * N }
+    ensures { target.new ≡ text.now }
+{
+    let first = part::<N>(text, 0);
+    let last = part::<N>(text, text.len() - N);
+    lay_ends(target, &first, &last);
+}
+
+/// Lays a text over another one as long. Of a short one the ends are laid: that takes less than a call.
+#[inline(always)]
+pub fn lay(target: &mut [u8], text: &[u8])
+    requires { length target.old ≡ length text.now }
+    ensures { target.new ≡ text.now }
+{
+    match text.len() {
+        4..=7 => lay_by_ends::<4>(target, text),
+        8..=16 => lay_by_ends::<8>(target, text),
+        17..=32 => lay_by_ends::<16>(target, text),
+        _ => target.copy_from_slice(text),
+    }
+}
+
+#[inline(always)]
+fn lay_within_by_ends<const N: usize>(bytes: &mut [u8], from: usize, end: usize, to: usize)
+    requires source { from ≤ end }
+    requires source_within { end ≤ length bytes.old }
+    requires target_within { to + (end - from) ≤ length bytes.old }
+    requires reaches { N ≤ end - from }
+    requires covers { end - from ≤ 2 * N }
+    ensures { bytes.new ≡ copy_within bytes.old from end to }
+{
+    let first = part::<N>(bytes, from);
+    let last = part::<N>(bytes, end - N);
+    lay_ends(&mut bytes[to..to + (end - from)], &first, &last);
+}
+
+/// Lays bytes over others of the same text, which may have some of theirs.
+#[inline(always)]
+pub fn lay_within(bytes: &mut [u8], from: usize, end: usize, to: usize)
+    requires source { from ≤ end }
+    requires source_within { end ≤ length bytes.old }
+    requires target_within { to + (end - from) ≤ length bytes.old }
+    ensures { bytes.new ≡ copy_within bytes.old from end to }
+{
+    match end - from {
+        4..=7 => lay_within_by_ends::<4>(bytes, from, end, to),
+        8..=16 => lay_within_by_ends::<8>(bytes, from, end, to),
+        17..=32 => lay_within_by_ends::<16>(bytes, from, end, to),
+        _ => bytes.copy_within(from..end, to),
+    }
+}
