@@ -17,63 +17,36 @@ use Rattle.s3_solo.specs.declared.action.Did.{Did}
 use Rattle.s3_solo.specs.World.{World}
 use Rattle.s3_solo.specs.Solo.{solo, step_of}
 use Rattle.s3_level.specs.declared.level.Level.{Level}
-use Rattle.s3_level.specs.Holds.{AreAll, Around, Holds, IsQuiet, IsReady, IsUntouched, KeepsOthers, Repeats, Spares, Stays, Steps, around}
+use Rattle.s3_level.specs.declared.taken.Taken.{Taken}
+use Rattle.s3_level.specs.Holds.{AreAll, Around, Holds, IsQuiet, IsReady, IsUntouched, IsUpTo, KeepsOthers, Repeats, Spares, Stays, Steps, around, once}
 use Rattle.s3_level.proofs.Beside.{spares_files}
-use Rattle.s3_bureau.specs.Inner.Calls.{Acts, jumps_as, once}
-use Rattle.s3_bureau.proofs.Memory.{turn_acts, reply_acts, drain_acts}
+use Rattle.s3_level.proofs.Turns.{steps_once}
+use Rattle.s3_bureau.specs.Inner.Calls.{Acts}
+use Rattle.s3_bureau.proofs.Memory.{reply_acts, drain_acts}
 use Rattle.s3_solo.specs.declared.action.Did.TheVariants.{Acted, Idle, Refused}
 
 -- an untouched pack with the same queues
 beside_same : (before after : Around) → IsUntouched before.areas after.areas before.state after.state → after.blocks ≡ before.blocks → after ≡ before
 beside_same before after untouched queues = λ i. record { areas = untouched.0 i; state = untouched.1 i; blocks = queues i }
 
--- one step
-steps_once : (action : Action) (did : Did) (old new : World → Type 0) → Steps action did old new → Repeats action 1 did old new
-steps_once action did old new steps w held = (λ n few. first n (omega (arith, few)), (steps w held).1)
-  where
-    first : (n : ℕ) → n ≡ 0 → did ≡ (step_of (solo w (replicate n action)) action).did
-    first n none = (steps w held).0 ∙ ap (λ (k : ℕ). (step_of (solo w (replicate k action)) action).did) (sym none)
-
--- jumps that are passed are so many turns
-pub jumped : (most : ℕ) (result : Result ℕ PoolFault) (old new : Level) (areas new_areas : Areas) (s t : PoolState) (blocks : Blocks)
-    → IsPackReady areas s.contents
-    → AreAll blocks
-    → IfOk result (λ turns. 1 ≤ turns)
-    → IfOk result (λ turns. turns ≤ most)
-    → ((blocks : Blocks) → AreAll blocks → IfOk result (λ turns. Repeats Turn turns Acted (Holds old (around areas s blocks)) (Holds new (around new_areas t blocks))))
-    → ((blocks : Blocks) (w : World) → Holds old (around areas s blocks) w → (step_of w Turn).did ≡ Acted)
-    → OnOk result (IsReady new (seen new_areas t.contents))
-    → KeepsOthers old.id areas new_areas s t
-    → t.failures ≡ s.failures + failed_transfers result
-    → Stays old new
-    → OnOk result (KeepsSaid old.id areas s.contents new_areas t.contents)
-    → IfErr result (λ fault. fault ≢ NoSector)
-    → Acts Turn most (jumps_as result) old new (around areas s blocks) (around new_areas t blocks)
-jumped most (Ok turns) old new areas new_areas s t blocks pack are some few steps acts ready others failures stays says fault =
-    record { id = stays.id; spares = spares_files old.id areas new_areas blocks s t pack are others; says = says; quiet = λ idles. absurd (idles refl); times = record { some = some; few = few }; fault = fault; failures = failures; comes = (ready, steps blocks are) }
-jumped most (Err fault) old new areas new_areas s t blocks pack are some few steps acts ready others failures stays says finds =
-    record { id = stays.id; spares = spares_files old.id areas new_areas blocks s t pack are others; says = says; quiet = tt; times = tt; fault = finds; failures = failures; comes = (stays.drained, acts blocks) }
-
-pub turned : (most : ℕ) (result : Result Did PoolFault) (old new : Level) (before after : Around)
-    → 1 ≤ most
-    → IfOk result (λ did. Steps Turn did (Holds old before) (Holds new after))
-    → ((w : World) → Holds old before w → (step_of w Turn).did ≡ Idle → result ≡ Ok Idle)
+-- so many turns
+pub turned : (most : ℕ) (result : Result Taken PoolFault) (old new : Level) (before after : Around)
+    → IfOk result (λ taken. IsUpTo most taken)
+    → IfOk result (λ taken. Repeats Turn taken.times taken.did (Holds old before) (Holds new after))
+    → OnErr result ((w : World) → Holds old before w → (step_of w Turn).did ≡ Acted)
     → OnOk result (IsReady new (seen after.areas after.state.contents))
     → Spares old.id before after
     → after.state.failures ≡ before.state.failures + failed_transfers result
     → Stays old new
     → OnOk result (KeepsSaid old.id before.areas before.state.contents after.areas after.state.contents)
-    → IfOk result (λ did. IsQuiet did before.areas after.areas before.state after.state)
-    → IfOk result (λ did. did ≢ Acted → after.blocks ≡ before.blocks)
+    → IfOk result (λ taken. IsQuiet taken.did before.areas after.areas before.state after.state)
+    → IfOk result (λ taken. taken.did ≢ Acted → after.blocks ≡ before.blocks)
     → IfErr result (λ fault. fault ≢ NoSector)
-    → Acts Turn most (once result) old new before after
-turned most (Ok did) old new before after some steps idle ready spares failures stays says quiet queues fault =
-    record { id = stays.id; spares = spares; says = says; quiet = λ idles. beside_same before after (quiet idles) (queues idles); fault = fault; failures = failures; times = record { some = omega arith; few = some }; comes = (ready, steps_once Turn did (Holds old before) (Holds new after) steps) }
-turned most (Err fault) old new before after some steps idle ready spares failures stays says quiet queues finds =
-    record { id = stays.id; spares = spares; says = says; quiet = tt; times = tt; fault = finds; failures = failures; comes = (stays.drained, λ w held. turn_acts w (never w held)) }
-  where
-    never : (w : World) → Holds old before w → (step_of w Turn).did ≡ Idle → ⊥
-    never w held rests = let same : Err fault ≡ Ok Idle = idle w held rests in cc
+    → Acts Turn most result old new before after
+turned most (Ok taken) old new before after times steps acts ready spares failures stays says quiet queues fault =
+    record { id = stays.id; spares = spares; says = says; quiet = λ idles. beside_same before after (quiet idles) (queues idles); times = times; fault = fault; failures = failures; comes = (ready, steps) }
+turned most (Err fault) old new before after times steps acts ready spares failures stays says quiet queues finds =
+    record { id = stays.id; spares = spares; says = says; quiet = tt; times = tt; fault = finds; failures = failures; comes = (stays.drained, acts) }
 
 pub replied : (most digit : ℕ) (result : Result Did PoolFault) (old new : Level) (areas new_areas : Areas) (s t : PoolState) (blocks : Blocks)
     → 1 ≤ most

@@ -13,14 +13,14 @@ use Rattle.s3_solo.specs.Solo.{closed, solo}
 use Rattle.s3_solo.specs.World.{World}
 use Rattle.s3_level.specs.declared.level.Level.{Level}
 use Rattle.s3_level.specs.Holds.{Around, Becomes, Holds, IsReady, Repeats, Spares, Steps}
-use Rattle.s3_bureau.specs.declared.taken.Taken.{Taken}
+use Rattle.s3_level.specs.declared.taken.Taken.{Taken}
 use Rattle.s3_bureau.specs.declared.bureau.Phase.{Phase}
 use Rattle.s3_bureau.specs.declared.bureau.Phase.TheVariants.{Open, Finished, Stopped}
 use Rattle.s3_bureau.specs.declared.stop.Stop.{Stop}
 use Rattle.s3_bureau.specs.declared.stop.Stop.TheVariants.{NoMemory as StopNoMemory, Device as StopDevice, Stopped as StoppedBefore}
 use Rattle.s3_bureau.specs.Stops.{StopsBy, failed_stop}
 use Rattle.s3_bureau.specs.Held.{HoldsFor, IsForeign, IsOwn, IsReadyFor, State, has_worlds, header_of, is_open, level_of, lines_at, rests, takes_entries}
-use Rattle.s3_bureau.specs.Inner.Calls.{Acts, Closes, ClosesBoth, Enters, IsUpTo, MountsAs}
+use Rattle.s3_bureau.specs.Inner.Calls.{Acts, Closes, ClosesBoth, Enters, MountsAs}
 use Rattle.s3_bureau.proofs.OtherLevel.{foreign_spared, header_spared, other_said, ready_stays, worlds_stay, worlds_stayed}
 
 -- ---- an entry in its level
@@ -152,15 +152,6 @@ pub own_repeats : (level : LevelId) (action : Action) (most : ℕ) (taken : Take
 own_repeats level action most taken old new e w held =
     let here = e.comes.1 w held.world in
     (here.0, record { goes_on = open_has new.phase e.comes.0; world = here.1 })
-
--- where it may be performed once it is so
-pub one_step : (level : LevelId) (action : Action) (taken : Taken) (old new : World → Type 0) → IsUpTo 1 taken → Repeats action taken.times taken.did old new → Steps action taken.did old new
-one_step level action taken old new up_to repeats w held =
-    let some = up_to.some in
-    let few = up_to.few in
-    let one : taken.times ≡ 1 = omega (arith, some, few) in
-    let here = repeats w held in
-    (here.0 0 (omega (arith, some)), subst (λ (n : ℕ). new (solo w (replicate n action))) one here.1)
 
 -- where it stopped, no line was drained
 pub lines_stay : (level : LevelId) (action : Action) (most : ℕ) (fault : PoolFault) (old new : State) → Enters level action most (Err fault) old new → (one_or_two : LevelId) → lines_at one_or_two new ≡ lines_at one_or_two old

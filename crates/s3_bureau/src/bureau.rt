@@ -1,6 +1,6 @@
 //! The bureau: two levels, each with its own deck, that take turns over one pack.
-ghost use Rattle.std.specs.Prelude.{◌≡◌, ◌≢◌, ◌≤◌};
-ghost use Rattle.s3_solo.specs.declared.action.Action.TheVariants.{Turn};
+ghost use Rattle.std.specs.Prelude.{◌≡◌, ◌≢◌};
+ghost use Rattle.std.specs.Int.NonZero.{non_zero_u16_get};
 ghost use Rattle.s3_job_files.specs.Holds.{seen};
 ghost use Rattle.s3_level.specs.Holds.{AreAll, IsReady, around};
 ghost use Rattle.s3_bureau.specs.Held.{IsReadyFor};
@@ -9,15 +9,15 @@ ghost use Rattle.s3_bureau.specs.Inner.Calls.{Acts, ClosesLevel, ClosesBoth};
 
 use crate::entry::Entry;
 use crate::stop::Stop;
-use crate::taken::{Taken, jumped, once};
 use s3_cards::{Deck, LevelId, PrintLine};
 use s3_labels::{Pack, Refusal, RefusedStore};
-use s3_level::{Action, Did, Halt, Level};
+use s3_level::{Action, Did, Halt, Level, Taken};
 use s3_pool::Pool;
 use s3_spool::Spool;
 use s3_store::{PackStore, PoolFault};
 use std::alloc::{AllocError, Global};
 use std::marker::Model;
+use std::num::NonZeroU16;
 
 /// How far a bureau has come.
 #[derive(Clone, Copy, PartialEq, Eq)]
@@ -68,26 +68,6 @@ fn stop_of(fault: PoolFault) -> Stop
     }
 }
 
-/// Turns of a level, so many at most and at least one: several only where they pass jumps.
-#[inline(always)]
-fn turn<S: PackStore>(
-    level: &mut Level,
-    pack: &mut Pack<Pool<S>>,
-    spool: &mut Spool,
-    most: u16,
-) -> Result<Taken, PoolFault>
-    requires ready { IsReady level.old (seen pack.old.areas pack.old.pool.contents) }
-    requires blocks { AreAll spool.old }
-    requires some { 1 ≤ most }
-    ensures { Acts Turn most result level.old level.new (around pack.old.areas pack.old.pool spool.old) (around pack.new.areas pack.new.pool spool.new) }
-{
-    if level.has_jump() {
-        jumped(level.pass_jumps(most, pack))
-    } else {
-        once(level.turn(pack, spool))
-    }
-}
-
 /// An entry of a level, so many times at most and at least once. It is proved once, for either level.
 #[inline(always)]
 fn act<S: PackStore>(
@@ -95,17 +75,16 @@ fn act<S: PackStore>(
     pack: &mut Pack<Pool<S>>,
     spool: &mut Spool,
     action: Action,
-    most: u16,
+    most: NonZeroU16,
 ) -> Result<Taken, PoolFault>
     requires ready { IsReady level.old (seen pack.old.areas pack.old.pool.contents) }
     requires blocks { AreAll spool.old }
-    requires some { 1 ≤ most }
-    ensures { Acts action most result level.old level.new (around pack.old.areas pack.old.pool spool.old) (around pack.new.areas pack.new.pool spool.new) }
+    ensures { Acts action (non_zero_u16_get most) result level.old level.new (around pack.old.areas pack.old.pool spool.old) (around pack.new.areas pack.new.pool spool.new) }
 {
     match action {
-        Action::Turn => turn(level, pack, spool, most),
-        Action::Reply(digit) => once(level.answer(digit, pack)),
-        Action::Drain => once(level.drain(pack, spool)),
+        Action::Turn => level.turns(most, pack, spool),
+        Action::Reply(digit) => Taken::once(level.answer(digit, pack)),
+        Action::Drain => Taken::once(level.drain(pack, spool)),
     }
 }
 
@@ -148,6 +127,7 @@ fn store_of<S: PackStore>(pack: Pack<Pool<S>>) -> S
 }
 
 impl<S: PackStore> Bureau<S> {
+    ghost use Rattle.std.specs.Int.NonZero.{non_zero_u16_get};
     ghost use Rattle.std.specs.Prelude.{◌≡◌, ◌≢◌, ◌≤◌, ◌+◌, ℕ, true, false, Ok, Err, map, IfOk, IfErr, OnOk, OnErr};
     ghost use Rattle.s3_cards.specs.Levels.{other};
     ghost use Rattle.s3_cards.specs.declared.levels.LevelId.{LevelId};
@@ -162,9 +142,9 @@ impl<S: PackStore> Bureau<S> {
     ghost use Rattle.s3_solo.specs.Lines.{drained_lines};
     ghost use Rattle.s3_solo.specs.World.{World, at_start};
     ghost use Rattle.s3_solo.specs.Solo.{step_of, closed};
-    ghost use Rattle.s3_level.specs.Holds.{Holds, Repeats, Spares, Steps};
+    ghost use Rattle.s3_level.specs.Holds.{Holds, IsUpTo, Repeats, Spares, Steps};
     ghost use Rattle.s3_bureau.specs.Stops.{failed_stop};
-    ghost use Rattle.s3_bureau.specs.Inner.Calls.{Closes, Enters, IsUpTo};
+    ghost use Rattle.s3_bureau.specs.Inner.Calls.{Closes, Enters};
     ghost use Rattle.s3_bureau.specs.Held.{HasNoWork, HoldsFor, IsCommon, IsForeign, IsOwn, IsSaid, halts_at, header_of, is_open, has_worlds, level_of, lines_at, rests};
 
     /// A bureau over the pack on a store, with a deck for each level, before its first entry.
@@ -276,16 +256,15 @@ impl<S: PackStore> Bureau<S> {
         ensures failures { self.new.beside.state.failures ≡ self.old.beside.state.failures + failed_stop result }
         ensures lines { OnErr result ((level : LevelId) → lines_at level self.new ≡ lines_at level self.old) }
     {
-        Ok(self.repeat(entry, 1)?.did)
+        Ok(self.repeat(entry, NonZeroU16::MIN)?.did)
     }
 
     /// One entry of a script so many times at most, and at least once: several times only where its level takes turns that pass
     /// jumps.
     ///
     /// It stops as `step` does.
-    pub fn repeat(&mut self, entry: Entry, most: u16) -> Result<Taken, Stop>
-        requires { 1 ≤ most }
-        ensures times { IfOk result (λ taken. IsUpTo most taken) }
+    pub fn repeat(&mut self, entry: Entry, most: NonZeroU16) -> Result<Taken, Stop>
+        ensures times { IfOk result (λ taken. IsUpTo (non_zero_u16_get most) taken) }
 
         // The level's own world takes so many such entries, each with this answer.
         ensures own { IfOk result (λ taken. Repeats entry.action taken.times taken.did (HoldsFor entry.level self.old) (HoldsFor entry.level self.new)) }
@@ -318,10 +297,9 @@ impl<S: PackStore> Bureau<S> {
     }
 
     /// Performs an entry in its level, or stops.
-    fn enter(&mut self, entry: Entry, most: u16) -> Result<Taken, PoolFault>
-        requires takes { is_open self.old ≡ true }
-        requires some { 1 ≤ most }
-        ensures { Enters entry.level entry.action most result self.old self.new }
+    fn enter(&mut self, entry: Entry, most: NonZeroU16) -> Result<Taken, PoolFault>
+        requires { is_open self.old ≡ true }
+        ensures { Enters entry.level entry.action (non_zero_u16_get most) result self.old self.new }
     {
         match entry.level {
             LevelId::One => match act(

@@ -12,7 +12,6 @@ mod run_fault;
 mod runs;
 mod script;
 mod stop;
-mod taken;
 
 pub use bureau::Bureau;
 pub use entry::Entry;
@@ -24,6 +23,5 @@ pub use outcome::{LevelTexts, Outcome};
 pub use run_fault::{RunFault, mount_number};
 pub use runs::run;
 pub use s3_labels::{Refusal, RefusedStore};
-pub use s3_level::{Action, Did, Halt, HaltCode};
+pub use s3_level::{Action, Did, Halt, HaltCode, Taken};
 pub use stop::Stop;
-pub use taken::Taken;

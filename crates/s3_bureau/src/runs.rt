@@ -22,6 +22,7 @@ use s3_cards::{Deck, LevelId};
 use s3_labels::{Refusal, RefusedStore};
 use s3_store::{MemoryStore, PackStore, PoolFault};
 use std::alloc::{AllocError, Global};
+use std::num::NonZeroU16;
 
 /// The texts of both levels after a script's entries over a pack, each level over its own deck, and the pack that they leave.
 ///
@@ -154,9 +155,9 @@ fn repeat<S: PackStore>(bureau: &mut Bureau<S>, entry: Entry, count: u16) -> Res
     ensures not_stopped { result ≢ Err Stopped }
 {
     let mut left = count;
-    while left > 0 {
+    while let Some(most) = NonZeroU16::new(left) {
         // What the entries did isn't told: a turn, a reply or a drain that was idle or refused leaves no mark in the texts.
-        let taken = bureau.repeat(entry, left)?;
+        let taken = bureau.repeat(entry, most)?;
         left -= taken.times;
     }
     Ok(())

@@ -6,9 +6,10 @@ use Rattle.s3_cards.specs.Names.{same_name}
 use Rattle.s3_lines.specs.declared.indicator.Indicator.{Indicator}
 use Rattle.s3_lines.specs.declared.sheet.FieldLine.{FieldLine}
 use Rattle.s3_meaning.specs.Source.{Source}
+use Rattle.s3_operator.specs.declared.halt_code.HaltCode.TheVariants.{BadDigit}
 use Rattle.s3_meaning.specs.Environment.{Environment, put_current, turn}
 use Rattle.s3_meaning.specs.Requests as Meant
-use Rattle.s3_meaning.specs.Runs.{Rest}
+use Rattle.s3_meaning.specs.Runs.{Rest, halted}
 use Rattle.s3_meaning.specs.Moving.{fields_moved}
 use Rattle.s3_meaning.specs.Selection.{type_of}
 use Rattle.s3_meaning.specs.Calculating.{chained_to}
@@ -29,11 +30,13 @@ use Rattle.s3_cycle.specs.declared.progress.Time.{Time}
 use Rattle.s3_cycle.specs.declared.progress.Time.TheVariants as time
 use Rattle.s3_cycle.specs.declared.progress.Moves.TheVariants as moves
 use Rattle.s3_cycle.specs.declared.stepper.Stepper.{Stepper}
-use Rattle.s3_cycle.specs.Rest.{after_calculations, calculating, details_done, fields_at, fields_from, record_moved, totals_done}
+use Rattle.s3_cycle.specs.Rest.{after_calculations, calculating, details_done, field_then, fields_at, fields_from, record_moved, totals_done}
 use Rattle.s3_cycle.specs.Inner.Environment.{current_in, environment}
 use Rattle.s3_cycle.specs.Inner.Chaining.{KeepsRecord}
-use Rattle.s3_cycle.specs.Inner.Going.{CanCalculate, CanMove, Changes, GoesOn, IsRunning, IsTime, held_by, here, own}
+use Rattle.s3_cycle.specs.Inner.Fields.{IsMovedBy, MovesAll, StopsAt, found_from}
+use Rattle.s3_cycle.specs.Inner.Going.{AreWithin, CanCalculate, CanMove, Changes, GoesOn, IsField, IsRunning, IsTime, held_by, here, own}
 use Rattle.s3_cycle.proofs.CurrentLemmas.{current_set}
+use Rattle.s3_cycle.proofs.FieldLemmas.{stays_running}
 use Rattle.s3_cycle.proofs.GoingLemmas.{goes_as, goes_changed, goes_then}
 use Rattle.s3_cycle.proofs.HeadLemmas.{EndWithin, at_most, file_there, kind_fields}
 
@@ -85,57 +88,75 @@ still_behind source p progress other time.Last = refl
 still_calculating : (source : Source) (p : Program) (progress other : Progress) → calculating source p (with_record progress other) ≡ calculating source p progress
 still_calculating source p progress other = ap (λ (go : Rest). goes_through p (again source) go (spots_of progress.course)) (still_behind source p progress other progress.time)
 
-abbrev pub keeping : Stepper → Progress → Stepper
-keeping c other = record c { progress = with_record c.progress other }
+-- ---- fields of a record that isn't kept
+-- it is moved as one that is
+abbrev pub kept : Stepper → List ℕ → Stepper
+kept c bytes = record c { progress = record c.progress { «record» = record { items = bytes } } }
 
-pub keeps_running : (old new : Stepper) (bytes : List ℕ) → KeepsRecord old new bytes → IsRunning old → IsRunning new
-keeps_running old new bytes keeps running =
-    let kept : IsRunning (keeping old new.progress) = record { overflow = running.overflow; state = running.state; reading = running.reading; heads = running.heads; prepared = running.prepared; inputs = running.inputs; guards = running.guards } in
-    subst IsRunning (sym keeps.same) kept
+kept_running : (c : Stepper) (bytes : List ℕ) → IsRunning c → IsRunning (kept c bytes)
+kept_running c bytes running = record { overflow = running.overflow; state = running.state; reading = running.reading; heads = running.heads; prepared = running.prepared; inputs = running.inputs; guards = running.guards }
 
-pub keeps_calculates : (old new : Stepper) (bytes : List ℕ) → KeepsRecord old new bytes → CanCalculate old.program old.progress → CanCalculate new.program new.progress
-keeps_calculates old new bytes keeps calculates =
-    let kept : CanCalculate old.program (with_record old.progress new.progress) = record { time = still_time old.program old.progress new.progress old.progress.time calculates.time; course = calculates.course } in
-    subst (λ (c : Stepper). CanCalculate c.program c.progress) (sym keeps.same) kept
+pub unkept_running : (c : Stepper) (bytes : List ℕ) → IsRunning (kept c bytes) → IsRunning c
+unkept_running c bytes running = record { overflow = running.overflow; state = running.state; reading = running.reading; heads = running.heads; prepared = running.prepared; inputs = running.inputs; guards = running.guards }
 
-pub can_chain : (old current mid : Stepper) (start : TypeStart) (bytes : List ℕ) → current.program ≡ old.program → CanCalculate current.program current.progress → KeepsRecord current mid bytes → EndWithin bytes (fields_at old.program start.fields)
-    → CanMove mid.program mid.progress moves.Chained start.fields
-can_chain old current mid start bytes program calculates keeps within =
-    let here' : EndWithin bytes (fields_at current.program start.fields) = subst (λ (p : Program). EndWithin bytes (fields_at p start.fields)) (sym program) within in
-    let found : EndWithin mid.progress.«record».items (fields_at current.program start.fields) = subst (λ (kept : List ℕ). EndWithin kept (fields_at current.program start.fields)) (sym keeps.kept) here' in
-    let time' : CanCalculate current.program (with_record current.progress mid.progress) = record { time = still_time current.program current.progress mid.progress current.progress.time calculates.time; course = calculates.course } in
-    let can : CanMove current.program (with_record current.progress mid.progress) moves.Chained start.fields = record { moves = time'; within = found } in
-    subst (λ (c : Stepper). CanMove c.program c.progress moves.Chained start.fields) (sym keeps.same) can
+kept_calculates : (c : Stepper) (bytes : List ℕ) → CanCalculate c.program c.progress → CanCalculate c.program (kept c bytes).progress
+kept_calculates c bytes calculates = record { time = still_time c.program c.progress (kept c bytes).progress c.progress.time calculates.time; course = calculates.course }
+
+pub found_moved : (c : Stepper) (place : ℕ) (bytes : List ℕ) → IsRunning c → CanCalculate c.program c.progress → AreWithin c.program bytes place → IsMovedBy (kept c bytes) moves.Chained c.program place bytes c.state.values
+found_moved c place bytes running calculates within =
+    record { running = kept_running c bytes running; can = record { moves = kept_calculates c bytes calculates; within = within }; same = refl }
+
+found_begun : (c : Stepper) (place : ℕ) (bytes : List ℕ) → here c (found_from bytes place) ≡ here (kept c bytes) (λ source program progress. fields_from source program progress moves.Chained place)
+unfolding fields_from
+found_begun c place bytes =
+    ap (λ (go : Rest). fields_moved (again (own c)) (fields_at c.program place) bytes go (held_by c)) (sym (still_calculating (own c) c.program c.progress (kept c bytes).progress))
+
+-- all are moved, and the calculations go on
+pub found_all : (old mid new : Stepper) (place : ℕ) (bytes : List ℕ) → mid.program ≡ old.program → MovesAll (kept old bytes) (kept mid bytes) moves.Chained place → GoesOn mid new (here mid calculating)
+    → GoesOn old new (here old (found_from bytes place))
+found_all old mid new place bytes program moved goes =
+    goes_then old mid new _ _ program
+    (found_begun old place bytes ∙ (moved.runs ∙ ap (λ (rest : Rest). rest (held_by mid)) (still_calculating (own mid) mid.program mid.progress (kept mid bytes).progress))) goes
+
+-- one has bad digits: the record is kept while a reply is waited for
+pub keeps_all : (old new : Stepper) (bytes : List ℕ) → KeepsRecord old new bytes → new ≡ kept old bytes
+keeps_all old new bytes keeps = keeps.same ∙ ap (kept old) keeps.kept
+
+pub found_stops : (old mid keeps new : Stepper) (place bad : ℕ) (bytes : List ℕ) → mid.program ≡ old.program → keeps ≡ kept mid bytes → StopsAt (kept old bytes) (kept mid bytes) moves.Chained place bad
+    → GoesOn keeps new (here keeps (λ source program progress. halted (again source) BadDigit (field_then source program progress moves.Chained bad)))
+    → GoesOn old new (here old (found_from bytes place))
+found_stops old mid keeps new place bad bytes program same stops goes =
+    goes_then old keeps new _ _ (ap (λ (c : Stepper). c.program) same ∙ program)
+    (found_begun old place bytes ∙ (stops.runs ∙ ap (λ (c : Stepper). here c (λ source program progress. halted (again source) BadDigit (field_then source program progress moves.Chained bad))) (sym same))) goes
+
+pub stop_continues : (old mid keeps : Stepper) (place bad : ℕ) (bytes : List ℕ) → keeps ≡ kept mid bytes → StopsAt (kept old bytes) (kept mid bytes) moves.Chained place bad → IsField keeps.program bad × CanMove keeps.program keeps.progress moves.Chained bad
+stop_continues old mid keeps place bad bytes same stops = subst (λ (c : Stepper). IsField c.program bad × CanMove c.program c.progress moves.Chained bad) (sym same) (stops.field, stops.moves)
+
+pub stop_running : (old mid keeps : Stepper) (place bad : ℕ) (bytes : List ℕ) → keeps ≡ kept mid bytes → StopsAt (kept old bytes) (kept mid bytes) moves.Chained place bad → IsRunning old → IsRunning keeps
+stop_running old mid keeps place bad bytes same stops running = subst IsRunning (sym same) (stays_running (kept old bytes) (kept mid bytes) stops.stays (kept_running old bytes running))
+
+-- its fields end within it
+pub ends_within : (old current : Stepper) (start : TypeStart) (bytes : List ℕ) → current.program ≡ old.program → EndWithin bytes (fields_at old.program start.fields) → AreWithin current.program bytes start.fields
+ends_within old current start bytes program within = subst (λ (p : Program). EndWithin bytes (fields_at p start.fields)) (sym program) within
 
 -- fields of a record of this type are moved, and the calculations go on
 abbrev pub moved_then : TypeStart → List ℕ → Source → Program → Progress → Rest
 moved_then start bytes source program progress = fields_moved (again source) (kind_at program start).fields bytes (calculating source program progress)
 
-abbrev pub from_start : TypeStart → Source → Program → Progress → Rest
-from_start start source program progress = fields_from source program progress moves.Chained start.fields
+goes_found : (old new : Stepper) (start : TypeStart) (bytes : List ℕ) → is_type_start old.program start ≡ true → GoesOn old new (here old (found_from bytes start.fields)) → GoesOn old new (here old (moved_then start bytes))
+goes_found old new start bytes starts goes =
+    goes_as old new _ _ (ap (λ (fields : List (FieldLine Name)). fields_moved (again (own old)) fields bytes (calculating (own old) old.program old.progress) (held_by old)) (kind_fields old.program start starts)) goes
 
-same_moves : (c : Stepper) (other : Progress) (start : TypeStart) (bytes : List ℕ) → is_type_start c.program start ≡ true → other.«record».items ≡ bytes → here c (moved_then start bytes) ≡ here (keeping c other) (from_start start)
-unfolding fields_from
-same_moves c other start bytes starts kept =
-    ap (λ (fields : List (FieldLine Name)). fields_moved (again (own c)) fields bytes (calculating (own c) c.program c.progress) (held_by c)) (kind_fields c.program start starts)
-    ∙ (ap (λ (found : List ℕ). fields_moved (again (own c)) (fields_at c.program start.fields) found (calculating (own c) c.program c.progress) (held_by c)) (sym kept)
-    ∙ ap (λ (go : Rest). fields_moved (again (own c)) (fields_at c.program start.fields) other.«record».items go (held_by c)) (sym (still_calculating (own c) c.program c.progress other)))
-
-goes_kept : (old mid new : Stepper) (start : TypeStart) (bytes : List ℕ) → is_type_start old.program start ≡ true → KeepsRecord old mid bytes → GoesOn mid new (here mid (from_start start)) → GoesOn old new (here old (moved_then start bytes))
-goes_kept old mid new start bytes starts keeps goes =
-    let goes' : GoesOn (keeping old mid.progress) new (here (keeping old mid.progress) (from_start start)) = subst (λ (c : Stepper). GoesOn c new (here c (from_start start))) keeps.same goes in
-    goes_then old (keeping old mid.progress) new _ _ refl (same_moves old mid.progress start bytes starts keeps.kept) goes'
-
-pub takes_chained : (old turned current mid new : Stepper) (file : ℕ) (start : TypeStart) (bytes : List ℕ) (indicator : Indicator) → is_type_start old.program start ≡ true → indicator ≡ (kind_at old.program start).indicator
+pub takes_chained : (old turned current new : Stepper) (file : ℕ) (start : TypeStart) (bytes : List ℕ) (indicator : Indicator) → is_type_start old.program start ≡ true → indicator ≡ (kind_at old.program start).indicator
     → turned.program ≡ old.program → current.program ≡ turned.program
-    → Changes old turned (λ source. turn indicator true) → Changes turned current (λ source. put_current (name_of_file turned.program file) (Some Meant.LastChained)) → KeepsRecord current mid bytes
-    → GoesOn mid new (here mid (from_start start))
+    → Changes old turned (λ source. turn indicator true) → Changes turned current (λ source. put_current (name_of_file turned.program file) (Some Meant.LastChained))
+    → GoesOn current new (here current (found_from bytes start.fields))
     → GoesOn old new (here old (λ source program progress. chained_to (again source) (name_of_file program file) bytes (Some (kind_at program start)) (calculating source program progress)))
 unfolding chained_to
-takes_chained old turned current mid new file start bytes indicator starts is program program' turns puts keeps goes =
+takes_chained old turned current new file start bytes indicator starts is program program' turns puts goes =
     let starts' : is_type_start current.program start ≡ true = subst (λ (p : Program). is_type_start p start ≡ true) (sym (program' ∙ program)) starts in
     let behind : GoesOn turned new (here turned (λ source program progress e. moved_then start bytes source program progress (put_current (name_of_file turned.program file) (Some Meant.LastChained) e))) =
-    goes_changed turned current new (λ source. put_current (name_of_file turned.program file) (Some Meant.LastChained)) (moved_then start bytes) puts (goes_kept current mid new start bytes starts' keeps goes) in
+    goes_changed turned current new (λ source. put_current (name_of_file turned.program file) (Some Meant.LastChained)) (moved_then start bytes) puts (goes_found current new start bytes starts' goes) in
     goes_as old new _ _
     (ap (λ (i : Indicator). moved_then start bytes (own old) old.program old.progress (put_current (name_of_file old.program file) (Some Meant.LastChained) (turn i true (held_by old)))) (sym is))
     (goes_changed old turned new (λ source. turn indicator true) (λ source program progress e. moved_then start bytes source program progress (put_current (name_of_file program file) (Some Meant.LastChained) e)) turns behind)

@@ -132,6 +132,21 @@ pub record Chains (c : Stepper) (place file : ℕ) (performs_it : IsPerformed c 
   pub names : performs_it.next.line.factor2 ≡ Some (Named (File file))
   pub within : file < length c.program.files.items
 
+pub chains_in : (c : Stepper) (place file : ℕ) (performs_it : IsPerformed c place op.Chain) → IsChainOf c.program place file → Chains c place file performs_it
+chains_in c place file performs_it chain =
+    let same : performs_it.next.line ≡ chain.line = ap (λ (o : Option (CalculationLine Reference)). unwrap_or o chain.line) (sym performs_it.next.there ∙ chain.there) in
+    record { names = ap (λ (line : CalculationLine Reference). line.factor2) same ∙ chain.names; within = chain.within }
+
+pub chain_named : (c : Stepper) (place file : ℕ) (read : CalculationLine Reference) → IsPerformed c place op.Chain → read ≡ get_or c.program.calculations.items place read → read.factor2 ≡ Some (Named (File file))
+    → file < length c.program.files.items → IsChainOf c.program place file
+chain_named c place file read performs_it found names within = record {
+  line = performs_it.next.line;
+  there = performs_it.next.there;
+  operation = performs_it.bears;
+  names = ap (λ (line : CalculationLine Reference). line.factor2) (sym (line_read c.program place performs_it.next.line read performs_it.next.there found)) ∙ names;
+  within = within;
+}
+
 -- what follows it
 abbrev beneath : Stepper → ℕ → Rest
 beneath c place = rest_at c.program (again (own c)) (behind c) (at_place c.progress.course.here (suc place))

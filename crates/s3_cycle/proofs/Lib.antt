@@ -25,6 +25,7 @@ pub mod FollowLemmas
 pub mod CourseLemmas
 pub mod CalculatingLemmas
 pub mod JumpLemmas
+pub mod OverLemmas
 pub mod PerformingLemmas
 pub mod PreparedLemmas
 pub mod ForgetLemmas

@@ -172,14 +172,30 @@ head_again source program progress place = (again source).read (input_at (inputs
 abbrev pub fields_at : Program → ℕ → List (FieldLine Name)
 fields_at program place = group_fields (map (named_input (tables program)) (drop place program.inputs.items))
 
+-- those of the record that is processed, at the time of its details
+abbrev pub processed_bytes : Progress → Time → List ℕ
+processed_bytes progress (time.Details selection) = selected_bytes progress selection
+processed_bytes progress (time.Totals selection) = []
+processed_bytes progress time.Last = []
+
 abbrev pub moved_bytes : Progress → Moves → List ℕ
-moved_bytes progress (moves.Selected selection) = selected_bytes progress selection
+moved_bytes progress moves.Selected = processed_bytes progress progress.time
 moved_bytes progress moves.Chained = progress.record.items
 
--- the detail calculations from their first line, or those behind the CHAIN
-abbrev pub after_fields : Source → Program → Progress → Moves → Rest
-after_fields source program progress (moves.Selected selection) =
+-- the detail calculations of a record from their first line
+abbrev pub first_details : Source → Program → Progress → Selection → Rest
+first_details source program progress selection =
     calculated source (again source) (detail_calculations source) (details_done source program progress selection) None (detail_calculations source)
+
+-- those of the record that is processed
+abbrev pub processed_then : Source → Program → Progress → Time → Rest
+processed_then source program progress (time.Details selection) = first_details source program progress selection
+processed_then source program progress (time.Totals selection) = ended false
+processed_then source program progress time.Last = ended false
+
+-- the detail calculations, or those behind the CHAIN
+abbrev pub after_fields : Source → Program → Progress → Moves → Rest
+after_fields source program progress moves.Selected = processed_then source program progress progress.time
 after_fields source program progress moves.Chained = calculating source program progress
 
 unfoldable pub fields_from : Source → Program → Progress → Moves → ℕ → Rest

@@ -38,6 +38,7 @@ impl Stepper {
     }
 
     /// Lines from one on, and the steps behind them.
+    #[inline(always)]
     fn put_walk(&mut self, walk: Walk, next: usize)
         requires running { IsRunning self.old }
         requires walk { IsWalk self.old.program self.old.progress walk }
@@ -52,6 +53,7 @@ impl Stepper {
     }
 
     /// T lines from one on, and the steps behind them.
+    #[inline(never)]
     fn put_time_totals(&mut self, next: usize)
         requires running { IsRunning self.old }
         requires walk { IsWalk self.old.program self.old.progress walk.Totals }
@@ -65,6 +67,7 @@ impl Stepper {
     }
 
     /// The lines at overflow from one on, and the steps behind them.
+    #[inline(never)]
     fn put_time_overflow(&mut self, next: usize)
         requires running { IsRunning self.old }
         requires walk { IsWalk self.old.program self.old.progress walk.Overflow }
@@ -77,6 +80,7 @@ impl Stepper {
     }
 
     /// A record is put into its file, or refused, which halts.
+    #[inline(always)]
     fn go_on_stored(&mut self, walk: Walk, next: usize, answer: Answer<'_>)
         requires running { IsRunning self.old }
         requires walk { IsWalk self.old.program self.old.progress walk }
@@ -91,6 +95,7 @@ impl Stepper {
     }
 
     /// The card or the record that was asked for, or none.
+    #[inline(always)]
     fn go_on_read(&mut self, place: usize, answer: Answer<'_>)
         requires running { IsRunning self.old }
         requires unread { IsUnreadAt self.old.progress.reading.files.items place }
@@ -105,6 +110,7 @@ impl Stepper {
     }
 
     /// The record that CHAIN found, or none.
+    #[inline(always)]
     fn go_on_chained(&mut self, place: usize, file: usize, answer: Answer<'_>)
         requires running { IsRunning self.old }
         requires calculates { CanCalculate self.old.program self.old.progress }
@@ -120,6 +126,7 @@ impl Stepper {
     }
 
     /// Reply 0 goes on, 2 goes to the totals of the last record, 3 ends the job.
+    #[inline(always)]
     fn go_on_replied(&mut self, then: Continuation, answer: Answer<'_>)
         requires running { IsRunning self.old }
         requires then { Continues self.old.program self.old.progress then }
@@ -134,6 +141,7 @@ impl Stepper {
         }
     }
 
+    #[inline(never)]
     fn reply(&mut self, then: Continuation, digit: u8)
         requires running { IsRunning self.old }
         requires then { Continues self.old.program self.old.progress then }

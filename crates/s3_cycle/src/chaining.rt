@@ -16,7 +16,6 @@ ghost use Rattle.s3_cycle.specs.Requests.{IsSoughtBy, sought_of};
 ghost use Rattle.s3_cycle.specs.Rest.{calculating, chain_answered};
 ghost use Rattle.s3_cycle.specs.Inner.Going.{AreSound, IsRunning, CanCalculate, IsChainOf, IsLineAt, Changes, GoesOn, own, held_by, here};
 ghost use Rattle.s3_cycle.specs.Inner.Heads.{IsRecordOf};
-ghost use Rattle.s3_cycle.specs.Inner.Chaining.{KeepsRecord};
 ghost use Rattle.s3_cycle.specs.Inner.Calculating.{Does, IsPerformed, Misses};
 
 use crate::indicating::clear_types_of;
@@ -25,30 +24,56 @@ use crate::request::{Current, Request, Sought};
 use crate::stepper::Stepper;
 use crate::went::Calculated;
 use s3_lines::indicator::Indicator;
-use s3_match::heads::keep_record;
 use s3_operations::chaining::chained_file;
 use s3_operator::HaltCode;
 use s3_program::starts::TypeStart;
 
 impl Stepper {
-    /// CHAIN: its file has no current record, its indicators go off, and a record is asked for.
+    /// CHAIN: its file has no current record, its indicators go off, and a record is asked for. What it seeks, the key or the
+    /// record number that factor 1 has, is told apart once, so that a key isn't copied on its way into the request.
     pub fn chain(&mut self, place: usize) -> Calculated
         requires { IsPerformed self.old place op.Chain }
         ensures { Does self.old self.new result }
     {
+        let program = &self.program;
+        let line = &program.calculations[place];
+        let values = &self.state.values;
+        let file = chained_file(program, line);
+        match program.files[file].key {
+            Some(_) => {
+                let key = values.key(program, line);
+                self.seek(place, file, Sought::Key(key))
+            }
+            None => {
+                let number = values.record_number(program, line);
+                self.seek(place, file, Sought::RecordNumber(number))
+            }
+        }
+    }
+
+    /// The same, with the file that it names, and what it seeks there.
+    #[inline(always)]
+    fn seek(&mut self, place: usize, file: usize, sought: Sought) -> Calculated
+        requires performed { IsPerformed self.old place op.Chain }
+        requires chain { IsChainOf self.old.program place file }
+        requires by { IsSoughtBy (file_at self.old.program file).key sought }
+        requires value { (line : CalculationLine Reference) → slice_get self.old.program.calculations.items place ≡ Some line
+            → sought_of sought ≡ sought_in (own self.old) (held_by self.old) (named_line self.old.program line) (file_at self.old.program file) }
+        ensures { Does self.old self.new result }
+    {
         self.progress.course.move_to(place + 1);
         let program = &self.program;
-        let file = chained_file(program, &program.calculations[place]);
+        let length = program.files[file].record_length;
         let is_served = self.state.values.is_served(program, &program.files[file]);
-        let request = Request::Chain {
-            file,
-            length: program.files[file].record_length,
-            sought: self.sought(place, file),
-        };
         self.forget(file);
         if !is_served {
             return self.miss(place);
         }
+        let request = Request::Chain {
+            file,
+            length,
+            sought,
+        };
         self.wait(request, Point::Chained { place, file });
         Calculated::Waits
     }
@@ -63,21 +88,6 @@ impl Stepper {
         self.state.current[file] = None;
         let reading = &self.progress.reading;
         clear_types_of(&mut self.state.values, &self.program, reading, file);
-    }
-
-    /// The key, or the record number, that factor 1 has.
-    fn sought(&self, place: usize, file: usize) -> Sought
-        requires running { IsRunning self.now }
-        requires chain { IsChainOf self.now.program place file }
-        ensures by { IsSoughtBy (file_at self.now.program file).key result }
-        ensures value { (line : CalculationLine Reference) → slice_get self.now.program.calculations.items place ≡ Some line
-            → sought_of result ≡ sought_in (own self.now) (held_by self.now) (named_line self.now.program line) (file_at self.now.program file) }
-    {
-        let line = &self.program.calculations[place];
-        match self.program.files[file].key {
-            Some(_) => Sought::Key(self.state.values.key(&self.program, line)),
-            None => Sought::RecordNumber(self.state.values.record_number(&self.program, line)),
-        }
     }
 
     /// The indicator in 54-55 of a line.
@@ -108,6 +118,7 @@ impl Stepper {
     }
 
     /// Goes on where no record is found.
+    #[inline(never)]
     pub fn chain_missed(&mut self, place: usize)
         requires running { IsRunning self.old }
         requires calculates { CanCalculate self.old.program self.old.progress }
@@ -124,6 +135,7 @@ impl Stepper {
     }
 
     /// Goes on with the record that is found: it is typed, and its fields are moved.
+    #[inline(never)]
     pub fn chain_found(&mut self, place: usize, file: usize, bytes: &[u8])
         requires running { IsRunning self.old }
         requires calculates { CanCalculate self.old.program self.old.progress }
@@ -150,8 +162,7 @@ impl Stepper {
     {
         self.identify_type(start);
         self.make_chained_current(file);
-        self.keep(bytes);
-        self.move_chained(start.fields);
+        self.move_found(start.fields, bytes);
     }
 
     /// The record that is found is the current one of its file.
@@ -161,13 +172,5 @@ impl Stepper {
         ensures { Changes self.old self.new (λ source. put_current (name_of_file self.old.program file) (Some LastChained)) }
     {
         self.state.current[file] = Some(Current::LastChained);
-    }
-
-    /// Keeps the record that is found.
-    fn keep(&mut self, bytes: &[u8])
-        requires { length bytes.now ≤ 1024 }
-        ensures { KeepsRecord self.old self.new bytes.now }
-    {
-        keep_record(&mut self.progress.record, bytes);
     }
 }

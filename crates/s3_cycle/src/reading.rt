@@ -88,6 +88,7 @@ impl Stepper {
     }
 
     /// Goes on where a file has ended.
+    #[inline(never)]
     pub fn end_file(&mut self, place: usize)
         requires running { IsRunning self.old }
         requires unread { IsUnreadAt self.old.progress.reading.files.items place }
@@ -98,6 +99,7 @@ impl Stepper {
     }
 
     /// Goes on with the record that was read.
+    #[inline(never)]
     pub fn take_record(&mut self, place: usize, bytes: &[u8])
         requires running { IsRunning self.old }
         requires unread { IsUnreadAt self.old.progress.reading.files.items place }

@@ -142,7 +142,7 @@ impl Stepper {
     {
         self.turn(Indicator::Matching, selection.is_matched);
         self.make_current(selection);
-        self.move_selected(selection, selection.start.fields);
+        self.move_selected(selection);
     }
 
     /// The selected record is the current one of its file.

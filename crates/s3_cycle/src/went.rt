@@ -28,3 +28,12 @@ pub enum Calculated {
     /// There was none: all sections that were open have ended.
     Over,
 }
+
+/// How far calculations went down.
+#[derive(Clone, Copy)]
+pub enum Down {
+    /// Past a jump, behind which they go on.
+    PastJump,
+    /// To a request, or to their end.
+    Went(Went),
+}

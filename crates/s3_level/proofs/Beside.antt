@@ -16,10 +16,10 @@ use Rattle.s3_job_files.proofs.Staying.{SeesSame, ready_over as files_ready_over
 use Rattle.s3_spool.specs.Queues.{Blocks, IsFreeSector, block_sector, blocks_of, lines_in, queue_of, quota_of}
 use Rattle.s3_spool.proofs.QueueLemmas.{SameBlocks, same_queue}
 use Rattle.s3_solo.specs.World.{World}
-use Rattle.s3_solo.specs.declared.action.Did.{Did}
 use Rattle.s3_level.specs.declared.level.Level.{Level}
+use Rattle.s3_level.specs.declared.taken.Taken.{Taken}
 use Rattle.s3_level.specs.Holds.{AreAll, Around, HoldsParts, IsBeyond, IsReady, KeepsOthers, Shown, Spares, around, open_files, shown, with_seen}
-use Rattle.s3_level.specs.Inner.Turning.{Turns}
+use Rattle.s3_level.specs.Inner.Turning.{TakesTurns}
 
 -- ---- sectors
 -- the sectors of the blocks are out of reach of a level's files
@@ -98,13 +98,13 @@ pub shown_moved : (old new : Level) (areas new_areas : Areas) (s t : PoolState) 
 shown_moved old new areas new_areas s t blocks w pack are keeps id held =
     subst (λ (k : Shown). HoldsParts new k w) (sym (shown_after old.id areas new_areas blocks s t pack are keeps) ∙ ap (λ (l : LevelId). shown l (around new_areas t blocks)) (sym id)) held
 
--- a turn whose files moved
-pub turn_moved : {E : Type 0} (result : Result Did E) (old new : Level) (areas new_areas : Areas) (s t : PoolState) (blocks : Blocks) → IsPackReady areas s.contents → AreAll blocks
+-- turns whose files moved
+pub turns_moved : {E : Type 0} (result : Result Taken E) (old new : Level) (areas new_areas : Areas) (s t : PoolState) (blocks : Blocks) → IsPackReady areas s.contents → AreAll blocks
     → KeepsOthers old.id areas new_areas s t
-    → Turns result (HoldsParts old (shown old.id (around areas s blocks))) (HoldsParts new (with_seen (seen new_areas t.contents) (shown old.id (around areas s blocks))))
-    → Turns result (HoldsParts old (shown old.id (around areas s blocks))) (HoldsParts new (shown old.id (around new_areas t blocks)))
-turn_moved result old new areas new_areas s t blocks pack are keeps turns =
-    subst (λ (k : Shown). Turns result (HoldsParts old (shown old.id (around areas s blocks))) (HoldsParts new k)) (sym (shown_after old.id areas new_areas blocks s t pack are keeps)) turns
+    → TakesTurns result (HoldsParts old (shown old.id (around areas s blocks))) (HoldsParts new (with_seen (seen new_areas t.contents) (shown old.id (around areas s blocks))))
+    → TakesTurns result (HoldsParts old (shown old.id (around areas s blocks))) (HoldsParts new (shown old.id (around new_areas t blocks)))
+turns_moved result old new areas new_areas s t blocks pack are keeps turns =
+    subst (λ (k : Shown). TakesTurns result (HoldsParts old (shown old.id (around areas s blocks))) (HoldsParts new k)) (sym (shown_after old.id areas new_areas blocks s t pack are keeps)) turns
 
 -- ---- what is spared
 pub spares_files : (level : LevelId) (old new : Areas) (blocks : Blocks) (s t : PoolState) → IsPackReady old s.contents → AreAll blocks → KeepsOthers level old new s t

@@ -1,14 +1,10 @@
 -- Jumps that are passed many at once: as many turns of the solo run.
-use Rattle.std.proofs.Common.{◌≡◌, ◌≤◌, ◌<◌, ℕ, zero, suc, List, [], ◌∷◌, ◌++◌, refl, sym, ◌∙◌, ap, subst, replicate, append-nil, append_assoc, Bool, true, false, true≢false, not, ◌&&◌, if◌then◌else◌, Option, Some, None, Result, Ok, Err, map, slice_range, arith}
+use Rattle.std.proofs.Common.{◌≡◌, ◌≤◌, ◌<◌, ℕ, zero, suc, List, [], ◌∷◌, ◌++◌, refl, sym, ◌∙◌, ap, subst, replicate, append-nil, append_assoc, Bool, true, false, if◌then◌else◌, Option, Some, None, Result, Ok, Err, map, slice_range, arith}
 use Rattle.std.specs.Prelude.{IfOk}
 use Rattle.std.proofs.lemmas.Option.{none-some}
 use Rattle.s3_meaning.specs.Requests.{Answer, Request, Jump, Done}
 use Rattle.s3_meaning.specs.Cycle.{Req}
 use Rattle.s3_operator.specs.Halts.{is_waiting}
-use Rattle.s3_store.specs.State.{PoolState}
-use Rattle.s3_labels.specs.Areas.{Areas, IsReady as IsPackReady}
-use Rattle.s3_spool.specs.Queues.{Blocks}
-use Rattle.s3_cycle.specs.declared.request.Request as code
 use Rattle.s3_cycle.specs.declared.request.Request.TheVariants as asks
 use Rattle.s3_cycle.specs.Following.{PassesJumps, asked}
 use Rattle.s3_cycle.proofs.FollowLemmas.{waits_jump}
@@ -21,14 +17,14 @@ use Rattle.s3_solo.specs.Asked.{IsAsked}
 use Rattle.s3_solo.specs.Serving.{Outcome, acted, at_work, idle, pending, served, standing_at, with_answer}
 use Rattle.s3_solo.specs.Solo.{gone_on, solo, step_of}
 use Rattle.s3_solo.proofs.Asking.{step_asks}
-use Rattle.s3_job_files.specs.Holds.{HoldsFiles, job_file_of, seen}
+use Rattle.s3_job_files.specs.Holds.{HoldsFiles, job_file_of}
 use Rattle.s3_job_files.specs.declared.file.OpenFile.{OpenFile}
 use Rattle.s3_job_files.specs.declared.job_files.JobFiles.{JobFiles}
 use Rattle.s3_level.specs.declared.job.OpenJob.{OpenJob}
 use Rattle.s3_level.specs.declared.level.Level.{Level}
-use Rattle.s3_level.specs.Holds.{AreAll, Around, Holds, HoldsJob, HoldsParts, KeepsOthers, Repeats, Shown, around, has_jump, is_jump, jumps, open_files, shown, with_seen}
-use Rattle.s3_level.specs.Inner.Turning.{AtWorkBecomes, JumpsBecome, KeepsPlace, Pends, request_by, waits_by, with_done}
-use Rattle.s3_level.proofs.Beside.{shown_moved}
+use Rattle.s3_level.specs.declared.taken.Taken.{Taken}
+use Rattle.s3_level.specs.Holds.{HoldsJob, HoldsParts, IsUpTo, Shown, open_files}
+use Rattle.s3_level.specs.Inner.Turning.{AtWorkBecomes, JumpsBecome, KeepsPlace, Pends, TakesTurns, request_by, waits_by, with_done}
 use Rattle.s3_level.proofs.Running.{job_held, pends, standing_same}
 
 -- ---- the open job and the world's
@@ -71,13 +67,6 @@ jumps_stand jumps old middle new takes stands = λ w job is_job held.
       taken.0,
       subst new (standing_same (pending (with_done jumps job) w) (with_done jumps job) w (Some (with_done jumps job))) (stands (record w { job = Some (with_done jumps job) }) (with_done jumps job) refl taken.1),
     )
-
--- one of them is served
-pub jump_served : (jumps : ℕ) (old new : World → Type 0) → 1 ≤ jumps → jumps ≤ 1 → JumpsBecome jumps at_work old new
-    → (w : World) (job : JobAtWork) → w.job ≡ Some job → old w → (Acted ≡ (served Jump job w).did) × new (served Jump job w).world
-jump_served jumps old new some few becomes = λ w job is_job held.
-    let one : jumps ≡ 1 = omega (arith, some, few) in
-    (refl, (subst (λ (n : ℕ). JumpsBecome n at_work old new) one becomes w job is_job held).1)
 
 -- ---- as many turns
 -- the world behind so many jumps
@@ -123,71 +112,33 @@ turns_jump : (turns : ℕ) (job : JobAtWork) (w : World) → 1 ≤ turns → w.j
 turns_jump zero job w some is_job quiet all = absurd (omega (arith, some))
 turns_jump (suc n) job w some is_job quiet all = solo_more n Turn w ∙ ap (λ (o : Outcome). o.world) (turn_jumps (suc n) n job w (omega arith) is_job quiet all)
 
-solo_asks : (n : ℕ) (action : Action) (w : World) → IsAsked w → IsAsked (solo w (replicate n action))
+pub solo_asks : (n : ℕ) (action : Action) (w : World) → IsAsked w → IsAsked (solo w (replicate n action))
 solo_asks zero action w asked' = asked'
 solo_asks (suc n) action w asked' = solo_asks n action (step_of w action).world (step_asks action w asked')
 
--- ---- a level that has a jump
--- no halt waits, and its open job asks for nothing but a turn
-is_both : (a b : Bool) → (a && not b) ≡ true → (a ≡ true) × (b ≡ false)
-is_both true false is = (refl, refl)
-is_both true true is = absurd (true≢false (sym is))
-is_both false b is = absurd (true≢false (sym is))
-
-jump_asked : (request : code.Request) → is_jump request ≡ true → request ≡ asks.Jump
-jump_asked asks.Jump is = refl
-jump_asked asks.Card is = absurd (true≢false (sym is))
-jump_asked (asks.Read file size) is = absurd (true≢false (sym is))
-jump_asked (asks.Chain file size sought) is = absurd (true≢false (sym is))
-jump_asked (asks.Append file) is = absurd (true≢false (sym is))
-jump_asked (asks.Add file) is = absurd (true≢false (sym is))
-jump_asked (asks.Update file current) is = absurd (true≢false (sym is))
-jump_asked (asks.Print page line) is = absurd (true≢false (sym is))
-jump_asked (asks.Ask code) is = absurd (true≢false (sym is))
-jump_asked (asks.End at_once) is = absurd (true≢false (sym is))
-
-jump_requested : (o : Option OpenJob) → jumps o ≡ true → request_by o ≡ Some asks.Jump
-jump_requested None is = absurd (true≢false (sym is))
-jump_requested (Some job) is = ap (λ (r : code.Request). Some r) (jump_asked (asked job.cycle) is)
-
-pub jump_is_asked : (level : Level) → has_jump level ≡ true → request_by level.job ≡ Some asks.Jump
-jump_is_asked level has = jump_requested level.job (is_both (jumps level.job) (is_waiting level.halts) has).0
-
-quiet_in : (s : Shown) (level : Level) (w : World) → has_jump level ≡ true → HoldsParts level s w → is_waiting w.halts ≡ false
-quiet_in s level w has held = ap is_waiting held.halts ∙ (is_both (jumps level.job) (is_waiting level.halts) has).1
-
 -- the world's job waits at that jump
-job_jumps : (s : Shown) (level : Level) (w : World) → has_jump level ≡ true → HoldsParts level s w → (job : JobAtWork) × (w.job ≡ Some job) × (pending job w ≡ Jump)
-job_jumps s level w has held = by level.job (jump_is_asked level has) (pends s level w held)
+job_jumps : (s : Shown) (old : Level) (w : World) → request_by old.job ≡ Some asks.Jump → HoldsParts old s w → (job : JobAtWork) × (w.job ≡ Some job) × (pending job w ≡ Jump)
+job_jumps s old w is held = by old.job is (pends s old w held)
   where
     by : (o : Option OpenJob) → request_by o ≡ Some asks.Jump → Pends (waits_by o) w → (job : JobAtWork) × (w.job ≡ Some job) × (pending job w ≡ Jump)
     by None none there = absurd (none-some asks.Jump none)
     by (Some open_job) some there = (there.0, there.1, there.2 ∙ waits_jump open_job.cycle (let e : asked open_job.cycle ≡ asks.Jump = cc in e))
 
--- its next turn acts
-pub jump_acts : (old : Level) (beside : Around) (w : World) → has_jump old ≡ true → Holds old beside w → (step_of w Turn).did ≡ Acted
-jump_acts old beside w has held =
-    let s : Shown = shown old.id beside in
-    let there = job_jumps s old w has held.parts in
-    ap (λ (b : Bool). (if b then idle w else gone_on w.job w).did) (quiet_in s old w has held.parts)
-    ∙ (ap (λ (o : Option JobAtWork). (gone_on o w).did) there.1 ∙ ap (λ (r : Request). (served r there.0 w).did) there.2)
+quiet_in : (s : Shown) (old : Level) (w : World) → is_waiting old.halts ≡ false → HoldsParts old s w → is_waiting w.halts ≡ false
+quiet_in s old w quiet held = ap is_waiting held.halts ∙ quiet
 
--- it takes as many turns
-pub jumps_wholly : {E : Type 0} (result : Result ℕ E) (old new : Level) (areas new_areas : Areas) (state after : PoolState) (blocks : Blocks)
-    → has_jump old ≡ true → IsPackReady areas state.contents → AreAll blocks → KeepsOthers old.id areas new_areas state after → new.id ≡ old.id
-    → IfOk result (λ turns. 1 ≤ turns)
-    → ((s : Shown) → IfOk result (λ turns. JumpsBecome turns at_work (HoldsParts old (with_seen (seen areas state.contents) s)) (HoldsParts new (with_seen (seen new_areas after.contents) s))))
-    → IfOk result (λ turns. Repeats Turn turns Acted (Holds old (around areas state blocks)) (Holds new (around new_areas after blocks)))
-jumps_wholly (Ok turns) old new areas new_areas state after blocks has pack are keeps id some becomes = λ w held.
-    let s : Shown = shown old.id (around areas state blocks) in
-    let there = job_jumps s old w has held.parts in
-    let quiet = quiet_in s old w has held.parts in
-    let goes = becomes s w there.0 there.1 held.parts in
-    let same : solo w (replicate turns Turn) ≡ at_work (with_done turns there.0) w = turns_jump turns there.0 w some there.1 quiet goes.0 in (
-      λ n few. sym (ap (λ (o : Outcome). o.did) (turn_jumps turns n there.0 w few there.1 quiet goes.0)),
-      record {
-        parts = shown_moved old new areas new_areas state after blocks (solo w (replicate turns Turn)) pack are keeps id (subst (HoldsParts new (with_seen (seen new_areas after.contents) s)) (sym same) goes.1);
-        asked = solo_asks turns Turn w held.asked;
-      },
+-- so many turns pass them
+pub jumps_taken_as_turns : (s : Shown) {E : Type 0} (old : Level) (new : World → Type 0) (most : ℕ) (result : Result Taken E) → is_waiting old.halts ≡ false → request_by old.job ≡ Some asks.Jump
+    → IfOk result (λ taken. IsUpTo most taken) → IfOk result (λ taken. taken.did ≡ Acted) → IfOk result (λ taken. JumpsBecome taken.times at_work (HoldsParts old s) new)
+    → TakesTurns result (HoldsParts old s) new
+jumps_taken_as_turns s old new most (Ok taken) quiet is times acted becomes = λ w held.
+    let there = job_jumps s old w is held in
+    let quiet' = quiet_in s old w quiet held in
+    let goes = becomes w there.0 there.1 held in (
+      λ n few. acted ∙ sym (ap (λ (o : Outcome). o.did) (turn_jumps taken.times n there.0 w few there.1 quiet' goes.0)),
+      subst new (sym (turns_jump taken.times there.0 w times.some there.1 quiet' goes.0)) goes.1,
     )
-jumps_wholly (Err fault) old new areas new_areas state after blocks has pack are keeps id some becomes = tt
+jumps_taken_as_turns s old new most (Err fault) quiet is times acted becomes = λ w held.
+    let there = job_jumps s old w is held in
+    ap (λ (b : Bool). (if b then idle w else gone_on w.job w).did) (quiet_in s old w quiet held)
+    ∙ (ap (λ (o : Option JobAtWork). (gone_on o w).did) there.1 ∙ ap (λ (r : Request). (served r there.0 w).did) there.2)

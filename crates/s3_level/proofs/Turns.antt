@@ -1,29 +1,34 @@
 -- A turn: what each pending request makes of it.
-use Rattle.std.proofs.Common.{◌≡◌, ◌≢◌, ℕ, List, refl, sym, ◌∙◌, ap, subst, Bool, true, false, if◌then◌else◌, Option, Some, None, Result, Ok, Err, IfOk, OnOk}
+use Rattle.std.proofs.Common.{◌≡◌, ◌≢◌, ℕ, ◌≤◌, List, refl, sym, ◌∙◌, ap, subst, replicate, Bool, true, false, if◌then◌else◌, Option, Some, None, Result, Ok, Err, IfOk, OnOk, arith}
+use Rattle.std.specs.Prelude.{IfErr, OnErr}
 use Rattle.std.proofs.lemmas.Option.{none-some}
-use Rattle.s3_meaning.specs.Requests.{Request, Card, Print, Jump, End}
+use Rattle.s3_meaning.specs.Requests.{Request, Card, Print, End}
 use Rattle.s3_meaning.specs.Output.{filled}
 use Rattle.s3_operator.specs.Halts.{is_waiting}
 use Rattle.s3_cycle.specs.declared.request.Request as code
 use Rattle.s3_cycle.specs.declared.request.Request.TheVariants as asks
 use Rattle.s3_cycle.specs.declared.stepper.Stepper.{Stepper}
 use Rattle.s3_cycle.specs.Following.{asked, put, waits}
-use Rattle.s3_cycle.proofs.FollowLemmas.{waits_card, waits_read, waits_chain, waits_append, waits_add, waits_update, waits_print, waits_jump, waits_ask, waits_end}
+use Rattle.s3_cycle.proofs.FollowLemmas.{waits_card, waits_read, waits_chain, waits_append, waits_add, waits_update, waits_print, waits_ask, waits_end}
+use Rattle.s3_store.specs.Failures.{failed_transfers}
+use Rattle.s3_store.specs.declared.pool_fault.PoolFault.{PoolFault}
+use Rattle.s3_solo.specs.declared.action.Action.{Action}
 use Rattle.s3_solo.specs.declared.action.Action.TheVariants.{Turn}
 use Rattle.s3_solo.specs.declared.action.Did.{Did}
 use Rattle.s3_solo.specs.declared.action.Did.TheVariants.{Acted, Idle}
 use Rattle.s3_level.specs.declared.job.OpenJob.{OpenJob}
 use Rattle.s3_level.specs.declared.level.Level.{Level}
+use Rattle.s3_level.specs.declared.taken.Taken.{Taken}
 use Rattle.s3_solo.specs.World.{World, JobAtWork}
 use Rattle.s3_solo.specs.Serving.{Outcome, begun, file_served, idle, in_use, job_ended, job_over, pending, served}
 use Rattle.s3_solo.specs.Serving as Serving
 use Rattle.s3_job_files.specs.Requests as files
-use Rattle.s3_solo.specs.Solo.{gone_on, step_of}
-use Rattle.s3_level.specs.Holds.{Around, Shown, Holds, HoldsParts, Becomes, Steps, shown}
+use Rattle.s3_solo.specs.Solo.{gone_on, solo, step_of}
+use Rattle.s3_level.specs.Holds.{Around, Shown, Holds, HoldsParts, IsUpTo, Becomes, Repeats, Steps, once, shown}
 use Rattle.s3_cards.specs.declared.levels.LevelId.{LevelId}
 use Rattle.s3_operator.specs.declared.halt_code.HaltCode.{HaltCode}
-use Rattle.s3_level.specs.Inner.Turning.{Begins, Pends, Serves, Turns, on_files, request_by, waits_by}
-use Rattle.s3_solo.proofs.Asking.{step_asks}
+use Rattle.s3_level.specs.Inner.Turning.{Begins, Pends, Serves, TakesTurns, Turns, on_files, request_by, waits_by}
+use Rattle.s3_level.proofs.Jumping.{solo_asks}
 use Rattle.s3_level.proofs.Running.{pends}
 
 -- a turn while no halt waits, and one while a halt does
@@ -85,10 +90,6 @@ meant_by f request (Some job) same is = ap (λ r. Some r) (same job.cycle (let s
 pub card_turn : (s : Shown) {E : Type 0} (old : Level) (new : World → Type 0) (result : Result Did E) → is_waiting old.halts ≡ false → request_by old.job ≡ Some asks.Card
     → Serves (served Card) result (HoldsParts old s) new → Turns result (HoldsParts old s) new
 card_turn s old new result quiet is serves = served_turn s old new result Card quiet (meant_by asks.Card Card old.job waits_card is) serves
-
-pub jump_turn : (s : Shown) {E : Type 0} (old : Level) (new : World → Type 0) (result : Result Did E) → is_waiting old.halts ≡ false → request_by old.job ≡ Some asks.Jump
-    → Serves (served Jump) result (HoldsParts old s) new → Turns result (HoldsParts old s) new
-jump_turn s old new result quiet is serves = served_turn s old new result Jump quiet (meant_by asks.Jump Jump old.job waits_jump is) serves
 
 pub print_turn : (s : Shown) {E : Type 0} (old : Level) (new : World → Type 0) (result : Result Did E) (page line : ℕ) → is_waiting old.halts ≡ false → request_by old.job ≡ Some (asks.Print page line)
     → ((text : List ℕ) → waits_by old.job ≡ Some (Print page line text) → Serves (served (Print page line text)) result (HoldsParts old s) new) → Turns result (HoldsParts old s) new
@@ -193,18 +194,78 @@ asking_turn s {E = E} old result halt quiet is idles = by old.job is refl
         let P : Outcome → Type 0 = λ o. (Idle ≡ o.did) × HoldsParts old s o.world in
         subst P (sym (ap (λ r. served r meant w) (waits_ask job.cycle halt (let e : asked job.cycle ≡ asks.Ask halt = cc in e)))) (refl, held)))
 
--- ---- what the parts do, the whole does
-pub turn_wholly : {E : Type 0} (result : Result Did E) (old new : Level) (before after : Around) → new.id ≡ old.id
-    → Turns result (HoldsParts old (shown old.id before)) (HoldsParts new (shown old.id after))
-    → IfOk result (λ did. Steps Turn did (Holds old before) (Holds new after))
-turn_wholly (Ok did) old new before after id turns = λ w held.
-    let here = turns w held.parts in
-    (here.0, record { parts = subst (λ (l : LevelId). HoldsParts new (shown l after) (step_of w Turn).world) (sym id) here.1; asked = step_asks Turn w held.asked })
-turn_wholly (Err e) old new before after id turns = tt
+-- ---- one turn and several
+-- one step
+pub steps_once : (action : Action) (did : Did) (old new : World → Type 0) → Steps action did old new → Repeats action 1 did old new
+steps_once action did old new steps w held = (λ n few. first n (omega (arith, few)), (steps w held).1)
+  where
+    first : (n : ℕ) → n ≡ 0 → did ≡ (step_of (solo w (replicate n action)) action).did
+    first n none = (steps w held).0 ∙ ap (λ (k : ℕ). (step_of (solo w (replicate k action)) action).did) (sym none)
 
--- where the meaning is idle, so is the call
-pub turn_idles : {E : Type 0} (result : Result Did E) (old new : Level) (before after : Around)
-    → Turns result (HoldsParts old (shown old.id before)) (HoldsParts new (shown old.id after))
-    → (w : World) → Holds old before w → (step_of w Turn).did ≡ Idle → result ≡ Ok Idle
-turn_idles (Ok did) old new before after turns w held idles = let same : did ≡ Idle = (turns w held.parts).0 ∙ idles in cc
-turn_idles (Err e) old new before after turns w held idles = let clash : Idle ≡ Acted = sym idles ∙ turns w held.parts in cc
+-- where it may be taken once it is so
+pub one_step : (action : Action) (taken : Taken) (old new : World → Type 0) → IsUpTo 1 taken → Repeats action taken.times taken.did old new → Steps action taken.did old new
+one_step action taken old new up_to repeats w held =
+    let some = up_to.some in
+    let few = up_to.few in
+    let one : taken.times ≡ 1 = omega (arith, some, few) in
+    let here = repeats w held in
+    (here.0 0 (omega (arith, some)), subst (λ (n : ℕ). new (solo w (replicate n action))) one here.1)
+
+pub once_turns : (answer : Result Did PoolFault) (result : Result Taken PoolFault) (old new : World → Type 0) → result ≡ once answer → Turns answer old new → TakesTurns result old new
+once_turns answer result old new is turns = subst (λ (r : Result Taken PoolFault). TakesTurns r old new) (sym is) (by answer turns)
+  where
+    by : (a : Result Did PoolFault) → Turns a old new → TakesTurns (once a) old new
+    by (Ok did) steps = steps_once Turn did old new steps
+    by (Err fault) acts = acts
+
+-- what is said of the answer
+pub once_up_to : (most : ℕ) (answer : Result Did PoolFault) (result : Result Taken PoolFault) → result ≡ once answer → 1 ≤ most → IfOk result (λ taken. IsUpTo most taken)
+once_up_to most answer result is some = subst (λ (r : Result Taken PoolFault). IfOk r (λ taken. IsUpTo most taken)) (sym is) (by answer)
+  where
+    by : (a : Result Did PoolFault) → IfOk (once a) (λ taken. IsUpTo most taken)
+    by (Ok did) = record { some = omega arith; few = some }
+    by (Err fault) = tt
+
+pub once_on_ok : (A : Type 0) (answer : Result Did PoolFault) (result : Result Taken PoolFault) → result ≡ once answer → OnOk answer A → OnOk result A
+once_on_ok A answer result is all = subst (λ (r : Result Taken PoolFault). OnOk r A) (sym is) (by answer all)
+  where
+    by : (a : Result Did PoolFault) → OnOk a A → OnOk (once a) A
+    by (Ok did) it = it
+    by (Err fault) it = tt
+
+pub once_if_ok : (A : Did → Type 0) (answer : Result Did PoolFault) (result : Result Taken PoolFault) → result ≡ once answer → IfOk answer A → IfOk result (λ taken. A taken.did)
+once_if_ok A answer result is all = subst (λ (r : Result Taken PoolFault). IfOk r (λ taken. A taken.did)) (sym is) (by answer all)
+  where
+    by : (a : Result Did PoolFault) → IfOk a A → IfOk (once a) (λ taken. A taken.did)
+    by (Ok did) it = it
+    by (Err fault) it = tt
+
+pub once_if_err : (A : PoolFault → Type 0) (answer : Result Did PoolFault) (result : Result Taken PoolFault) → result ≡ once answer → IfErr answer A → IfErr result A
+once_if_err A answer result is all = subst (λ (r : Result Taken PoolFault). IfErr r A) (sym is) (by answer all)
+  where
+    by : (a : Result Did PoolFault) → IfErr a A → IfErr (once a) A
+    by (Ok did) it = tt
+    by (Err fault) it = it
+
+pub once_fails : (answer : Result Did PoolFault) (result : Result Taken PoolFault) → result ≡ once answer → failed_transfers answer ≡ failed_transfers result
+once_fails answer result is = by answer ∙ ap (λ (r : Result Taken PoolFault). failed_transfers r) (sym is)
+  where
+    by : (a : Result Did PoolFault) → failed_transfers a ≡ failed_transfers (once a)
+    by (Ok did) = refl
+    by (Err fault) = refl
+
+-- ---- what the parts do, the whole does
+pub turns_wholly : {E : Type 0} (result : Result Taken E) (old new : Level) (before after : Around) → new.id ≡ old.id
+    → TakesTurns result (HoldsParts old (shown old.id before)) (HoldsParts new (shown old.id after))
+    → IfOk result (λ taken. Repeats Turn taken.times taken.did (Holds old before) (Holds new after))
+turns_wholly (Ok taken) old new before after id turns = λ w held.
+    let here = turns w held.parts in
+    (here.0, record { parts = subst (λ (l : LevelId). HoldsParts new (shown l after) (solo w (replicate taken.times Turn))) (sym id) here.1; asked = solo_asks taken.times Turn w held.asked })
+turns_wholly (Err e) old new before after id turns = tt
+
+-- and where it fails, a turn acts
+pub turns_act : {E : Type 0} (result : Result Taken E) (old new : Level) (before after : Around)
+    → TakesTurns result (HoldsParts old (shown old.id before)) (HoldsParts new (shown old.id after))
+    → OnErr result ((w : World) → Holds old before w → (step_of w Turn).did ≡ Acted)
+turns_act (Ok taken) old new before after turns = tt
+turns_act (Err e) old new before after turns = λ w held. turns w held.parts

@@ -1,5 +1,5 @@
 -- What it is that a level holds a world, with what it is shown of the pack and the spool.
-use Rattle.std.specs.Prelude.{◌≡◌, ◌≢◌, ℕ, ◌≤◌, ◌<◌, Bool, true, false, not, ◌&&◌, List, [], ◌++◌, length, map, replicate, slice_range, Option, Some, None}
+use Rattle.std.specs.Prelude.{◌≡◌, ◌≢◌, ℕ, ◌≤◌, ◌<◌, List, [], ◌++◌, length, map, replicate, slice_range, Option, Some, None, Result, Ok, Err}
 use Rattle.indexmap.specs.IndexMap.{get}
 use Rattle.s3_cards.specs.declared.levels.LevelId.{LevelId}
 use Rattle.s3_cards.specs.Levels.{other}
@@ -7,6 +7,7 @@ use Rattle.s3_cards.specs.declared.name.Name.{Name}
 use Rattle.s3_cards.specs.Names.{same_name}
 use Rattle.s3_cards.specs.Printed.{Printed}
 use Rattle.s3_store.specs.State.{PoolState, KeepsInStep}
+use Rattle.s3_store.specs.declared.pool_fault.PoolFault.{PoolFault}
 use Rattle.s3_slots.specs.declared.header.Header.{Header}
 use Rattle.s3_slots.specs.Header.{quota_of as header_quota}
 use Rattle.s3_labels.specs.Areas.{Areas, areas_on, slots_at, with_slots, IsReady as IsPackReady}
@@ -16,9 +17,6 @@ use Rattle.s3_job_files.specs.Holds.{Seen, seen, HoldsFiles, IsOutOfReach, job_f
 use Rattle.s3_meaning.specs.Source.{Source}
 use Rattle.s3_program.specs.Stands.{Stands}
 use Rattle.s3_program.specs.declared.program.Program.{Program}
-use Rattle.s3_operator.specs.Halts.{is_waiting}
-use Rattle.s3_cycle.specs.declared.request.Request.{Request}
-use Rattle.s3_cycle.specs.declared.request.Request.TheVariants.{Jump}
 use Rattle.s3_cycle.specs.Following.{Follows, asked, files}
 use Rattle.s3_ocl.specs.Streams.{jobs_from}
 use Rattle.s3_opening.specs.OpenFiles.{AreOfLines}
@@ -31,6 +29,7 @@ use Rattle.s3_solo.specs.Solo.{solo, step_of}
 use Rattle.s3_solo.specs.World.{World, JobAtWork}
 use Rattle.s3_level.specs.declared.job.OpenJob.{OpenJob}
 use Rattle.s3_level.specs.declared.level.Level.{Level}
+use Rattle.s3_level.specs.declared.taken.Taken.{Taken}
 
 -- ---- what a level is shown
 -- the slots and sectors of the pack, its queue of printed lines, and how many may be queued
@@ -119,20 +118,6 @@ pub record Holds (level : Level) (beside : Around) (w : World) : Type 0 where
   pub parts : HoldsParts level (shown level.id beside) w
   pub asked : IsAsked w
 
--- ---- jumps
-abbrev pub is_jump : Request → Bool
-is_jump Jump = true
-is_jump request = false
-
--- the open job, if there is one, waits at a jump
-abbrev pub jumps : Option OpenJob → Bool
-jumps None = false
-jumps (Some job) = is_jump (asked job.cycle)
-
--- a jump pends that turns can pass: no halt waits
-abbrev pub has_jump : Level → Bool
-has_jump level = jumps level.job && not (is_waiting level.halts)
-
 -- ---- whatever it holds
 -- the files of an open job are those of its program's F lines, as far as the job uses them
 pub record IsJobReady (level : LevelId) (job : OpenJob) : Type 0 where
@@ -166,6 +151,16 @@ Steps action did old new = (w : World) → old w → (did ≡ (step_of w action)
 abbrev pub Repeats : Action → (times : ℕ) → Did → (World → Type 0) → (World → Type 0) → Type 0
 Repeats action times did old new =
     (w : World) → old w → ((n : ℕ) → n < times → did ≡ (step_of (solo w (replicate n action)) action).did) × new (solo w (replicate times action))
+
+-- one entry with this answer
+abbrev pub once : Result Did PoolFault → Result Taken PoolFault
+once (Ok did) = Ok (record { did = did; times = 1 })
+once (Err fault) = Err fault
+
+-- they are one at least, and no more than that
+pub record IsUpTo (most : ℕ) (taken : Taken) : Type 0 where
+  pub some : 1 ≤ taken.times
+  pub few : taken.times ≤ most
 
 -- which level it is and its deck never change; the drained lines don't but by draining
 pub record Stays (old new : Level) : Type 0 where

@@ -2,6 +2,7 @@
 
 use crate::level::Level;
 use crate::next::Next;
+use crate::taken::Taken;
 use s3_cycle::{Answer, Request};
 use s3_labels::Pack;
 use s3_operator::HaltCode;
@@ -9,9 +10,11 @@ use s3_solo::Did;
 use s3_spool::Spool;
 use s3_store::{PoolFault, Sectors};
 use std::alloc::AllocError;
+use std::num::NonZeroU16;
 
 impl Level {
     ghost use Rattle.std.specs.Prelude.{◌≡◌, ◌≤◌, ◌+◌, None, IfOk, IsOk, OnOk, ◌≢◌, IfErr};
+    ghost use Rattle.std.specs.Int.NonZero.{non_zero_u16_get};
     ghost use Rattle.std.specs.Option.{option_copied};
     ghost use Rattle.s3_store.specs.Failures.{failed_transfers};
     ghost use Rattle.s3_labels.specs.Labelled.{KeepsSaid};
@@ -23,50 +26,53 @@ impl Level {
     ghost use Rattle.s3_solo.specs.declared.action.Did.TheVariants.{Acted};
     ghost use Rattle.s3_solo.specs.World.{World, JobAtWork};
     ghost use Rattle.s3_solo.specs.Serving.{answered, at_work, halting, job_ended, served, with_answer};
-    ghost use Rattle.s3_level.specs.Holds.{Shown, AreAll, around, shown, with_seen, HoldsParts, IsQuiet, IsReady, Becomes, Stays, Spares, KeepsOthers};
-    ghost use Rattle.s3_level.specs.Inner.Turning.{Pends, request_by, waits_by, FitsJob, Comes, AtWorkBecomes, JumpsBecome, Serves, Turns};
+    ghost use Rattle.s3_level.specs.Holds.{Shown, AreAll, around, shown, with_seen, HoldsParts, IsQuiet, IsReady, IsUpTo, Becomes, Stays, Spares, KeepsOthers};
+    ghost use Rattle.s3_level.specs.Inner.Turning.{Pends, request_by, waits_by, FitsJob, Comes, AtWorkBecomes, JumpsBecome, TakesTurns};
 
-    /// Performs the pending request of the job at work, or begins the next job.
+    /// Turns, so many at most and one at least: each performs the pending request of the job at work, or begins the next job. They are
+    /// several only where they pass jumps.
     ///
     /// It is a few tests on the way to what is asked for: they are inlined where turns are repeated, and what is large or rare is
     /// not.
     #[inline(always)]
-    #[tactic(auto, using(crate::proofs::Turns::none_open, crate::proofs::Turns::halted_turn))]
+    #[tactic(auto, using(crate::proofs::Turns::none_open, crate::proofs::Turns::once_up_to, crate::proofs::Turns::once_on_ok, crate::proofs::Turns::once_if_ok, crate::proofs::Turns::once_if_err, crate::proofs::Turns::once_fails))]
     pub(crate) fn step<P: Sectors>(
         &mut self,
+        most: NonZeroU16,
         pack: &mut Pack<P>,
         spool: &mut Spool,
-    ) -> Result<Did, PoolFault>
+    ) -> Result<Taken, PoolFault>
         requires ready { IsReady self.old (seen pack.old.areas (P.state pack.old.pool).contents) }
         requires blocks { AreAll spool.old }
-        ensures world { Turns result (HoldsParts self.old (shown self.old.id (around pack.old.areas (P.state pack.old.pool) spool.old))) (HoldsParts self.new (shown self.old.id (around pack.new.areas (P.state pack.new.pool) spool.new))) }
+        ensures times { IfOk result (λ taken. IsUpTo (non_zero_u16_get most) taken) }
+        ensures world { TakesTurns result (HoldsParts self.old (shown self.old.id (around pack.old.areas (P.state pack.old.pool) spool.old))) (HoldsParts self.new (shown self.old.id (around pack.new.areas (P.state pack.new.pool) spool.new))) }
         ensures ready { OnOk result (IsReady self.new (seen pack.new.areas (P.state pack.new.pool).contents)) }
         ensures spares { Spares self.old.id (around pack.old.areas (P.state pack.old.pool) spool.old) (around pack.new.areas (P.state pack.new.pool) spool.new) }
-        ensures quiet { IfOk result (λ did. IsQuiet did pack.old.areas pack.new.areas (P.state pack.old.pool) (P.state pack.new.pool)) }
-        ensures queues { IfOk result (λ did. did ≢ Acted → spool.new ≡ spool.old) }
+        ensures quiet { IfOk result (λ taken. IsQuiet taken.did pack.old.areas pack.new.areas (P.state pack.old.pool) (P.state pack.new.pool)) }
+        ensures queues { IfOk result (λ taken. taken.did ≢ Acted → spool.new ≡ spool.old) }
         ensures failures { (P.state pack.new.pool).failures ≡ (P.state pack.old.pool).failures + failed_transfers result }
         ensures says { OnOk result (KeepsSaid self.old.id pack.old.areas (P.state pack.old.pool).contents pack.new.areas (P.state pack.new.pool).contents) }
         ensures fault { IfErr result (λ fault. fault ≢ PoolFault.NoSector) }
         ensures stays { Stays self.old self.new }
     {
         if self.halts.is_waiting() {
-            return Ok(Did::Idle);
+            return Taken::once(Ok(Did::Idle));
         }
         let Some(request) = self.pending() else {
-            return self.begin(pack);
+            return Taken::once(self.begin(pack));
         };
         match request {
-            Request::Card => self.read_card(pack),
+            Request::Card => Taken::once(self.read_card(pack)),
             Request::Print { page, line } => {
                 let page = *page;
                 let line = *line;
-                self.print(page, line, pack, spool)
+                Taken::once(self.print(page, line, pack, spool))
             }
-            Request::Jump => self.jump(pack),
-            Request::End { .. } => self.end(pack),
-            Request::Ask(_) => Ok(Did::Idle),
+            Request::Jump => self.pass_jumps(most.get(), pack),
+            Request::End { .. } => Taken::once(self.end(pack)),
+            Request::Ask(_) => Taken::once(Ok(Did::Idle)),
             // those to files
-            _ => self.serve_file(pack),
+            _ => Taken::once(self.serve_file(pack)),
         }
     }
 
@@ -119,35 +125,14 @@ impl Level {
         Ok(Did::Acted)
     }
 
-    /// Lets the job at work go on behind a jump.
-    fn jump<P: Sectors>(&mut self, pack: &mut Pack<P>) -> Result<Did, PoolFault>
-        requires asks { request_by self.old.job ≡ Some asks.Jump }
-        requires ready { IsReady self.old (seen pack.old.areas (P.state pack.old.pool).contents) }
-        ensures served { (s : Shown) → Serves (served Meant.Jump) result (HoldsParts self.old (with_seen (seen pack.old.areas (P.state pack.old.pool).contents) s)) (HoldsParts self.new (with_seen (seen pack.new.areas (P.state pack.new.pool).contents) s)) }
-        ensures ready { OnOk result (IsReady self.new (seen pack.new.areas (P.state pack.new.pool).contents)) }
-        ensures others { KeepsOthers self.old.id pack.old.areas pack.new.areas (P.state pack.old.pool) (P.state pack.new.pool) }
-        ensures quiet { IfOk result (λ did. IsQuiet did pack.old.areas pack.new.areas (P.state pack.old.pool) (P.state pack.new.pool)) }
-        ensures failures { (P.state pack.new.pool).failures ≡ (P.state pack.old.pool).failures + failed_transfers result }
-        ensures says { OnOk result (KeepsSaid self.old.id pack.old.areas (P.state pack.old.pool).contents pack.new.areas (P.state pack.new.pool).contents) }
-        ensures fault { IfErr result (λ fault. fault ≢ PoolFault.NoSector) }
-        ensures stays { Stays self.old self.new }
-    {
-        let _one = self.go_past_jumps(1, pack)?;
-        Ok(Did::Acted)
-    }
-
-    /// Lets the job at work go on behind the jump that pends and those behind it, so many at most: how many they were.
-    pub(crate) fn go_past_jumps<P: Sectors>(
-        &mut self,
-        most: u16,
-        pack: &mut Pack<P>,
-    ) -> Result<u16, PoolFault>
+    /// Lets the job at work go on behind the jump that pends and those behind it, so many at most.
+    fn pass_jumps<P: Sectors>(&mut self, most: u16, pack: &mut Pack<P>) -> Result<Taken, PoolFault>
         requires asks { request_by self.old.job ≡ Some asks.Jump }
         requires some { 1 ≤ most }
         requires ready { IsReady self.old (seen pack.old.areas (P.state pack.old.pool).contents) }
-        ensures some { IfOk result (λ jumps. 1 ≤ jumps) }
-        ensures few { IfOk result (λ jumps. jumps ≤ most) }
-        ensures world { (s : Shown) → IfOk result (λ jumps. JumpsBecome jumps at_work (HoldsParts self.old (with_seen (seen pack.old.areas (P.state pack.old.pool).contents) s)) (HoldsParts self.new (with_seen (seen pack.new.areas (P.state pack.new.pool).contents) s))) }
+        ensures times { IfOk result (λ taken. IsUpTo most taken) }
+        ensures acted { IfOk result (λ taken. taken.did ≡ Acted) }
+        ensures world { (s : Shown) → IfOk result (λ taken. JumpsBecome taken.times at_work (HoldsParts self.old (with_seen (seen pack.old.areas (P.state pack.old.pool).contents) s)) (HoldsParts self.new (with_seen (seen pack.new.areas (P.state pack.new.pool).contents) s))) }
         ensures ready { OnOk result (IsReady self.new (seen pack.new.areas (P.state pack.new.pool).contents)) }
         ensures others { KeepsOthers self.old.id pack.old.areas pack.new.areas (P.state pack.old.pool) (P.state pack.new.pool) }
         ensures failures { (P.state pack.new.pool).failures ≡ (P.state pack.old.pool).failures + failed_transfers result }
@@ -155,9 +140,12 @@ impl Level {
         ensures fault { IfErr result (λ fault. fault ≢ PoolFault.NoSector) }
         ensures stays { Stays self.old self.new }
     {
-        let jumps = self.take_jumps(most);
+        let times = self.take_jumps(most);
         self.stand(pack)?;
-        Ok(jumps)
+        Ok(Taken {
+            did: Did::Acted,
+            times,
+        })
     }
 
     /// Gives the jump that pends and those behind it, so many at most, their answers: how many they were.

@@ -3,9 +3,9 @@
 use crate::date::Date;
 use crate::job::OpenJob;
 use crate::job_number::JobNumber;
+use crate::taken::Taken;
 use indexmap::IndexMap;
 use s3_cards::{Deck, LevelId, Name, PrintLine};
-use s3_cycle::Request;
 use s3_labels::Pack;
 use s3_operator::{Halt, HaltLog};
 use s3_program::program::Program;
@@ -13,6 +13,7 @@ use s3_solo::Did;
 use s3_spool::{Spool, SpoolFault};
 use s3_store::{PoolFault, Sectors};
 use std::alloc::Global;
+use std::num::NonZeroU16;
 
 /// One level at work.
 #[derive(Drop)]
@@ -34,7 +35,8 @@ pub struct Level {
 }
 
 impl Level {
-    ghost use Rattle.std.specs.Prelude.{◌≡◌, ◌≢◌, ◌≤◌, ◌+◌, ℕ, true, [], map, None, IfOk, IsOk, OnOk, OnErr, IfErr};
+    ghost use Rattle.std.specs.Prelude.{◌≡◌, ◌≢◌, ◌+◌, ℕ, [], map, None, Ok, IfOk, IsOk, OnOk, OnErr, IfErr};
+    ghost use Rattle.std.specs.Int.NonZero.{non_zero_u16_get};
     ghost use Rattle.s3_store.specs.Failures.{failed_transfers};
     ghost use Rattle.s3_labels.specs.Labelled.{KeepsSaid};
     ghost use Rattle.s3_store.specs.State.{KeepsContents};
@@ -47,7 +49,7 @@ impl Level {
     ghost use Rattle.s3_solo.specs.World.{World, at_start};
     ghost use Rattle.s3_solo.specs.Serving.{job_ended};
     ghost use Rattle.s3_solo.specs.Solo.{step_of};
-    ghost use Rattle.s3_level.specs.Holds.{Around, AreAll, around, Holds, IsFresh, IsQuiet, has_jump, IsReady, Becomes, Repeats, Steps, Stays, Spares, KeepsOthers};
+    ghost use Rattle.s3_level.specs.Holds.{Around, AreAll, around, Holds, IsFresh, IsQuiet, IsReady, IsUpTo, Becomes, Repeats, Steps, Stays, Spares, KeepsOthers};
 
     /// A level with this deck, before its first entry.
     pub fn new(alloc: Global, id: LevelId, deck: Deck) -> Level
@@ -83,8 +85,6 @@ impl Level {
     /// It is idle, takes no memory and changes nothing where a halt waits, where no job is at work and none is left, and
     /// where the job would print and its quota of lines is queued. After it ran out of memory, or its sectors failed, nothing
     /// is said of the worlds that are held, and no entry is to be taken.
-    #[inline(always)]
-    #[tactic(auto, using(crate::proofs::Turns::turn_wholly))]
     pub fn turn<P: Sectors>(
         &mut self,
         pack: &mut Pack<P>,
@@ -103,43 +103,34 @@ impl Level {
         ensures fault { IfErr result (λ fault. fault ≢ PoolFault.NoSector) }
         ensures stays { Stays self.old self.new }
     {
-        self.step(pack, spool)
+        Ok(self.turns(NonZeroU16::MIN, pack, spool)?.did)
     }
 
-    /// Whether a jump pends that turns can pass.
-    #[inline(always)]
-    pub fn has_jump(&self) -> bool
-        ensures { result ≡ has_jump self.now }
-    {
-        match self.pending() {
-            Some(Request::Jump) => !self.halts.is_waiting(),
-            _ => false,
-        }
-    }
-
-    /// Takes a turn at the jump that pends and at each one behind it, so many at most: how many turns it took.
+    /// Turns, so many at most and one at least, each with this answer: several only where they pass jumps.
     ///
-    /// After it ran out of memory, or its sectors failed, nothing is said of the worlds that are held, and no entry is to be taken.
-    pub fn pass_jumps<P: Sectors>(
+    /// What is said of `turn` is said of them.
+    #[inline(always)]
+    pub fn turns<P: Sectors>(
         &mut self,
-        most: u16,
+        most: NonZeroU16,
         pack: &mut Pack<P>,
-    ) -> Result<u16, PoolFault>
-        requires jump { has_jump self.old ≡ true }
-        requires some { 1 ≤ most }
+        spool: &mut Spool,
+    ) -> Result<Taken, PoolFault>
         requires ready { IsReady self.old (seen pack.old.areas (P.state pack.old.pool).contents) }
-        ensures some { IfOk result (λ turns. 1 ≤ turns) }
-        ensures few { IfOk result (λ turns. turns ≤ most) }
-        ensures step { (blocks : Blocks) → AreAll blocks → IfOk result (λ turns. Repeats Turn turns Acted (Holds self.old (around pack.old.areas (P.state pack.old.pool) blocks)) (Holds self.new (around pack.new.areas (P.state pack.new.pool) blocks))) }
-        ensures acts { (blocks : Blocks) (w : World) → Holds self.old (around pack.old.areas (P.state pack.old.pool) blocks) w → (step_of w Turn).did ≡ Acted }
+        requires blocks { AreAll spool.old }
+        ensures times { IfOk result (λ taken. IsUpTo (non_zero_u16_get most) taken) }
+        ensures steps { IfOk result (λ taken. Repeats Turn taken.times taken.did (Holds self.old (around pack.old.areas (P.state pack.old.pool) spool.old)) (Holds self.new (around pack.new.areas (P.state pack.new.pool) spool.new))) }
+        ensures acts { OnErr result ((w : World) → Holds self.old (around pack.old.areas (P.state pack.old.pool) spool.old) w → (step_of w Turn).did ≡ Acted) }
         ensures ready { OnOk result (IsReady self.new (seen pack.new.areas (P.state pack.new.pool).contents)) }
-        ensures others { KeepsOthers self.old.id pack.old.areas pack.new.areas (P.state pack.old.pool) (P.state pack.new.pool) }
+        ensures spares { Spares self.old.id (around pack.old.areas (P.state pack.old.pool) spool.old) (around pack.new.areas (P.state pack.new.pool) spool.new) }
+        ensures quiet { IfOk result (λ taken. IsQuiet taken.did pack.old.areas pack.new.areas (P.state pack.old.pool) (P.state pack.new.pool)) }
+        ensures queues { IfOk result (λ taken. taken.did ≢ Acted → spool.new ≡ spool.old) }
         ensures failures { (P.state pack.new.pool).failures ≡ (P.state pack.old.pool).failures + failed_transfers result }
         ensures says { OnOk result (KeepsSaid self.old.id pack.old.areas (P.state pack.old.pool).contents pack.new.areas (P.state pack.new.pool).contents) }
         ensures fault { IfErr result (λ fault. fault ≢ PoolFault.NoSector) }
         ensures stays { Stays self.old self.new }
     {
-        self.go_past_jumps(most, pack)
+        self.step(most, pack, spool)
     }
 
     /// Answers the halt that waits with a digit, and a job at work goes on with it to its next request: refused with 1 where

@@ -14,7 +14,9 @@ mod replying;
 mod requesting;
 mod sources;
 mod switches;
+mod taken;
 
 pub use level::Level;
 pub use s3_operator::{Halt, HaltCode};
 pub use s3_solo::{Action, Did};
+pub use taken::Taken;

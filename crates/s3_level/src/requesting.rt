@@ -1,6 +1,7 @@
 //! Requests of the job at work: cards, lines and records.
 
 use crate::level::Level;
+use s3_cards::PrintLine;
 use s3_cycle::Answer;
 use s3_labels::Pack;
 use s3_solo::Did;
@@ -152,7 +153,8 @@ impl Level {
         let Some(job) = &self.job else {
             return Ok(());
         };
-        match spool.put(self.id, page, line, job.cycle.record(), &mut pack.pool) {
+        let printed = PrintLine::with_text(page, line, job.cycle.record());
+        match spool.put(self.id, &printed, &mut pack.pool) {
             Ok(()) => Ok(()),
             Err(SpoolFault::Sectors(fault)) => Err(fault),
             Err(SpoolFault::QuotaFull) => unreachable!(),

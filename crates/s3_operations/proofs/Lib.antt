@@ -14,3 +14,4 @@ pub mod MoveLemmas
 pub mod WithinLemmas
 pub mod ChainLemmas
 pub mod MovingLemmas
+pub mod ZonedLemmas

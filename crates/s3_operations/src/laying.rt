@@ -21,9 +21,12 @@ fn lay_ends<const N: usize>(target: &mut [u8], first: &[u8; N], last: &[u8; N])
     requires covers { length target.old ≤ 2 * N }
     ensures { (text : List ℕ) → length text ≡ length target.old → first.now ≡ take N text → last.now ≡ drop (length text - N) text → target.new ≡ text }
 {
-    let end = target.len();
-    target[..N].copy_from_slice(first);
-    target[end - N..end].copy_from_slice(last);
+    if let Some(start) = target.first_chunk_mut::<N>() {
+        *start = *first;
+    }
+    if let Some(end) = target.last_chunk_mut::<N>() {
+        *end = *last;
+    }
 }
 
 #[inline(always)]
@@ -38,6 +41,15 @@ fn lay_by_ends<const N: usize>(target: &mut [u8], text: &[u8])
     lay_ends(target, &first, &last);
 }
 
+/// Lays a text of any length over another one as long, which is left to a call.
+#[inline(never)]
+fn lay_whole(target: &mut [u8], text: &[u8])
+    requires { length target.old ≡ length text.now }
+    ensures { target.new ≡ text.now }
+{
+    target.copy_from_slice(text);
+}
+
 /// Lays a text over another one as long. Of a short one the ends are laid: that takes less than a call.
 #[inline(always)]
 pub fn lay(target: &mut [u8], text: &[u8])
@@ -48,7 +60,7 @@ pub fn lay(target: &mut [u8], text: &[u8])
         4..=7 => lay_by_ends::<4>(target, text),
         8..=16 => lay_by_ends::<8>(target, text),
         17..=32 => lay_by_ends::<16>(target, text),
-        _ => target.copy_from_slice(text),
+        _ => lay_whole(target, text),
     }
 }
 

@@ -20,3 +20,4 @@ pub mod performing;
 pub mod texts;
 pub mod turning;
 pub mod values;
+pub mod zoned;

@@ -4,8 +4,9 @@ ghost use Rattle.s3_meaning.specs.Calculating.{moved_right, moved_left, zoned};
 ghost use Rattle.s3_operations.specs.Texts.{IsCut, texts_on, blank_texts, length_of as length_of_spec};
 
 use crate::laying::{lay, lay_within};
+use crate::zoned::write_zoned;
 use s3_cards::ebcdic::BLANK;
-use s3_decimal::{Dec, zoned_write};
+use s3_decimal::Dec;
 use s3_lines::sheet::Shape;
 use s3_program::program::Defined;
 use std::alloc::{AllocError, Global};
@@ -138,7 +139,7 @@ impl Texts {
     {
         let mut buffer = [0; MOST_DIGITS];
         let digits = &mut buffer[..usize::from(number.digits)];
-        zoned_write(number, digits);
+        write_zoned(number, digits);
         self.move_right(slot, digits);
     }
 

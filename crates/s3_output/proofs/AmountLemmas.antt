@@ -1,6 +1,6 @@
 -- Room for the digits of an amount, and blanks in front of them.
-use Rattle.std.proofs.Common.{◌≡◌, ◌≢◌, ℕ, ◌+◌, ◌-◌, ◌/◌, ◌^◌, ◌<◌, ◌≤◌, refl, arith, sym, ◌∙◌, ap, Bool, true, false, not, ◌&&◌, nat_lt, if◌then◌else◌, List, [], ◌∷◌, zero, suc, length, slice_set, get_or, get_or-set_other, get_or-set_same, Option, Some, None, subst}
-use Rattle.std.specs.Prelude.{is_some, unwrap_or, ◌==◌, ◌%◌, ◌*◌}
+use Rattle.std.proofs.Common.{◌≡◌, ◌≢◌, ℕ, ◌+◌, ◌-◌, ◌/◌, ◌^◌, ◌<◌, ◌≤◌, refl, arith, sym, ◌∙◌, ap, Bool, true, false, not, ◌&&◌, nat_lt, if◌then◌else◌, List, length, slice_set, get_or, get_or-set_other, get_or-set_same, Option, Some, None, subst}
+use Rattle.std.specs.Prelude.{is_some, unwrap_or, ◌==◌, ◌%◌}
 use Rattle.std.proofs.lemmas.Bool.{true≢false}
 use Rattle.std.proofs.Math.Nat.{div-eq_of_lt}
 use Rattle.std.proofs.lemmas.Bool.Decides.{nat_tests}
@@ -11,32 +11,6 @@ use Rattle.s3_edit.specs.Picture.{body_width, comma_width, is_form, point_width,
 use Rattle.s3_edit.proofs.Places.{below, is_lt, lt_true, not_lt, split, suppressed_digit, tenth}
 
 -- ---- pairs of digits
--- of so many numbers, from a first one on
-abbrev pub pairs_from : (count first : ℕ) → List ℕ
-pairs_from zero first = []
-pairs_from (suc count) first = (0xf0 + first / 10) ∷ (0xf0 + first % 10) ∷ pairs_from count (first + 1)
-
-tens_from : (count first place : ℕ) → place < count → get_or (pairs_from count first) (2 * place) 0 ≡ 0xf0 + (first + place) / 10
-tens_from zero first place h = absurd (omega (arith, h))
-tens_from (suc count) first zero h = ap (λ n. 0xf0 + n / 10) (omega arith)
-tens_from (suc count) first (suc place) h =
-    let further : 2 * suc place ≡ suc (suc (2 * place)) = omega arith in
-    ap (λ i. get_or (pairs_from (suc count) first) i 0) further ∙ tens_from count (first + 1) place (omega (arith, h)) ∙ ap (λ n. 0xf0 + n / 10) (omega arith)
-
-units_from : (count first place : ℕ) → place < count → get_or (pairs_from count first) (2 * place + 1) 0 ≡ 0xf0 + (first + place) % 10
-units_from zero first place h = absurd (omega (arith, h))
-units_from (suc count) first zero h = ap (λ n. 0xf0 + n % 10) (omega arith)
-units_from (suc count) first (suc place) h =
-    let further : 2 * suc place + 1 ≡ suc (suc (2 * place + 1)) = omega arith in
-    ap (λ i. get_or (pairs_from (suc count) first) i 0) further ∙ units_from count (first + 1) place (omega (arith, h)) ∙ ap (λ n. 0xf0 + n % 10) (omega arith)
-
--- the table has those of all numbers below 100
-pub tens_at : (n : ℕ) → n < 100 → get_or (pairs_from 100 0) (2 * n) 0 ≡ 0xf0 + n / 10
-tens_at n h = tens_from 100 0 n h ∙ ap (λ k. 0xf0 + k / 10) (omega arith)
-
-pub units_at : (n : ℕ) → n < 100 → get_or (pairs_from 100 0) (2 * n + 1) 0 ≡ 0xf0 + n % 10
-units_at n h = units_from 100 0 n h ∙ ap (λ k. 0xf0 + k % 10) (omega arith)
-
 pair_by : (b : Bool) (n end place : ℕ) (text : List ℕ) → 2 ≤ end → get_or text (end - 2) 0 ≡ 0xf0 + n % 100 / 10 → get_or text (end - 1) 0 ≡ 0xf0 + n % 100 % 10 → place < 2 → nat_lt 0 place ≡ b
     → get_or text (end - 1 - place) 0 ≡ 0xf0 + n / 10 ^ place % 10
 pair_by true n end place text room tens units h t =

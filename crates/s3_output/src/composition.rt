@@ -75,6 +75,14 @@ fn mark_ends(marks: &[bool], field: &mut [bool])
     field[last..].copy_from_slice(marks);
 }
 
+/// Marks a field of any length, which is left to a call.
+#[inline(never)]
+fn mark_all(field: &mut [bool])
+    ensures { field.new ≡ replicate (length field.old) true }
+{
+    field.fill(true);
+}
+
 /// Marks a field, in two steps where it has a usual length.
 #[tactic(auto, using(crate::proofs::CompositionLemmas::all_marked))]
 #[inline(always)]
@@ -84,7 +92,7 @@ fn mark_field(field: &mut [bool])
     match field.len() {
         4..=8 => mark_ends(&[true; 4], field),
         9..=16 => mark_ends(&[true; 8], field),
-        _ => field.fill(true),
+        _ => mark_all(field),
     }
 }
 

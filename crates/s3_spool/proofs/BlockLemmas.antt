@@ -6,7 +6,7 @@ use Rattle.byteorder.specs.Endian.{big_bytes}
 use Rattle.s3_store.specs.Bytes.{part}
 use Rattle.s3_cards.specs.Printed.{Printed}
 use Rattle.s3_cards.specs.declared.ebcdic.TheConstants.{BLANK}
-use Rattle.s3_spool.specs.Queues.{block_bytes, line_of_block, printed, text_length}
+use Rattle.s3_spool.specs.Queues.{block_bytes, line_of_block, text_length}
 use Rattle.byteorder.specs.Numbers.{big_number-reads_back}
 use Rattle.std.proofs.lemmas.Bool.Decides.{nat_tests}
 
@@ -22,13 +22,13 @@ laid a b c d n text first second one two =
     ∙ append_assoc (a ∷ b ∷ c ∷ d ∷ []) text (drop n (replicate 252 0))
     ∙ ap (λ rest. (a ∷ b ∷ c ∷ d ∷ []) ++ (text ++ rest)) (drop-replicate n 252 0)
 
-pub block_put_together : (page line : ℕ) (text zeros first second : List ℕ) → zeros ≡ replicate 256 0
-    → first ≡ (take 0 zeros ++ (big_bytes 2 page ++ line ∷ length text ∷ [])) ++ drop 4 zeros
-    → second ≡ (take 4 first ++ text) ++ drop (4 + length text) first
-    → second ≡ block_bytes (printed page line text)
-block_put_together page line text zeros first second are one two =
-    laid _ _ line (length text) (length text) text first second
-    (one ∙ ap (λ z. (take 0 z ++ (big_bytes 2 page ++ line ∷ length text ∷ [])) ++ drop 4 z) are) two
+pub block_put_together : (line : Printed) (zeros first second : List ℕ) → zeros ≡ replicate 256 0
+    → first ≡ (take 0 zeros ++ (big_bytes 2 line.page ++ line.line ∷ length line.text ∷ [])) ++ drop 4 zeros
+    → second ≡ (take 4 first ++ line.text) ++ drop (4 + length line.text) first
+    → second ≡ block_bytes line
+block_put_together line zeros first second are one two =
+    laid _ _ line.line (length line.text) (length line.text) line.text first second
+    (one ∙ ap (λ z. (take 0 z ++ (big_bytes 2 line.page ++ line.line ∷ length line.text ∷ [])) ++ drop 4 z) are) two
 
 pub take_padded : (text : List ℕ) (n : ℕ) (padding : List ℕ) → n ≡ length text → take n (text ++ padding) ≡ text
 take_padded text n padding same = ap (λ m. take m (text ++ padding)) same ∙ take-append_seam text padding
@@ -47,8 +47,12 @@ text_of_positions block positions blanked n short whole are blanks =
 length-kept : (n : ℕ) → 1 ≤ n → n ≤ 132 → text_length n ≡ n
 length-kept n low high = grind (arith, nat_tests)
 
+printed : ℕ → ℕ → List ℕ → Printed
+printed page line text = record { page = page; line = line; text = text }
+
 -- what is put into a block is read from it
 pub block_reads_back : (line : Printed) → line.page < 65536 → 1 ≤ length line.text → length line.text ≤ 132 → line_of_block (block_bytes line) ≡ line
+unfolding printed
 block_reads_back line few low high =
     ap (λ page. printed page line.line (take (text_length (length line.text)) (line.text ++ replicate (252 - length line.text) 0)))
     (big_number-reads_back 2 line.page (line.line ∷ length line.text ∷ (line.text ++ replicate (252 - length line.text) 0)) few)

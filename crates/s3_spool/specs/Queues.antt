@@ -14,10 +14,6 @@ use Rattle.s3_spool.specs.declared.fault.SpoolFault.TheVariants.{QuotaFull, Empt
 abbrev pub block_sector : ℕ → ℕ
 block_sector block = 25 + block
 
--- a text is printed on a line of a page
-abbrev pub printed : (page line : ℕ) → List ℕ → Printed
-printed page line text = record { page = page; line = line; text = text }
-
 -- page, line, length, the text as printed, and zeros
 abbrev pub block_bytes : Printed → List ℕ
 block_bytes line =

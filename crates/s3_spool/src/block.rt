@@ -2,7 +2,7 @@
 ghost use Rattle.std.specs.Prelude.{◌≡◌, ◌<◌, ◌≤◌, ◌+◌, ◌-◌, ◌++◌, [], ◌∷◌, length, take, drop, replicate};
 ghost use Rattle.byteorder.specs.Endian.{big_bytes};
 ghost use Rattle.s3_store.specs.Bytes.{part};
-ghost use Rattle.s3_spool.specs.Queues.{block_bytes as block_bytes_spec, printed, text_length as text_length_spec, line_of_block as line_of_block_spec};
+ghost use Rattle.s3_spool.specs.Queues.{block_bytes as block_bytes_spec, text_length as text_length_spec, line_of_block as line_of_block_spec};
 
 use byteorder::{BigEndian, ByteOrder};
 use s3_cards::ebcdic::BLANK;
@@ -28,18 +28,21 @@ fn head_of(page: u16, line: u8, length: u8) -> [u8; 4]
     bytes
 }
 
-/// A block of zeros gets a line.
-#[tactic(auto, using(crate::proofs::BlockLemmas::block_reads_back, crate::proofs::BlockLemmas::block_is_whole))]
+/// A block of zeros gets this line.
+#[tactic(auto, using(crate::proofs::BlockLemmas::block_put_together, crate::proofs::BlockLemmas::block_reads_back, crate::proofs::BlockLemmas::block_is_whole))]
 #[inline(always)]
-pub fn lay_line(block: &mut [u8; 256], page: u16, line: u8, text: &[u8])
-    requires zeros { block.old ≡ replicate 256 0 }
-    requires printed { 1 ≤ length text.now }
-    requires fits { length text.now ≤ 132 }
-    ensures value { block.new ≡ block_bytes_spec (printed page line text.now) }
-    ensures reads { line_of_block_spec (block_bytes_spec (printed page line text.now)) ≡ printed page line text.now }
-    ensures whole { length (block_bytes_spec (printed page line text.now)) ≡ 256 }
+pub fn lay_line(block: &mut [u8; 256], line: &PrintLine)
+    requires { block.old ≡ replicate 256 0 }
+    ensures value { block.new ≡ block_bytes_spec line.now }
+    ensures reads { line_of_block_spec (block_bytes_spec line.now) ≡ line.now }
+    ensures whole { length (block_bytes_spec line.now) ≡ 256 }
 {
-    put(block, 0, &head_of(page, line, text.len() as u8));
+    let text = line.text();
+    put(
+        block,
+        0,
+        &head_of(line.page(), line.line(), text.len() as u8),
+    );
     put(block, TEXT, text);
 }
 

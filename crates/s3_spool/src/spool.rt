@@ -5,7 +5,7 @@ ghost use Rattle.s3_cards.specs.Levels.{other};
 ghost use Rattle.s3_store.specs.Failures.{failed_transfers};
 ghost use Rattle.s3_store.specs.Bytes.{sector_bytes};
 ghost use Rattle.s3_store.specs.State.{KeepsContents, ChangesWithin};
-ghost use Rattle.s3_spool.specs.Queues.{times, blocks_of, quota_of, queue_of, with_queued, with_taken, AreBlocks, IsFreeSector, failed_by, line_of_block as line_of_block_spec, block_bytes as block_bytes_spec, block_sector, printed};
+ghost use Rattle.s3_spool.specs.Queues.{times, blocks_of, quota_of, queue_of, with_queued, with_taken, AreBlocks, IsFreeSector, failed_by, line_of_block as line_of_block_spec, block_bytes as block_bytes_spec, block_sector};
 
 use crate::block::{lay_line, line_of_block};
 use crate::fault::SpoolFault;
@@ -64,26 +64,18 @@ fn all_blocks(alloc: Global) -> Result<HeapCircularBuffer<u8>, AllocError>
 
 /// Puts a line into a block.
 #[tactic(auto)]
-fn put_line<P: Sectors>(
-    sectors: &mut P,
-    block: u8,
-    page: u16,
-    line: u8,
-    text: &[u8],
-) -> Result<(), PoolFault>
-    requires there { block_sector block < length (P.state sectors.old).contents }
-    requires printed { 1 ≤ length text.now }
-    requires fits { length text.now ≤ 132 }
-    ensures ok { OnOk result ((P.state sectors.new).contents ≡ slice_set (P.state sectors.old).contents (block_sector block) (block_bytes_spec (printed page line text.now))) }
+fn put_line<P: Sectors>(sectors: &mut P, block: u8, line: &PrintLine) -> Result<(), PoolFault>
+    requires { block_sector block < length (P.state sectors.old).contents }
+    ensures ok { OnOk result ((P.state sectors.new).contents ≡ slice_set (P.state sectors.old).contents (block_sector block) (block_bytes_spec line.now)) }
     ensures err { OnErr result ((P.state sectors.new).contents ≡ (P.state sectors.old).contents) }
-    ensures reads { line_of_block_spec (block_bytes_spec (printed page line text.now)) ≡ printed page line text.now }
-    ensures whole { length (block_bytes_spec (printed page line text.now)) ≡ 256 }
+    ensures reads { line_of_block_spec (block_bytes_spec line.now) ≡ line.now }
+    ensures whole { length (block_bytes_spec line.now) ≡ 256 }
     ensures within { ChangesWithin (λ i. i ≡ block_sector block) (P.state sectors.old) (P.state sectors.new) }
     ensures failures { (P.state sectors.new).failures ≡ (P.state sectors.old).failures + failed_transfers result }
     ensures fault { IfErr result (λ fault. fault ≢ PoolFault.NoSector) }
 {
     let mut bytes = [0; 256];
-    lay_line(&mut bytes, page, line, text);
+    lay_line(&mut bytes, line);
     sectors.write_sector(FIRST_BLOCK + u16::from(block), &bytes)
 }
 
@@ -189,7 +181,7 @@ impl Spool {
         self.free.push_front(block);
     }
 
-    /// A line more for a level, put last in its queue: a text of 1 to 132 EBCDIC bytes, printed on a line of a page.
+    /// A line more for a level, put last in its queue.
     ///
     /// Refused `QuotaFull` exactly where the level has as many lines queued as its quota, and by the sectors' faults; refused, the
     /// queues stay. `sectors` are those of a pack: the spool's blocks are sectors 25 to 152.
@@ -197,15 +189,11 @@ impl Spool {
     pub fn put<P: Sectors>(
         &mut self,
         level: LevelId,
-        page: u16,
-        line: u8,
-        text: &[u8],
+        line: &PrintLine,
         sectors: &mut P,
     ) -> Result<(), SpoolFault>
-        requires sectors { 153 ≤ length (P.state sectors.old).contents }
-        requires printed { 1 ≤ length text.now }
-        requires fits { length text.now ≤ 132 }
-        ensures queued { OnOk result (queue_of level self.new (P.state sectors.new).contents ≡ queue_of level self.old (P.state sectors.old).contents ++ printed page line text.now ∷ []) }
+        requires { 153 ≤ length (P.state sectors.old).contents }
+        ensures queued { OnOk result (queue_of level self.new (P.state sectors.new).contents ≡ queue_of level self.old (P.state sectors.old).contents ++ line.now ∷ []) }
         ensures other { queue_of (other level) self.new (P.state sectors.new).contents ≡ queue_of (other level) self.old (P.state sectors.old).contents }
         ensures quotas { (one_or_two : LevelId) → quota_of one_or_two self.new ≡ quota_of one_or_two self.old }
         ensures full { (result ≡ Err SpoolFault.QuotaFull) ↔ (length (blocks_of level self.old) ≡ quota_of level self.old) }
@@ -222,7 +210,7 @@ impl Spool {
             return Err(SpoolFault::QuotaFull);
         }
         let block = self.first_free(level);
-        put_line(sectors, block, page, line, text)?;
+        put_line(sectors, block, line)?;
         self.enqueue(level, block);
         Ok(())
     }

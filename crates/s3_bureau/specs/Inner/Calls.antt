@@ -13,32 +13,16 @@ use Rattle.s3_labels.specs.Areas.{area_of}
 use Rattle.s3_labels.specs.Labelled.{KeepsSaid, SaysSlots}
 use Rattle.s3_job_files.specs.Holds.{seen}
 use Rattle.s3_solo.specs.declared.action.Action.{Action}
-use Rattle.s3_solo.specs.declared.action.Did.{Did}
 use Rattle.s3_solo.specs.declared.action.Did.TheVariants.{Acted}
 use Rattle.s3_solo.specs.Solo.{closed, step_of}
 use Rattle.s3_solo.specs.World.{World}
 use Rattle.s3_level.specs.declared.level.Level.{Level}
-use Rattle.s3_level.specs.Holds.{Around, Becomes, Holds, IsReady, Repeats, Spares}
-use Rattle.s3_bureau.specs.declared.taken.Taken.{Taken}
+use Rattle.s3_level.specs.declared.taken.Taken.{Taken}
+use Rattle.s3_level.specs.Holds.{Around, Becomes, Holds, IsReady, IsUpTo, Repeats, Spares}
 use Rattle.s3_bureau.specs.declared.bureau.Phase.TheVariants.{Open, Finished, Stopped}
 use Rattle.s3_bureau.specs.Held.{HasNoWork, IsCommon, IsDone, IsOwn, IsReadyFor, State, header_of, is_open, level_of, rests}
 
 -- ---- one level, and what is beside it
--- one entry
-abbrev pub once : Result Did PoolFault → Result Taken PoolFault
-once (Ok did) = Ok (record { did = did; times = 1 })
-once (Err fault) = Err fault
-
--- turns that passed as many jumps
-abbrev pub jumps_as : Result ℕ PoolFault → Result Taken PoolFault
-jumps_as (Ok turns) = Ok (record { did = Acted; times = turns })
-jumps_as (Err fault) = Err fault
-
--- at least one, and no more than that
-pub record IsUpTo (most : ℕ) (taken : Taken) : Type 0 where
-  pub some : 1 ≤ taken.times
-  pub few : taken.times ≤ most
-
 -- an entry was performed so many times, or it stopped: then it would have acted, and the drained lines are the same
 abbrev pub ActsTo : Action → Result Taken PoolFault → (old new : Level) → (before after : Around) → Type 0
 ActsTo action (Ok taken) old new before after = IsReady new (seen after.areas after.state.contents) × Repeats action taken.times taken.did (Holds old before) (Holds new after)

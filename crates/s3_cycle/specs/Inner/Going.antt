@@ -45,7 +45,7 @@ use Rattle.s3_cycle.specs.declared.request.Request.TheVariants as asks
 use Rattle.s3_cycle.specs.declared.state.State.{State}
 use Rattle.s3_cycle.specs.declared.stepper.Stepper.{Stepper}
 use Rattle.s3_cycle.specs.Requests.{IsLine, FitsFile}
-use Rattle.s3_cycle.specs.Rest.{rest, inputs_in, moved_bytes, fields_at}
+use Rattle.s3_cycle.specs.Rest.{rest, inputs_in, moved_bytes, selected_bytes, fields_at}
 use Rattle.s3_cycle.specs.Inner.Environment.{environment}
 
 -- ---- where a run stands
@@ -72,7 +72,7 @@ AreWithin program bytes place = All (λ (field : FieldLine Name). field.to ≤ l
 pub record IsSelection (program : Program) (progress : Progress) (selection : Selection) : Type 0 where
   pub within : selection.place < length progress.reading.files.items
   pub starts : is_type_start program selection.start ≡ true
-  pub fields : AreWithin program (moved_bytes progress (moves.Selected selection)) selection.start.fields
+  pub fields : AreWithin program (selected_bytes progress selection) selection.start.fields
 
 -- some file is to be read then, or none has a head
 abbrev pub can_begin : List meaning.InputFile → Bool
@@ -134,9 +134,15 @@ pub record IsLineAt (program : Program) (place : ℕ) (bears : Operation) : Type
   pub there : slice_get program.calculations.items place ≡ Some line
   pub operation : line.operation ≡ Some bears
 
+-- the fields of the record that is processed are moved at the time of its details
+abbrev pub IsDetailTime : Program → Progress → Time → Type 0
+IsDetailTime program progress (time.Details selection) = IsTaken program progress selection
+IsDetailTime program progress (time.Totals selection) = ⊥
+IsDetailTime program progress time.Last = ⊥
+
 -- whose fields can be moved now
 abbrev pub AreMoves : Program → Progress → Moves → Type 0
-AreMoves program progress (moves.Selected selection) = IsTaken program progress selection
+AreMoves program progress moves.Selected = IsDetailTime program progress progress.time
 AreMoves program progress moves.Chained = CanCalculate program progress
 
 -- the fields from a place on stand within the record

@@ -18,6 +18,7 @@ use Rattle.s3_solo.specs.declared.action.Did.{Did}
 use Rattle.s3_solo.specs.declared.action.Did.TheVariants.{Acted}
 use Rattle.s3_level.specs.declared.job.OpenJob.{OpenJob}
 use Rattle.s3_level.specs.declared.next.Next.{Next}
+use Rattle.s3_level.specs.declared.taken.Taken.{Taken}
 use Rattle.s3_level.specs.declared.next.Next.TheVariants.{Halts, IsOver, GoesOn}
 use Rattle.s3_solo.specs.World.{World, JobAtWork}
 use Rattle.s3_solo.specs.Serving.{Outcome, pending, standing_at, started, with_jobs, begun, with_answer, in_use, file_served}
@@ -32,7 +33,7 @@ use Rattle.s3_cycle.specs.declared.request.Sought.TheVariants as sought
 use Rattle.s3_job_files.specs.Requests as files
 use Rattle.s3_job_files.specs.Requests.{Served}
 use Rattle.s3_solo.specs.Solo.{step_of}
-use Rattle.s3_level.specs.Holds.{Steps}
+use Rattle.s3_level.specs.Holds.{Repeats, Steps}
 
 -- ---- a job at work
 -- the pending request of an open job, and as the meaning has it
@@ -198,3 +199,8 @@ Starts job behind old new = AtRestBecomes (λ w. started w.deck.number job (with
 abbrev pub Turns : {E : Type 0} → Result Did E → (World → Type 0) → (World → Type 0) → Type 0
 Turns (Ok did) old new = Steps Turn did old new
 Turns (Err _) old new = (w : World) → old w → (step_of w Turn).did ≡ Acted
+
+-- each world that was held takes so many turns; it fails only where the first of them acts
+abbrev pub TakesTurns : {E : Type 0} → Result Taken E → (World → Type 0) → (World → Type 0) → Type 0
+TakesTurns (Ok taken) old new = Repeats Turn taken.times taken.did old new
+TakesTurns (Err _) old new = (w : World) → old w → (step_of w Turn).did ≡ Acted

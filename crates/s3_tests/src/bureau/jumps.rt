@@ -6,6 +6,7 @@ use s3_bureau::{Action, Bureau, Did, Entry, RefusedStore, Taken};
 use s3_cards::{Deck, LevelId};
 use s3_store::MemoryStore;
 use std::alloc::Global;
+use std::num::NonZeroU16;
 use std::process::Abort;
 use std::test::Fail;
 
@@ -56,7 +57,10 @@ fn opened(rt: &impl Abort, alloc: Global) -> Result<Bureau<MemoryStore>, Fail> {
 
 /// Takes turns, so many at most, and so many were to be taken.
 fn assert_takes(rt: &impl Abort, bureau: &mut Bureau<MemoryStore>, most: u16, times: u16) {
-    match bureau.repeat(TURN, most.max(1)) {
+    let Some(most) = NonZeroU16::new(most) else {
+        panic!(rt; "no turn is to be taken");
+    };
+    match bureau.repeat(TURN, most) {
         Ok(Taken { did, times: taken }) => {
             assert_eq!(rt; did, Did::Acted);
             assert_eq!(rt; taken, times);

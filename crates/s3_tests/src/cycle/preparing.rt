@@ -3,6 +3,7 @@
 use crate::cycle::sources::{CARDS, PRINT, TOTAL, list_text, program_of};
 use s3_fields::input::PreparedInput;
 use s3_fields::preparing::prepared_inputs;
+use s3_lines::sheet::Operation;
 use s3_output::conditions::overflow_of;
 use s3_output::guards::{LineGuard, line_guards};
 use s3_output::preparing::{FieldForm, PreparedOutput, prepared_outputs};
@@ -50,19 +51,35 @@ const CALCULATIONS: &str = "6:C 18:ONE 28:ADD 33:TWO 43:ONE
 6:C 7:AN 9:N10
 6:C 7:OR 10:10 18:ONE 28:SUB 33:TWO 43:ONE";
 
-fn name_of(work: Work) -> &'static str {
+/// Which operation a sum is.
+fn name_of_sum(operation: Operation) -> &'static str {
+    match operation {
+        Operation::Add => "add",
+        Operation::Subtract => "subtract",
+        Operation::ZeroAdd => "zero add",
+        Operation::ZeroSubtract => "zero subtract",
+        _ => "multiply",
+    }
+}
+
+/// The same of one whose result cuts decimals.
+fn name_of_cut(operation: Operation) -> &'static str {
+    match operation {
+        Operation::Add => "add and cut",
+        Operation::Subtract => "subtract and cut",
+        Operation::ZeroAdd => "zero add and cut",
+        Operation::ZeroSubtract => "zero subtract and cut",
+        _ => "multiply and cut",
+    }
+}
+
+fn name_of(work: Work, operation: Operation) -> &'static str {
     match work {
         Work::Card => "card",
         Work::Nothing => "nothing",
         Work::Request | Work::GoTo(_) | Work::ExecuteSubroutine(_) => "request",
-        Work::Add(_) => "add",
-        Work::Subtract(_) => "subtract",
-        Work::ZeroAdd(_) => "zero add",
-        Work::ZeroSubtract(_) => "zero subtract",
-        Work::AddCut(_) => "add and cut",
-        Work::SubtractCut(_) => "subtract and cut",
-        Work::ZeroAddCut(_) => "zero add and cut",
-        Work::ZeroSubtractCut(_) => "zero subtract and cut",
+        Work::Step(_) | Work::Sum(_) => name_of_sum(operation),
+        Work::CutStep(_) | Work::CutSum(_) => name_of_cut(operation),
         Work::Multiply(_) => "multiply",
         Work::Divide(_) => "divide",
         Work::MoveRemainder(_) => "move remainder",
@@ -80,7 +97,7 @@ fn name_of(work: Work) -> &'static str {
 fn name_of_line(line: PreparedLine) -> &'static str {
     match line.told {
         Told::Never => "untold",
-        _ => name_of(line.work),
+        _ => name_of(line.work, line.operation),
     }
 }
 

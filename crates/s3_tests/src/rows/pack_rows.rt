@@ -1,7 +1,7 @@
 //! Rows of new packs, and of the queues of printed lines.
 
-use s3_cards::LevelId;
 use s3_cards::ebcdic::BLANK;
+use s3_cards::{LevelId, PRINT_POSITIONS, PrintLine};
 use s3_labels::{
     ImageFault, MigrateFault, MountFault, Pack, Refusal, RefusedStore, image, image_with, migrate,
 };
@@ -106,10 +106,11 @@ fn a_level_has_its_quota_of_lines(rt: HostRuntime) -> Result<(), Fail> {
     let mut store = MemoryStore::from_bytes(vec![in rt.alloc(); 0xff; 168 * 256]?);
     assert_eq!(rt; store.sectors(), 168);
     let mut spool = Spool::new(rt.alloc(), 1, 127)?;
-    assert_eq!(rt; spool.put(LevelId::One, 1, 7, &[BLANK], &mut store), Ok(()));
+    let line = PrintLine::new(1, 7, 1, [BLANK; PRINT_POSITIONS]);
+    assert_eq!(rt; spool.put(LevelId::One, &line, &mut store), Ok(()));
     assert_eq!(rt; store.sectors(), 168);
     assert_eq!(rt;
-        spool.put(LevelId::One, 1, 7, &[BLANK], &mut store),
+        spool.put(LevelId::One, &line, &mut store),
         Err(SpoolFault::QuotaFull)
     );
     assert_eq!(rt; store.sectors(), 168);

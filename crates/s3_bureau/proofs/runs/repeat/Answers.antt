@@ -4,24 +4,24 @@ use Rattle.s3_bureau.specs.Inner.Underway.{Leaves, Performs}
 use Rattle.s3_bureau.proofs.Performing.{leaves_entry, leaves_more, leaves_stopped, times_more}
 use Rattle.s3_bureau.proofs.runs.repeat.Goals as goal
 
-pub loop-left-preserved : goal.loop-left-preserved
-loop-left-preserved g c =
+pub loop-most-preserved : goal.loop-most-preserved
+loop-most-preserved g c =
     let some = c.in_ok-taken.ensures.times.some in
     let few = c.in_ok-taken.ensures.times.few in
-    let within = c.loop-left.invariant.1.1.1.1.1 in
-    let further : (c.args.count - c.loop-left.left) + c.in_ok-taken.taken.times ≡ c.args.count - (c.loop-left.left - c.in_ok-taken.taken.times) = omega (arith, few, within) in (
+    let within = c.loop-most.invariant.1.1.1.1.1 in
+    let further : (c.args.count - c.loop-most.left) + c.in_ok-taken.taken.times ≡ c.args.count - (c.loop-most.left - c.in_ok-taken.taken.times) = omega (arith, few, within) in (
       subst (λ (n : ℕ). Performs (replicate n c.args.entry) (held_by c.args.bureau.now) (held_by c.repeat.new.self)) further
-          (times_more c.args.entry (c.args.count - c.loop-left.left) c.in_ok-taken.taken.times (held_by c.args.bureau.now) (held_by c.loop-left.bureau) (held_by c.repeat.new.self) c.loop-left.invariant.0 (λ w held. (c.in_ok-taken.ensures.own w held).1)
+          (times_more c.args.entry (c.args.count - c.loop-most.left) c.in_ok-taken.taken.times (held_by c.args.bureau.now) (held_by c.loop-most.bureau) (held_by c.repeat.new.self) c.loop-most.invariant.0 (λ w held. (c.in_ok-taken.ensures.own w held).1)
           c.in_ok-taken.ensures.other),
       (
         c.in_ok-taken.ensures.goes_on,
         (
           subst (λ (n : ℕ). Leaves (replicate n c.args.entry) c.args.bureau.now c.repeat.new.self) further
-              (leaves_more c.args.entry (c.args.count - c.loop-left.left) c.in_ok-taken.taken.times c.args.bureau.now c.loop-left.bureau c.repeat.new.self some c.loop-left.invariant.1.1.0
-              (leaves_entry c.args.entry c.loop-left.bureau c.repeat.new.self c.in_ok-taken.ensures.stays c.in_ok-taken.ensures.unchanged c.in_ok-taken.ensures.header)),
+              (leaves_more c.args.entry (c.args.count - c.loop-most.left) c.in_ok-taken.taken.times c.args.bureau.now c.loop-most.bureau c.repeat.new.self some c.loop-most.invariant.1.1.0
+              (leaves_entry c.args.entry c.loop-most.bureau c.repeat.new.self c.in_ok-taken.ensures.stays c.in_ok-taken.ensures.unchanged c.in_ok-taken.ensures.header)),
           (
-            omega (arith, c.in_ok-taken.ensures.failures, c.loop-left.invariant.1.1.1.0),
-            (λ level said. c.in_ok-taken.ensures.said level (c.loop-left.invariant.1.1.1.1.0 level said), omega (arith, few, within)),
+            omega (arith, c.in_ok-taken.ensures.failures, c.loop-most.invariant.1.1.1.0),
+            (λ level said. c.in_ok-taken.ensures.said level (c.loop-most.invariant.1.1.1.1.0 level said), omega (arith, few, within)),
           ),
         ),
       ),
@@ -29,6 +29,6 @@ loop-left-preserved g c =
 
 pub returns-in_err-taken-clause-leaves : goal.returns-in_err-taken-clause-leaves
 returns-in_err-taken-clause-leaves g c =
-    let within = c.loop-left.invariant.1.1.1.1.1 in
-    leaves_stopped c.args.entry (c.args.count - c.loop-left.left) c.args.count c.args.bureau.now c.loop-left.bureau c.repeat.new.self (omega (arith, c.loop-left-test.true, within)) c.loop-left.invariant.1.1.0
-    (leaves_entry c.args.entry c.loop-left.bureau c.repeat.new.self c.in_err-taken.ensures.stays c.in_err-taken.ensures.unchanged c.in_err-taken.ensures.header)
+    let within = c.loop-most.invariant.1.1.1.1.1 in
+    leaves_stopped c.args.entry (c.args.count - c.loop-most.left) c.args.count c.args.bureau.now c.loop-most.bureau c.repeat.new.self (omega (arith, c.in-Some.most.ok, c.in-Some.ensures, within)) c.loop-most.invariant.1.1.0
+    (leaves_entry c.args.entry c.loop-most.bureau c.repeat.new.self c.in_err-taken.ensures.stays c.in_err-taken.ensures.unchanged c.in_err-taken.ensures.header)

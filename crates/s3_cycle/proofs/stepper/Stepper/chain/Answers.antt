@@ -1,107 +1,77 @@
-use Rattle.std.proofs.Common.{ap, sym, ◌∙◌}
-use Rattle.std.specs.Prelude.{slice_get}
+use Rattle.std.proofs.Common.{◌≡◌, ap, sym, subst, ◌∙◌, arith, to_z, of_z, w64}
+use Rattle.std.proofs.lemmas.Int.{ints}
+use Rattle.std.specs.Option.{is_some}
+use Rattle.std.specs.Prelude.{Option}
+use Rattle.s3_lines.specs.declared.sheet.KeyField.{KeyField}
 use Rattle.s3_lines.specs.declared.sheet.FileLine.{FileLine}
 use Rattle.s3_lines.specs.declared.sheet.CalculationLine.{CalculationLine}
-use Rattle.s3_lines.specs.declared.sheet.Operation.TheVariants as op
-use Rattle.s3_meaning.specs.Calculating.{forgotten}
-use Rattle.s3_meaning.specs.Output.{is_served}
-use Rattle.s3_program.specs.declared.program.Program.{Program}
+use Rattle.s3_meaning.specs.Calculating.{bytes_in, number_in}
 use Rattle.s3_program.specs.declared.program.Reference.{Reference}
-use Rattle.s3_match.specs.Types.{name_of_file}
+use Rattle.s3_operations.specs.Chaining.{has_key}
+use Rattle.s3_operations.specs.Fits.{named_line}
+use Rattle.s3_match.specs.Heads.{file_at}
+use Rattle.s3_cycle.specs.declared.request.Sought.TheVariants.{Key, RecordNumber}
+use Rattle.s3_cycle.specs.Requests.{IsSoughtBy}
 use Rattle.s3_cycle.specs.Inner.Environment.{environment, others}
-use Rattle.s3_cycle.specs.Inner.Going.{CanCalculate, IsLineAt, held_by}
-use Rattle.s3_cycle.proofs.GoingLemmas.{changed_running, changed_stays, changed_program}
-use Rattle.s3_cycle.proofs.CourseLemmas.{moved_behind}
-use Rattle.s3_cycle.proofs.CalculatingLemmas.{with_course, line_read, performed_line, performed_within, performed_fits, performed_behind, moved_running}
-use Rattle.s3_cycle.proofs.ChainingLemmas.{file_within, file_is, chains_missing, chains_waiting}
+use Rattle.s3_cycle.specs.Inner.Going.{own, held_by}
+use Rattle.s3_cycle.proofs.CalculatingLemmas.{line_read, performed_line, performed_within}
+use Rattle.s3_cycle.proofs.ChainingLemmas.{chain_named, file_is, file_within, key_sought, seeks_key, seeks_number, sought_read}
 use Rattle.s3_cycle.proofs.stepper.Stepper.chain.Goals as goal
 
-pub overflow_add-place : goal.overflow_add-place
-overflow_add-place c = performed_fits c.args.self.now c.args.place _ c.requires
-
-pub index-requires : goal.index-requires
-index-requires c = performed_within c.args.self.now c.args.place _ c.requires
+pub index-line-requires : goal.index-line-requires
+index-line-requires c = performed_within c.args.self.now c.args.place _ c.requires
 
 pub chained_file-file-requires : goal.chained_file-file-requires
-chained_file-file-requires c = performed_line c.args.self.now c.args.place _ c.index.result.now c.requires c.index.ensures
+chained_file-file-requires c = performed_line c.args.self.now c.args.place _ c.index-line.result.now c.requires c.index-line.ensures
 
-pub index-requires-2 : goal.index-requires-2
-index-requires-2 c = file_within c.args.self.now.program c.chained_file-file.result c.chained_file-file.ensures.within
+pub index-requires : goal.index-requires
+index-requires c = file_within c.args.self.now.program c.chained_file-file.result c.chained_file-file.ensures.within
 
-pub index-requires-3 : goal.index-requires-3
-index-requires-3 c = file_within c.args.self.now.program c.chained_file-file.result c.chained_file-file.ensures.within
+pub key-key-requires-clause-sound : goal.key-key-requires-clause-sound
+key-key-requires-clause-sound c = c.requires.running.state.values
 
-pub sought-requires-clause-running : goal.sought-requires-clause-running
-sought-requires-clause-running c =
-    let s = c.args.self.now in
-    moved_running s s.state c.move_to.new.self c.requires.running c.requires.running.state
+pub key-key-requires-clause-line : goal.key-key-requires-clause-line
+key-key-requires-clause-line c = performed_line c.args.self.now c.args.place _ c.index-line.result.now c.requires c.index-line.ensures
 
-pub sought-requires-clause-chain : goal.sought-requires-clause-chain
-sought-requires-clause-chain c =
-    let s = c.args.self.now in
-    let line = line_read s.program c.args.place c.requires.next.line c.index.result.now c.requires.next.there c.index.ensures in
-    record {
-      line = c.requires.next.line;
-      there = c.requires.next.there;
-      operation = c.requires.bears;
-      names = ap (λ (l : CalculationLine Reference). l.factor2) (sym line) ∙ c.chained_file-file.ensures.names;
-      within = c.chained_file-file.ensures.within;
-    }
+pub key-key-requires-clause-keyed : goal.key-key-requires-clause-keyed
+key-key-requires-clause-keyed c =
+    let chain = chain_named c.args.self.now c.args.place c.chained_file-file.result c.index-line.result.now c.requires c.index-line.ensures c.chained_file-file.ensures.names c.chained_file-file.ensures.within in
+    ap has_key (sought_read c.args.self.now.program c.args.place c.chained_file-file.result c.index-line.result.now c.index.result.now chain c.index-line.ensures c.index.ensures)
+    ∙ ap (λ (key : Option KeyField). is_some key) c.in-Some.is
 
-pub forget-requires-clause-sound : goal.forget-requires-clause-sound
-forget-requires-clause-sound c = c.requires.running.state
-
-pub forget-requires-clause-reading : goal.forget-requires-clause-reading
-forget-requires-clause-reading c = c.requires.running.reading
-
-pub forget-requires-clause-within : goal.forget-requires-clause-within
-forget-requires-clause-within c = c.chained_file-file.ensures.within
-
-pub miss-requires-clause-running : goal.miss-requires-clause-running
-miss-requires-clause-running c =
-    let s = c.args.self.now in
-    changed_running (with_course s s.state c.move_to.new.self) c.forget.new.self (λ source. forgotten source (name_of_file s.program c.chained_file-file.result)) c.forget.ensures
-    (moved_running s s.state c.move_to.new.self c.requires.running c.requires.running.state)
-
-pub miss-requires-clause-calculates : goal.miss-requires-clause-calculates
-miss-requires-clause-calculates c =
-    let s = c.args.self.now in
-    changed_stays (λ p progress. CanCalculate p progress) (with_course s s.state c.move_to.new.self) c.forget.new.self (λ source. forgotten source (name_of_file s.program c.chained_file-file.result)) c.forget.ensures
-    (performed_behind s c.move_to.new.self c.args.place _ c.requires (moved_behind s.progress.course c.move_to.new.self c.args.place c.move_to.ensures.here c.move_to.ensures.returns))
-
-pub miss-requires-clause-chain : goal.miss-requires-clause-chain
-miss-requires-clause-chain c =
-    let s = c.args.self.now in
-    changed_stays (λ p progress. IsLineAt p c.args.place op.Chain) (with_course s s.state c.move_to.new.self) c.forget.new.self (λ source. forgotten source (name_of_file s.program c.chained_file-file.result)) c.forget.ensures
-    (record { line = c.requires.next.line; there = c.requires.next.there; operation = c.requires.bears })
-
-pub returns-then-not-is_served : goal.returns-then-not-is_served
+pub seek-requires-clause-value : goal.seek-requires-clause-value
 unfolding environment
-returns-then-not-is_served c =
+seek-requires-clause-value c = λ line there.
     let s = c.args.self.now in
-    let line = line_read s.program c.args.place c.requires.next.line c.index.result.now c.requires.next.there c.index.ensures in
     let file = c.chained_file-file.result in
-    let within = c.chained_file-file.ensures.within in
-    chains_missing s c.forget.new.self c.miss.new.self c.move_to.new.self c.args.place file c.miss.result c.requires
-    (record { names = ap (λ (l : CalculationLine Reference). l.factor2) (sym line) ∙ c.chained_file-file.ensures.names; within = within })
-    (moved_behind s.progress.course c.move_to.new.self c.args.place c.move_to.ensures.here c.move_to.ensures.returns) c.forget.ensures
-    (sym c.if-not-is_served.true
-    ∙ (c.is_served-is_served.ensures (others s.program s.state) ∙ ap (λ (f : FileLine). is_served (held_by s) f) (sym (file_is s.program file c.index-2.result.now within c.index-2.ensures))))
-    (c.miss.ensures c.requires.next.line
-    (ap (λ (p : Program). slice_get p.calculations.items c.args.place) (changed_program (with_course s s.state c.move_to.new.self) c.forget.new.self (λ source. forgotten source (name_of_file s.program file)) c.forget.ensures)
-    ∙ c.requires.next.there))
+    seeks_key (own s) (held_by s) (named_line s.program line) (file_at s.program file) _ _ (ap (λ (f : FileLine). f.key) (file_is s.program file c.index.result.now c.chained_file-file.ensures.within c.index.ensures) ∙ c.in-Some.is)
+    (c.key-key.ensures.bytes (others s.program s.state)
+    ∙ ap (λ (l : CalculationLine Reference). bytes_in (own s) (held_by s) (named_line s.program l).factor1) (line_read s.program c.args.place line c.index-line.result.now there c.index-line.ensures))
 
-pub returns : goal.returns
-unfolding environment
-returns c =
+pub record_number-number-requires-clause-line : goal.record_number-number-requires-clause-line
+record_number-number-requires-clause-line c = performed_line c.args.self.now c.args.place _ c.index-line.result.now c.requires c.index-line.ensures
+
+pub record_number-number-requires-clause-unkeyed : goal.record_number-number-requires-clause-unkeyed
+record_number-number-requires-clause-unkeyed c =
+    let chain = chain_named c.args.self.now c.args.place c.chained_file-file.result c.index-line.result.now c.requires c.index-line.ensures c.chained_file-file.ensures.names c.chained_file-file.ensures.within in
+    ap has_key (sought_read c.args.self.now.program c.args.place c.chained_file-file.result c.index-line.result.now c.index.result.now chain c.index-line.ensures c.index.ensures)
+    ∙ ap (λ (key : Option KeyField). is_some key) c.in-None.is
+
+pub seek-requires-in-None-clause-chain : goal.seek-requires-in-None-clause-chain
+seek-requires-in-None-clause-chain c = chain_named c.args.self.now c.args.place c.chained_file-file.result c.index-line.result.now c.requires c.index-line.ensures c.chained_file-file.ensures.names c.chained_file-file.ensures.within
+
+pub seek-requires-in-None-clause-by : goal.seek-requires-in-None-clause-by
+seek-requires-in-None-clause-by c =
     let s = c.args.self.now in
-    let line = line_read s.program c.args.place c.requires.next.line c.index.result.now c.requires.next.there c.index.ensures in
+    let P : Option KeyField → Type 0 = λ field. IsSoughtBy field (RecordNumber (to_z w64 (of_z w64 c.record_number-number.result))) in
+    subst P (sym (ap (λ (f : FileLine). f.key) (file_is s.program c.chained_file-file.result c.index.result.now c.chained_file-file.ensures.within c.index.ensures) ∙ c.in-None.is)) tt
+
+pub seek-requires-in-None-clause-value : goal.seek-requires-in-None-clause-value
+unfolding environment
+seek-requires-in-None-clause-value c = λ line there.
+    let s = c.args.self.now in
     let file = c.chained_file-file.result in
-    let within = c.chained_file-file.ensures.within in
-    chains_waiting s c.forget.new.self c.wait.new.self c.move_to.new.self c.args.place file c.index-3.result.now.record_length c.sought.result c.requires
-    (record { names = ap (λ (l : CalculationLine Reference). l.factor2) (sym line) ∙ c.chained_file-file.ensures.names; within = within })
-    (moved_behind s.progress.course c.move_to.new.self c.args.place c.move_to.ensures.here c.move_to.ensures.returns) c.forget.ensures
-    (sym c.if-not-is_served.false
-    ∙ (c.is_served-is_served.ensures (others s.program s.state) ∙ ap (λ (f : FileLine). is_served (held_by s) f) (sym (file_is s.program file c.index-2.result.now within c.index-2.ensures))))
-    (ap (λ (f : FileLine). f.record_length) (sym (file_is s.program file c.index-3.result.now within c.index-3.ensures)))
-    c.sought.ensures.by (c.sought.ensures.value c.requires.next.line c.requires.next.there) c.wait.ensures
+    let back : to_z w64 (of_z w64 c.record_number-number.result) ≡ c.record_number-number.result = omega (arith, ints) in
+    seeks_number (own s) (held_by s) (named_line s.program line) (file_at s.program file) _ (ap (λ (f : FileLine). f.key) (file_is s.program file c.index.result.now c.chained_file-file.ensures.within c.index.ensures) ∙ c.in-None.is)
+    (back ∙ c.record_number-number.ensures (others s.program s.state)
+    ∙ ap (λ (l : CalculationLine Reference). (number_in (own s) (held_by s) (named_line s.program l).factor1).numerator) (line_read s.program c.args.place line c.index-line.result.now there c.index-line.ensures))

@@ -1,9 +1,0 @@
-use Rattle.s3_level.proofs.Jumping.{jumps_stand}
-use Rattle.s3_level.specs.Holds.{HoldsParts, with_seen}
-use Rattle.s3_job_files.specs.Holds.{seen}
-use Rattle.s3_level.proofs.level.Level.go_past_jumps.Goals as goal
-
-pub returns-clause-world : goal.returns-clause-world
-returns-clause-world g c = λ s.
-    jumps_stand c.take_jumps-jumps.result (HoldsParts c.args.self.now (with_seen (seen c.args.pack.now.areas (g.P.Sectors.state c.args.pack.now.pool).contents) s)) (HoldsParts c.take_jumps-jumps.new.self (with_seen (seen c.args.pack.now.areas (g.P.Sectors.state c.args.pack.now.pool).contents) s)) (HoldsParts c.stand.new.self (with_seen (seen c.stand.new.pack.areas (g.P.Sectors.state c.stand.new.pack.pool).contents) s))
-    (c.take_jumps-jumps.ensures.world (with_seen (seen c.args.pack.now.areas (g.P.Sectors.state c.args.pack.now.pool).contents) s)) (c.in_ok-stand.ensures.world s)

@@ -1,0 +1,28 @@
+//! Entries that are taken at once.
+ghost use Rattle.std.specs.Prelude.{◌≡◌};
+ghost use Rattle.s3_level.specs.Holds.{once as once_spec};
+
+use s3_solo::Did;
+use s3_store::PoolFault;
+
+/// So many entries of a level, one after the other, that did the same.
+#[derive(Clone, Copy)]
+pub struct Taken {
+    /// What each of them did.
+    pub did: Did,
+    /// How many they are, one at least.
+    pub times: u16,
+}
+
+impl Taken {
+    /// One entry with this answer.
+    #[inline(always)]
+    pub fn once(answer: Result<Did, PoolFault>) -> Result<Taken, PoolFault>
+        ensures { result ≡ once_spec answer }
+    {
+        match answer {
+            Ok(did) => Ok(Taken { did, times: 1 }),
+            Err(fault) => Err(fault),
+        }
+    }
+}
