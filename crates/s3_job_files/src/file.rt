@@ -1,5 +1,5 @@
 //! A file of the job at work.
-ghost use Rattle.std.specs.Prelude.{◌≡◌, ◌≢◌, ◌<◌, ◌+◌, ◌-◌, ◌&&◌, length, option_map, pos, slice_get, is_some, Some, None, true, false, IfOk, IfErr, IfSome, OnOk};
+ghost use Rattle.std.specs.Prelude.{◌≡◌, ◌≢◌, ◌<◌, ◌+◌, ◌-◌, ◌&&◌, length, option_map, pos, slice_get, is_some, Some, None, true, false, IfOk, IfErr, IfSome, OnOk, if◌then◌else◌};
 ghost use Rattle.std.specs.List.{Contains};
 ghost use Rattle.s3_store.specs.State.{KeepsContents, ChangesWithin};
 ghost use Rattle.s3_store.specs.Failures.{failed_transfers};
@@ -7,7 +7,7 @@ ghost use Rattle.s3_slots.specs.Labels.{is_indexed as is_indexed_spec, sectors_o
 ghost use Rattle.s3_meaning.specs.Requests.{Key, RecordNumber};
 ghost use Rattle.s3_slots.specs.Kept.{IsOfPack};
 ghost use Rattle.s3_job_files.specs.Kept.{kept_on};
-ghost use Rattle.s3_job_files.specs.Records.{overlaid};
+ghost use Rattle.s3_job_files.specs.Records.{changes_of, overlaid};
 ghost use Rattle.s3_job_files.specs.Holds.{AreOf, HoldsRecords, count_of, records_of};
 
 use crate::records::{OpenRecords, Put};
@@ -310,14 +310,15 @@ impl OpenFile {
         &self,
         pool: &mut P,
         i: u32,
-        changes: &[Option<u8>],
+        codes: &[u8],
+        marks: &[bool],
         old: &mut [u8],
         bytes: &mut [u8],
     ) -> Result<Put, PoolFault>
         requires usable { IsUsable (P.state pool.old).contents self.now.label self.now.records }
         requires old { length old.old ≡ self.now.label.record_length }
         requires long { length bytes.old ≡ self.now.label.record_length }
-        ensures puts { IfOk result (λ put. Puts (updated self.now.label changes.now (Some i) (records_of self.now.records (P.state pool.old).contents)) put (records_of self.now.records (P.state pool.old).contents) (records_of self.now.records (P.state pool.new).contents)) }
+        ensures puts { IfOk result (λ put. Puts (updated self.now.label (changes_of codes.now marks.now) (Some i) (records_of self.now.records (P.state pool.old).contents)) put (records_of self.now.records (P.state pool.old).contents) (records_of self.now.records (P.state pool.new).contents)) }
         ensures of_label { OnOk result (AreOf self.now.label (P.state pool.new).contents self.now.records) }
         ensures within { ChangesWithin (Contains (sectors_of self.now.label)) (P.state pool.old) (P.state pool.new) }
         ensures failures { (P.state pool.new).failures ≡ (P.state pool.old).failures + failed_transfers result }
@@ -327,7 +328,7 @@ impl OpenFile {
             return Ok(Put::Refused(HaltCode::NothingToUpdate));
         }
         bytes.copy_from_slice(old);
-        overlay(changes, bytes);
+        overlay(codes, marks, bytes);
         self.put(pool, i, old, bytes)
     }
 
@@ -336,10 +337,11 @@ impl OpenFile {
         &self,
         pool: &mut P,
         i: u32,
-        changes: &[Option<u8>],
+        codes: &[u8],
+        marks: &[bool],
     ) -> Result<Put, PoolFault>
         requires usable { IsUsable (P.state pool.old).contents self.now.label self.now.records }
-        ensures puts { IfOk result (λ put. Puts (updated self.now.label changes.now (Some i) (records_of self.now.records (P.state pool.old).contents)) put (records_of self.now.records (P.state pool.old).contents) (records_of self.now.records (P.state pool.new).contents)) }
+        ensures puts { IfOk result (λ put. Puts (updated self.now.label (changes_of codes.now marks.now) (Some i) (records_of self.now.records (P.state pool.old).contents)) put (records_of self.now.records (P.state pool.old).contents) (records_of self.now.records (P.state pool.new).contents)) }
         ensures of_label { OnOk result (AreOf self.now.label (P.state pool.new).contents self.now.records) }
         ensures within { ChangesWithin (Contains (sectors_of self.now.label)) (P.state pool.old) (P.state pool.new) }
         ensures failures { (P.state pool.new).failures ≡ (P.state pool.old).failures + failed_transfers result }
@@ -348,10 +350,24 @@ impl OpenFile {
         let length = usize::from(self.label.record_length);
         if length <= SHORT_RECORD {
             let (mut old, mut bytes) = ([0; SHORT_RECORD], [0; SHORT_RECORD]);
-            return self.update_in(pool, i, changes, &mut old[..length], &mut bytes[..length]);
+            return self.update_in(
+                pool,
+                i,
+                codes,
+                marks,
+                &mut old[..length],
+                &mut bytes[..length],
+            );
         }
         let (mut old, mut bytes) = ([0; LONGEST_RECORD], [0; LONGEST_RECORD]);
-        self.update_in(pool, i, changes, &mut old[..length], &mut bytes[..length])
+        self.update_in(
+            pool,
+            i,
+            codes,
+            marks,
+            &mut old[..length],
+            &mut bytes[..length],
+        )
     }
 
     /// The place of the current record, from 0.
@@ -378,10 +394,11 @@ impl OpenFile {
         &self,
         pool: &mut P,
         current: Option<Current>,
-        changes: &[Option<u8>],
+        codes: &[u8],
+        marks: &[bool],
     ) -> Result<Put, PoolFault>
         requires usable { IsUsable (P.state pool.old).contents self.now.label self.now.records }
-        ensures puts { IfOk result (λ put. Puts (updated self.now.label changes.now (place_current_spec self.now.label (records_of self.now.records (P.state pool.old).contents) self.now.chained (option_map current_of current)) (records_of self.now.records (P.state pool.old).contents)) put (records_of self.now.records (P.state pool.old).contents) (records_of self.now.records (P.state pool.new).contents)) }
+        ensures puts { IfOk result (λ put. Puts (updated self.now.label (changes_of codes.now marks.now) (place_current_spec self.now.label (records_of self.now.records (P.state pool.old).contents) self.now.chained (option_map current_of current)) (records_of self.now.records (P.state pool.old).contents)) put (records_of self.now.records (P.state pool.old).contents) (records_of self.now.records (P.state pool.new).contents)) }
         ensures of_label { OnOk result (AreOf self.now.label (P.state pool.new).contents self.now.records) }
         ensures within { ChangesWithin (Contains (sectors_of self.now.label)) (P.state pool.old) (P.state pool.new) }
         ensures failures { (P.state pool.new).failures ≡ (P.state pool.old).failures + failed_transfers result }
@@ -389,7 +406,7 @@ impl OpenFile {
     {
         match self.place_current(pool, current)? {
             None => Ok(Put::Refused(HaltCode::NothingToUpdate)),
-            Some(place) => self.update_at(pool, place, changes),
+            Some(place) => self.update_at(pool, place, codes, marks),
         }
     }
 
@@ -448,14 +465,20 @@ fn records_of_label<P: Sectors>(
     }
 }
 
-/// Lays changes over the bytes of a record.
-fn overlay(changes: &[Option<u8>], bytes: &mut [u8])
-    ensures { bytes.new ≡ overlaid changes.now bytes.old }
+/// The byte of a record where a code is put, or not.
+#[inline(always)]
+fn laid_byte(code: u8, is_put: bool, old: u8) -> u8
+    ensures { result ≡ (if is_put then code else old) }
 {
-    let count = changes.len().min(bytes.len());
+    if is_put { code } else { old }
+}
+
+/// Lays codes over the bytes of a record, where they are put.
+fn overlay(codes: &[u8], marks: &[bool], bytes: &mut [u8])
+    ensures { bytes.new ≡ overlaid (changes_of codes.now marks.now) bytes.old }
+{
+    let count = codes.len().min(marks.len()).min(bytes.len());
     for place in 0..count {
-        if let Some(put) = changes[place] {
-            bytes[place] = put;
-        }
+        bytes[place] = laid_byte(codes[place], marks[place], bytes[place]);
     }
 }

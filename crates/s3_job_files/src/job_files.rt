@@ -11,6 +11,7 @@ ghost use Rattle.s3_labels.specs.Labelled.{KeepsSaid};
 ghost use Rattle.s3_meaning.specs.Requests.{Key, RecordNumber, fits_done, refuses_append, refuses_add, refuses_update};
 ghost use Rattle.s3_job_files.specs.Requests.{record_read, record_chained, record_appended, record_added, record_updated};
 ghost use Rattle.s3_job_files.specs.Calls.{found_answer, put_answer};
+ghost use Rattle.s3_job_files.specs.Records.{changes_of};
 
 use crate::closing::close_all;
 use crate::file::{Current, OpenFile};
@@ -229,12 +230,13 @@ impl JobFiles {
         pack: &mut Pack<P>,
         place: usize,
         current: Option<Current>,
-        changes: &[Option<u8>],
+        codes: &[u8],
+        marks: &[bool],
     ) -> Result<Put, PoolFault>
         requires ready { IsReady self.now.level self.now.files.items (seen pack.old.areas (P.state pack.old.pool).contents) }
         requires there { place < length self.now.files.items }
         requires own { AllAt self.now.files.items place (λ file. file.is_master ≡ false) }
-        ensures serves { IfOk result (λ put. Serves (record_updated (option_map current_of current) changes.now) place (put_answer put) (Holds self.now.level self.now.files.items (seen pack.old.areas (P.state pack.old.pool).contents)) (Holds self.now.level self.now.files.items (seen pack.new.areas (P.state pack.new.pool).contents))) }
+        ensures serves { IfOk result (λ put. Serves (record_updated (option_map current_of current) (changes_of codes.now marks.now)) place (put_answer put) (Holds self.now.level self.now.files.items (seen pack.old.areas (P.state pack.old.pool).contents)) (Holds self.now.level self.now.files.items (seen pack.new.areas (P.state pack.new.pool).contents))) }
         ensures fits { IfOk result (λ put. fits_done refuses_update (put_answer put) ≡ true) }
         ensures ready { OnOk result (IsReady self.now.level self.now.files.items (seen pack.new.areas (P.state pack.new.pool).contents)) }
         ensures pack { IsPackReady pack.new.areas (P.state pack.new.pool).contents }
@@ -244,7 +246,7 @@ impl JobFiles {
         ensures failures { (P.state pack.new.pool).failures ≡ (P.state pack.old.pool).failures + failed_transfers result }
         ensures fault { IfErr result (λ fault. fault ≢ PoolFault.NoSector) }
     {
-        self.files[place].update(&mut pack.pool, current, changes)
+        self.files[place].update(&mut pack.pool, current, codes, marks)
     }
 
     /// Closes all files: the count of each of the level's own is set, and the scratch files that the job made go.

@@ -207,24 +207,6 @@ few_asked c size for_record fits = by (asked c) for_record fits
     by (asks.Ask code) wrong is = absurd wrong
     by (asks.End at_once) wrong is = absurd wrong
 
-pub few_put : (c : Stepper) → IsPut (asked c) → FitsFile (files c) (asked c) (put c) → length (put c) ≤ 1024
-few_put c puts fits = by (asked c) puts fits
-  where
-    size : ℕ
-    size = length (put c)
-
-    by : (request : ProgramRequest) → IsPut request → FitsFile (files c) request (put c) → length (put c) ≤ 1024
-    by (asks.Append file) put_out is = few_of c file size size (TakesRecord size) is is.suits.long refl
-    by (asks.Add file) put_out is = few_of c file size size (TakesAddition size) is is.suits.takes.long refl
-    by (asks.Update file current) put_out is = few_of c file size size (TakesChanges size) is is.suits.takes.long refl
-    by (asks.Read file n) wrong is = absurd wrong
-    by (asks.Chain file n what) wrong is = absurd wrong
-    by asks.Card wrong is = absurd wrong
-    by (asks.Print page line) wrong is = absurd wrong
-    by asks.Jump wrong is = absurd wrong
-    by (asks.Ask code) wrong is = absurd wrong
-    by (asks.End at_once) wrong is = absurd wrong
-
 -- ---- behind a request
 still_of_line : (line : FileLine) (old new : OpenFile) → opened_as new ≡ opened_as old → IsOfLine line old → IsOfLine line new
 still_of_line line old new same is = record {

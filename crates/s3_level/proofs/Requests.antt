@@ -1,16 +1,17 @@
 -- Requests of an open job to its files: they are served as is meant, and their answers fit.
 use Rattle.std.proofs.Common.{◌≡◌, ◌<◌, ℕ, zero, suc, Bool, true, false, List, [], ◌∷◌, length, map, refl, sym, ap, ◌∙◌, subst, arith, IsTrue}
-use Rattle.std.specs.Prelude.{Option, Some, None, option_map, slice_get, Result, Ok, Err, IfOk, OnErr}
+use Rattle.std.specs.Prelude.{Option, Some, None, is_some, option_map, slice_get, Result, Ok, Err, IfOk, OnErr}
 use Rattle.std.proofs.lemmas.Bool.Decides.{nat_tests}
 use Rattle.std.proofs.lemmas.Option.{none-some}
 use Rattle.s3_cards.specs.declared.name.Name.{Name}
 use Rattle.s3_match.specs.Types.{name_of_file}
 use Rattle.s3_meaning.specs.Output.{filled}
 use Rattle.s3_meaning.specs.Requests.{Answer, fits, fits_done, fits_record, refuses_append, refuses_add, refuses_update}
-use Rattle.s3_meaning.specs.Requests.{Sought as MeantSought}
+use Rattle.s3_meaning.specs.Requests.{Current as MeantCurrent, Sought as MeantSought}
 use Rattle.s3_job_files.specs.Calls.{found_answer, put_answer}
 use Rattle.s3_job_files.specs.Files.{FilesInUse, FileAtWork, place_named}
 use Rattle.s3_job_files.specs.Holds.{AllAt, Seen, TakesRecord, IsReady as AreFilesReady, Holds as HoldsInUse, Meets, Serves as Serving, job_file_of}
+use Rattle.s3_job_files.specs.Records.{changes_of}
 use Rattle.s3_job_files.specs.Requests as meant
 use Rattle.s3_job_files.specs.Requests.{Served, served_named, served_on, record_read, record_chained, record_appended, record_added, record_updated}
 use Rattle.s3_job_files.specs.declared.file.OpenFile.{OpenFile}
@@ -269,6 +270,20 @@ pub updates_same : {E : Type 0} (result : Result Put E) (current : Option Curren
     → IfOk result (λ stored. Serving (record_updated (option_map current_of current) laid) place (put_answer stored) old new)
 updates_same result current positions laid place old new same serves =
     subst (λ (l : List (Option ℕ)). IfOk result (λ stored. Serving (record_updated (option_map current_of current) l) place (put_answer stored) old new)) same serves
+
+-- a record's codes, and where they are put, are what is put at its positions
+told_again : (positions : List (Option ℕ)) → changes_of (filled positions) (map is_some positions) ≡ positions
+told_again [] = refl
+told_again (None ∷ positions) = ap (λ (rest : List (Option ℕ)). None ∷ rest) (told_again positions)
+told_again (Some code ∷ positions) = ap (λ (rest : List (Option ℕ)). Some code ∷ rest) (told_again positions)
+
+pub updates_told : {E : Type 0} (result : Result Put E) (current named : Option MeantCurrent) (codes : List ℕ) (marks : List Bool) (positions : List (Option ℕ)) (place : ℕ) (old new : FilesInUse → Type 0)
+    → current ≡ named → codes ≡ filled positions → marks ≡ map is_some positions
+    → IfOk result (λ stored. Serving (record_updated current (changes_of codes marks)) place (put_answer stored) old new)
+    → IfOk result (λ stored. Serving (record_updated named positions) place (put_answer stored) old new)
+updates_told result current named codes marks positions place old new same codes_are marks_are serves =
+    let told : changes_of codes marks ≡ positions = (λ i. changes_of (codes_are i) (marks_are i)) ∙ told_again positions in
+    subst (λ (serve : FileAtWork → FilesInUse → Served). IfOk result (λ stored. Serving serve place (put_answer stored) old new)) (λ i. record_updated (same i) (told i)) serves
 
 -- ---- answers that fit
 length_fits : (size : ℕ) (found : Bool) (bytes : List ℕ) → length bytes ≡ size → fits_record size (found_answer found bytes) ≡ true

@@ -89,20 +89,6 @@ fn file_current(current: Option<Current>) -> Option<s3_job_files::Current>
     }
 }
 
-/// What an update puts at each position, and how many positions there are.
-fn laid_out(changes: &Composition, positions: &mut [Option<u8>]) -> usize
-    requires { length changes.now ≤ length positions.old }
-    ensures count { result ≡ length changes.now }
-    ensures within { result ≤ length positions.new }
-    ensures same { slice_range positions.new 0 result ≡ changes.now }
-{
-    let count = changes.length();
-    for place in 0..count {
-        positions[place] = changes.at(place);
-    }
-    count
-}
-
 /// Reads the record with a key or a number in the file at a place, and answers whether there is one.
 fn chain<P: Sectors>(
     job_files: &mut JobFiles,
@@ -168,7 +154,6 @@ fn change<P: Sectors>(
     current: Option<Current>,
     changes: &Composition,
 ) -> Result<Put, PoolFault>
-    requires few { length changes.now ≤ 1024 }
     requires ready { AreFilesReady job_files.now.level job_files.now.files.items (seen pack.old.areas (P.state pack.old.pool).contents) }
     requires there { place < length job_files.now.files.items }
     requires own { AllAt job_files.now.files.items place (λ file. file.is_master ≡ false) }
@@ -182,14 +167,13 @@ fn change<P: Sectors>(
     ensures says { OnOk result (KeepsSaid job_files.now.level pack.old.areas (P.state pack.old.pool).contents pack.new.areas (P.state pack.new.pool).contents) }
     ensures fault { IfErr result (λ fault. fault ≢ PoolFault.NoSector) }
 {
-    if changes.length() <= SHORT_RECORD as usize {
-        let mut positions = [None; SHORT_RECORD as usize];
-        let count = laid_out(changes, &mut positions);
-        return job_files.update(pack, place, file_current(current), &positions[..count]);
-    }
-    let mut positions = [None; LONGEST_RECORD];
-    let count = laid_out(changes, &mut positions);
-    job_files.update(pack, place, file_current(current), &positions[..count])
+    job_files.update(
+        pack,
+        place,
+        file_current(current),
+        changes.codes(),
+        changes.marks(),
+    )
 }
 
 /// Puts the record that the cycle lends into the file at a place, or changes one there, as the pending request asks.
@@ -200,7 +184,6 @@ fn store<P: Sectors>(
     place: usize,
 ) -> Result<Put, PoolFault>
     requires asks { IsPut (asked cycle.now) }
-    requires few { length (put cycle.now) ≤ 1024 }
     requires ready { AreFilesReady job_files.old.level job_files.old.files.items (seen pack.old.areas (P.state pack.old.pool).contents) }
     requires there { place < length job_files.old.files.items }
     requires suits { AllAt job_files.old.files.items place (SuitsRequest (asked cycle.now) (put cycle.now)) }

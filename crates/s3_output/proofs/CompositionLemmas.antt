@@ -1,6 +1,6 @@
 -- The positions of a record, where a content is laid over it.
 use Rattle.std.proofs.Common.{◌≡◌, ℕ, ◌+◌, ◌-◌, ◌<◌, ◌≤◌, get_or, List, [], ◌∷◌, ◌++◌, Bool, true, false, not, ◌||◌, zero, suc, length, take, drop, map, refl, sym, ◌∙◌, ap, subst, arith}
-use Rattle.std.specs.Prelude.{Option, Some, None, unwrap_or, replicate, slice_get}
+use Rattle.std.specs.Prelude.{Option, Some, None, is_some, unwrap_or, replicate, slice_get}
 use Rattle.std.proofs.lemmas.List.{map-append, length-map, length-append, length-drop, length-take-le, take-take, take-map, drop-map, drop-take, length-replicate}
 use Rattle.s3_cards.specs.declared.ebcdic.TheConstants.{BLANK}
 use Rattle.s3_meaning.specs.Output.{filled, laid}
@@ -238,6 +238,33 @@ position_at n k told puts codes now put code_size put_size few view within is =
     ∙ (position_in told puts codes k same (omega (arith, below, whole)) ∙ ap (λ b. Some (position b (get_or codes k 0))) is))
 
 -- ---- marks
+is_put : (puts : List Bool) (codes : List ℕ) → length puts ≡ length codes → map is_some (positions_on puts codes) ≡ puts
+is_put [] codes same = refl
+is_put (put ∷ puts) [] same = absurd (omega (arith, same))
+is_put (true ∷ puts) (code ∷ codes) same = ap (λ marks. true ∷ marks) (is_put puts codes (omega (arith, same)))
+is_put (false ∷ puts) (code ∷ codes) same = ap (λ marks. false ∷ marks) (is_put puts codes (omega (arith, same)))
+
+all_put : (codes : List ℕ) → map is_some (map (λ code. Some code) codes) ≡ replicate (length codes) true
+all_put [] = refl
+all_put (code ∷ codes) = ap (λ marks. true ∷ marks) (all_put codes)
+
+-- where it is told what is put
+pub marks_told : (n : ℕ) (told : Bool) (puts : List Bool) (codes : List ℕ) (now : List (Option ℕ)) → length codes ≡ 1024 → length puts ≡ 1024 → take n (positions_in told puts codes) ≡ now
+    → told ≡ true → take n puts ≡ map is_some now
+marks_told n told puts codes now code_size put_size view is =
+    ap (take n) (sym (is_put puts codes (put_size ∙ sym code_size)))
+    ∙ (take-map is_some n (positions_on puts codes)
+    ∙ ap (map is_some) (ap (λ b. take n (positions_in b puts codes)) (sym is) ∙ view))
+
+-- and where it isn't
+pub marks_untold : (n : ℕ) (told : Bool) (puts : List Bool) (codes : List ℕ) (now : List (Option ℕ)) → length codes ≡ 1024 → take n (positions_in told puts codes) ≡ now
+    → told ≡ false → take n (replicate 1024 true) ≡ map is_some now
+marks_untold n told puts codes now code_size view is =
+    ap (λ size. take n (replicate size true)) (sym code_size)
+    ∙ (ap (take n) (sym (all_put codes))
+    ∙ (take-map is_some n (map (λ code. Some code) codes)
+    ∙ ap (map is_some) (ap (λ b. take n (positions_in b puts codes)) (sym is) ∙ view)))
+
 pub all_marked : (marks : List Bool) (n : ℕ) → length marks ≡ n → ((i : ℕ) → i < n → slice_get marks i ≡ Some true) → marks ≡ replicate n true
 all_marked [] zero size marked = refl
 all_marked [] (suc n) size marked = absurd (omega (arith, size))

@@ -1,5 +1,5 @@
 //! A record as it is composed.
-ghost use Rattle.std.specs.Prelude.{◌≡◌, ◌+◌, ◌-◌, ◌*◌, ◌≤◌, ◌<◌, ◌++◌, List, ℕ, Option, Some, None, true, false, length, take, drop, replicate, slice_get};
+ghost use Rattle.std.specs.Prelude.{◌≡◌, ◌+◌, ◌-◌, ◌*◌, ◌≤◌, ◌<◌, ◌++◌, List, ℕ, Option, Some, None, true, false, is_some, length, map, take, drop, replicate, slice_get};
 ghost use Rattle.s3_cards.specs.declared.ebcdic.TheConstants.{BLANK};
 ghost use Rattle.s3_meaning.specs.Output.{filled, laid};
 ghost use Rattle.s3_output.specs.Compositions.{positions_in, are_filled, first_position};
@@ -17,6 +17,9 @@ pub const LONGEST_RECORD: usize = 1024;
 
 /// The longest line that is printed.
 const LONGEST_PRINT_LINE: usize = 132;
+
+/// Something is put everywhere.
+static ALL_PUT: [bool; LONGEST_RECORD] = [true; LONGEST_RECORD];
 
 /// A record as it is composed, of up to 1,024 positions: what is put at each of them, if anything is.
 #[derive(Drop)]
@@ -195,18 +198,14 @@ impl Composition {
         &self.codes[..self.length]
     }
 
-    /// What is put at a place, counted from 0, if anything is.
-    pub fn at(&self, place: usize) -> Option<u8>
-        requires { place < length self.now }
-        ensures { slice_get self.now place ≡ Some result }
+    /// Where something is put.
+    pub fn marks(&self) -> &[bool]
+        ensures { result.now ≡ map is_some self.now }
     {
-        if !self.is_told {
-            return Some(self.codes[place]);
-        }
-        if self.put[place] {
-            Some(self.codes[place])
+        if self.is_told {
+            &self.put[..self.length]
         } else {
-            None
+            &ALL_PUT[..self.length]
         }
     }
 }

@@ -205,9 +205,10 @@ fn record_of(codes: &[u8]) -> Record {
 /// A record with changes.
 fn changed(record: &Record, changes: &Composition) -> Record {
     let mut changed = *record;
-    for (place, code) in changed.iter_mut().enumerate() {
-        if place < changes.length() {
-            *code = changes.at(place).unwrap_or(*code);
+    let put = changes.codes().iter().zip(changes.marks());
+    for (code, (new_code, is_put)) in changed.iter_mut().zip(put) {
+        if *is_put {
+            *code = *new_code;
         }
     }
     changed

@@ -66,13 +66,13 @@ fn outcome_of_search(found: bool, record: Record) -> Outcome {
     }
 }
 
-/// The change of one byte of a record.
-fn change_of(at: usize, byte: u8) -> [Option<u8>; RECORD_BYTES] {
-    let mut changes = [None; RECORD_BYTES];
+/// One byte of a record is put.
+fn only(at: usize) -> [bool; RECORD_BYTES] {
+    let mut put = [false; RECORD_BYTES];
     if at < RECORD_BYTES {
-        changes[at] = Some(byte);
+        put[at] = true;
     }
-    changes
+    put
 }
 
 /// A job that begins.
@@ -157,7 +157,8 @@ fn update<P: Sectors>(
     pack: &mut Pack<P>,
     place: usize,
     current: Option<Current>,
-    changes: &[Option<u8>],
+    codes: &[u8],
+    put: &[bool],
 ) -> Result<Outcome, Fault>
     requires { IsReady files.old.level files.old.files.items (seen pack.old.areas (P.state pack.old.pool).contents) }
     ensures { OnOk result (IsReady files.new.level files.new.files.items (seen pack.new.areas (P.state pack.new.pool).contents)) }
@@ -165,7 +166,7 @@ fn update<P: Sectors>(
     if place >= files.files.len() || files.file(place).is_master {
         return Err(Fault::Misfit);
     }
-    Ok(outcome_of_put(files.update(pack, place, current, changes)?))
+    Ok(outcome_of_put(files.update(pack, place, current, codes, put)?))
 }
 
 /// Reads the next record of the file at a place.
@@ -242,7 +243,8 @@ pub fn make_call<P: Sectors>(
         Call::Append(record) => append(files, pack, place, record),
         Call::Add(record) => add(files, pack, place, record),
         Call::Update(current, at, byte) => {
-            update(files, pack, place, *current, &change_of(*at, *byte))
+            let (codes, put) = ([*byte; RECORD_BYTES], only(*at));
+            update(files, pack, place, *current, &codes, &put)
         }
         Call::Read => read_next(files, pack, place),
         Call::ChainKey(key) => chain_key(files, pack, place, *key),

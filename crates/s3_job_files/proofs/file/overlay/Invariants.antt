@@ -1,6 +1,6 @@
 use Rattle.std.proofs.Common.{◌≡◌, ℕ, List, length}
 use Rattle.std.specs.Prelude.{Option}
-use Rattle.s3_job_files.specs.Records.{overlaid}
+use Rattle.s3_job_files.specs.Records.{changes_of, overlaid}
 use Rattle.s3_job_files.proofs.Overlaid.{laid_to}
 use Rattle.s3_job_files.proofs.file.overlay.Given as goal
 
@@ -10,4 +10,4 @@ pub record AreLaid (changes : List (Option ℕ)) (old bytes : List ℕ) (place :
   pub laid : laid_to changes bytes place ≡ overlaid changes old
 
 abbrev pub invariant-loop-place : goal.invariant-loop-place
-invariant-loop-place l = AreLaid l.changes l.initial.bytes l.bytes l.place
+invariant-loop-place l = AreLaid (changes_of l.codes l.marks) l.initial.bytes l.bytes l.place

@@ -1,5 +1,5 @@
 use Rattle.std.proofs.Common.{ap, ◌∙◌}
-use Rattle.s3_job_files.specs.Records.{overlaid}
+use Rattle.s3_job_files.specs.Records.{changes_of, overlaid}
 use Rattle.s3_store.proofs.Frames.{keeps_within, within_from_keeps}
 use Rattle.s3_job_files.proofs.OneFile.{found_there, none_found, of_label_kept, updated_found, usable_kept}
 use Rattle.s3_job_files.proofs.file.OpenFile.update_in.Goals as goal
@@ -13,8 +13,8 @@ put-requires-clause-there g c =
 
 pub returns-clause-puts : goal.returns-clause-puts
 returns-clause-puts g c =
-    updated_found c.args.self.now.label c.args.changes.now c.args.self.now.records c.args.i c.in_ok-get.field-0 c.get.new.bytes c.overlay.new.bytes _ _ _ c.put.result c.if-not-branch.false c.in_ok-get.ensures.found
-    (c.overlay.ensures ∙ ap (overlaid c.args.changes.now) c.copy_from_slice.ensures.after) c.get.ensures.keeps.contents c.put.ensures.puts
+    updated_found c.args.self.now.label (changes_of c.args.codes.now c.args.marks.now) c.args.self.now.records c.args.i c.in_ok-get.field-0 c.get.new.bytes c.overlay.new.bytes _ _ _ c.put.result c.if-not-branch.false c.in_ok-get.ensures.found
+    (c.overlay.ensures ∙ ap (overlaid (changes_of c.args.codes.now c.args.marks.now)) c.copy_from_slice.ensures.after) c.get.ensures.keeps.contents c.put.ensures.puts
 
 pub returns-clause-of_label : goal.returns-clause-of_label
 returns-clause-of_label g c = c.put.ensures.of_label
@@ -24,7 +24,7 @@ returns-clause-within g c = keeps_within _ _ _ _ c.get.ensures.keeps c.put.ensur
 
 pub returns-then-not-branch-clause-puts : goal.returns-then-not-branch-clause-puts
 returns-then-not-branch-clause-puts g c =
-    none_found c.args.self.now.label c.args.changes.now c.args.self.now.records c.args.i c.in_ok-get.field-0 c.get.new.bytes _ _ c.if-not-branch.true c.in_ok-get.ensures.found c.get.ensures.keeps.contents
+    none_found c.args.self.now.label (changes_of c.args.codes.now c.args.marks.now) c.args.self.now.records c.args.i c.in_ok-get.field-0 c.get.new.bytes _ _ c.if-not-branch.true c.in_ok-get.ensures.found c.get.ensures.keeps.contents
 
 pub returns-then-not-branch-clause-of_label : goal.returns-then-not-branch-clause-of_label
 returns-then-not-branch-clause-of_label g c = of_label_kept _ _ c.args.self.now.label c.args.self.now.records c.get.ensures.keeps.contents c.requires.usable

@@ -1,7 +1,7 @@
 use Rattle.std.proofs.Common.{refl}
 use Rattle.std.proofs.lemmas.Option.{slice_get_read}
 use Rattle.std.specs.Prelude.{option_map}
-use Rattle.s3_job_files.specs.Records.{place_current, updated}
+use Rattle.s3_job_files.specs.Records.{changes_of, place_current, updated}
 use Rattle.s3_job_files.specs.Holds.{current_of, records_of}
 use Rattle.s3_meaning.specs.Requests.{refuses_update}
 use Rattle.s3_job_files.proofs.Fitting.{updated_within, fits_puts}
@@ -19,7 +19,7 @@ update-requires g c = record {
 pub returns-clause-serves : goal.returns-clause-serves
 returns-clause-serves g c =
     update_serves c.args.self.now.level c.args.self.now.files.items c.args.pack.now.areas _ _ c.args.place c.index.result.now
-    (λ at. updated at.label c.args.changes.now (place_current at.label at.records at.file.chained (option_map current_of c.args.current)) at.records) c.update.result
+    (λ at. updated at.label (changes_of c.args.codes.now c.args.marks.now) (place_current at.label at.records at.file.chained (option_map current_of c.args.current)) at.records) c.update.result
     c.requires.ready (slice_get_read _ _ c.args.place c.index.result.now refl c.requires.there c.index.ensures)
     (c.requires.own c.index.result.now (slice_get_read _ _ c.args.place c.index.result.now refl c.requires.there c.index.ensures))
     c.update.ensures.within c.update.ensures.puts
@@ -42,7 +42,7 @@ returns-clause-spares g c =
 pub returns-clause-fits : goal.returns-clause-fits
 returns-clause-fits g c =
     fits_puts refuses_update _ (records_of c.index.result.now.records (g.P.Sectors.state c.args.pack.now.pool).contents) (records_of c.index.result.now.records (g.P.Sectors.state c.update.new.pool).contents) c.update.result
-    (updated_within c.index.result.now.label c.args.changes.now
+    (updated_within c.index.result.now.label (changes_of c.args.codes.now c.args.marks.now)
     (place_current c.index.result.now.label (records_of c.index.result.now.records (g.P.Sectors.state c.args.pack.now.pool).contents) c.index.result.now.chained (option_map current_of c.args.current))
     (records_of c.index.result.now.records (g.P.Sectors.state c.args.pack.now.pool).contents))
     c.update.ensures.puts

@@ -1,7 +1,7 @@
 use Rattle.std.proofs.Common.{sym, ◌∙◌}
 use Rattle.s3_job_files.specs.Holds.{seen}
 use Rattle.s3_job_files.specs.Calls.{put_answer}
-use Rattle.s3_level.proofs.OfLines.{few_put, job_stays, on_disk, suits}
+use Rattle.s3_level.proofs.OfLines.{job_stays, on_disk, suits}
 use Rattle.s3_level.proofs.Requests.{fits_meant, has_file, has_where_fails, resumes_meant, serves_false, serves_true}
 use Rattle.s3_level.proofs.job.OpenJob.write.Goals as goal
 
@@ -10,9 +10,6 @@ place_of-requires g c = record { there = on_disk c.args.self.now.cycle c.args.fi
 
 pub returns-in_default-clause-serves : goal.returns-in_default-clause-serves
 returns-in_default-clause-serves g c = serves_false c.args.self.now _ c.args.file c.requires.asks (sym c.place_of.ensures.place ∙ c.in_default.is)
-
-pub store-requires-clause-few : goal.store-requires-clause-few
-store-requires-clause-few g c = few_put c.args.self.now.cycle c.requires.puts c.requires.fits
 
 pub store-requires-clause-suits : goal.store-requires-clause-suits
 store-requires-clause-suits g c =
