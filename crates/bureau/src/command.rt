@@ -6,7 +6,8 @@ use crate::words::command;
 use clap::error::ErrorKind;
 use clap::{ArgMatches, Error};
 use s3_cli::{
-    CliFault, RunFault, SessionFault, image, image_with, list, migrate, session, tell, write_table,
+    CliFault, RunFault, SessionFault, image, image_with, list, migrate, session_on, tell,
+    write_table,
 };
 use std::io::Write;
 use std::{env, io};
@@ -102,7 +103,7 @@ fn perform(rt: &HostRuntime, matches: &ArgMatches<'_>) -> u8
 /// `bureau run`.
 fn run(rt: &HostRuntime, matches: &ArgMatches<'_>) -> Result<(), CliFault> {
     let pack = pack_to_run(rt, matches)?;
-    let saved = session(rt.alloc(), &pack, &mut rt.stdin(), &mut rt.stdout()).map_err(
+    let saved = session_on(rt.alloc(), pack, &mut rt.stdin(), &mut rt.stdout()).map_err(
         CliFault::Session,
     )?;
     match matches.get_str("save") {

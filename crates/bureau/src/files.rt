@@ -10,7 +10,7 @@ use std::{fs, io};
 const PACK_LIMIT: usize = 16_776_960;
 
 /// The most bytes that are asked of a file at once.
-const CHUNK: usize = 65_536;
+const CHUNK: usize = 4_096;
 
 /// How many links are followed one after another.
 const LINK_LIMIT: u32 = 40;

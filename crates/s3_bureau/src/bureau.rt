@@ -259,8 +259,8 @@ impl<S: PackStore> Bureau<S> {
         Ok(self.repeat(entry, NonZeroU16::MIN)?.did)
     }
 
-    /// One entry of a script so many times at most, and at least once: several times only where its level takes turns that pass
-    /// jumps.
+    /// One entry of a script so many times at most, and at least once: several times only where its level takes turns, which go on
+    /// as long as they act.
     ///
     /// It stops as `step` does.
     pub fn repeat(&mut self, entry: Entry, most: NonZeroU16) -> Result<Taken, Stop>

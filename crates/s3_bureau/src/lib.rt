@@ -21,7 +21,7 @@ pub use laws::{
 };
 pub use outcome::{LevelTexts, Outcome};
 pub use run_fault::{RunFault, mount_number};
-pub use runs::run;
+pub use runs::{run, run_on};
 pub use s3_labels::{Refusal, RefusedStore};
 pub use s3_level::{Action, Did, Halt, HaltCode, Taken};
 pub use stop::Stop;

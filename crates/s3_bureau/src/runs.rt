@@ -37,8 +37,23 @@ pub fn run(
 ) -> Result<Outcome, RunFault>
     ensures { Runs pack.now deck1.now deck2.now script.now result }
 {
+    run_on(alloc, Vec::from_slice(alloc, pack)?, deck1, deck2, script)
+}
+
+/// A run over a pack that is handed over, and so isn't copied.
+///
+/// What is said of `run` is said of it.
+pub fn run_on(
+    alloc: Global,
+    pack: Vec<u8>,
+    deck1: &[u8],
+    deck2: &[u8],
+    script: &[u8],
+) -> Result<Outcome, RunFault>
+    ensures { Runs pack.items deck1.now deck2.now script.now result }
+{
     let commands = read_script(alloc, script)?;
-    let store = MemoryStore::from_bytes(Vec::from_slice(alloc, pack)?);
+    let store = MemoryStore::from_bytes(pack);
     outcome(alloc, store, deck1, deck2, &commands)
 }
 

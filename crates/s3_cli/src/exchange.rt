@@ -8,7 +8,7 @@ use crate::fault::SessionFault;
 use crate::input::{ReadFault, read_within};
 use crate::output::write_output;
 use crate::parts::split_parts;
-use s3_bureau::{RunFault, run};
+use s3_bureau::{RunFault, run_on};
 use std::alloc::Global;
 use std::io::{Read, Write};
 
@@ -31,6 +31,23 @@ pub fn session<R: Read, W: Write>(
     ensures refused { IfErr result (λ fault. IfSome (R.remaining reader.old) (λ input. Refuses pack.now fault input)) }
     ensures wrote_nothing { IfErr result (λ fault. fault ≢ File → W.contents writer.new ≡ W.contents writer.old) }
 {
+    session_on(alloc, Vec::from_slice(alloc, pack)?, reader, writer)
+}
+
+/// A session over a pack that is handed over, and so isn't copied.
+///
+/// What is said of `session` is said of it.
+pub fn session_on<R: Read, W: Write>(
+    alloc: Global,
+    pack: Vec<u8>,
+    reader: &mut R,
+    writer: &mut W,
+) -> Result<Vec<u8>, SessionFault>
+    ensures wrote { IfOk result (λ saved. (input : List ℕ) × (IfSome (R.remaining reader.old) (λ given. input ≡ given)
+        × Answers pack.items input saved.items (W.contents writer.old) (W.contents writer.new))) }
+    ensures refused { IfErr result (λ fault. IfSome (R.remaining reader.old) (λ input. Refuses pack.items fault input)) }
+    ensures wrote_nothing { IfErr result (λ fault. fault ≢ File → W.contents writer.new ≡ W.contents writer.old) }
+{
     let input = match read_within(alloc, reader, INPUT_LIMIT) {
         Ok(input) => input,
         Err(ReadFault::TooLong) => return Err(SessionFault::Input),
@@ -40,7 +57,7 @@ pub fn session<R: Read, W: Write>(
     let Some(parts) = split_parts(input.as_slice()) else {
         return Err(SessionFault::Input);
     };
-    let outcome = run(alloc, pack, parts.deck1, parts.deck2, parts.script)?;
+    let outcome = run_on(alloc, pack, parts.deck1, parts.deck2, parts.script)?;
     match write_output(writer, &outcome) {
         Ok(()) => Ok(outcome.pack),
         Err(_) => Err(SessionFault::File),

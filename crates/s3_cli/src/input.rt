@@ -8,7 +8,7 @@ use std::io::Read;
 use thiserror::Error;
 
 /// The most bytes that are asked of a reader at once.
-const CHUNK: usize = 65_536;
+const CHUNK: usize = 4_096;
 
 /// Why not all of a reader's bytes were kept.
 #[derive(Clone, Copy, Debug, Error)]

@@ -9,7 +9,7 @@ mod output;
 mod packs;
 mod parts;
 
-pub use exchange::{INPUT_LIMIT, session};
+pub use exchange::{INPUT_LIMIT, session, session_on};
 pub use fault::{CliFault, SessionFault, tell};
 pub use input::{ReadFault, read_within};
 pub use packs::{list, write_table};

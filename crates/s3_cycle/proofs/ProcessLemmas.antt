@@ -1,5 +1,5 @@
 -- A record is selected and taken, and its indicators go on.
-use Rattle.std.proofs.Common.{◌≡◌, ℕ, List, [], ◌∷◌, Bool, true, false, refl, sym, ◌∙◌, ap, subst, zero, suc}
+use Rattle.std.proofs.Common.{◌≡◌, ◌+◌, ◌<◌, ℕ, List, [], ◌∷◌, length, Bool, true, false, refl, sym, ◌∙◌, ap, subst, zero, suc, arith}
 use Rattle.std.specs.Prelude.{Option, Some, None, is_some, unwrap_or, if◌then◌else◌}
 use Rattle.std.proofs.lemmas.Bool.{true≢false}
 use Rattle.s3_lines.specs.declared.indicator.Indicator.TheVariants.{LastRecord}
@@ -14,10 +14,12 @@ use Rattle.s3_operations.specs.Held.{held}
 use Rattle.s3_match.specs.declared.heads.InputFile.{InputFile}
 use Rattle.s3_match.specs.declared.heads.Standing.{Standing}
 use Rattle.s3_match.specs.declared.heads.Standing.TheVariants as at
-use Rattle.s3_match.specs.Choice.{IsHeadAt, has_head_at}
+use Rattle.s3_match.specs.Choice.{IsHeadAt, has_head_at, is_keyless_alone}
 use Rattle.s3_match.specs.Heads.{input_of, is_head_standing, standing_as}
-use Rattle.s3_match.specs.Reading.{reading_in}
+use Rattle.s3_match.specs.Reading.{AreRead, reading_in, read_from}
 use Rattle.s3_match.specs.Selecting.{selected_at}
+use Rattle.s3_match.proofs.ChoiceLemmas.{alone_stands, selects_alone}
+use Rattle.s3_match.proofs.UnreadLemmas.{none_between}
 use Rattle.s3_cycle.specs.declared.progress.Progress.{Progress}
 use Rattle.s3_cycle.specs.declared.progress.Selection.{Selection}
 use Rattle.s3_cycle.specs.declared.stepper.Stepper.{Stepper}
@@ -26,7 +28,7 @@ use Rattle.s3_cycle.specs.Inner.Environment.{environment}
 use Rattle.s3_cycle.specs.Inner.Going.{own, held_by, here, Changes, GoesOn, IsRunning, IsTaken}
 use Rattle.s3_cycle.specs.Inner.Selecting.{Takes, identified}
 use Rattle.s3_cycle.proofs.GoingLemmas.{goes_then, goes_as, goes_changed}
-use Rattle.s3_cycle.proofs.TurnLemmas.{with_reading}
+use Rattle.s3_cycle.proofs.TurnLemmas.{reads_none, with_reading}
 
 -- ---- a head can be selected
 head_there : (program : Program) (files : List InputFile) (place : ℕ) → has_head_at files place ≡ true → is_some (selected_at program files place) ≡ true
@@ -56,6 +58,23 @@ pub selects_none : (c new : Stepper) → None ≡ select (reading_in c.program c
 unfolding heads_read selected_or_last
 selects_none c new none goes =
     goes_as c new _ _ (ap (λ (o : Option Selected). selected_or_last (own c) (again (own c)) (reading_in c.program c.progress.reading) o (held_by c)) (sym none)) goes
+
+-- one file alone, with a record without match fields at its head
+one_alone : (files : List InputFile) → is_keyless_alone files ≡ true → length files ≡ 1
+one_alone [] alone = absurd (true≢false (sym alone))
+one_alone (input ∷ []) alone = refl
+one_alone (input ∷ other ∷ files) alone = absurd (true≢false (sym alone))
+
+pub reads_alone : (c new : Stepper) (place : ℕ) → IsRunning c → place < length c.progress.reading.files.items → is_keyless_alone c.progress.reading.files.items ≡ true
+    → ((selected : Selected) → selected_at c.program c.progress.reading.files.items 0 ≡ Some selected
+    → GoesOn c new (here c (λ source program progress. record_time source (again source) (is_matched (reading_in program progress.reading) selected) selected ((again source).cycle (taken (reading_in program progress.reading) selected)))))
+    → GoesOn c new (here c (λ source program progress. read_from source (again source) (inputs_in program progress) (place + 1) (heads_read source program progress)))
+reads_alone c new place running within alone goes =
+    let files = c.progress.reading.files.items in
+    let one = one_alone files alone in
+    reads_none c new (place + 1) (omega (arith, within))
+    (subst (λ (n : ℕ). AreRead (inputs_in c.program c.progress) (place + 1) n) (omega (arith, within, one)) (none_between (inputs_in c.program c.progress) (place + 1)))
+    (selects c new 0 (alone_stands files alone) (selects_alone c.program files c.progress.reading.primary_key running.reading.inputs alone) goes)
 
 -- ---- steps 6 to 8, or none of them
 abbrev pub behind_breaks : Selection → Source → Program → Progress → Rest

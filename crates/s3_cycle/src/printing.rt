@@ -64,11 +64,11 @@ impl Stepper {
             → GoesOn self.old self.new (here self.old (λ source program progress. printed source line (filled self.old.composition) (lines_from source program progress walk next))) }
     {
         let spacing = spacing(&self.program, start);
-        let place = self.state.carriage.to_print(&spacing);
-        self.move_carriage(place.after_print(&spacing));
+        let printed = self.state.carriage.print(&spacing);
+        self.move_carriage(printed.behind);
         let request = Request::Print {
-            page: place.carriage.page,
-            line: place.carriage.line,
+            page: printed.place.carriage.page,
+            line: printed.place.carriage.line,
         };
         self.wait(request, Point::Lines { walk, next });
     }

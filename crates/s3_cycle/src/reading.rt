@@ -17,6 +17,7 @@ use crate::request::Request;
 use crate::stepper::Stepper;
 use s3_lines::indicator::Indicator;
 use s3_lines::sheet::Device;
+use s3_match::choice::is_keyless_alone;
 use s3_operator::HaltCode;
 use s3_program::starts::TypeStart;
 
@@ -66,6 +67,20 @@ impl Stepper {
         match self.progress.reading.first_unread_from(from) {
             Some(place) => self.ask_head(place),
             None => self.select(),
+        }
+    }
+
+    /// Reads the files behind a place, and selects a record. The head of a file alone needs no search, if it has no match fields.
+    #[inline(always)]
+    fn read_behind(&mut self, place: usize)
+        requires running { IsRunning self.old }
+        requires within { place < length self.old.progress.reading.files.items }
+        ensures { GoesOn self.old self.new (here self.old (λ source program progress. read_from source (again source) (inputs_in program progress) (place + 1) (heads_read source program progress))) }
+    {
+        if is_keyless_alone(&self.progress.reading.files) {
+            self.process(0);
+        } else {
+            self.read_on(place + 1);
         }
     }
 
@@ -124,7 +139,7 @@ impl Stepper {
     {
         let reading = &mut self.progress.reading;
         if reading.put(&self.program, place, start, bytes) {
-            self.read_on(place + 1);
+            self.read_behind(place);
         } else {
             self.halt(HaltCode::OutOfSequence, Continuation::Head { place });
         }

@@ -38,6 +38,7 @@ impl Stepper {
     }
 
     /// Takes the head of a file.
+    #[inline(always)]
     fn take(&mut self, place: usize) -> Selection
         requires running { IsRunning self.old }
         requires head { IsHeadAt self.old.progress.reading.files.items place }
@@ -55,7 +56,8 @@ impl Stepper {
     }
 
     /// Steps 4 and 5 with the head of a file, and the steps behind them.
-    fn process(&mut self, place: usize)
+    #[inline(always)]
+    pub fn process(&mut self, place: usize)
         requires running { IsRunning self.old }
         requires head { IsHeadAt self.old.progress.reading.files.items place }
         ensures { (selected : Selected) → selected_at self.old.program self.old.progress.reading.files.items place ≡ Some selected
@@ -72,6 +74,7 @@ impl Stepper {
     }
 
     /// Step 4, the identifying indicator, and step 5, the control break.
+    #[inline(always)]
     fn identify(&mut self, selection: Selection)
         requires sound { AreSound self.old.program self.old.state }
         requires reading { IsReading self.old.program self.old.progress.reading }

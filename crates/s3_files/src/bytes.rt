@@ -1,5 +1,5 @@
 //! Bytes of a file, across the borders of its sectors.
-ghost use Rattle.std.specs.Prelude.{◌≡◌, ◌≢◌, ◌≤◌, ◌<◌, ◌+◌, ◌-◌, ◌*◌, ◌/◌, ◌%◌, ℕ, List, length, min, slice_get, Some, OnOk, OnErr, IfErr};
+ghost use Rattle.std.specs.Prelude.{◌≡◌, ◌≢◌, ◌≤◌, ◌<◌, ◌+◌, ◌-◌, ◌*◌, ◌/◌, ◌%◌, ℕ, List, length, min, slice_get, Some, OnOk, OnErr, IfErr, IsTrue};
 ghost use Rattle.std.specs.List.{Contains};
 ghost use Rattle.s3_store.specs.State.{KeepsContents};
 ghost use Rattle.s3_store.specs.State.{ChangesWithin};
@@ -10,7 +10,29 @@ ghost use Rattle.s3_files.specs.Files.{AreStored};
 use crate::file_sectors::FileSectors;
 use s3_store::{PoolFault, Sectors};
 
+/// Reads bytes that lie in sector `i` of a file, from this one of the sector on.
+#[inline(always)]
+pub fn read_in_sector<P: Sectors>(
+    pool: &mut P,
+    sectors: &FileSectors,
+    i: usize,
+    start: usize,
+    piece: &mut [u8],
+) -> Result<(), PoolFault>
+    requires stored { AreStored sectors.now (P.state pool.old).contents }
+    requires there { i < length sectors.now }
+    requires inside { start < 256 }
+    requires one { start + length piece.old ≤ 256 }
+    ensures ok { OnOk result (piece.new ≡ part (bytes_at sectors.now (P.state pool.old).contents) (256 * i + start) (length piece.old)) }
+    ensures keeps { KeepsContents (P.state pool.old) (P.state pool.new) }
+    ensures failures { (P.state pool.new).failures ≡ (P.state pool.old).failures + failed_transfers result }
+    ensures fault { IfErr result (λ e. e ≢ PoolFault.NoSector) }
+{
+    pool.read_part(sectors.sector_at(i), start, piece)
+}
+
 /// Reads bytes that lie in one sector.
+#[inline(always)]
 fn read_piece<P: Sectors>(
     pool: &mut P,
     sectors: &FileSectors,
@@ -25,10 +47,11 @@ fn read_piece<P: Sectors>(
     ensures failures { (P.state pool.new).failures ≡ (P.state pool.old).failures + failed_transfers result }
     ensures fault { IfErr result (λ e. e ≢ PoolFault.NoSector) }
 {
-    pool.read_part(sectors.sector_at(at / 256), at % 256, piece)
+    read_in_sector(pool, sectors, at / 256, at % 256, piece)
 }
 
 /// Writes bytes that lie in one sector.
+#[inline(always)]
 fn write_piece<P: Sectors>(
     pool: &mut P,
     sectors: &FileSectors,
@@ -56,8 +79,17 @@ fn in_one_sector(at: usize, left: usize) -> usize
     left.min(256 - at % 256)
 }
 
-/// Reads bytes of a file.
-pub fn read_bytes<P: Sectors>(
+/// Whether so many bytes, which are some, lie in the sector of the first.
+fn lies_in_one_sector(at: u32, count: usize) -> bool
+    ensures one { IsTrue result → at % 256 + count ≤ 256 }
+    ensures some { IsTrue result → 0 < count }
+{
+    count.wrapping_sub(1) < 256 - at as usize % 256
+}
+
+/// Reads bytes of a file, piece by piece.
+#[inline(never)]
+fn read_pieces<P: Sectors>(
     pool: &mut P,
     sectors: &FileSectors,
     at: u32,
@@ -80,8 +112,30 @@ pub fn read_bytes<P: Sectors>(
     Ok(())
 }
 
-/// Writes bytes of a file. A refused call may have written some of them.
-pub fn write_bytes<P: Sectors>(
+/// Reads bytes of a file.
+#[inline(always)]
+pub fn read_bytes<P: Sectors>(
+    pool: &mut P,
+    sectors: &FileSectors,
+    at: u32,
+    bytes: &mut [u8],
+) -> Result<(), PoolFault>
+    requires stored { AreStored sectors.now (P.state pool.old).contents }
+    requires within { at + length bytes.old ≤ 256 * length sectors.now }
+    ensures ok { OnOk result (bytes.new ≡ part (bytes_at sectors.now (P.state pool.old).contents) at (length bytes.old)) }
+    ensures keeps { KeepsContents (P.state pool.old) (P.state pool.new) }
+    ensures failures { (P.state pool.new).failures ≡ (P.state pool.old).failures + failed_transfers result }
+    ensures fault { IfErr result (λ e. e ≢ PoolFault.NoSector) }
+{
+    if lies_in_one_sector(at, bytes.len()) {
+        return read_piece(pool, sectors, at as usize, bytes);
+    }
+    read_pieces(pool, sectors, at, bytes)
+}
+
+/// Writes bytes of a file, piece by piece.
+#[inline(never)]
+fn write_pieces<P: Sectors>(
     pool: &mut P,
     sectors: &FileSectors,
     at: u32,
@@ -103,4 +157,26 @@ pub fn write_bytes<P: Sectors>(
         done += count;
     }
     Ok(())
+}
+
+/// Writes bytes of a file. A refused call may have written some of them.
+#[inline(always)]
+pub fn write_bytes<P: Sectors>(
+    pool: &mut P,
+    sectors: &FileSectors,
+    at: u32,
+    bytes: &[u8],
+) -> Result<(), PoolFault>
+    requires stored { AreStored sectors.now (P.state pool.old).contents }
+    requires within { at + length bytes.now ≤ 256 * length sectors.now }
+    ensures ok { OnOk result (part (bytes_at sectors.now (P.state pool.new).contents) at (length bytes.now) ≡ bytes.now) }
+    ensures outside { SameOutside at (length bytes.now) (bytes_at sectors.now (P.state pool.old).contents) (bytes_at sectors.now (P.state pool.new).contents) }
+    ensures within { ChangesWithin (Contains sectors.now) (P.state pool.old) (P.state pool.new) }
+    ensures failures { (P.state pool.new).failures ≡ (P.state pool.old).failures + failed_transfers result }
+    ensures fault { IfErr result (λ e. e ≢ PoolFault.NoSector) }
+{
+    if lies_in_one_sector(at, bytes.len()) {
+        return write_piece(pool, sectors, at as usize, bytes);
+    }
+    write_pieces(pool, sectors, at, bytes)
 }

@@ -10,7 +10,7 @@ mod laws;
 mod records;
 mod sequential;
 
-pub use bytes::{read_bytes, write_bytes};
+pub use bytes::{read_bytes, read_in_sector, write_bytes};
 pub use direct::Direct;
 pub use fault::FileFault;
 pub use file_sectors::FileSectors;

@@ -1,6 +1,7 @@
 mod Appending
 mod CallLemmas
 mod Checked
+mod Few
 mod Goodness
 mod Highest
 mod InMemory

@@ -7,11 +7,12 @@ ghost use Rattle.s3_keyed.specs.KeyOrder.{number_of, is_good_index, IsAscending}
 ghost use Rattle.s3_keyed.specs.Index.{index_in};
 ghost use Rattle.s3_keyed.specs.Inner.Shape.{layout_in, bytes_in, keys_on, entry_here};
 
+use crate::guide::Guide;
 use crate::index_sector::{
     entries_per_sector, is_entry_above, key_number, key_of_entry, read_sector,
 };
 use crate::indexed::IndexedFile;
-use crate::keys::{Key, QuickKey};
+use crate::keys::Key;
 use crate::record_sector::RecordSector;
 use s3_store::{PoolFault, Sectors};
 
@@ -73,11 +74,11 @@ fn follows(place: u32, sector: &[u8; 256], key_length: usize, last: &Key) -> boo
     place == 0 || is_entry_above(sector, 0, key_length, last)
 }
 
-/// Whether the index is good for the records, in one pass over its sectors. The first key of each is put behind `firsts`.
+/// Whether the index is good for the records, in one pass over its sectors. Keys of each are noted in `guide`.
 pub fn is_good<P: Sectors>(
     file: &IndexedFile,
     pool: &mut P,
-    firsts: &mut Vec<QuickKey>,
+    guide: &mut Guide,
 ) -> Result<bool, PoolFault>
     requires stored { AreStored file.now.file.sectors (P.state pool.old).contents }
     ensures good { IfOk result (λ good. is_good_index (index_in (layout_in file.now) file.now.file.count (bytes_in file.now (P.state pool.old).contents)) (keys_on file.now (P.state pool.old).contents) ≡ good) }
@@ -107,8 +108,7 @@ pub fn is_good<P: Sectors>(
         if !records.have_keys(file, pool, &sector, entries)? {
             return Ok(false);
         }
-        let first = key_of_entry(&sector, 0, key_length);
-        firsts.push(QuickKey::of(&first, file.key_length))?;
+        guide.note(&sector, entries, file.key_length, place * per_sector)?;
         last = key_of_entry(&sector, entries - 1, key_length);
     }
     Ok(true)

@@ -9,7 +9,7 @@ ghost use Rattle.s3_keyed.specs.KeyOrder.{number_of};
 ghost use Rattle.s3_keyed.specs.Index.{entry_place, entry_at, key_of};
 ghost use Rattle.s3_keyed.specs.Inner.Shape.{layout_in, bytes_in, entry_of};
 
-use crate::index_sector::are_same_first;
+use crate::index_sector::{are_same_first, have_same_first};
 use crate::indexed::{IndexEntry, IndexedFile};
 use crate::keys::Key;
 use byteorder::{BigEndian, ByteOrder};
@@ -31,8 +31,7 @@ pub fn place_of(file: &IndexedFile, i: u32) -> u32
     ensures within { result + (file.now.key_length + 4) ≤ 256 * length file.now.file.sectors }
 {
     let width = u32::from(file.key_length) + 4;
-    let per_sector = 256 / width;
-    256 * (sectors_before(file) + i / per_sector) + i % per_sector * width
+    256 * (sectors_before(file) + i / file.per_sector) + i % file.per_sector * width
 }
 
 /// Reads an entry of the index.
@@ -131,5 +130,5 @@ pub fn have_same_key(file: &IndexedFile, one: &[u8], other: &[u8]) -> bool
 {
     let key_length = usize::from(file.key_length);
     let start = usize::from(file.key_start - 1);
-    are_same_first(&one[start..], &other[start..], key_length)
+    have_same_first(&one[start..], &other[start..], key_length)
 }

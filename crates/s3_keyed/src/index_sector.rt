@@ -22,7 +22,7 @@ pub fn entries_per_sector(file: &IndexedFile) -> u32
     ensures result { result ≡ entries_of file.now.key_length }
     ensures some { 0 < result }
 {
-    256 / (u32::from(file.key_length) + 4)
+    file.per_sector
 }
 
 /// Reads a sector of the index, from 0.
@@ -184,6 +184,20 @@ pub fn are_same_first(one: &[u8], other: &[u8], count: usize) -> bool
     ensures { result ≡ (number_of (take count one.now) == number_of (take count other.now)) }
 {
     compare_first(other, one, count) == Ordering::Equal
+}
+
+/// The same, by numbers where eight bytes are there and the first four to eight of them count.
+pub fn have_same_first(one: &[u8], other: &[u8], count: usize) -> bool
+    requires one { count ≤ length one.now }
+    requires other { count ≤ length other.now }
+    ensures { result ≡ (number_of (take count one.now) == number_of (take count other.now)) }
+{
+    match count {
+        4..=8 if one.len() >= 8 && other.len() >= 8 => {
+            number_at(one, count) == number_at(other, count)
+        }
+        _ => are_same_first(one, other, count),
+    }
 }
 
 /// Whether the key of entry `j` of a sector, which has so many bytes, is the one at the start of these.

@@ -1,6 +1,6 @@
 //! A file of records with an index behind them.
 ghost use Rattle.std.specs.Prelude.{◌≡◌, ◌≤◌, ◌<◌, ◌+◌, ◌*◌, ◌^◌, length};
-ghost use Rattle.s3_slots.specs.Slots.{record_sectors, index_sectors};
+ghost use Rattle.s3_slots.specs.Slots.{entries_per_sector, record_sectors, index_sectors};
 
 use crate::keys::Key;
 use s3_files::Sequential;
@@ -15,11 +15,14 @@ pub struct IndexedFile {
     pub key_start: u16,
     /// How many bytes the key has, 1 to 29.
     pub key_length: u8,
+    /// How many entries lie in a sector of the index.
+    pub per_sector: u32,
     ghost some_key: { 1 ≤ key_length },
     ghost short_key: { key_length ≤ 29 },
     ghost some_start: { 1 ≤ key_start },
     ghost key_inside: { key_start + key_length ≤ file.record_length + 1 },
     ghost index_fits: { record_sectors file.capacity file.record_length + index_sectors file.capacity key_length ≤ length file.sectors },
+    ghost whole_entries: { per_sector ≡ entries_per_sector key_length },
     ghost small: { 256 * length file.sectors < 2 ^ 31 },
 }
 
@@ -41,6 +44,7 @@ impl IndexedFile {
             file: Sequential::of(label),
             key_start: label.key_start,
             key_length: label.key_length,
+            per_sector: 256 / (u32::from(label.key_length) + 4),
         }
     }
 }

@@ -1,5 +1,5 @@
 //! A file with keys that is open.
-ghost use Rattle.std.specs.Prelude.{◌≡◌, ◌≢◌, ◌≤◌, ◌<◌, ◌+◌, ◌-◌, ◌*◌, ◌^◌, ◌/◌, [], ◌∷◌, ◌++◌, ℕ, true, nat_lt, Ok, Err, None, Some, length, slice_get, take, OnOk, OnErr, IfOk, IfErr, IsErrOf, IsTrue, ◌↔◌};
+ghost use Rattle.std.specs.Prelude.{◌≡◌, ◌≢◌, ◌≤◌, ◌<◌, ◌+◌, ◌-◌, ◌*◌, ◌^◌, ◌/◌, [], ◌∷◌, ◌++◌, ℕ, true, nat_lt, Ok, Err, None, Some, length, slice_get, take, OnOk, OnErr, IfOk, IfErr, IfSome, IsErrOf, IsTrue, ◌↔◌};
 ghost use Rattle.std.specs.List.{Contains, list_all};
 ghost use Rattle.s3_store.specs.State.{KeepsContents, ChangesWithin};
 ghost use Rattle.s3_store.specs.Failures.{failed_transfers};
@@ -15,9 +15,10 @@ use crate::check::is_good;
 use crate::close::merge;
 use crate::entries::{has_key_of, have_same_key, read_number};
 use crate::fault::KeyedFault;
+use crate::guide::Guide;
 use crate::indexed::{IndexEntry, IndexedFile};
-use crate::keys::{Key, QuickKey};
-use crate::search::{guess_of, is_above_index, search_index};
+use crate::keys::{Key, short_number_of};
+use crate::search::{is_above_index, search_from, search_index};
 use crate::write::{read_record, write_entry, write_record};
 use s3_slots::FileLabel;
 use s3_store::{PoolFault, Sectors};
@@ -34,8 +35,8 @@ pub struct Keyed {
     pub(crate) count: u32,
     /// The entries of the others, in the order of their keys.
     pub(crate) added: Vec<IndexEntry>,
-    /// The first key in each sector of the index as it was checked. A search begins by them, but doesn't rely on them.
-    pub(crate) firsts: Vec<QuickKey>,
+    /// Keys of the index as it was checked. A search begins by them, but doesn't rely on them.
+    pub(crate) guide: Guide,
     ghost counted: { count ≤ file.file.capacity },
 }
 
@@ -74,8 +75,8 @@ impl Keyed {
         ensures keeps { KeepsContents (P.state pool.old) (P.state pool.new) }
         ensures failures { (P.state pool.new).failures ≡ (P.state pool.old).failures + failed_keyed_transfers result }
     {
-        let mut firsts = Vec::new(alloc);
-        if !is_good(&file, pool, &mut firsts)? {
+        let mut guide = Guide::new(alloc);
+        if !is_good(&file, pool, &mut guide)? {
             return Err(KeyedFault::BadIndex);
         }
         let count = file.file.count;
@@ -84,7 +85,7 @@ impl Keyed {
             indexed: count,
             count,
             added: Vec::new(alloc),
-            firsts,
+            guide,
         })
     }
 
@@ -176,12 +177,14 @@ impl Keyed {
         Key::of(&bytes[start..start + usize::from(self.file.key_length)])
     }
 
-    /// Where the search for a key begins: the sector of the index that the first keys name.
+    /// Where the search for a key begins: the sector of the index that the keys in memory name.
     fn guess(&self, key: &Key) -> u32 {
-        guess_of(&self.firsts, key, self.file.key_length)
+        self.guide
+            .sector_of(key, self.file.key_length, self.file.per_sector)
     }
 
     /// The place of the record with a key, from 0. The index is looked into, and then the added entries.
+    #[inline(never)]
     pub(crate) fn place<P: Sectors>(
         &self,
         pool: &mut P,
@@ -205,6 +208,30 @@ impl Keyed {
         Ok(None)
     }
 
+    /// The place of the record with the key in these bytes, from 0, where they are four to eight and it stood at the check: no more of
+    /// the index is read than a few entries.
+    #[inline(never)]
+    fn quick_place<P: Sectors>(&self, pool: &mut P, key: &[u8]) -> Result<Option<u32>, PoolFault>
+        requires stored { AreStored (shown self.now).sectors (P.state pool.old).contents }
+        requires ordered { HasKeyOrder (shown self.now) (P.state pool.old).contents }
+        requires long { length key.now ≡ (shown self.now).layout.key.length }
+        ensures place { IfOk result (λ place. IfSome place (λ place. place_of_key (number_of key.now) (keys_now (shown self.now) (P.state pool.old).contents) ≡ Some place)) }
+        ensures keeps { KeepsContents (P.state pool.old) (P.state pool.new) }
+        ensures failures { (P.state pool.new).failures ≡ (P.state pool.old).failures + failed_transfers result }
+        ensures fault { IfErr result (λ fault. fault ≢ PoolFault.NoSector) }
+    {
+        let Some(key) = short_number_of(key) else {
+            return Ok(None);
+        };
+        let Some(first) = self.guide.entry_up_to(key) else {
+            return Ok(None);
+        };
+        match search_from(&self.file, pool, self.indexed, key, first)? {
+            Some(number) => Ok(Some(number - 1)),
+            None => Ok(None),
+        }
+    }
+
     /// The place of the record with the key in these bytes, from 0. Refused with `NoKey` where no record has it.
     pub fn find<P: Sectors>(&self, pool: &mut P, key: &[u8]) -> Result<u32, KeyedFault>
         requires stored { AreStored (shown self.now).sectors (P.state pool.old).contents }
@@ -214,6 +241,9 @@ impl Keyed {
         ensures keeps { KeepsContents (P.state pool.old) (P.state pool.new) }
         ensures failures { (P.state pool.new).failures ≡ (P.state pool.old).failures + failed_keyed_transfers result }
     {
+        if let Some(place) = self.quick_place(pool, key)? {
+            return Ok(place);
+        }
         match self.place(pool, &Key::of(key))? {
             Some(place) => Ok(place),
             None => Err(KeyedFault::NoKey),
@@ -304,7 +334,7 @@ impl Keyed {
             indexed,
             count: _,
             mut added,
-            firsts: _,
+            guide: _,
         } = self;
         merge(&file, pool, indexed, &mut added)?;
         Ok(())

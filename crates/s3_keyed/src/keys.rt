@@ -1,5 +1,5 @@
 //! Keys of records.
-ghost use Rattle.std.specs.Prelude.{◌≡◌, ◌≤◌, ◌<◌, ◌^◌, ℕ, length, slice_index, take, drop, nat_lt, ◌==◌};
+ghost use Rattle.std.specs.Prelude.{◌≡◌, ◌≤◌, ◌<◌, ◌^◌, ℕ, length, slice_index, take, drop, nat_lt, ◌==◌, IfSome};
 ghost use Rattle.std.specs.Ordering.{nat_cmp, ordering_then};
 ghost use Rattle.s3_keyed.specs.KeyOrder.{number_of};
 
@@ -67,6 +67,21 @@ impl Key {
     }
 }
 
+/// The number whose bytes are these, where they are four to eight: it is put together of the first four and the last four.
+pub fn short_number_of(key: &[u8]) -> Option<u64>
+    ensures number { IfSome result (λ number. number ≡ number_of key.now) }
+    ensures long { IfSome result (λ _. 4 ≤ length key.now) }
+    ensures short { IfSome result (λ _. length key.now ≤ 8) }
+{
+    let length = key.len();
+    if !(4..=8).contains(&length) {
+        return None;
+    }
+    let first = u64::from(BigEndian::read_u32(key));
+    let last = u64::from(BigEndian::read_u32(&key[length - 4..]));
+    Some((first >> (8 * (8 - length)) << 32) + last)
+}
+
 /// A key as a number.
 #[derive(Clone, Copy)]
 struct KeyNumber {
@@ -104,12 +119,12 @@ impl QuickKey {
         }
     }
 
-    /// Whether it isn't above another one, where both have at most eight bytes: their heads are all of them.
-    pub fn is_short_up_to(&self, other: &QuickKey) -> bool {
-        self.head <= other.head
+    /// Its first eight bytes, or all of a shorter key.
+    pub fn head(&self) -> u64 {
+        self.head
     }
 
-    /// The same of keys of any length.
+    /// Whether it isn't above another one.
     pub fn is_up_to(&self, other: &QuickKey) -> bool {
         self.head < other.head || self.head == other.head && !self.key.is_above(&other.key)
     }

@@ -7,6 +7,7 @@ mod check;
 mod close;
 mod entries;
 mod fault;
+mod guide;
 mod index_sector;
 mod indexed;
 mod keyed;

@@ -1,5 +1,5 @@
 //! An entry found by its key.
-ghost use Rattle.std.specs.Prelude.{◌≡◌, ◌≢◌, ◌≤◌, ◌<◌, ◌+◌, ◌^◌, ℕ, true, nat_lt, IfOk, IfErr, IsTrue, MatchOption};
+ghost use Rattle.std.specs.Prelude.{◌≡◌, ◌≢◌, ◌≤◌, ◌<◌, ◌+◌, ◌^◌, ℕ, true, nat_lt, IfOk, IfErr, IfSome, MatchOption};
 ghost use Rattle.std.specs.List.{list_all};
 ghost use Rattle.s3_store.specs.State.{KeepsContents};
 ghost use Rattle.s3_store.specs.Failures.{failed_transfers};
@@ -8,22 +8,49 @@ ghost use Rattle.s3_keyed.specs.KeyOrder.{number_of, ascends, keys_in, IsAscendi
 ghost use Rattle.s3_keyed.specs.Index.{entry_at, index_in};
 ghost use Rattle.s3_keyed.specs.Inner.Shape.{layout_in, bytes_in};
 
-use crate::entries::read_entry;
+use crate::entries::{read_entry, sectors_before};
+use crate::guide::STEP;
 use crate::index_sector::{entries_per_sector, read_sector};
 use crate::indexed::IndexedFile;
-use crate::keys::{Key, QuickKey};
-use crate::sector_search::{Standing, find_entry};
+use crate::keys::Key;
+use crate::sector_search::{Standing, find_entry, number_with};
+use s3_files::read_in_sector;
 use s3_store::{PoolFault, Sectors};
 
-/// The sector of the index that a key of so many bytes lies in by the first keys of all sectors.
-pub fn guess_of(firsts: &[QuickKey], key: &Key, key_length: u8) -> u32 {
-    let key = QuickKey::of(key, key_length);
-    let sectors = if key_length <= 8 {
-        firsts.partition_point(|first| first.is_short_up_to(&key))
-    } else {
-        firsts.partition_point(|first| first.is_up_to(&key))
-    };
-    u32::try_from(sectors.saturating_sub(1)).unwrap_or(0)
+/// The most bytes of the entries that are read at once, where keys have four to eight bytes.
+const STEP_BYTES: usize = 48;
+
+/// The number of the record with a key of four to eight bytes among the first so many entries of the index, where this entry has it or
+/// one of the few behind it.
+pub fn search_from<P: Sectors>(
+    file: &IndexedFile,
+    pool: &mut P,
+    entries: u32,
+    key: u64,
+    first: u32,
+) -> Result<Option<u32>, PoolFault>
+    requires stored { AreStored file.now.file.sectors (P.state pool.old).contents }
+    requires few { entries ≤ file.now.file.capacity }
+    requires long { 4 ≤ file.now.key_length }
+    requires short { file.now.key_length ≤ 8 }
+    ensures found { IfOk result (λ found. IfSome found (λ number. (i : ℕ) × (i < entries) × (entry_at (layout_in file.now) (bytes_in file.now (P.state pool.old).contents) i ≡ record { key = key; number = number }))) }
+    ensures keeps { KeepsContents (P.state pool.old) (P.state pool.new) }
+    ensures failures { (P.state pool.new).failures ≡ (P.state pool.old).failures + failed_transfers result }
+    ensures fault { IfErr result (λ fault. fault ≢ PoolFault.NoSector) }
+{
+    if first >= entries {
+        return Ok(None);
+    }
+    let per_sector = entries_per_sector(file);
+    let key_length = usize::from(file.key_length);
+    let (place, row) = (first / per_sector, first % per_sector);
+    let count = STEP.min(per_sector - row).min(entries - first) as usize;
+    let sector = (sectors_before(file) + place) as usize;
+    let start = row as usize * (key_length + 4);
+    let mut room = [0; STEP_BYTES];
+    let bytes = &mut room[..count * (key_length + 4)];
+    read_in_sector(pool, &file.file.sectors, sector, start, bytes)?;
+    Ok(number_with(bytes, count, key_length, key))
 }
 
 /// Which sector is looked into next, of those from `low` up to but without `high`: the guessed one, then the one behind it, and

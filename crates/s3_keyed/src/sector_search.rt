@@ -1,11 +1,12 @@
 //! Where a key lies among the entries of one sector of an index.
-ghost use Rattle.std.specs.Prelude.{◌≤◌, ◌<◌, ◌+◌, ◌/◌, ◌^◌, ℕ};
+ghost use Rattle.std.specs.Prelude.{◌≡◌, ◌≤◌, ◌<◌, ◌+◌, ◌*◌, ◌/◌, ◌^◌, ℕ, length, IfSome};
 ghost use Rattle.s3_keyed.specs.KeyOrder.{number_of, IsAscending};
 ghost use Rattle.s3_keyed.specs.Inner.Shape.{entry_here};
 ghost use Rattle.s3_keyed.specs.Inner.Sought.{StandsAs};
 
-use crate::index_sector::{is_entry_below, is_key_of, key_number, number_in};
+use crate::index_sector::{is_entry_below, is_key_of, key_number, number_at, number_in};
 use crate::keys::Key;
+use byteorder::{BigEndian, ByteOrder};
 
 /// Where a key lies as to the entries of a sector.
 #[derive(Clone, Copy)]
@@ -100,4 +101,21 @@ pub fn find_entry(sector: &[u8; 256], entries: usize, key_length: usize, key: &K
         return Standing::Before;
     }
     Standing::Within(None)
+}
+
+/// The number in the one of these so many entries that has a key of four to eight bytes, if one has it.
+pub fn number_with(bytes: &[u8], count: usize, key_length: usize, key: u64) -> Option<u32>
+    requires long { 4 ≤ key_length }
+    requires short { key_length ≤ 8 }
+    requires whole { length bytes.now ≡ count * (key_length + 4) }
+    ensures { IfSome result (λ number. (j : ℕ) × (j < count) × (entry_here key_length bytes.now j ≡ record { key = key; number = number })) }
+{
+    let width = key_length + 4;
+    for j in 0..count {
+        let entry = &bytes[j * width..j * width + width];
+        if number_at(entry, key_length) == key {
+            return Some(BigEndian::read_u32(&entry[key_length..]));
+        }
+    }
+    None
 }

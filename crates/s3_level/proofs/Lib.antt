@@ -17,3 +17,4 @@ pub mod Draining
 pub mod OfLines
 pub mod Requests
 pub mod Files
+pub mod Repeating

@@ -354,6 +354,34 @@ impl OpenJob {
             let mut room = [0; SHORT_RECORD as usize];
             return self.read_into(pack, file, &mut room[..length as usize]);
         }
+        self.read_long(pack, file, length)
+    }
+
+    /// Serves the pending request, one for a long record of a file. It stands apart, so that the room isn't made ready for others.
+    #[inline(never)]
+    fn read_long<P: Sectors>(
+        &mut self,
+        pack: &mut Pack<P>,
+        file: usize,
+        length: u16,
+    ) -> Result<bool, PoolFault>
+        requires asks { IsForFile file (asked self.old.cycle) }
+        requires long { IsForRecord length (asked self.old.cycle) }
+        requires few { length ≤ 1024 }
+        requires fits { FitsFile (files self.old.cycle) (asked self.old.cycle) (put self.old.cycle) }
+        requires ready { AreFilesReady self.old.files.level self.old.files.files.items (seen pack.old.areas (P.state pack.old.pool).contents) }
+        requires job { IsJobReady self.old.files.level self.old }
+        ensures serves { IfOk result (λ served. ServesFile served self.old self.new (seen pack.old.areas (P.state pack.old.pool).contents) (seen pack.new.areas (P.state pack.new.pool).contents)) }
+        ensures fails { OnErr result (HasFile self.old (seen pack.old.areas (P.state pack.old.pool).contents)) }
+        ensures ready { OnOk result (AreFilesReady self.new.files.level self.new.files.files.items (seen pack.new.areas (P.state pack.new.pool).contents)) }
+        ensures job { IsJobReady self.new.files.level self.new }
+        ensures place { KeepsPlace self.old self.new }
+        ensures others { KeepsOthers self.old.files.level pack.old.areas pack.new.areas (P.state pack.old.pool) (P.state pack.new.pool) }
+        ensures untouched { IfOk result (λ served. served ≡ false → IsUntouched pack.old.areas pack.new.areas (P.state pack.old.pool) (P.state pack.new.pool)) }
+        ensures failures { (P.state pack.new.pool).failures ≡ (P.state pack.old.pool).failures + failed_transfers result }
+        ensures says { OnOk result (KeepsSaid self.old.files.level pack.old.areas (P.state pack.old.pool).contents pack.new.areas (P.state pack.new.pool).contents) }
+        ensures fault { IfErr result (λ fault. fault ≢ PoolFault.NoSector) }
+    {
         let mut room = [0; LONGEST_RECORD];
         self.read_into(pack, file, &mut room[..length as usize])
     }

@@ -106,10 +106,10 @@ impl Level {
         Ok(self.turns(NonZeroU16::MIN, pack, spool)?.did)
     }
 
-    /// Turns, so many at most and one at least, each with this answer: several only where they pass jumps.
+    /// Turns, so many at most and one at least, each with this answer: they go on as long as they act.
     ///
     /// What is said of `turn` is said of them.
-    #[inline(always)]
+    #[inline(never)]
     pub fn turns<P: Sectors>(
         &mut self,
         most: NonZeroU16,
@@ -130,7 +130,19 @@ impl Level {
         ensures fault { IfErr result (λ fault. fault ≢ PoolFault.NoSector) }
         ensures stays { Stays self.old self.new }
     {
-        self.step(most, pack, spool)
+        let all = most.get();
+        let mut left = all;
+        while let Some(most) = NonZeroU16::new(left) {
+            let taken = self.step(most, pack, spool)?;
+            match taken.did {
+                Did::Acted => left -= taken.times,
+                _ => return Ok(taken.behind(all - left)),
+            }
+        }
+        Ok(Taken {
+            did: Did::Acted,
+            times: all,
+        })
     }
 
     /// Answers the halt that waits with a digit, and a job at work goes on with it to its next request: refused with 1 where

@@ -1,11 +1,10 @@
 //! Requests of the job at work: cards, lines and records.
 
 use crate::level::Level;
-use s3_cards::PrintLine;
 use s3_cycle::Answer;
 use s3_labels::Pack;
 use s3_solo::Did;
-use s3_spool::{Spool, SpoolFault};
+use s3_spool::{ComposedLine, Spool, SpoolFault};
 use s3_store::{PoolFault, Sectors};
 
 impl Level {
@@ -153,8 +152,8 @@ impl Level {
         let Some(job) = &self.job else {
             return Ok(());
         };
-        let printed = PrintLine::with_text(page, line, job.cycle.record());
-        match spool.put(self.id, &printed, &mut pack.pool) {
+        let composed = ComposedLine::new(page, line, job.cycle.record());
+        match spool.put_composed(self.id, &composed, &mut pack.pool) {
             Ok(()) => Ok(()),
             Err(SpoolFault::Sectors(fault)) => Err(fault),
             Err(SpoolFault::QuotaFull) => unreachable!(),

@@ -1,5 +1,6 @@
 //! Entries that are taken at once.
-ghost use Rattle.std.specs.Prelude.{◌≡◌};
+ghost use Rattle.std.specs.Prelude.{◌≡◌, ◌≤◌};
+ghost use Rattle.s3_solo.specs.declared.action.Did.TheVariants.{Acted};
 ghost use Rattle.s3_level.specs.Holds.{once as once_spec};
 
 use s3_solo::Did;
@@ -15,6 +16,20 @@ pub struct Taken {
 }
 
 impl Taken {
+    /// These entries, or those alone that acted before them, if there are any.
+    pub fn behind(self, acted: u16) -> Taken
+        ensures none { acted ≡ 0 → result ≡ self }
+        ensures some { 1 ≤ acted → result ≡ record { did = Acted; times = acted } }
+    {
+        if acted == 0 {
+            return self;
+        }
+        Taken {
+            did: Did::Acted,
+            times: acted,
+        }
+    }
+
     /// One entry with this answer.
     #[inline(always)]
     pub fn once(answer: Result<Did, PoolFault>) -> Result<Taken, PoolFault>

@@ -14,7 +14,7 @@ use Rattle.s3_program.specs.declared.mark.Key.TheVariants as key
 use Rattle.s3_program.specs.declared.program.Program.{Program}
 use Rattle.s3_program.specs.declared.program.Reference.{Reference}
 use Rattle.s3_program.specs.declared.starts.TypeStart.{TypeStart}
-use Rattle.s3_match.specs.declared.keys.RecordKey.{RecordKey}
+use Rattle.s3_match.specs.declared.held.HeldField.{HeldField}
 use Rattle.s3_match.specs.Types.{is_type_start, kind_at}
 use Rattle.s3_match.specs.Fields.{is_own, has_level, field_on, begins_group, first_field}
 use Rattle.s3_match.specs.Controls.{held_in, breaks_at, break_of}
@@ -57,17 +57,17 @@ off_level : (indicator : Indicator) (n m : ℕ) (line : InputLine Reference) (fi
 off_level indicator n m line field on at other = on_level indicator n m line field on at ∙ ap (λ (b : Bool). if b then Some field else None) other
 
 -- nothing changes at a line without a control field
-pub passes_blank : (indicator : Indicator) (line : InputLine Reference) (bytes : List ℕ) (held : List RecordKey) (seen : List Bool) (broken : ℕ) → None ≡ field_on indicator key.Control None line
+pub passes_blank : (indicator : Indicator) (line : InputLine Reference) (bytes : List ℕ) (held : List HeldField) (seen : List Bool) (broken : ℕ) → None ≡ field_on indicator key.Control None line
     → HoldsLine indicator line bytes held held seen seen broken broken
 passes_blank indicator line bytes held seen broken none = inl (record { kept = λ n. refl; noted = λ n. refl; unbroken = refl; none = λ n one nine unseen. no_field indicator n line none })
 
-pub passes_unlevelled : (indicator : Indicator) (line : InputLine Reference) (bytes : List ℕ) (held : List RecordKey) (seen : List Bool) (broken : ℕ) (field : FieldLine Reference) → Some field ≡ field_on indicator key.Control None line
+pub passes_unlevelled : (indicator : Indicator) (line : InputLine Reference) (bytes : List ℕ) (held : List HeldField) (seen : List Bool) (broken : ℕ) (field : FieldLine Reference) → Some field ≡ field_on indicator key.Control None line
     → field.control_level ≡ None → HoldsLine indicator line bytes held held seen seen broken broken
 passes_unlevelled indicator line bytes held seen broken field on at =
     inl (record { kept = λ n. refl; noted = λ n. refl; unbroken = refl; none = λ n one nine unseen. no_level indicator n line field on at })
 
 -- at one whose level is out of range
-pub passes_beyond : (indicator : Indicator) (line : InputLine Reference) (bytes : List ℕ) (held : List RecordKey) (seen : List Bool) (broken : ℕ) (field : FieldLine Reference) (m : ℕ) (b : Bool) → Some field ≡ field_on indicator key.Control None line
+pub passes_beyond : (indicator : Indicator) (line : InputLine Reference) (bytes : List ℕ) (held : List HeldField) (seen : List Bool) (broken : ℕ) (field : FieldLine Reference) (m : ℕ) (b : Bool) → Some field ≡ field_on indicator key.Control None line
     → field.control_level ≡ Some m → b ≡ is_between 1 9 m → b ≡ false → HoldsLine indicator line bytes held held seen seen broken broken
 passes_beyond indicator line bytes held seen broken field m b on at e off = inl (record {
   kept = λ n. refl;
@@ -77,7 +77,7 @@ passes_beyond indicator line bytes held seen broken field m b on at e off = inl 
 })
 
 -- and at one whose level was seen
-pub passes_seen : (indicator : Indicator) (line : InputLine Reference) (bytes : List ℕ) (held : List RecordKey) (seen after : List Bool) (broken : ℕ) (field : FieldLine Reference) (m : ℕ) (before : Bool) → Some field ≡ field_on indicator key.Control None line
+pub passes_seen : (indicator : Indicator) (line : InputLine Reference) (bytes : List ℕ) (held : List HeldField) (seen after : List Bool) (broken : ℕ) (field : FieldLine Reference) (m : ℕ) (before : Bool) → Some field ≡ field_on indicator key.Control None line
     → field.control_level ≡ Some m → before ≡ seen_in seen m → before ≡ true → ((n : ℕ) → seen_in after n ≡ (if n == m then true else seen_in seen n)) → HoldsLine indicator line bytes held held seen after broken broken
 passes_seen indicator line bytes held seen after broken field m before on at e is step = inl (record {
   kept = λ n. refl;
@@ -95,7 +95,7 @@ passes_seen indicator line bytes held seen after broken field m before on at e i
     elsewhere n unseen false same = same
 
 -- a field whose level was not seen yet
-pub takes : (indicator : Indicator) (line : InputLine Reference) (bytes : List ℕ) (old new : List RecordKey) (seen after : List Bool) (broken : ℕ) (field : FieldLine Reference) (m level : ℕ) (before other : Bool) → Some field ≡ field_on indicator key.Control None line
+pub takes : (indicator : Indicator) (line : InputLine Reference) (bytes : List ℕ) (old new : List HeldField) (seen after : List Bool) (broken : ℕ) (field : FieldLine Reference) (m level : ℕ) (before other : Bool) → Some field ≡ field_on indicator key.Control None line
     → field.control_level ≡ Some m → 1 ≤ m → m ≤ 9 → before ≡ seen_in seen m → before ≡ false → ((n : ℕ) → seen_in after n ≡ (if n == m then true else seen_in seen n))
     → ((n : ℕ) → held_in new n ≡ (if n == m then Some (compared_on bytes field) else held_in old n)) → other ≡ not (same_key (Some (compared_on bytes field)) (held_in old m)) → level ≡ (if other && nat_lt broken m then m else broken)
     → HoldsLine indicator line bytes old new seen after broken level
@@ -230,7 +230,7 @@ unseen_yet (suc (suc (suc (suc (suc (suc (suc (suc zero)))))))) = refl
 unseen_yet (suc (suc (suc (suc (suc (suc (suc (suc (suc zero))))))))) = refl
 unseen_yet (suc (suc (suc (suc (suc (suc (suc (suc (suc (suc n)))))))))) = refl
 
-pub held_at_first : (indicator : Indicator) (inputs : List (InputLine Reference)) (bytes : List ℕ) (from : ℕ) (old : List RecordKey) (seen : List Bool) → seen ≡ replicate 9 false → AreHeldTo indicator inputs bytes from old old seen 0 from
+pub held_at_first : (indicator : Indicator) (inputs : List (InputLine Reference)) (bytes : List ℕ) (from : ℕ) (old : List HeldField) (seen : List Bool) → seen ≡ replicate 9 false → AreHeldTo indicator inputs bytes from old old seen 0 from
 held_at_first indicator inputs bytes from old seen none = record {
   fields = λ n. None;
   found = λ n one nine. refl;
@@ -248,7 +248,7 @@ none_there : {X : Type 0} (o : Option X) → is_some o ≡ false → o ≡ None
 none_there None off = refl
 none_there (Some x) off = absurd (true≢false off)
 
-pub held_more : (indicator : Indicator) (inputs : List (InputLine Reference)) (bytes : List ℕ) (from k : ℕ) (d : InputLine Reference) (begins : Bool) (old mid new : List RecordKey) (seen after : List Bool) (broken level : ℕ) → k < length inputs
+pub held_more : (indicator : Indicator) (inputs : List (InputLine Reference)) (bytes : List ℕ) (from k : ℕ) (d : InputLine Reference) (begins : Bool) (old mid new : List HeldField) (seen after : List Bool) (broken level : ℕ) → k < length inputs
     → begins ≡ begins_group (get_or inputs k d) → begins ≡ false → HoldsLine indicator (get_or inputs k d) bytes mid new seen after broken level
     → AreHeldTo indicator inputs bytes from old mid seen broken k → AreHeldTo indicator inputs bytes from old new after level (k + 1)
 held_more indicator inputs bytes from k d begins old mid new seen after broken level within e off (inl passes) before =
@@ -332,14 +332,14 @@ value_of program start indicator bytes fields is e found n one nine =
     ∙ compared_named program bytes (first_field indicator key.Control (Some n) (drop start.fields program.inputs.items))
     ∙ ap (option_map (compared_field bytes)) (field_is program start key.Control (Some n) indicator is e ∙ control_is program start n)
 
-broken_as_found : (program : Program) (start : TypeStart) (indicator : Indicator) (bytes : List ℕ) (old new : List RecordKey) (seen : List Bool) (level place : ℕ) → is_type_start program start ≡ true → indicator ≡ (kind_at program start).indicator
+broken_as_found : (program : Program) (start : TypeStart) (indicator : Indicator) (bytes : List ℕ) (old new : List HeldField) (seen : List Bool) (level place : ℕ) → is_type_start program start ≡ true → indicator ≡ (kind_at program start).indicator
     → (held : AreHeldTo indicator program.inputs.items bytes start.fields old new seen level place) → AreFound indicator program.inputs.items start.fields held.fields → level ≡ break_of (held_in old) (kind_at program start) bytes
 broken_as_found program start indicator bytes old new seen level place is e held found =
     greatest_found (breaks_at (held_in old) (kind_at program start) bytes) level
     (greatest_same (breaks_by bytes held.fields old) (breaks_at (held_in old) (kind_at program start) bytes) level
     (λ n one nine. ap (λ (o : Option (List ℕ)). is_some o && not (same_key o (held_in old n))) (sym (value_of program start indicator bytes held.fields is e found n one nine))) held.breaks)
 
-held_as_found : (program : Program) (start : TypeStart) (indicator : Indicator) (bytes : List ℕ) (old new : List RecordKey) (seen : List Bool) (level place : ℕ) → is_type_start program start ≡ true → indicator ≡ (kind_at program start).indicator
+held_as_found : (program : Program) (start : TypeStart) (indicator : Indicator) (bytes : List ℕ) (old new : List HeldField) (seen : List Bool) (level place : ℕ) → is_type_start program start ≡ true → indicator ≡ (kind_at program start).indicator
     → (held : AreHeldTo indicator program.inputs.items bytes start.fields old new seen level place) → AreFound indicator program.inputs.items start.fields held.fields
     → (n : ℕ) → held_in new n ≡ option_or (control_value (kind_at program start) bytes n) (held_in old n)
 held_as_found program start indicator bytes old new seen level place is e held found n = by (nat_le 1 n) (nat_le n 9) refl refl
@@ -355,22 +355,22 @@ held_as_found program start indicator bytes old new seen level place is e held f
     by true false h g = beyond (λ i. h i && g i)
     by false b h g = beyond (λ i. h i && g i)
 
-to_group : (indicator : Indicator) (inputs : List (InputLine Reference)) (bytes : List ℕ) (from k : ℕ) (d : InputLine Reference) (begins : Bool) (old new : List RecordKey) (seen : List Bool) (level : ℕ) → k < length inputs
+to_group : (indicator : Indicator) (inputs : List (InputLine Reference)) (bytes : List ℕ) (from k : ℕ) (d : InputLine Reference) (begins : Bool) (old new : List HeldField) (seen : List Bool) (level : ℕ) → k < length inputs
     → (held : AreHeldTo indicator inputs bytes from old new seen level k) → begins ≡ begins_group (get_or inputs k d) → begins ≡ true → AreFound indicator inputs from held.fields
 unfolding AreFound
 to_group indicator inputs bytes from k d begins old new seen level within held e is = λ n one nine. noted_to_group indicator inputs from k n d begins (held.fields n) within (held.found n one nine) e is
 
-to_end : (indicator : Indicator) (inputs : List (InputLine Reference)) (bytes : List ℕ) (from k : ℕ) (old new : List RecordKey) (seen : List Bool) (level : ℕ) → length inputs ≤ k
+to_end : (indicator : Indicator) (inputs : List (InputLine Reference)) (bytes : List ℕ) (from k : ℕ) (old new : List HeldField) (seen : List Bool) (level : ℕ) → length inputs ≤ k
     → (held : AreHeldTo indicator inputs bytes from old new seen level k) → AreFound indicator inputs from held.fields
 unfolding AreFound
 to_end indicator inputs bytes from k old new seen level past held = λ n one nine. noted_to_end indicator inputs from k n (held.fields n) past (held.found n one nine)
 
 -- the level that breaks, and what is held
-Ends : Program → TypeStart → List ℕ → (old new : List RecordKey) → (level : ℕ) → Type 0
+Ends : Program → TypeStart → List ℕ → (old new : List HeldField) → (level : ℕ) → Type 0
 Ends program start bytes old new level =
     (level ≡ break_of (held_in old) (kind_at program start) bytes) × ((n : ℕ) → held_in new n ≡ option_or (control_value (kind_at program start) bytes n) (held_in old n))
 
-ends_so : (program : Program) (start : TypeStart) (indicator : Indicator) (inputs : List (InputLine Reference)) (bytes : List ℕ) (k : ℕ) (old new : List RecordKey) (seen : List Bool) (level : ℕ) → is_type_start program start ≡ true
+ends_so : (program : Program) (start : TypeStart) (indicator : Indicator) (inputs : List (InputLine Reference)) (bytes : List ℕ) (k : ℕ) (old new : List HeldField) (seen : List Bool) (level : ℕ) → is_type_start program start ≡ true
     → indicator ≡ (kind_at program start).indicator → inputs ≡ program.inputs.items → (held : AreHeldTo indicator inputs bytes start.fields old new seen level k) → AreFound indicator inputs start.fields held.fields
     → Ends program start bytes old new level
 unfolding Ends
@@ -379,7 +379,7 @@ ends_so program start indicator inputs bytes k old new seen level is e all =
     → (level ≡ break_of (held_in old) (kind_at program start) bytes) × ((n : ℕ) → held_in new n ≡ option_or (control_value (kind_at program start) bytes n) (held_in old n))) (sym all)
     (λ held found. (broken_as_found program start indicator bytes old new seen level k is e held found, held_as_found program start indicator bytes old new seen level k is e held found))
 
-pub ends_at_group : (program : Program) (start : TypeStart) (indicator : Indicator) (inputs : List (InputLine Reference)) (bytes : List ℕ) (k : ℕ) (d : InputLine Reference) (begins : Bool) (old new : List RecordKey) (seen : List Bool) (level : ℕ)
+pub ends_at_group : (program : Program) (start : TypeStart) (indicator : Indicator) (inputs : List (InputLine Reference)) (bytes : List ℕ) (k : ℕ) (d : InputLine Reference) (begins : Bool) (old new : List HeldField) (seen : List Bool) (level : ℕ)
     → is_type_start program start ≡ true → indicator ≡ (kind_at program start).indicator → inputs ≡ program.inputs.items → k < length inputs → AreHeldTo indicator inputs bytes start.fields old new seen level k
     → begins ≡ begins_group (get_or inputs k d) → begins ≡ true
     → (level ≡ break_of (held_in old) (kind_at program start) bytes) × ((n : ℕ) → held_in new n ≡ option_or (control_value (kind_at program start) bytes n) (held_in old n))
@@ -387,7 +387,7 @@ unfolding Ends
 ends_at_group program start indicator inputs bytes k d begins old new seen level is e all within held b on =
     ends_so program start indicator inputs bytes k old new seen level is e all held (to_group indicator inputs bytes start.fields k d begins old new seen level within held b on)
 
-pub ends_at_last : (program : Program) (start : TypeStart) (indicator : Indicator) (inputs : List (InputLine Reference)) (bytes : List ℕ) (k : ℕ) (old new : List RecordKey) (seen : List Bool) (level : ℕ)
+pub ends_at_last : (program : Program) (start : TypeStart) (indicator : Indicator) (inputs : List (InputLine Reference)) (bytes : List ℕ) (k : ℕ) (old new : List HeldField) (seen : List Bool) (level : ℕ)
     → is_type_start program start ≡ true → indicator ≡ (kind_at program start).indicator → inputs ≡ program.inputs.items → length inputs ≤ k → AreHeldTo indicator inputs bytes start.fields old new seen level k
     → (level ≡ break_of (held_in old) (kind_at program start) bytes) × ((n : ℕ) → held_in new n ≡ option_or (control_value (kind_at program start) bytes n) (held_in old n))
 unfolding Ends

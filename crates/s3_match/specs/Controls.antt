@@ -8,13 +8,13 @@ use Rattle.s3_meaning.specs.RecordTypes.{RecordType}
 use Rattle.s3_meaning.specs.Selection.{control_value, same_key, levels}
 use Rattle.s3_program.specs.declared.program.Reference.{Reference}
 use Rattle.s3_program.specs.Starts.{is_type}
-use Rattle.s3_match.specs.declared.keys.RecordKey.{RecordKey}
-use Rattle.s3_match.specs.Keys.{key_in}
+use Rattle.s3_match.specs.declared.held.HeldField.{HeldField}
+use Rattle.s3_match.specs.Keys.{held_key}
 
 -- by level, L1 first
-abbrev pub held_in : List RecordKey → ℕ → Option (List ℕ)
+abbrev pub held_in : List HeldField → ℕ → Option (List ℕ)
 held_in held zero = None
-held_in held (suc n) = option_and_then key_in (slice_get held n)
+held_in held (suc n) = option_and_then held_key (slice_get held n)
 
 -- whether a level breaks, by what is held for each
 abbrev pub breaks_at : (ℕ → Option (List ℕ)) → RecordType → List ℕ → ℕ → Bool

@@ -104,7 +104,7 @@ fn is_keyless(input: &InputFile) -> bool
 }
 
 /// Whether there is one file alone, with a head without match fields: mostly it is so.
-fn is_keyless_alone(files: &[InputFile]) -> bool
+pub fn is_keyless_alone(files: &[InputFile]) -> bool
     ensures { result ≡ spec.is_keyless_alone files.now }
 {
     files.len() == 1 && is_keyless(&files[0])

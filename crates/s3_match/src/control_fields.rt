@@ -8,11 +8,12 @@ ghost use Rattle.s3_program.specs.declared.mark.Key.TheVariants as key;
 ghost use Rattle.s3_match.specs.Types.{is_type_start, kind_at};
 ghost use Rattle.s3_match.specs.Controls.{break_of, held_in};
 ghost use Rattle.s3_match.specs.Fields.{field_on as field_on_spec};
-ghost use Rattle.s3_match.specs.Keys.{key_in};
+ghost use Rattle.s3_match.specs.Keys.{held_key};
 ghost use Rattle.s3_match.specs.Inner.ControlFields.{compared_on};
 ghost use Rattle.s3_match.specs.Inner.Holding as spec;
 
 use crate::fields::{begins_group, field_on, indicator_of};
+use crate::held::HeldField;
 use crate::keys::{LEVELS, RecordKey};
 use s3_lines::indicator::Indicator;
 use s3_lines::sheet::{FieldLine, InputLine};
@@ -29,25 +30,26 @@ fn is_level(level: u8) -> bool
 
 /// Holds what a field compares, and says whether it was another value that was held. `value` serves to compare.
 fn hold_field(
-    held: &mut RecordKey,
+    held: &mut HeldField,
     value: &mut RecordKey,
     field: &FieldLine<Reference>,
     bytes: &[u8],
 ) -> bool
     requires { IsTrue (field_in_range field.now) }
-    ensures breaks { result ≡ not (same_key (Some (compared_on bytes.now field.now)) (key_in held.old)) }
-    ensures held { key_in held.new ≡ Some (compared_on bytes.now field.now) }
+    ensures breaks { result ≡ not (same_key (Some (compared_on bytes.now field.now)) (held_key held.old)) }
+    ensures held { held_key held.new ≡ Some (compared_on bytes.now field.now) }
 {
     if held.is_field(value, field, bytes) {
         return false;
     }
-    held.read_field(field, bytes);
+    value.read_field(field, bytes);
+    held.hold(&value.bytes);
     true
 }
 
 /// Holds what the field of a level compares, and says whether it was another value that was held.
 fn hold_at(
-    held: &mut [RecordKey],
+    held: &mut [HeldField],
     value: &mut RecordKey,
     level: u8,
     field: &FieldLine<Reference>,
@@ -91,7 +93,7 @@ fn was_seen(seen: &mut [bool], level: u8) -> bool
 /// Holds the control field of a line, if it is one of the type with that indicator and no line above it has its level. The greatest
 /// level so far where another value was held, by that of the lines above.
 fn hold_line(
-    held: &mut [RecordKey],
+    held: &mut [HeldField],
     value: &mut RecordKey,
     seen: &mut [bool],
     line: &InputLine<Reference>,
@@ -121,8 +123,9 @@ fn hold_line(
 }
 
 /// Holds the control fields of a record of a type; the greatest level where another value was held, 0 if none.
+#[inline(never)]
 pub fn hold_fields(
-    held: &mut [RecordKey],
+    held: &mut [HeldField],
     value: &mut RecordKey,
     program: &Program,
     start: TypeStart,

@@ -15,6 +15,7 @@ ghost use Rattle.s3_match.specs.Controls as spec;
 
 use crate::control_fields::hold_fields;
 use crate::fields::{NamedLevels, field_at};
+use crate::held::HeldField;
 use crate::keys::RecordKey;
 use s3_lines::sheet::InputLine;
 use s3_program::mark::Key;
@@ -81,7 +82,7 @@ pub fn has_levels(program: &Program) -> bool
 #[derive(Drop)]
 pub struct Controls {
     /// Those of L1 to L9.
-    pub held: [RecordKey; 9],
+    pub held: [HeldField; 9],
     /// What one of a record compares, while it is read.
     pub value: RecordKey,
 }
@@ -93,15 +94,15 @@ impl Controls {
     {
         Controls {
             held: [
-                RecordKey::none(),
-                RecordKey::none(),
-                RecordKey::none(),
-                RecordKey::none(),
-                RecordKey::none(),
-                RecordKey::none(),
-                RecordKey::none(),
-                RecordKey::none(),
-                RecordKey::none(),
+                HeldField::none(),
+                HeldField::none(),
+                HeldField::none(),
+                HeldField::none(),
+                HeldField::none(),
+                HeldField::none(),
+                HeldField::none(),
+                HeldField::none(),
+                HeldField::none(),
             ],
             value: RecordKey::none(),
         }
@@ -109,6 +110,7 @@ impl Controls {
 
     /// The greatest level that the control fields of a record break, 0 if none. They are held then, of the levels that its type
     /// names. Where no line of the program has one, none is looked for.
+    #[inline(always)]
     pub fn break_and_hold(
         &mut self,
         program: &Program,

@@ -1,6 +1,6 @@
 //! Keys: what the match fields of a record compare, and the control field of a level.
 
-ghost use Rattle.std.specs.Prelude.{◌≡◌, ◌+◌, ◌≤◌, ◌++◌, [], None, IsTrue, IfSome, is_some, option_map, unwrap_or};
+ghost use Rattle.std.specs.Prelude.{◌≡◌, ◌+◌, ◌≤◌, ◌++◌, [], None, IsTrue, IfSome, is_some, length, option_map, unwrap_or};
 ghost use Rattle.arrayvec.specs.ArrayVec.{array_vec_len};
 ghost use Rattle.s3_lines.specs.Ranges.{field_in_range};
 ghost use Rattle.s3_meaning.specs.Selection as meaning;
@@ -9,10 +9,10 @@ ghost use Rattle.s3_match.specs.Fields.{named_levels};
 ghost use Rattle.s3_match.specs.Keys as spec;
 ghost use Rattle.s3_match.specs.Inner.ControlFields.{compared_on};
 
-use crate::compared::{KEY_BYTES, are_zoned_digits, field_bytes, is_below, push_compared};
+use crate::compared::{KEY_BYTES, field_bytes, is_below, push_compared};
 use crate::fields::{NamedLevels, field_at, has_match_fields};
 use arrayvec::ArrayVec;
-use s3_lines::sheet::{FieldForm, FieldLine};
+use s3_lines::sheet::FieldLine;
 use s3_program::mark::Key;
 use s3_program::program::{Program, Reference};
 use s3_program::starts::TypeStart;
@@ -86,48 +86,23 @@ impl RecordKey {
         requires named { levels ≡ named_levels program.now }
         ensures { spec.key_in self.new ≡ meaning.match_key (kind_at program.now start) bytes.now }
     {
-        self.bytes.clear();
         self.is_given = has_match_fields(program, start, levels);
         if !self.is_given {
             return;
         }
+        self.bytes.clear();
         push_match_fields(&mut self.bytes, program, start, bytes);
     }
 
     /// Becomes what a control field compares.
     pub fn read_field(&mut self, field: &FieldLine<Reference>, bytes: &[u8])
         requires { IsTrue (field_in_range field.now) }
-        ensures { spec.key_in self.new ≡ Some (compared_on bytes.now field.now) }
+        ensures value { self.new.bytes.items ≡ compared_on bytes.now field.now }
+        ensures short { length self.new.bytes.items ≤ 256 }
     {
         self.bytes.clear();
         self.is_given = true;
         push_compared(&mut self.bytes, field.form, field_bytes(field, bytes));
-    }
-
-    /// Whether it is what a control field compares. A zoned number and characters are compared where they lie; `value` serves to
-    /// read a packed number.
-    pub fn is_field(
-        &self,
-        value: &mut RecordKey,
-        field: &FieldLine<Reference>,
-        bytes: &[u8],
-    ) -> bool
-        requires { IsTrue (field_in_range field.now) }
-        ensures { result ≡ meaning.same_key (Some (compared_on bytes.now field.now)) (spec.key_in self.now) }
-    {
-        if !self.is_given {
-            return false;
-        }
-        match field.form {
-            FieldForm::Alphanumeric | FieldForm::PackedText => {
-                field_bytes(field, bytes) == self.bytes.as_slice()
-            }
-            FieldForm::Zoned(_) => are_zoned_digits(field_bytes(field, bytes), &self.bytes),
-            FieldForm::Packed(_) => {
-                value.read_field(field, bytes);
-                value.is_same(self)
-            }
-        }
     }
 
     /// Becomes the same key.

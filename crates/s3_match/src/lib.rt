@@ -7,6 +7,7 @@ mod control_fields;
 pub mod controls;
 pub mod fields;
 pub mod heads;
+pub mod held;
 pub mod keys;
 pub mod laws;
 pub mod reading;

@@ -74,6 +74,7 @@ fn some_secondary_has(program: &Program, files: &[InputFile], key: &RecordKey) -
 }
 
 /// MR for the head of a file, by the heads of the others and the last primary key.
+#[inline(always)]
 pub fn is_matched(
     program: &Program,
     files: &[InputFile],

@@ -1,14 +1,22 @@
 -- Room for the digits of an amount, and blanks in front of them.
-use Rattle.std.proofs.Common.{◌≡◌, ◌≢◌, ℕ, ◌+◌, ◌-◌, ◌/◌, ◌^◌, ◌<◌, ◌≤◌, refl, arith, sym, ◌∙◌, ap, Bool, true, false, not, ◌&&◌, nat_lt, if◌then◌else◌, List, length, slice_set, get_or, get_or-set_other, get_or-set_same, Option, Some, None, subst}
-use Rattle.std.specs.Prelude.{is_some, unwrap_or, ◌==◌, ◌%◌}
+use Rattle.std.proofs.Common.{◌≡◌, ◌≢◌, ℕ, zero, suc, ◌+◌, ◌-◌, ◌*◌, ◌/◌, ◌^◌, ◌<◌, ◌≤◌, refl, arith, sym, ◌∙◌, ap, Bool, true, false, not, ◌&&◌, nat_lt, if◌then◌else◌, List, length, slice_set, get_or, get_or-set_other, get_or-set_same, Option, Some, None, subst}
+use Rattle.std.specs.Prelude.{is_some, nat_le, unwrap_or, ◌==◌, ◌%◌}
 use Rattle.std.proofs.lemmas.Bool.{true≢false}
 use Rattle.std.proofs.Math.Nat.{div-eq_of_lt}
 use Rattle.std.proofs.lemmas.Bool.Decides.{nat_tests}
-use Rattle.s3_decimal.proofs.Powers.{ten_le}
+use Rattle.std.proofs.lemmas.List.{length-set}
+use Rattle.std.proofs.lemmas.Nat.{le-div}
+use Rattle.s3_decimal.proofs.Powers.{ten_le, ten_pos}
 use Rattle.s3_edit.specs.declared.code.Amount.{Amount}
-use Rattle.s3_edit.specs.declared.code.EditCode.TheVariants.{Edited}
+use Rattle.s3_edit.specs.declared.code.EditCode.TheVariants.{Edited, Zoned, Date, Suppressed}
+use Rattle.s3_edit.specs.declared.code.Sign.{Sign}
+use Rattle.s3_edit.specs.declared.code.Sign.TheVariants.{Never, Credit, Minus}
+use Rattle.s3_edit.specs.Inner.Passes.{whole_at}
 use Rattle.s3_edit.specs.Picture.{body_width, comma_width, is_form, point_width, sign_width, suppressed_at, whole_digits, width_of}
-use Rattle.s3_edit.proofs.Places.{below, is_lt, lt_true, not_lt, split, suppressed_digit, tenth}
+use Rattle.s3_lines.specs.declared.sheet.OutputForm.{OutputForm}
+use Rattle.s3_lines.specs.declared.sheet.OutputForm.TheVariants as put
+use Rattle.s3_output.specs.Inner.Contents.{amount_of}
+use Rattle.s3_edit.proofs.Places.{below, is_lt, lt_false, lt_true, not_lt, split, suppressed_digit, tenth}
 
 -- ---- pairs of digits
 pair_by : (b : Bool) (n end place : ℕ) (text : List ℕ) → 2 ≤ end → get_or text (end - 2) 0 ≡ 0xf0 + n % 100 / 10 → get_or text (end - 1) 0 ≡ 0xf0 + n % 100 % 10 → place < 2 → nat_lt 0 place ≡ b
@@ -46,6 +54,36 @@ pub pair_written : (n q r end : ℕ) (text now : List ℕ) → r ≡ n / 10 ^ q 
     → ((place : ℕ) → place < 2 → get_or now (end - q - 1 - place) 0 ≡ 0xf0 + r / 10 ^ place % 10) → ((i : ℕ) → end - q ≤ i → get_or now i 0 ≡ get_or text i 0)
     → (k : ℕ) → k < q + 2 → get_or now (end - 1 - k) 0 ≡ suppressed_at n k
 pair_written n q r end text now left many room written digits rest k h = written_by (nat_lt k q) (nat_lt k (q + 1)) n q r end text now left many room written digits rest k h refl refl
+
+-- ---- three digits
+three_at : (n end place : ℕ) (text : List ℕ) → 3 ≤ end → get_or text (end - 3) 0 ≡ 0xf0 + n / 10 ^ 2 % 10 → get_or text (end - 2) 0 ≡ 0xf0 + n / 10 ^ 1 % 10 → get_or text (end - 1) 0 ≡ 0xf0 + n / 10 ^ 0 % 10 → place < 3
+    → get_or text (end - 1 - place) 0 ≡ 0xf0 + n / 10 ^ place % 10
+three_at n end zero text room hundreds tens units h = ap (λ i. get_or text i 0) (omega arith) ∙ units
+three_at n end (suc zero) text room hundreds tens units h = ap (λ i. get_or text i 0) (omega arith) ∙ tens
+three_at n end (suc (suc zero)) text room hundreds tens units h = ap (λ i. get_or text i 0) (omega arith) ∙ hundreds
+three_at n end (suc (suc (suc place))) text room hundreds tens units h = absurd (omega (arith, h))
+
+-- the last three places of a number
+pub three_digits : (n end place hundreds tens units : ℕ) (text : List ℕ) → 3 ≤ end → end ≤ length text → hundreds ≡ (n - 1000 * (n / 1000)) / 100 → tens ≡ 0xf0 + (n - 1000 * (n / 1000) - 100 * hundreds) / 10 → units ≡ 0xf0 + (n - 1000 * (n / 1000) - 100 * hundreds) % 10 → place < 3
+    → get_or (slice_set (slice_set (slice_set text (end - 3) (0xf0 + hundreds)) (end - 2) tens) (end - 1) units) (end - 1 - place) 0 ≡ 0xf0 + n / 10 ^ place % 10
+three_digits n end place hundreds tens units text room long is_h is_t is_u h =
+    let one = slice_set text (end - 3) (0xf0 + hundreds) in
+    let two = slice_set one (end - 2) tens in
+    let l3 : end - 3 < length text = omega (arith, room, long) in
+    let l2 : end - 2 < length one = omega (arith, room, long, length-set text (end - 3) (0xf0 + hundreds)) in
+    let l1 : end - 1 < length two = omega (arith, room, long, length-set text (end - 3) (0xf0 + hundreds), length-set one (end - 2) tens) in
+    let n32 : end - 3 ≢ end - 2 = omega (arith, room) in
+    let n31 : end - 3 ≢ end - 1 = omega (arith, room) in
+    let n21 : end - 2 ≢ end - 1 = omega (arith, room) in
+    let hundred : hundreds ≡ n / 10 ^ 2 % 10 = omega (arith, is_h) in
+    let ten : (n - 1000 * (n / 1000) - 100 * hundreds) / 10 ≡ n / 10 ^ 1 % 10 = omega (arith, is_h) in
+    let unit : (n - 1000 * (n / 1000) - 100 * hundreds) % 10 ≡ n / 10 ^ 0 % 10 = omega (arith, is_h) in
+    let set3 : get_or (slice_set text (end - 3) (0xf0 + hundreds)) (end - 3) 0 ≡ 0xf0 + hundreds = rw get_or-set_same refl in
+    let set2 : get_or (slice_set one (end - 2) tens) (end - 2) 0 ≡ tens = rw get_or-set_same refl in
+    let set1 : get_or (slice_set two (end - 1) units) (end - 1) 0 ≡ units = rw get_or-set_same refl in
+    let kept3 : get_or (slice_set two (end - 1) units) (end - 3) 0 ≡ 0xf0 + hundreds = rw get_or-set_other (rw get_or-set_other set3) in
+    let kept2 : get_or (slice_set two (end - 1) units) (end - 2) 0 ≡ tens = rw get_or-set_other set2 in
+    three_at n end place (slice_set two (end - 1) units) room (kept3 ∙ ap (λ d. 0xf0 + d) hundred) (kept2 ∙ is_t ∙ ap (λ d. 0xf0 + d) ten) (set1 ∙ is_u ∙ ap (λ d. 0xf0 + d) unit) h
 
 -- ---- the digits that are left
 pub part_below : (v k m : ℕ) → v < 10 ^ (k + m) → v / 10 ^ k < 10 ^ m
@@ -140,6 +178,51 @@ pub first_digit : (n end q r : ℕ) (text : List ℕ) → q < end → end ≤ le
     → get_or (slice_set text (end - 1 - q) (0xf0 + r)) (end - 1 - place) 0 ≡ suppressed_at n place
 first_digit n end q r text room long left some few written before place h = first_by (nat_lt place q) (nat_lt place (q + 1)) n end q r text room long left some few written before place h refl refl
 
+-- ---- numbers below 1,000
+-- a place at which the number has a digit, or left of which it has one
+pub shown_digit : (n q k : ℕ) → 10 ^ q ≤ n → k ≤ q → 0xf0 + n / 10 ^ k % 10 ≡ suppressed_at n k
+shown_digit n q k many h =
+    let some : 1 ≤ n / 10 ^ k = le-div 1 n (10 ^ k) (ten_pos k) (omega (arith, many, ten_le k q h)) in
+    suppressed_digit n k (n / 10 ^ k) refl (omega (arith, some))
+
+-- a number has this many digits, and they are written over blanks
+pub few_written : (n q end : ℕ) (text : List ℕ) → 10 ^ q ≤ n → n < 10 ^ (q + 1) → ((k : ℕ) → k < q + 1 → get_or text (end - 1 - k) 0 ≡ 0xf0 + n / 10 ^ k % 10) → ((i : ℕ) → i < end - (q + 1) → get_or text i 0 ≡ 0x40) → (place : ℕ) → place < end → get_or text (end - 1 - place) 0 ≡ suppressed_at n place
+few_written n q end text many few digits before place h =
+    none_left n end (q + 1) text (div-eq_of_lt few) (λ k l. digits k l ∙ shown_digit n q k many (omega (arith, l))) before place h
+
+-- it has none
+pub none_written : (n end : ℕ) (text : List ℕ) → n ≡ 0 → ((i : ℕ) → i < end → get_or text i 0 ≡ 0x40) → (place : ℕ) → place < end → get_or text (end - 1 - place) 0 ≡ suppressed_at n place
+none_written n end text none blanks place h =
+    none_left n end 0 text (ap (λ v. v / 10 ^ 0) none) (λ k l. absurd (omega (arith, l))) (λ i l. blanks i (omega (arith, l))) place h
+
+-- it has one
+pub one_written : (n end : ℕ) (text : List ℕ) → 0 < n → n ≤ 9 → 0 < end → end ≤ length text → ((i : ℕ) → i < end → get_or text i 0 ≡ 0x40) → (place : ℕ) → place < end → get_or (slice_set text (end - 1) (0xf0 + n)) (end - 1 - place) 0 ≡ suppressed_at n place
+one_written n end text some few room long blanks place h =
+    let at : end - 1 ≡ end - 1 - 0 = omega arith in
+    ap (λ i. get_or (slice_set text i (0xf0 + n)) (end - 1 - place) 0) at
+    ∙ first_digit n end 0 n text room long (omega arith) some few (λ k l. absurd (omega (arith, l))) (λ i l. blanks i (omega (arith, l))) place h
+
+-- three digits and a comma are written over blanks
+pub parted : (v end : ℕ) (middle : List ℕ) → 4 < end → end ≤ length middle → ((k : ℕ) → k < 3 → get_or middle (end - 1 - k) 0 ≡ whole_at true v k) → 0x6b ≡ whole_at true v 3 → (k : ℕ) → k < 4 → get_or (slice_set middle (end - 4) 0x6b) (end - 1 - k) 0 ≡ whole_at true v k
+parted v end middle room long digits comma k h = parted_by (nat_lt k 3) v end middle room long digits comma k h refl
+  where
+    parted_by : (b : Bool) (v end : ℕ) (middle : List ℕ) → 4 < end → end ≤ length middle → ((k : ℕ) → k < 3 → get_or middle (end - 1 - k) 0 ≡ whole_at true v k) → 0x6b ≡ whole_at true v 3 → (k : ℕ) → k < 4 → nat_lt k 3 ≡ b → get_or (slice_set middle (end - 4) 0x6b) (end - 1 - k) 0 ≡ whole_at true v k
+    parted_by true v end middle room long digits comma k h t =
+        let l : k < 3 = is_lt k 3 t in
+        let ne : end - 1 - k ≢ end - 4 = omega (arith, l, room) in
+        rw get_or-set_other (digits k l)
+    parted_by false v end middle room long digits comma k h t =
+        let three : k ≡ 3 = omega (arith, not_lt k 3 t, h) in
+        let at : end - 1 - k ≡ end - 4 = omega (arith, three, room) in
+        let inside : end - 4 < length middle = omega (arith, room, long) in
+        let set : get_or (slice_set middle (end - 4) 0x6b) (end - 4) 0 ≡ 0x6b = rw get_or-set_same refl in
+        ap (λ i. get_or (slice_set middle (end - 4) 0x6b) i 0) at ∙ set ∙ comma ∙ ap (λ j. whole_at true v j) (sym three)
+
+-- no comma stands in a number below 1,000, nor where there are none
+pub below_comma : (commas : Bool) (v : ℕ) → v < 1000 → (commas && nat_lt 999 v) ≡ false
+below_comma false v h = refl
+below_comma true v h = lt_false 999 v (omega (arith, h))
+
 -- ---- the width of an amount
 known_by : (b : Bool) (total width : ℕ) → (if b then Some total else None) ≡ Some width → total ≡ width
 known_by true total width h = ap (λ o. unwrap_or o 0) h
@@ -164,6 +247,26 @@ whole_room style n digits decimals width fits few known =
     behind digits decimals (comma_width style.commas digits decimals) (point_width decimals) (sign_width style.sign) width few (width_is style digits decimals width known) in
     subst (λ e. n / 10 ^ decimals < 10 ^ whole_digits style.commas e) (sym room) (omega (arith, part, ten_le (digits - decimals) (whole_digits style.commas (digits - decimals + comma_width style.commas digits decimals)) (whole_fits style.commas digits decimals)))
 
+-- an amount has a place at least, and no more than this
+pub wide : (style : Amount) (digits decimals width : ℕ) → 1 ≤ digits → digits ≤ 15 → width_of (Edited style) digits decimals ≡ Some width → (1 ≤ width) × (width ≤ 32)
+wide style digits decimals width some few known = (omega (arith, some, width_is style digits decimals width known), most style.commas style.sign digits decimals width few (width_is style digits decimals width known))
+  where
+    signs : (sign : Sign) → sign_width sign ≤ 2
+    signs Never = omega arith
+    signs Credit = omega arith
+    signs Minus = omega arith
+
+    points : (decimals : ℕ) → point_width decimals ≤ 1
+    points zero = omega arith
+    points (suc decimals) = grind (arith, nat_tests)
+
+    commas_few : (commas : Bool) (digits decimals : ℕ) → digits ≤ 15 → comma_width commas digits decimals ≤ 5
+    commas_few true digits decimals h = omega (arith, h)
+    commas_few false digits decimals h = omega arith
+
+    most : (commas : Bool) (sign : Sign) (digits decimals width : ℕ) → digits ≤ 15 → digits + comma_width commas digits decimals + point_width decimals + sign_width sign ≡ width → width ≤ 32
+    most commas sign digits decimals width few is = omega (arith, few, is, signs sign, points decimals, commas_few commas digits decimals few)
+
 -- an amount other than 0 is shown
 pub some_shown : (style : Amount) (n : ℕ) → n ≢ 0 → (n == 0 && not style.zero_printed) ≡ false
 some_shown style n h = grind (arith, nat_tests)
@@ -171,3 +274,19 @@ some_shown style n h = grind (arith, nat_tests)
 pub some_known : (o : Option ℕ) (n : ℕ) → is_some o ≡ true → n ≡ unwrap_or o 0 → o ≡ Some n
 some_known None n some is = absurd (true≢false (sym some))
 some_known (Some w) n some is = ap (λ k. Some k) (sym is)
+
+few_decimals : (decimals : ℕ) → nat_le decimals 3 ≡ true → decimals ≤ 3
+few_decimals decimals t = grind (arith, nat_tests, t)
+
+-- a form that has a style of an amount
+pub amount_known : (form : OutputForm) (decimals : ℕ) (style : Amount) → Some style ≡ amount_of form decimals → (form ≡ put.Edited (Edited style)) × (decimals ≤ 3)
+amount_known put.Plain decimals style h = absurd (true≢false (ap (λ o. is_some o) h))
+amount_known put.Packed decimals style h = absurd (true≢false (ap (λ o. is_some o) h))
+amount_known (put.Edited Zoned) decimals style h = absurd (true≢false (ap (λ o. is_some o) h))
+amount_known (put.Edited Date) decimals style h = absurd (true≢false (ap (λ o. is_some o) h))
+amount_known (put.Edited Suppressed) decimals style h = absurd (true≢false (ap (λ o. is_some o) h))
+amount_known (put.Edited (Edited kept)) decimals style h = by (nat_le decimals 3) refl h
+  where
+    by : (b : Bool) → nat_le decimals 3 ≡ b → Some style ≡ (if b then Some kept else None) → (put.Edited (Edited kept) ≡ put.Edited (Edited style)) × (decimals ≤ 3)
+    by true t h = (ap (λ (o : Option Amount). put.Edited (Edited (unwrap_or o kept))) (sym h), few_decimals decimals t)
+    by false t h = absurd (true≢false (ap (λ o. is_some o) h))

@@ -38,7 +38,6 @@ use Rattle.s3_operations.specs.Held.{IsSound, Changes, IsNumberIn, IsTextIn, hel
 use Rattle.s3_operations.proofs.ValueLemmas.{FieldAt, NumberAt, NumberField, field_entry, field_at, field_number, number_held, number_read, within_fields, within_numbers, digits_when, decimals_when, text_when}
 use Rattle.s3_operations.proofs.BeginLemmas.{page_at}
 use Rattle.s3_output.specs.declared.preparing.SlotOutput.{SlotOutput}
-use Rattle.s3_output.specs.Prepared.{shape_width}
 use Rattle.s3_output.specs.Inner.Contents.{FitsNumber, HasPageForm, cleared, edited_width, has_width, number_of, number_put, number_width, shown_form}
 
 -- ---- a field that is there
@@ -200,17 +199,18 @@ shown_put (Edited code) is_page n paged = refl
 shown_put Plain false n paged = refl
 shown_put Plain true n paged = let own : HasPageForm n = paged refl in λ i. edited Suppressed (own.digits i) (own.decimals i) n.value
 
-pub number_width_in : (p : Program) (slot width : ℕ) (form : OutputForm) (e : Environment) (n : Dec) → is_defined (meaning_at (tables p) (FieldSlot slot)) ≡ true
-    → option_map (shape_width form) (shape_meant (meaning_at (tables p) (FieldSlot slot))) ≡ Some width → IsNumberIn (source_named p) e (name_of (tables p) (FieldSlot slot)) n
-    → width ≡ number_width form n.digits n.decimals
-number_width_in p slot width form e n there wide is =
+-- what is told of the shape of a number's field
+pub number_shape_in : {A : Type 0} (p : Program) (slot : ℕ) (told : A) (tell : Shape → A) (e : Environment) (n : Dec) → is_defined (meaning_at (tables p) (FieldSlot slot)) ≡ true
+    → option_map tell (shape_meant (meaning_at (tables p) (FieldSlot slot))) ≡ Some told → IsNumberIn (source_named p) e (name_of (tables p) (FieldSlot slot)) n
+    → told ≡ tell (Numeric n.digits n.decimals)
+number_shape_in {A} p slot told tell e n there known is =
     let d : Defines p slot = defines p slot there in
-    by d.shape (ap (shape_of (source_named p)) d.field.named ∙ d.field.shaped) (ap (λ o. unwrap_or o 0) (sym wide ∙ ap (option_map (shape_width form)) d.meant))
+    by d.shape (ap (shape_of (source_named p)) d.field.named ∙ d.field.shaped) (ap (λ o. unwrap_or o told) (sym known ∙ ap (option_map tell) d.meant))
   where
-    by : (shape : Shape) → shape_of (source_named p) (name_of (tables p) (FieldSlot slot)) ≡ shape → width ≡ shape_width form shape → width ≡ number_width form n.digits n.decimals
-    by (Alphanumeric size) shaped wide = absurd (true≢false (sym is.numeric ∙ text_when (source_named p) _ size shaped))
-    by (Numeric digits decimals) shaped wide =
-        wide ∙ sym (λ i. number_width form ((sym is.digits ∙ digits_when (source_named p) _ digits decimals shaped) i) ((sym is.decimals ∙ decimals_when (source_named p) _ digits decimals shaped) i))
+    by : (shape : Shape) → shape_of (source_named p) (name_of (tables p) (FieldSlot slot)) ≡ shape → told ≡ tell shape → told ≡ tell (Numeric n.digits n.decimals)
+    by (Alphanumeric size) shaped known = absurd (true≢false (sym is.numeric ∙ text_when (source_named p) _ size shaped))
+    by (Numeric digits decimals) shaped known =
+        known ∙ sym (λ i. tell (Numeric ((sym is.digits ∙ digits_when (source_named p) _ digits decimals shaped) i) ((sym is.decimals ∙ decimals_when (source_named p) _ digits decimals shaped) i)))
 
 pub page_form_in : (p : Program) (slot : ℕ) (e : Environment) (n : Dec) (is_page : Bool) → is_page ≡ same_name (name_of (tables p) (FieldSlot slot)) page
     → IsNumberIn (source_named p) e (name_of (tables p) (FieldSlot slot)) n → is_page ≡ true → HasPageForm n

@@ -1,5 +1,5 @@
 //! Amounts other than 0 and of up to 32 bits, as nearly all are. `edit` would write the same, digit by digit of 64 bits.
-ghost use Rattle.std.specs.Prelude.{◌≡◌, ◌≢◌, ℕ, ◌+◌, ◌-◌, ◌*◌, ◌/◌, ◌%◌, ◌^◌, ◌<◌, ◌≤◌, ◌&&◌, nat_lt, Some, length, slice_index, unsigned_abs};
+ghost use Rattle.std.specs.Prelude.{◌≡◌, ◌≢◌, ℕ, ◌+◌, ◌-◌, ◌*◌, ◌/◌, ◌%◌, ◌^◌, ◌<◌, ◌≤◌, ◌&&◌, nat_lt, true, Some, length, slice_index, unsigned_abs};
 ghost use Rattle.s3_cards.specs.declared.ebcdic.TheConstants.{BLANK, PERIOD};
 ghost use Rattle.s3_decimal.specs.Exact.{is_negative};
 ghost use Rattle.s3_decimal.specs.Records.{digit_at};
@@ -25,35 +25,53 @@ fn blank_ends(blanks: &[u8], text: &mut [u8])
     text[last..].copy_from_slice(blanks);
 }
 
-/// Makes a text blank, in two steps where it has a usual width.
+/// Makes a text blank that has fewer than eight positions.
 #[inline(always)]
-fn blank(text: &mut [u8])
+fn blank_short(text: &mut [u8])
+    requires some { 1 ≤ length text.old }
+    requires few { length text.old < 8 }
     ensures { (i : ℕ) → i < length text.old → slice_index text.new i ≡ BLANK }
 {
-    match text.len() {
-        8..=16 => blank_ends(&[BLANK; 8], text),
-        4..=7 => blank_ends(&[BLANK; 4], text),
-        _ => text.fill(BLANK),
+    let width = text.len();
+    if width >= 4 {
+        blank_ends(&[BLANK; 4], text);
+    } else if width >= 2 {
+        blank_ends(&[BLANK; 2], text);
+    } else {
+        text[0] = BLANK;
     }
 }
 
-/// Writes the last digits of a number, so many, up to `end`, and gives what is left of the number.
+/// Makes a text blank that is as long as amounts are.
 #[inline(always)]
-fn put_digits(number: u32, count: usize, end: usize, text: &mut [u8]) -> u32
-    requires begins { count ≤ end }
+fn blank(text: &mut [u8])
+    requires some { 1 ≤ length text.old }
+    requires few { length text.old ≤ 32 }
+    ensures { (i : ℕ) → i < length text.old → slice_index text.new i ≡ BLANK }
+{
+    let width = text.len();
+    if width < 8 {
+        blank_short(text);
+    } else if width <= 16 {
+        blank_ends(&[BLANK; 8], text);
+    } else {
+        blank_ends(&[BLANK; 16], text);
+    }
+}
+
+/// Writes the last digit of a number in front of `end`, and gives what is left of the number.
+#[inline(always)]
+fn put_digit(number: u32, end: usize, text: &mut [u8]) -> u32
+    requires begins { 1 ≤ end }
     requires ends { end ≤ length text.old }
-    ensures left { result ≡ number / 10 ^ count }
-    ensures digits { (place : ℕ) → place < count → slice_index text.new (end - 1 - place)
+    ensures left { result ≡ number / 10 ^ 1 }
+    ensures digits { (place : ℕ) → place < 1 → slice_index text.new (end - 1 - place)
         ≡ digit_character (digit_at place number) }
-    ensures before { (i : ℕ) → i < end - count → slice_index text.new i ≡ slice_index text.old i }
+    ensures before { (i : ℕ) → i < end - 1 → slice_index text.new i ≡ slice_index text.old i }
     ensures rest { (i : ℕ) → end ≤ i → slice_index text.new i ≡ slice_index text.old i }
 {
-    let mut rest = number;
-    for place in 0..count {
-        text[end - 1 - place] = DIGIT_0 + (rest % 10) as u8;
-        rest /= 10;
-    }
-    rest
+    text[end - 1] = DIGIT_0 + (number % 10) as u8;
+    number / 10
 }
 
 /// Writes the last two digits of a number up to `end`, and gives what is left of the number.
@@ -73,6 +91,15 @@ fn put_pair(number: u32, end: usize, text: &mut [u8]) -> u32
     number / 100
 }
 
+/// The hundreds of a number below 1,000, for which 41 of 4,096 are near enough to a hundredth.
+#[inline(always)]
+fn hundreds_of(number: u32) -> u32
+    requires { number < 1000 }
+    ensures { result ≡ number / 100 }
+{
+    number * 41 / 4096
+}
+
 /// Writes the last three digits of a number up to `end`, and gives what is left of the number.
 #[inline(always)]
 fn put_three(number: u32, end: usize, text: &mut [u8]) -> u32
@@ -84,14 +111,20 @@ fn put_three(number: u32, end: usize, text: &mut [u8]) -> u32
     ensures before { (i : ℕ) → i < end - 3 → slice_index text.new i ≡ slice_index text.old i }
     ensures rest { (i : ℕ) → end ≤ i → slice_index text.new i ≡ slice_index text.old i }
 {
-    let rest = put_pair(number, end, text);
-    text[end - 3] = DIGIT_0 + (rest % 10) as u8;
-    rest / 10
+    let rest = number / 1000;
+    let three = number - 1000 * rest;
+    let hundreds = hundreds_of(three);
+    let pair = pair_of(three - 100 * hundreds);
+    text[end - 3] = DIGIT_0 + hundreds as u8;
+    text[end - 2] = pair[0];
+    text[end - 1] = pair[1];
+    rest
 }
 
-/// Writes decimals up to `end`, and gives the whole part. The most usual counts stand apart.
+/// Writes up to three decimals up to `end`, and gives the whole part.
 #[inline(always)]
 fn put_decimals(number: u32, count: usize, end: usize, text: &mut [u8]) -> u32
+    requires few { count ≤ 3 }
     requires begins { count ≤ end }
     requires ends { end ≤ length text.old }
     ensures left { result ≡ number / 10 ^ count }
@@ -101,9 +134,10 @@ fn put_decimals(number: u32, count: usize, end: usize, text: &mut [u8]) -> u32
     ensures rest { (i : ℕ) → end ≤ i → slice_index text.new i ≡ slice_index text.old i }
 {
     match count {
+        0 => number,
+        1 => put_digit(number, end, text),
         2 => put_pair(number, end, text),
-        3 => put_three(number, end, text),
-        _ => put_digits(number, count, end, text),
+        _ => put_three(number, end, text),
     }
 }
 
@@ -124,9 +158,29 @@ fn put_point(decimals: usize, end: usize, text: &mut [u8]) -> usize
     end - 1
 }
 
-/// Writes the digits of a number over blanks, up to `end`; none of a 0.
+/// Writes the digits of a number below 1,000 over blanks, up to `end`; none of a 0.
 #[inline(always)]
-fn put_suppressed(number: u32, end: usize, text: &mut [u8])
+fn put_few(number: u32, end: usize, text: &mut [u8])
+    requires few { number < 1000 }
+    requires ends { end ≤ length text.old }
+    requires fits { number < 10 ^ end }
+    requires blanks { (i : ℕ) → i < end → slice_index text.old i ≡ BLANK }
+    ensures picture { (place : ℕ) → place < end → slice_index text.new (end - 1 - place)
+        ≡ suppressed_at number place }
+    ensures rest { (i : ℕ) → end ≤ i → slice_index text.new i ≡ slice_index text.old i }
+{
+    if number > 99 {
+        put_three(number, end, text);
+    } else if number > 9 {
+        put_pair(number, end, text);
+    } else if number > 0 {
+        text[end - 1] = DIGIT_0 + number as u8;
+    }
+}
+
+/// Writes the digits of a number over blanks, up to `end`; none of a 0. Few amounts have more than three of them without a comma.
+#[inline(never)]
+fn put_many(number: u32, end: usize, text: &mut [u8])
     requires ends { end ≤ length text.old }
     requires fits { number < 10 ^ end }
     requires blanks { (i : ℕ) → i < end → slice_index text.old i ≡ BLANK }
@@ -147,6 +201,23 @@ fn put_suppressed(number: u32, end: usize, text: &mut [u8])
     }
 }
 
+/// Writes the digits of a number over blanks, up to `end`; none of a 0.
+#[inline(always)]
+fn put_suppressed(number: u32, end: usize, text: &mut [u8])
+    requires ends { end ≤ length text.old }
+    requires fits { number < 10 ^ end }
+    requires blanks { (i : ℕ) → i < end → slice_index text.old i ≡ BLANK }
+    ensures picture { (place : ℕ) → place < end → slice_index text.new (end - 1 - place)
+        ≡ suppressed_at number place }
+    ensures rest { (i : ℕ) → end ≤ i → slice_index text.new i ≡ slice_index text.old i }
+{
+    if number < 1000 {
+        put_few(number, end, text);
+    } else {
+        put_many(number, end, text);
+    }
+}
+
 /// Whether a comma stands in front of the last three digits of a whole part.
 #[inline(always)]
 fn has_comma(commas: bool, number: u32) -> bool
@@ -155,9 +226,10 @@ fn has_comma(commas: bool, number: u32) -> bool
     commas && number > 999
 }
 
-/// Writes a whole part over blanks, up to `end`: three digits and a comma while more digits are left, then the first ones.
-#[inline(always)]
-fn put_whole(number: u32, commas: bool, end: usize, text: &mut [u8])
+/// Writes a whole part over blanks, up to `end`: three digits and a comma while more digits are left, then the first ones. Few
+/// amounts have more than one comma.
+#[inline(never)]
+fn put_threes(number: u32, commas: bool, end: usize, text: &mut [u8])
     requires ends { end ≤ length text.old }
     requires fits { number < 10 ^ whole_digits commas end }
     requires blanks { (i : ℕ) → i < end → slice_index text.old i ≡ BLANK }
@@ -175,10 +247,50 @@ fn put_whole(number: u32, commas: bool, end: usize, text: &mut [u8])
     put_suppressed(rest, end - place, text);
 }
 
+/// Writes a whole part of more than three digits, with commas, over blanks, up to `end`.
+#[inline(always)]
+fn put_parted(number: u32, end: usize, text: &mut [u8])
+    requires many { 999 < number }
+    requires ends { end ≤ length text.old }
+    requires fits { number < 10 ^ whole_digits true end }
+    requires blanks { (i : ℕ) → i < end → slice_index text.old i ≡ BLANK }
+    ensures picture { (place : ℕ) → place < end → slice_index text.new (end - 1 - place)
+        ≡ whole_at true number place }
+    ensures rest { (i : ℕ) → end ≤ i → slice_index text.new i ≡ slice_index text.old i }
+{
+    let rest = put_three(number, end, text);
+    text[end - 4] = COMMA;
+    if rest < 1000 {
+        put_few(rest, end - 4, text);
+    } else {
+        put_threes(rest, true, end - 4, text);
+    }
+}
+
+/// Writes a whole part over blanks, up to `end`.
+#[inline(always)]
+fn put_whole(number: u32, commas: bool, end: usize, text: &mut [u8])
+    requires ends { end ≤ length text.old }
+    requires fits { number < 10 ^ whole_digits commas end }
+    requires blanks { (i : ℕ) → i < end → slice_index text.old i ≡ BLANK }
+    ensures picture { (place : ℕ) → place < end → slice_index text.new (end - 1 - place)
+        ≡ whole_at commas number place }
+    ensures rest { (i : ℕ) → end ≤ i → slice_index text.new i ≡ slice_index text.old i }
+{
+    if number < 1000 {
+        put_few(number, end, text);
+    } else if commas {
+        put_parted(number, end, text);
+    } else {
+        put_many(number, end, text);
+    }
+}
+
 /// Writes a number without its sign over blanks.
 #[inline(always)]
 fn put_body(magnitude: u32, decimals: usize, commas: bool, width: usize, text: &mut [u8])
     requires some { magnitude ≢ 0 }
+    requires few { decimals ≤ 3 }
     requires unit { decimals < width }
     requires room { width ≤ length text.old }
     requires fits { magnitude / 10 ^ decimals < 10 ^ whole_digits commas (width - (decimals + point_width decimals)) }
@@ -224,11 +336,12 @@ fn put_sign(sign: Sign, is_negative: bool, at: usize, text: &mut [u8])
     }
 }
 
-/// Writes an amount that isn't 0, from its magnitude.
+/// Writes an amount that isn't 0 and has up to three decimals, from its magnitude. The whole part comes last.
 #[inline(never)]
 pub fn put_amount(number: &Dec, magnitude: u32, style: &Amount, text: &mut [u8])
     requires magnitude { magnitude ≡ unsigned_abs number.now.value }
     requires some { magnitude ≢ 0 }
+    requires few { number.now.decimals ≤ 3 }
     requires room { width_of (Edited style.now) number.now.digits number.now.decimals ≡ Some (length text.old) }
     ensures { (place : ℕ) → place < length text.old → slice_index text.new (length text.old - 1 - place)
         ≡ amount_at style.now number.now.decimals (is_negative number.now.value) (unsigned_abs number.now.value) place }
@@ -236,6 +349,6 @@ pub fn put_amount(number: &Dec, magnitude: u32, style: &Amount, text: &mut [u8])
     blank(text);
     let body = text.len() - sign_width(style.sign);
     let decimals = usize::from(number.decimals);
-    put_body(magnitude, decimals, style.commas, body, text);
     put_sign(style.sign, number.is_negative(), body, text);
+    put_body(magnitude, decimals, style.commas, body, text);
 }

@@ -1,5 +1,5 @@
 //! The carriage of the printer.
-ghost use Rattle.std.specs.Prelude.{◌≡◌, ◌≤◌, ◌&&◌, ◌||◌, true, false, Some};
+ghost use Rattle.std.specs.Prelude.{◌≡◌, ◌≤◌, ◌&&◌, ◌||◌, true, false, None, Some, IfSome};
 ghost use Rattle.s3_lines.specs.Ranges.{spacing_in_range, is_between, if_given};
 ghost use Rattle.s3_meaning.specs.Carriage as meaning;
 
@@ -35,6 +35,15 @@ pub struct Moved {
     pub overflow: bool,
 }
 
+/// Where a line is printed, and where the carriage has moved to behind it.
+#[derive(Clone, Copy)]
+pub struct Printed {
+    /// The place of print.
+    pub place: Moved,
+    /// Behind the line.
+    pub behind: Moved,
+}
+
 /// The page behind a page.
 fn next_page(page: u16) -> u16
     requires { page ≤ 9999 }
@@ -59,6 +68,24 @@ fn is_blank(spacing: &Spacing) -> bool
         || spacing.space_after.is_some()
         || spacing.skip_before.is_some()
         || spacing.skip_after.is_some())
+}
+
+/// The space after of a line whose other entries are blank, as most lines have it.
+#[inline(always)]
+fn space_after_alone(spacing: &Spacing) -> Option<u8>
+    requires { spacing_in_range spacing.now ≡ true }
+    ensures few { IfSome result (λ lines. lines ≤ 3) }
+    ensures alone { IfSome result (λ lines. spacing.now ≡ record { space_before = None; space_after = Some lines; skip_before = None; skip_after = None }) }
+{
+    match *spacing {
+        Spacing {
+            space_before: None,
+            space_after: Some(lines),
+            skip_before: None,
+            skip_after: None,
+        } => Some(lines),
+        _ => None,
+    }
 }
 
 impl Moved {
@@ -141,7 +168,7 @@ impl Moved {
 }
 
 impl Carriage {
-    ghost use Rattle.s3_output.specs.Carriages.{place, place_moved};
+    ghost use Rattle.s3_output.specs.Carriages.{IsPrinted, place, place_moved};
 
     /// To the place of print: skip before, then space before; printing at line 60 sets overflow.
     pub fn to_print(self, spacing: &Spacing) -> Moved
@@ -158,6 +185,55 @@ impl Carriage {
         Moved {
             carriage: there.carriage,
             overflow: there.overflow || there.carriage.line == OVERFLOW_LINE,
+        }
+    }
+    /// So many lines on from a place of print at which no overflow is set, if that sets none either, as mostly.
+    #[inline(always)]
+    fn printed_above_overflow(self, spacing: &Spacing) -> Option<Printed>
+        requires { spacing_in_range spacing.now ≡ true }
+        ensures { IfSome result (IsPrinted spacing.now self) }
+    {
+        let lines = space_after_alone(spacing)?;
+        if self.line >= OVERFLOW_LINE || self.line + lines > OVERFLOW_LINE {
+            return None;
+        }
+        let place = Moved {
+            carriage: self,
+            overflow: false,
+        };
+        let carriage = Carriage {
+            page: self.page,
+            line: self.line + lines,
+        };
+        let behind = Moved {
+            carriage,
+            overflow: false,
+        };
+        Some(Printed { place, behind })
+    }
+
+    /// Prints a line, and goes on from there.
+    #[inline(always)]
+    pub fn print(self, spacing: &Spacing) -> Printed
+        requires { spacing_in_range spacing.now ≡ true }
+        ensures { IsPrinted spacing.now self result }
+    {
+        match self.printed_above_overflow(spacing) {
+            Some(printed) => printed,
+            None => self.printed(spacing),
+        }
+    }
+
+    /// The same, wherever it is.
+    #[inline(never)]
+    fn printed(self, spacing: &Spacing) -> Printed
+        requires { spacing_in_range spacing.now ≡ true }
+        ensures { IsPrinted spacing.now self result }
+    {
+        let place = self.to_print(spacing);
+        Printed {
+            place,
+            behind: place.after_print(spacing),
         }
     }
 }

@@ -61,6 +61,7 @@ fn overlay_number(text: &mut [u8], number: &Dec, output: &SlotOutput)
     put_number(
         number,
         &output.form,
+        &output.amount,
         &mut text[output.end - output.width..output.end],
     );
 }

@@ -16,7 +16,7 @@ ghost use Rattle.s3_operations.specs.Held.{IsSound, Changes, held};
 ghost use Rattle.s3_output.specs.Inner.Contents.{number_put, shown_form as shown_form_spec, cleared, HasPageForm};
 
 use crate::composition::Composition;
-use crate::numbers::number_width;
+use crate::numbers::{amount_style, number_width};
 use crate::preparing::SlotOutput;
 use s3_decimal::Dec;
 use s3_edit::EditCode;
@@ -101,9 +101,9 @@ fn lay_number(
     let output = SlotOutput {
         slot: PAGE,
         form,
+        amount: amount_style(form, number.decimals),
         width: number_width(form, number.digits, number.decimals),
         end,
-        blank_after: false,
     };
     composition.lay_number(&number, &output);
 }

@@ -10,6 +10,7 @@ mod fields;
 pub mod guards;
 pub mod laws;
 mod numbers;
+mod pairs;
 pub mod preparing;
 pub mod requests;
 mod slots;

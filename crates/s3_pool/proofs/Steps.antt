@@ -158,11 +158,6 @@ missed_overwritten {b} {b'} {xs} way y keeps way_is missed within is_dirty = rec
   stored = λ i other. keeps.stored.each i;
 }
 
--- in either answer
-pub took : {b b' : List (List ℕ)} {xs ys : List Buffer} (way : Option ℕ) (y : Buffer) (r : Result ℕ PoolFault) → OnOk r (ys ≡ with_taken xs way y) → OnErr r (ys ≡ xs) → KeepsLaid b xs b' xs → KeepsLaid b xs b' (with_taken xs way y) → KeepsLaid b xs b' ys
-took {b} {b'} {xs} way y (Ok slot) ok err keeps taken = subst (λ l. KeepsLaid b xs b' l) (sym ok) taken
-took {b} {b'} {xs} way y (Err fault) ok err keeps taken = subst (λ l. KeepsLaid b xs b' l) (sym err) keeps
-
 -- ---- the places of sectors
 
 -- a store that is written to has as many sectors
@@ -197,11 +192,6 @@ taken_indexed {b} {b'} f f' way y keeps way_is missed within i slots places =
       whole = ap length places ∙ length-set f.places.items y.sector (place f.slots.items way) ∙ i.whole ∙ sym (same_length keeps);
       placed = subst (λ l. IsPlaced l f'.slots.items) (sym places) (subst (λ l. IsPlaced (slice_set f.places.items y.sector (place f.slots.items way)) l) (sym slots) placed);
     }
-
--- in either answer
-pub took_indexed : {b b' : List (List ℕ)} (f f' : Buffers) (way : Option ℕ) (y : Buffer) (r : Result ℕ PoolFault) → KeepsLaid b f.slots.items b' f.slots.items → IsOpen b' f.slots.items way → IsMissed y.sector f.slots.items → y.sector < length b → IsIndexed b f → OnOk r (f'.slots.items ≡ with_taken f.slots.items way y) → OnOk r (f'.places.items ≡ slice_set f.places.items y.sector (place f.slots.items way)) → OnErr r (f'.slots.items ≡ f.slots.items) → OnErr r (f'.places.items ≡ f.places.items) → IsIndexed b' f'
-took_indexed f f' way y (Ok slot) keeps way_is missed within i slots places same_slots same_places = taken_indexed f f' way y keeps way_is missed within i slots places
-took_indexed f f' way y (Err fault) keeps way_is missed within i slots places same_slots same_places = unmoved f f' keeps i same_slots same_places
 
 -- ---- what is lent
 

@@ -6,6 +6,7 @@ ghost use Rattle.s3_pool.specs.Buffers.{IsAt, IsMissed, IsSound, KeepsLaid, Over
 ghost use Rattle.s3_pool.specs.Inner.BufferLending.{LendsBytes, LendsBuffer, IsInStep, place, with_taken};
 ghost use Rattle.s3_pool.specs.Inner.Places.{IsPlaced, IsIndexed};
 
+use crate::slot_hash::SlotHash;
 use lru::LruCache;
 use s3_store::{PackStore, PoolFault, StoreFault};
 use std::alloc::{AllocError, Global};
@@ -48,7 +49,7 @@ pub(crate) struct Buffers {
     /// says which sector it has.
     places: Vec<u8>,
     /// The slots in the order of their use. It says which one is displaced, and nothing rests on it.
-    order: LruCache<u8, ()>,
+    order: LruCache<u8, (), SlotHash>,
     /// The slot that was used last.
     last: u8,
     /// The bytes that the next sector is read or copied into, before it displaces another.
@@ -70,7 +71,7 @@ impl Buffers {
         Ok(Buffers {
             slots: Vec::with_capacity(alloc, ROOM)?,
             places: vec![in alloc; 0; usize::from(sectors)]?,
-            order: LruCache::new(alloc, NonZeroUsize::new(ROOM).unwrap())?,
+            order: LruCache::with_hasher(alloc, NonZeroUsize::new(ROOM).unwrap(), SlotHash::new())?,
             last: 0,
             spare: Box::new(alloc, [0; 256])?,
         })
@@ -249,7 +250,9 @@ fn make_way<S: PackStore>(store: &mut S, buffers: &Buffers) -> Result<Option<u8>
     Ok(Some(slot))
 }
 
-/// Reads sector `n`, which no buffer holds, into a slot.
+/// Reads sector `n`, which no buffer holds, into a slot, which is used. It stands apart, so that a sector that is held is found
+/// in the caller.
+#[inline(never)]
 fn fetch<S: PackStore>(store: &mut S, buffers: &mut Buffers, n: u16) -> Result<u8, PoolFault>
     requires sound { IsSound (S.contents store.old) buffers.old.slots.items }
     requires indexed { IsIndexed (S.contents store.old) buffers.old }
@@ -263,10 +266,13 @@ fn fetch<S: PackStore>(store: &mut S, buffers: &mut Buffers, n: u16) -> Result<u
 {
     let way = make_way(store, buffers)?;
     store.read(n, &mut buffers.spare)?;
-    buffers.take_in(way, n, false)
+    let slot = buffers.take_in(way, n, false)?;
+    buffers.note_use(slot);
+    Ok(slot)
 }
 
 /// Has sector `n` in the slot that is given, as the one that was used last.
+#[inline(always)]
 pub(crate) fn load<S: PackStore>(
     store: &mut S,
     buffers: &mut Buffers,
@@ -284,9 +290,8 @@ pub(crate) fn load<S: PackStore>(
     if n >= store.sectors() {
         return Err(PoolFault::NoSector);
     }
-    let slot = match buffers.slot_of(n) {
-        Some(slot) => slot,
-        None => fetch(store, buffers, n)?,
+    let Some(slot) = buffers.slot_of(n) else {
+        return fetch(store, buffers, n);
     };
     buffers.note_use(slot);
     Ok(slot)

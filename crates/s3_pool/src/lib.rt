@@ -4,5 +4,6 @@
 
 mod buffers;
 mod pool;
+mod slot_hash;
 
 pub use pool::Pool;

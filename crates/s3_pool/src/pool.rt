@@ -94,6 +94,7 @@ impl<S: PackStore> Sectors for Pool<S> {
         self.store.sectors()
     }
 
+    #[inline(always)]
     fn read_sector(&mut self, n: u16, bytes: &mut [u8; 256]) -> Result<(), PoolFault> {
         if self.buffers.is_unheld_block(n) {
             self.store.read(n, bytes)?;

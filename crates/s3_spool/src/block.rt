@@ -4,6 +4,7 @@ ghost use Rattle.byteorder.specs.Endian.{big_bytes};
 ghost use Rattle.s3_store.specs.Bytes.{part};
 ghost use Rattle.s3_spool.specs.Queues.{block_bytes as block_bytes_spec, text_length as text_length_spec, line_of_block as line_of_block_spec};
 
+use crate::composed_line::ComposedLine;
 use byteorder::{BigEndian, ByteOrder};
 use s3_cards::ebcdic::BLANK;
 use s3_cards::{PRINT_POSITIONS, PrintLine};
@@ -31,7 +32,7 @@ fn head_of(page: u16, line: u8, length: u8) -> [u8; 4]
 /// A block of zeros gets this line.
 #[tactic(auto, using(crate::proofs::BlockLemmas::block_put_together, crate::proofs::BlockLemmas::block_reads_back, crate::proofs::BlockLemmas::block_is_whole))]
 #[inline(always)]
-pub fn lay_line(block: &mut [u8; 256], line: &PrintLine)
+pub fn lay_line(block: &mut [u8; 256], line: &ComposedLine<'_>)
     requires { block.old ≡ replicate 256 0 }
     ensures value { block.new ≡ block_bytes_spec line.now }
     ensures reads { line_of_block_spec (block_bytes_spec line.now) ≡ line.now }

@@ -3,10 +3,12 @@
 #![tactic(auto)]
 
 mod block;
+mod composed_line;
 mod fault;
 mod laws;
 mod spool;
 
+pub use composed_line::ComposedLine;
 pub use fault::SpoolFault;
 pub use laws::a_line_stands_in_its_block;
 pub use spool::Spool;

@@ -8,6 +8,7 @@ ghost use Rattle.s3_store.specs.State.{KeepsContents, ChangesWithin};
 ghost use Rattle.s3_spool.specs.Queues.{times, blocks_of, quota_of, queue_of, with_queued, with_taken, AreBlocks, IsFreeSector, failed_by, line_of_block as line_of_block_spec, block_bytes as block_bytes_spec, block_sector};
 
 use crate::block::{lay_line, line_of_block};
+use crate::composed_line::ComposedLine;
 use crate::fault::SpoolFault;
 use circular_buffer::HeapCircularBuffer;
 use s3_cards::{LevelId, PrintLine};
@@ -64,7 +65,11 @@ fn all_blocks(alloc: Global) -> Result<HeapCircularBuffer<u8>, AllocError>
 
 /// Puts a line into a block.
 #[tactic(auto)]
-fn put_line<P: Sectors>(sectors: &mut P, block: u8, line: &PrintLine) -> Result<(), PoolFault>
+fn put_line<P: Sectors>(
+    sectors: &mut P,
+    block: u8,
+    line: &ComposedLine<'_>,
+) -> Result<(), PoolFault>
     requires { block_sector block < length (P.state sectors.old).contents }
     ensures ok { OnOk result ((P.state sectors.new).contents ≡ slice_set (P.state sectors.old).contents (block_sector block) (block_bytes_spec line.now)) }
     ensures err { OnErr result ((P.state sectors.new).contents ≡ (P.state sectors.old).contents) }
@@ -185,11 +190,36 @@ impl Spool {
     ///
     /// Refused `QuotaFull` exactly where the level has as many lines queued as its quota, and by the sectors' faults; refused, the
     /// queues stay. `sectors` are those of a pack: the spool's blocks are sectors 25 to 152.
-    #[tactic(auto)]
     pub fn put<P: Sectors>(
         &mut self,
         level: LevelId,
         line: &PrintLine,
+        sectors: &mut P,
+    ) -> Result<(), SpoolFault>
+        requires { 153 ≤ length (P.state sectors.old).contents }
+        ensures queued { OnOk result (queue_of level self.new (P.state sectors.new).contents ≡ queue_of level self.old (P.state sectors.old).contents ++ line.now ∷ []) }
+        ensures other { queue_of (other level) self.new (P.state sectors.new).contents ≡ queue_of (other level) self.old (P.state sectors.old).contents }
+        ensures quotas { (one_or_two : LevelId) → quota_of one_or_two self.new ≡ quota_of one_or_two self.old }
+        ensures full { (result ≡ Err SpoolFault.QuotaFull) ↔ (length (blocks_of level self.old) ≡ quota_of level self.old) }
+        ensures not_empty { result ≢ Err SpoolFault.Empty }
+        ensures err { OnErr result (self.new ≡ self.old) }
+        ensures blocks { AreBlocks self.new.free self.new.one self.new.two }
+        ensures within { ChangesWithin (IsFreeSector self.old) (P.state sectors.old) (P.state sectors.new) }
+        ensures failures { (P.state sectors.new).failures ≡ (P.state sectors.old).failures + failed_by result }
+        ensures fault { result ≢ Err (SpoolFault.Sectors PoolFault.NoSector) }
+    {
+        self.put_composed(level, &ComposedLine::of(line), sectors)
+    }
+
+    /// A line more for a level as it was composed, put last in its queue.
+    ///
+    /// What is said of `put` is said of it.
+    #[inline(always)]
+    #[tactic(auto)]
+    pub fn put_composed<P: Sectors>(
+        &mut self,
+        level: LevelId,
+        line: &ComposedLine<'_>,
         sectors: &mut P,
     ) -> Result<(), SpoolFault>
         requires { 153 ≤ length (P.state sectors.old).contents }

@@ -1,10 +1,11 @@
 -- What a number is put out as.
-use Rattle.std.specs.Prelude.{◌≡◌, ℕ, ◌+◌, ◌/◌, ℤ, pos, Bool, true, false, unsigned_abs, List, replicate, is_some, unwrap_or, if◌then◌else◌}
+use Rattle.std.specs.Prelude.{◌≡◌, ℕ, ◌+◌, ◌/◌, ℤ, pos, Bool, true, false, unsigned_abs, List, replicate, nat_le, Option, Some, None, is_some, unwrap_or, if◌then◌else◌}
 use Rattle.s3_decimal.specs.declared.number.Dec.{Dec}
 use Rattle.s3_decimal.specs.Exact.{is_negative}
 use Rattle.s3_decimal.specs.Records.{zoned_bytes, packed_bytes}
 use Rattle.s3_edit.specs.declared.code.EditCode.{EditCode}
-use Rattle.s3_edit.specs.declared.code.EditCode.TheVariants.{Suppressed}
+use Rattle.s3_edit.specs.declared.code.EditCode.TheVariants.{Suppressed, Edited as EditedCode}
+use Rattle.s3_edit.specs.declared.code.Amount.{Amount}
 use Rattle.s3_edit.specs.Picture.{width_of}
 use Rattle.s3_lines.specs.declared.sheet.OutputForm.{OutputForm}
 use Rattle.s3_lines.specs.declared.sheet.OutputForm.TheVariants.{Plain, Packed, Edited}
@@ -41,6 +42,11 @@ abbrev pub has_width : OutputForm → (digits decimals : ℕ) → Bool
 has_width (Edited code) digits decimals = is_some (width_of code digits decimals)
 has_width _ digits decimals = true
 
+-- the style of an amount of up to three decimals
+abbrev pub amount_of : OutputForm → (decimals : ℕ) → Option Amount
+amount_of (Edited (EditedCode style)) decimals = if nat_le decimals 3 then Some style else None
+amount_of _ decimals = None
+
 -- a number is put out as its field is prepared
 abbrev pub number_of : Dec → SlotOutput → List ℕ
 number_of number output = number_put output.form false number.digits number.decimals number.value
@@ -48,6 +54,7 @@ number_of number output = number_put output.form false number.digits number.deci
 pub record FitsNumber (number : Dec) (output : SlotOutput) : Type 0 where
   pub fits : number_fits output.form number.digits number.decimals output.end ≡ true
   pub width : output.width ≡ number_width output.form number.digits number.decimals
+  pub amount : output.amount ≡ amount_of output.form number.decimals
 
 -- PAGE has four digits
 pub record HasPageForm (number : Dec) : Type 0 where

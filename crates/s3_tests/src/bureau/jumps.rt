@@ -1,4 +1,4 @@
-//! Jumps that are passed many at once, and one by one.
+//! Turns that are taken many at once, jumps among them, and one by one.
 
 use crate::bureau::packs::new_pack;
 use crate::bureau::sessions::has_text;
@@ -92,15 +92,11 @@ fn turns_are_taken_one_by_one(rt: HostRuntime) -> Result<(), Fail> {
 }
 
 #[test]
-fn jumps_are_passed_at_once(rt: HostRuntime) -> Result<(), Fail> {
+fn turns_are_taken_at_once(rt: HostRuntime) -> Result<(), Fail> {
     let mut bureau = opened(&rt, rt.alloc())?;
-    for _turn in 0..3u8 {
-        assert_takes(&rt, &mut bureau, 9, 1);
-    }
-    assert_takes(&rt, &mut bureau, 9, 4);
-    for _turn in 0..3u8 {
-        assert_takes(&rt, &mut bureau, 9, 1);
-    }
+    assert_takes(&rt, &mut bureau, 9, 9);
+    // the last one ends the job, and the one behind it would be idle
+    assert_takes(&rt, &mut bureau, 9, 1);
     assert_eq!(rt; bureau.step(TURN), Ok(Did::Idle));
     assert_ends(&rt, bureau);
     Ok(())
@@ -113,10 +109,9 @@ fn a_count_ends_between_two_jumps(rt: HostRuntime) -> Result<(), Fail> {
         assert_takes(&rt, &mut bureau, 1, 1);
     }
     assert_takes(&rt, &mut bureau, 3, 3);
+    // the fourth jump, the line and the end of cards
+    assert_takes(&rt, &mut bureau, 3, 3);
     assert_takes(&rt, &mut bureau, 3, 1);
-    for _turn in 0..3u8 {
-        assert_takes(&rt, &mut bureau, 3, 1);
-    }
     assert_eq!(rt; bureau.step(TURN), Ok(Did::Idle));
     assert_ends(&rt, bureau);
     Ok(())

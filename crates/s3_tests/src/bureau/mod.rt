@@ -4,6 +4,7 @@
 mod decks;
 mod fuse_rows;
 mod jumps;
+mod levels;
 mod lister;
 mod memory_rows;
 mod packs;

@@ -7,7 +7,7 @@ use s3_lines::sheet::Operation;
 use s3_output::conditions::overflow_of;
 use s3_output::guards::{LineGuard, line_guards};
 use s3_output::preparing::{FieldForm, PreparedOutput, prepared_outputs};
-use s3_prepared::line::{PreparedLine, Told};
+use s3_prepared::line::{Behind, PreparedLine, Told};
 use s3_prepared::preparing::prepared_lines;
 use s3_prepared::work::Work;
 use std::test::Fail;
@@ -117,12 +117,24 @@ fn cards_get_their_forms(rt: HostRuntime) -> Result<(), Fail> {
 }
 
 fn way_on(line: PreparedLine) -> &'static str {
-    match line.told {
-        Told::Never => "untold",
-        _ if line.goes_on => "on",
-        _ => "off",
+    match (line.told, line.behind) {
+        (Told::Never, _) => "untold",
+        (_, Behind::Next) => "on",
+        (_, Behind::NextHolds) => "on without a test",
+        (_, Behind::End) => "at the end",
+        (_, Behind::Untold) => "off",
     }
 }
+
+/// Lines without conditions, and ones that have the same condition or others, one of which turns indicators; a total line at last.
+const RUNS: &str = "6:C 18:ONE 28:ADD 33:TWO 43:ONE
+6:C 10:01 28:Z-ADD 33:TWO 43:ONE
+6:C 10:01 28:Z-ADD 33:TWO 43:TWO
+6:C 9:N01 28:Z-ADD 33:TWO 43:ONE
+6:C 9:N01 18:ONE 28:COMP 33:TWO 54:10
+6:C 9:N01 28:Z-ADD 33:TWO 43:TWO
+6:C 28:Z-ADD 33:TWO 43:ONE
+6:C 7:LR 28:Z-ADD 33:TWO 43:ONE";
 
 #[test]
 fn lines_go_on_to_the_next(rt: HostRuntime) -> Result<(), Fail> {
@@ -134,7 +146,22 @@ fn lines_go_on_to_the_next(rt: HostRuntime) -> Result<(), Fail> {
     }
     assert_eq!(&rt;
         names.as_str(),
-        "on, on, on, on, on, on, on, on, on, on, on, on, on, on, on, on, on, on, on, on, on, on, on, on, off, untold, untold, untold, untold"
+        "on without a test, on without a test, on without a test, on without a test, on without a test, on without a test, on without a test, on without a test, on without a test, on without a test, on without a test, on without a test, on without a test, on without a test, on without a test, on without a test, on without a test, on without a test, on without a test, on without a test, on without a test, on without a test, on without a test, on, off, untold, untold, untold, untold"
+    );
+    Ok(())
+}
+
+#[test]
+fn conditions_that_are_known_are_not_tested(rt: HostRuntime) -> Result<(), Fail> {
+    let alloc = rt.alloc();
+    let program = program_of(alloc, &[CARDS, PRINT, FIELDS, RUNS, TOTAL])?;
+    let mut names = String::new(alloc);
+    for line in &prepared_lines(alloc, &program)? {
+        list_text(&mut names, way_on(*line))?;
+    }
+    assert_eq!(&rt;
+        names.as_str(),
+        "on, on without a test, on, on without a test, on, on without a test, at the end, off"
     );
     Ok(())
 }
@@ -252,11 +279,12 @@ fn lines_get_their_guards(rt: HostRuntime) -> Result<(), Fail> {
     Ok(())
 }
 
-/// Numbers and texts in their forms, and then what has none: a constant and PAGE.
+/// Numbers and texts in their forms, and then what has none: a field with blank after, a constant and PAGE.
 const OUTPUT_CARDS: &str = "6:O 7:PRINT 15:D 24:01
 6:O 14:AND 24:01
 6:O 32:ONE 42:10
 6:O 24:01 32:TWO 38:Z 42:20
+6:O 23:N01 32:TEXT 42:30
 6:O 23:N01 32:TEXT 39:B 42:30
 6:O 42:36 45:'END'
 6:O 32:PAGE 42:40";
@@ -281,6 +309,9 @@ fn output_cards_get_their_forms(rt: HostRuntime) -> Result<(), Fail> {
     for line in &prepared_outputs(alloc, &program)? {
         list_fields(&mut names, line)?;
     }
-    assert_eq!(&rt; names.as_str(), "number, number, text, card, card, card");
+    assert_eq!(&rt;
+        names.as_str(),
+        "number, number, text, card, card, card, card"
+    );
     Ok(())
 }

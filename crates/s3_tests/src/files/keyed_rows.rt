@@ -81,6 +81,15 @@ fn a_full_file_tells_a_duplicate_first(rt: HostRuntime) -> Result<(), Fail> {
         file.add(&mut store, &record(D)),
         Err(KeyedFault::Duplicate)
     );
+    Ok(())
+}
+
+#[test]
+fn a_full_file_takes_no_other_key(rt: HostRuntime) -> Result<(), Fail> {
+    let mut store = b_and_a(rt.alloc())?;
+    let two = label_of(Organization::Indexed, 3, 2);
+    let mut file = Keyed::check(rt.alloc(), &mut store, &two)?;
+    file.add(&mut store, &record(D))?;
     assert_eq!(rt; file.add(&mut store, &record(C)), Err(KeyedFault::Full));
     Ok(())
 }

@@ -45,6 +45,13 @@ overflow_mul-place g c =
     let starts = starts n c.entries_per_sector-per_sector.result place c.entries_per_sector-per_sector.ensures.some (subst (λ e. place < e) c.div_ceil-place-end.ensures c.loop-place-test.true) in
     omega (arith, starts)
 
+pub overflow_mul-place-in-loop-place : goal.overflow_mul-place-in-loop-place
+overflow_mul-place-in-loop-place g c =
+    let n = c.args.file.now.file.count in
+    let place = c.loop-place.place in
+    let starts = starts n c.entries_per_sector-per_sector.result place c.entries_per_sector-per_sector.ensures.some (subst (λ e. place < e) c.div_ceil-place-end.ensures c.loop-place-test.true) in
+    omega (arith, starts)
+
 pub overflow_sub-count : goal.overflow_sub-count
 overflow_sub-count g c =
     let n = c.args.file.now.file.count in
@@ -91,12 +98,20 @@ pub returns-then-not-branch-clause-keeps : goal.returns-then-not-branch-clause-k
 returns-then-not-branch-clause-keeps g c =
     keeps_trans _ _ _ (keeps_trans _ _ _ c.loop-place.invariant.keeps c.read_sector.ensures.keeps) c.have_keys.ensures.keeps
 
-pub returns-in_err-push-clause-keeps : goal.returns-in_err-push-clause-keeps
-returns-in_err-push-clause-keeps g c =
+pub returns-in_err-note-clause-keeps : goal.returns-in_err-note-clause-keeps
+returns-in_err-note-clause-keeps g c =
     keeps_trans _ _ _ (keeps_trans _ _ _ c.loop-place.invariant.keeps c.read_sector.ensures.keeps) c.have_keys.ensures.keeps
 
 pub ascend-requires-clause-some : goal.ascend-requires-clause-some
 ascend-requires-clause-some g c =
+    let n = c.args.file.now.file.count in
+    let place = c.loop-place.place in
+    let some = c.entries_per_sector-per_sector.ensures.some in
+    let starts = starts n c.entries_per_sector-per_sector.result place some (subst (λ e. place < e) c.div_ceil-place-end.ensures c.loop-place-test.true) in
+    (covers c.entries_per_sector-per_sector.result n place c.min-entries.result some starts c.min-entries.ensures).some
+
+pub note-requires-clause-some : goal.note-requires-clause-some
+note-requires-clause-some g c =
     let n = c.args.file.now.file.count in
     let place = c.loop-place.place in
     let some = c.entries_per_sector-per_sector.ensures.some in

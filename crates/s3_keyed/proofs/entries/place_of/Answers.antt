@@ -7,11 +7,11 @@ pub returns-clause-within : goal.returns-clause-within
 returns-clause-within c =
     let f = c.args.file.now in
     let short = f.short_key in
-    rw (c.from-width.ensures, c.sectors_before.ensures) (let w = entry_within (record_sectors f.file.capacity f.file.record_length) (f.key_length + 4) c.args.i f.file.capacity (length f.file.sectors) (omega arith) (omega arith) c.requires f.index_fits in omega (arith, w))
+    rw (f.whole_entries, c.from-width.ensures, c.sectors_before.ensures) (let w = entry_within (record_sectors f.file.capacity f.file.record_length) (f.key_length + 4) c.args.i f.file.capacity (length f.file.sectors) (omega arith) (omega arith) c.requires f.index_fits in omega (arith, w))
 
 pub overflow_add-result-2 : goal.overflow_add-result-2
 overflow_add-result-2 c =
     let f = c.args.file.now in
     let short = f.short_key in
     let small = f.small in
-    rw (c.from-width.ensures, c.sectors_before.ensures) (let w = entry_within (record_sectors f.file.capacity f.file.record_length) (f.key_length + 4) c.args.i f.file.capacity (length f.file.sectors) (omega arith) (omega arith) c.requires f.index_fits in omega (arith, w, small))
+    rw (f.whole_entries, c.from-width.ensures, c.sectors_before.ensures) (let w = entry_within (record_sectors f.file.capacity f.file.record_length) (f.key_length + 4) c.args.i f.file.capacity (length f.file.sectors) (omega arith) (omega arith) c.requires f.index_fits in omega (arith, w, small))

@@ -1,9 +1,15 @@
-use Rattle.std.proofs.Common.{arith, ◌≡◌, ◌+◌, ◌-◌, ◌<◌, ◌^◌, ◌∙◌, ap, sym, subst, length, get_or}
+use Rattle.std.proofs.Common.{arith, refl, ◌≡◌, ◌+◌, ◌-◌, ◌<◌, ◌^◌, ◌∙◌, ap, sym, subst, length, get_or}
 use Rattle.s3_edit.specs.Picture.{sign_width}
 use Rattle.s3_edit.proofs.Joined.{joined}
 use Rattle.s3_edit.proofs.Whole.{shown_body}
-use Rattle.s3_output.proofs.AmountLemmas.{some_shown, whole_room, width_is}
+use Rattle.s3_output.proofs.AmountLemmas.{some_shown, whole_room, wide, width_is}
 use Rattle.s3_output.proofs.amounts.put_amount.Goals as goal
+
+pub blank-requires-clause-some : goal.blank-requires-clause-some
+blank-requires-clause-some c = (wide c.args.style.now c.args.number.now.digits c.args.number.now.decimals (length c.args.text.now) c.args.number.now.has_digits c.args.number.now.within_longest c.requires.room).0
+
+pub blank-requires-clause-few : goal.blank-requires-clause-few
+blank-requires-clause-few c = (wide c.args.style.now c.args.number.now.digits c.args.number.now.decimals (length c.args.text.now) c.args.number.now.has_digits c.args.number.now.within_longest c.requires.room).1
 
 pub put_body-requires-clause-fits : goal.put_body-requires-clause-fits
 put_body-requires-clause-fits c =
@@ -17,7 +23,7 @@ returns c =
     λ p l.
     let at : length c.args.text.now - 1 - p ≡ body + sign_width c.args.style.now.sign - 1 - p = omega (arith, width, c.sign_width.ensures, c.blank.auto.text) in
     rw (← c.requires.magnitude, ← c.is_negative.ensures, ← c.from-decimals.ensures)
-    (ap (λ i. get_or c.put_sign.new.text i 0) at
-    ∙ joined c.args.style.now c.from-decimals.result c.is_negative.result c.args.magnitude body c.put_body.new.text c.put_sign.new.text
+    (ap (λ i. get_or c.put_body.new.text i 0) at
+    ∙ joined c.args.style.now c.from-decimals.result c.is_negative.result c.args.magnitude body c.put_body.new.text c.put_body.new.text
     (λ k h. c.put_body.ensures.picture k h ∙ shown_body c.args.style.now c.from-decimals.result c.args.magnitude k (some_shown c.args.style.now c.args.magnitude c.requires.some))
-    c.put_sign.ensures.picture c.put_sign.ensures.before p (omega (arith, l, width, c.sign_width.ensures, c.blank.auto.text)))
+    (λ k h. c.put_body.ensures.rest (body + sign_width c.args.style.now.sign - 1 - k) (omega (arith, h)) ∙ c.put_sign.ensures.picture k h) (λ i h. refl) p (omega (arith, l, width, c.sign_width.ensures, c.blank.auto.text)))

@@ -3,8 +3,8 @@ use Rattle.s3_cycle.proofs.TurnLemmas.{goes_put, goes_unsequenced, where_put, wh
 use Rattle.s3_cycle.proofs.HeadLemmas.{reading_running, put_heads, same_heads}
 use Rattle.s3_cycle.proofs.stepper.Stepper.put_head.Goals as goal
 
-pub read_on-requires-clause-running : goal.read_on-requires-clause-running
-read_on-requires-clause-running c =
+pub read_behind-requires-clause-running : goal.read_behind-requires-clause-running
+read_behind-requires-clause-running c =
     reading_running c.args.self.now c.put.new.self c.requires.running c.put.ensures.sound
     (put_heads c.args.self.now.program c.args.self.now.progress.reading c.put.new.self c.args.place c.args.start c.args.bytes.now c.requires.unread.within c.requires.running.reading c.put.ensures.sound c.requires.running.heads c.requires.typed c.requires.fits.long
     (where_put c.put.result _ _ _ c.if-put.true c.put.ensures.reading))
@@ -16,7 +16,7 @@ halt-requires-clause-running c =
 
 pub returns-then-put : goal.returns-then-put
 returns-then-put c =
-    goes_put c.args.self.now c.read_on.new.self c.put.new.self c.args.place c.args.start c.args.bytes.now c.requires.typed (sym c.put.ensures.in_sequence ∙ c.if-put.true) (where_put c.put.result _ _ _ c.if-put.true c.put.ensures.reading) c.read_on.ensures
+    goes_put c.args.self.now c.read_behind.new.self c.put.new.self c.args.place c.args.start c.args.bytes.now c.requires.typed (sym c.put.ensures.in_sequence ∙ c.if-put.true) (where_put c.put.result _ _ _ c.if-put.true c.put.ensures.reading) c.read_behind.ensures
 
 pub returns-else-put : goal.returns-else-put
 returns-else-put c =

@@ -1,4 +1,4 @@
-use Rattle.std.proofs.Common.{◌+◌, ◌*◌, ◌^◌, ◌<◌, ◌≤◌, length, sym, subst}
+use Rattle.std.proofs.Common.{◌+◌, ◌*◌, ◌/◌, ◌^◌, ◌<◌, ◌≤◌, length, sym, ap, subst}
 use Rattle.s3_slots.specs.Labels.{sectors_of}
 use Rattle.s3_slots.specs.Slots.{record_sectors, index_sectors}
 use Rattle.s3_keyed.proofs.indexed.IndexedFile.of.Goals as goal
@@ -17,5 +17,6 @@ invariant_of-result c =
           subst (λ s. record_sectors file.capacity file.record_length + index_sectors file.capacity label.key_length ≤ length s) (sym c.of.ensures.sectors)
           (subst (λ n. record_sectors file.capacity n + index_sectors file.capacity label.key_length ≤ length (sectors_of label)) (sym c.of.ensures.record_length)
           (subst (λ n. record_sectors n label.record_length + index_sectors n label.key_length ≤ length (sectors_of label)) (sym c.of.ensures.capacity) c.requires.index.fits));
+      whole_entries = ap (λ n. 256 / (n + 4)) c.from.ensures;
       small = subst (λ s. 256 * length s < 2 ^ 31) (sym c.of.ensures.sectors) c.requires.room.few;
     }

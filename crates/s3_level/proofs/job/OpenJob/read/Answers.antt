@@ -5,6 +5,3 @@ use Rattle.s3_level.proofs.job.OpenJob.read.Goals as goal
 
 pub read_into-requires-clause-long : goal.read_into-requires-clause-long
 read_into-requires-clause-long g c = let long : length _ ≡ c.args.length = search rules in subst (λ n. IsForRecord n (asked c.args.self.now.cycle)) (sym long) c.requires.long
-
-pub read_into-requires-2-clause-long : goal.read_into-requires-2-clause-long
-read_into-requires-2-clause-long g c = let long : length _ ≡ c.args.length = search rules in subst (λ n. IsForRecord n (asked c.args.self.now.cycle)) (sym long) c.requires.long

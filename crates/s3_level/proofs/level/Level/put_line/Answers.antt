@@ -4,16 +4,16 @@ use Rattle.s3_level.proofs.Printing.{line_last}
 use Rattle.s3_level.proofs.Said.{said_put}
 use Rattle.s3_level.proofs.level.Level.put_line.Goals as goal
 
-pub put-requires : goal.put-requires
-put-requires g c = spool_room c.args.pack.now.areas (g.P.Sectors.state c.args.pack.now.pool).contents c.requires.ready.files.pack
+pub put_composed-requires : goal.put_composed-requires
+put_composed-requires g c = spool_room c.args.pack.now.areas (g.P.Sectors.state c.args.pack.now.pool).contents c.requires.ready.files.pack
 
 pub returns-in-Ok-clause-world : goal.returns-in-Ok-clause-world
 returns-in-Ok-clause-world g c =
-    line_last {T = Unit {0}} {E = Unit {0}} (Ok (tt {0})) c.args.self.now c.args.pack.now.areas c.args.spool.now c.put.new.self (g.P.Sectors.state c.args.pack.now.pool) (g.P.Sectors.state c.put.new.sectors) c.in-Some.job c.args.page c.args.line c.record.result.now
-    c.with_text-printed.result c.in-Some.is c.requires.asks c.record.ensures.value c.with_text-printed.ensures c.requires.ready c.put.ensures.within c.put.ensures.quotas c.in-Ok.ensures.queued
+    line_last {T = Unit {0}} {E = Unit {0}} (Ok (tt {0})) c.args.self.now c.args.pack.now.areas c.args.spool.now c.put_composed.new.self (g.P.Sectors.state c.args.pack.now.pool) (g.P.Sectors.state c.put_composed.new.sectors) c.in-Some.job c.args.page c.args.line c.record.result.now
+    c.new-composed.result c.in-Some.is c.requires.asks c.record.ensures.value c.new-composed.ensures c.requires.ready c.put_composed.ensures.within c.put_composed.ensures.quotas c.in-Ok.ensures.queued
 
 pub returns-in-Ok-clause-ready : goal.returns-in-Ok-clause-ready
-returns-in-Ok-clause-ready g c = ready_put c.args.self.now c.args.pack.now.areas c.args.spool.now (g.P.Sectors.state c.args.pack.now.pool) (g.P.Sectors.state c.put.new.sectors) c.requires.ready c.put.ensures.within
+returns-in-Ok-clause-ready g c = ready_put c.args.self.now c.args.pack.now.areas c.args.spool.now (g.P.Sectors.state c.args.pack.now.pool) (g.P.Sectors.state c.put_composed.new.sectors) c.requires.ready c.put_composed.ensures.within
 
 pub returns-in-Ok-clause-says : goal.returns-in-Ok-clause-says
-returns-in-Ok-clause-says g c = said_put c.args.self.now.id c.args.pack.now.areas c.args.spool.now (g.P.Sectors.state c.args.pack.now.pool) (g.P.Sectors.state c.put.new.sectors) c.put.ensures.within
+returns-in-Ok-clause-says g c = said_put c.args.self.now.id c.args.pack.now.areas c.args.spool.now (g.P.Sectors.state c.args.pack.now.pool) (g.P.Sectors.state c.put_composed.new.sectors) c.put_composed.ensures.within

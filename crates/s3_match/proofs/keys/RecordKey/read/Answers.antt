@@ -5,7 +5,7 @@ use Rattle.s3_match.proofs.keys.RecordKey.read.Goals as goal
 
 pub returns-then-not-self : goal.returns-then-not-self
 returns-then-not-self c =
-    ap (λ (b : Bool). if b then Some c.clear.new.self.items else None) c.if-not-self.true
+    ap (λ (b : Bool). if b then Some c.args.self.now.bytes.items else None) c.if-not-self.true
     ∙ no_key c.args.program.now c.args.start c.args.bytes.now _ c.has_match_fields-self.ensures c.if-not-self.true
 
 pub returns : goal.returns

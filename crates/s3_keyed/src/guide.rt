@@ -1,0 +1,102 @@
+//! Where the search for a key begins. A search doesn't rely on it, so that nothing is proved of it.
+ghost use Rattle.std.specs.Prelude.{◌≡◌, ◌≤◌, ◌<◌, ◌+◌, ◌/◌, IfErr};
+
+use crate::index_sector::{key_number, key_of_entry};
+use crate::keys::{Key, QuickKey};
+use s3_store::PoolFault;
+use std::alloc::Global;
+
+/// How many entries of a sector lie between two keys that are noted.
+pub const STEP: u32 = 4;
+
+/// Some keys of an index as it was checked, in their order.
+#[derive(Drop)]
+pub struct Guide {
+    /// The first key of each sector and each fourth one behind it as numbers, where keys have four to eight bytes.
+    numbers: Vec<u64>,
+    /// Which entry of the index has each of them.
+    entries: Vec<u32>,
+    /// The first key of each sector, where keys are shorter or longer.
+    firsts: Vec<QuickKey>,
+}
+
+impl Guide {
+    /// With no keys yet.
+    pub fn new(alloc: Global) -> Self {
+        Guide {
+            numbers: Vec::new(alloc),
+            entries: Vec::new(alloc),
+            firsts: Vec::new(alloc),
+        }
+    }
+
+    /// Notes keys of the first so many entries of a sector, which begins with this entry of the index.
+    pub fn note(
+        &mut self,
+        sector: &[u8; 256],
+        count: usize,
+        key_length: u8,
+        entry: u32,
+    ) -> Result<(), PoolFault>
+        requires short { key_length ≤ 29 }
+        requires some { 0 < count }
+        requires inside { count ≤ 256 / (key_length + 4) }
+        ensures { IfErr result (λ fault. fault ≡ PoolFault.NoMemory) }
+    {
+        match key_length {
+            4..=8 => self.note_numbers(sector, count, key_length, entry),
+            _ => {
+                let first = key_of_entry(sector, 0, usize::from(key_length));
+                self.firsts.push(QuickKey::of(&first, key_length))?;
+                Ok(())
+            }
+        }
+    }
+
+    /// The same of keys of four to eight bytes.
+    fn note_numbers(
+        &mut self,
+        sector: &[u8; 256],
+        count: usize,
+        key_length: u8,
+        entry: u32,
+    ) -> Result<(), PoolFault>
+        requires long { 4 ≤ key_length }
+        requires short { key_length ≤ 8 }
+        requires inside { count ≤ 256 / (key_length + 4) }
+        ensures { IfErr result (λ fault. fault ≡ PoolFault.NoMemory) }
+    {
+        let mut entry = entry;
+        for j in 0..count {
+            if j % STEP as usize == 0 {
+                self.numbers
+                    .push(key_number(sector, j, usize::from(key_length)))?;
+                self.entries.push(entry)?;
+            }
+            entry = entry.wrapping_add(1);
+        }
+        Ok(())
+    }
+
+    /// The last entry that is noted with this key or a lower one, where keys have four to eight bytes.
+    pub fn entry_up_to(&self, key: u64) -> Option<u32> {
+        let up_to = self.numbers.partition_point(|number| *number <= key);
+        let entry = self.entries.get(up_to.checked_sub(1)?)?;
+        Some(*entry)
+    }
+
+    /// The sector of the index, each of so many entries, that a key of so many bytes lies in.
+    pub fn sector_of(&self, key: &Key, key_length: u8, per_sector: u32) -> u32 {
+        let key = QuickKey::of(key, key_length);
+        match key_length {
+            4..=8 => match self.entry_up_to(key.head()) {
+                Some(entry) => entry.checked_div(per_sector).unwrap_or(0),
+                None => 0,
+            },
+            _ => {
+                let up_to = self.firsts.partition_point(|first| first.is_up_to(&key));
+                u32::try_from(up_to.saturating_sub(1)).unwrap_or(0)
+            }
+        }
+    }
+}

@@ -1,0 +1,13 @@
+-- So many turns acted, and nothing else was done.
+use Rattle.std.proofs.Common.{◌-◌, ◌≤◌}
+use Rattle.s3_level.specs.Holds.{around}
+use Rattle.s3_level.proofs.Repeating.{TurnedSo}
+use Rattle.s3_level.proofs.level.Level.turns.Given as goal
+
+abbrev pub invariant-loop-most : goal.invariant-loop-most
+invariant-loop-most g l =
+    TurnedSo (l.all - l.left) l.initial.self l.self (around l.initial.pack.areas (g.P.Sectors.state l.initial.pack.pool) l.initial.spool) (around l.pack.areas (g.P.Sectors.state l.pack.pool) l.spool)
+    × (l.left ≤ l.all)
+
+abbrev pub decreases-loop-most : goal.decreases-loop-most
+decreases-loop-most g l = l.left

@@ -1,0 +1,82 @@
+//! What is held of control fields.
+
+use crate::compared::{are_zoned_digits, field_bytes};
+use crate::keys::RecordKey;
+use arrayvec::ArrayVec;
+use s3_lines::sheet::{FieldForm, FieldLine};
+use s3_program::program::Reference;
+
+/// The most that a control field compares.
+pub const FIELD_BYTES: usize = 256;
+
+/// What the control field of a level compares, if one is held.
+#[derive(Drop)]
+pub struct HeldField {
+    /// Whether one is held.
+    pub is_given: bool,
+    /// What it compares.
+    pub bytes: ArrayVec<u8, FIELD_BYTES>,
+}
+
+impl HeldField {
+    ghost use Rattle.std.specs.Prelude.{◌≡◌, ◌≤◌, None, Some, IsTrue, length};
+    ghost use Rattle.s3_lines.specs.Ranges.{field_in_range};
+    ghost use Rattle.s3_meaning.specs.Selection.{same_key};
+    ghost use Rattle.s3_match.specs.Keys.{held_key};
+    ghost use Rattle.s3_match.specs.Inner.ControlFields.{compared_on};
+
+    /// None is held.
+    pub fn none() -> HeldField
+        ensures { held_key result ≡ None }
+    {
+        HeldField {
+            is_given: false,
+            bytes: ArrayVec::new(),
+        }
+    }
+
+    /// Holds what a control field compares.
+    pub fn hold(&mut self, compared: &[u8])
+        requires { length compared.now ≤ FIELD_BYTES }
+        ensures { held_key self.new ≡ Some compared.now }
+    {
+        self.is_given = true;
+        self.bytes.clear();
+        if self.bytes.try_extend_from_slice(compared).is_err() {
+            unreachable!()
+        }
+    }
+
+    /// Whether this is held.
+    fn is_same(&self, compared: &[u8]) -> bool
+        ensures { result ≡ same_key (Some compared.now) (held_key self.now) }
+    {
+        self.is_given && compared == self.bytes.as_slice()
+    }
+
+    /// Whether it is what a control field compares. A zoned number and characters are compared where they lie; `value` serves to
+    /// read a packed number.
+    pub fn is_field(
+        &self,
+        value: &mut RecordKey,
+        field: &FieldLine<Reference>,
+        bytes: &[u8],
+    ) -> bool
+        requires { IsTrue (field_in_range field.now) }
+        ensures { result ≡ same_key (Some (compared_on bytes.now field.now)) (held_key self.now) }
+    {
+        if !self.is_given {
+            return false;
+        }
+        match field.form {
+            FieldForm::Alphanumeric | FieldForm::PackedText => {
+                field_bytes(field, bytes) == self.bytes.as_slice()
+            }
+            FieldForm::Zoned(_) => are_zoned_digits(field_bytes(field, bytes), &self.bytes),
+            FieldForm::Packed(_) => {
+                value.read_field(field, bytes);
+                self.is_same(&value.bytes)
+            }
+        }
+    }
+}

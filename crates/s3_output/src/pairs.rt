@@ -1,0 +1,93 @@
+//! Dates and packed numbers, two digits at a time. `edit` and `packed_write` would write the same, digit by digit of 64 bits.
+ghost use Rattle.std.specs.Prelude.{◌≡◌, ◌<◌, ◌≤◌, ◌+◌, ◌*◌, ◌/◌, ◌%◌, false, nat_lt, length, unsigned_abs, if◌then◌else◌};
+ghost use Rattle.s3_cards.specs.declared.ebcdic.TheConstants.{BLANK};
+ghost use Rattle.s3_decimal.specs.Exact.{is_negative};
+ghost use Rattle.s3_decimal.specs.Records.{packed_bytes, sign_half as sign_half_of};
+ghost use Rattle.s3_edit.specs.declared.code.EditCode.TheVariants.{Date};
+ghost use Rattle.s3_edit.specs.Picture.{pictured};
+
+use s3_cards::ebcdic::{BLANK, SLASH};
+use s3_decimal::Dec;
+use s3_operations::zoned::pair_of;
+
+/// The half of a byte that is the sign of a negative number.
+const MINUS: u8 = 0xd;
+
+/// That of any other number.
+const PLUS: u8 = 0xf;
+
+/// The most digits of a number that has 32 bits for sure.
+pub const SHORT_DIGITS: u8 = 9;
+
+/// The first digit of a date, blank where it is 0.
+#[inline(always)]
+fn lead_of(magnitude: u32, digit: u8) -> u8
+    ensures { result ≡ (if nat_lt magnitude 100000 then BLANK else digit) }
+{
+    if magnitude < 100_000 { BLANK } else { digit }
+}
+
+/// A date as it is put out: three pairs of digits with a slash between them, the first digit blank where it is 0.
+#[inline(always)]
+fn date_of(magnitude: u32) -> [u8; 8]
+    requires { magnitude < 1000000 }
+    ensures { result ≡ pictured Date 0 false magnitude 8 }
+{
+    let first = pair_of(magnitude / 10_000);
+    let second = pair_of(magnitude / 100 % 100);
+    let third = pair_of(magnitude % 100);
+    [
+        lead_of(magnitude, first[0]),
+        first[1],
+        SLASH,
+        second[0],
+        second[1],
+        SLASH,
+        third[0],
+        third[1],
+    ]
+}
+
+/// Writes a date.
+#[inline(always)]
+pub fn put_date(number: &Dec, bytes: &mut [u8])
+    requires six { number.now.digits ≡ 6 }
+    requires room { length bytes.old ≡ 8 }
+    ensures { bytes.new ≡ pictured Date number.now.decimals (is_negative number.now.value) (unsigned_abs number.now.value) 8 }
+{
+    bytes.copy_from_slice(&date_of(number.value.unsigned_abs() as u32));
+}
+
+/// Two digits in a byte.
+#[inline(always)]
+fn packed_pair(number: u32) -> u8
+    requires { number < 100 }
+    ensures { result ≡ number / 10 * 16 + number % 10 }
+{
+    (number / 10 * 16 + number % 10) as u8
+}
+
+/// The half of a byte that is the sign.
+#[inline(always)]
+fn sign_half(negative: bool) -> u8
+    ensures { result ≡ sign_half_of negative }
+{
+    if negative { MINUS } else { PLUS }
+}
+
+/// Writes a packed number of up to nine digits.
+#[inline(always)]
+pub fn put_packed(number: &Dec, bytes: &mut [u8])
+    requires short { number.now.digits ≤ 9 }
+    requires room { length bytes.old ≡ number.now.digits / 2 + 1 }
+    ensures { bytes.new ≡ packed_bytes (is_negative number.now.value) (number.now.digits / 2 + 1) (unsigned_abs number.now.value) }
+{
+    let last = bytes.len() - 1;
+    let magnitude = number.value.unsigned_abs() as u32;
+    bytes[last] = (magnitude % 10) as u8 * 16 + sign_half(number.is_negative());
+    let mut rest = magnitude / 10;
+    for place in 0..last {
+        bytes[last - 1 - place] = packed_pair(rest % 100);
+        rest /= 100;
+    }
+}
