@@ -1,21 +1,22 @@
 -- Lemmas on decks.
-use Rattle.std.proofs.Common.{◌≡◌, ℕ, ◌+◌, ◌-◌, ◌<◌, ◌≤◌, List, [], ◌∷◌, ◌++◌, Bool, true, false, cond, refl, sym, ◌∙◌, ap, arith, subst, inl, inr, length, take, drop, replicate, ltb-true, zero, eqb-true, le-ltb, lt-ltb, add-zero, append_assoc, length-append, suc, get_or, set}
+use Rattle.std.proofs.Common.{◌≡◌, ℕ, ◌+◌, ◌-◌, ◌<◌, ◌≤◌, ◌≢◌, List, [], ◌∷◌, ◌++◌, Bool, true, false, cond, refl, sym, ◌∙◌, ap, arith, subst, inl, inr, length, take, drop, replicate, ltb-true, zero, eqb-true, le-ltb, lt-ltb, add-zero, append_assoc, length-append, suc, get_or, set}
 use Rattle.std.specs.Prelude.{Option, Some, None, unwrap_or, is_some, not, Ok, Err, ◌==◌, ◌&&◌, map, position, nat_lt}
 use Rattle.std.specs.List.{list_all, list_any, slice_split, position_or_len}
 use Rattle.std.specs.Option.{option_map, option_or}
 use Rattle.std.specs.Str.Lines.{lines, lines_of_parts, strip_carriage_return}
 use Rattle.std.proofs.lemmas.Bool.{cases_Bool, cases_lt}
 use Rattle.std.proofs.lemmas.Option.{cond_some}
-use Rattle.std.proofs.lemmas.List.{take-append-le, take_all, length-map, map-append, append-nil, take_more, set-append_right, length-take-le}
+use Rattle.std.proofs.lemmas.List.{take-append-le, take_all, length-map, map-append, append-nil, take_more, set-append_right, length-take-le, get_or-take}
+use Rattle.std.proofs.lemmas.List.Folds.{list_all_at}
 use Rattle.std.proofs.lemmas.List.Sums.{fails_before_first, position_or_len_is}
 use Rattle.std.proofs.Math.Seq.{take-append-add}
 use Rattle.std.proofs.lemmas.List.Splits.{slice_split_first, length-slice_split, slice_split_none}
-use Rattle.s3_cards.specs.Deck.{fault_of, fault_from, cards_of, card_of, has_code, codes_and_blanks}
+use Rattle.s3_cards.specs.Deck.{fault_of, fault_from, cards_of, card_of, has_code, codes_and_blanks, StartsWithCard, StartsWithFault}
 use Rattle.memchr.specs.Find.{IsFirstByte, is_byte}
-use Rattle.s3_cards.specs.Codes.{ebcdic_of}
+use Rattle.s3_cards.specs.Codes.{code_page, ebcdic_of}
 use Rattle.s3_cards.proofs.CodeLemmas.{no_code}
 use Rattle.s3_cards.specs.declared.deck.CardFault.{CardFault}
-use Rattle.s3_cards.specs.declared.deck.CardFault.TheVariants.{TooMany}
+use Rattle.s3_cards.specs.declared.deck.CardFault.TheVariants.{TooMany, TooWide, BadCharacter}
 use Rattle.s3_cards.specs.declared.deck.DeckFault.TheVariants.{At}
 
 lines_of_parts-cons : (x : List ℕ) (parts : List (List ℕ)) → 0 < length parts → lines_of_parts (x ∷ parts) ≡ strip_carriage_return x ∷ lines_of_parts parts
@@ -218,3 +219,73 @@ spoiled_line line card any is found one = coded line card any is found ∙ ap no
 pub clean_card : (line card : List ℕ) (any : Bool) → card ≡ codes_and_blanks line → any ≡ list_any is_zero card → any ≡ false → card ≡ card_of line
 unfolding card_of
 clean_card line card any is found none = is ∙ ap (λ x. x ++ replicate (96 - length line) 0x40) (all_coded line (clean_line line card any is found none))
+
+-- ---- a line whose width is likely
+all_sound : (line : List ℕ) → fault_of line ≡ None → list_all has_code line ≡ true
+unfolding fault_of
+all_sound line h = go (nat_lt 96 (length line)) (list_all has_code line) h
+  where
+    go : (wide all : Bool) → cond wide (Some TooWide) (cond all None (Some BadCharacter)) ≡ None → all ≡ true
+    go true all h = cc
+    go false true h = refl
+    go false false h = cc
+
+newline_has_none : has_code 10 ≡ false
+unfolding code_page
+newline_has_none = refl
+
+carriage_return_has_none : has_code 13 ≡ false
+unfolding code_page
+carriage_return_has_none = refl
+
+-- a byte without a code doesn't stand in a line without a fault
+stands_not : (line : List ℕ) (k byte : ℕ) → fault_of line ≡ None → k < length line → has_code byte ≡ false → (get_or line k 0 == byte) ≡ false
+stands_not line k byte sound within none = elim (cases_Bool (get_or line k 0 == byte)) [
+  | inl h ↦ absurd
+      (let lacks : list_all has_code line ≡ false = list_all_at has_code line k 0 within (ap has_code (eqb-true _ _ h) ∙ none) in let all = all_sound line sound in cc)
+  | inr h ↦ h
+]
+
+keeps_whole : (line : List ℕ) → fault_of line ≡ None → strip_carriage_return line ≡ line
+keeps_whole [] sound = refl
+keeps_whole (x ∷ line) sound =
+    ap (λ (b : Bool). cond b (take (length (x ∷ line) - 1) (x ∷ line)) (x ∷ line))
+    (stands_not (x ∷ line) (length (x ∷ line) - 1) 13 sound (omega arith) carriage_return_has_none)
+
+newline_at : (w : List ℕ) (width : ℕ) → width < length w → get_or w width 0 ≡ 10 → fault_of (take width w) ≡ None → position is_newline w ≡ Some width
+newline_at w width within ends sound =
+    place_where is_newline w width (omega arith)
+    (λ k below. ap is_newline (sym (get_or-take width w k 0 below)) ∙ stands_not (take width w) k 10 sound (omega (arith, length-take-le width w (omega arith))) newline_has_none)
+    (λ h. ap is_newline ends)
+    ∙ ap (λ (b : Bool). cond b (Some width) None) (lt-ltb width (length w) within)
+
+-- what stands in front of a newline and has no fault is the first line
+pub likely_line : (w card after : List ℕ) (width : ℕ) → width < length w → get_or w width 0 ≡ 10 → fault_of (take width w) ≡ None → card ≡ card_of (take width w)
+    → after ≡ drop (width + 1) w → StartsWithCard w card after
+likely_line w card after width within ends sound is left =
+    (take width w, lines_at_newline w width (newline_at w width within ends sound) ∙ rw (keeps_whole (take width w) sound, left) refl, sound, is)
+
+-- a text that isn't empty has a first line
+pub has_first : (w : List ℕ) → w ≢ [] → (line : List ℕ) × (left : List (List ℕ)) × (lines w ≡ line ∷ left)
+has_first w some = by (position is_newline w) refl
+  where
+    by : (o : Option ℕ) → position is_newline w ≡ o → (line : List ℕ) × (left : List (List ℕ)) × (lines w ≡ line ∷ left)
+    by (Some end) e = (strip_carriage_return (take end w), lines (drop (end + 1) w), lines_at_newline w end e)
+    by None e = (w, [], lines_last w e ∙ whole w some)
+      where
+        whole : (x : List ℕ) → x ≢ [] → lines_of_parts (x ∷ []) ≡ x ∷ []
+        whole [] some = absurd (some refl)
+        whole (y ∷ x) some = grind arith
+
+-- the steps of reading a text
+pub one_more_at : (cards all : List (List ℕ)) (text card after : List ℕ) → ReadSoFar cards all (lines text) → length cards < 9999 → StartsWithCard text card after
+    → ReadSoFar (cards ++ card ∷ []) all (lines after)
+one_more_at cards all text card after so_far room first =
+    subst (λ c. ReadSoFar (cards ++ c ∷ []) all (lines after)) (sym first.3) (one_more cards all (lines after) first.0 (subst (λ x. ReadSoFar cards all x) first.1 so_far) room first.2)
+
+pub fault_first : (cards all : List (List ℕ)) (text : List ℕ) (fault : CardFault) → ReadSoFar cards all (lines text) → length cards < 9999 → StartsWithFault text fault
+    → cards_of all ≡ Err (At (length cards + 1) fault)
+fault_first cards all text fault so_far room first = fault_at cards all (lines text) first.1 first.0 fault so_far first.2 room first.3
+
+pub too_many_left : (cards all : List (List ℕ)) (text : List ℕ) → ReadSoFar cards all (lines text) → text ≢ [] → length cards ≡ 9999 → cards_of all ≡ Err (At 9999 TooMany)
+too_many_left cards all text so_far some full = let first = has_first text some in too_many_at cards all (lines text) first.1 first.0 so_far first.2 full

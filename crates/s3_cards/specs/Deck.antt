@@ -25,6 +25,14 @@ card_of line = map (λ character. unwrap_or (ebcdic_of character) 0x40) line ++ 
 abbrev pub codes_and_blanks : List ℕ → List ℕ
 codes_and_blanks line = map (λ byte. unwrap_or (ebcdic_of byte) 0) line ++ replicate (96 - length line) 0x40
 
+-- the first line of a text has no fault, and this is its card, with this text after the line
+abbrev pub StartsWithCard : List ℕ → List ℕ → List ℕ → Type 0
+StartsWithCard text card after = (line : List ℕ) × (lines text ≡ line ∷ lines after) × (fault_of line ≡ None) × (card ≡ card_of line)
+
+-- the first line of a text has this fault
+abbrev pub StartsWithFault : List ℕ → CardFault → Type 0
+StartsWithFault text fault = (line : List ℕ) × (left : List (List ℕ)) × (lines text ≡ line ∷ left) × (fault_of line ≡ Some fault)
+
 -- the first fault in a list of lines whose first one is card n
 abbrev pub fault_from : ℕ → List (List ℕ) → Option DeckFault
 fault_from n [] = None

@@ -1,10 +1,10 @@
 //! Decks: a deck is the list of its cards.
 
-ghost use Rattle.std.specs.Prelude.{◌≡◌, ◌↔◌, ◌<◌, ◌≤◌, ◌∷◌, [], ℕ, List, length, IsTrue, OnOk, IfErr, MatchOption, IfSome, Ok, Err, Some, None, slice_get, position, ◌==◌};
+ghost use Rattle.std.specs.Prelude.{◌≡◌, ◌≢◌, ◌↔◌, ◌<◌, ◌≤◌, ◌∷◌, [], ℕ, List, length, IsTrue, IfOk, OnOk, IfErr, MatchOption, IfSome, Ok, Err, Some, None, slice_get, position, ◌==◌};
 ghost use Rattle.std.specs.Option.{option_copied};
 ghost use Rattle.std.specs.List.{list_any};
 ghost use Rattle.std.specs.Str.Lines.{lines, strip_carriage_return};
-ghost use Rattle.s3_cards.specs.Deck.{fault_of, card_of, deck_of, fault_code, detail_of, HasCardNumber, Gives, codes_and_blanks};
+ghost use Rattle.s3_cards.specs.Deck.{fault_of, card_of, deck_of, fault_code, detail_of, HasCardNumber, Gives, StartsWithCard, StartsWithFault, codes_and_blanks};
 
 use super::characters::code_or_zero;
 use super::ebcdic::BLANK;
@@ -15,6 +15,9 @@ use thiserror::Error;
 
 /// The columns of a card.
 pub const COLUMNS: usize = 96;
+
+/// A deck gets room at first for a card of each so many bytes of its text.
+const SHORT_LINE: usize = 8;
 
 /// A card: the EBCDIC codes of its columns.
 pub type Card = [u8; COLUMNS];
@@ -83,6 +86,17 @@ impl From<AllocFailed<Card>> for DeckFault {
     }
 }
 
+impl From<AllocError> for DeckFault {
+    ghost use Rattle.std.specs.Prelude.{◌≡◌};
+    ghost use Rattle.s3_cards.specs.declared.deck.DeckFault.TheVariants.{NoMemory};
+
+    ghost from_gives = { λ _ e. e ≡ NoMemory };
+
+    fn from(_: AllocError) -> Self {
+        DeckFault::NoMemory
+    }
+}
+
 /// A deck: its cards in order, at most 9,999.
 #[derive(Drop)]
 pub struct Deck {
@@ -111,23 +125,27 @@ impl Deck {
     /// last line without line feed is a card unless it is empty. A card is padded with blanks to 96 columns.
     ///
     /// A line over 96 bytes is refused, then one with a byte that is no card character, then the first card past 9,999.
-    #[tactic(auto, using(crate::proofs::DeckLemmas::none_read, crate::proofs::DeckLemmas::one_more, crate::proofs::DeckLemmas::fault_at, crate::proofs::DeckLemmas::too_many_at, crate::proofs::DeckLemmas::all_read_at))]
+    #[tactic(auto, using(crate::proofs::DeckLemmas::none_read, crate::proofs::DeckLemmas::one_more_at, crate::proofs::DeckLemmas::all_read_at))]
     pub fn read(alloc: Global, text: &[u8]) -> Result<Deck, DeckFault>
         ensures value { Gives result (deck_of text.now) }
         ensures numbered { IfErr result HasCardNumber }
     {
-        let mut cards = Vec::new(alloc);
+        let mut cards = Vec::with_capacity(alloc, (text.len() / SHORT_LINE).min(MAX_CARDS))?;
         let mut rest = text;
-        while let Some((line, after)) = first_line(rest) {
+        let mut width = 0;
+        while !rest.is_empty() {
             if cards.len() == MAX_CARDS {
                 return Err(DeckFault::At(9_999, CardFault::TooMany));
             }
             let mut card: Card = [BLANK; COLUMNS];
-            match punch(line, &mut card) {
-                Ok(()) => cards.push(card)?,
+            match punch_first(rest, width, &mut card) {
+                Ok((columns, after)) => {
+                    cards.push(card)?;
+                    width = columns;
+                    rest = after;
+                }
                 Err(fault) => return Err(DeckFault::At(cards.len() as u16 + 1, fault)),
             }
-            rest = after;
         }
         Ok(Deck { cards })
     }
@@ -160,6 +178,46 @@ impl Deck {
         ensures { IsTrue result ↔ (self.now ≡ []) }
     {
         self.cards.is_empty()
+    }
+}
+
+/// Punches the first line of a text that isn't empty into a card, or gives its fault. Answers how wide the line is, and the text
+/// after it. It is tried first with a likely width, that of the line before, so that its end isn't searched for.
+#[inline(always)]
+fn punch_first<'a>(
+    text: &'a [u8],
+    likely: usize,
+    card: &mut Card,
+) -> Result<(usize, &'a [u8]), CardFault>
+    requires { text.now ≢ [] }
+    ensures card { IfOk result (λ first. StartsWithCard text.now card.new first.1.now) }
+    ensures shorter { IfOk result (λ first. length first.1.now < length text.now) }
+    ensures fault { IfErr result (StartsWithFault text.now) }
+{
+    if let Some(after) = punch_likely(text, likely, card) {
+        return Ok((likely, after));
+    }
+    let Some((line, after)) = first_line(text) else {
+        unreachable!();
+    };
+    punch(line, card)?;
+    Ok((line.len(), after))
+}
+
+/// Punches the first line of a text into a card if it is so wide and has no fault, and answers the text after it. Where each byte
+/// in front of a newline is a card character, none of them is a newline, nor a carriage return.
+#[inline(always)]
+#[tactic(auto, using(crate::proofs::DeckLemmas::likely_line))]
+fn punch_likely<'a>(text: &'a [u8], width: usize, card: &mut Card) -> Option<&'a [u8]>
+    ensures card { IfSome result (λ after. StartsWithCard text.now card.new after.now) }
+    ensures shorter { IfSome result (λ after. length after.now < length text.now) }
+{
+    if width >= text.len() || text[width] != b'\n' {
+        return None;
+    }
+    match punch(&text[..width], card) {
+        Ok(()) => Some(&text[width + 1..]),
+        Err(_) => None,
     }
 }
 

@@ -3,7 +3,7 @@ use Rattle.std.proofs.Common.{◌≡◌, ℕ, ◌+◌, ◌<◌, ◌||◌, ◌&&�
 use Rattle.std.specs.Prelude.{slice_set, if◌then◌else◌}
 use Rattle.std.specs.List.{list_any, list_all}
 use Rattle.std.proofs.lemmas.Bool.{and_parts}
-use Rattle.std.proofs.lemmas.List.{take_more, length-map, get_or-map}
+use Rattle.std.proofs.lemmas.List.{take_all, take_more, length-map, get_or-map}
 use Rattle.std.proofs.lemmas.List.Folds.{list_any-append}
 use Rattle.s3_cards.specs.declared.name.Name.{Name}
 use Rattle.s3_cards.specs.Names.{no_name}
@@ -66,6 +66,16 @@ one_more_off p indicators numbers k number d other v are within is few before =
     let there : number ≡ indicator_number (get_or types k d) = is ∙ ap (λ (xs : List ℕ). get_or xs k 0) are.numbered ∙ get_or-map indicator_number types k d 0 inside in
     turned_to indicators (get_or types k d) other false number (holds_at is_settable types k d (settable_kept p.inputs.items (types_settable p)) inside) there few
     ∙ one_off types k d other v (on_in indicators other) inside before
+
+-- a single one
+pub only_off : (p : Program) (indicators : Indicators) (numbers : List ℕ) (number : ℕ) (d other : Indicator) → AreNumbersOf p.inputs.items numbers → length numbers ≡ 1
+    → number ≡ get_or numbers 0 0 → number < length indicators.on
+    → on_in (record indicators { on = slice_set indicators.on number false }) other ≡ turned_off (indicators_on p.inputs.items) other (on_in indicators other)
+only_off p indicators numbers number d other are one is few =
+    let types : List Indicator = indicators_on p.inputs.items in
+    let all : take 1 types ≡ types = take_all 1 types (omega (arith, one, ap length are.numbered, length-map types indicator_number)) in
+    one_more_off p indicators numbers 0 number d other (on_in indicators other) are (omega (arith, one)) is few refl
+    ∙ ap (λ (shown : List Indicator). turned_off shown other (on_in indicators other)) all
 
 -- ---- all of them are the types of the source
 types_shown : (tables : Tables) (other : Indicator) (file : Name) (lines : List (InputLine Reference))

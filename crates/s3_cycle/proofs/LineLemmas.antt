@@ -1,6 +1,6 @@
 -- Lines of the O sheet that are put out together: which of them are passed over, and what one that is due does.
 use Rattle.std.proofs.Common.{◌≡◌, ℕ, zero, suc, ◌+◌, ◌<◌, ◌≤◌, Bool, true, false, not, ◌&&◌, if◌then◌else◌, List, [], ◌∷◌, length, drop, filter, get_or, Option, Some, None, refl, sym, ◌∙◌, ap, true≢false, arith}
-use Rattle.std.specs.Prelude.{slice_get, unwrap_or, option_map, is_some, filter_map}
+use Rattle.std.specs.Prelude.{slice_get, unwrap_or, option_map, is_some, filter_map, IfSome, IfNone}
 use Rattle.std.specs.List.{cons_option}
 use Rattle.std.proofs.lemmas.Bool.{and_parts}
 use Rattle.std.proofs.lemmas.Option.{slice_get-map, slice_get_read, slice_get_past, get_or_from_slice_get}
@@ -326,3 +326,12 @@ due_there c w place due is within on =
 
 pub passes_all : (c : Stepper) (w : Walk) (next place : ℕ) → PassesTo c w next place → length (starts_of c.program.starts w) ≤ place → PassesAll c w next
 passes_all c w next place passes past = λ go. passes go ∙ lines_past c.program w place go (held_by c) past
+
+-- what is found behind lines that are passed over
+pub found_behind : (c : Stepper) (w : Walk) (next place : ℕ) (found : Option ℕ) → PassesTo c w next place → IfSome found (λ at. IsDue c w at × PassesTo c w place at) → IfSome found (λ at. IsDue c w at × PassesTo c w next at)
+found_behind c w next place None passes is = is
+found_behind c w next place (Some at) passes is = (is.0, λ go. passes go ∙ is.1 go)
+
+pub none_behind : (c : Stepper) (w : Walk) (next place : ℕ) (found : Option ℕ) → PassesTo c w next place → IfNone found (PassesAll c w place) → IfNone found (PassesAll c w next)
+none_behind c w next place None passes is = λ go. passes go ∙ is go
+none_behind c w next place (Some at) passes is = is

@@ -1,5 +1,5 @@
 -- Total time, the lines at overflow, and detail time: sections from their beginning, and what follows them.
-use Rattle.std.proofs.Common.{◌≡◌, ◌||◌, ℕ, Bool, true, false, List, [], ◌∷◌, ◌++◌, Option, Some, None, if◌then◌else◌, refl, sym, ap, ◌∙◌, subst}
+use Rattle.std.proofs.Common.{◌≡◌, ◌||◌, ℕ, Bool, true, false, List, [], ◌∷◌, ◌++◌, Option, Some, None, if◌then◌else◌, ◌⊎◌, inl, inr, refl, sym, ap, ◌∙◌, subst}
 use Rattle.s3_lines.specs.declared.indicator.Indicator.{Indicator}
 use Rattle.s3_lines.specs.declared.indicator.Indicator.TheVariants.{LastRecord}
 use Rattle.s3_meaning.specs.Calculations.{Calculation}
@@ -22,9 +22,10 @@ use Rattle.s3_cycle.specs.declared.progress.Selection.{Selection}
 use Rattle.s3_cycle.specs.declared.progress.Time.{Time}
 use Rattle.s3_cycle.specs.declared.progress.Time.TheVariants as time
 use Rattle.s3_cycle.specs.declared.stepper.Stepper.{Stepper}
-use Rattle.s3_cycle.specs.Rest.{after_lines, calculating, lines_from, lines_then, overflow_end, record_moved, totals_done}
+use Rattle.s3_cycle.specs.Rest.{after_calculations, after_lines, calculating, lines_from, lines_then, overflow_end, record_moved, totals_done, totals_end}
+use Rattle.s3_cycle.specs.Inner.Calculating.{IsOver}
 use Rattle.s3_cycle.specs.Inner.Entries.{turn_entry, is_entry_on}
-use Rattle.s3_cycle.specs.Inner.Going.{own, held_by, here, Changes, GoesOn, IsRunning, IsTaken}
+use Rattle.s3_cycle.specs.Inner.Going.{own, held_by, here, Changes, GoesOn, IsOverflowTime, IsRunning, IsTaken, IsTime, IsTotalTime}
 use Rattle.s3_cycle.specs.Inner.Lines.{PassesAll}
 use Rattle.s3_cycle.proofs.GoingLemmas.{goes_then, goes_as, goes_changed}
 use Rattle.s3_cycle.proofs.PrintLemmas.{own_overflow}
@@ -73,6 +74,45 @@ record_totals old new selection spot course begins goes =
     (sym (ap (λ (run : Rest). run (held_by old)) (totals_begun old.program (totals_done (own old) old.program old.progress selection) spot course begins))) goes
 
 -- ---- behind calculations
+-- T lines are put out at the times of totals
+pub total_lines : (p : Program) (progress : Progress) (t : Time) → IsOverflowTime p progress t → IsTotalTime p progress t
+total_lines p progress (time.Details selection) is = is
+total_lines p progress (time.Totals selection) is = is
+total_lines p progress time.Last is = tt
+
+pub before_record : (p : Program) (progress : Progress) (t : Time) (selection : Selection) → t ≡ time.Totals selection → IsTotalTime p progress t → IsOverflowTime p progress t
+before_record p progress (time.Details other) selection same is = is
+before_record p progress (time.Totals other) selection same is = is
+before_record p progress time.Last selection same is = cc
+
+details_totals : (p : Program) (progress : Progress) (selection other : Selection) → time.Details selection ≡ time.Totals other → IsTotalTime p progress (time.Details selection)
+details_totals p progress selection other is = cc
+
+details_last : (p : Program) (progress : Progress) (selection : Selection) → time.Details selection ≡ time.Last → IsTotalTime p progress (time.Details selection)
+details_last p progress selection is = cc
+
+pub totals_time : (p : Program) (progress : Progress) (t : Time) → IsTime p progress t → ((selection : Selection) × (t ≡ time.Totals selection)) ⊎ (t ≡ time.Last) → IsTotalTime p progress t
+totals_time p progress (time.Details selection) is (inl totals) = details_totals p progress selection totals.0 totals.1
+totals_time p progress (time.Details selection) is (inr last) = details_last p progress selection last
+totals_time p progress (time.Totals selection) is which = is
+totals_time p progress time.Last is which = is
+
+-- they follow total calculations
+lines_after : (source : Source) (p : Program) (progress : Progress) (t : Time) → IsTotalTime p progress t → after_calculations source p progress t ≡ lines_then source p walk.Totals 0 (totals_end source p progress t)
+lines_after source p progress (time.Details selection) is = absurd is
+lines_after source p progress (time.Totals selection) is = refl
+lines_after source p progress time.Last is = refl
+
+pub lines_follow : (old new : Stepper) → IsTotalTime old.program old.progress old.progress.time → GoesOn old new (here old (λ source program progress. lines_from source program progress walk.Totals 0))
+    → GoesOn old new (here old (λ source program progress. after_calculations source program progress progress.time))
+lines_follow old new is goes =
+    goes_as old new _ _ (ap (λ (rest : Rest). rest (held_by old)) (lines_after (own old) old.program old.progress old.progress.time is)) goes
+
+pub total_lines_follow : (old mid new : Stepper) → IsOver old mid → IsOverflowTime mid.program mid.progress mid.progress.time
+    → GoesOn mid new (here mid (λ source program progress. lines_from source program progress walk.Totals 0)) → GoesOn old new (here old calculating)
+total_lines_follow old mid new over is goes =
+    goes_then old mid new _ _ over.calculates.program over.runs (lines_follow mid new (total_lines mid.program mid.progress mid.progress.time is) goes)
+
 -- ---- behind lines
 pub passed_all : (old mid new : Stepper) (w : Walk) (next : ℕ) (meant : Source → Program → Progress → Rest) → mid ≡ old → PassesAll old w next
     → after_lines (own old) old.program old.progress w (held_by old) ≡ here old meant → GoesOn mid new (here mid meant)
@@ -86,6 +126,9 @@ same_running old mid same running = let P : Stepper → Type 0 = λ k. IsRunning
 
 pub same_taken : (old mid : Stepper) (selection : Selection) → mid ≡ old → IsTaken old.program old.progress selection → IsTaken mid.program mid.progress selection
 same_taken old mid selection same taken = let P : Stepper → Type 0 = λ k. IsTaken k.program k.progress selection in subst P (sym same) taken
+
+pub same_totals : (old mid : Stepper) → mid ≡ old → IsOverflowTime old.program old.progress old.progress.time → IsOverflowTime mid.program mid.progress mid.progress.time
+same_totals old mid same is = let P : Stepper → Type 0 = λ k. IsOverflowTime k.program k.progress k.progress.time in subst P (sym same) is
 
 -- ---- step 8
 pub ends_there : (old new : Stepper) (selection : Selection) → (held_by old).on LastRecord ≡ true
@@ -102,6 +145,20 @@ unfolding totals_done
 goes_past old new selection off goes =
     goes_as old new _ _
     (ap (λ (b : Bool). (if b then ended false else overflow_lines (own old) (again (own old)) (record_moved (own old) old.program old.progress selection)) (held_by old)) off) goes
+
+-- before a record
+pub total_ends : (old new : Stepper) (t : Time) → IsOverflowTime old.program old.progress t → (held_by old).on LastRecord ≡ true
+    → GoesOn old new (here old (λ source program progress. ended false)) → GoesOn old new (here old (λ source program progress. totals_end source program progress t))
+total_ends old new (time.Details selection) is on goes = absurd is
+total_ends old new (time.Totals selection) is on goes = ends_there old new selection on goes
+total_ends old new time.Last is on goes = absurd is
+
+pub total_passes : (old new : Stepper) (selection : Selection) → old.progress.time ≡ time.Totals selection → (held_by old).on LastRecord ≡ false
+    → GoesOn old new (here old (λ source program progress. overflow_lines source (again source) (record_moved source program progress selection)))
+    → GoesOn old new (here old (λ source program progress. totals_end source program progress progress.time))
+total_passes old new selection is off goes =
+    let P : Time → Type 0 = λ t. GoesOn old new (here old (λ source program progress. totals_end source program progress t)) in
+    subst P (sym is) (goes_past old new selection off goes)
 
 -- ---- step 9
 has_is : (source : Source) (e : Environment) (entry : Option Indicator) → overflow_of source.files ≡ entry → has_overflowed source e ≡ is_entry_on e entry

@@ -21,18 +21,18 @@ use s3_program::starts::Walk;
 
 impl Stepper {
     /// Goes on with the answer to the pending request, up to the next one.
-    pub fn go_on(&mut self, answer: Answer<'_>)
+    pub fn go_on(&mut self, answer: &Answer<'_>)
         requires waiting { IsWaiting self.old }
-        requires fits { IsTrue (fits (request_of self.old.program self.old.composition self.old.request) (answer_of answer)) }
-        ensures { GoesOn self.old self.new (here self.old (λ source program progress. answered source program progress self.old.point (answer_of answer.entry))) }
+        requires fits { IsTrue (fits (request_of self.old.program self.old.composition self.old.request) (answer_of answer.now)) }
+        ensures { GoesOn self.old self.new (here self.old (λ source program progress. answered source program progress self.old.point (answer_of answer.now))) }
     {
         match self.point {
             Point::Lines { walk, next } => self.put_walk(walk, next),
-            Point::Records { walk, next } => self.go_on_stored(walk, next, answer),
-            Point::Head { place } => self.go_on_read(place, answer),
-            Point::Chained { place, file } => self.go_on_chained(place, file, answer),
+            Point::Records { walk, next } => self.go_on_stored(walk, next, *answer),
+            Point::Head { place } => self.go_on_read(place, *answer),
+            Point::Chained { place, file } => self.go_on_chained(place, file, *answer),
             Point::Calculations => self.calculate_on(),
-            Point::Reply(then) => self.go_on_replied(then, answer),
+            Point::Reply(then) => self.go_on_replied(then, *answer),
             Point::End { at_once: _ } => unreachable!(),
         }
     }
@@ -54,13 +54,13 @@ impl Stepper {
 
     /// T lines from one on, and the steps behind them.
     #[inline(never)]
-    fn put_time_totals(&mut self, next: usize)
+    pub fn put_time_totals(&mut self, next: usize)
         requires running { IsRunning self.old }
         requires walk { IsWalk self.old.program self.old.progress walk.Totals }
         ensures { GoesOn self.old self.new (here self.old (λ source program progress. lines_from source program progress walk.Totals next)) }
     {
         match self.progress.time {
-            Time::Totals(selection) => self.put_totals(selection, next),
+            Time::Totals(_) => self.put_totals(next),
             Time::Last => self.put_last_totals(next),
             Time::Details(_) => unreachable!(),
         }
@@ -68,7 +68,7 @@ impl Stepper {
 
     /// The lines at overflow from one on, and the steps behind them.
     #[inline(never)]
-    fn put_time_overflow(&mut self, next: usize)
+    pub fn put_time_overflow(&mut self, next: usize)
         requires running { IsRunning self.old }
         requires walk { IsWalk self.old.program self.old.progress walk.Overflow }
         ensures { GoesOn self.old self.new (here self.old (λ source program progress. lines_from source program progress walk.Overflow next)) }

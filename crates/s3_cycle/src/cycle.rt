@@ -96,7 +96,7 @@ impl Cycle {
         requires { IsTrue (is_fit self.old answer) }
         ensures { (source : Source) → StandsFor self.old source → StandsFor self.new source × ((answers : List MeantAnswer) → rest source self.new answers ≡ rest source self.old (answer_of answer.entry ∷ answers)) }
     {
-        self.stepper.go_on(answer);
+        self.stepper.go_on(&answer);
     }
 
     /// Goes on past the jump that pends, as after the answer `Done`, and past those behind it, so many at most; how many it was.

@@ -45,20 +45,30 @@ impl Stepper {
         some_on
     }
 
-    /// The first of H1 to H9, from a number on, that is on.
-    fn first_halt(&self, from: u8) -> Option<u8>
+    /// The first of H1 to H9, from a number on, that is on; some halt indicator is.
+    #[inline(never)]
+    fn first_that_halts(&self, from: u8) -> Option<u8>
         ensures found { IfSome result (IsFirstHalt self.now from) }
         ensures none { IfNone result (AreOff self.now from 10) }
     {
-        if !self.has_halt() {
-            return None;
-        }
         for number in from..=LAST_HALT {
             if self.is_on(Indicator::Halt(number)) {
                 return Some(number);
             }
         }
         None
+    }
+
+    /// The first of H1 to H9, from a number on, that is on.
+    fn first_halt(&self, from: u8) -> Option<u8>
+        ensures found { IfSome result (IsFirstHalt self.now from) }
+        ensures none { IfNone result (AreOff self.now from 10) }
+    {
+        if self.has_halt() {
+            self.first_that_halts(from)
+        } else {
+            None
+        }
     }
 
     /// Those of H1 to H9 from a number on, and the steps behind them.

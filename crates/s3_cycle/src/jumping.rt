@@ -23,7 +23,7 @@ impl Stepper {
         match self.point {
             Point::Calculations => self.calculate_on_past(most - 1) + 1,
             _ => {
-                self.go_on(Answer::Done);
+                self.go_on(&Answer::Done);
                 1
             }
         }

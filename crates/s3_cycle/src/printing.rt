@@ -56,6 +56,7 @@ impl Stepper {
     }
 
     /// Prints the line that is composed, and moves the carriage.
+    #[inline(always)]
     pub fn print(&mut self, start: &OutputStart, walk: Walk, next: usize)
         requires running { IsRunning self.old }
         requires walk { IsWalk self.old.program self.old.progress walk }
@@ -93,6 +94,7 @@ impl Stepper {
     }
 
     /// Asks that the record that is composed be put into its file.
+    #[inline(always)]
     pub fn store(&mut self, start: &OutputStart, walk: Walk, next: usize)
         requires running { IsRunning self.old }
         requires walk { IsWalk self.old.program self.old.progress walk }

@@ -3,10 +3,10 @@ ghost use Rattle.std.specs.Prelude.{◌≡◌, Some};
 ghost use Rattle.s3_meaning.specs.Cycle.{again, last_time, totals as totals_spec, overflow_lines};
 ghost use Rattle.s3_program.specs.declared.starts.Walk.TheVariants as walk;
 ghost use Rattle.s3_cycle.specs.declared.progress.Time.TheVariants as time;
-ghost use Rattle.s3_cycle.specs.Rest.{calculating, lines_from, record_moved, selected_of, totals_done};
+ghost use Rattle.s3_cycle.specs.Rest.{calculating, lines_from, record_moved, selected_of, totals_done, totals_end};
 ghost use Rattle.s3_meaning.specs.Requests.{NthRead};
 ghost use Rattle.s3_meaning.specs.Environment.{put_current};
-ghost use Rattle.s3_cycle.specs.Inner.Going.{CanCalculate, Changes, GoesOn, IsRunning, IsTaken, here};
+ghost use Rattle.s3_cycle.specs.Inner.Going.{CanCalculate, Changes, GoesOn, IsOverflowTime, IsRunning, IsTaken, here};
 
 use crate::progress::{Selection, Time};
 use crate::request::Current;
@@ -34,7 +34,7 @@ impl Stepper {
         requires time { self.old.progress.time ≡ time.Last }
         ensures { GoesOn self.old self.new (here self.old calculating) }
     {
-        match self.calculate() {
+        match self.calculate_rare() {
             Went::ToRequest => {}
             Went::ToEnd => self.put_last_totals(0),
         }
@@ -53,6 +53,7 @@ impl Stepper {
     }
 
     /// The totals before the selected record, and the steps behind them.
+    #[inline(always)]
     pub fn total(&mut self, selection: Selection)
         requires running { IsRunning self.old }
         requires taken { IsTaken self.old.program self.old.progress selection }
@@ -60,45 +61,50 @@ impl Stepper {
     {
         self.progress.time = Time::Totals(selection);
         self.progress.course.restart(Spot::totals(&self.program));
-        self.calculate_totals(selection);
+        self.calculate_totals();
     }
 
     /// Total calculations before the selected record from where they stand, and the T lines.
-    pub fn calculate_totals(&mut self, selection: Selection)
+    #[inline(always)]
+    pub fn calculate_totals(&mut self)
         requires running { IsRunning self.old }
         requires calculates { CanCalculate self.old.program self.old.progress }
-        requires time { self.old.progress.time ≡ time.Totals selection }
+        requires time { IsOverflowTime self.old.program self.old.progress self.old.progress.time }
         ensures { GoesOn self.old self.new (here self.old calculating) }
     {
-        match self.calculate() {
+        match self.calculate_rare() {
             Went::ToRequest => {}
-            Went::ToEnd => self.put_totals(selection, 0),
+            Went::ToEnd => self.put_totals(0),
         }
     }
 
     /// T lines before the selected record from one on, and the steps behind them.
-    pub fn put_totals(&mut self, selection: Selection, next: usize)
+    #[inline(never)]
+    pub fn put_totals(&mut self, next: usize)
         requires running { IsRunning self.old }
-        requires taken { IsTaken self.old.program self.old.progress selection }
-        requires time { self.old.progress.time ≡ time.Totals selection }
+        requires time { IsOverflowTime self.old.program self.old.progress self.old.progress.time }
         ensures { GoesOn self.old self.new (here self.old (λ source program progress. lines_from source program progress walk.Totals next)) }
     {
         match self.put_lines(Walk::Totals, next) {
             Went::ToRequest => {}
-            Went::ToEnd => self.leave_totals(selection),
+            Went::ToEnd => self.leave_totals(),
         }
     }
 
     /// Step 8: the job ends where LR is on.
-    fn leave_totals(&mut self, selection: Selection)
+    #[inline(always)]
+    fn leave_totals(&mut self)
         requires running { IsRunning self.old }
-        requires taken { IsTaken self.old.program self.old.progress selection }
-        ensures { GoesOn self.old self.new (here self.old (λ source program progress. totals_done source program progress selection)) }
+        requires time { IsOverflowTime self.old.program self.old.progress self.old.progress.time }
+        ensures { GoesOn self.old self.new (here self.old (λ source program progress. totals_end source program progress progress.time)) }
     {
         if self.is_on(Indicator::LastRecord) {
             self.end(false);
         } else {
-            self.begin_overflow(selection);
+            match self.progress.time {
+                Time::Totals(selection) => self.begin_overflow(selection),
+                Time::Details(_) | Time::Last => unreachable!(),
+            }
         }
     }
 
@@ -111,7 +117,7 @@ impl Stepper {
     {
         if self.is_entry_on(self.overflow) {
             self.progress.time = Time::Totals(selection);
-            self.put_overflow(selection, 0);
+            self.put_time_overflow(0);
         } else {
             self.move_record(selection);
         }
@@ -133,16 +139,18 @@ impl Stepper {
         }
     }
 
-    /// Step 10: MR is set, and the record is the current one of its file. Its fields are moved next.
+    /// The time of a record's detail calculations begins. Step 10: MR is set, and the record is the current one of its file. Its
+    /// fields are moved next. The time stands first, where the compiler sees that the selection stays as it is.
     #[inline(always)]
     fn move_record(&mut self, selection: Selection)
         requires running { IsRunning self.old }
         requires taken { IsTaken self.old.program self.old.progress selection }
         ensures { GoesOn self.old self.new (here self.old (λ source program progress. record_moved source program progress selection)) }
     {
+        self.progress.time = Time::Details(selection);
         self.turn(Indicator::Matching, selection.is_matched);
         self.make_current(selection);
-        self.move_selected(selection);
+        self.move_processed(selection.start.fields);
     }
 
     /// The selected record is the current one of its file.

@@ -1,6 +1,6 @@
 -- One open file: its sectors are there, and its records are where its label says.
 use Rattle.std.proofs.Common.{◌≡◌, ◌<◌, ◌≤◌, ℕ, zero, suc, arith, Bool, true, false, List, length, take, refl, ap, ap₂, sym, subst, ◌∙◌}
-use Rattle.std.specs.Prelude.{ℤ, pos, negsuc, ◌≤ℤ◌, slice_get, Option, Some, None, IfOk, OnOk, Result, Ok, Err, if◌then◌else◌}
+use Rattle.std.specs.Prelude.{ℤ, pos, negsuc, ◌≤ℤ◌, slice_get, Option, Some, None, IfOk, IfSome, OnOk, Result, Ok, Err, if◌then◌else◌}
 use Rattle.std.proofs.lemmas.Bool.{true≢false}
 use Rattle.std.proofs.lemmas.List.{take-map}
 use Rattle.s3_store.specs.declared.pool_fault.PoolFault.{PoolFault}
@@ -98,6 +98,20 @@ pub key_sought : (contents : List (List ℕ)) (label : FileLabel) (records : Ope
 key_sought contents label records file key place usable is found =
     ap (λ (r : OpenRecords). place_sought label (records_of r contents) (Key key)) is
     ∙ key_found contents label file key (subst (IsUsable contents label) is usable) ∙ found
+
+-- the record of a key that is told at once
+pub noted_sought : (contents : List (List ℕ)) (label : FileLabel) (records : OpenRecords) (file : Keyed) (key : List ℕ) (result : Result (Option ℕ) PoolFault) → IsUsable contents label records → records ≡ ByKey file
+    → IfOk result (λ place. IfSome place (λ place. place_of_key (number_of key) (keys_now (shown file) contents) ≡ Some place)) → IfOk result (λ place. IfSome place (λ place. place_sought label (records_of records contents) (Key key) ≡ Some place))
+noted_sought contents label records file key (Ok (Some place)) usable is found = key_sought contents label records file key (Some place) usable is found
+noted_sought contents label records file key (Ok None) usable is found = tt
+noted_sought contents label records file key (Err fault) usable is found = tt
+
+pub noted_there : (contents : List (List ℕ)) (records : OpenRecords) (file : Keyed) (bytes : List ℕ) (result : Result (Option ℕ) PoolFault) → records ≡ ByKey file
+    → IfOk result (λ place. IfSome place (λ place. slice_get (records_now (shown file) contents) place ≡ Some bytes)) → IfOk result (λ place. IfSome place (λ place. slice_get (records_of records contents) place ≡ Some bytes))
+noted_there contents records file bytes result is found = subst (λ (r : OpenRecords). IfOk result (λ place. IfSome place (λ place. slice_get (records_of r contents) place ≡ Some bytes))) (sym is) found
+
+pub answer_noted : (records : List (List ℕ)) (place : Option ℕ) (i : ℕ) (bytes : List ℕ) → place ≡ Some i → slice_get records i ≡ Some bytes → found_answer true bytes ≡ answer_at records place
+answer_noted records place i bytes is there = sym (ap (answer_at records) is ∙ ap answer_with there)
 
 -- an indexed file has its records by key
 pub not_in_order : (contents : List (List ℕ)) (label : FileLabel) (records : OpenRecords) (file : Sequential) → IsUsable contents label records → records ≡ InOrder file

@@ -190,8 +190,33 @@ impl OpenFile {
         }
     }
 
-    /// Reads the record with the key in these bytes, and answers whether there is one. It is the one chained last from then on.
-    pub fn chain_key<P: Sectors>(
+    /// Reads the record with the key in these bytes where it is told at once which one it is, and answers its place, from 0.
+    fn get_noted<P: Sectors>(
+        &self,
+        pool: &mut P,
+        key: &[u8],
+        bytes: &mut [u8],
+    ) -> Result<Option<u32>, PoolFault>
+        requires usable { IsUsable (P.state pool.old).contents self.now.label self.now.records }
+        requires indexed { is_indexed_spec self.now.label.organization ≡ true }
+        requires key { length key.now ≡ self.now.label.key_length }
+        requires long { length bytes.old ≡ self.now.label.record_length }
+        ensures place { IfOk result (λ place. IfSome place (λ place. place_sought self.now.label (records_of self.now.records (P.state pool.old).contents) (Key key.now) ≡ Some place)) }
+        ensures got { IfOk result (λ place. IfSome place (λ place. slice_get (records_of self.now.records (P.state pool.old).contents) place ≡ Some bytes.new)) }
+        ensures keeps { KeepsContents (P.state pool.old) (P.state pool.new) }
+        ensures failures { (P.state pool.new).failures ≡ (P.state pool.old).failures + failed_transfers result }
+        ensures fault { IfErr result (λ fault. fault ≢ PoolFault.NoSector) }
+    {
+        match &self.records {
+            OpenRecords::InOrder(_) => unreachable!(),
+            OpenRecords::ByKey(file) => file.get_noted(pool, key, bytes),
+        }
+    }
+
+    /// Reads the record with the key in these bytes by way of the index, and answers whether there is one. It is the one chained
+    /// last from then on.
+    #[inline(never)]
+    fn chain_sought<P: Sectors>(
         &mut self,
         pool: &mut P,
         key: &[u8],
@@ -210,6 +235,32 @@ impl OpenFile {
     {
         let place = self.place_of_key(pool, key)?;
         self.chain(pool, place, bytes)
+    }
+
+    /// Reads the record with the key in these bytes, and answers whether there is one. It is the one chained last from then on.
+    #[tactic(auto, using(crate::proofs::OneFile::answer_noted))]
+    pub fn chain_key<P: Sectors>(
+        &mut self,
+        pool: &mut P,
+        key: &[u8],
+        bytes: &mut [u8],
+    ) -> Result<bool, PoolFault>
+        requires usable { IsUsable (P.state pool.old).contents self.old.label self.old.records }
+        requires indexed { is_indexed_spec self.old.label.organization ≡ true }
+        requires key { length key.now ≡ self.old.label.key_length }
+        requires long { length bytes.old ≡ self.old.label.record_length }
+        ensures answer { IfOk result (λ found. found_answer found bytes.new ≡ answer_at (records_of self.old.records (P.state pool.old).contents) (place_sought self.old.label (records_of self.old.records (P.state pool.old).contents) (Key key.now))) }
+        ensures chained { OnOk result (job_file_of self.new ≡ with_chained (place_sought self.old.label (records_of self.old.records (P.state pool.old).contents) (Key key.now)) (job_file_of self.old)) }
+        ensures alone { self.new ≡ record self.old { chained = self.new.chained } }
+        ensures keeps { KeepsContents (P.state pool.old) (P.state pool.new) }
+        ensures failures { (P.state pool.new).failures ≡ (P.state pool.old).failures + failed_transfers result }
+        ensures fault { IfErr result (λ fault. fault ≢ PoolFault.NoSector) }
+    {
+        if let Some(place) = self.get_noted(pool, key, bytes)? {
+            self.chained = Some(place);
+            return Ok(true);
+        }
+        self.chain_sought(pool, key, bytes)
     }
 
     /// The place of the record of this number, from 1.

@@ -1,8 +1,9 @@
 //! Where the search for a key begins. A search doesn't rely on it, so that nothing is proved of it.
 ghost use Rattle.std.specs.Prelude.{◌≡◌, ◌≤◌, ◌<◌, ◌+◌, ◌/◌, IfErr};
 
-use crate::index_sector::{key_number, key_of_entry};
+use crate::index_sector::{key_number, key_of_entry, number_in};
 use crate::keys::{Key, QuickKey};
+use crate::noted::NotedRecords;
 use s3_store::PoolFault;
 use std::alloc::Global;
 
@@ -16,18 +17,23 @@ pub struct Guide {
     numbers: Vec<u64>,
     /// Which entry of the index has each of them.
     entries: Vec<u32>,
+    /// The record of each key, where keys have four to eight bytes.
+    records: NotedRecords,
     /// The first key of each sector, where keys are shorter or longer.
     firsts: Vec<QuickKey>,
 }
 
 impl Guide {
-    /// With no keys yet.
-    pub fn new(alloc: Global) -> Self {
-        Guide {
+    /// With no keys yet, but room for so many.
+    pub fn new(alloc: Global, count: u32) -> Result<Self, PoolFault>
+        ensures { IfErr result (λ fault. fault ≡ PoolFault.NoMemory) }
+    {
+        Ok(Guide {
             numbers: Vec::new(alloc),
             entries: Vec::new(alloc),
+            records: NotedRecords::new(alloc, count)?,
             firsts: Vec::new(alloc),
-        }
+        })
     }
 
     /// Notes keys of the first so many entries of a sector, which begins with this entry of the index.
@@ -54,6 +60,7 @@ impl Guide {
     }
 
     /// The same of keys of four to eight bytes.
+    #[inline(never)]
     fn note_numbers(
         &mut self,
         sector: &[u8; 256],
@@ -68,9 +75,11 @@ impl Guide {
     {
         let mut entry = entry;
         for j in 0..count {
+            let key = key_number(sector, j, usize::from(key_length));
+            self.records
+                .note(key, number_in(sector, j, usize::from(key_length)));
             if j % STEP as usize == 0 {
-                self.numbers
-                    .push(key_number(sector, j, usize::from(key_length)))?;
+                self.numbers.push(key)?;
                 self.entries.push(entry)?;
             }
             entry = entry.wrapping_add(1);
@@ -83,6 +92,11 @@ impl Guide {
         let up_to = self.numbers.partition_point(|number| *number <= key);
         let entry = self.entries.get(up_to.checked_sub(1)?)?;
         Some(*entry)
+    }
+
+    /// The place of the record with this key, from 0, where keys have four to eight bytes and it stood at the check.
+    pub fn record_of(&self, key: u64) -> Option<u32> {
+        self.records.find(key)
     }
 
     /// The sector of the index, each of so many entries, that a key of so many bytes lies in.

@@ -75,7 +75,7 @@ impl Keyed {
         ensures keeps { KeepsContents (P.state pool.old) (P.state pool.new) }
         ensures failures { (P.state pool.new).failures ≡ (P.state pool.old).failures + failed_keyed_transfers result }
     {
-        let mut guide = Guide::new(alloc);
+        let mut guide = Guide::new(alloc, file.file.count)?;
         if !is_good(&file, pool, &mut guide)? {
             return Err(KeyedFault::BadIndex);
         }
@@ -167,6 +167,26 @@ impl Keyed {
         Ok(())
     }
 
+    /// The bytes of the key in those of a record.
+    fn key_bytes<'a>(&self, bytes: &'a [u8]) -> &'a [u8]
+        requires { length bytes.now ≡ (shown self.now).layout.record_length }
+        ensures key { number_of result.now ≡ key_of (shown self.now).layout.key bytes.now }
+    {
+        let start = usize::from(self.file.key_start - 1);
+        &bytes[start..start + usize::from(self.file.key_length)]
+    }
+
+    /// Whether the key in the bytes of a record is this one, of four to eight bytes.
+    fn has_number(&self, bytes: &[u8], key: u64) -> bool
+        requires { length bytes.now ≡ (shown self.now).layout.record_length }
+        ensures { IsTrue result → key_of (shown self.now).layout.key bytes.now ≡ key }
+    {
+        match short_number_of(self.key_bytes(bytes)) {
+            Some(number) => number == key,
+            None => false,
+        }
+    }
+
     /// The key in the bytes of a record.
     pub(crate) fn key_in(&self, bytes: &[u8]) -> Key
         requires { length bytes.now ≡ (shown self.now).layout.record_length }
@@ -248,6 +268,40 @@ impl Keyed {
             Some(place) => Ok(place),
             None => Err(KeyedFault::NoKey),
         }
+    }
+
+    /// Reads the record with the key in these bytes where they are four to eight and it stood at the check, and answers its place,
+    /// from 0. Its own key tells that it is the one, so that no sector of the index is read.
+    pub fn get_noted<P: Sectors>(
+        &self,
+        pool: &mut P,
+        key: &[u8],
+        bytes: &mut [u8],
+    ) -> Result<Option<u32>, PoolFault>
+        requires stored { AreStored (shown self.now).sectors (P.state pool.old).contents }
+        requires ordered { HasKeyOrder (shown self.now) (P.state pool.old).contents }
+        requires key { length key.now ≡ (shown self.now).layout.key.length }
+        requires long { length bytes.old ≡ (shown self.now).layout.record_length }
+        ensures place { IfOk result (λ place. IfSome place (λ place. place_of_key (number_of key.now) (keys_now (shown self.now) (P.state pool.old).contents) ≡ Some place)) }
+        ensures got { IfOk result (λ place. IfSome place (λ place. slice_get (records_now (shown self.now) (P.state pool.old).contents) place ≡ Some bytes.new)) }
+        ensures keeps { KeepsContents (P.state pool.old) (P.state pool.new) }
+        ensures failures { (P.state pool.new).failures ≡ (P.state pool.old).failures + failed_transfers result }
+        ensures fault { IfErr result (λ fault. fault ≢ PoolFault.NoSector) }
+    {
+        let Some(number) = short_number_of(key) else {
+            return Ok(None);
+        };
+        let Some(place) = self.guide.record_of(number) else {
+            return Ok(None);
+        };
+        if place >= self.count {
+            return Ok(None);
+        }
+        read_record(&self.file, pool, place, bytes)?;
+        if self.has_number(bytes, number) {
+            return Ok(Some(place));
+        }
+        Ok(None)
     }
 
     /// The place of the record that is number `n` by key, both from 0, among those that stood at the check. Refused with `NoKey`

@@ -13,6 +13,7 @@ mod indexed;
 mod keyed;
 mod keys;
 mod laws;
+mod noted;
 mod record_sector;
 mod search;
 mod sector_search;

@@ -26,6 +26,7 @@ fn record_place(file: &IndexedFile, i: u32) -> u32
 }
 
 /// Reads a record.
+#[inline(always)]
 pub fn read_record<P: Sectors>(
     file: &IndexedFile,
     pool: &mut P,

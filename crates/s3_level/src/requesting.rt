@@ -8,7 +8,7 @@ use s3_spool::{ComposedLine, Spool, SpoolFault};
 use s3_store::{PoolFault, Sectors};
 
 impl Level {
-    ghost use Rattle.std.specs.Prelude.{◌≡◌, ◌≢◌, ◌+◌, ℕ, List, false, length, IfOk, OnOk, OnErr, IfErr};
+    ghost use Rattle.std.specs.Prelude.{◌≡◌, ◌≢◌, ◌<◌, ◌+◌, ℕ, List, false, length, IfOk, OnOk, OnErr, IfErr};
     ghost use Rattle.s3_store.specs.Failures.{failed_transfers};
     ghost use Rattle.s3_labels.specs.Labelled.{KeepsSaid};
     ghost use Rattle.s3_meaning.specs.Requests as Meant;
@@ -18,7 +18,7 @@ impl Level {
     ghost use Rattle.s3_job_files.specs.Holds.{Seen, seen};
     ghost use Rattle.s3_solo.specs.Serving.{card_answer, line_put, served, with_answer, with_card_read};
     ghost use Rattle.s3_level.specs.Holds.{Shown, AreAll, around, shown, with_seen, HoldsParts, IsQuiet, IsReady, IsUntouched, Becomes, Stays, Spares, KeepsOthers};
-    ghost use Rattle.s3_level.specs.Inner.Turning.{request_by, waits_by, AtWorkBecomes, Serves, FileServed, FileThere, on_files};
+    ghost use Rattle.s3_level.specs.Inner.Turning.{request_by, waits_by, Acts, AtWorkBecomes, Serves, FileServed, FileThere, on_files};
 
     /// Reads a card for the job at work.
     #[inline(always)]
@@ -98,8 +98,8 @@ impl Level {
     }
 
     /// Prints the line of the job at work, unless the queue is full.
-    #[inline(never)]
-    #[tactic(auto, using(crate::proofs::Fitting::line_done, crate::proofs::Printing::line_waits, crate::proofs::Beside::spares_none, crate::proofs::Said::said_then))]
+    #[inline(always)]
+    #[tactic(auto, using(crate::proofs::Printing::line_waits, crate::proofs::Beside::spares_none))]
     pub(crate) fn print<P: Sectors>(
         &mut self,
         page: u16,
@@ -123,9 +123,35 @@ impl Level {
         if spool.is_full(self.id) {
             return Ok(Did::Idle);
         }
+        self.print_line(page, line, pack, spool)?;
+        Ok(Did::Acted)
+    }
+
+    /// Prints the line of the job at work into a queue that has room for it.
+    #[inline(never)]
+    #[tactic(auto, using(crate::proofs::Said::said_then))]
+    fn print_line<P: Sectors>(
+        &mut self,
+        page: u16,
+        line: u8,
+        pack: &mut Pack<P>,
+        spool: &mut Spool,
+    ) -> Result<(), PoolFault>
+        requires asks { request_by self.old.job ≡ Some (asks.Print page line) }
+        requires ready { IsReady self.old (seen pack.old.areas (P.state pack.old.pool).contents) }
+        requires blocks { AreAll spool.old }
+        requires room { length (blocks_of self.old.id spool.old) < quota_of self.old.id spool.old }
+        ensures served { OnOk result ((text : List ℕ) → waits_by self.old.job ≡ Some (Meant.Print page line text) → Acts (served (Meant.Print page line text)) (HoldsParts self.old (shown self.old.id (around pack.old.areas (P.state pack.old.pool) spool.old))) (HoldsParts self.new (shown self.old.id (around pack.new.areas (P.state pack.new.pool) spool.new)))) }
+        ensures ready { OnOk result (IsReady self.new (seen pack.new.areas (P.state pack.new.pool).contents)) }
+        ensures spares { Spares self.old.id (around pack.old.areas (P.state pack.old.pool) spool.old) (around pack.new.areas (P.state pack.new.pool) spool.new) }
+        ensures failures { (P.state pack.new.pool).failures ≡ (P.state pack.old.pool).failures + failed_transfers result }
+        ensures says { OnOk result (KeepsSaid self.old.id pack.old.areas (P.state pack.old.pool).contents pack.new.areas (P.state pack.new.pool).contents) }
+        ensures fault { IfErr result (λ fault. fault ≢ PoolFault.NoSector) }
+        ensures stays { Stays self.old self.new }
+    {
         self.put_line(page, line, pack, spool)?;
         self.resume(Answer::Done, pack)?;
-        Ok(Did::Acted)
+        Ok(())
     }
 
     /// Puts the line of the job at work last in the queue, which has room for it.

@@ -7,9 +7,9 @@ ghost use Rattle.s3_meaning.specs.Environment.{Environment, put_remainder, no_re
 ghost use Rattle.s3_meaning.specs.Calculating.{changed, number_in, with_quotient, with_zero_quotient};
 ghost use Rattle.s3_program.specs.Stands.{source_named};
 ghost use Rattle.s3_operations.specs.Fits.{IsLineOf, named_line, named_factor};
-ghost use Rattle.s3_operations.specs.Held.{IsSound, Changes, held, remainder_in, left_by};
+ghost use Rattle.s3_operations.specs.Held.{IsSound, Changes, held, remainder_in, left_by, left_in};
 
-use crate::division::Division;
+use crate::division::{Division, LeftOver};
 use crate::numbers::{ZERO, rounding};
 use crate::values::Values;
 use s3_decimal::{Dec, Form, Rounding, ZeroDivisor, add, div_mvr};
@@ -34,14 +34,26 @@ fn left_of(division: Division, form: Form) -> Dec
     }
 }
 
-/// What the last division leaves, as a field of this form keeps it.
-fn remainder(division: Option<Division>, form: Form) -> Dec
-    ensures value { result.value ≡ stored Truncate form.digits form.decimals (remainder_in division) }
+/// What is left over, as a field of this form keeps it.
+fn kept(left: LeftOver, form: Form) -> Dec
+    ensures value { result.value ≡ stored Truncate form.digits form.decimals (left_in left) }
     ensures digits { result.digits ≡ form.digits }
     ensures decimals { result.decimals ≡ form.decimals }
 {
-    match division {
-        Some(division) => left_of(division, form),
+    match left {
+        LeftOver::Number(number) => add(ZERO, number, form, Rounding::Truncate),
+        LeftOver::Of(division) => left_of(division, form),
+    }
+}
+
+/// What the last division leaves, as a field of this form keeps it.
+fn remainder(left: Option<LeftOver>, form: Form) -> Dec
+    ensures value { result.value ≡ stored Truncate form.digits form.decimals (remainder_in left) }
+    ensures digits { result.digits ≡ form.digits }
+    ensures decimals { result.decimals ≡ form.decimals }
+{
+    match left {
+        Some(left) => kept(left, form),
         None => add(ZERO, ZERO, form, Rounding::Truncate),
     }
 }
@@ -64,11 +76,11 @@ impl Values {
         let form = self.form(program, line);
         let divided = div_mvr(dividend, divisor, form, rounding(line), form)?;
         self.store(program, line, divided.quotient);
-        self.division = Some(Division {
+        self.division = Some(LeftOver::Of(Division {
             dividend,
             divisor,
             form,
-        });
+        }));
         Ok(())
     }
 

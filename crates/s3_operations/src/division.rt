@@ -14,3 +14,12 @@ pub struct Division {
     pub form: Form,
     pub ghost divides: { divisor.value ≢ pos 0 },
 }
+
+/// What a DIV leaves for an MVR.
+#[derive(Clone, Copy)]
+pub enum LeftOver {
+    /// A number.
+    Number(Dec),
+    /// What this division leaves, whatever it is.
+    Of(Division),
+}

@@ -75,6 +75,31 @@ fn overlay_left(target: &mut [u8], text: &[u8])
     lay(&mut target[..count], &text[..count]);
 }
 
+/// Lays the zoned bytes of a number over a text that is shorter, right to right.
+#[inline(never)]
+fn overlay_long_number(target: &mut [u8], number: Dec)
+    ensures { target.new ≡ moved_right (zoned number.digits number.value) target.old }
+{
+    let mut buffer = [0; MOST_DIGITS];
+    let digits = &mut buffer[..usize::from(number.digits)];
+    write_zoned(number, digits);
+    overlay_right(target, digits);
+}
+
+/// Lays the zoned bytes of a number over a text, right to right: where they fit, they are written into it.
+#[inline(always)]
+fn overlay_number(target: &mut [u8], number: Dec)
+    ensures { target.new ≡ moved_right (zoned number.digits number.value) target.old }
+{
+    let count = usize::from(number.digits);
+    if count > target.len() {
+        overlay_long_number(target, number);
+    } else {
+        let kept = target.len() - count;
+        write_zoned(number, &mut target[kept..]);
+    }
+}
+
 /// How many characters of one text lie over another one.
 #[inline(always)]
 fn overlap(source: Span, target: Span) -> usize
@@ -137,10 +162,8 @@ impl Texts {
         requires { slot < length self.old }
         ensures { self.new ≡ slice_set self.old slot (moved_right (zoned number.digits number.value) (text_at self.old slot)) }
     {
-        let mut buffer = [0; MOST_DIGITS];
-        let digits = &mut buffer[..usize::from(number.digits)];
-        write_zoned(number, digits);
-        self.move_right(slot, digits);
+        let span = self.spans[slot];
+        overlay_number(&mut self.bytes[span.from..span.to], number);
     }
 
     /// Moves a text into that of a slot, left to left.

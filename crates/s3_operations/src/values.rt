@@ -1,6 +1,6 @@
 //! The values of a run.
 
-use crate::division::Division;
+use crate::division::LeftOver;
 use crate::indicators::Indicators;
 use crate::texts::Texts;
 use s3_decimal::Dec;
@@ -14,6 +14,6 @@ pub struct Values {
     pub texts: Texts,
     /// The indicators.
     pub indicators: Indicators,
-    /// The last division, if it leaves something.
-    pub division: Option<Division>,
+    /// What the last division leaves, if it leaves something.
+    pub division: Option<LeftOver>,
 }

@@ -187,6 +187,7 @@ impl Carriage {
             overflow: there.overflow || there.carriage.line == OVERFLOW_LINE,
         }
     }
+
     /// So many lines on from a place of print at which no overflow is set, if that sets none either, as mostly.
     #[inline(always)]
     fn printed_above_overflow(self, spacing: &Spacing) -> Option<Printed>

@@ -1,8 +1,9 @@
-//! Dates and packed numbers, two digits at a time. `edit` and `packed_write` would write the same, digit by digit of 64 bits.
-ghost use Rattle.std.specs.Prelude.{◌≡◌, ◌<◌, ◌≤◌, ◌+◌, ◌*◌, ◌/◌, ◌%◌, false, nat_lt, length, unsigned_abs, if◌then◌else◌};
+//! Dates, zoned and packed numbers, two digits at a time of 32 bits. `edit`, `write_zoned` and `packed_write` would write the same of
+//! 64 bits.
+ghost use Rattle.std.specs.Prelude.{◌≡◌, ◌<◌, ◌≤◌, ◌+◌, ◌-◌, ◌*◌, ◌/◌, ◌%◌, ◌∷◌, ℕ, List, drop, false, nat_lt, length, slice_index, unsigned_abs, if◌then◌else◌};
 ghost use Rattle.s3_cards.specs.declared.ebcdic.TheConstants.{BLANK};
 ghost use Rattle.s3_decimal.specs.Exact.{is_negative};
-ghost use Rattle.s3_decimal.specs.Records.{packed_bytes, sign_half as sign_half_of};
+ghost use Rattle.s3_decimal.specs.Records.{packed_bytes, sign_half as sign_half_of, zoned_byte, zoned_bytes};
 ghost use Rattle.s3_edit.specs.declared.code.EditCode.TheVariants.{Date};
 ghost use Rattle.s3_edit.specs.Picture.{pictured};
 
@@ -89,5 +90,45 @@ pub fn put_packed(number: &Dec, bytes: &mut [u8])
     for place in 0..last {
         bytes[last - 1 - place] = packed_pair(rest % 100);
         rest /= 100;
+    }
+}
+
+/// The last digit of a zoned number, with its sign.
+#[inline(always)]
+fn signed_digit(negative: bool, magnitude: u32) -> u8
+    ensures { result ≡ zoned_byte negative 0 magnitude }
+{
+    let zone = if negative { 0xd0 } else { 0xf0 };
+    zone + (magnitude % 10) as u8
+}
+
+/// Writes two digits before those that are written, which are so many.
+#[inline(always)]
+fn write_pair(bytes: &mut [u8], place: usize, digits: [u8; 2])
+    requires { place + 2 ≤ length bytes.old }
+    ensures { (written : List ℕ) → drop (length bytes.old - place) bytes.old ≡ written → drop (length bytes.old - (place + 2)) bytes.new ≡ slice_index digits 0 ∷ slice_index digits 1 ∷ written }
+{
+    let end = bytes.len() - place;
+    bytes[end - 1] = digits[1];
+    bytes[end - 2] = digits[0];
+}
+
+/// Writes a zoned number of up to nine digits: the last one alone, for it has the sign, and the others by pairs.
+#[inline(always)]
+pub fn put_zoned(number: &Dec, bytes: &mut [u8])
+    requires short { number.now.digits ≤ 9 }
+    requires room { length bytes.old ≡ number.now.digits }
+    ensures { bytes.new ≡ zoned_bytes (is_negative number.now.value) number.now.digits (unsigned_abs number.now.value) }
+{
+    let count = bytes.len();
+    let magnitude = number.value.unsigned_abs() as u32;
+    bytes[count - 1] = signed_digit(number.is_negative(), magnitude);
+    let mut rest = magnitude / 10;
+    for pair in 0..(count - 1) / 2 {
+        write_pair(bytes, 1 + 2 * pair, pair_of(rest % 100));
+        rest /= 100;
+    }
+    if count % 2 == 0 {
+        bytes[0] = 0xf0 + (rest % 10) as u8;
     }
 }

@@ -234,6 +234,20 @@ fn write_back<S: PackStore>(store: &mut S, buffer: &Buffer) -> Result<(), StoreF
     store.write(buffer.sector, &buffer.bytes)
 }
 
+/// The slot that was used before all others, whose bytes the store has from now on.
+#[inline(always)]
+fn give_way<S: PackStore>(store: &mut S, buffers: &Buffers) -> Result<u8, StoreFault>
+    requires sound { IsSound (S.contents store.old) buffers.now.slots.items }
+    requires full { 16 ≤ length buffers.now.slots.items }
+    ensures keeps { KeepsLaid (S.contents store.old) buffers.now.slots.items (S.contents store.new) buffers.now.slots.items }
+    ensures in_step { IfOk result (IsInStep (S.contents store.new) buffers.now.slots.items) }
+    ensures failures { S.failures store.new ≡ S.failures store.old + failed_calls result }
+{
+    let slot = buffers.least_recent();
+    write_back(store, buffers.buffer(slot))?;
+    Ok(slot)
+}
+
 /// Where the next sector goes: into a new slot while there is room, else into the one that was used before all others, whose
 /// bytes the store has from now on.
 fn make_way<S: PackStore>(store: &mut S, buffers: &Buffers) -> Result<Option<u8>, StoreFault>
@@ -245,9 +259,50 @@ fn make_way<S: PackStore>(store: &mut S, buffers: &Buffers) -> Result<Option<u8>
     if buffers.has_room() {
         return Ok(None);
     }
-    let slot = buffers.least_recent();
-    write_back(store, buffers.buffer(slot))?;
+    let slot = give_way(store, buffers)?;
     Ok(Some(slot))
+}
+
+/// Reads sector `n`, which no buffer holds, into a slot whose bytes the store has, or into a new one. The slot is used.
+#[inline(always)]
+fn read_in<S: PackStore>(
+    store: &mut S,
+    buffers: &mut Buffers,
+    way: Option<u8>,
+    n: u16,
+) -> Result<u8, PoolFault>
+    requires sound { IsSound (S.contents store.old) buffers.old.slots.items }
+    requires indexed { IsIndexed (S.contents store.old) buffers.old }
+    requires way { MatchOption way (length buffers.old.slots.items < 16) (λ slot. IsInStep (S.contents store.old) buffers.old.slots.items slot) }
+    requires in_range { n < length (S.contents store.old) }
+    requires missed { IsMissed n buffers.old.slots.items }
+    ensures keeps { KeepsLaid (S.contents store.old) buffers.old.slots.items (S.contents store.new) buffers.new.slots.items }
+    ensures at { IfOk result (λ slot. IsAt n slot buffers.new.slots.items) }
+    ensures indexed { IsIndexed (S.contents store.new) buffers.new }
+    ensures failures { S.failures store.new ≡ S.failures store.old + failed_transfers result }
+    ensures fault { IfErr result (λ fault. fault ≢ PoolFault.NoSector) }
+{
+    store.read(n, &mut buffers.spare)?;
+    let slot = buffers.take_in(way, n, false)?;
+    buffers.note_use(slot);
+    Ok(slot)
+}
+
+/// Reads sector `n`, which no buffer holds, into a new slot. Few calls come here, so that it stands apart.
+#[inline(never)]
+fn fetch_more<S: PackStore>(store: &mut S, buffers: &mut Buffers, n: u16) -> Result<u8, PoolFault>
+    requires sound { IsSound (S.contents store.old) buffers.old.slots.items }
+    requires indexed { IsIndexed (S.contents store.old) buffers.old }
+    requires room { length buffers.old.slots.items < 16 }
+    requires in_range { n < length (S.contents store.old) }
+    requires missed { IsMissed n buffers.old.slots.items }
+    ensures keeps { KeepsLaid (S.contents store.old) buffers.old.slots.items (S.contents store.new) buffers.new.slots.items }
+    ensures at { IfOk result (λ slot. IsAt n slot buffers.new.slots.items) }
+    ensures indexed { IsIndexed (S.contents store.new) buffers.new }
+    ensures failures { S.failures store.new ≡ S.failures store.old + failed_transfers result }
+    ensures fault { IfErr result (λ fault. fault ≢ PoolFault.NoSector) }
+{
+    read_in(store, buffers, None, n)
 }
 
 /// Reads sector `n`, which no buffer holds, into a slot, which is used. It stands apart, so that a sector that is held is found
@@ -264,11 +319,11 @@ fn fetch<S: PackStore>(store: &mut S, buffers: &mut Buffers, n: u16) -> Result<u
     ensures failures { S.failures store.new ≡ S.failures store.old + failed_transfers result }
     ensures fault { IfErr result (λ fault. fault ≢ PoolFault.NoSector) }
 {
-    let way = make_way(store, buffers)?;
-    store.read(n, &mut buffers.spare)?;
-    let slot = buffers.take_in(way, n, false)?;
-    buffers.note_use(slot);
-    Ok(slot)
+    if buffers.has_room() {
+        return fetch_more(store, buffers, n);
+    }
+    let slot = give_way(store, buffers)?;
+    read_in(store, buffers, Some(slot), n)
 }
 
 /// Has sector `n` in the slot that is given, as the one that was used last.
@@ -321,8 +376,34 @@ fn cover<S: PackStore>(
     Ok(())
 }
 
+/// Has sector `n` have these bytes in its buffer, or in a new one. The sector isn't read.
+#[inline(never)]
+fn overlay<S: PackStore>(
+    store: &mut S,
+    buffers: &mut Buffers,
+    n: u16,
+    bytes: &[u8; 256],
+) -> Result<(), PoolFault>
+    requires sound { IsSound (S.contents store.old) buffers.old.slots.items }
+    requires indexed { IsIndexed (S.contents store.old) buffers.old }
+    requires in_range { n < length (S.contents store.old) }
+    ensures ok { OnOk result (Overwrites n bytes.now (S.contents store.old) buffers.old.slots.items (S.contents store.new) buffers.new.slots.items) }
+    ensures err { OnErr result (KeepsLaid (S.contents store.old) buffers.old.slots.items (S.contents store.new) buffers.new.slots.items) }
+    ensures indexed { IsIndexed (S.contents store.new) buffers.new }
+    ensures failures { S.failures store.new ≡ S.failures store.old + failed_transfers result }
+    ensures fault { IfErr result (λ fault. fault ≢ PoolFault.NoSector) }
+{
+    let Some(slot) = buffers.slot_of(n) else {
+        return cover(store, buffers, n, bytes);
+    };
+    *buffers.buffer_mut(slot).bytes_mut() = *bytes;
+    buffers.note_use(slot);
+    Ok(())
+}
+
 /// Has sector `n` have these bytes: in its buffer, or in a new one, or in the store where a spool block would displace another
-/// sector. The sector isn't read.
+/// sector. The sector isn't read. Most sectors that are written whole are spool blocks, and take no other call than the store's.
+#[inline(always)]
 pub(crate) fn overwrite<S: PackStore>(
     store: &mut S,
     buffers: &mut Buffers,
@@ -338,16 +419,11 @@ pub(crate) fn overwrite<S: PackStore>(
     ensures failures { S.failures store.new ≡ S.failures store.old + failed_transfers result }
     ensures fault { IfErr result (λ fault. fault ≢ PoolFault.NoSector) }
 {
-    if let Some(slot) = buffers.slot_of(n) {
-        *buffers.buffer_mut(slot).bytes_mut() = *bytes;
-        buffers.note_use(slot);
-        return Ok(());
+    if buffers.has_room() || !buffers.is_unheld_block(n) {
+        return overlay(store, buffers, n, bytes);
     }
-    if !buffers.has_room() && SPOOL_BLOCKS.contains(&n) {
-        store.write(n, bytes)?;
-        return Ok(());
-    }
-    cover(store, buffers, n, bytes)
+    store.write(n, bytes)?;
+    Ok(())
 }
 
 /// Gives up all buffers, once the store has them.

@@ -1,10 +1,11 @@
 -- Calls among subroutines: each EXSR is one, none is forbidden, and so a course has room for one more.
-use Rattle.std.proofs.Common.{◌≡◌, ℕ, ◌+◌, ◌-◌, ◌<◌, ◌==◌, List, [], ◌∷◌, ◌++◌, Bool, true, false, ◌&&◌, ◌||◌, refl, sym, ◌∙◌, ap, subst, arith, zero, suc, inl, inr, take, length}
+use Rattle.std.proofs.Common.{◌≡◌, ℕ, ◌+◌, ◌-◌, ◌<◌, ◌==◌, List, [], ◌∷◌, ◌++◌, Bool, true, false, ◌&&◌, ◌||◌, refl, sym, ◌∙◌, ap, subst, arith, zero, suc, inl, inr, take, length, get_or}
 use Rattle.std.specs.Prelude.{Option, Some, None, map, slice_get, is_some, nat_eq, nat_lt, if◌then◌else◌}
 use Rattle.std.specs.List.{list_any}
 use Rattle.std.specs.Option.{option_eq}
 use Rattle.std.proofs.lemmas.Bool.{and_parts, cases_Bool, true≢false}
 use Rattle.std.proofs.lemmas.Bool.Decides.{nat_tests}
+use Rattle.std.proofs.lemmas.Option.{slice_get-get_or}
 use Rattle.s3_lines.specs.declared.sheet.Operation.{Operation}
 use Rattle.s3_lines.specs.declared.sheet.Operation.TheVariants as op
 use Rattle.s3_lines.specs.declared.sheet.CalculationLine.{CalculationLine}
@@ -210,6 +211,13 @@ left p old new here last items none anew go = goes_further p anew go old here �
 pub left_last : (p : Program) (old : List Spot) (here : Spot) → (0 < length old → ⊥) → rest_of p here.section here.place ≡ [] → (anew : Anew) (go : Rest) → goes_through p anew go (old ++ here ∷ []) ≡ go
 left_last p [] here empty none anew go = at_end p anew go here none
 left_last p (spot ∷ spots) here empty none anew go = absurd (empty (omega arith))
+
+-- a list without a last item has none
+pub none_last : (spots : List Spot) → None ≡ slice_get spots (length spots - 1) → 0 < length spots → ⊥
+none_last [] none some = absurd (omega (arith, some))
+none_last (spot ∷ spots) none some =
+    let all : List Spot = spot ∷ spots in
+    none_some (get_or all (length all - 1) spot) (none ∙ slice_get-get_or all (length all - 1) spot (omega arith))
 
 -- ---- an EXSR
 pub exsr_callee : (p : Program) (line : CalculationLine Reference) (t : SubroutineNamed p line.factor2) → called (meant_factor p line.factor2) ≡ Some t.entry.1.place

@@ -39,13 +39,16 @@ impl Course {
         }
     }
 
-    /// Begins anew at a spot outside of all subroutines; the room of its returns isn't written again.
+    /// Begins anew at a spot outside of all subroutines. The room of its returns isn't written again, nor what lies between the parts
+    /// of a spot.
     pub fn restart(&mut self, here: Spot)
         ensures here { self.new.here ≡ here }
         ensures returns { self.new.returns.items ≡ [] }
         ensures course { (program : Program) → IsSpot program here → subroutine_in here ≡ None → spec.IsCourse program self.new }
     {
-        self.here = here;
+        self.here.section = here.section;
+        self.here.begin = here.begin;
+        self.here.place = here.place;
         self.returns.clear();
     }
 
@@ -85,9 +88,10 @@ impl Course {
     pub fn leave(&mut self) -> bool
         ensures { (program : Program) → spec.IsCourse program self.old → rest_of program self.old.here.section self.old.here.place ≡ [] → spec.Leaves program self.old self.new result }
     {
-        match self.returns.pop() {
+        match self.returns.last() {
             Some(spot) => {
-                self.here = spot;
+                self.here = *spot;
+                self.returns.pop();
                 true
             }
             None => false,

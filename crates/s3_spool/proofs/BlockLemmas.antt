@@ -1,7 +1,7 @@
 -- The bytes of a block.
 use Rattle.std.proofs.Common.{◌≡◌, ℕ, ◌+◌, ◌-◌, ◌<◌, ◌≤◌, List, [], ◌∷◌, ◌++◌, length, take, drop, replicate, sym, ap, ◌∙◌, arith, append_assoc, drop-drop, length-append}
 use Rattle.std.proofs.Math.Seq.{take-append_seam, drop-append_seam}
-use Rattle.std.proofs.lemmas.List.{drop-replicate, length-replicate, take-take}
+use Rattle.std.proofs.lemmas.List.{drop-replicate, length-replicate, length-take-le, take-take}
 use Rattle.byteorder.specs.Endian.{big_bytes}
 use Rattle.s3_store.specs.Bytes.{part}
 use Rattle.s3_cards.specs.Printed.{Printed}
@@ -21,6 +21,30 @@ laid a b c d n text first second one two =
     ∙ ap (λ rest. (a ∷ b ∷ c ∷ d ∷ text) ++ rest) (sym (drop-drop n 4 (a ∷ b ∷ c ∷ d ∷ replicate 252 0)))
     ∙ append_assoc (a ∷ b ∷ c ∷ d ∷ []) text (drop n (replicate 252 0))
     ∙ ap (λ rest. (a ∷ b ∷ c ∷ d ∷ []) ++ (text ++ rest)) (drop-replicate n 252 0)
+
+-- a text laid in two parts
+pub two_parts : (block front rest text first second : List ℕ) → length block ≡ 256 → length front ≡ 128 → length rest ≡ 4 → text ≡ front ++ rest
+    → first ≡ (take 4 block ++ front) ++ drop (4 + length front) block
+    → second ≡ (take 132 first ++ rest) ++ drop (132 + length rest) first
+    → second ≡ (take 4 block ++ text) ++ drop (4 + length text) block
+two_parts block front rest text first second whole front_long rest_long are one two =
+    let laid' : List ℕ = take 4 block ++ front in
+    let n : length laid' ≡ 132 = omega (arith, length-append (take 4 block) front, length-take-le 4 block (omega arith)) in
+    let head : 4 + length front ≡ 132 = omega arith in
+    let all : 4 + length text ≡ 136 = omega (arith, ap length are, length-append front rest) in
+    let end : 132 + length rest ≡ 136 = omega arith in
+    let one' : first ≡ laid' ++ drop 132 block = one ∙ ap (λ m. laid' ++ drop m block) head in
+    let before : take 132 first ≡ laid' = ap (take 132) one' ∙ (ap (λ m. take m (laid' ++ drop 132 block)) (sym n) ∙ take-append_seam laid' (drop 132 block)) in
+    let behind : drop 136 first ≡ drop 136 block =
+    ap (drop 136) one'
+    ∙ (sym (drop-drop 4 132 (laid' ++ drop 132 block))
+    ∙ (ap (drop 4) (ap (λ m. drop m (laid' ++ drop 132 block)) (sym n) ∙ drop-append_seam laid' (drop 132 block)) ∙ drop-drop 4 132 block)) in
+    let text' : laid' ++ rest ≡ take 4 block ++ text = append_assoc (take 4 block) front rest ∙ ap (λ x. take 4 block ++ x) (sym are) in
+    two
+    ∙ (ap (λ m. (take 132 first ++ rest) ++ drop m first) end
+    ∙ (ap (λ x. (x ++ rest) ++ drop 136 first) before
+    ∙ (ap (λ x. x ++ drop 136 first) text'
+    ∙ (ap (λ x. (take 4 block ++ text) ++ x) behind ∙ ap (λ m. (take 4 block ++ text) ++ drop m block) (sym all)))))
 
 pub block_put_together : (line : Printed) (zeros first second : List ℕ) → zeros ≡ replicate 256 0
     → first ≡ (take 0 zeros ++ (big_bytes 2 line.page ++ line.line ∷ length line.text ∷ [])) ++ drop 4 zeros

@@ -12,12 +12,31 @@ use s3_cards::{PRINT_POSITIONS, PrintLine};
 /// Where the text of a line begins in its block.
 const TEXT: usize = 4;
 
+/// The most bytes of a known number that are copied without a call. All positions are some more, and so are copied in two parts.
+const FRONT: usize = 128;
+
 /// These bytes from a place of the block on.
+#[inline(always)]
 fn put(bytes: &mut [u8; 256], place: usize, part: &[u8])
     requires { place + length part.now ≤ 256 }
     ensures { bytes.new ≡ (take place bytes.old ++ part.now) ++ drop (place + length part.now) bytes.old }
 {
     bytes[place..place + part.len()].copy_from_slice(part);
+}
+
+/// The text of a line in its block.
+#[inline(always)]
+fn put_text(block: &mut [u8; 256], text: &[u8])
+    requires { length text.now ≤ 132 }
+    ensures { block.new ≡ (take 4 block.old ++ text.now) ++ drop (4 + length text.now) block.old }
+{
+    if text.len() == PRINT_POSITIONS {
+        let (front, rest) = text.split_at(FRONT);
+        put(block, TEXT, front);
+        put(block, TEXT + FRONT, rest);
+    } else {
+        put(block, TEXT, text);
+    }
 }
 
 /// What stands before the text of a line.
@@ -44,7 +63,7 @@ pub fn lay_line(block: &mut [u8; 256], line: &ComposedLine<'_>)
         0,
         &head_of(line.page(), line.line(), text.len() as u8),
     );
-    put(block, TEXT, text);
+    put_text(block, text);
 }
 
 /// A length that a block says; one that no line has counts as 132.

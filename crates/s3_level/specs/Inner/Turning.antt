@@ -89,6 +89,10 @@ abbrev pub Serves : {E : Type 0} → (JobAtWork → World → Outcome) → Resul
 Serves serve (Ok did) old new = (w : World) (job : JobAtWork) → w.job ≡ Some job → old w → (did ≡ (serve job w).did) × new (serve job w).world
 Serves serve (Err _) old new = (w : World) (job : JobAtWork) → w.job ≡ Some job → old w → (serve job w).did ≡ Acted
 
+-- the same, where it acts
+abbrev pub Acts : (JobAtWork → World → Outcome) → (World → Type 0) → (World → Type 0) → Type 0
+Acts serve old new = (w : World) (job : JobAtWork) → w.job ≡ Some job → old w → (Acted ≡ (serve job w).did) × new (serve job w).world
+
 -- ---- requests to files
 -- The pending request of an open job is served by its files, and its run goes on with the answer; or the job doesn't have the file,
 -- and nothing changes.

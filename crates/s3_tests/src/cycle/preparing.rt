@@ -6,7 +6,7 @@ use s3_fields::preparing::prepared_inputs;
 use s3_lines::sheet::Operation;
 use s3_output::conditions::overflow_of;
 use s3_output::guards::{LineGuard, line_guards};
-use s3_output::preparing::{FieldForm, PreparedOutput, prepared_outputs};
+use s3_output::preparing::{FieldForm, FieldWork, PreparedOutput, prepared_outputs};
 use s3_prepared::line::{Behind, PreparedLine, Told};
 use s3_prepared::preparing::prepared_lines;
 use s3_prepared::work::Work;
@@ -126,12 +126,12 @@ fn way_on(line: PreparedLine) -> &'static str {
     }
 }
 
-/// Lines without conditions, and ones that have the same condition or others, one of which turns indicators; a total line at last.
+/// Lines without conditions, and ones that have the same condition or others, one of which turns its indicator; a total line at last.
 const RUNS: &str = "6:C 18:ONE 28:ADD 33:TWO 43:ONE
 6:C 10:01 28:Z-ADD 33:TWO 43:ONE
 6:C 10:01 28:Z-ADD 33:TWO 43:TWO
 6:C 9:N01 28:Z-ADD 33:TWO 43:ONE
-6:C 9:N01 18:ONE 28:COMP 33:TWO 54:10
+6:C 9:N01 18:ONE 28:COMP 33:TWO 54:01
 6:C 9:N01 28:Z-ADD 33:TWO 43:TWO
 6:C 28:Z-ADD 33:TWO 43:ONE
 6:C 7:LR 28:Z-ADD 33:TWO 43:ONE";
@@ -166,6 +166,24 @@ fn conditions_that_are_known_are_not_tested(rt: HostRuntime) -> Result<(), Fail>
     Ok(())
 }
 
+/// Lines that turn other indicators than those of their conditions, and one that has one condition of two.
+const TURNED: &str = "6:C 10:01 18:ONE 28:COMP 33:TWO 54:10
+6:C 10:01 13:20 18:ONE 28:ADD 33:TWO 43:ONE 54:11
+6:C 10:20 28:SETON 54:20
+6:C 10:20 28:Z-ADD 33:TWO 43:ONE";
+
+#[test]
+fn conditions_are_known_where_others_are_turned(rt: HostRuntime) -> Result<(), Fail> {
+    let alloc = rt.alloc();
+    let program = program_of(alloc, &[CARDS, PRINT, FIELDS, TURNED, TOTAL])?;
+    let mut names = String::new(alloc);
+    for line in &prepared_lines(alloc, &program)? {
+        list_text(&mut names, way_on(*line))?;
+    }
+    assert_eq!(&rt; names.as_str(), "on, on without a test, on, off");
+    Ok(())
+}
+
 /// A file of records on disk.
 const STOCK: &str = "6:F 7:STOCK 15:IS 19:F 26:20 40:DISK";
 
@@ -183,7 +201,7 @@ const INPUTS: &str = "6:I 7:CARDS 15:AA 19:01
 fn name_of_input(input: PreparedInput) -> &'static str {
     match input {
         PreparedInput::Card => "card",
-        PreparedInput::Zoned(_) => "zoned",
+        PreparedInput::Zoned(_) | PreparedInput::LateZoned(_) => "zoned",
         PreparedInput::Packed(_) => "packed",
         PreparedInput::ShortPacked(_) => "short packed",
         PreparedInput::Text(_) => "text",
@@ -279,7 +297,7 @@ fn lines_get_their_guards(rt: HostRuntime) -> Result<(), Fail> {
     Ok(())
 }
 
-/// Numbers and texts in their forms, and then what has none: a field with blank after, a constant and PAGE.
+/// Numbers, texts and a constant in their forms, and what has none: a field with blank after and PAGE.
 const OUTPUT_CARDS: &str = "6:O 7:PRINT 15:D 24:01
 6:O 14:AND 24:01
 6:O 32:ONE 42:10
@@ -289,14 +307,21 @@ const OUTPUT_CARDS: &str = "6:O 7:PRINT 15:D 24:01
 6:O 42:36 45:'END'
 6:O 32:PAGE 42:40";
 
+fn name_of_output(work: FieldWork) -> &'static str {
+    match work {
+        FieldWork::Number(_) | FieldWork::NumberIf(_, _) => "number",
+        FieldWork::Text(_) | FieldWork::TextIf(_, _) => "text",
+        FieldWork::Constant(_) | FieldWork::ConstantIf(_, _) => "constant",
+        FieldWork::Other(_, FieldForm::Card) => "card",
+        FieldWork::Other(_, FieldForm::Number(_)) => "number of many conditions",
+        FieldWork::Other(_, FieldForm::Text(_)) => "text of many conditions",
+        FieldWork::Other(_, FieldForm::Constant(_)) => "constant of many conditions",
+    }
+}
+
 fn list_fields(names: &mut String, line: &PreparedOutput) -> Result<(), Fail> {
     for field in &line.fields {
-        let name = match field.form {
-            FieldForm::Card => "card",
-            FieldForm::Number(_) => "number",
-            FieldForm::Text(_) => "text",
-        };
-        list_text(names, name)?;
+        list_text(names, name_of_output(field.work))?;
     }
     Ok(())
 }
@@ -311,7 +336,7 @@ fn output_cards_get_their_forms(rt: HostRuntime) -> Result<(), Fail> {
     }
     assert_eq!(&rt;
         names.as_str(),
-        "number, number, text, card, card, card, card"
+        "number, number, text, card, constant, card, constant"
     );
     Ok(())
 }

@@ -1,8 +1,11 @@
-use Rattle.std.proofs.Common.{refl, rules}
+use Rattle.std.proofs.Common.{refl, arith, rules}
 use Rattle.s3_lines.specs.declared.indicator.Indicator.TheVariants.{LastRecord}
 use Rattle.s3_operations.specs.Indicators.{on_in}
-use Rattle.s3_cycle.proofs.ClearingLemmas.{one_more_off}
+use Rattle.s3_cycle.proofs.ClearingLemmas.{one_more_off, only_off}
 use Rattle.s3_cycle.proofs.indicating.turn_off.Goals as goal
+
+pub returns-then-numbers-eq1 : goal.returns-then-numbers-eq1
+returns-then-numbers-eq1 c = λ other. only_off c.args.program.now c.args.indicators.now c.args.numbers.now _ LastRecord other c.requires (omega arith) refl (search rules)
 
 pub loop-number-preserved : goal.loop-number-preserved
 loop-number-preserved c = λ other.

@@ -5,24 +5,24 @@ use Rattle.s3_cycle.proofs.stepper.Stepper.go_on.Goals as goal
 
 pub go_on_stored-requires-clause-fits : goal.go_on_stored-requires-clause-fits
 go_on_stored-requires-clause-fits c =
-    stored_fits c.args.self.now.program c.args.self.now.composition c.args.self.now.request c.args.answer
+    stored_fits c.args.self.now.program c.args.self.now.composition c.args.self.now.request c.args.answer.now
     (waits_at c.args.self.now (at.Records c.in-Records.walk c.in-Records.next) c.requires.waiting c.in-Records.is).0 c.requires.fits
 
 pub go_on_read-requires-clause-fits : goal.go_on_read-requires-clause-fits
 go_on_read-requires-clause-fits c =
     let waits = waits_at c.args.self.now (at.Head c.in-Head.place) c.requires.waiting c.in-Head.is in
-    read_fits c.args.self.now.program c.args.self.now.progress c.args.self.now.composition c.in-Head.place c.args.self.now.request c.args.answer
+    read_fits c.args.self.now.program c.args.self.now.progress c.args.self.now.composition c.in-Head.place c.args.self.now.request c.args.answer.now
     (head_ranged c.args.self.now c.in-Head.place c.requires.waiting.running waits.1.within) waits.0 c.requires.fits
 
 pub go_on_chained-requires-clause-fits : goal.go_on_chained-requires-clause-fits
 go_on_chained-requires-clause-fits c =
-    chained_fits c.args.self.now.program c.args.self.now.composition c.in-Chained.place c.in-Chained.file c.args.self.now.request c.args.answer
+    chained_fits c.args.self.now.program c.args.self.now.composition c.in-Chained.place c.in-Chained.file c.args.self.now.request c.args.answer.now
     (waits_at c.args.self.now (at.Chained c.in-Chained.place c.in-Chained.file) c.requires.waiting c.in-Chained.is).0 c.requires.fits
 
 pub go_on_replied-requires-clause-fits : goal.go_on_replied-requires-clause-fits
 go_on_replied-requires-clause-fits c =
-    asked_fits c.args.self.now.program c.args.self.now.composition c.args.self.now.request c.args.answer (waits_at c.args.self.now (at.Reply c.in-Reply.then) c.requires.waiting c.in-Reply.is).0 c.requires.fits
+    asked_fits c.args.self.now.program c.args.self.now.composition c.args.self.now.request c.args.answer.now (waits_at c.args.self.now (at.Reply c.in-Reply.then) c.requires.waiting c.in-Reply.is).0 c.requires.fits
 
 pub unreachable-requires : goal.unreachable-requires
 unreachable-requires c =
-    never_answered c.args.self.now.program c.args.self.now.composition c.args.self.now.request c.in-End.at_once (answer_of c.args.answer) (waits_at c.args.self.now (at.End c.in-End.at_once) c.requires.waiting c.in-End.is) c.requires.fits
+    never_answered c.args.self.now.program c.args.self.now.composition c.args.self.now.request c.in-End.at_once (answer_of c.args.answer.now) (waits_at c.args.self.now (at.End c.in-End.at_once) c.requires.waiting c.in-End.is) c.requires.fits

@@ -9,4 +9,4 @@ pub returns-clause-ordered : goal.returns-clause-ordered
 returns-clause-ordered g c =
     let f = c.args.file in
     let contents = (g.P.Sectors.state c.args.pool.now).contents in
-    ordered_start f.file.count (256 ^ f.key_length) (index_in (layout_in f) f.file.count (bytes_in f contents)) (map entry_of c.new.result.items) (keys_on f contents) (ap (map entry_of) c.new.ensures.items) (length_keys (layout_in f) f.file.count (bytes_in f contents)) (c.in_ok-is_good.ensures.good ∙ c.if-not-branch.false)
+    ordered_start f.file.count (256 ^ f.key_length) (index_in (layout_in f) f.file.count (bytes_in f contents)) (map entry_of c.new-2.result.items) (keys_on f contents) (ap (map entry_of) c.new-2.ensures.items) (length_keys (layout_in f) f.file.count (bytes_in f contents)) (c.in_ok-is_good.ensures.good ∙ c.if-not-branch.false)

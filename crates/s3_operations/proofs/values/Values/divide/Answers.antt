@@ -1,5 +1,5 @@
 use Rattle.std.proofs.Common.{◌≡◌, refl, sym, ◌∙◌, rules, true, is_err}
-use Rattle.s3_decimal.specs.Exact.{quotient_of}
+use Rattle.s3_decimal.specs.Exact.{quotient_of, remainder_of}
 use Rattle.s3_operations.proofs.FitLemmas.{divide_takes}
 use Rattle.s3_operations.proofs.ChangeLemmas.{binary, leaves, divided, zero_divisor, nonzero_divisor, err_is, ok_isnt}
 use Rattle.s3_operations.proofs.values.Values.divide.Goals as goal
@@ -25,7 +25,8 @@ pub returns-clause-zero : goal.returns-clause-zero
 returns-clause-zero c = λ rest. sym (nonzero_divisor _ _ _ (c.second-divisor.ensures rest).value (ok_isnt c.div_mvr.result _ _ c.in_ok-divided.was c.div_mvr.ensures.zero))
 
 pub returns-clause-divided : goal.returns-clause-divided
-returns-clause-divided c = divided c.args.program.now c.args.self.now c.store.new.self _ c.args.line.now _ refl
+returns-clause-divided c = divided c.args.program.now c.args.self.now c.store.new.self _ c.args.line.now
     (binary quotient_of c.args.program.now c.args.self.now c.store.new.self c.args.line.now _ _ _ _ _ _ c.store.ensures c.in_ok-divided.ensures.quotient_value c.rounding.ensures c.form-form.ensures.digits c.form-form.ensures.decimals
     c.first-dividend.ensures c.second-divisor.ensures)
-    (leaves c.args.program.now c.store.new.self _ c.store.ensures.sound refl refl refl) c.form-form.ensures.decimals c.first-dividend.ensures c.second-divisor.ensures
+    (leaves c.args.program.now c.store.new.self _ c.store.ensures.sound refl refl refl)
+    (λ rest i. remainder_of (c.form-form.ensures.decimals i) (sym (c.first-dividend.ensures rest).value i) (sym (c.second-divisor.ensures rest).value i))

@@ -1,23 +1,29 @@
-use Rattle.std.proofs.Common.{List, [], ◌∷◌, ◌++◌, ap, subst, sym, true≢false}
-use Rattle.std.specs.Prelude.{None}
+use Rattle.std.proofs.Common.{◌≡◌, List, [], ◌∷◌, ◌++◌, ◌-◌, refl, ap, subst, sym, ◌∙◌, length}
+use Rattle.std.specs.Prelude.{None, slice_get}
+use Rattle.std.specs.Option.{option_copied, option_to_list}
 use Rattle.s3_sections.specs.declared.spot.Spot.{Spot}
 use Rattle.s3_sections.specs.Courses.{AreCalls}
-use Rattle.s3_sections.proofs.CourseLemmas.{calls_less, left, left_last}
+use Rattle.s3_sections.proofs.CourseLemmas.{calls_less, left, left_last, none_last}
 use Rattle.s3_sections.proofs.course.Course.leave.Goals as goal
 
 pub returns-in-Some : goal.returns-in-Some
 returns-in-Some c = λ program course end_there.
-    let popped = c.in-Some.ensures in
-    let less = calls_less program None c.pop.new.self.items c.in-Some.spot c.args.self.now.here
-    (subst (λ (spots : List Spot). AreCalls program None spots c.args.self.now.here) popped.items course.calls) in (
+    let old = c.args.self.now.returns.items in
+    let new = c.pop.new.self.items in
+    let spot = c.in-Some.spot.now in
+    let items : old ≡ new ++ spot ∷ [] =
+    c.pop.ensures.items
+    ∙ ap (λ last. new ++ option_to_list last)
+    (c.pop.ensures.value ∙ (sym (c.last.ensures.value ∙ (λ i. slice_get (c.deref.ensures.0 i) (length (c.deref.ensures.0 i) - 1))) ∙ ap option_copied c.in-Some.is)) in
+    let less = calls_less program None new spot c.args.self.now.here (subst (λ (spots : List Spot). AreCalls program None spots c.args.self.now.here) items course.calls) in (
       record { here = less.0; calls = less.1 },
-      ap (λ (spots : List Spot). spots ++ c.args.self.now.here ∷ []) popped.items,
-      left program c.args.self.now.returns.items c.pop.new.self.items c.args.self.now.here c.in-Some.spot popped.items end_there,
+      ap (λ (spots : List Spot). spots ++ c.args.self.now.here ∷ []) items,
+      left program old new c.args.self.now.here spot items end_there,
     )
 
 pub returns-in-None : goal.returns-in-None
 returns-in-None c = λ program course end_there.
-    let popped = c.in-None.ensures in (
-      λ i. record { here = c.args.self.now.here; returns = popped.empty i },
-      left_last program c.args.self.now.returns.items c.args.self.now.here (λ some. true≢false (sym (popped.variant.1 some))) end_there,
-    )
+    let old = c.args.self.now.returns.items in
+    let nothing : None ≡ slice_get old (length old - 1) =
+    ap option_copied (sym c.in-None.is) ∙ (c.last.ensures.value ∙ (λ i. slice_get (c.deref.ensures.0 i) (length (c.deref.ensures.0 i) - 1))) in
+    (refl, left_last program old c.args.self.now.here (none_last old nothing) end_there)

@@ -1,0 +1,82 @@
+//! Where the record of a key is, by a hash of the key. Who asks compares the record's key, so that nothing is proved of it.
+ghost use Rattle.std.specs.Prelude.{◌≡◌, ◌<◌, IfErr};
+
+use s3_store::PoolFault;
+use std::alloc::Global;
+
+/// How many slots a key may be in, one behind another.
+const TRIES: usize = 16;
+
+/// Spreads keys over the slots: 2 ^ 64 over the golden ratio.
+const SPREAD: u64 = 0x9E37_79B9_7F4A_7C15;
+
+/// A record that is noted, or none.
+#[derive(Clone, Copy)]
+struct Slot {
+    /// The hash of its key, which tells it from nearly all others.
+    hash: u32,
+    /// Its number, from 1; 0 for none.
+    number: u32,
+}
+
+/// The records of an index as it was checked, where keys have four to eight bytes.
+#[derive(Drop)]
+pub struct NotedRecords {
+    /// More of them than keys, by the high bits of the hash.
+    slots: Vec<Slot>,
+    /// How many low bits of the hash don't count there.
+    shift: u32,
+    ghost small: { shift < 32 },
+}
+
+/// The hash of a key.
+fn hash_of(key: u64) -> u32 {
+    (key.wrapping_mul(SPREAD) >> 32) as u32
+}
+
+impl NotedRecords {
+    /// With none yet, but room for so many.
+    pub fn new(alloc: Global, keys: u32) -> Result<Self, PoolFault>
+        ensures { IfErr result (λ fault. fault ≡ PoolFault.NoMemory) }
+    {
+        let shift = keys.saturating_add(keys / 2).leading_zeros().min(31);
+        let places = (u32::MAX >> shift) as usize + 1;
+        let free = Slot { hash: 0, number: 0 };
+        Ok(NotedRecords {
+            slots: vec![in alloc; free; places + TRIES]?,
+            shift,
+        })
+    }
+
+    /// The first slot that a key with this hash may be in.
+    fn first(&self, hash: u32) -> usize {
+        (hash >> self.shift) as usize
+    }
+
+    /// Notes the number of a record in a free slot of its key, if there is one.
+    pub fn note(&mut self, key: u64, number: u32) {
+        let hash = hash_of(key);
+        let first = self.first(hash);
+        for step in 0..TRIES {
+            if let Some(slot) = self.slots.get_mut(first.wrapping_add(step)) {
+                if slot.number == 0 {
+                    *slot = Slot { hash, number };
+                    return;
+                }
+            }
+        }
+    }
+
+    /// The place of the record with this key, from 0, where it was noted. Seldom it is one with another key.
+    pub fn find(&self, key: u64) -> Option<u32> {
+        let hash = hash_of(key);
+        let first = self.first(hash);
+        for step in 0..TRIES {
+            let slot = self.slots.get(first.wrapping_add(step))?;
+            if slot.hash == hash {
+                return slot.number.checked_sub(1);
+            }
+        }
+        None
+    }
+}
