@@ -76,11 +76,12 @@ fn push_region(bytes: &mut Vec<u8>, region: Stretch) -> Result<(), AllocError>
     push_u16(bytes, region.sectors)
 }
 
-/// The bytes of a header.
+/// The bytes of a header, with room for its whole pack, which so isn't copied as it grows.
 fn bytes_of_header(alloc: Global, header: &Header) -> Result<Vec<u8>, AllocError>
     ensures { IfOk result (λ bytes. bytes.items ≡ header_bytes header.now) }
 {
-    let mut bytes = Vec::from_slice(alloc, b"S3PACK02")?;
+    let mut bytes = Vec::with_capacity(alloc, 256 * usize::from(header.total))?;
+    push_part(&mut bytes, b"S3PACK02")?;
     push_u16(&mut bytes, header.total)?;
     push_region(&mut bytes, header.masters)?;
     push_region(&mut bytes, header.level_one)?;

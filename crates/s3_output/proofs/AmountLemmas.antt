@@ -89,6 +89,22 @@ three_digits n end place hundreds tens units text room long is_h is_t is_u h =
 pub part_below : (v k m : ℕ) → v < 10 ^ (k + m) → v / 10 ^ k < 10 ^ m
 part_below v k m h = below (v / 10 ^ k) m (split v k m ∙ div-eq_of_lt h)
 
+-- what is left of a number without so many digits, and then without the others of a count
+pub left_further : (n r low count : ℕ) → low ≤ count → r ≡ n / 10 ^ low → r / 10 ^ (count - low) ≡ n / 10 ^ count
+left_further n r low count few is = ap (λ q. q / 10 ^ (count - low)) is ∙ split n low (count - low) ∙ ap (λ e. n / 10 ^ e) (omega (arith, few))
+
+-- the lowest digits, and those of what is left in front of them
+pub digits_joined : (n r low count end : ℕ) (before out : List ℕ) → low ≤ count → count ≤ end → r ≡ n / 10 ^ low → ((k : ℕ) → k < low → get_or before (end - 1 - k) 0 ≡ 0xf0 + n / 10 ^ k % 10)
+    → ((k : ℕ) → k < count - low → get_or out (end - low - 1 - k) 0 ≡ 0xf0 + r / 10 ^ k % 10) → ((i : ℕ) → end - low ≤ i → get_or out i 0 ≡ get_or before i 0)
+    → (k : ℕ) → k < count → get_or out (end - 1 - k) 0 ≡ 0xf0 + n / 10 ^ k % 10
+digits_joined n r low count end before out few within is right left kept k h = by (nat_lt k low) refl
+  where
+    by : (b : Bool) → nat_lt k low ≡ b → get_or out (end - 1 - k) 0 ≡ 0xf0 + n / 10 ^ k % 10
+    by true t = let under : k < low = is_lt k low t in kept (end - 1 - k) (omega (arith, under)) ∙ right k under
+    by false t =
+        let past : low ≤ k = not_lt k low t in
+        ap (λ i. get_or out i 0) (omega (arith, past)) ∙ left (k - low) (omega (arith, past, h)) ∙ ap (λ q. 0xf0 + q % 10) (left_further n r low k past is)
+
 room_by : (b : Bool) (n q end r : ℕ) → n < 10 ^ end → r ≡ n / 10 ^ q → 0 < r → nat_lt q end ≡ b → q < end
 room_by true n q end r fits left some t = is_lt q end t
 room_by false n q end r fits left some t =
@@ -275,18 +291,18 @@ pub some_known : (o : Option ℕ) (n : ℕ) → is_some o ≡ true → n ≡ unw
 some_known None n some is = absurd (true≢false (sym some))
 some_known (Some w) n some is = ap (λ k. Some k) (sym is)
 
-few_decimals : (decimals : ℕ) → nat_le decimals 3 ≡ true → decimals ≤ 3
+few_decimals : (decimals : ℕ) → nat_le decimals 6 ≡ true → decimals ≤ 6
 few_decimals decimals t = grind (arith, nat_tests, t)
 
 -- a form that has a style of an amount
-pub amount_known : (form : OutputForm) (decimals : ℕ) (style : Amount) → Some style ≡ amount_of form decimals → (form ≡ put.Edited (Edited style)) × (decimals ≤ 3)
+pub amount_known : (form : OutputForm) (decimals : ℕ) (style : Amount) → Some style ≡ amount_of form decimals → (form ≡ put.Edited (Edited style)) × (decimals ≤ 6)
 amount_known put.Plain decimals style h = absurd (true≢false (ap (λ o. is_some o) h))
 amount_known put.Packed decimals style h = absurd (true≢false (ap (λ o. is_some o) h))
 amount_known (put.Edited Zoned) decimals style h = absurd (true≢false (ap (λ o. is_some o) h))
 amount_known (put.Edited Date) decimals style h = absurd (true≢false (ap (λ o. is_some o) h))
 amount_known (put.Edited Suppressed) decimals style h = absurd (true≢false (ap (λ o. is_some o) h))
-amount_known (put.Edited (Edited kept)) decimals style h = by (nat_le decimals 3) refl h
+amount_known (put.Edited (Edited kept)) decimals style h = by (nat_le decimals 6) refl h
   where
-    by : (b : Bool) → nat_le decimals 3 ≡ b → Some style ≡ (if b then Some kept else None) → (put.Edited (Edited kept) ≡ put.Edited (Edited style)) × (decimals ≤ 3)
+    by : (b : Bool) → nat_le decimals 6 ≡ b → Some style ≡ (if b then Some kept else None) → (put.Edited (Edited kept) ≡ put.Edited (Edited style)) × (decimals ≤ 6)
     by true t h = (ap (λ (o : Option Amount). put.Edited (Edited (unwrap_or o kept))) (sym h), few_decimals decimals t)
     by false t h = absurd (true≢false (ap (λ o. is_some o) h))

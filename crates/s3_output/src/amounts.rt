@@ -123,7 +123,7 @@ fn put_three(number: u32, end: usize, text: &mut [u8]) -> u32
 
 /// Writes up to three decimals up to `end`, and gives the whole part.
 #[inline(always)]
-fn put_decimals(number: u32, count: usize, end: usize, text: &mut [u8]) -> u32
+fn put_few_decimals(number: u32, count: usize, end: usize, text: &mut [u8]) -> u32
     requires few { count ≤ 3 }
     requires begins { count ≤ end }
     requires ends { end ≤ length text.old }
@@ -138,6 +138,42 @@ fn put_decimals(number: u32, count: usize, end: usize, text: &mut [u8]) -> u32
         1 => put_digit(number, end, text),
         2 => put_pair(number, end, text),
         _ => put_three(number, end, text),
+    }
+}
+
+/// Writes more than three decimals up to `end`, and gives the whole part.
+#[inline(always)]
+fn put_more_decimals(number: u32, count: usize, end: usize, text: &mut [u8]) -> u32
+    requires more { 3 < count }
+    requires few { count ≤ 6 }
+    requires begins { count ≤ end }
+    requires ends { end ≤ length text.old }
+    ensures left { result ≡ number / 10 ^ count }
+    ensures digits { (place : ℕ) → place < count → slice_index text.new (end - 1 - place)
+        ≡ digit_character (digit_at place number) }
+    ensures before { (i : ℕ) → i < end - count → slice_index text.new i ≡ slice_index text.old i }
+    ensures rest { (i : ℕ) → end ≤ i → slice_index text.new i ≡ slice_index text.old i }
+{
+    let rest = put_three(number, end, text);
+    put_few_decimals(rest, count - 3, end - 3, text)
+}
+
+/// Writes up to six decimals up to `end`, and gives the whole part.
+#[inline(always)]
+fn put_decimals(number: u32, count: usize, end: usize, text: &mut [u8]) -> u32
+    requires few { count ≤ 6 }
+    requires begins { count ≤ end }
+    requires ends { end ≤ length text.old }
+    ensures left { result ≡ number / 10 ^ count }
+    ensures digits { (place : ℕ) → place < count → slice_index text.new (end - 1 - place)
+        ≡ digit_character (digit_at place number) }
+    ensures before { (i : ℕ) → i < end - count → slice_index text.new i ≡ slice_index text.old i }
+    ensures rest { (i : ℕ) → end ≤ i → slice_index text.new i ≡ slice_index text.old i }
+{
+    if count <= 3 {
+        put_few_decimals(number, count, end, text)
+    } else {
+        put_more_decimals(number, count, end, text)
     }
 }
 
@@ -290,7 +326,7 @@ fn put_whole(number: u32, commas: bool, end: usize, text: &mut [u8])
 #[inline(always)]
 fn put_body(magnitude: u32, decimals: usize, commas: bool, width: usize, text: &mut [u8])
     requires some { magnitude ≢ 0 }
-    requires few { decimals ≤ 3 }
+    requires few { decimals ≤ 6 }
     requires unit { decimals < width }
     requires room { width ≤ length text.old }
     requires fits { magnitude / 10 ^ decimals < 10 ^ whole_digits commas (width - (decimals + point_width decimals)) }
@@ -336,12 +372,12 @@ fn put_sign(sign: Sign, is_negative: bool, at: usize, text: &mut [u8])
     }
 }
 
-/// Writes an amount that isn't 0 and has up to three decimals, from its magnitude. The whole part comes last.
+/// Writes an amount that isn't 0 and has up to six decimals, from its magnitude. The whole part comes last.
 #[inline(never)]
 pub fn put_amount(number: &Dec, magnitude: u32, style: &Amount, text: &mut [u8])
     requires magnitude { magnitude ≡ unsigned_abs number.now.value }
     requires some { magnitude ≢ 0 }
-    requires few { number.now.decimals ≤ 3 }
+    requires few { number.now.decimals ≤ 6 }
     requires room { width_of (Edited style.now) number.now.digits number.now.decimals ≡ Some (length text.old) }
     ensures { (place : ℕ) → place < length text.old → slice_index text.new (length text.old - 1 - place)
         ≡ amount_at style.now number.now.decimals (is_negative number.now.value) (unsigned_abs number.now.value) place }

@@ -42,9 +42,9 @@ abbrev pub has_width : OutputForm → (digits decimals : ℕ) → Bool
 has_width (Edited code) digits decimals = is_some (width_of code digits decimals)
 has_width _ digits decimals = true
 
--- the style of an amount of up to three decimals
+-- the style of an amount of up to six decimals
 abbrev pub amount_of : OutputForm → (decimals : ℕ) → Option Amount
-amount_of (Edited (EditedCode style)) decimals = if nat_le decimals 3 then Some style else None
+amount_of (Edited (EditedCode style)) decimals = if nat_le decimals 6 then Some style else None
 amount_of _ decimals = None
 
 -- a number is put out as its field is prepared

@@ -119,7 +119,7 @@ fn cards_get_their_forms(rt: HostRuntime) -> Result<(), Fail> {
 fn way_on(line: PreparedLine) -> &'static str {
     match (line.told, line.behind) {
         (Told::Never, _) => "untold",
-        (_, Behind::Next) => "on",
+        (_, Behind::Next | Behind::NextOne(_)) => "on",
         (_, Behind::NextHolds) => "on without a test",
         (_, Behind::End) => "at the end",
         (_, Behind::Untold) => "off",
@@ -309,9 +309,9 @@ const OUTPUT_CARDS: &str = "6:O 7:PRINT 15:D 24:01
 
 fn name_of_output(work: FieldWork) -> &'static str {
     match work {
-        FieldWork::Number(_) | FieldWork::NumberIf(_, _) => "number",
-        FieldWork::Text(_) | FieldWork::TextIf(_, _) => "text",
-        FieldWork::Constant(_) | FieldWork::ConstantIf(_, _) => "constant",
+        FieldWork::Number(_, _) => "number",
+        FieldWork::Text(_, _) => "text",
+        FieldWork::Constant(_, _) => "constant",
         FieldWork::Other(_, FieldForm::Card) => "card",
         FieldWork::Other(_, FieldForm::Number(_)) => "number of many conditions",
         FieldWork::Other(_, FieldForm::Text(_)) => "text of many conditions",
