@@ -1,8 +1,8 @@
 //! Records by key: 50,000 with even keys are loaded first.
 ghost use Rattle.std.specs.Prelude.{◌≡◌, ◌≤◌, length, IfOk, OnOk};
-ghost use Rattle.s3_store.specs.State.{KeepsContents};
-ghost use Rattle.s3_files.specs.Files.{AreStored};
-ghost use Rattle.s3_keyed.specs.Keyed.{shown, HasKeyOrder};
+ghost use Rattle.s3_store.specs.Inner.State.{KeepsContents};
+ghost use Rattle.s3_files.specs.Inner.Files.{AreStored};
+ghost use Rattle.s3_keyed.specs.Inner.Keyed.{shown, HasKeyOrder};
 
 use crate::counting::CountingStore;
 use crate::label::{LENGTH, label_of};

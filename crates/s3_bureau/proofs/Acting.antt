@@ -1,16 +1,16 @@
 -- What the calls of a level come to, with what is beside it.
 use Rattle.std.proofs.Common.{◌≡◌, ℕ, ◌≤◌, ◌+◌, Result, Ok, Err, refl, sym, ap, ◌∙◌, replicate, arith}
 use Rattle.std.specs.Prelude.{IfErr, IfOk, OnOk, OnErr, ◌≢◌}
-use Rattle.s3_store.specs.Failures.{failed_transfers}
-use Rattle.s3_store.specs.State.{PoolState}
+use Rattle.s3_store.specs.Inner.Failures.{failed_transfers}
+use Rattle.s3_store.specs.Inner.State.{PoolState}
 use Rattle.s3_store.specs.declared.pool_fault.PoolFault.{PoolFault}
-use Rattle.s3_store.specs.State.{KeepsContents}
+use Rattle.s3_store.specs.Inner.State.{KeepsContents}
 use Rattle.s3_store.specs.declared.pool_fault.PoolFault.TheVariants.{NoSector}
-use Rattle.s3_labels.specs.Areas.{Areas, IsReady as IsPackReady}
-use Rattle.s3_labels.specs.Labelled.{KeepsSaid}
+use Rattle.s3_labels.specs.Inner.Areas.{Areas, IsReady as IsPackReady}
+use Rattle.s3_labels.specs.Inner.Labelled.{KeepsSaid}
 use Rattle.s3_level.proofs.Said.{said_same}
-use Rattle.s3_spool.specs.Queues.{Blocks}
-use Rattle.s3_job_files.specs.Holds.{seen}
+use Rattle.s3_spool.specs.Inner.Queues.{Blocks}
+use Rattle.s3_job_files.specs.Inner.Holds.{seen}
 use Rattle.s3_solo.specs.declared.action.Action.{Action}
 use Rattle.s3_solo.specs.declared.action.Action.TheVariants.{Turn, Reply, Drain}
 use Rattle.s3_solo.specs.declared.action.Did.{Did}
@@ -18,7 +18,7 @@ use Rattle.s3_solo.specs.World.{World}
 use Rattle.s3_solo.specs.Solo.{solo, step_of}
 use Rattle.s3_level.specs.declared.level.Level.{Level}
 use Rattle.s3_level.specs.declared.taken.Taken.{Taken}
-use Rattle.s3_level.specs.Holds.{AreAll, Around, Holds, IsQuiet, IsReady, IsUntouched, IsUpTo, KeepsOthers, Repeats, Spares, Stays, Steps, around, once}
+use Rattle.s3_level.specs.Inner.Holds.{AreAll, Around, Holds, IsQuiet, IsReady, IsUntouched, IsUpTo, KeepsOthers, Repeats, Spares, Stays, Steps, around, once}
 use Rattle.s3_level.proofs.Beside.{spares_files}
 use Rattle.s3_level.proofs.Turns.{steps_once}
 use Rattle.s3_bureau.specs.Inner.Calls.{Acts}

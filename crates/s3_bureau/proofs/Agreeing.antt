@@ -1,17 +1,17 @@
 -- A level's own entries alone say what it holds and what it is answered.
 use Rattle.std.proofs.Common.{◌≡◌, List, [], ◌∷◌, refl, sym, ap, ap₂, subst, ◌∙◌}
-use Rattle.s3_cards.specs.Levels.{other}
+use Rattle.s3_cards.specs.Inner.Levels.{other}
 use Rattle.s3_cards.specs.declared.levels.LevelId.{LevelId}
 use Rattle.s3_cards.specs.declared.levels.LevelId.TheVariants.{One, Two}
 use Rattle.s3_solo.specs.declared.action.Action.{Action}
 use Rattle.s3_solo.specs.declared.action.Did.{Did}
 use Rattle.s3_solo.specs.World.{World}
 use Rattle.s3_solo.specs.Solo.{solo, step_of}
-use Rattle.s3_level.specs.Holds.{Steps}
+use Rattle.s3_level.specs.Inner.Holds.{Steps}
 use Rattle.s3_bureau.specs.declared.entry.Entry.{Entry}
-use Rattle.s3_bureau.specs.Agreement.{AgreesAfter, ArePerformed, own_answers, with_answer}
+use Rattle.s3_bureau.specs.Inner.Agreement.{AgreesAfter, ArePerformed, own_answers, with_answer}
 use Rattle.s3_bureau.specs.Entries.{own, with_action}
-use Rattle.s3_bureau.specs.Held.{HoldsFor, State}
+use Rattle.s3_bureau.specs.Inner.Held.{HoldsFor, State}
 
 -- what the solo run answers
 abbrev solo_answers : World → List Action → List Did

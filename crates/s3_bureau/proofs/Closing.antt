@@ -3,27 +3,28 @@ use Rattle.std.proofs.Common.{◌≡◌, ℕ, ◌+◌, List, [], ◌∷◌, leng
 use Rattle.std.specs.Prelude.{IfErr, IsOk, OnOk, ◌≢◌}
 use Rattle.s3_cards.specs.declared.levels.LevelId.{LevelId}
 use Rattle.s3_cards.specs.declared.levels.LevelId.TheVariants.{One, Two}
-use Rattle.s3_store.specs.Failures.{failed_transfers}
-use Rattle.s3_store.specs.State.{PoolState, KeepsContents, KeepsInStep}
+use Rattle.s3_store.specs.Inner.Failures.{failed_transfers}
+use Rattle.s3_store.specs.Inner.State.{PoolState, KeepsContents, KeepsInStep}
 use Rattle.s3_store.specs.declared.pool_fault.PoolFault.{PoolFault}
 use Rattle.s3_store.specs.declared.pool_fault.PoolFault.TheVariants.{Device, NoMemory, NoSector}
 use Rattle.s3_store.proofs.Frames.{keeps_refl, keeps_trans, step_from_keeps, step_trans}
 use Rattle.s3_slots.specs.declared.header.Header.{Header}
-use Rattle.s3_labels.specs.Areas.{Areas, slots_at, IsReady as IsPackReady}
-use Rattle.s3_labels.specs.Labelled.{KeepsSaid}
+use Rattle.s3_labels.specs.Inner.Areas.{Areas, slots_at, IsReady as IsPackReady}
+use Rattle.s3_labels.specs.Inner.Labelled.{KeepsSaid}
 use Rattle.s3_labels.proofs.Labelled.{judged_as_said}
-use Rattle.s3_spool.specs.Queues.{Blocks, blocks_of, queue_of, quota_of}
+use Rattle.s3_spool.specs.Inner.Queues.{Blocks, blocks_of, queue_of, quota_of}
 use Rattle.s3_spool.proofs.QueueLemmas.{queue_length}
-use Rattle.s3_job_files.specs.Holds.{seen}
+use Rattle.s3_job_files.specs.Inner.Holds.{seen}
 use Rattle.s3_solo.specs.Lines.{Lines, all_drained}
 use Rattle.s3_solo.specs.Serving.{job_ended, over}
 use Rattle.s3_solo.specs.Solo.{closed}
 use Rattle.s3_solo.specs.World.{World, JobAtWork}
 use Rattle.s3_level.specs.declared.level.Level.{Level}
-use Rattle.s3_level.specs.Holds.{AreAll, Around, Becomes, Holds, HoldsParts, IsReady, KeepsOthers, Spares, Stays, around}
+use Rattle.s3_level.specs.Inner.Holds.{AreAll, Around, Becomes, Holds, HoldsParts, IsReady, KeepsOthers, Spares, Stays, around}
 use Rattle.s3_level.proofs.Beside.{spares_files, spares_then}
 use Rattle.s3_level.proofs.Said.{said_same}
-use Rattle.s3_bureau.specs.Held.{IsCommon, IsDone, IsOwn, IsReadyFor}
+use Rattle.s3_bureau.specs.Sharing.{IsCommon, IsOwn}
+use Rattle.s3_bureau.specs.Inner.Held.{IsDone, IsReadyFor}
 use Rattle.s3_bureau.specs.Inner.Calls.{BothTo, ClosesBoth, ClosesLevel, ClosesTo, MountsAs}
 use Rattle.s3_bureau.proofs.OtherLevel.{common_spared, header_spared, other_said, other_spared, ready_stays, worlds_stay}
 

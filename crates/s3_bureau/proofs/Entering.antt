@@ -1,25 +1,26 @@
 -- An entry in one of the two levels, and what a step says of it.
 use Rattle.std.proofs.Common.{◌≡◌, ◌≢◌, ◌+◌, ℕ, true, false, true≢false, Result, Ok, Err, refl, sym, ap, subst, ◌∙◌, replicate, arith}
-use Rattle.s3_cards.specs.Levels.{other}
+use Rattle.s3_cards.specs.Inner.Levels.{other}
 use Rattle.s3_cards.specs.declared.levels.LevelId.{LevelId}
 use Rattle.s3_cards.specs.declared.levels.LevelId.TheVariants.{One, Two}
-use Rattle.s3_store.specs.State.{KeepsInStep}
+use Rattle.s3_store.specs.Inner.State.{KeepsInStep}
 use Rattle.s3_store.specs.declared.pool_fault.PoolFault.{PoolFault}
 use Rattle.s3_store.specs.declared.pool_fault.PoolFault.TheVariants.{Device, NoMemory, NoSector}
-use Rattle.s3_labels.specs.Labelled.{KeepsSaid}
-use Rattle.s3_job_files.specs.Holds.{seen}
+use Rattle.s3_labels.specs.Inner.Labelled.{KeepsSaid}
+use Rattle.s3_job_files.specs.Inner.Holds.{seen}
 use Rattle.s3_solo.specs.declared.action.Action.{Action}
 use Rattle.s3_solo.specs.Solo.{closed, solo}
 use Rattle.s3_solo.specs.World.{World}
 use Rattle.s3_level.specs.declared.level.Level.{Level}
-use Rattle.s3_level.specs.Holds.{Around, Becomes, Holds, IsReady, Repeats, Spares, Steps}
+use Rattle.s3_level.specs.Inner.Holds.{Around, Becomes, Holds, IsReady, Repeats, Spares, Steps}
 use Rattle.s3_level.specs.declared.taken.Taken.{Taken}
 use Rattle.s3_bureau.specs.declared.bureau.Phase.{Phase}
 use Rattle.s3_bureau.specs.declared.bureau.Phase.TheVariants.{Open, Finished, Stopped}
 use Rattle.s3_bureau.specs.declared.stop.Stop.{Stop}
 use Rattle.s3_bureau.specs.declared.stop.Stop.TheVariants.{NoMemory as StopNoMemory, Device as StopDevice, Stopped as StoppedBefore}
-use Rattle.s3_bureau.specs.Stops.{StopsBy, failed_stop}
-use Rattle.s3_bureau.specs.Held.{HoldsFor, IsForeign, IsOwn, IsReadyFor, State, has_worlds, header_of, is_open, level_of, lines_at, rests, takes_entries}
+use Rattle.s3_bureau.specs.Inner.Stops.{StopsBy, failed_stop}
+use Rattle.s3_bureau.specs.Inner.Held.{HoldsFor, IsForeign, IsReadyFor, State, has_worlds, header_of, is_open, level_of, lines_at, rests, takes_entries}
+use Rattle.s3_bureau.specs.Sharing.{IsOwn}
 use Rattle.s3_bureau.specs.Inner.Calls.{Acts, Closes, ClosesBoth, Enters, MountsAs}
 use Rattle.s3_bureau.proofs.OtherLevel.{foreign_spared, header_spared, other_said, ready_stays, worlds_stay, worlds_stayed}
 

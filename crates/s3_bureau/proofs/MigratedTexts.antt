@@ -5,10 +5,11 @@ use Rattle.s3_cards.specs.declared.levels.LevelId.{LevelId}
 use Rattle.s3_cards.specs.declared.levels.LevelId.TheVariants.{One, Two}
 use Rattle.s3_slots.specs.Header.{mounted}
 use Rattle.s3_slots.specs.declared.header.Header.{Header}
-use Rattle.s3_labels.specs.Images.{contents_of, in_second, migrated}
+use Rattle.s3_labels.specs.Contents.{contents_of}
+use Rattle.s3_labels.specs.Inner.Images.{in_second, migrated}
 use Rattle.s3_labels.proofs.MigratedPacks.{migrated_mounted}
 use Rattle.s3_solo.specs.declared.action.Action.{Action}
-use Rattle.s3_solo.specs.Formats.{over_second, shows_no_space}
+use Rattle.s3_solo.specs.Inner.Formats.{over_second, shows_no_space}
 use Rattle.s3_solo.specs.Serving.{over}
 use Rattle.s3_solo.specs.Solo.{closed, solo}
 use Rattle.s3_solo.specs.World.{JobAtWork, World, at_start}

@@ -2,14 +2,16 @@
 use Rattle.std.proofs.Common.{◌≡◌, ℕ, List, [], sym, ap, subst, ◌∙◌}
 use Rattle.s3_cards.specs.declared.levels.LevelId.{LevelId}
 use Rattle.s3_cards.specs.declared.levels.LevelId.TheVariants.{One, Two}
-use Rattle.s3_store.specs.State.{PoolState}
+use Rattle.s3_store.specs.Inner.State.{PoolState}
 use Rattle.s3_slots.specs.Header.{quota_of as header_quota, region_of}
-use Rattle.s3_labels.specs.Areas.{Areas, area_of, areas_on, IsReady as IsPackReady}
-use Rattle.s3_labels.specs.Labelled.{IsUntangled, SaysSlots}
+use Rattle.s3_labels.specs.Inner.Areas.{Areas, areas_on, IsReady as IsPackReady}
+use Rattle.s3_labels.specs.Areas.{area_of}
+use Rattle.s3_labels.specs.Untangled.{IsUntangled}
+use Rattle.s3_labels.specs.Inner.Labelled.{SaysSlots}
 use Rattle.s3_labels.proofs.Labelled.{says_mounted}
-use Rattle.s3_spool.specs.Queues.{Blocks, blocks_of, quota_of}
-use Rattle.s3_level.specs.Holds.{IsFresh, around}
-use Rattle.s3_bureau.specs.Held.{IsSaid, State, header_of}
+use Rattle.s3_spool.specs.Inner.Queues.{Blocks, blocks_of, quota_of}
+use Rattle.s3_level.specs.Inner.Holds.{IsFresh, around}
+use Rattle.s3_bureau.specs.Inner.Held.{IsSaid, State, header_of}
 
 -- what is beside the levels is as it was mounted
 pub is_fresh : (areas : Areas) (s : PoolState) (blocks : Blocks) (quota_one quota_two : ℕ) → areas ≡ areas_on areas.header s.contents → IsPackReady areas s.contents

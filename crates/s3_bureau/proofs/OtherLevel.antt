@@ -1,28 +1,30 @@
 -- What a call of one level leaves to the other, and to the masters.
 use Rattle.std.proofs.Common.{◌≡◌, inl, inr, ℕ, ◌<◌, ◌≤◌, List, ◌++◌, length, map, refl, sym, ap, subst, ◌∙◌, arith}
-use Rattle.s3_cards.specs.Levels.{other}
+use Rattle.s3_cards.specs.Inner.Levels.{other}
 use Rattle.s3_cards.specs.Printed.{Printed}
 use Rattle.s3_cards.specs.declared.levels.LevelId.{LevelId}
 use Rattle.s3_cards.specs.declared.levels.LevelId.TheVariants.{One, Two}
-use Rattle.s3_store.specs.State.{KeepsInStep}
+use Rattle.s3_store.specs.Inner.State.{KeepsInStep}
 use Rattle.s3_store.proofs.Frames.{step_weaker}
 use Rattle.s3_slots.specs.Header.{region_of}
 use Rattle.s3_slots.specs.Stretches.{IsIn}
 use Rattle.s3_slots.specs.declared.header.Header.{Header}
 use Rattle.s3_slots.specs.declared.slot.Slot.{Slot}
-use Rattle.s3_labels.specs.Areas.{Areas, ArePlaced, IsLabelSector, area_of, slots_at, with_slots, IsReady as IsPackReady}
-use Rattle.s3_labels.specs.Labelled.{KeepsSaid, SaysSlots}
+use Rattle.s3_labels.specs.Inner.Areas.{Areas, ArePlaced, slots_at, with_slots, IsReady as IsPackReady}
+use Rattle.s3_labels.specs.Areas.{IsLabelSector, area_of}
+use Rattle.s3_labels.specs.Inner.Labelled.{KeepsSaid, SaysSlots}
 use Rattle.s3_labels.proofs.Changes.{header_with}
 use Rattle.s3_labels.proofs.Labelled.{says_kept}
 use Rattle.s3_labels.proofs.Regions.{accepted_placed}
-use Rattle.s3_spool.specs.Queues.{queue_of, quota_of}
+use Rattle.s3_spool.specs.Inner.Queues.{queue_of, quota_of}
 use Rattle.s3_job_files.specs.Files.{FilesInUse}
-use Rattle.s3_job_files.specs.Holds.{Holds as HoldsInUse, seen, job_file_of, IsReady as AreFilesReady}
+use Rattle.s3_job_files.specs.Inner.Holds.{Holds as HoldsInUse, seen, job_file_of, IsReady as AreFilesReady}
 use Rattle.s3_job_files.proofs.Staying.{SeesSame, sees_back, held_over, ready_over}
 use Rattle.s3_solo.specs.World.{World}
 use Rattle.s3_level.specs.declared.level.Level.{Level}
-use Rattle.s3_level.specs.Holds.{Around, Holds, IsBeyond, IsReady, Spares, open_files}
-use Rattle.s3_bureau.specs.Held.{IsCommon, IsForeign, IsOwn}
+use Rattle.s3_level.specs.Inner.Holds.{Around, Holds, IsBeyond, IsReady, Spares, open_files}
+use Rattle.s3_bureau.specs.Sharing.{IsCommon, IsOwn}
+use Rattle.s3_bureau.specs.Inner.Held.{IsForeign}
 
 placed : (areas : Areas) (contents : List (List ℕ)) → IsPackReady areas contents → ArePlaced areas.header (length contents)
 placed areas contents pack = accepted_placed (length contents) areas.header pack.header

@@ -5,7 +5,7 @@ use Rattle.std.proofs.lemmas.List.{replicate-append-replicate, append-nil, take-
 use Rattle.std.proofs.lemmas.Grind.{flat_map-append}
 use Rattle.s3_cards.specs.declared.levels.LevelId.{LevelId}
 use Rattle.s3_cards.specs.declared.levels.LevelId.TheVariants.{One, Two}
-use Rattle.s3_cards.specs.Levels.{other}
+use Rattle.s3_cards.specs.Inner.Levels.{other}
 use Rattle.s3_solo.specs.declared.action.Action.{Action}
 use Rattle.s3_solo.specs.World.{World}
 use Rattle.s3_solo.specs.Solo.{step_of, solo}
@@ -13,11 +13,12 @@ use Rattle.s3_bureau.specs.declared.entry.Entry.{Entry}
 use Rattle.s3_bureau.specs.declared.script.Command.{Command}
 use Rattle.s3_bureau.specs.Entries.{with_action, own}
 use Rattle.s3_bureau.specs.Script.{entries_by}
-use Rattle.s3_store.specs.State.{KeepsInStep}
+use Rattle.s3_store.specs.Inner.State.{KeepsInStep}
 use Rattle.s3_store.proofs.Frames.{step_refl, step_trans}
 use Rattle.s3_slots.specs.declared.header.Header.{Header}
 use Rattle.s3_level.specs.declared.level.Level.{Level}
-use Rattle.s3_bureau.specs.Held.{IsCommon, IsForeign, IsOwn, State, header_of, level_of, rests}
+use Rattle.s3_bureau.specs.Sharing.{IsCommon, IsOwn}
+use Rattle.s3_bureau.specs.Inner.Held.{IsForeign, State, header_of, level_of, rests}
 use Rattle.s3_bureau.specs.Inner.Underway.{Leaves, LeavesSectors, Performs}
 
 with_action-append : (level from : LevelId) (action : Action) (xs ys : List Action) → with_action level from action (xs ++ ys) ≡ with_action level from action xs ++ ys

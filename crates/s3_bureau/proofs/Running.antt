@@ -13,25 +13,26 @@ use Rattle.s3_slots.specs.declared.header.Header.{Header}
 use Rattle.s3_slots.specs.declared.header.MountFault.{MountFault}
 use Rattle.s3_slots.specs.declared.header.MountFault.TheVariants.{Short}
 use Rattle.s3_labels.specs.Areas.{area_of}
-use Rattle.s3_labels.specs.Images.{contents_of}
-use Rattle.s3_labels.specs.Labelled.{IsUntangled}
+use Rattle.s3_labels.specs.Contents.{contents_of}
+use Rattle.s3_labels.specs.Untangled.{IsUntangled}
 use Rattle.s3_labels.proofs.Labelled.{slots_kept}
 use Rattle.s3_solo.specs.declared.action.Action.{Action}
 use Rattle.s3_cards.specs.Deck.{deck_of}
 use Rattle.s3_job_files.specs.declared.file.OpenFile.{OpenFile}
-use Rattle.s3_job_files.specs.Holds.{is_open}
+use Rattle.s3_job_files.specs.Inner.Holds.{is_open}
 use Rattle.s3_solo.specs.Serving.{over}
 use Rattle.s3_solo.specs.World.{World, JobAtWork, at_start}
 use Rattle.s3_level.specs.declared.job.OpenJob.{OpenJob}
 use Rattle.s3_level.specs.declared.level.Level.{Level}
-use Rattle.s3_level.specs.Holds.{Around, Holds, HoldsAtWork, open_files}
+use Rattle.s3_level.specs.Inner.Holds.{Around, Holds, HoldsAtWork, open_files}
 use Rattle.s3_solo.specs.Solo.{solo, closed}
 use Rattle.s3_bureau.specs.declared.entry.Entry.{Entry}
 use Rattle.s3_bureau.specs.declared.outcome.Outcome.{Outcome}
 use Rattle.s3_bureau.specs.declared.run_fault.RunFault.{RunFault}
 use Rattle.s3_bureau.specs.declared.run_fault.RunFault.TheVariants.{Script, Mount, Device as DeviceFault, NoMemory}
 use Rattle.s3_bureau.specs.Entries.{own}
-use Rattle.s3_bureau.specs.Held.{HoldsFor, IsCommon, IsOwn, IsSaid, State, header_of, held_by, level_of, rests}
+use Rattle.s3_bureau.specs.Inner.Held.{HoldsFor, IsSaid, State, header_of, held_by, level_of, rests}
+use Rattle.s3_bureau.specs.Sharing.{IsCommon, IsOwn}
 use Rattle.s3_bureau.specs.Script.{entries_of}
 use Rattle.s3_bureau.specs.Runs.{AreSectors, HasFiles, HasSlots, LeavesSo, RunTexts, Runs, outcome_texts, cards_of, texts_of, run_alone, run_texts, level_texts, entries_texts, texts_after, texts_over}
 use Rattle.s3_bureau.specs.Inner.Underway.{HaveFiles, HaveSlots, KeepSaying, LeavesSectors, ReadsDeck, Performs, RunsOver, HasTexts, drained_texts}

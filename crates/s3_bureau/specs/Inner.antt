@@ -1,3 +1,9 @@
--- Words of inner functions and of proofs: none of them says what the product means.
+-- What the contracts of a run and of a session don't reach: words of inner functions, of proofs and of other calls.
+pub mod Agreement
 pub mod Calls
+pub mod Faults
+pub mod Held
+pub mod Samples
+pub mod Script
+pub mod Stops
 pub mod Underway

@@ -1,10 +1,6 @@
-pub mod Agreement
 pub mod Entries
-pub mod Faults
-pub mod Held
 pub mod Runs
-pub mod Samples
 pub mod Script
-pub mod Stops
+pub mod Sharing
 pub mod Texts
 pub mod Inner

@@ -12,8 +12,8 @@ use Rattle.s3_slots.specs.Slots.{slots_of, standing}
 use Rattle.s3_slots.specs.declared.label.FileLabel.{FileLabel}
 use Rattle.s3_slots.specs.declared.slot.Standing.TheVariants.{Present}
 use Rattle.s3_labels.specs.Areas.{area_of}
-use Rattle.s3_labels.specs.Images.{contents_of}
-use Rattle.s3_labels.specs.Labelled.{IsUntangled}
+use Rattle.s3_labels.specs.Contents.{contents_of}
+use Rattle.s3_labels.specs.Untangled.{IsUntangled}
 use Rattle.s3_job_files.specs.Kept.{kept_on}
 use Rattle.s3_solo.specs.declared.action.Action.{Action}
 use Rattle.s3_solo.specs.World.{World, at_start}
@@ -26,7 +26,7 @@ use Rattle.s3_bureau.specs.declared.run_fault.RunFault.TheVariants.{Script, Moun
 use Rattle.s3_bureau.specs.Texts.{report_of, halt_text_of}
 use Rattle.s3_bureau.specs.Script.{entries_of}
 use Rattle.s3_bureau.specs.Entries.{own}
-use Rattle.s3_bureau.specs.Held.{IsCommon, IsOwn}
+use Rattle.s3_bureau.specs.Sharing.{IsCommon, IsOwn}
 
 -- a level's report and its halt text
 pub record Texts : Type 0 where

@@ -1,6 +1,6 @@
 -- What the lines of a script ask for.
-use Rattle.std.specs.Prelude.{◌≡◌, ℕ, ◌+◌, ◌-◌, ◌==◌, ◌&&◌, List, [], ◌∷◌, ◌++◌, Option, Some, None, Result, Ok, Err, Vec, length, replicate, nat_le, nat_lt, if◌then◌else◌}
-use Rattle.std.specs.List.{list_all, flat_map}
+use Rattle.std.specs.Prelude.{ℕ, ◌+◌, ◌-◌, ◌==◌, ◌&&◌, List, [], ◌∷◌, ◌++◌, Option, Some, None, Result, Ok, Err, length, replicate, nat_le, nat_lt, if◌then◌else◌}
+use Rattle.std.specs.List.{list_all}
 use Rattle.std.specs.Option.{option_map}
 use Rattle.std.specs.Char.{is_ascii_digit}
 use Rattle.std.specs.Str.Lines.{lines}
@@ -11,8 +11,6 @@ use Rattle.s3_solo.specs.declared.action.Action.{Action}
 use Rattle.s3_solo.specs.declared.action.Action.TheVariants.{Turn, Reply, Drain}
 use Rattle.s3_bureau.specs.declared.entry.Entry.{Entry}
 use Rattle.s3_bureau.specs.declared.script.Command.{Command}
-use Rattle.s3_bureau.specs.declared.script.ScriptFault.{ScriptFault}
-use Rattle.s3_bureau.specs.declared.script.ScriptFault.TheVariants.{NoMemory, Line}
 
 -- the level that a digit names
 abbrev pub level_named : ℕ → Option LevelId
@@ -77,9 +75,3 @@ entries_from n (line ∷ more) = with_line n line (entries_from (n + 1) more)
 -- the entries of a script, or the number of its first ill-formed line, from 1
 unfoldable pub entries_of : List ℕ → Result (List Entry) ℕ
 entries_of script = entries_from 1 (lines script)
-
--- the commands are those of a script with these entries, or the fault is the script's, unless memory ran out
-abbrev pub ReadsScript : {A : Type 0} → Result (List Entry) ℕ → Result (Vec Command A) ScriptFault → Type 0
-ReadsScript meant (Ok commands) = meant ≡ Ok (flat_map entries_by commands.items)
-ReadsScript meant (Err NoMemory) = Unit {0}
-ReadsScript meant (Err (Line n)) = meant ≡ Err n

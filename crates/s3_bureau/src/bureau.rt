@@ -1,10 +1,10 @@
 //! The bureau: two levels, each with its own deck, that take turns over one pack.
 ghost use Rattle.std.specs.Prelude.{◌≡◌, ◌≢◌};
 ghost use Rattle.std.specs.Int.NonZero.{non_zero_u16_get};
-ghost use Rattle.s3_job_files.specs.Holds.{seen};
-ghost use Rattle.s3_level.specs.Holds.{AreAll, IsReady, around};
-ghost use Rattle.s3_bureau.specs.Held.{IsReadyFor};
-ghost use Rattle.s3_bureau.specs.Stops.{StopsBy};
+ghost use Rattle.s3_job_files.specs.Inner.Holds.{seen};
+ghost use Rattle.s3_level.specs.Inner.Holds.{AreAll, IsReady, around};
+ghost use Rattle.s3_bureau.specs.Inner.Held.{IsReadyFor};
+ghost use Rattle.s3_bureau.specs.Inner.Stops.{StopsBy};
 ghost use Rattle.s3_bureau.specs.Inner.Calls.{Acts, ClosesLevel, ClosesBoth};
 
 use crate::entry::Entry;
@@ -44,8 +44,8 @@ pub struct Bureau<S: PackStore> {
 impl<S: PackStore> Model for Bureau<S> {
     ghost use Rattle.std.specs.Coded.{codes};
     ghost use Rattle.s3_level.specs.contracts.level.Level as level;
-    ghost use Rattle.s3_level.specs.Holds.{around};
-    ghost use Rattle.s3_bureau.specs.Held.{State, IsLaidOut};
+    ghost use Rattle.s3_level.specs.Inner.Holds.{around};
+    ghost use Rattle.s3_bureau.specs.Inner.Held.{State, IsLaidOut};
 
     ghost Value = { State };
 
@@ -129,23 +129,25 @@ fn store_of<S: PackStore>(pack: Pack<Pool<S>>) -> S
 impl<S: PackStore> Bureau<S> {
     ghost use Rattle.std.specs.Int.NonZero.{non_zero_u16_get};
     ghost use Rattle.std.specs.Prelude.{◌≡◌, ◌≢◌, ◌≤◌, ◌+◌, ℕ, true, false, Ok, Err, map, IfOk, IfErr, OnOk, OnErr};
-    ghost use Rattle.s3_cards.specs.Levels.{other};
+    ghost use Rattle.s3_cards.specs.Inner.Levels.{other};
     ghost use Rattle.s3_cards.specs.declared.levels.LevelId.{LevelId};
-    ghost use Rattle.s3_store.specs.State.{KeepsInStep};
+    ghost use Rattle.s3_store.specs.Inner.State.{KeepsInStep};
     ghost use Rattle.s3_slots.specs.Header.{mounted, region_of};
     ghost use Rattle.s3_slots.specs.Slots.{slots_of};
-    ghost use Rattle.s3_labels.specs.Areas.{IsReady as IsPackReady, IsRefusal, area_of, areas_on, failed_by};
-    ghost use Rattle.s3_labels.specs.Labelled.{IsUntangled};
-    ghost use Rattle.s3_operator.specs.Halts.{halt_of};
+    ghost use Rattle.s3_labels.specs.Inner.Areas.{IsReady as IsPackReady, IsRefusal, areas_on, failed_by};
+    ghost use Rattle.s3_labels.specs.Areas.{area_of};
+    ghost use Rattle.s3_labels.specs.Untangled.{IsUntangled};
+    ghost use Rattle.s3_operator.specs.Inner.Halts.{halt_of};
     ghost use Rattle.s3_solo.specs.declared.action.Did.{Did};
     ghost use Rattle.s3_solo.specs.declared.action.Did.TheVariants.{Acted};
-    ghost use Rattle.s3_solo.specs.Lines.{drained_lines};
+    ghost use Rattle.s3_solo.specs.Inner.Lines.{drained_lines};
     ghost use Rattle.s3_solo.specs.World.{World, at_start};
     ghost use Rattle.s3_solo.specs.Solo.{step_of, closed};
-    ghost use Rattle.s3_level.specs.Holds.{Holds, IsUpTo, Repeats, Spares, Steps};
-    ghost use Rattle.s3_bureau.specs.Stops.{failed_stop};
+    ghost use Rattle.s3_level.specs.Inner.Holds.{Holds, IsUpTo, Repeats, Spares, Steps};
+    ghost use Rattle.s3_bureau.specs.Inner.Stops.{failed_stop};
     ghost use Rattle.s3_bureau.specs.Inner.Calls.{Closes, Enters};
-    ghost use Rattle.s3_bureau.specs.Held.{HasNoWork, HoldsFor, IsCommon, IsForeign, IsOwn, IsSaid, halts_at, header_of, is_open, has_worlds, level_of, lines_at, rests};
+    ghost use Rattle.s3_bureau.specs.Inner.Held.{HasNoWork, HoldsFor, IsForeign, IsSaid, halts_at, header_of, is_open, has_worlds, level_of, lines_at, rests};
+    ghost use Rattle.s3_bureau.specs.Sharing.{IsCommon, IsOwn};
 
     /// A bureau over the pack on a store, with a deck for each level, before its first entry.
     ///

@@ -5,17 +5,18 @@ ghost use Rattle.s3_cards.specs.declared.levels.LevelId.{LevelId};
 ghost use Rattle.s3_cards.specs.declared.levels.LevelId.TheVariants.{One, Two};
 ghost use Rattle.s3_slots.specs.Header.{mounted};
 ghost use Rattle.s3_slots.specs.declared.header.Header.{Header};
-ghost use Rattle.s3_labels.specs.Images.{contents_of, in_second, migrated};
+ghost use Rattle.s3_labels.specs.Contents.{contents_of};
+ghost use Rattle.s3_labels.specs.Inner.Images.{in_second, migrated};
 ghost use Rattle.s3_solo.specs.declared.action.Action.{Action};
-ghost use Rattle.s3_solo.specs.Formats.{over_second, shows_no_space};
+ghost use Rattle.s3_solo.specs.Inner.Formats.{over_second, shows_no_space};
 ghost use Rattle.s3_operator.specs.declared.halt_code.HaltCode.TheVariants.{HaltIndicator, FaultyJob, FaultySource, NoSpace};
 ghost use Rattle.s3_bureau.specs.declared.entry.Entry.{Entry};
 ghost use Rattle.s3_bureau.specs.Entries.{own};
 ghost use Rattle.s3_bureau.specs.Runs.{cards_of, level_texts, run_alone, run_texts};
 ghost use Rattle.s3_bureau.specs.Script.{entries_of};
 ghost use Rattle.s3_bureau.specs.Texts.{report_of, halt_text_of};
-ghost use Rattle.s3_bureau.specs.Agreement.{AgreesAfter};
-ghost use Rattle.s3_bureau.specs.Samples.{turn, drain, reply, printed, shown};
+ghost use Rattle.s3_bureau.specs.Inner.Agreement.{AgreesAfter};
+ghost use Rattle.s3_bureau.specs.Inner.Samples.{turn, drain, reply, printed, shown};
 
 /// Scripts: turns, drains and replies, an empty line between them; and lines that aren't well formed.
 pub fn scripts_are_read()

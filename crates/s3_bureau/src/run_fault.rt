@@ -1,7 +1,7 @@
 //! Why a run has no outcome.
 
 ghost use Rattle.std.specs.Prelude.{◌≡◌};
-ghost use Rattle.s3_bureau.specs.Faults.{mount_number as mount_number_spec};
+ghost use Rattle.s3_bureau.specs.Inner.Faults.{mount_number as mount_number_spec};
 
 use super::script::ScriptFault;
 use s3_slots::MountFault;
@@ -49,7 +49,7 @@ impl From<AllocError> for RunFault {
 
 impl From<ScriptFault> for RunFault {
     ghost use Rattle.std.specs.Prelude.{◌≡◌};
-    ghost use Rattle.s3_bureau.specs.Faults.{fault_of_script};
+    ghost use Rattle.s3_bureau.specs.Inner.Faults.{fault_of_script};
 
     ghost from_gives = { λ fault given. given ≡ fault_of_script fault };
 

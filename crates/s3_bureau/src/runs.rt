@@ -1,11 +1,11 @@
 //! A run: a pack, two decks and a script, from bytes to texts and the pack.
 ghost use Rattle.std.specs.Prelude.{◌≡◌, ◌≢◌, ◌+◌, Ok, Err, IfOk, IfErr, OnOk, replicate, true};
 ghost use Rattle.std.specs.List.{flat_map};
-ghost use Rattle.s3_bureau.specs.Faults.{TellsRefusal, fault_of_stop};
+ghost use Rattle.s3_bureau.specs.Inner.Faults.{TellsRefusal, fault_of_stop};
 ghost use Rattle.s3_bureau.specs.Script.{entries_by};
 ghost use Rattle.s3_bureau.specs.declared.stop.Stop.TheVariants.{Stopped};
-ghost use Rattle.s3_bureau.specs.Stops.{failed_stop};
-ghost use Rattle.s3_bureau.specs.Held.{HoldsFor, held_by, is_open};
+ghost use Rattle.s3_bureau.specs.Inner.Stops.{failed_stop};
+ghost use Rattle.s3_bureau.specs.Inner.Held.{HoldsFor, held_by, is_open};
 ghost use Rattle.s3_bureau.specs.Runs.{Runs, texts_in};
 ghost use Rattle.s3_bureau.specs.Inner.Underway.{HasTexts, HaveFiles, HaveSlots, KeepSaying, Leaves, LeavesSectors, Performs, ReadsDeck, RunsOver, drained_texts};
 ghost use Rattle.s3_solo.specs.World.{World};

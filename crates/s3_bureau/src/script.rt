@@ -1,6 +1,7 @@
 //! Scripts: the entries of both levels in their order, a line for each or for so many of one kind.
 ghost use Rattle.std.specs.Prelude.{◌≡◌};
-ghost use Rattle.s3_bureau.specs.Script.{level_named, count_of, times_of, digit_behind, command_of, entries_of, ReadsScript};
+ghost use Rattle.s3_bureau.specs.Script.{level_named, count_of, times_of, digit_behind, command_of, entries_of};
+ghost use Rattle.s3_bureau.specs.Inner.Script.{ReadsScript};
 
 use super::entry::Entry;
 use s3_cards::{LevelId, first_line, number_spelled};

@@ -4,7 +4,8 @@ use Rattle.std.specs.Prelude.{Option, Some, None, ◌==◌, ◌&&◌, find, ◌�
 use Rattle.std.specs.List.{list_all}
 use Rattle.std.specs.Option.{option_map}
 use Rattle.std.proofs.lemmas.Bool.{cases_Bool}
-use Rattle.s3_cards.specs.Codes.{code_page, ebcdic_of, host_of, codes_of_bytes, hosts_of_codes}
+use Rattle.s3_cards.specs.Codes.{code_page, ebcdic_of, host_of}
+use Rattle.s3_cards.specs.Inner.Codes.{codes_of_bytes, hosts_of_codes}
 use Rattle.std.proofs.lemmas.List.FromFn.{get_or-map-range_with_len}
 
 -- whether an option holds this number

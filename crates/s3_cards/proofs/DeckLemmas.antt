@@ -11,7 +11,8 @@ use Rattle.std.proofs.lemmas.List.Folds.{list_all_at}
 use Rattle.std.proofs.lemmas.List.Sums.{fails_before_first, position_or_len_is}
 use Rattle.std.proofs.Math.Seq.{take-append-add}
 use Rattle.std.proofs.lemmas.List.Splits.{slice_split_first, length-slice_split, slice_split_none}
-use Rattle.s3_cards.specs.Deck.{fault_of, fault_from, cards_of, card_of, has_code, codes_and_blanks, StartsWithCard, StartsWithFault}
+use Rattle.s3_cards.specs.Deck.{fault_of, fault_from, cards_of, card_of, has_code}
+use Rattle.s3_cards.specs.Inner.Deck.{codes_and_blanks, StartsWithCard, StartsWithFault}
 use Rattle.memchr.specs.Find.{IsFirstByte, is_byte}
 use Rattle.s3_cards.specs.Codes.{code_page, ebcdic_of}
 use Rattle.s3_cards.proofs.CodeLemmas.{no_code}

@@ -9,7 +9,8 @@ use Rattle.std.proofs.Math.Nat.{pow-le-pow_right, pow-suc}
 use Rattle.std.proofs.lemmas.List.{take_more, take_all, map-append}
 use Rattle.std.proofs.lemmas.List.Folds.{list_all_more, list_all_at}
 use Rattle.std.proofs.lemmas.Int.Digits.{number_after_append}
-use Rattle.s3_cards.specs.Numbers.{is_digit_from, number_of, spelled_number}
+use Rattle.s3_cards.specs.Numbers.{is_digit_from, number_of}
+use Rattle.s3_cards.specs.Inner.Numbers.{spelled_number}
 
 -- the first i codes are digits, and their number is below the power of ten
 pub record NumberSoFar (z : ℕ) (codes : List ℕ) (i n : ℕ) : Type 0 where

@@ -1,6 +1,5 @@
 -- The card characters and their EBCDIC codes.
 use Rattle.std.specs.Prelude.{ℕ, ◌+◌, ◌==◌, List, [], ◌∷◌, ◌++◌, Option, codes, find, map, unwrap_or}
-use Rattle.std.specs.List.{range_with_len}
 use Rattle.std.specs.Option.{option_map}
 
 -- the codes from a first one on, each with its character
@@ -26,11 +25,3 @@ host_of code = option_map (λ entry. entry.1) (find (λ entry. entry.0 == code) 
 -- the codes of a text of card characters
 unfoldable pub ebcdic : List ℕ → List ℕ
 ebcdic characters = map (λ character. unwrap_or (ebcdic_of character) 0) characters
-
--- the code of each byte, and 0 where the byte is no card character
-unfoldable pub codes_of_bytes : List ℕ
-codes_of_bytes = map (λ byte. unwrap_or (ebcdic_of byte) 0) (range_with_len 0 256)
-
--- the character of each code, and 0 where the code has none
-unfoldable pub hosts_of_codes : List ℕ
-hosts_of_codes = map (λ code. unwrap_or (host_of code) 0) (range_with_len 0 256)

@@ -1,5 +1,5 @@
 -- What a deck's text says.
-use Rattle.std.specs.Prelude.{◌≡◌, ℕ, ◌+◌, ◌-◌, ◌≤◌, List, [], ◌∷◌, ◌++◌, Bool, Option, Some, None, Result, Ok, Err, length, take, map, replicate, nat_lt, is_some, unwrap_or, if◌then◌else◌}
+use Rattle.std.specs.Prelude.{ℕ, ◌+◌, ◌-◌, List, [], ◌∷◌, ◌++◌, Bool, Option, Some, None, Result, Ok, Err, length, take, map, replicate, nat_lt, is_some, unwrap_or, if◌then◌else◌}
 use Rattle.std.specs.List.{list_all}
 use Rattle.std.specs.Option.{option_map, option_or}
 use Rattle.std.specs.Str.Lines.{lines}
@@ -21,18 +21,6 @@ fault_of line = if nat_lt 96 (length line) then Some TooWide else if list_all ha
 unfoldable pub card_of : List ℕ → List ℕ
 card_of line = map (λ character. unwrap_or (ebcdic_of character) 0x40) line ++ replicate (96 - length line) 0x40
 
--- the codes of the bytes of a line, 0 for each that has none, and blanks up to column 96
-abbrev pub codes_and_blanks : List ℕ → List ℕ
-codes_and_blanks line = map (λ byte. unwrap_or (ebcdic_of byte) 0) line ++ replicate (96 - length line) 0x40
-
--- the first line of a text has no fault, and this is its card, with this text after the line
-abbrev pub StartsWithCard : List ℕ → List ℕ → List ℕ → Type 0
-StartsWithCard text card after = (line : List ℕ) × (lines text ≡ line ∷ lines after) × (fault_of line ≡ None) × (card ≡ card_of line)
-
--- the first line of a text has this fault
-abbrev pub StartsWithFault : List ℕ → CardFault → Type 0
-StartsWithFault text fault = (line : List ℕ) × (left : List (List ℕ)) × (lines text ≡ line ∷ left) × (fault_of line ≡ Some fault)
-
 -- the first fault in a list of lines whose first one is card n
 abbrev pub fault_from : ℕ → List (List ℕ) → Option DeckFault
 fault_from n [] = None
@@ -50,12 +38,6 @@ cards_of all = found (fault_from 1 (take 9999 all))
 abbrev pub deck_of : List ℕ → Result (List (List ℕ)) DeckFault
 deck_of text = cards_of (lines text)
 
--- what a call answered is what the definition gives, unless memory ran out
-abbrev pub Gives : Result (List (List ℕ)) DeckFault → Result (List (List ℕ)) DeckFault → Type 0
-Gives (Err NoMemory) meant = Unit {0}
-Gives (Err (At n fault)) meant = meant ≡ Err (At n fault)
-Gives (Ok cards) meant = meant ≡ Ok cards
-
 -- the number of a fault
 abbrev pub fault_code : CardFault → ℕ
 fault_code TooWide = 1
@@ -66,8 +48,3 @@ fault_code TooMany = 3
 abbrev pub detail_of : DeckFault → Option (ℕ × ℕ)
 detail_of NoMemory = None
 detail_of (At n fault) = Some (n, fault_code fault)
-
--- a card at fault is one of the first 9,999
-abbrev pub HasCardNumber : DeckFault → Type 0
-HasCardNumber NoMemory = Unit {0}
-HasCardNumber (At n fault) = (1 ≤ n) × (n ≤ 9999)

@@ -1,7 +1,6 @@
 pub mod Codes
 pub mod Deck
-pub mod Levels
-pub mod Printed
 pub mod Names
 pub mod Numbers
-pub mod NamedCodes
+pub mod Printed
+pub mod Inner

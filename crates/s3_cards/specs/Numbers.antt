@@ -1,6 +1,5 @@
 -- Numbers as their digits spell them, by the code of 0, behind which those of 1 to 9 lie in order.
-use Rattle.std.specs.Prelude.{ℕ, ◌+◌, ◌-◌, List, Bool, Option, Some, None, map, if◌then◌else◌}
-use Rattle.std.specs.List.{list_all}
+use Rattle.std.specs.Prelude.{ℕ, ◌+◌, ◌-◌, List, Bool, map}
 use Rattle.std.specs.Int.Digits.{number_from_digits}
 use Rattle.s3_cards.specs.Names.{is_within}
 
@@ -11,8 +10,3 @@ is_digit_from code_of_zero code = is_within code_of_zero (code_of_zero + 9) code
 -- the number of a run of digits
 abbrev pub number_of : ℕ → List ℕ → ℕ
 number_of code_of_zero digits = number_from_digits 10 (map (λ code. code - code_of_zero) digits)
-
--- the number that a text spells, if it has digits alone
-abbrev pub spelled_number : ℕ → List ℕ → Option ℕ
-spelled_number code_of_zero text =
-    if list_all (is_digit_from code_of_zero) text then Some (number_of code_of_zero text) else None

@@ -1,6 +1,7 @@
 //! The code page: which characters a card can have, and their EBCDIC codes.
 ghost use Rattle.std.specs.Prelude.{◌≡◌, ◌↔◌, ℕ, Some, unwrap_or};
-ghost use Rattle.s3_cards.specs.Codes.{ebcdic_of, host_of, codes_of_bytes, hosts_of_codes};
+ghost use Rattle.s3_cards.specs.Codes.{ebcdic_of, host_of};
+ghost use Rattle.s3_cards.specs.Inner.Codes.{codes_of_bytes, hosts_of_codes};
 
 /// The EBCDIC code of each byte of a text, and 0 for a byte that is no card character.
 pub const CODES_OF_BYTES: [u8; 256] = [

@@ -4,7 +4,8 @@ ghost use Rattle.std.specs.Prelude.{◌≡◌, ◌≢◌, ◌↔◌, ◌<◌, �
 ghost use Rattle.std.specs.Option.{option_copied};
 ghost use Rattle.std.specs.List.{list_any};
 ghost use Rattle.std.specs.Str.Lines.{lines, strip_carriage_return};
-ghost use Rattle.s3_cards.specs.Deck.{fault_of, card_of, deck_of, fault_code, detail_of, HasCardNumber, Gives, StartsWithCard, StartsWithFault, codes_and_blanks};
+ghost use Rattle.s3_cards.specs.Deck.{fault_of, card_of, deck_of, fault_code, detail_of};
+ghost use Rattle.s3_cards.specs.Inner.Deck.{HasCardNumber, Gives, StartsWithCard, StartsWithFault, codes_and_blanks};
 
 use super::characters::code_or_zero;
 use super::ebcdic::BLANK;

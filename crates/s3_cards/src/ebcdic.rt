@@ -1,7 +1,7 @@
 //! The EBCDIC codes of the card characters, by name.
 ghost use Rattle.std.specs.Prelude.{◌≡◌, map};
 ghost use Rattle.s3_cards.specs.Codes.{ebcdic};
-ghost use Rattle.s3_cards.specs.NamedCodes.{named_runs};
+ghost use Rattle.s3_cards.specs.Inner.NamedCodes.{named_runs};
 
 /// The code of a blank.
 pub const BLANK: u8 = 0x40;

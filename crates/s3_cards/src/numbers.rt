@@ -1,6 +1,7 @@
 //! Numbers as their digits spell them.
 ghost use Rattle.std.specs.Prelude.{◌≡◌, ◌<◌, ◌≤◌, ◌^◌, IfSome, length};
-ghost use Rattle.s3_cards.specs.Numbers.{is_digit_from, spelled_number};
+ghost use Rattle.s3_cards.specs.Numbers.{is_digit_from};
+ghost use Rattle.s3_cards.specs.Inner.Numbers.{spelled_number};
 
 /// Whether a code is one of the ten from that of 0 on.
 fn is_one_of_ten(zero: u8, code: u8) -> bool

@@ -20,7 +20,8 @@ pub struct PrintLine {
 
 impl Model for PrintLine {
     ghost use Rattle.std.specs.Prelude.{◌≡◌, ◌-◌, ◌<◌, ◌≤◌, ◌++◌, length, take, drop, replicate};
-    ghost use Rattle.s3_cards.specs.Printed.{Printed, width_again, positions_again};
+    ghost use Rattle.s3_cards.specs.Printed.{Printed};
+    ghost use Rattle.s3_cards.specs.Inner.Printed.{width_again, positions_again};
 
     ghost Value = { Printed };
 

@@ -1,8 +1,8 @@
 //! What the program refuses, and how it says so.
 
 ghost use Rattle.std.specs.Prelude.{◌≡◌};
-ghost use Rattle.s3_cli.specs.Faults.{status_of};
-ghost use Rattle.s3_cli.specs.Packs.{fault_of_list};
+ghost use Rattle.s3_cli.specs.Inner.Faults.{status_of};
+ghost use Rattle.s3_cli.specs.Inner.Packs.{fault_of_list};
 ghost use Rattle.s3_bureau.specs.declared.run_fault.RunFault.TheVariants.{NoMemory as RunNoMemory};
 ghost use Rattle.s3_cli.specs.declared.fault.SessionFault.TheVariants.{Run};
 

@@ -1,8 +1,8 @@
 //! The files of a pack, listed.
 
 ghost use Rattle.std.specs.Prelude.{◌≡◌, OnOk, IfErr};
-ghost use Rattle.s3_listing.specs.Listing.{listing, WritesText};
-ghost use Rattle.s3_cli.specs.Packs.{IsListRefusal};
+ghost use Rattle.s3_listing.specs.Inner.Listing.{listing, WritesText};
+ghost use Rattle.s3_cli.specs.Inner.Packs.{IsListRefusal};
 
 use crate::fault::SessionFault;
 use std::alloc::Global;

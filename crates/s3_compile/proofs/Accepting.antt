@@ -2,14 +2,14 @@
 use Rattle.std.proofs.Common.{◌≡◌, ℕ, List, [], Result, Ok, Err, IsErrAnd}
 use Rattle.std.specs.Prelude.{IsTrue}
 use Rattle.s3_lines.specs.declared.sheet.Line.{Line}
-use Rattle.s3_lines.specs.Ranges.{are_read}
+use Rattle.s3_lines.specs.Inner.Ranges.{are_read}
 use Rattle.s3_program.specs.declared.definitions.Definitions.{Definitions}
-use Rattle.s3_program.specs.Translation.{IsAccepted}
+use Rattle.s3_program.specs.Inner.Translation.{IsAccepted}
 use Rattle.s3_diagnose.specs.Diagnostics.{compile_diagnostics}
 use Rattle.s3_program.specs.declared.program.Program.{Program}
 use Rattle.s3_compile.specs.declared.compiler.CompileFault.{CompileFault}
 use Rattle.s3_compile.specs.declared.compiler.CompileFault.TheVariants.{NoMemory, Diagnostics}
-use Rattle.s3_compile.specs.Compiles.{Compiles}
+use Rattle.s3_compile.specs.Inner.Compiles.{Compiles}
 use Rattle.s3_compile.specs.Inner.Defines.{Defines}
 use Rattle.s3_compile.proofs.Meanings.{meanings_shown}
 use Rattle.s3_compile.proofs.Clearing.{clear_of_none}

@@ -15,10 +15,11 @@ use Rattle.s3_cards.specs.declared.name.Name.{Name}
 use Rattle.s3_meaning.specs.Source.{file_line, input_line, calculation_line, output_line}
 use Rattle.s3_program.specs.declared.definitions.Definitions.{Definitions}
 use Rattle.s3_program.specs.Tables.{meaning_of}
-use Rattle.s3_program.specs.Translation.{tables_in, known_lines}
+use Rattle.s3_program.specs.Inner.Translation.{tables_in, known_lines}
 use Rattle.s3_program.specs.Places.{Verb}
-use Rattle.s3_program.specs.Conditions.{numbers, is_clear, verb_of, calculation_holds, files_clear, inputs_clear, calculations_clear, outputs_clear, are_clear}
-use Rattle.s3_program.specs.Uses.{has_one_primary as has_one_primary_file}
+use Rattle.s3_program.specs.Conditions.{numbers, verb_of, calculation_holds}
+use Rattle.s3_program.specs.Inner.Conditions.{is_clear, files_clear, inputs_clear, calculations_clear, outputs_clear, are_clear}
+use Rattle.s3_program.specs.Inner.Uses.{has_one_primary as has_one_primary_file}
 use Rattle.s3_program.proofs.SoundLemmas.{both}
 use Rattle.s3_diagnose.specs.declared.standing.Standing.{Standing}
 use Rattle.s3_diagnose.specs.Known.{Meanings, meant_input, meant_calculation, meant_output, meant_line, first_standing, behind}

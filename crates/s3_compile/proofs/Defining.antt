@@ -41,10 +41,11 @@ use Rattle.s3_program.specs.Operands.{factor_fits, result_fits, row_fits, is_bar
 use Rattle.s3_program.specs.Places.{is_cut_by}
 use Rattle.s3_program.specs.Standings.{first_input, behind_input, first_calculation, behind_calculation, first_output, behind_output}
 use Rattle.s3_program.specs.Matching.{Marks, marks_of}
-use Rattle.s3_program.specs.Conditions.{is_clear, verb_of, input_holds, calculation_holds, output_holds, inputs_clear, calculations_clear, outputs_clear, forbidden_among, are_clear}
-use Rattle.s3_program.specs.Meant.{Meant, is_defined, factor_passes, entry_passes, input_passes, calculation_passes, content_passes, output_passes, are_defined}
+use Rattle.s3_program.specs.Inner.Conditions.{is_clear, inputs_clear, calculations_clear, outputs_clear, are_clear}
+use Rattle.s3_program.specs.Conditions.{verb_of, input_holds, calculation_holds, output_holds, forbidden_among}
+use Rattle.s3_program.specs.Inner.Meant.{Meant, is_defined, factor_passes, entry_passes, input_passes, calculation_passes, content_passes, output_passes, are_defined}
 use Rattle.s3_program.specs.Tables.{meaning_of, or_undefined}
-use Rattle.s3_program.specs.Translation.{tables_in, known_lines}
+use Rattle.s3_program.specs.Inner.Translation.{tables_in, known_lines}
 use Rattle.s3_program.proofs.GivenLemmas.{found_in_both}
 use Rattle.s3_program.proofs.SoundLemmas.{both}
 use Rattle.s3_diagnose.specs.Known.{Meanings, meant_input}

@@ -13,7 +13,7 @@ use Rattle.s3_program.specs.Jumps.{calls_from, is_forbidden, same_call}
 use Rattle.s3_program.specs.Matching.{marks_of}
 use Rattle.s3_program.specs.Standings.{first_calculation}
 use Rattle.s3_program.specs.Tables.{meaning_of}
-use Rattle.s3_program.specs.Translation.{tables_in}
+use Rattle.s3_program.specs.Inner.Translation.{tables_in}
 use Rattle.s3_program.proofs.LineLemmas.{all_taken}
 use Rattle.s3_diagnose.specs.declared.tables.KnownTables.{KnownTables}
 use Rattle.s3_diagnose.specs.Known.{Meanings, meant_input, meant_calculation}

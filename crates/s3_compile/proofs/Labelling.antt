@@ -18,15 +18,16 @@ use Rattle.s3_program.specs.declared.program.Meaning.TheVariants as a
 use Rattle.s3_program.specs.declared.program.TagPlace.{TagPlace}
 use Rattle.s3_program.specs.declared.program.SubroutinePlace.{SubroutinePlace}
 use Rattle.s3_program.specs.declared.standing.CalculationStanding.{CalculationStanding}
-use Rattle.s3_program.specs.Conditions.{numbers, is_clear, verb_of, calculation_holds, calculations_clear}
-use Rattle.s3_program.specs.Distinct.{are_distinct}
-use Rattle.s3_program.specs.Given.{firsts}
-use Rattle.s3_program.specs.Labels.{tag_on, tags_from as tag_places_from, subroutine_on, subroutines_from as subroutine_places_from, same_tag, labels_stand}
+use Rattle.s3_program.specs.Conditions.{numbers, verb_of, calculation_holds}
+use Rattle.s3_program.specs.Inner.Conditions.{is_clear, calculations_clear}
+use Rattle.s3_program.specs.Inner.Distinct.{are_distinct}
+use Rattle.s3_program.specs.Inner.Given.{firsts}
+use Rattle.s3_program.specs.Inner.Labels.{tag_on, tags_from as tag_places_from, subroutine_on, subroutines_from as subroutine_places_from, same_tag, labels_stand}
 use Rattle.s3_program.specs.Places.{Verb}
 use Rattle.s3_program.specs.Redefined.{is_second_tag, is_second_subroutine}
 use Rattle.s3_program.specs.Standings.{time_on, section_on, first_calculation, behind_calculation}
 use Rattle.s3_program.specs.Tables.{Tables, or_undefined, found_in}
-use Rattle.s3_program.specs.Translation.{known_calculation}
+use Rattle.s3_program.specs.Inner.Translation.{known_calculation}
 use Rattle.s3_program.specs.Undefined.{is_undefined}
 use Rattle.s3_program.proofs.GivenLemmas.{distinct_first}
 use Rattle.s3_program.proofs.SoundLemmas.{both}

@@ -11,11 +11,11 @@ use Rattle.s3_program.specs.declared.definitions.Definitions.{Definitions}
 use Rattle.s3_program.specs.declared.program.Kind.{Kind}
 use Rattle.s3_program.specs.declared.program.Kind.TheVariants as kind
 use Rattle.s3_program.specs.declared.program.Meaning.TheVariants as meaning
-use Rattle.s3_program.specs.Given.{firsts, files_given}
+use Rattle.s3_program.specs.Inner.Given.{firsts, files_given}
 use Rattle.s3_program.specs.Standings.{first_calculation}
 use Rattle.s3_program.specs.Tables.{meaning_of, or_undefined}
-use Rattle.s3_program.specs.Translation.{tables_in}
-use Rattle.s3_program.specs.Valid.{file_entry}
+use Rattle.s3_program.specs.Inner.Translation.{tables_in}
+use Rattle.s3_program.specs.FileEntries.{file_entry}
 use Rattle.s3_program.proofs.GivenLemmas.{first_found}
 use Rattle.s3_program.proofs.LineLemmas.{all_taken}
 use Rattle.s3_diagnose.specs.Lookups.{tables_given, meanings_of, fields_given, tags_from, subroutines_from}

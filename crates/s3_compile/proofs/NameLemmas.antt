@@ -12,7 +12,7 @@ use Rattle.s3_lines.specs.declared.sheet.Line.{Line}
 use Rattle.s3_program.specs.Conditions.{file_places}
 use Rattle.s3_meaning.specs.Source.{file_line, input_line, calculation_line}
 use Rattle.s3_program.specs.declared.standing.CalculationStanding.{CalculationStanding}
-use Rattle.s3_program.specs.Given.{all_noted, firsts}
+use Rattle.s3_program.specs.Inner.Given.{all_noted, firsts}
 use Rattle.s3_program.specs.Standings.{behind_calculation}
 use Rattle.s3_program.proofs.GivenLemmas.{noted_behind}
 use Rattle.s3_diagnose.specs.Inner.Early.{IsWithin}

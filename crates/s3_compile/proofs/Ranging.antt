@@ -9,7 +9,7 @@ use Rattle.s3_lines.specs.declared.sheet.InputLine.TheVariants.{Record, And as A
 use Rattle.s3_lines.specs.declared.sheet.SheetLine.{SheetLine}
 use Rattle.s3_lines.specs.declared.sheet.SheetLine.TheVariants as sheet
 use Rattle.s3_lines.specs.declared.sheet.Line.{Line}
-use Rattle.s3_lines.specs.Ranges.{in_range, are_read, field_in_range}
+use Rattle.s3_lines.specs.Inner.Ranges.{in_range, are_read, field_in_range}
 use Rattle.s3_meaning.specs.Source.{input_line}
 use Rattle.s3_program.proofs.LineLemmas.{all_taken}
 use Rattle.s3_program.proofs.SoundLemmas.{both}

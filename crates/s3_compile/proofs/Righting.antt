@@ -15,24 +15,27 @@ use Rattle.s3_lines.specs.declared.sheet.Operation.{Operation}
 use Rattle.s3_lines.specs.declared.sheet.CalculationLine.{CalculationLine}
 use Rattle.s3_lines.specs.declared.sheet.Shape.{Shape}
 use Rattle.s3_lines.specs.declared.sheet.Line.{Line}
-use Rattle.s3_lines.specs.Ranges.{if_given, shape_in_range, input_in_range, calculation_in_range, are_read}
+use Rattle.s3_lines.specs.Ranges.{if_given, shape_in_range}
+use Rattle.s3_lines.specs.Inner.Ranges.{input_in_range, calculation_in_range, are_read}
 use Rattle.s3_meaning.specs.Source.{source_of, reserved_shapes, shape_in, input_shape, result_shape, file_line, input_line, calculation_line}
 use Rattle.s3_program.specs.declared.call.Call.{Call}
 use Rattle.s3_program.specs.declared.definitions.Definitions.{Definitions}
 use Rattle.s3_program.specs.declared.standing.FileStanding.{FileStanding}
 use Rattle.s3_program.specs.declared.standing.CalculationStanding.{CalculationStanding}
-use Rattle.s3_program.specs.Conditions.{is_clear, verb_of, first_file_of, file_places, file_holds, files_clear, calculation_holds, calculations_clear, forbidden_among, are_clear}
-use Rattle.s3_program.specs.Distinct.{are_distinct}
-use Rattle.s3_program.specs.Given.{noted, all_noted, firsts, files_given}
-use Rattle.s3_program.specs.Meant.{are_defined}
+use Rattle.s3_program.specs.Inner.Conditions.{is_clear, files_clear, calculations_clear, are_clear}
+use Rattle.s3_program.specs.Conditions.{verb_of, first_file_of, file_places, file_holds, calculation_holds, forbidden_among}
+use Rattle.s3_program.specs.Inner.Distinct.{are_distinct}
+use Rattle.s3_program.specs.Inner.Given.{noted, all_noted, firsts, files_given}
+use Rattle.s3_program.specs.Inner.Meant.{are_defined}
 use Rattle.s3_program.specs.Places.{Verb}
-use Rattle.s3_program.specs.Positions.{are_in_range}
+use Rattle.s3_program.specs.Inner.Positions.{are_in_range}
 use Rattle.s3_program.specs.Redefined.{is_elsewhere, shape_of_field}
 use Rattle.s3_program.specs.Shapes.{same_shape}
 use Rattle.s3_program.specs.Standings.{first_file, behind_file, first_calculation, behind_calculation}
 use Rattle.s3_program.specs.Tables.{Tables}
-use Rattle.s3_program.specs.Translation.{IsAccepted, tables_in, known_input, known_calculation, known_lines}
-use Rattle.s3_program.specs.Valid.{file_entry, are_shaped, begin_reserved, are_right}
+use Rattle.s3_program.specs.Inner.Translation.{IsAccepted, tables_in, known_input, known_calculation, known_lines}
+use Rattle.s3_program.specs.FileEntries.{file_entry}
+use Rattle.s3_program.specs.Inner.Valid.{are_shaped, begin_reserved, are_right}
 use Rattle.s3_program.proofs.GivenLemmas.{all_distinct, first_shapes, reserved_first, distinct_first}
 use Rattle.s3_program.proofs.LineLemmas.{all_taken}
 use Rattle.s3_program.proofs.SoundLemmas.{both, ranged}

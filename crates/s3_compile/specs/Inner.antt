@@ -1,3 +1,4 @@
--- Words of inner functions and of proofs: none of them says what the product means.
-pub mod Noted
+-- What the contracts of a run and of a session don't reach: words of inner functions, of proofs and of other calls.
+pub mod Compiles
 pub mod Defines
+pub mod Noted

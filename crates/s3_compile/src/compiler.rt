@@ -1,10 +1,10 @@
 //! Lines of sheets become a program, or show their diagnostics.
 
 ghost use Rattle.std.specs.Prelude.{◌≡◌, IsTrue};
-ghost use Rattle.s3_lines.specs.Ranges.{are_read};
+ghost use Rattle.s3_lines.specs.Inner.Ranges.{are_read};
 ghost use Rattle.s3_diagnose.specs.Lookups.{known_of};
 ghost use Rattle.s3_diagnose.specs.Inner.Shown.{known_shown};
-ghost use Rattle.s3_compile.specs.Compiles.{Compiles};
+ghost use Rattle.s3_compile.specs.Inner.Compiles.{Compiles};
 ghost use Rattle.s3_compile.specs.Inner.Defines.{Defines};
 
 use crate::known::{empty_tables, fill_tables};

@@ -2,13 +2,13 @@
 
 ghost use Rattle.std.specs.Prelude.{◌≡◌, ◌++◌, IfOk, OnOk, IsTrue, [], filter_map, option_map};
 ghost use Rattle.s3_meaning.specs.Source.{reserved_shapes, input_line, calculation_line};
-ghost use Rattle.s3_program.specs.Given.{all_noted, firsts};
+ghost use Rattle.s3_program.specs.Inner.Given.{all_noted, firsts};
 ghost use Rattle.indexmap.specs.IndexSet.{contains};
 ghost use Rattle.s3_program.specs.Jumps.{calls_from, with_call, is_forbidden, same_call, caller_of as caller_spec, callee_of as callee_spec};
 ghost use Rattle.s3_program.specs.Matching.{marks_of};
 ghost use Rattle.s3_program.specs.Standings.{first_calculation as first_calculation_spec};
 ghost use Rattle.s3_program.specs.Tables.{meaning_of};
-ghost use Rattle.s3_program.specs.Translation.{tables_in};
+ghost use Rattle.s3_program.specs.Inner.Translation.{tables_in};
 ghost use Rattle.s3_diagnose.specs.Inner.Early.{IsEarly};
 ghost use Rattle.s3_diagnose.specs.Known.{meant_input, meant_calculation};
 ghost use Rattle.s3_diagnose.specs.Lookups.{fields_given, known_of};

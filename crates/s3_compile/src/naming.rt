@@ -3,7 +3,7 @@
 ghost use Rattle.std.specs.Prelude.{◌≡◌, ◌++◌, IfOk, OnOk, IsTrue, filter_map};
 ghost use Rattle.std.specs.Option.{option_to_list};
 ghost use Rattle.s3_meaning.specs.Source.{input_line, calculation_line};
-ghost use Rattle.s3_program.specs.Given.{all_noted, firsts};
+ghost use Rattle.s3_program.specs.Inner.Given.{all_noted, firsts};
 ghost use Rattle.s3_program.specs.Standings.{first_calculation as first_calculation_spec};
 ghost use Rattle.s3_diagnose.specs.Inner.Early.{IsEarly};
 ghost use Rattle.s3_diagnose.specs.Lookups as spec;

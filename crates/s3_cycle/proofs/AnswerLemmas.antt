@@ -8,11 +8,12 @@ use Rattle.s3_lines.specs.declared.indicator.Indicator.TheVariants.{LastRecord, 
 use Rattle.s3_lines.specs.declared.sheet.Device.{Device}
 use Rattle.s3_lines.specs.declared.sheet.Device.TheVariants.{CardReader, Printer, Disk}
 use Rattle.s3_lines.specs.declared.sheet.FileLine.{FileLine}
-use Rattle.s3_lines.specs.Ranges.{is_between, longest_record, file_in_range}
+use Rattle.s3_lines.specs.Ranges.{is_between, longest_record}
+use Rattle.s3_lines.specs.Inner.Ranges.{file_in_range}
 use Rattle.s3_operator.specs.declared.halt_code.HaltCode.{HaltCode}
 use Rattle.s3_meaning.specs.Environment.{Environment, turn, with_last_record}
 use Rattle.s3_meaning.specs.Requests as Meant
-use Rattle.s3_meaning.specs.Requests.{fits, fits_done, fits_record, fits_reply, refuses_append, refuses_add, refuses_update}
+use Rattle.s3_meaning.specs.Inner.Requests.{fits, fits_done, fits_record, fits_reply, refuses_append, refuses_add, refuses_update}
 use Rattle.s3_meaning.specs.Source.{Source, is_card_reader}
 use Rattle.s3_meaning.specs.Runs.{Rest, ended, halted, replied, to_totals}
 use Rattle.s3_meaning.specs.Requests.{Answer}
@@ -21,13 +22,13 @@ use Rattle.s3_meaning.specs.Output.{stored_or_halted}
 use Rattle.s3_meaning.proofs.Equations.{again-last, again-read}
 use Rattle.s3_program.specs.declared.program.Program.{Program}
 use Rattle.s3_program.specs.declared.starts.Walk.{Walk}
-use Rattle.s3_program.specs.Positions.{are_in_range}
-use Rattle.s3_program.specs.Stands.{parts_of}
+use Rattle.s3_program.specs.Inner.Positions.{are_in_range}
+use Rattle.s3_program.specs.Inner.Stands.{parts_of}
 use Rattle.s3_program.proofs.SlotLemmas.{Kept, kept}
 use Rattle.s3_operations.proofs.ValueLemmas.{all_at}
 use Rattle.s3_match.specs.declared.heads.InputFile.{InputFile}
-use Rattle.s3_match.specs.Heads.{no_file, file_at, input_of}
-use Rattle.s3_match.specs.Reading.{input_at}
+use Rattle.s3_match.specs.Inner.Heads.{no_file, file_at, input_of}
+use Rattle.s3_match.specs.Inner.Reading.{input_at}
 use Rattle.s3_match.proofs.ReadingLemmas.{input_slot}
 use Rattle.s3_cycle.specs.declared.request.Answer as Code
 use Rattle.s3_cycle.specs.declared.request.Answer.TheVariants.{Found, Nothing, Done, Refused, Reply}
@@ -37,8 +38,8 @@ use Rattle.s3_cycle.specs.declared.progress.Progress.{Progress}
 use Rattle.s3_cycle.specs.declared.progress.Continuation.{Continuation}
 use Rattle.s3_cycle.specs.declared.progress.Point.{Point}
 use Rattle.s3_cycle.specs.declared.stepper.Stepper.{Stepper}
-use Rattle.s3_cycle.specs.Requests.{request_of, answer_of}
-use Rattle.s3_cycle.specs.Rest.{continued, head_again, head_put, inputs_in, lines_from}
+use Rattle.s3_cycle.specs.Inner.Requests.{request_of, answer_of}
+use Rattle.s3_cycle.specs.Inner.Rest.{continued, head_again, head_put, inputs_in, lines_from}
 use Rattle.s3_cycle.specs.Inner.Answers.{IsRecordOrNothing, is_done_or_refused, is_reply}
 use Rattle.s3_cycle.specs.Inner.Going.{own, held_by, here, Changes, GoesOn, IsChainRequest, IsHeadRequest, IsRunning, IsWaiting, Waits, is_ask, is_record_request}
 use Rattle.s3_cycle.proofs.GoingLemmas.{goes_as, goes_changed}

@@ -3,7 +3,7 @@ use Rattle.std.proofs.Common.{◌≡◌, ◌⊎◌, inl, inr, ℕ, ◌<◌, leng
 use Rattle.std.specs.Prelude.{Option, Some, slice_get, unwrap_or, if◌then◌else◌}
 use Rattle.std.proofs.lemmas.Option.{slice_get-get_or}
 use Rattle.s3_program.specs.declared.program.Program.{Program}
-use Rattle.s3_match.specs.Heads.{no_file, file_at}
+use Rattle.s3_match.specs.Inner.Heads.{no_file, file_at}
 use Rattle.s3_lines.specs.declared.sheet.Device.{Device}
 use Rattle.s3_lines.specs.declared.sheet.Device.TheVariants.{CardReader, Printer, Disk}
 use Rattle.s3_lines.specs.declared.sheet.FileLine.{FileLine}
@@ -11,14 +11,14 @@ use Rattle.s3_meaning.specs.Source.{is_card_reader, is_input}
 use Rattle.s3_meaning.specs.Requests as Meant
 use Rattle.s3_meaning.specs.Runs.{ask}
 use Rattle.s3_meaning.specs.Cycle.{again, file_read, on_read}
-use Rattle.s3_match.specs.Reading.{IsUnreadAt, input_at}
-use Rattle.s3_match.specs.Types.{name_of_file}
+use Rattle.s3_match.specs.Inner.Reading.{IsUnreadAt, input_at}
+use Rattle.s3_match.specs.Inner.Types.{name_of_file}
 use Rattle.s3_cycle.specs.declared.progress.Point.TheVariants as at
 use Rattle.s3_cycle.specs.declared.request.Request.{Request}
 use Rattle.s3_cycle.specs.declared.request.Request.TheVariants as asks
 use Rattle.s3_cycle.specs.declared.stepper.Stepper.{Stepper}
-use Rattle.s3_cycle.specs.Requests.{request_of}
-use Rattle.s3_cycle.specs.Rest.{head_put, inputs_in}
+use Rattle.s3_cycle.specs.Inner.Requests.{request_of}
+use Rattle.s3_cycle.specs.Inner.Rest.{head_put, inputs_in}
 use Rattle.s3_cycle.specs.Inner.Going.{own, held_by, here, GoesOn, IsRunning}
 use Rattle.s3_cycle.proofs.GoingLemmas.{goes_wait}
 use Rattle.s3_cycle.proofs.FileLemmas.{file_tabled, read_on_disk, head_selected}

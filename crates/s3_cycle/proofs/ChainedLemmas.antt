@@ -16,13 +16,13 @@ use Rattle.s3_meaning.specs.Calculating.{chained_to}
 use Rattle.s3_meaning.specs.Cycle.{again}
 use Rattle.s3_program.specs.declared.program.Program.{Program}
 use Rattle.s3_program.specs.declared.starts.TypeStart.{TypeStart}
-use Rattle.s3_program.specs.Stands.{source_named}
-use Rattle.s3_operations.specs.Held.{held}
+use Rattle.s3_program.specs.Inner.Stands.{source_named}
+use Rattle.s3_operations.specs.Inner.Held.{held}
 use Rattle.s3_operations.proofs.WithinLemmas.{fields_within, file_found}
-use Rattle.s3_match.specs.Heads.{file_at}
-use Rattle.s3_match.specs.Types.{is_type_start, kind_at, name_of_file}
+use Rattle.s3_match.specs.Inner.Heads.{file_at}
+use Rattle.s3_match.specs.Inner.Types.{is_type_start, kind_at, name_of_file}
 use Rattle.s3_match.proofs.ReadingLemmas.{file_named}
-use Rattle.s3_sections.specs.Courses.{goes_through, spots_of}
+use Rattle.s3_sections.specs.Inner.Courses.{goes_through, spots_of}
 use Rattle.s3_cycle.specs.declared.request.Current.{Current}
 use Rattle.s3_cycle.specs.declared.request.Current.TheVariants.{LastChained}
 use Rattle.s3_cycle.specs.declared.progress.Progress.{Progress}
@@ -30,7 +30,7 @@ use Rattle.s3_cycle.specs.declared.progress.Time.{Time}
 use Rattle.s3_cycle.specs.declared.progress.Time.TheVariants as time
 use Rattle.s3_cycle.specs.declared.progress.Moves.TheVariants as moves
 use Rattle.s3_cycle.specs.declared.stepper.Stepper.{Stepper}
-use Rattle.s3_cycle.specs.Rest.{after_calculations, calculating, details_done, field_then, fields_at, fields_from, record_moved, totals_done}
+use Rattle.s3_cycle.specs.Inner.Rest.{after_calculations, calculating, details_done, field_then, fields_at, fields_from, record_moved, totals_done}
 use Rattle.s3_cycle.specs.Inner.Environment.{current_in, environment}
 use Rattle.s3_cycle.specs.Inner.Chaining.{KeepsRecord}
 use Rattle.s3_cycle.specs.Inner.Fields.{IsMovedBy, MovesAll, StopsAt, found_from}

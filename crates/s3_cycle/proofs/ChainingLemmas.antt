@@ -24,17 +24,17 @@ use Rattle.s3_program.specs.declared.program.Program.{Program}
 use Rattle.s3_program.specs.FileTable.{is_chained}
 use Rattle.s3_program.specs.declared.program.Reference.{Reference}
 use Rattle.s3_program.specs.declared.program.Reference.TheVariants.{File}
-use Rattle.s3_operations.specs.Chaining.{file_sought, is_chained_file, key_field}
-use Rattle.s3_operations.specs.Fits.{IsLineOf, named_line, named_factor}
-use Rattle.s3_operations.specs.Indicators.{is_settable_entry}
+use Rattle.s3_operations.specs.Inner.Chaining.{file_sought, is_chained_file, key_field}
+use Rattle.s3_operations.specs.Inner.Fits.{IsLineOf, named_line, named_factor}
+use Rattle.s3_operations.specs.Inner.Indicators.{is_settable_entry}
 use Rattle.s3_operations.proofs.FitLemmas.{brings}
 use Rattle.s3_operations.proofs.ChainLemmas.{sought}
-use Rattle.s3_match.specs.Heads.{no_file, file_at}
-use Rattle.s3_match.specs.Types.{name_of_file}
+use Rattle.s3_match.specs.Inner.Heads.{no_file, file_at}
+use Rattle.s3_match.specs.Inner.Types.{name_of_file}
 use Rattle.s3_match.proofs.ReadingLemmas.{file_named}
 use Rattle.s3_sections.specs.declared.course.Course.{Course}
-use Rattle.s3_sections.specs.Spots.{at_place}
-use Rattle.s3_sections.specs.Courses.{rest_at, spots_of}
+use Rattle.s3_sections.specs.Inner.Spots.{at_place}
+use Rattle.s3_sections.specs.Inner.Courses.{rest_at, spots_of}
 use Rattle.s3_sections.proofs.PerformLemmas.{performs}
 use Rattle.s3_cycle.specs.declared.progress.Progress.{Progress}
 use Rattle.s3_cycle.specs.declared.progress.Point.TheVariants as at
@@ -42,9 +42,9 @@ use Rattle.s3_cycle.specs.declared.request.Request.TheVariants as asks
 use Rattle.s3_cycle.specs.declared.request.Sought.{Sought}
 use Rattle.s3_cycle.specs.declared.went.Calculated.{Calculated}
 use Rattle.s3_cycle.specs.declared.went.Calculated.TheVariants as one
-use Rattle.s3_cycle.specs.Requests.{IsSoughtBy, IsDiskFile, IsChainedBy, request_of, sought_of}
+use Rattle.s3_cycle.specs.Inner.Requests.{IsSoughtBy, IsDiskFile, IsChainedBy, request_of, sought_of}
 use Rattle.s3_cycle.specs.declared.stepper.Stepper.{Stepper}
-use Rattle.s3_cycle.specs.Rest.{calculating, answered, chain_answered}
+use Rattle.s3_cycle.specs.Inner.Rest.{calculating, answered, chain_answered}
 use Rattle.s3_cycle.specs.Inner.Going.{own, held_by, here, IsRunning, CanCalculate, IsChainOf, GoesOn, Changes}
 use Rattle.s3_cycle.specs.Inner.Calculating.{Does, IsPerformed, ShowsMiss, Misses, lines_left}
 use Rattle.s3_cycle.proofs.GoingLemmas.{changed_running, changed_program, changed_progress, changed_stays, here_changed, goes_as, goes_then, goes_wait, goes_changed}

@@ -18,16 +18,16 @@ use Rattle.s3_meaning.specs.Environment.{turn}
 use Rattle.s3_program.specs.declared.program.Program.{Program}
 use Rattle.s3_program.specs.declared.program.Reference.{Reference}
 use Rattle.s3_program.specs.declared.starts.TypeStart.{TypeStart}
-use Rattle.s3_program.specs.Stands.{source_named}
+use Rattle.s3_program.specs.Inner.Stands.{source_named}
 use Rattle.s3_program.specs.Tables.{Tables}
-use Rattle.s3_program.specs.Valid.{named, named_input}
-use Rattle.s3_match.specs.Types.{tables_in, is_type_start, kind_at}
-use Rattle.s3_match.specs.Reading.{AreNumbersOf, indicators_on}
+use Rattle.s3_program.specs.Inner.Valid.{named, named_input}
+use Rattle.s3_match.specs.Inner.Types.{tables_in, is_type_start, kind_at}
+use Rattle.s3_match.specs.Inner.Reading.{AreNumbersOf, indicators_on}
 use Rattle.s3_operations.specs.declared.indicators.Indicators.{Indicators}
 use Rattle.s3_operations.specs.declared.values.Values.{Values}
-use Rattle.s3_operations.specs.Held.{IsSound, Changes}
-use Rattle.s3_operations.specs.Indicating.{type_indicator}
-use Rattle.s3_operations.specs.Indicators.{on_in, is_settable, is_settable_entry}
+use Rattle.s3_operations.specs.Inner.Held.{IsSound, Changes}
+use Rattle.s3_operations.specs.Inner.Indicating.{type_indicator}
+use Rattle.s3_operations.specs.Inner.Indicators.{on_in, is_settable, is_settable_entry}
 use Rattle.s3_operations.proofs.IndicatorLemmas.{turned_to}
 use Rattle.s3_operations.proofs.IndicatingLemmas.{turned_by, turn_once, off_where, types_settable}
 use Rattle.s3_cycle.specs.Inner.Clearing.{turned_off}

@@ -9,22 +9,22 @@ use Rattle.s3_lines.specs.declared.sheet.FileLine.{FileLine}
 use Rattle.s3_meaning.specs.Environment.{Environment, put_current}
 use Rattle.s3_meaning.specs.Requests as Meant
 use Rattle.s3_program.specs.declared.program.Program.{Program}
-use Rattle.s3_program.specs.Stands.{parts_of}
-use Rattle.s3_program.specs.Tables.{slot_in}
-use Rattle.s3_program.specs.Valid.{file_entry}
+use Rattle.s3_program.specs.Inner.Stands.{parts_of}
+use Rattle.s3_program.specs.Inner.Tables.{slot_in}
+use Rattle.s3_program.specs.FileEntries.{file_entry}
 use Rattle.s3_program.proofs.SlotLemmas.{kept, same_slot}
-use Rattle.s3_operations.specs.Fits.{tables}
-use Rattle.s3_operations.specs.Held.{held}
+use Rattle.s3_operations.specs.Inner.Fits.{tables}
+use Rattle.s3_operations.specs.Inner.Held.{held}
 use Rattle.s3_match.specs.declared.heads.InputFile.{InputFile}
-use Rattle.s3_match.specs.Heads.{no_file, file_at}
-use Rattle.s3_match.specs.Types.{name_of_file}
+use Rattle.s3_match.specs.Inner.Heads.{no_file, file_at}
+use Rattle.s3_match.specs.Inner.Types.{name_of_file}
 use Rattle.s3_match.proofs.ReadingLemmas.{file_named, input_slot}
 use Rattle.s3_cycle.specs.declared.progress.Selection.{Selection}
 use Rattle.s3_cycle.specs.declared.request.Current.{Current}
 use Rattle.s3_cycle.specs.declared.request.Current.TheVariants.{NthRead}
 use Rattle.s3_cycle.specs.declared.stepper.Stepper.{Stepper}
-use Rattle.s3_cycle.specs.Requests.{current_of}
-use Rattle.s3_cycle.specs.Rest.{selected_of}
+use Rattle.s3_cycle.specs.Inner.Requests.{current_of}
+use Rattle.s3_cycle.specs.Inner.Rest.{selected_of}
 use Rattle.s3_cycle.specs.Inner.Environment.{current_in, environment}
 use Rattle.s3_cycle.specs.Inner.Going.{Changes, IsRunning, IsTaken}
 use Rattle.s3_cycle.proofs.AnswerLemmas.{number_is}

@@ -8,7 +8,7 @@ use Rattle.s3_meaning.specs.Runs.{ask, ended}
 use Rattle.s3_cycle.specs.declared.progress.Point.TheVariants as at
 use Rattle.s3_cycle.specs.declared.request.Request.TheVariants as asks
 use Rattle.s3_cycle.specs.declared.stepper.Stepper.{Stepper}
-use Rattle.s3_cycle.specs.Requests.{request_of}
+use Rattle.s3_cycle.specs.Inner.Requests.{request_of}
 use Rattle.s3_cycle.specs.Inner.Going.{here, IsRunning, GoesOn}
 use Rattle.s3_cycle.proofs.GoingLemmas.{goes_wait}
 

@@ -29,31 +29,34 @@ use Rattle.s3_program.specs.declared.program.Reference.TheVariants as slot
 use Rattle.s3_program.specs.declared.standing.FileStanding.{FileStanding}
 use Rattle.s3_program.specs.declared.standing.OutputStanding.{OutputStanding}
 use Rattle.s3_program.specs.declared.starts.OutputStart.{OutputStart}
-use Rattle.s3_program.specs.Conditions.{is_clear, file_holds, output_holds, files_clear, outputs_clear, are_clear}
+use Rattle.s3_program.specs.Inner.Conditions.{is_clear, files_clear, outputs_clear, are_clear}
+use Rattle.s3_program.specs.Conditions.{file_holds, output_holds}
 use Rattle.s3_program.specs.FileTable.{is_chained, is_by_cycle, is_input_use, is_card_file, is_print_file, is_in_table, is_in_table_on, is_addition_allowed, allows_output, has_spacing, is_printer as is_print_device}
 use Rattle.s3_program.specs.Lines.{map_card}
-use Rattle.s3_program.specs.Meant.{is_of, entry_passes, output_passes, are_of_kinds}
+use Rattle.s3_program.specs.Inner.Meant.{is_of, entry_passes, output_passes, are_of_kinds}
 use Rattle.s3_program.specs.Standings.{first_file, behind_file, first_output, behind_output}
-use Rattle.s3_program.specs.Starts.{output_slot, output_starts_from}
-use Rattle.s3_program.specs.Started.{output_on}
-use Rattle.s3_program.specs.Stands.{parts_of}
-use Rattle.s3_program.specs.Tables.{item_in, meaning_at, or_undefined}
+use Rattle.s3_program.specs.Inner.Starts.{output_slot, output_starts_from}
+use Rattle.s3_program.specs.Inner.Started.{output_on}
+use Rattle.s3_program.specs.Inner.Stands.{parts_of}
+use Rattle.s3_program.specs.Inner.Tables.{item_in, meaning_at}
+use Rattle.s3_program.specs.Tables.{or_undefined}
 use Rattle.s3_program.specs.Uses.{file_misused, refuses_line, output_misused}
-use Rattle.s3_program.specs.Valid.{file_entry, meant_output, meant}
+use Rattle.s3_program.specs.FileEntries.{file_entry}
+use Rattle.s3_program.specs.Inner.Valid.{meant_output, meant}
 use Rattle.s3_program.proofs.SlotLemmas.{Kept, kept}
-use Rattle.s3_operations.specs.Fits.{tables}
+use Rattle.s3_operations.specs.Inner.Fits.{tables}
 use Rattle.s3_operations.proofs.FitLemmas.{rest_not, some_same}
 use Rattle.s3_program.proofs.TypeLemmas.{no_file}
-use Rattle.s3_output.specs.Lines.{IsLineAt, IsStart}
+use Rattle.s3_output.specs.Inner.Lines.{IsLineAt, IsStart}
 use Rattle.s3_match.specs.declared.heads.InputFile.{InputFile}
 use Rattle.s3_match.specs.declared.reading.Reading.{Reading}
-use Rattle.s3_match.specs.Heads.{file_at, input_of}
-use Rattle.s3_match.specs.Reading.{IsReading, input_at, slots_of}
+use Rattle.s3_match.specs.Inner.Heads.{file_at, input_of}
+use Rattle.s3_match.specs.Inner.Reading.{IsReading, input_at, slots_of}
 use Rattle.s3_match.proofs.ReadingLemmas.{slot_there}
 use Rattle.s3_match.proofs.SlotLemmas.{slot_kept}
 use Rattle.s3_cycle.specs.declared.progress.Progress.{Progress}
-use Rattle.s3_cycle.specs.Requests.{is_only_read}
-use Rattle.s3_cycle.specs.Rest.{inputs_in}
+use Rattle.s3_cycle.specs.Inner.Requests.{is_only_read}
+use Rattle.s3_cycle.specs.Inner.Rest.{inputs_in}
 
 -- ---- the table of files
 -- of the conditions that are tried the last one

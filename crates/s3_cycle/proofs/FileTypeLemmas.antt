@@ -15,18 +15,19 @@ use Rattle.s3_meaning.specs.RecordTypes.{RecordType}
 use Rattle.s3_program.specs.declared.program.Program.{Program}
 use Rattle.s3_program.specs.declared.program.Reference.{Reference}
 use Rattle.s3_program.specs.declared.starts.TypeStart.{TypeStart}
-use Rattle.s3_program.specs.Started.{type_at, type_on}
-use Rattle.s3_program.specs.Starts.{fields_begin, file_slot, is_type_of, types_of_file, type_starts, type_starts_from}
-use Rattle.s3_program.specs.Stands.{parts_of, source_named}
-use Rattle.s3_program.specs.Tables.{Tables, name_in}
+use Rattle.s3_program.specs.Inner.Started.{type_at, type_on}
+use Rattle.s3_program.specs.Inner.Starts.{fields_begin, file_slot, is_type_of, types_of_file, type_starts, type_starts_from}
+use Rattle.s3_program.specs.Inner.Stands.{parts_of, source_named}
+use Rattle.s3_program.specs.Tables.{Tables}
+use Rattle.s3_program.specs.Inner.Tables.{name_in}
 use Rattle.s3_program.proofs.SlotLemmas.{kept}
 use Rattle.s3_program.proofs.StartedLemmas.{types_stand}
 use Rattle.s3_program.proofs.TypeLemmas.{both, same_file, starts_have_files}
-use Rattle.s3_match.specs.Types.{tables_in, is_type_start, kind_at, name_of_file, no_type}
+use Rattle.s3_match.specs.Inner.Types.{tables_in, is_type_start, kind_at, name_of_file, no_type}
 use Rattle.s3_operations.specs.declared.indicators.Indicators.{Indicators}
 use Rattle.s3_operations.specs.declared.values.Values.{Values}
-use Rattle.s3_operations.specs.Held.{IsSound, Changes}
-use Rattle.s3_operations.specs.Indicators.{on_in}
+use Rattle.s3_operations.specs.Inner.Held.{IsSound, Changes}
+use Rattle.s3_operations.specs.Inner.Indicators.{on_in}
 use Rattle.s3_operations.proofs.IndicatorLemmas.{turned_to}
 use Rattle.s3_operations.proofs.IndicatingLemmas.{turned_by, off_where}
 use Rattle.s3_cycle.specs.Inner.Clearing.{shown_by, turned_off, without_types_of}

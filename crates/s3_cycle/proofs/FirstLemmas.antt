@@ -13,17 +13,17 @@ use Rattle.s3_meaning.specs.Output.{is_served}
 use Rattle.s3_meaning.specs.Selection as meaning
 use Rattle.s3_meaning.specs.Cycle.{first_reading, first_standing}
 use Rattle.s3_program.specs.declared.program.Program.{Program}
-use Rattle.s3_program.specs.Stands.{source_named}
-use Rattle.s3_program.specs.Tables.{slot_in}
-use Rattle.s3_operations.specs.Fits.{tables}
-use Rattle.s3_operations.specs.Beginning.{Begins}
-use Rattle.s3_match.specs.Beginning.{BeginsWith}
-use Rattle.s3_match.specs.Controls.{held_in}
-use Rattle.s3_match.specs.Reading.{IsReading, reading_in}
+use Rattle.s3_program.specs.Inner.Stands.{source_named}
+use Rattle.s3_program.specs.Inner.Tables.{slot_in}
+use Rattle.s3_operations.specs.Inner.Fits.{tables}
+use Rattle.s3_operations.specs.Inner.Beginning.{Begins}
+use Rattle.s3_match.specs.Inner.BeginningEnvironment.{BeginsWith}
+use Rattle.s3_match.specs.Inner.Controls.{held_in}
+use Rattle.s3_match.specs.Inner.Reading.{IsReading, reading_in}
 use Rattle.s3_cycle.specs.declared.progress.Progress.{Progress}
 use Rattle.s3_cycle.specs.declared.request.Current.{Current}
 use Rattle.s3_cycle.specs.declared.state.State.{State}
-use Rattle.s3_cycle.specs.Requests.{current_of}
+use Rattle.s3_cycle.specs.Inner.Requests.{current_of}
 use Rattle.s3_cycle.specs.Inner.Environment.{environment, others}
 use Rattle.s3_cycle.specs.Inner.Starting.{BeginsState, BeginsProgress}
 use Rattle.s3_cycle.proofs.HeadLemmas.{IsWithin, none_within, heads_kept}

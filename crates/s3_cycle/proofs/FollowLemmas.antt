@@ -7,23 +7,23 @@ use Rattle.s3_meaning.specs.Source.{Source}
 use Rattle.s3_meaning.specs.Requests as Meant
 use Rattle.s3_meaning.specs.Requests.{Answer}
 use Rattle.s3_meaning.specs.Output.{filled}
-use Rattle.s3_match.specs.Heads.{no_file}
-use Rattle.s3_match.specs.Types.{name_of_file}
+use Rattle.s3_match.specs.Inner.Heads.{no_file}
+use Rattle.s3_match.specs.Inner.Types.{name_of_file}
 use Rattle.s3_operator.specs.declared.halt_code.HaltCode.{HaltCode}
 use Rattle.s3_meaning.specs.Runs.{Run, ask}
 use Rattle.s3_meaning.specs.Cycle.{Req}
 use Rattle.s3_program.specs.declared.program.Program.{Program}
-use Rattle.s3_program.specs.Stands.{Stands, source_named}
-use Rattle.s3_program.specs.Valid.{named}
+use Rattle.s3_program.specs.Inner.Stands.{Stands, source_named}
+use Rattle.s3_program.specs.Inner.Valid.{named}
 use Rattle.s3_cycle.specs.declared.request.Answer as Code
 use Rattle.s3_cycle.specs.declared.request.Current.{Current}
 use Rattle.s3_cycle.specs.declared.request.Request.{Request}
 use Rattle.s3_cycle.specs.declared.request.Request.TheVariants as asks
 use Rattle.s3_cycle.specs.declared.request.Sought.{Sought}
 use Rattle.s3_cycle.specs.declared.stepper.Stepper.{Stepper}
-use Rattle.s3_cycle.specs.Requests.{FitsFile, IsDiskFile, TakesRecord, TakesAddition, TakesChanges, IsLine, answer_of, current_of, request_of, sought_of}
-use Rattle.s3_cycle.specs.Rest.{rest, answered}
-use Rattle.s3_cycle.specs.Following.{Follows, Resumes, StandsFor, asked, files, put, waits}
+use Rattle.s3_cycle.specs.Inner.Requests.{FitsFile, IsDiskFile, TakesRecord, TakesAddition, TakesChanges, IsLine, answer_of, current_of, request_of, sought_of}
+use Rattle.s3_cycle.specs.Inner.Rest.{rest, answered}
+use Rattle.s3_cycle.specs.Inner.Following.{Follows, Resumes, StandsFor, asked, files, put, waits}
 use Rattle.s3_cycle.specs.Inner.Going.{own, held_by, here, GoesOn}
 use Rattle.s3_cycle.specs.Inner.Starting.{Starts}
 use Rattle.s3_cycle.proofs.PrintLemmas.{file_name}

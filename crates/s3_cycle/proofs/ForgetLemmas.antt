@@ -7,8 +7,8 @@ use Rattle.s3_meaning.specs.Environment.{Environment}
 use Rattle.s3_meaning.specs.Calculating.{forgotten}
 use Rattle.s3_meaning.specs.Requests as Meant
 use Rattle.s3_operations.specs.declared.values.Values.{Values}
-use Rattle.s3_operations.specs.Held.{held, Changes as ChangesValues}
-use Rattle.s3_match.specs.Types.{name_of_file}
+use Rattle.s3_operations.specs.Inner.Held.{held, Changes as ChangesValues}
+use Rattle.s3_match.specs.Inner.Types.{name_of_file}
 use Rattle.s3_cycle.specs.declared.request.Current.{Current}
 use Rattle.s3_cycle.specs.declared.stepper.Stepper.{Stepper}
 use Rattle.s3_cycle.specs.Inner.Clearing.{without_types_of}

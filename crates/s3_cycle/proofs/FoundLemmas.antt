@@ -15,11 +15,11 @@ use Rattle.s3_meaning.specs.Cycle.{again}
 use Rattle.s3_program.specs.declared.program.Program.{Program}
 use Rattle.s3_program.specs.declared.program.Reference.{Reference}
 use Rattle.s3_program.specs.declared.starts.TypeStart.{TypeStart}
-use Rattle.s3_program.specs.Stands.{source_named}
-use Rattle.s3_operations.specs.Fits.{named_line, named_factor}
-use Rattle.s3_match.specs.Types.{name_of_file, kind_at}
+use Rattle.s3_program.specs.Inner.Stands.{source_named}
+use Rattle.s3_operations.specs.Inner.Fits.{named_line, named_factor}
+use Rattle.s3_match.specs.Inner.Types.{name_of_file, kind_at}
 use Rattle.s3_cycle.specs.declared.stepper.Stepper.{Stepper}
-use Rattle.s3_cycle.specs.Rest.{calculating, chain_answered}
+use Rattle.s3_cycle.specs.Inner.Rest.{calculating, chain_answered}
 use Rattle.s3_cycle.specs.Inner.Entries.{turn_entry}
 use Rattle.s3_cycle.specs.Inner.Going.{own, held_by, here, IsChainOf, GoesOn, Changes}
 use Rattle.s3_cycle.proofs.GoingLemmas.{changed_program, goes_as, goes_changed}

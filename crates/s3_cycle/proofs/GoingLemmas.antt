@@ -7,7 +7,7 @@ use Rattle.s3_meaning.specs.Runs.{Run, Rest, ask, halted}
 use Rattle.s3_operator.specs.declared.halt_code.HaltCode.{HaltCode}
 use Rattle.s3_program.specs.declared.program.Program.{Program}
 use Rattle.s3_operations.specs.declared.values.Values.{Values}
-use Rattle.s3_operations.specs.Held.{Changes as ChangesValues}
+use Rattle.s3_operations.specs.Inner.Held.{Changes as ChangesValues}
 use Rattle.s3_cycle.specs.declared.progress.Progress.{Progress}
 use Rattle.s3_cycle.specs.declared.progress.Continuation.{Continuation}
 use Rattle.s3_cycle.specs.declared.progress.Point.{Point}
@@ -15,8 +15,8 @@ use Rattle.s3_cycle.specs.declared.progress.Point.TheVariants as at
 use Rattle.s3_cycle.specs.declared.request.Request.{Request}
 use Rattle.s3_cycle.specs.declared.request.Request.TheVariants as asks
 use Rattle.s3_cycle.specs.declared.stepper.Stepper.{Stepper}
-use Rattle.s3_cycle.specs.Requests.{IsLine, FitsFile, request_of}
-use Rattle.s3_cycle.specs.Rest.{rest, answered, continued}
+use Rattle.s3_cycle.specs.Inner.Requests.{IsLine, FitsFile, request_of}
+use Rattle.s3_cycle.specs.Inner.Rest.{rest, answered, continued}
 use Rattle.s3_cycle.specs.Inner.Environment.{environment, others}
 use Rattle.s3_cycle.specs.Inner.Going.{own, held_by, here, AreSound, IsRunning, Continues, Waits, GoesOn, Changes}
 

@@ -11,7 +11,7 @@ use Rattle.s3_meaning.specs.Cycle.{halts_shown, again}
 use Rattle.s3_program.specs.declared.program.Program.{Program}
 use Rattle.s3_cycle.specs.declared.progress.Progress.{Progress}
 use Rattle.s3_cycle.specs.declared.stepper.Stepper.{Stepper}
-use Rattle.s3_cycle.specs.Rest.{cycle_from, halts_from}
+use Rattle.s3_cycle.specs.Inner.Rest.{cycle_from, halts_from}
 use Rattle.s3_cycle.specs.Inner.Going.{own, held_by, here, GoesOn}
 use Rattle.s3_cycle.specs.Inner.Halting.{IsFirstHalt, AreOff}
 use Rattle.s3_cycle.proofs.GoingLemmas.{goes_as}

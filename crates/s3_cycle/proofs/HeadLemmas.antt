@@ -18,20 +18,20 @@ use Rattle.s3_meaning.specs.Selection.{type_of}
 use Rattle.s3_program.specs.declared.program.Program.{Program}
 use Rattle.s3_program.specs.declared.program.Reference.{Reference}
 use Rattle.s3_program.specs.declared.starts.TypeStart.{TypeStart}
-use Rattle.s3_program.specs.Stands.{source_named}
-use Rattle.s3_program.specs.Started.{type_on}
-use Rattle.s3_operations.specs.Fits.{tables}
+use Rattle.s3_program.specs.Inner.Stands.{source_named}
+use Rattle.s3_program.specs.Inner.Started.{type_on}
+use Rattle.s3_operations.specs.Inner.Fits.{tables}
 use Rattle.s3_operations.proofs.WithinLemmas.{fields_within, file_found}
 use Rattle.s3_match.specs.declared.heads.InputFile.{InputFile}
 use Rattle.s3_match.specs.declared.heads.Standing.{Standing}
 use Rattle.s3_match.specs.declared.heads.Standing.TheVariants as at
 use Rattle.s3_match.specs.declared.reading.Reading.{Reading}
-use Rattle.s3_match.specs.Heads.{no_file, file_at, input_of, standing_as, put, IsInput}
-use Rattle.s3_match.specs.Reading.{reading_in, input_at, changed_at, IsReading}
-use Rattle.s3_match.specs.Selecting.{inputs_of}
-use Rattle.s3_match.specs.Types.{no_type, is_type_start, kind_at}
+use Rattle.s3_match.specs.Inner.Heads.{no_file, file_at, input_of, standing_as, put, IsInput}
+use Rattle.s3_match.specs.Inner.Reading.{reading_in, input_at, changed_at, IsReading}
+use Rattle.s3_match.specs.Inner.Selecting.{inputs_of}
+use Rattle.s3_match.specs.Inner.Types.{no_type, is_type_start, kind_at}
 use Rattle.s3_match.proofs.ReadingLemmas.{input_there, input_slot}
-use Rattle.s3_cycle.specs.Rest.{fields_at}
+use Rattle.s3_cycle.specs.Inner.Rest.{fields_at}
 use Rattle.s3_cycle.specs.declared.stepper.Stepper.{Stepper}
 use Rattle.s3_meaning.specs.Cycle.{counted_read}
 use Rattle.s3_cycle.specs.Inner.Going.{IsHeadWithin, IsRunning}

@@ -14,22 +14,22 @@ use Rattle.s3_meaning.specs.Selection.{Head, broken, control_value, is_level_to}
 use Rattle.s3_program.specs.declared.program.Program.{Program}
 use Rattle.s3_program.specs.declared.program.Reference.{Reference}
 use Rattle.s3_program.specs.declared.starts.TypeStart.{TypeStart}
-use Rattle.s3_program.specs.Started.{type_on}
+use Rattle.s3_program.specs.Inner.Started.{type_on}
 use Rattle.s3_operations.specs.declared.values.Values.{Values}
-use Rattle.s3_operations.specs.Fits.{tables}
-use Rattle.s3_operations.specs.Held.{held, Changes as ChangesValues}
-use Rattle.s3_operations.specs.Indicating.{type_indicator, with_levels_to}
-use Rattle.s3_operations.specs.Indicators.{is_settable, is_settable_entry}
+use Rattle.s3_operations.specs.Inner.Fits.{tables}
+use Rattle.s3_operations.specs.Inner.Held.{held, Changes as ChangesValues}
+use Rattle.s3_operations.specs.Inner.Indicating.{type_indicator, with_levels_to}
+use Rattle.s3_operations.specs.Inner.Indicators.{is_settable, is_settable_entry}
 use Rattle.s3_operations.proofs.IndicatingLemmas.{types_settable}
 use Rattle.s3_match.specs.declared.controls.Controls.{Controls}
 use Rattle.s3_match.specs.declared.heads.InputFile.{InputFile}
-use Rattle.s3_match.specs.Controls.{break_of, held_in}
-use Rattle.s3_match.specs.Reading.{bytes_at}
-use Rattle.s3_match.specs.Types.{no_type, is_type_start, kind_at}
+use Rattle.s3_match.specs.Inner.Controls.{break_of, held_in}
+use Rattle.s3_match.specs.Inner.Reading.{bytes_at}
+use Rattle.s3_match.specs.Inner.Types.{no_type, is_type_start, kind_at}
 use Rattle.s3_cycle.specs.declared.progress.Selection.{Selection}
 use Rattle.s3_cycle.specs.declared.state.State.{State}
 use Rattle.s3_cycle.specs.declared.stepper.Stepper.{Stepper}
-use Rattle.s3_cycle.specs.Rest.{selected_of}
+use Rattle.s3_cycle.specs.Inner.Rest.{selected_of}
 use Rattle.s3_cycle.specs.Inner.Environment.{environment, others}
 use Rattle.s3_cycle.specs.Inner.Going.{held_by, Changes}
 use Rattle.s3_cycle.specs.Inner.Selecting.{identified}

@@ -23,23 +23,23 @@ use Rattle.s3_program.specs.declared.program.Reference.{Reference}
 use Rattle.s3_program.specs.declared.starts.OutputStart.{OutputStart}
 use Rattle.s3_program.specs.declared.starts.Walk.{Walk}
 use Rattle.s3_program.specs.declared.starts.Walk.TheVariants as walk
-use Rattle.s3_program.specs.Starts.{output_starts, walked, is_walked}
-use Rattle.s3_program.specs.Started.{output_at, output_on}
-use Rattle.s3_program.specs.Stands.{source_named}
-use Rattle.s3_program.specs.Tables.{name_in}
-use Rattle.s3_program.specs.Valid.{file_entry}
-use Rattle.s3_operations.specs.Fits.{tables}
-use Rattle.s3_operations.specs.Held.{held}
+use Rattle.s3_program.specs.Inner.Starts.{output_starts, walked, is_walked}
+use Rattle.s3_program.specs.Inner.Started.{output_at, output_on}
+use Rattle.s3_program.specs.Inner.Stands.{source_named}
+use Rattle.s3_program.specs.Inner.Tables.{name_in}
+use Rattle.s3_program.specs.FileEntries.{file_entry}
+use Rattle.s3_operations.specs.Inner.Fits.{tables}
+use Rattle.s3_operations.specs.Inner.Held.{held}
 use Rattle.s3_operations.specs.declared.indicators.Indicators.{Indicators}
 use Rattle.s3_output.specs.declared.guards.LineGuard.{LineGuard}
 use Rattle.s3_output.specs.declared.guards.LineGuard.TheVariants.{One, Group, Either, OneOf, Cards}
 use Rattle.s3_output.specs.declared.guards.LineGuards.{LineGuards}
-use Rattle.s3_output.specs.Guards.{AreGuarded, IsGuardedLine, IsLineGuard, guards_of, is_always_used, line_guard_holds}
-use Rattle.s3_output.specs.Lines.{IsLineAt, IsStart}
+use Rattle.s3_output.specs.Inner.Guards.{AreGuarded, IsGuardedLine, IsLineGuard, guards_of, is_always_used, line_guard_holds}
+use Rattle.s3_output.specs.Inner.Lines.{IsLineAt, IsStart}
 use Rattle.s3_output.proofs.ComposeLemmas.{StartsAt, starts_at}
 use Rattle.s3_output.proofs.LawLemmas.{line_starts, file_there, walked_start}
 use Rattle.s3_cycle.specs.declared.stepper.Stepper.{Stepper}
-use Rattle.s3_cycle.specs.Rest.{starts_of, outputs_from, is_wanted, is_at_overflow, lines_then}
+use Rattle.s3_cycle.specs.Inner.Rest.{starts_of, outputs_from, is_wanted, is_at_overflow, lines_then}
 use Rattle.s3_cycle.specs.Inner.Environment.{environment, others}
 use Rattle.s3_cycle.specs.Inner.Going.{own, held_by}
 use Rattle.s3_cycle.specs.Inner.Lines.{is_used, is_held, is_due, IsDue, PassesTo, PassesAll}

@@ -7,7 +7,8 @@ use Rattle.std.proofs.lemmas.Bool.{and_parts}
 use Rattle.std.proofs.lemmas.Option.{slice_get-map, slice_get_read, slice_get-get_or, get_or_from_slice_get, slice_get_within}
 use Rattle.s3_cards.specs.declared.name.Name.{Name}
 use Rattle.s3_cards.specs.Names.{no_name}
-use Rattle.s3_lines.specs.Ranges.{file_in_range, if_given, is_between, is_overflow_indicator, longest_record}
+use Rattle.s3_lines.specs.Inner.Ranges.{file_in_range}
+use Rattle.s3_lines.specs.Ranges.{if_given, is_between, is_overflow_indicator, longest_record}
 use Rattle.s3_lines.specs.declared.indicator.Indicator.{Indicator}
 use Rattle.s3_lines.specs.declared.indicator.Indicator.TheVariants.{Switch}
 use Rattle.s3_lines.specs.declared.sheet.Device.{Device}
@@ -18,7 +19,7 @@ use Rattle.s3_meaning.specs.Source.{Source, overflow_of, is_printer, is_updated}
 use Rattle.s3_meaning.specs.Environment.{Environment}
 use Rattle.s3_meaning.specs.OutputLines.{Output}
 use Rattle.s3_lines.specs.declared.sheet.OutputField.{OutputField}
-use Rattle.s3_output.specs.Compositions.{first_position}
+use Rattle.s3_output.specs.Inner.Compositions.{first_position}
 use Rattle.s3_output.proofs.FilledLemmas.{Alike, begins_alike, composed_alike}
 use Rattle.s3_meaning.specs.Carriage.{Carriage as Place, to_print, after_print}
 use Rattle.s3_meaning.specs.Requests as Meant
@@ -29,33 +30,34 @@ use Rattle.s3_program.specs.declared.program.Program.{Program}
 use Rattle.s3_program.specs.declared.starts.OutputStart.{OutputStart}
 use Rattle.s3_program.specs.declared.starts.Walk.{Walk}
 use Rattle.s3_program.specs.declared.starts.Walk.TheVariants as walk
-use Rattle.s3_program.specs.Positions.{are_in_range}
-use Rattle.s3_program.specs.Stands.{parts_of}
-use Rattle.s3_program.specs.Tables.{slot_in}
-use Rattle.s3_program.specs.Valid.{file_entry, named}
+use Rattle.s3_program.specs.Inner.Positions.{are_in_range}
+use Rattle.s3_program.specs.Inner.Stands.{parts_of}
+use Rattle.s3_program.specs.Inner.Tables.{slot_in}
+use Rattle.s3_program.specs.FileEntries.{file_entry}
+use Rattle.s3_program.specs.Inner.Valid.{named}
 use Rattle.s3_program.proofs.SlotLemmas.{kept, own_slot}
-use Rattle.s3_operations.specs.Fits.{tables}
+use Rattle.s3_operations.specs.Inner.Fits.{tables}
 use Rattle.s3_operations.specs.declared.values.Values.{Values}
-use Rattle.s3_operations.specs.Held.{held}
-use Rattle.s3_operations.specs.Indicators.{is_settable, is_settable_entry}
+use Rattle.s3_operations.specs.Inner.Held.{held}
+use Rattle.s3_operations.specs.Inner.Indicators.{is_settable, is_settable_entry}
 use Rattle.s3_output.specs.declared.carriage.Carriage.{Carriage}
 use Rattle.s3_output.specs.declared.carriage.Moved.{Moved}
 use Rattle.s3_output.specs.declared.requests.DiskRequest.{DiskRequest}
 use Rattle.s3_output.specs.declared.requests.DiskRequest.TheVariants as disk
-use Rattle.s3_output.specs.Carriages.{place, place_moved}
-use Rattle.s3_output.specs.Requests as disk_spec
-use Rattle.s3_output.specs.Composing.{Composes}
-use Rattle.s3_output.specs.Lines.{IsLineAt}
-use Rattle.s3_match.specs.Heads.{no_file, file_at}
-use Rattle.s3_match.specs.Types.{name_of_file}
+use Rattle.s3_output.specs.Inner.Carriages.{place, place_moved}
+use Rattle.s3_output.specs.Inner.Requests as disk_spec
+use Rattle.s3_output.specs.Inner.Composing.{Composes}
+use Rattle.s3_output.specs.Inner.Lines.{IsLineAt}
+use Rattle.s3_match.specs.Inner.Heads.{no_file, file_at}
+use Rattle.s3_match.specs.Inner.Types.{name_of_file}
 use Rattle.s3_cycle.specs.declared.progress.Point.TheVariants as at
 use Rattle.s3_cycle.specs.declared.request.Request.{Request}
 use Rattle.s3_cycle.specs.declared.request.Request.TheVariants as asks
 use Rattle.s3_cycle.specs.declared.request.Current.{Current}
 use Rattle.s3_cycle.specs.declared.state.State.{State}
 use Rattle.s3_cycle.specs.declared.stepper.Stepper.{Stepper}
-use Rattle.s3_cycle.specs.Requests.{IsLine, FitsFile, IsDiskFile, TakesRecord, request_of, current_of}
-use Rattle.s3_cycle.specs.Rest.{lines_from, after_lines, starts_of}
+use Rattle.s3_cycle.specs.Inner.Requests.{IsLine, FitsFile, IsDiskFile, TakesRecord, request_of, current_of}
+use Rattle.s3_cycle.specs.Inner.Rest.{lines_from, after_lines, starts_of}
 use Rattle.s3_cycle.specs.Inner.Environment.{environment, others}
 use Rattle.s3_cycle.specs.Inner.Going.{own, held_by, here, AreSound, IsRunning, IsWalk, GoesOn, Changes, is_record_request}
 use Rattle.s3_cycle.specs.Inner.Entries.{turn_entry}

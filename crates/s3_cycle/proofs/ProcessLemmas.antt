@@ -10,20 +10,20 @@ use Rattle.s3_meaning.specs.Selection as meaning
 use Rattle.s3_meaning.specs.Selection.{Selected, broken, is_matched, select, taken}
 use Rattle.s3_meaning.specs.Cycle.{again, detail_time, last_time, matched, overflow_lines, record_time, selected_or_last, total_time, totals}
 use Rattle.s3_program.specs.declared.program.Program.{Program}
-use Rattle.s3_operations.specs.Held.{held}
+use Rattle.s3_operations.specs.Inner.Held.{held}
 use Rattle.s3_match.specs.declared.heads.InputFile.{InputFile}
 use Rattle.s3_match.specs.declared.heads.Standing.{Standing}
 use Rattle.s3_match.specs.declared.heads.Standing.TheVariants as at
-use Rattle.s3_match.specs.Choice.{IsHeadAt, has_head_at, is_keyless_alone}
-use Rattle.s3_match.specs.Heads.{input_of, is_head_standing, standing_as}
-use Rattle.s3_match.specs.Reading.{AreRead, reading_in, read_from}
-use Rattle.s3_match.specs.Selecting.{selected_at}
+use Rattle.s3_match.specs.Inner.Choice.{IsHeadAt, has_head_at, is_keyless_alone}
+use Rattle.s3_match.specs.Inner.Heads.{input_of, is_head_standing, standing_as}
+use Rattle.s3_match.specs.Inner.Reading.{AreRead, reading_in, read_from}
+use Rattle.s3_match.specs.Inner.Selecting.{selected_at}
 use Rattle.s3_match.proofs.ChoiceLemmas.{alone_stands, selects_alone}
 use Rattle.s3_match.proofs.UnreadLemmas.{none_between}
 use Rattle.s3_cycle.specs.declared.progress.Progress.{Progress}
 use Rattle.s3_cycle.specs.declared.progress.Selection.{Selection}
 use Rattle.s3_cycle.specs.declared.stepper.Stepper.{Stepper}
-use Rattle.s3_cycle.specs.Rest.{heads_read, inputs_in, record_moved, selected_of, totals_done}
+use Rattle.s3_cycle.specs.Inner.Rest.{heads_read, inputs_in, record_moved, selected_of, totals_done}
 use Rattle.s3_cycle.specs.Inner.Environment.{environment}
 use Rattle.s3_cycle.specs.Inner.Going.{own, held_by, here, Changes, GoesOn, IsRunning, IsTaken}
 use Rattle.s3_cycle.specs.Inner.Selecting.{Takes, identified}

@@ -12,7 +12,7 @@ use Rattle.s3_cycle.specs.declared.progress.Selection.{Selection}
 use Rattle.s3_cycle.specs.declared.stepper.Stepper.{Stepper}
 use Rattle.s3_cycle.specs.declared.progress.Moves.TheVariants as moves
 use Rattle.s3_cycle.specs.declared.progress.Time.TheVariants as time
-use Rattle.s3_cycle.specs.Rest.{details_done, fields_from, first_details, record_moved, selected_bytes, selected_of}
+use Rattle.s3_cycle.specs.Inner.Rest.{details_done, fields_from, first_details, record_moved, selected_bytes, selected_of}
 use Rattle.s3_cycle.specs.Inner.Fields.{selected_from}
 use Rattle.s3_cycle.specs.Inner.Going.{own, held_by, here, CanMove, Changes, GoesOn, IsRunning, IsTaken}
 use Rattle.s3_cycle.proofs.FieldLemmas.{at_details, details_move, details_running, selected_begun, type_fields}

@@ -7,11 +7,11 @@ use Rattle.s3_meaning.specs.Cycle.{Req, again, first_reading, headings, one_cycl
 use Rattle.s3_meaning.proofs.Equations.{again-cycle}
 use Rattle.s3_program.specs.declared.program.Program.{Program}
 use Rattle.s3_program.specs.declared.starts.Walk.TheVariants as walk
-use Rattle.s3_program.specs.Stands.{source_named}
+use Rattle.s3_program.specs.Inner.Stands.{source_named}
 use Rattle.s3_cycle.specs.declared.progress.Progress.{Progress}
 use Rattle.s3_cycle.specs.declared.state.State.{State}
 use Rattle.s3_cycle.specs.declared.stepper.Stepper.{Stepper}
-use Rattle.s3_cycle.specs.Rest.{after_lines, cycle_from, lines_from, rest}
+use Rattle.s3_cycle.specs.Inner.Rest.{after_lines, cycle_from, lines_from, rest}
 use Rattle.s3_cycle.specs.Inner.Environment.{environment}
 use Rattle.s3_cycle.specs.Inner.Going.{GoesOn, here}
 use Rattle.s3_cycle.specs.Inner.Starting.{BeginsState, BeginsProgress, Starts}

@@ -11,15 +11,15 @@ use Rattle.s3_program.specs.declared.program.Program.{Program}
 use Rattle.s3_program.specs.declared.starts.TypeStart.{TypeStart}
 use Rattle.s3_match.specs.declared.heads.InputFile.{InputFile}
 use Rattle.s3_match.specs.declared.reading.Reading.{Reading}
-use Rattle.s3_match.specs.Heads.{file_at, input_of}
-use Rattle.s3_match.specs.Reading.{bytes_at, head_with, reading_in, IsReading, IsUnreadAt}
-use Rattle.s3_match.specs.Selecting.{selected_at, inputs_of}
-use Rattle.s3_match.specs.Types.{is_type_start, kind_at}
+use Rattle.s3_match.specs.Inner.Heads.{file_at, input_of}
+use Rattle.s3_match.specs.Inner.Reading.{bytes_at, head_with, reading_in, IsReading, IsUnreadAt}
+use Rattle.s3_match.specs.Inner.Selecting.{selected_at, inputs_of}
+use Rattle.s3_match.specs.Inner.Types.{is_type_start, kind_at}
 use Rattle.s3_cycle.proofs.HeadLemmas.{EndWithin, IsWithin, kind_fields, heads_kept, heads_meant, vacated_within}
-use Rattle.s3_match.specs.Choice.{IsHeadAt}
+use Rattle.s3_match.specs.Inner.Choice.{IsHeadAt}
 use Rattle.s3_cycle.specs.declared.stepper.Stepper.{Stepper}
 use Rattle.s3_cycle.specs.Inner.Selecting.{Takes}
-use Rattle.s3_cycle.specs.Rest.{fields_at, selected_of}
+use Rattle.s3_cycle.specs.Inner.Rest.{fields_at, selected_of}
 use Rattle.s3_cycle.specs.Inner.Going.{IsHeadWithin, IsRunning}
 
 -- the heads of the others stay

@@ -12,17 +12,17 @@ use Rattle.s3_meaning.specs.Cycle.{again, totals, last_time, without_overflow, h
 use Rattle.s3_program.specs.declared.program.Program.{Program}
 use Rattle.s3_program.specs.declared.starts.Walk.{Walk}
 use Rattle.s3_program.specs.declared.starts.Walk.TheVariants as walk
-use Rattle.s3_program.specs.Stands.{source_named}
+use Rattle.s3_program.specs.Inner.Stands.{source_named}
 use Rattle.s3_sections.specs.declared.spot.Spot.{Spot}
 use Rattle.s3_sections.specs.declared.course.Course.{Course}
-use Rattle.s3_sections.specs.Sections.{rest_of}
-use Rattle.s3_sections.specs.Courses.{IsCourse, goes_through, spots_of}
+use Rattle.s3_sections.specs.Inner.Sections.{rest_of}
+use Rattle.s3_sections.specs.Inner.Courses.{IsCourse, goes_through, spots_of}
 use Rattle.s3_cycle.specs.declared.progress.Progress.{Progress}
 use Rattle.s3_cycle.specs.declared.progress.Selection.{Selection}
 use Rattle.s3_cycle.specs.declared.progress.Time.{Time}
 use Rattle.s3_cycle.specs.declared.progress.Time.TheVariants as time
 use Rattle.s3_cycle.specs.declared.stepper.Stepper.{Stepper}
-use Rattle.s3_cycle.specs.Rest.{after_calculations, after_lines, calculating, lines_from, lines_then, overflow_end, record_moved, totals_done, totals_end}
+use Rattle.s3_cycle.specs.Inner.Rest.{after_calculations, after_lines, calculating, lines_from, lines_then, overflow_end, record_moved, totals_done, totals_end}
 use Rattle.s3_cycle.specs.Inner.Calculating.{IsOver}
 use Rattle.s3_cycle.specs.Inner.Entries.{turn_entry, is_entry_on}
 use Rattle.s3_cycle.specs.Inner.Going.{own, held_by, here, Changes, GoesOn, IsOverflowTime, IsRunning, IsTaken, IsTime, IsTotalTime}

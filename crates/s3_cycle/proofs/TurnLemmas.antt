@@ -16,19 +16,19 @@ use Rattle.s3_meaning.specs.Selection.{Selected, type_of, match_key, in_sequence
 use Rattle.s3_meaning.specs.Cycle.{again, counted_read, file_read, cleared, last_time, reading_time, selected_or_last}
 use Rattle.s3_program.specs.declared.program.Program.{Program}
 use Rattle.s3_program.specs.declared.starts.TypeStart.{TypeStart}
-use Rattle.s3_operations.specs.Indicating.{cleared_of}
+use Rattle.s3_operations.specs.Inner.Indicating.{cleared_of}
 use Rattle.s3_match.specs.declared.heads.InputFile.{InputFile}
 use Rattle.s3_match.specs.declared.reading.Reading.{Reading}
-use Rattle.s3_match.specs.Heads.{ended, put}
-use Rattle.s3_match.specs.Selecting.{inputs_of}
-use Rattle.s3_match.specs.Reading.{reading_in, input_at, changed_at, read_from, read_behind, on_record, AreRead, IsNextUnread}
-use Rattle.s3_match.specs.Types.{kind_at}
+use Rattle.s3_match.specs.Inner.Heads.{ended, put}
+use Rattle.s3_match.specs.Inner.Selecting.{inputs_of}
+use Rattle.s3_match.specs.Inner.Reading.{reading_in, input_at, changed_at, read_from, read_behind, on_record, AreRead, IsNextUnread}
+use Rattle.s3_match.specs.Inner.Types.{kind_at}
 use Rattle.s3_match.proofs.ReadLemmas.{read_whole, read_next, read_none}
 use Rattle.s3_match.proofs.AnswerLemmas.{record_counted, record_stands, record_out_of_sequence, record_unidentified, file_ended}
 use Rattle.s3_cycle.specs.declared.progress.Progress.{Progress}
 use Rattle.s3_cycle.specs.declared.progress.Continuation.TheVariants as after
 use Rattle.s3_cycle.specs.declared.stepper.Stepper.{Stepper}
-use Rattle.s3_cycle.specs.Rest.{continued, cycle_from, head_answered, head_put, heads_read, inputs_in}
+use Rattle.s3_cycle.specs.Inner.Rest.{continued, cycle_from, head_answered, head_put, heads_read, inputs_in}
 use Rattle.s3_cycle.specs.Inner.Going.{own, held_by, here, CanBegin, Changes, GoesOn}
 use Rattle.s3_cycle.proofs.GoingLemmas.{goes_then, goes_as, goes_changed}
 

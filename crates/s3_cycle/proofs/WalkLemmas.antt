@@ -12,12 +12,12 @@ use Rattle.s3_meaning.specs.Cycle.{again}
 use Rattle.s3_program.specs.declared.program.Program.{Program}
 use Rattle.s3_program.specs.declared.starts.Walk.{Walk}
 use Rattle.s3_program.specs.declared.starts.Walk.TheVariants as walk
-use Rattle.s3_program.specs.Stands.{source_named}
-use Rattle.s3_program.specs.Started.{output_at}
-use Rattle.s3_program.specs.Starts.{is_walked, walked}
-use Rattle.s3_operations.specs.Fits.{tables}
+use Rattle.s3_program.specs.Inner.Stands.{source_named}
+use Rattle.s3_program.specs.Inner.Started.{output_at}
+use Rattle.s3_program.specs.Inner.Starts.{is_walked, walked}
+use Rattle.s3_operations.specs.Inner.Fits.{tables}
 use Rattle.s3_output.proofs.LawLemmas.{walk_lines}
-use Rattle.s3_cycle.specs.Rest.{starts_of, outputs_from, is_wanted, is_at_overflow, lines_then}
+use Rattle.s3_cycle.specs.Inner.Rest.{starts_of, outputs_from, is_wanted, is_at_overflow, lines_then}
 
 -- lines of other kinds are passed over
 put_kept : (source : Source) (anew : Anew) (wanted : OutputKind → Bool) (at_overflow : Bool) (lines : List Output) (go : Rest)

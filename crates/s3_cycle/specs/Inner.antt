@@ -1,15 +1,18 @@
--- Words of inner functions and of proofs: none of them says what the product means.
-pub mod Environment
-pub mod Going
-pub mod Lines
-pub mod Halting
-pub mod Calculating
-pub mod Fields
-pub mod Printing
-pub mod Entries
-pub mod Heads
-pub mod Selecting
-pub mod Starting
+-- What the contracts of a run and of a session don't reach: words of inner functions, of proofs and of other calls.
 pub mod Answers
+pub mod Calculating
 pub mod Chaining
 pub mod Clearing
+pub mod Entries
+pub mod Environment
+pub mod Fields
+pub mod Following
+pub mod Going
+pub mod Halting
+pub mod Heads
+pub mod Lines
+pub mod Printing
+pub mod Requests
+pub mod Rest
+pub mod Selecting
+pub mod Starting

@@ -1,15 +1,15 @@
 //! What follows an answer.
 ghost use Rattle.std.specs.Prelude.{◌≡◌, true, IsTrue};
 ghost use Rattle.s3_meaning.specs.Cycle.{again};
-ghost use Rattle.s3_meaning.specs.Requests.{fits};
+ghost use Rattle.s3_meaning.specs.Inner.Requests.{fits};
 ghost use Rattle.s3_meaning.specs.Runs.{replied, to_totals};
 ghost use Rattle.s3_meaning.specs.Output.{stored_or_halted};
-ghost use Rattle.s3_cycle.specs.Requests.{answer_of, request_of};
-ghost use Rattle.s3_cycle.specs.Rest.{answered, chain_answered, continued, head_answered, inputs_in, lines_from};
+ghost use Rattle.s3_cycle.specs.Inner.Requests.{answer_of, request_of};
+ghost use Rattle.s3_cycle.specs.Inner.Rest.{answered, chain_answered, continued, head_answered, inputs_in, lines_from};
 ghost use Rattle.s3_meaning.specs.Requests as Meant;
 ghost use Rattle.s3_program.specs.declared.starts.Walk.TheVariants as walk;
-ghost use Rattle.s3_match.specs.Heads.{file_at};
-ghost use Rattle.s3_match.specs.Reading.{IsUnreadAt, input_at};
+ghost use Rattle.s3_match.specs.Inner.Heads.{file_at};
+ghost use Rattle.s3_match.specs.Inner.Reading.{IsUnreadAt, input_at};
 ghost use Rattle.s3_cycle.specs.Inner.Answers.{IsRecordOrNothing, is_done_or_refused, is_reply};
 ghost use Rattle.s3_cycle.specs.Inner.Going.{CanCalculate, Continues, GoesOn, IsChainOf, IsRunning, IsWaiting, IsWalk, here};
 

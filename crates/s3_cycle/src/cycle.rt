@@ -35,12 +35,12 @@ impl Cycle {
     ghost use Rattle.s3_cycle.specs.declared.request.Request.TheVariants.{Jump};
     ghost use Rattle.s3_meaning.specs.Output.{filled};
     ghost use Rattle.s3_meaning.specs.Cycle.{Req};
-    ghost use Rattle.s3_program.specs.Stands.{Stands};
-    ghost use Rattle.s3_match.specs.Types.{name_of_file};
-    ghost use Rattle.s3_operations.specs.Beginning.{IsDate};
-    ghost use Rattle.s3_cycle.specs.Requests.{FitsFile, IsLine, answer_of};
-    ghost use Rattle.s3_cycle.specs.Following.{StandsFor, asked, files, is_fit, put, waits};
-    ghost use Rattle.s3_cycle.specs.Rest.{rest};
+    ghost use Rattle.s3_program.specs.Inner.Stands.{Stands};
+    ghost use Rattle.s3_match.specs.Inner.Types.{name_of_file};
+    ghost use Rattle.s3_operations.specs.Inner.Beginning.{IsDate};
+    ghost use Rattle.s3_cycle.specs.Inner.Requests.{FitsFile, IsLine, answer_of};
+    ghost use Rattle.s3_cycle.specs.Inner.Following.{StandsFor, asked, files, is_fit, put, waits};
+    ghost use Rattle.s3_cycle.specs.Inner.Rest.{rest};
 
     /// A job at its first request, with its switches, U1 the highest bit, and its date, six EBCDIC digits. All memory of the
     /// run is taken here.

@@ -1,8 +1,8 @@
 //! Which answers fit a request.
 ghost use Rattle.std.specs.Prelude.{◌≡◌, ℕ, List, Option};
-ghost use Rattle.s3_meaning.specs.Requests.{fits as fits_spec, fits_done, fits_record, fits_reply, refuses_add, refuses_append, refuses_never, refuses_update};
+ghost use Rattle.s3_meaning.specs.Inner.Requests.{fits as fits_spec, fits_done, fits_record, fits_reply, refuses_add, refuses_append, refuses_never, refuses_update};
 ghost use Rattle.s3_program.specs.declared.program.Program.{Program};
-ghost use Rattle.s3_cycle.specs.Requests.{answer_of, request_of};
+ghost use Rattle.s3_cycle.specs.Inner.Requests.{answer_of, request_of};
 
 use crate::request::{Answer, Request};
 use s3_operator::{HaltCode, allowed};

@@ -4,7 +4,7 @@ ghost use Rattle.s3_lines.specs.Ranges.{is_between};
 ghost use Rattle.s3_lines.specs.declared.indicator.Indicator.TheVariants.{Halt};
 ghost use Rattle.s3_meaning.specs.Environment.{turn};
 ghost use Rattle.s3_program.specs.declared.starts.Walk.TheVariants as walk;
-ghost use Rattle.s3_cycle.specs.Rest.{halts_from, lines_from};
+ghost use Rattle.s3_cycle.specs.Inner.Rest.{halts_from, lines_from};
 ghost use Rattle.s3_cycle.specs.Inner.Going.{IsRunning, CanBegin, GoesOn, here};
 ghost use Rattle.s3_cycle.specs.Inner.Halting.{IsFirstHalt, AreOff};
 

@@ -1,7 +1,7 @@
 //! Jumps that are passed, many at once.
 ghost use Rattle.std.specs.Prelude.{◌≡◌, ◌≤◌};
 ghost use Rattle.s3_cycle.specs.declared.request.Request.TheVariants as asks;
-ghost use Rattle.s3_cycle.specs.Rest.{rest};
+ghost use Rattle.s3_cycle.specs.Inner.Rest.{rest};
 ghost use Rattle.s3_cycle.specs.Inner.Going.{IsWaiting, own};
 ghost use Rattle.s3_cycle.specs.Inner.Calculating.{GoesOnPast};
 

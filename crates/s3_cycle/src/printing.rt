@@ -5,11 +5,11 @@ ghost use Rattle.s3_meaning.specs.OutputLines.{Output};
 ghost use Rattle.s3_meaning.specs.Cycle.{again};
 ghost use Rattle.s3_meaning.specs.Runs.{ask};
 ghost use Rattle.s3_meaning.specs.Output.{disk_request as disk_request_spec, filled, printed, put_carriage, stored_or_halted};
-ghost use Rattle.s3_output.specs.Carriages.{place_moved};
-ghost use Rattle.s3_output.specs.Lines.{IsLineAt, IsStart};
-ghost use Rattle.s3_match.specs.Heads.{file_at};
-ghost use Rattle.s3_cycle.specs.Requests.{FitsFile, request_of};
-ghost use Rattle.s3_cycle.specs.Rest.{lines_from};
+ghost use Rattle.s3_output.specs.Inner.Carriages.{place_moved};
+ghost use Rattle.s3_output.specs.Inner.Lines.{IsLineAt, IsStart};
+ghost use Rattle.s3_match.specs.Inner.Heads.{file_at};
+ghost use Rattle.s3_cycle.specs.Inner.Requests.{FitsFile, request_of};
+ghost use Rattle.s3_cycle.specs.Inner.Rest.{lines_from};
 ghost use Rattle.s3_cycle.specs.Inner.Going.{AreSound, Changes, IsRunning, IsWalk, GoesOn, held_by, here, is_record_request};
 ghost use Rattle.s3_cycle.specs.Inner.Printing.{CanStore, ComposesLine};
 

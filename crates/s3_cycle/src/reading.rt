@@ -3,11 +3,11 @@ ghost use Rattle.std.specs.Prelude.{◌≡◌, ◌≤◌, ◌+◌, ◌<◌, leng
 ghost use Rattle.s3_meaning.specs.Requests.{Found, Nothing};
 ghost use Rattle.s3_meaning.specs.Cycle.{again, file_read};
 ghost use Rattle.s3_meaning.specs.Selection.{type_of};
-ghost use Rattle.s3_program.specs.Stands.{source_named};
-ghost use Rattle.s3_operations.specs.Indicating.{cleared_of};
-ghost use Rattle.s3_match.specs.Reading.{IsReading, IsUnreadAt, input_at, on_record, read_from};
-ghost use Rattle.s3_match.specs.Types.{is_type_start, kind_at};
-ghost use Rattle.s3_cycle.specs.Rest.{cycle_from, head_answered, head_put, heads_read, inputs_in};
+ghost use Rattle.s3_program.specs.Inner.Stands.{source_named};
+ghost use Rattle.s3_operations.specs.Inner.Indicating.{cleared_of};
+ghost use Rattle.s3_match.specs.Inner.Reading.{IsReading, IsUnreadAt, input_at, on_record, read_from};
+ghost use Rattle.s3_match.specs.Inner.Types.{is_type_start, kind_at};
+ghost use Rattle.s3_cycle.specs.Inner.Rest.{cycle_from, head_answered, head_put, heads_read, inputs_in};
 ghost use Rattle.s3_cycle.specs.Inner.Going.{AreSound, IsRunning, CanBegin, Changes, GoesOn, here};
 ghost use Rattle.s3_cycle.specs.Inner.Heads.{IsRecordOf};
 

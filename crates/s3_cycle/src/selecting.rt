@@ -3,10 +3,10 @@ ghost use Rattle.std.specs.Prelude.{◌≡◌, Some};
 ghost use Rattle.s3_meaning.specs.Cycle.{again, last_time, record_time};
 ghost use Rattle.s3_meaning.specs.Environment.{with_last_record, turn};
 ghost use Rattle.s3_meaning.specs.Selection.{Selected, broken, is_matched as is_matched_spec, taken};
-ghost use Rattle.s3_match.specs.Choice.{IsHeadAt};
-ghost use Rattle.s3_match.specs.Reading.{IsReading, reading_in};
-ghost use Rattle.s3_match.specs.Selecting.{selected_at};
-ghost use Rattle.s3_cycle.specs.Rest.{heads_read, inputs_in, selected_of};
+ghost use Rattle.s3_match.specs.Inner.Choice.{IsHeadAt};
+ghost use Rattle.s3_match.specs.Inner.Reading.{IsReading, reading_in};
+ghost use Rattle.s3_match.specs.Inner.Selecting.{selected_at};
+ghost use Rattle.s3_cycle.specs.Inner.Rest.{heads_read, inputs_in, selected_of};
 ghost use Rattle.s3_cycle.specs.Inner.Going.{AreSound, IsRunning, IsTaken, Changes, GoesOn, here};
 ghost use Rattle.s3_cycle.specs.Inner.Selecting.{Takes, identified};
 

@@ -1,6 +1,6 @@
 //! The beginning of a run.
 ghost use Rattle.std.specs.Prelude.{◌≡◌, None, replicate, IfOk};
-ghost use Rattle.s3_operations.specs.Beginning.{IsDate};
+ghost use Rattle.s3_operations.specs.Inner.Beginning.{IsDate};
 ghost use Rattle.s3_cycle.specs.Inner.Starting.{BeginsProgress, Starts};
 
 use crate::progress::{Point, Progress, Time};

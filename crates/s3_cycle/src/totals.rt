@@ -3,7 +3,7 @@ ghost use Rattle.std.specs.Prelude.{◌≡◌, Some};
 ghost use Rattle.s3_meaning.specs.Cycle.{again, last_time, totals as totals_spec, overflow_lines};
 ghost use Rattle.s3_program.specs.declared.starts.Walk.TheVariants as walk;
 ghost use Rattle.s3_cycle.specs.declared.progress.Time.TheVariants as time;
-ghost use Rattle.s3_cycle.specs.Rest.{calculating, lines_from, record_moved, selected_of, totals_done, totals_end};
+ghost use Rattle.s3_cycle.specs.Inner.Rest.{calculating, lines_from, record_moved, selected_of, totals_done, totals_end};
 ghost use Rattle.s3_meaning.specs.Requests.{NthRead};
 ghost use Rattle.s3_meaning.specs.Environment.{put_current};
 ghost use Rattle.s3_cycle.specs.Inner.Going.{CanCalculate, Changes, GoesOn, IsOverflowTime, IsRunning, IsTaken, here};

@@ -2,7 +2,7 @@
 ghost use Rattle.std.specs.Prelude.{◌≡◌};
 ghost use Rattle.s3_meaning.specs.Runs.{ended, halted};
 ghost use Rattle.s3_meaning.specs.Cycle.{again};
-ghost use Rattle.s3_cycle.specs.Rest.{continued};
+ghost use Rattle.s3_cycle.specs.Inner.Rest.{continued};
 ghost use Rattle.s3_cycle.specs.Inner.Going.{IsRunning, GoesOn, Continues, here};
 
 use crate::progress::{Continuation, Point};

@@ -6,13 +6,13 @@ use Rattle.std.proofs.lemmas.Bool.{and_parts}
 use Rattle.std.proofs.lemmas.Bool.Decides.{nat_tests}
 use Rattle.s3_lines.specs.declared.diagnostic.Diagnostic.{Diagnostic}
 use Rattle.s3_lines.specs.declared.sheet.Line.{Line}
-use Rattle.s3_lines.specs.Ascending.{cards_ascend}
+use Rattle.s3_lines.specs.Inner.Ascending.{cards_ascend}
 use Rattle.s3_program.specs.Conditions.{numbers}
 use Rattle.s3_diagnose.specs.declared.standing.Standing.{Standing}
 use Rattle.s3_diagnose.specs.Known.{meant_line, first_standing, behind}
 use Rattle.s3_diagnose.specs.Lookups.{Known, known_of}
 use Rattle.s3_diagnose.specs.Diagnostics.{line_holds, found_on, diagnostics_from, precedes, placed, has_one_primary, compile_diagnostics}
-use Rattle.s3_diagnose.specs.Order.{AreInOrder}
+use Rattle.s3_diagnose.specs.Inner.Order.{AreInOrder}
 
 -- ---- cards
 abbrev CardsAscend : List Line → Type 0

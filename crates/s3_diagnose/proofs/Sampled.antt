@@ -5,8 +5,8 @@ use Rattle.s3_program.specs.Matching.{is_type_of, in_all_of, in_some_of, in_type
 use Rattle.s3_program.specs.Conditions.{forbidden_among}
 use Rattle.s3_diagnose.specs.Lookups.{tables_given}
 use Rattle.s3_diagnose.specs.Diagnostics.{compile_diagnostics}
-use Rattle.s3_diagnose.specs.Samples.{undefined, redefined, indicated, unfit, misplaced, strayed, mismatched, misused}
-use Rattle.s3_diagnose.specs.Sampling.{HaveTheirs}
+use Rattle.s3_diagnose.specs.Inner.Samples.{undefined, redefined, indicated, unfit, misplaced, strayed, mismatched, misused}
+use Rattle.s3_diagnose.specs.Inner.Sampling.{HaveTheirs}
 
 pub undefined_rows : HaveTheirs undefined
 unfolding reserved_names compile_diagnostics tables_given is_type_of in_all_of in_some_of in_type_of level_shape_of marks_of forbidden_among

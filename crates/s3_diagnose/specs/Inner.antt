@@ -1,4 +1,7 @@
--- Words of inner functions and of proofs: none of them says what the product means.
+-- What the contracts of a run and of a session don't reach: words of inner functions, of proofs and of other calls.
 pub mod Early
+pub mod Order
 pub mod Ranged
+pub mod Samples
+pub mod Sampling
 pub mod Shown

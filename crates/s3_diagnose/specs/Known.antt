@@ -9,7 +9,7 @@ use Rattle.s3_program.specs.declared.program.Kind.{Kind}
 use Rattle.s3_program.specs.declared.program.Kind.TheVariants as kind
 use Rattle.s3_program.specs.declared.program.Meaning.{Meaning}
 use Rattle.s3_program.specs.Lines.{map_input, map_calculation, map_output}
-use Rattle.s3_program.specs.Meant.{first_kind, second_kind}
+use Rattle.s3_program.specs.Kinds.{first_kind, second_kind}
 use Rattle.s3_program.specs.Standings.{first_file, behind_file, first_input, behind_input, first_calculation, behind_calculation, first_output, behind_output}
 use Rattle.s3_diagnose.specs.declared.standing.MeantLine.{MeantLine}
 use Rattle.s3_diagnose.specs.declared.standing.MeantLine.TheVariants as meant

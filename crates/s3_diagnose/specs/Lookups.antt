@@ -15,7 +15,7 @@ use Rattle.s3_program.specs.declared.program.TagPlace.{TagPlace}
 use Rattle.s3_program.specs.declared.program.SubroutinePlace.{SubroutinePlace}
 use Rattle.s3_program.specs.declared.call.Call.{Call}
 use Rattle.s3_program.specs.declared.standing.CalculationStanding.{CalculationStanding}
-use Rattle.s3_program.specs.Valid.{file_entry}
+use Rattle.s3_program.specs.FileEntries.{file_entry}
 use Rattle.s3_program.specs.Tables.{Tables, meaning_of}
 use Rattle.s3_program.specs.Standings.{time_on, section_on, first_calculation, behind_calculation}
 use Rattle.s3_program.specs.Redefined.{shape_of_field}

@@ -2,8 +2,8 @@
 
 ghost use Rattle.std.specs.Prelude.{◌≡◌, option_map};
 ghost use Rattle.s3_program.specs.Tables.{meaning_of};
-ghost use Rattle.s3_program.specs.Translation.{tables_in};
-ghost use Rattle.s3_program.specs.Meant.{first_kind as first_kind_spec, second_kind as second_kind_spec};
+ghost use Rattle.s3_program.specs.Inner.Translation.{tables_in};
+ghost use Rattle.s3_program.specs.Kinds.{first_kind as first_kind_spec, second_kind as second_kind_spec};
 ghost use Rattle.s3_program.specs.Lines.{map_factor, map_field, map_content};
 ghost use Rattle.s3_diagnose.specs.Known as spec;
 

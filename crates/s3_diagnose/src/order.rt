@@ -1,6 +1,6 @@
 //! The order of diagnostics.
 
-ghost use Rattle.s3_diagnose.specs.Order.{DiagnosticsAreInOrder};
+ghost use Rattle.s3_diagnose.specs.Inner.Order.{DiagnosticsAreInOrder};
 
 /// Where the numbers of the lines' cards ascend, the diagnostics stand by card and then number, each pair once,
 /// whatever the number of the RUN card.

@@ -1,8 +1,8 @@
 -- What a call that changes sectors of a region alone leaves of a file.
 use Rattle.std.proofs.Common.{◌<◌, ℕ, List, length, subst, sym}
 use Rattle.std.specs.List.{All}
-use Rattle.s3_store.specs.State.{PoolState, KeepsContents, ChangesWithin}
-use Rattle.s3_files.specs.Files.{AreStored}
+use Rattle.s3_store.specs.Inner.State.{PoolState, KeepsContents, ChangesWithin}
+use Rattle.s3_files.specs.Inner.Files.{AreStored}
 
 -- the sectors of a file are still there
 pub stored_within : (sectors : List ℕ) (region : ℕ → Type 0) (s t : PoolState) → AreStored sectors s.contents → ChangesWithin region s t → AreStored sectors t.contents

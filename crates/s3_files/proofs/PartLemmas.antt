@@ -5,7 +5,8 @@ use Rattle.std.proofs.Math.Seq.{take-add}
 use Rattle.std.proofs.lemmas.Slice.{take-put_mid}
 use borrow.Rule.Slice.PartMut.{put_mid, same_len_mid}
 use Rattle.std.specs.List.{range_with_len}
-use Rattle.s3_store.specs.Bytes.{part, SameOutside}
+use Rattle.s3_store.specs.Bytes.{part}
+use Rattle.s3_store.specs.Inner.Bytes.{SameOutside}
 use Rattle.s3_files.specs.Records.{parts}
 
 pub same-refl : (at width : ℕ) (s : List ℕ) → SameOutside at width s s

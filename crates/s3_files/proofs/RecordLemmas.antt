@@ -1,7 +1,8 @@
 -- The records in the bytes of a file, when one of them is read or written.
 use Rattle.std.proofs.Common.{◌≡◌, ◌<◌, ◌≤◌, ◌+◌, ◌*◌, ℕ, List, [], ◌∷◌, ◌++◌, length, slice_get, slice_set, Some, arith}
 use Rattle.std.proofs.Math.Nat.{mul-le-mul_left}
-use Rattle.s3_store.specs.Bytes.{part, SameOutside}
+use Rattle.s3_store.specs.Bytes.{part}
+use Rattle.s3_store.specs.Inner.Bytes.{SameOutside}
 use Rattle.s3_files.specs.Records.{records_in}
 use Rattle.s3_files.proofs.PartLemmas.{length-parts, slice_get-parts, parts-set, parts-push, parts-before, end_to_end}
 

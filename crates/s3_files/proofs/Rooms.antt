@@ -12,10 +12,10 @@ use Rattle.s3_slots.specs.Slots.{is_extent, is_count_of, is_well_formed, sectors
 use Rattle.s3_slots.specs.declared.label.FileLabel.{FileLabel}
 use Rattle.s3_slots.specs.declared.label.Organization.{Organization}
 use Rattle.s3_slots.specs.declared.label.Organization.TheVariants.{Sequential, Indexed, Direct}
-use Rattle.s3_slots.specs.Kept.{IsOfPack}
+use Rattle.s3_slots.specs.Inner.Kept.{IsOfPack}
 use Rattle.s3_slots.specs.Labels.{is_direct, sectors_of}
 use Rattle.s3_slots.proofs.Keeping.{formed_parts}
-use Rattle.s3_files.specs.Files.{HasRoom, AreStored}
+use Rattle.s3_files.specs.Inner.Files.{HasRoom, AreStored}
 
 left : (a b : Bool) → (a && b) ≡ true → a ≡ true
 left true b h = refl

@@ -7,7 +7,8 @@ use Rattle.std.proofs.Common.{Result, Ok, Err, OnOk, OnErr, slice_index_or}
 use Rattle.s3_store.specs.declared.pool_fault.PoolFault.{PoolFault}
 use Rattle.s3_store.proofs.SectorParts.{length-sector_bytes, sector_bytes-there, sector_bytes-same, length-with_part, part-with_part, outside-with_part, piece_there, piece_other}
 use Rattle.std.proofs.lemmas.List.Elements.{All-contains}
-use Rattle.s3_store.specs.Bytes.{sector_bytes, bytes_at, part, with_part, with_piece, SameOutside}
+use Rattle.s3_store.specs.Bytes.{sector_bytes, bytes_at, part}
+use Rattle.s3_store.specs.Inner.Bytes.{with_part, with_piece, SameOutside}
 
 -- pieces of 256 bytes, joined
 module _ (f : ℕ → List ℕ) (whole : (n : ℕ) → length (f n) ≡ 256) where

@@ -1,4 +1,2 @@
-pub mod FileFault
-pub mod Files
 pub mod Records
-pub mod Samples
+pub mod Inner

@@ -1,5 +1,5 @@
 -- The records in the bytes of a file, and the calls of a list of records.
-use Rattle.std.specs.Prelude.{ℕ, ◌*◌, nat_lt, List, [], ◌∷◌, ◌++◌, length, map, slice_get, slice_set, Option, Some, None, Result, Ok, Err, if◌then◌else◌}
+use Rattle.std.specs.Prelude.{ℕ, ◌*◌, nat_lt, List, [], ◌∷◌, ◌++◌, length, map, slice_set, Result, Ok, Err, if◌then◌else◌}
 use Rattle.std.specs.List.{range_with_len}
 use Rattle.s3_store.specs.Bytes.{part}
 use Rattle.s3_files.specs.declared.fault.FileFault.{FileFault}
@@ -12,14 +12,6 @@ parts place width count bytes = map (λ i. part bytes (place i) width) (range_wi
 -- the first so many records in a file's bytes, end to end
 unfoldable pub records_in : (record_length count : ℕ) → List ℕ → List (List ℕ)
 records_in record_length count bytes = parts (λ i. i * record_length) record_length count bytes
-
--- ---- the calls of a list of records
-abbrev pub got : Option (List ℕ) → Result (List ℕ) FileFault
-got (Some bytes) = Ok bytes
-got None = Err NoRecord
-
-abbrev pub record_at : ℕ → List (List ℕ) → Result (List ℕ) FileFault
-record_at i records = got (slice_get records i)
 
 abbrev pub with_record : ℕ → List ℕ → List (List ℕ) → Result (List (List ℕ)) FileFault
 with_record i bytes records = if nat_lt i (length records) then Ok (slice_set records i bytes) else Err NoRecord

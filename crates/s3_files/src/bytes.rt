@@ -1,11 +1,12 @@
 //! Bytes of a file, across the borders of its sectors.
 ghost use Rattle.std.specs.Prelude.{◌≡◌, ◌≢◌, ◌≤◌, ◌<◌, ◌+◌, ◌-◌, ◌*◌, ◌/◌, ◌%◌, ℕ, List, length, min, slice_get, Some, OnOk, OnErr, IfErr, IsTrue};
 ghost use Rattle.std.specs.List.{Contains};
-ghost use Rattle.s3_store.specs.State.{KeepsContents};
-ghost use Rattle.s3_store.specs.State.{ChangesWithin};
-ghost use Rattle.s3_store.specs.Failures.{failed_transfers};
-ghost use Rattle.s3_store.specs.Bytes.{bytes_at, part, SameOutside};
-ghost use Rattle.s3_files.specs.Files.{AreStored};
+ghost use Rattle.s3_store.specs.Inner.State.{KeepsContents};
+ghost use Rattle.s3_store.specs.Inner.State.{ChangesWithin};
+ghost use Rattle.s3_store.specs.Inner.Failures.{failed_transfers};
+ghost use Rattle.s3_store.specs.Bytes.{bytes_at, part};
+ghost use Rattle.s3_store.specs.Inner.Bytes.{SameOutside};
+ghost use Rattle.s3_files.specs.Inner.Files.{AreStored};
 
 use crate::file_sectors::FileSectors;
 use s3_store::{PoolFault, Sectors};

@@ -16,7 +16,7 @@ pub struct Direct {
 }
 
 impl Direct {
-    ghost use Rattle.s3_files.specs.Files.{HasRoom};
+    ghost use Rattle.s3_files.specs.Inner.Files.{HasRoom};
     ghost use Rattle.s3_slots.specs.Labels.{sectors_of};
 
     /// The records of the file that a label describes, which has as many as there is room for.

@@ -3,12 +3,13 @@
 ghost use Rattle.std.specs.Prelude.{◌≡◌, ◌-◌, ◌*◌, ◌/◌, ◌++◌, ℕ, List, [], ◌∷◌, true, length, slice_get, replicate, Some, None, Ok, Err};
 ghost use Rattle.s3_store.specs.Bytes.{bytes_at};
 ghost use Rattle.s3_store.specs.Stretches.{sectors_in};
-ghost use Rattle.s3_slots.specs.Kept.{IsOfPack};
+ghost use Rattle.s3_slots.specs.Inner.Kept.{IsOfPack};
 ghost use Rattle.s3_slots.specs.Labels.{is_direct, sectors_of};
 ghost use Rattle.s3_slots.specs.declared.label.FileLabel.{FileLabel};
-ghost use Rattle.s3_files.specs.Files.{HasRoom, AreStored};
-ghost use Rattle.s3_files.specs.Records.{records_in, record_at, with_record, with_last};
-ghost use Rattle.s3_files.specs.Samples.{two_pieces, two_sectors, split_contents, a, b, c};
+ghost use Rattle.s3_files.specs.Inner.Files.{HasRoom, AreStored};
+ghost use Rattle.s3_files.specs.Records.{records_in, with_record, with_last};
+ghost use Rattle.s3_files.specs.Inner.Records.{record_at};
+ghost use Rattle.s3_files.specs.Inner.Samples.{two_pieces, two_sectors, split_contents, a, b, c};
 ghost use Rattle.s3_files.specs.declared.fault.FileFault.TheVariants.{NoRecord, Full};
 
 /// Of records of 96 bytes over 72 sectors from 456 on and 48 from 576 on, the last one in the first piece is number 192, and

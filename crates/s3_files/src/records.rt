@@ -1,10 +1,10 @@
 //! A file as a list of records.
 ghost use Rattle.std.specs.Prelude.{◌≡◌, ◌≢◌, ◌≤◌, ◌<◌, ◌+◌, ◌↔◌, ◌++◌, [], ◌∷◌, ℕ, List, length, slice_get, slice_set, Some, IfErr, OnOk, OnErr, IsErrOf};
 ghost use Rattle.std.specs.List.{Contains};
-ghost use Rattle.s3_store.specs.State.{KeepsContents};
-ghost use Rattle.s3_store.specs.State.{ChangesWithin};
-ghost use Rattle.s3_files.specs.Files.{AreStored, FileShape, records, ChangesRecord};
-ghost use Rattle.s3_files.specs.FileFault.{FindsSectors, failed_file_transfers};
+ghost use Rattle.s3_store.specs.Inner.State.{KeepsContents};
+ghost use Rattle.s3_store.specs.Inner.State.{ChangesWithin};
+ghost use Rattle.s3_files.specs.Inner.Files.{AreStored, FileShape, records, ChangesRecord};
+ghost use Rattle.s3_files.specs.Inner.FileFault.{FindsSectors, failed_file_transfers};
 
 use crate::fault::FileFault;
 use s3_store::Sectors;

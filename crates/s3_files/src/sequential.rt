@@ -21,7 +21,7 @@ pub struct Sequential {
 }
 
 impl Sequential {
-    ghost use Rattle.s3_files.specs.Files.{HasRoom};
+    ghost use Rattle.s3_files.specs.Inner.Files.{HasRoom};
     ghost use Rattle.s3_slots.specs.Labels.{sectors_of};
 
     /// The records of the file that a label describes.

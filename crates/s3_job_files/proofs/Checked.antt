@@ -4,16 +4,17 @@ use Rattle.std.specs.Prelude.{if◌then◌else◌, Option, Some, IfSome}
 use Rattle.s3_store.specs.Bytes.{bytes_at}
 use Rattle.s3_slots.specs.Labels.{file_bytes, is_indexed, sectors_of}
 use Rattle.s3_slots.specs.declared.label.FileLabel.{FileLabel}
-use Rattle.s3_files.specs.Files.{records as records_on}
+use Rattle.s3_files.specs.Inner.Files.{records as records_on}
 use Rattle.s3_files.specs.Records.{records_in}
 use Rattle.s3_files.specs.declared.sequential.Sequential.{Sequential}
-use Rattle.s3_keyed.specs.Index.{index_in, keys_at, keys_of, layout_of}
+use Rattle.s3_keyed.specs.Index.{index_in, keys_of, layout_of}
+use Rattle.s3_keyed.specs.Inner.Index.{keys_at}
 use Rattle.s3_keyed.specs.KeyOrder.{is_good_index}
-use Rattle.s3_keyed.specs.Keyed.{HasKeyOrder, KeyedFile, opened_of, records_now, shown}
+use Rattle.s3_keyed.specs.Inner.Keyed.{HasKeyOrder, KeyedFile, opened_of, records_now, shown}
 use Rattle.s3_keyed.specs.declared.keyed.Keyed.{Keyed}
 use Rattle.s3_job_files.specs.Kept.{index_is_good, kept_in, kept_on, key_place}
 use Rattle.s3_job_files.specs.declared.records.OpenRecords.TheVariants.{InOrder, ByKey}
-use Rattle.s3_job_files.specs.Holds.{AreOf, shape_of}
+use Rattle.s3_job_files.specs.Inner.Holds.{AreOf, shape_of}
 
 pub plain_good : (label : FileLabel) (contents : List (List ℕ)) → is_indexed label.organization ≡ false → (kept_on label contents).has_good_index ≡ true
 unfolding kept_in index_is_good

@@ -7,7 +7,7 @@ use Rattle.s3_cards.specs.declared.levels.LevelId.TheVariants.{One, Two}
 use Rattle.s3_cards.specs.declared.name.Name.{Name}
 use Rattle.s3_cards.specs.Names.{same_name}
 use Rattle.s3_cards.proofs.NameLemmas.{same_name-equal}
-use Rattle.s3_store.specs.State.{PoolState, ChangesWithin, KeepsInStep}
+use Rattle.s3_store.specs.Inner.State.{PoolState, ChangesWithin, KeepsInStep}
 use Rattle.s3_store.specs.declared.pool_fault.PoolFault.{PoolFault}
 use Rattle.s3_store.proofs.Frames.{step_from_within, step_trans}
 use Rattle.s3_slots.specs.Header.{region_of}
@@ -19,13 +19,14 @@ use Rattle.s3_slots.specs.declared.label.FileLabel.{FileLabel}
 use Rattle.s3_slots.specs.declared.slot.Slot.{Slot}
 use Rattle.s3_slots.specs.declared.slot.Standing.{Standing}
 use Rattle.s3_slots.specs.declared.slot.Standing.TheVariants.{Present}
-use Rattle.s3_labels.specs.Areas.{Areas, area_of, slots_at, with_slots, IsLabelSector, MayHave, IsReady as IsPackReady}
+use Rattle.s3_labels.specs.Inner.Areas.{Areas, slots_at, with_slots, MayHave, IsReady as IsPackReady}
+use Rattle.s3_labels.specs.Areas.{area_of, IsLabelSector}
 use Rattle.s3_labels.proofs.Changes.{header_with}
 use Rattle.s3_job_files.specs.declared.file.OpenFile.{OpenFile}
 use Rattle.s3_job_files.specs.Kept.{Kept, kept_on}
 use Rattle.s3_job_files.specs.Files.{Files, area_by}
 use Rattle.s3_job_files.specs.Closing.{closed_by, closed_slots, file_closed, files_closed, is_kept_for_job, is_scratch}
-use Rattle.s3_job_files.specs.Holds.{Seen, seen, slots_by, IsUsable, Stands, AreOpen, IsReady, IsOutOfReach, Closes, job_file_of, is_open, HoldsRecords, HoldsFiles, records_of, count_of}
+use Rattle.s3_job_files.specs.Inner.Holds.{Seen, seen, slots_by, IsUsable, Stands, AreOpen, IsReady, IsOutOfReach, Closes, job_file_of, is_open, HoldsRecords, HoldsFiles, records_of, count_of}
 use Rattle.s3_job_files.proofs.Lists.{all_contained}
 use Rattle.s3_job_files.proofs.Held.{on_pack_by}
 use Rattle.s3_job_files.proofs.Frames.{SameAt, same_kept, same_records}

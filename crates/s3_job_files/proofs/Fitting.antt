@@ -7,7 +7,7 @@ use Rattle.s3_slots.specs.Labels.{is_indexed}
 use Rattle.s3_slots.specs.declared.label.FileLabel.{FileLabel}
 use Rattle.s3_operator.specs.declared.halt_code.HaltCode.{HaltCode}
 use Rattle.s3_operator.specs.declared.halt_code.HaltCode.TheVariants.{DuplicateKey, FileFull, KeyChanged as KeyChangedHalt, KeyNotAscending, NothingToUpdate}
-use Rattle.s3_meaning.specs.Requests.{fits_done, refuses_append, refuses_add, refuses_update}
+use Rattle.s3_meaning.specs.Inner.Requests.{fits_done, refuses_append, refuses_add, refuses_update}
 use Rattle.s3_files.specs.declared.fault.FileFault.{FileFault}
 use Rattle.s3_files.specs.declared.fault.FileFault.TheVariants.{Full, NoRecord}
 use Rattle.s3_files.specs.Records.{with_last, with_record}
@@ -18,7 +18,7 @@ use Rattle.s3_job_files.specs.declared.records.Put.{Put}
 use Rattle.s3_job_files.specs.declared.records.Put.TheVariants.{Done, Refused}
 use Rattle.s3_job_files.specs.Kept.{key_place}
 use Rattle.s3_job_files.specs.Records.{added, appended, by_key, in_order, overlaid, updated, updated_at, updated_over}
-use Rattle.s3_job_files.specs.Calls.{Puts, put_answer}
+use Rattle.s3_job_files.specs.Inner.Calls.{Puts, put_answer}
 
 -- each refusal is one of these
 abbrev Within : (HaltCode → Bool) → Result (List (List ℕ)) HaltCode → Type 0

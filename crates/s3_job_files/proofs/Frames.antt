@@ -6,12 +6,12 @@ use Rattle.s3_store.specs.Bytes.{sector_bytes, bytes_at}
 use Rattle.s3_slots.specs.Labels.{sectors_of, file_bytes}
 use Rattle.s3_slots.specs.declared.label.FileLabel.{FileLabel}
 use Rattle.s3_files.specs.Records.{records_in}
-use Rattle.s3_keyed.specs.Keyed.{KeyedFile, IsOrdered, shown}
+use Rattle.s3_keyed.specs.Inner.Keyed.{KeyedFile, IsOrdered, shown}
 use Rattle.s3_keyed.specs.Index.{index_in, keys_of}
 use Rattle.s3_job_files.specs.declared.records.OpenRecords.{OpenRecords}
 use Rattle.s3_job_files.specs.declared.records.OpenRecords.TheVariants.{InOrder, ByKey}
 use Rattle.s3_job_files.specs.Kept.{kept_in, kept_on}
-use Rattle.s3_job_files.specs.Holds.{AreOf, records_of}
+use Rattle.s3_job_files.specs.Inner.Holds.{AreOf, records_of}
 
 abbrev pub SameAt : List (List ℕ) → List (List ℕ) → ℕ → Type 0
 SameAt old new n = slice_get new n ≡ slice_get old n

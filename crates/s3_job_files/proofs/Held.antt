@@ -4,15 +4,15 @@ use Rattle.std.specs.Prelude.{slice_get, slice_set, Some}
 use Rattle.s3_cards.specs.declared.levels.LevelId.{LevelId}
 use Rattle.s3_cards.specs.declared.name.Name.{Name}
 use Rattle.s3_cards.specs.Names.{same_name}
-use Rattle.s3_slots.specs.Kept.{IsOfPack}
+use Rattle.s3_slots.specs.Inner.Kept.{IsOfPack}
 use Rattle.s3_slots.specs.Slots.{standing}
 use Rattle.s3_slots.specs.declared.label.FileLabel.{FileLabel}
 use Rattle.s3_slots.specs.declared.slot.Standing.TheVariants.{Present}
-use Rattle.s3_labels.specs.Areas.{Areas, IsReady as IsPackReady}
+use Rattle.s3_labels.specs.Inner.Areas.{Areas, IsReady as IsPackReady}
 use Rattle.s3_labels.proofs.Regions.{own_on_pack, master_on_pack}
 use Rattle.s3_job_files.specs.declared.file.OpenFile.{OpenFile}
 use Rattle.s3_job_files.specs.Files.{Files, FilesInUse, FileAtWork, area_by, as_it_stands, file_at, labelled}
-use Rattle.s3_job_files.specs.Holds.{Seen, slots_by, Stands, AreOpen, IsReady, IsUsable, job_file_of, is_open, HoldsFiles, Holds, records_of}
+use Rattle.s3_job_files.specs.Inner.Holds.{Seen, slots_by, Stands, AreOpen, IsReady, IsUsable, job_file_of, is_open, HoldsFiles, Holds, records_of}
 use Rattle.s3_job_files.proofs.Lists.{get_mapped, get_set, any_set}
 
 -- ---- a file on the pack

@@ -1,17 +1,17 @@
 -- What a call on a file with keys leaves where it is refused.
 use Rattle.std.proofs.Common.{◌≡◌, Bool, true, false, refl, ap, ap₂, subst, sym, ◌∙◌}
 use Rattle.std.specs.Prelude.{List, ℕ, Result, Ok, Err, if◌then◌else◌}
-use Rattle.s3_store.specs.State.{PoolState}
+use Rattle.s3_store.specs.Inner.State.{PoolState}
 use Rattle.s3_keyed.specs.declared.fault.KeyedFault.{KeyedFault}
 use Rattle.s3_keyed.specs.declared.fault.KeyedFault.TheVariants.{NoKey, Duplicate, Full, KeyChanged, BadIndex, NotAscending, Pool}
-use Rattle.s3_keyed.specs.Keyed.{KeyedFile, HasKeyOrder, IsUntouched, records_now}
+use Rattle.s3_keyed.specs.Inner.Keyed.{KeyedFile, HasKeyOrder, IsUntouched, records_now}
 use Rattle.s3_keyed.specs.KeyOrder.{Entry, is_good_index}
-use Rattle.s3_keyed.specs.Calls.{Answers, IsOfSectors, OnRefusal, Refuses, index_answer}
+use Rattle.s3_keyed.specs.Inner.Calls.{Answers, IsOfSectors, OnRefusal, Refuses, index_answer}
 use Rattle.s3_operator.specs.declared.halt_code.HaltCode.{HaltCode}
 use Rattle.s3_job_files.specs.declared.records.Put.TheVariants.{Refused as PutRefused}
 use Rattle.s3_job_files.specs.Inner.Refusals.{pool_refusal}
 use Rattle.s3_job_files.specs.Records.{by_key, halt_for_key}
-use Rattle.s3_job_files.specs.Calls.{Puts}
+use Rattle.s3_job_files.specs.Inner.Calls.{Puts}
 
 plainly : (T P : Type 0) (fault : KeyedFault) → pool_refusal fault ≡ Ok tt → OnRefusal {T = T} (Err fault) P → P
 plainly T P NoKey plain p = p

@@ -2,14 +2,15 @@
 use Rattle.std.proofs.Common.{◌≡◌, ℕ, List, ap, sym, ◌∙◌}
 use Rattle.std.specs.Prelude.{Option, None, Result, Ok, Err, IfErr, OnOk}
 use Rattle.s3_cards.specs.declared.name.Name.{Name}
-use Rattle.s3_store.specs.Failures.{failed_transfers}
+use Rattle.s3_store.specs.Inner.Failures.{failed_transfers}
 use Rattle.s3_store.specs.declared.pool_fault.PoolFault.{PoolFault}
 use Rattle.s3_store.specs.declared.pool_fault.PoolFault.TheVariants.{Device, NoMemory, NoSector}
-use Rattle.s3_slots.specs.Making.{counted, dropped, refusal, unless_refused, with_count, without_label}
+use Rattle.s3_slots.specs.Making.{counted, dropped}
+use Rattle.s3_slots.specs.Inner.Making.{refusal, unless_refused, with_count, without_label}
 use Rattle.s3_slots.specs.Slots.{standing}
 use Rattle.s3_slots.specs.declared.making.LabelFault.{LabelFault}
 use Rattle.s3_slots.specs.declared.slot.Slot.{Slot}
-use Rattle.s3_labels.specs.Areas.{IsChangeRefusal, IsOfSectors, failed_change}
+use Rattle.s3_labels.specs.Inner.Areas.{IsChangeRefusal, IsOfSectors, failed_change}
 use Rattle.s3_labels.specs.declared.fault.ChangeFault.{ChangeFault}
 use Rattle.s3_labels.specs.declared.fault.ChangeFault.TheVariants.{Label, Sectors}
 use Rattle.s3_job_files.specs.Inner.Refusals.{sectors_answer}

@@ -9,12 +9,12 @@ use Rattle.s3_slots.specs.Slots.{is_count_of}
 use Rattle.s3_slots.specs.declared.label.Organization.{Organization}
 use Rattle.s3_slots.specs.declared.label.Organization.TheVariants.{Direct, Indexed, Sequential as InSequence}
 use Rattle.s3_slots.specs.declared.label.FileLabel.{FileLabel}
-use Rattle.s3_files.specs.Files.{AreStored}
+use Rattle.s3_files.specs.Inner.Files.{AreStored}
 use Rattle.s3_files.specs.declared.sequential.Sequential.{Sequential}
 use Rattle.s3_files.proofs.Rooms.{of_pack_full, of_pack_stored}
 use Rattle.s3_keyed.specs.declared.keyed.Keyed.{Keyed}
 use Rattle.s3_keyed.specs.Index.{KeyPlace, Layout, index_in, key_of, keys_of, layout_of}
-use Rattle.s3_keyed.specs.Keyed.{bytes_now, records_now, keys_now, shown}
+use Rattle.s3_keyed.specs.Inner.Keyed.{bytes_now, records_now, keys_now, shown}
 use Rattle.s3_keyed.specs.Calls.{nth_by_key, place_of_key}
 use Rattle.s3_keyed.specs.KeyOrder.{is_good_index, number_of}
 use Rattle.s3_store.specs.Bytes.{bytes_at}
@@ -27,10 +27,10 @@ use Rattle.s3_job_files.specs.Kept.{Kept, index_is_good, kept_in, kept_on, key_p
 use Rattle.s3_operator.specs.declared.halt_code.HaltCode.TheVariants.{NothingToUpdate}
 use Rattle.s3_job_files.specs.declared.records.Put.{Put}
 use Rattle.s3_job_files.specs.declared.records.Put.TheVariants.{Refused as PutRefused}
-use Rattle.s3_job_files.specs.Calls.{Puts, found_answer, found_record}
+use Rattle.s3_job_files.specs.Inner.Calls.{Puts, found_answer, found_record}
 use Rattle.s3_job_files.specs.Requests.{answer_at, answer_with}
 use Rattle.s3_job_files.specs.Records.{overlaid, place_read, place_sought, place_numbered, updated, updated_at, updated_over}
-use Rattle.s3_job_files.specs.Holds.{AreOf, IsUsable, count_of, records_of}
+use Rattle.s3_job_files.specs.Inner.Holds.{AreOf, IsUsable, count_of, records_of}
 use Rattle.s3_job_files.proofs.Plain.{are_same, at_most, is_below, not_below}
 
 pub in_order_stored : (contents : List (List ℕ)) (label : FileLabel) (records : OpenRecords) (file : Sequential) → IsUsable contents label records → records ≡ InOrder file

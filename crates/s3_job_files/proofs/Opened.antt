@@ -8,17 +8,17 @@ use Rattle.s3_cards.specs.declared.levels.LevelId.{LevelId}
 use Rattle.s3_cards.specs.declared.name.Name.{Name}
 use Rattle.s3_cards.specs.Names.{same_name}
 use Rattle.s3_slots.proofs.Keeping.{push_cases}
-use Rattle.s3_slots.specs.Making.{file_in, found}
+use Rattle.s3_slots.specs.Inner.Making.{file_in, found}
 use Rattle.s3_slots.specs.Slots.{standing}
 use Rattle.s3_slots.specs.declared.label.FileLabel.{FileLabel}
 use Rattle.s3_slots.specs.declared.making.LabelFault.{LabelFault}
 use Rattle.s3_slots.specs.declared.slot.Standing.{Standing}
 use Rattle.s3_slots.specs.declared.slot.Standing.TheVariants.{Absent, Blocked, Present}
-use Rattle.s3_labels.specs.Areas.{Areas, slots_at}
+use Rattle.s3_labels.specs.Inner.Areas.{Areas, slots_at}
 use Rattle.s3_slots.proofs.Runs.{none_at}
 use Rattle.s3_job_files.specs.declared.file.OpenFile.{OpenFile}
 use Rattle.s3_job_files.specs.Files.{FilesInUse, area_by}
-use Rattle.s3_job_files.specs.Holds.{Seen, slots_by, Stands, IsReady, job_file_of, HoldsRecords, Holds}
+use Rattle.s3_job_files.specs.Inner.Holds.{Seen, slots_by, Stands, IsReady, job_file_of, HoldsRecords, Holds}
 use Rattle.s3_job_files.proofs.Standings.{present_named}
 use Rattle.s3_job_files.proofs.Putting.{differ_sym}
 

@@ -5,7 +5,8 @@ use Rattle.std.specs.Option.{option_flatten}
 use Rattle.std.proofs.Math.Seq.{drop-nil}
 use Rattle.std.proofs.lemmas.List.{drop_all, length-map, take-append-drop}
 use Rattle.std.proofs.lemmas.Slice.Zip.{length-zip}
-use Rattle.s3_job_files.specs.Records.{change_of, changes_of, overlaid}
+use Rattle.s3_job_files.specs.Inner.Records.{change_of, changes_of}
+use Rattle.s3_job_files.specs.Records.{overlaid}
 
 -- the bytes below a place are as they are to be, and the others are left
 abbrev pub laid_to : List (Option ℕ) → List ℕ → (place : ℕ) → List ℕ

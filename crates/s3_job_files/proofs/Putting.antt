@@ -8,7 +8,7 @@ use Rattle.s3_cards.specs.declared.name.Name.{Name}
 use Rattle.s3_cards.specs.Names.{same_name}
 use Rattle.s3_cards.proofs.NameLemmas.{same_name-self, same_name-equal}
 use Rattle.s3_store.specs.declared.pool_fault.PoolFault.{PoolFault}
-use Rattle.s3_store.specs.State.{PoolState, ChangesWithin, KeepsInStep}
+use Rattle.s3_store.specs.Inner.State.{PoolState, ChangesWithin, KeepsInStep}
 use Rattle.s3_store.proofs.Frames.{step_from_within}
 use Rattle.s3_store.proofs.SectorLists.{slice_set_known}
 use Rattle.s3_operator.specs.declared.halt_code.HaltCode.{HaltCode}
@@ -17,7 +17,7 @@ use Rattle.s3_slots.specs.Slots.{standing}
 use Rattle.s3_slots.specs.declared.label.FileLabel.{FileLabel}
 use Rattle.s3_slots.proofs.Runs.{none_at}
 use Rattle.s3_slots.specs.declared.slot.Standing.TheVariants.{Present}
-use Rattle.s3_labels.specs.Areas.{Areas, slots_at, IsReady as IsPackReady}
+use Rattle.s3_labels.specs.Inner.Areas.{Areas, slots_at, IsReady as IsPackReady}
 use Rattle.s3_labels.proofs.Regions.{accepted_placed}
 use Rattle.s3_job_files.specs.declared.file.OpenFile.{OpenFile}
 use Rattle.s3_job_files.specs.declared.records.Put.{Put}
@@ -25,8 +25,8 @@ use Rattle.s3_job_files.specs.declared.records.Put.TheVariants.{Done, Refused}
 use Rattle.s3_job_files.specs.Kept.{Kept}
 use Rattle.s3_job_files.specs.Files.{Area, Files, FilesInUse, FileAtWork, area_by, put_records}
 use Rattle.s3_job_files.specs.Requests.{served_on, record_put}
-use Rattle.s3_job_files.specs.Calls.{put_answer, Puts}
-use Rattle.s3_job_files.specs.Holds.{Seen, seen, slots_by, Stands, AreOpen, IsReady, IsOutOfReach, job_file_of, is_open, HoldsRecords, HoldsFiles, Holds, Meets, Serves, records_of, AreOf}
+use Rattle.s3_job_files.specs.Inner.Calls.{put_answer, Puts}
+use Rattle.s3_job_files.specs.Inner.Holds.{Seen, seen, slots_by, Stands, AreOpen, IsReady, IsOutOfReach, job_file_of, is_open, HoldsRecords, HoldsFiles, Holds, Meets, Serves, records_of, AreOf}
 use Rattle.s3_job_files.proofs.Lists.{all_contained, get_set, map_set}
 use Rattle.s3_job_files.proofs.Standings.{present_inside, present_apart}
 use Rattle.s3_job_files.proofs.Frames.{SameAt, same_kept, same_records, same_of}

@@ -6,15 +6,15 @@ use Rattle.s3_store.specs.declared.pool_fault.PoolFault.{PoolFault}
 use Rattle.s3_slots.specs.Slots.{standing}
 use Rattle.s3_slots.specs.declared.label.FileLabel.{FileLabel}
 use Rattle.s3_slots.specs.declared.slot.Standing.TheVariants.{Present}
-use Rattle.s3_labels.specs.Areas.{Areas}
+use Rattle.s3_labels.specs.Inner.Areas.{Areas}
 use Rattle.s3_meaning.specs.Requests.{Answer, Sought}
 use Rattle.s3_job_files.specs.declared.file.OpenFile.{OpenFile}
 use Rattle.s3_job_files.specs.declared.records.OpenRecords.{OpenRecords}
 use Rattle.s3_job_files.specs.Files.{Files, FilesInUse, JobFile, area_by, with_job_file}
 use Rattle.s3_job_files.specs.Records.{place_read, place_sought}
 use Rattle.s3_job_files.specs.Requests.{served_on, answer_at, record_read, record_chained, with_read, with_chained}
-use Rattle.s3_job_files.specs.Calls.{found_answer}
-use Rattle.s3_job_files.specs.Holds.{Seen, seen, slots_by, Stands, IsReady, job_file_of, HoldsRecords, HoldsFiles, Holds, Meets, Serves, records_of, AreOf, count_of}
+use Rattle.s3_job_files.specs.Inner.Calls.{found_answer}
+use Rattle.s3_job_files.specs.Inner.Holds.{Seen, seen, slots_by, Stands, IsReady, job_file_of, HoldsRecords, HoldsFiles, Holds, Meets, Serves, records_of, AreOf, count_of}
 use Rattle.s3_job_files.proofs.Lists.{get_set, map_set}
 use Rattle.s3_job_files.proofs.Held.{IsLike, at_work, is_open_set, open_set}
 

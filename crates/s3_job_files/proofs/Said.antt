@@ -3,18 +3,18 @@ use Rattle.std.proofs.Common.{◌≡◌, ℕ, false, List, arith}
 use Rattle.std.specs.Prelude.{Result, Ok, Err, OnOk}
 use Rattle.std.specs.List.{Contains}
 use Rattle.s3_cards.specs.declared.levels.LevelId.{LevelId}
-use Rattle.s3_store.specs.State.{PoolState, ChangesWithin}
+use Rattle.s3_store.specs.Inner.State.{PoolState, ChangesWithin}
 use Rattle.s3_slots.specs.Labels.{sectors_of}
 use Rattle.s3_slots.specs.Slots.{standing}
 use Rattle.s3_slots.specs.declared.label.FileLabel.{FileLabel}
 use Rattle.s3_slots.specs.declared.slot.Standing.TheVariants.{Present}
-use Rattle.s3_labels.specs.Areas.{Areas, region_at, slots_at, IsReady as IsPackReady}
-use Rattle.s3_labels.specs.Labelled.{KeepsSaid}
+use Rattle.s3_labels.specs.Inner.Areas.{Areas, region_at, slots_at, IsReady as IsPackReady}
+use Rattle.s3_labels.specs.Inner.Labelled.{KeepsSaid}
 use Rattle.s3_labels.proofs.Labelled.{says_kept}
 use Rattle.s3_labels.proofs.Makes.{few_areas}
 use Rattle.s3_labels.proofs.Regions.{ready_region}
 use Rattle.s3_job_files.specs.declared.file.OpenFile.{OpenFile}
-use Rattle.s3_job_files.specs.Holds.{Stands, seen}
+use Rattle.s3_job_files.specs.Inner.Holds.{Stands, seen}
 use Rattle.s3_job_files.proofs.Putting.{own_sound}
 use Rattle.s3_job_files.proofs.Standings.{present_inside}
 

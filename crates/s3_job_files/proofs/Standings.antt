@@ -4,7 +4,7 @@ use Rattle.std.specs.List.{Contains, position_from}
 use Rattle.s3_cards.specs.declared.name.Name.{Name}
 use Rattle.s3_cards.proofs.NameLemmas.{same_name-equal}
 use Rattle.s3_store.specs.declared.stretch.Stretch.{Stretch}
-use Rattle.s3_slots.specs.Kept.{AreKept}
+use Rattle.s3_slots.specs.Inner.Kept.{AreKept}
 use Rattle.s3_slots.specs.Labels.{sectors_of}
 use Rattle.s3_slots.specs.Slots.{bears, standing}
 use Rattle.s3_slots.specs.Stretches.{IsIn}

@@ -7,13 +7,14 @@ use Rattle.s3_cards.specs.declared.name.Name.{Name}
 use Rattle.s3_slots.specs.Header.{region_of}
 use Rattle.s3_slots.specs.Slots.{slots_of}
 use Rattle.s3_slots.specs.declared.header.Header.{Header}
-use Rattle.s3_labels.specs.Areas.{area_of, areas_on, slots_at, IsReady as IsPackReady}
+use Rattle.s3_labels.specs.Areas.{area_of}
+use Rattle.s3_labels.specs.Inner.Areas.{areas_on, slots_at, IsReady as IsPackReady}
 use Rattle.s3_meaning.specs.Requests.{Answer}
 use Rattle.s3_job_files.specs.declared.file.OpenFile.{OpenFile}
 use Rattle.s3_job_files.specs.Kept.{kept_under}
 use Rattle.s3_job_files.specs.Files.{FilesInUse, FileAtWork, file_at, files_on, place_named}
 use Rattle.s3_job_files.specs.Requests.{Served, served_named, served_on}
-use Rattle.s3_job_files.specs.Holds.{Seen, seen, IsReady, job_file_of, Holds, Meets, Serves}
+use Rattle.s3_job_files.specs.Inner.Holds.{Seen, seen, IsReady, job_file_of, Holds, Meets, Serves}
 
 -- ---- no file is open
 pub ready_none : (level : LevelId) (pack : Seen) → IsPackReady pack.areas pack.contents → IsReady level [] pack

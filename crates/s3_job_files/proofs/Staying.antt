@@ -1,13 +1,13 @@
 -- What the files of a job hold stays held where their level's slots, those of the masters and the sectors of both regions stay.
 use Rattle.std.proofs.Common.{◌≡◌, ◌≤◌, ℕ, Bool, true, false, List, [], length, arith, subst, refl, ap, sym, ◌∙◌}
 use Rattle.std.specs.List.{All}
-use Rattle.s3_cards.specs.Levels.{other}
+use Rattle.s3_cards.specs.Inner.Levels.{other}
 use Rattle.s3_cards.specs.declared.levels.LevelId.{LevelId}
 use Rattle.s3_cards.specs.declared.levels.LevelId.TheVariants.{One, Two}
-use Rattle.s3_store.specs.State.{PoolState, KeepsInStep}
+use Rattle.s3_store.specs.Inner.State.{PoolState, KeepsInStep}
 use Rattle.s3_store.specs.declared.stretch.Stretch.{Stretch}
 use Rattle.s3_slots.specs.Header.{region_of}
-use Rattle.s3_slots.specs.Kept.{AreKept}
+use Rattle.s3_slots.specs.Inner.Kept.{AreKept}
 use Rattle.s3_slots.specs.Labels.{sectors_of}
 use Rattle.s3_slots.specs.Slots.{standing}
 use Rattle.s3_slots.specs.Stretches.{IsIn}
@@ -15,12 +15,13 @@ use Rattle.s3_slots.specs.declared.header.Header.{Header}
 use Rattle.s3_slots.specs.declared.label.FileLabel.{FileLabel}
 use Rattle.s3_slots.specs.declared.slot.Slot.{Slot}
 use Rattle.s3_slots.specs.declared.slot.Standing.TheVariants.{Present}
-use Rattle.s3_labels.specs.Areas.{Areas, area_of, slots_at, with_slots, IsLabelSector, IsReady as IsPackReady}
+use Rattle.s3_labels.specs.Inner.Areas.{Areas, slots_at, with_slots, IsReady as IsPackReady}
+use Rattle.s3_labels.specs.Areas.{area_of, IsLabelSector}
 use Rattle.s3_labels.proofs.Changes.{header_with}
 use Rattle.s3_labels.proofs.Regions.{accepted_placed}
 use Rattle.s3_job_files.specs.declared.file.OpenFile.{OpenFile}
 use Rattle.s3_job_files.specs.Files.{Area, FilesInUse}
-use Rattle.s3_job_files.specs.Holds.{Seen, seen, slots_by, IsReady, IsOutOfReach, KeepsAll, Holds}
+use Rattle.s3_job_files.specs.Inner.Holds.{Seen, seen, slots_by, IsReady, IsOutOfReach, KeepsAll, Holds}
 use Rattle.s3_job_files.proofs.Frames.{SameAt, same_kept, same_of, same_records}
 use Rattle.s3_job_files.proofs.Lists.{all_contained}
 use Rattle.s3_job_files.proofs.Standings.{present_inside}

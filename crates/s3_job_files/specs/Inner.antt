@@ -1,2 +1,6 @@
--- Words of inner functions and of proofs: none of them says what the product means.
+-- What the contracts of a run and of a session don't reach: words of inner functions, of proofs and of other calls.
+pub mod Calls
+pub mod Holds
+pub mod Records
 pub mod Refusals
+pub mod Samples

@@ -1,9 +1,6 @@
-pub mod Kept
+pub mod Closing
 pub mod Files
+pub mod Kept
 pub mod Records
 pub mod Requests
-pub mod Closing
-pub mod Samples
-pub mod Holds
-pub mod Calls
 pub mod Inner

@@ -1,5 +1,5 @@
 -- The records of a file of the job at work: where the one is that a request is for, and what is put into it.
-use Rattle.std.specs.Prelude.{ℕ, zero, suc, ◌-◌, ℤ, pos, negsuc, nat_lt, Bool, map, zip, List, [], ◌∷◌, length, take, slice_get, Option, Some, None, Result, Ok, Err, if◌then◌else◌}
+use Rattle.std.specs.Prelude.{ℕ, zero, suc, ◌-◌, ℤ, pos, negsuc, nat_lt, List, [], ◌∷◌, length, take, slice_get, Option, Some, None, Result, Ok, Err, if◌then◌else◌}
 use Rattle.s3_slots.specs.Labels.{is_indexed}
 use Rattle.s3_slots.specs.declared.label.FileLabel.{FileLabel}
 use Rattle.s3_operator.specs.declared.halt_code.HaltCode.{HaltCode}
@@ -65,13 +65,6 @@ appended label bytes records =
 -- under a key that no record has
 abbrev pub added : FileLabel → List ℕ → List (List ℕ) → Result (List (List ℕ)) HaltCode
 added label bytes records = by_key (with_added (key_place label) label.capacity bytes records)
-
--- the codes of a record, where they are put
-abbrev pub change_of : ℕ × Bool → Option ℕ
-change_of (code, put) = if put then Some code else None
-
-abbrev pub changes_of : (codes : List ℕ) → (put : List Bool) → List (Option ℕ)
-changes_of codes put = map change_of (zip codes put)
 
 -- the bytes of a record with what is put at each position
 abbrev pub overlaid : List (Option ℕ) → List ℕ → List ℕ

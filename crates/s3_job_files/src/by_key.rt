@@ -1,17 +1,18 @@
 //! Requests to the records of a file with an index.
 ghost use Rattle.std.specs.Prelude.{◌≡◌, ◌≢◌, ◌+◌, length, slice_get, take, is_some, true, IfOk, IfErr, IfSome, OnOk};
 ghost use Rattle.std.specs.List.{Contains};
-ghost use Rattle.s3_store.specs.State.{KeepsContents, ChangesWithin};
-ghost use Rattle.s3_store.specs.Failures.{failed_transfers};
+ghost use Rattle.s3_store.specs.Inner.State.{KeepsContents, ChangesWithin};
+ghost use Rattle.s3_store.specs.Inner.Failures.{failed_transfers};
 ghost use Rattle.s3_store.specs.Bytes.{bytes_at};
 ghost use Rattle.s3_slots.specs.Labels.{sectors_of};
-ghost use Rattle.s3_files.specs.Files.{AreStored, HasRoom};
-ghost use Rattle.s3_keyed.specs.Index.{HasIndex, index_in, keys_at, layout_of};
+ghost use Rattle.s3_files.specs.Inner.Files.{AreStored, HasRoom};
+ghost use Rattle.s3_keyed.specs.Inner.Index.{HasIndex, keys_at};
+ghost use Rattle.s3_keyed.specs.Index.{index_in, layout_of};
 ghost use Rattle.s3_keyed.specs.KeyOrder.{is_good_index, number_of};
-ghost use Rattle.s3_keyed.specs.Keyed.{opened_of, shown, bytes_now, records_now, keys_now, HasKeyOrder, IsSameFile};
+ghost use Rattle.s3_keyed.specs.Inner.Keyed.{opened_of, shown, bytes_now, records_now, keys_now, HasKeyOrder, IsSameFile};
 ghost use Rattle.s3_keyed.specs.Calls.{place_of_key, nth_by_key, with_added, with_loaded, with_updated};
 ghost use Rattle.s3_job_files.specs.Records.{by_key, halt_for_key};
-ghost use Rattle.s3_job_files.specs.Calls.{found_record, Puts};
+ghost use Rattle.s3_job_files.specs.Inner.Calls.{found_record, Puts};
 ghost use Rattle.s3_job_files.specs.Inner.Refusals.{pool_refusal};
 
 use crate::records::Put;

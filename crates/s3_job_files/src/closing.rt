@@ -1,15 +1,17 @@
 //! The end of a job: its files are closed.
 ghost use Rattle.std.specs.Prelude.{◌≡◌, ◌≢◌, ◌+◌, [], map, None, IfErr, OnOk};
-ghost use Rattle.s3_store.specs.State.{ChangesWithin, KeepsInStep};
-ghost use Rattle.s3_store.specs.Failures.{failed_transfers};
-ghost use Rattle.s3_slots.specs.Making.{counted, dropped, refusal};
+ghost use Rattle.s3_store.specs.Inner.State.{ChangesWithin, KeepsInStep};
+ghost use Rattle.s3_store.specs.Inner.Failures.{failed_transfers};
+ghost use Rattle.s3_slots.specs.Making.{counted, dropped};
+ghost use Rattle.s3_slots.specs.Inner.Making.{refusal};
 ghost use Rattle.s3_slots.specs.Slots.{standing};
-ghost use Rattle.s3_labels.specs.Areas.{area_of, slots_at, with_slots, IsLabelSector, IsOfSectors, IsReady as IsPackReady, MayHave};
-ghost use Rattle.s3_labels.specs.Labelled.{KeepsSaid};
+ghost use Rattle.s3_labels.specs.Areas.{area_of, IsLabelSector};
+ghost use Rattle.s3_labels.specs.Inner.Areas.{slots_at, with_slots, IsOfSectors, IsReady as IsPackReady, MayHave};
+ghost use Rattle.s3_labels.specs.Inner.Labelled.{KeepsSaid};
 ghost use Rattle.s3_job_files.specs.Files.{Files};
 ghost use Rattle.s3_job_files.specs.Closing.{files_closed};
 ghost use Rattle.s3_job_files.specs.Inner.Refusals.{sectors_answer};
-ghost use Rattle.s3_job_files.specs.Holds.{seen, job_file_of, Closes, HoldsFiles, IsOutOfReach, IsReady, Stands};
+ghost use Rattle.s3_job_files.specs.Inner.Holds.{seen, job_file_of, Closes, HoldsFiles, IsOutOfReach, IsReady, Stands};
 
 use crate::file::OpenFile;
 use s3_cards::{LevelId, Name};

@@ -1,14 +1,15 @@
 //! A file of the job at work.
 ghost use Rattle.std.specs.Prelude.{◌≡◌, ◌≢◌, ◌<◌, ◌+◌, ◌-◌, ◌&&◌, length, option_map, pos, slice_get, is_some, Some, None, true, false, IfOk, IfErr, IfSome, OnOk, if◌then◌else◌};
 ghost use Rattle.std.specs.List.{Contains};
-ghost use Rattle.s3_store.specs.State.{KeepsContents, ChangesWithin};
-ghost use Rattle.s3_store.specs.Failures.{failed_transfers};
+ghost use Rattle.s3_store.specs.Inner.State.{KeepsContents, ChangesWithin};
+ghost use Rattle.s3_store.specs.Inner.Failures.{failed_transfers};
 ghost use Rattle.s3_slots.specs.Labels.{is_indexed as is_indexed_spec, sectors_of};
 ghost use Rattle.s3_meaning.specs.Requests.{Key, RecordNumber};
-ghost use Rattle.s3_slots.specs.Kept.{IsOfPack};
+ghost use Rattle.s3_slots.specs.Inner.Kept.{IsOfPack};
 ghost use Rattle.s3_job_files.specs.Kept.{kept_on};
-ghost use Rattle.s3_job_files.specs.Records.{changes_of, overlaid};
-ghost use Rattle.s3_job_files.specs.Holds.{AreOf, HoldsRecords, count_of, records_of};
+ghost use Rattle.s3_job_files.specs.Inner.Records.{changes_of};
+ghost use Rattle.s3_job_files.specs.Records.{overlaid};
+ghost use Rattle.s3_job_files.specs.Inner.Holds.{AreOf, HoldsRecords, count_of, records_of};
 
 use crate::records::{OpenRecords, Put};
 use crate::{by_key, in_order};
@@ -56,9 +57,9 @@ pub enum Current {
 impl OpenFile {
     ghost use Rattle.s3_job_files.specs.Records.{place_read as place_read_spec, place_sought, place_current as place_current_spec, place_numbered as place_numbered_spec, appended, added, updated, updated_at};
     ghost use Rattle.s3_job_files.specs.Requests.{answer_at, with_read, with_chained};
-    ghost use Rattle.s3_job_files.specs.Holds.{IsUsable, job_file_of, current_of};
+    ghost use Rattle.s3_job_files.specs.Inner.Holds.{IsUsable, job_file_of, current_of};
     ghost use Rattle.s3_job_files.specs.Closing.{is_kept_for_job};
-    ghost use Rattle.s3_job_files.specs.Calls.{found_record, found_answer, Puts};
+    ghost use Rattle.s3_job_files.specs.Inner.Calls.{found_record, found_answer, Puts};
 
     /// Opens the file of a label that the pack has, unless its index isn't good.
     pub fn open<P: Sectors>(

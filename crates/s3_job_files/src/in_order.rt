@@ -1,13 +1,13 @@
 //! Requests to the records of a file without an index.
 ghost use Rattle.std.specs.Prelude.{◌≡◌, ◌≢◌, ◌+◌, length, slice_get, IfOk, IfErr};
 ghost use Rattle.std.specs.List.{Contains};
-ghost use Rattle.s3_store.specs.State.{KeepsContents, ChangesWithin};
-ghost use Rattle.s3_store.specs.Failures.{failed_transfers};
-ghost use Rattle.s3_files.specs.Files.{AreStored, records};
+ghost use Rattle.s3_store.specs.Inner.State.{KeepsContents, ChangesWithin};
+ghost use Rattle.s3_store.specs.Inner.Failures.{failed_transfers};
+ghost use Rattle.s3_files.specs.Inner.Files.{AreStored, records};
 ghost use Rattle.s3_files.specs.Records.{with_record, with_last};
 ghost use Rattle.s3_job_files.specs.Records.{in_order};
-ghost use Rattle.s3_job_files.specs.Holds.{shape_of};
-ghost use Rattle.s3_job_files.specs.Calls.{found_record, Puts};
+ghost use Rattle.s3_job_files.specs.Inner.Holds.{shape_of};
+ghost use Rattle.s3_job_files.specs.Inner.Calls.{found_record, Puts};
 ghost use Rattle.s3_job_files.specs.Inner.Refusals.{IsGrown};
 
 use crate::records::Put;

@@ -3,15 +3,16 @@ ghost use Rattle.std.specs.Prelude.{◌≡◌, ◌≢◌, ◌<◌, ◌+◌, ◌+
 ghost use Rattle.std.specs.List.{list_any, position_from};
 ghost use Rattle.std.specs.Cmp.Lexicographic.{pointwise};
 ghost use Rattle.s3_cards.specs.Names.{same_name};
-ghost use Rattle.s3_store.specs.State.{KeepsContents, KeepsInStep};
-ghost use Rattle.s3_store.specs.Failures.{failed_transfers};
+ghost use Rattle.s3_store.specs.Inner.State.{KeepsContents, KeepsInStep};
+ghost use Rattle.s3_store.specs.Inner.Failures.{failed_transfers};
 ghost use Rattle.s3_slots.specs.Labels.{is_indexed};
-ghost use Rattle.s3_labels.specs.Areas.{slots_at, with_slots, IsReady as IsPackReady};
-ghost use Rattle.s3_labels.specs.Labelled.{KeepsSaid};
-ghost use Rattle.s3_meaning.specs.Requests.{Key, RecordNumber, fits_done, refuses_append, refuses_add, refuses_update};
+ghost use Rattle.s3_labels.specs.Inner.Areas.{slots_at, with_slots, IsReady as IsPackReady};
+ghost use Rattle.s3_labels.specs.Inner.Labelled.{KeepsSaid};
+ghost use Rattle.s3_meaning.specs.Requests.{Key, RecordNumber};
+ghost use Rattle.s3_meaning.specs.Inner.Requests.{fits_done, refuses_append, refuses_add, refuses_update};
 ghost use Rattle.s3_job_files.specs.Requests.{record_read, record_chained, record_appended, record_added, record_updated};
-ghost use Rattle.s3_job_files.specs.Calls.{found_answer, put_answer};
-ghost use Rattle.s3_job_files.specs.Records.{changes_of};
+ghost use Rattle.s3_job_files.specs.Inner.Calls.{found_answer, put_answer};
+ghost use Rattle.s3_job_files.specs.Inner.Records.{changes_of};
 
 use crate::closing::close_all;
 use crate::file::{Current, OpenFile};
@@ -50,7 +51,7 @@ fn position_of(files: &Vec<OpenFile>, name: Name) -> Option<usize>
 impl JobFiles {
     ghost use Rattle.s3_job_files.specs.Files.{FilesInUse, area_by, place_named};
     ghost use Rattle.s3_job_files.specs.Closing.{files_closed};
-    ghost use Rattle.s3_job_files.specs.Holds.{AllAt, HoldsRecords, Seen, Stands, seen, IsReady, IsOutOfReach, Holds, Serves, TakesRecord, current_of, job_file_of, opened_as};
+    ghost use Rattle.s3_job_files.specs.Inner.Holds.{AllAt, HoldsRecords, Seen, Stands, seen, IsReady, IsOutOfReach, Holds, Serves, TakesRecord, current_of, job_file_of, opened_as};
 
     /// No files yet.
     pub fn new(alloc: Global, level: LevelId) -> Self

@@ -2,11 +2,11 @@
 
 ghost use Rattle.std.specs.Prelude.{◌≡◌, ℤ, pos, negsuc, [], ◌∷◌, ◌++◌, Some, None, Ok, Err, replicate};
 ghost use Rattle.s3_operator.specs.declared.halt_code.HaltCode.TheVariants.{DuplicateKey, FileFull, KeyChanged, KeyNotAscending, NothingToUpdate};
-ghost use Rattle.s3_slots.specs.Samples.{named};
-ghost use Rattle.s3_keyed.specs.Samples.{b_and_a, letter};
+ghost use Rattle.s3_slots.specs.Inner.Samples.{named};
+ghost use Rattle.s3_keyed.specs.Inner.Samples.{b_and_a, letter};
 ghost use Rattle.s3_meaning.specs.Requests.{Read, Chain, Append, Add, Update, Card, Key, RecordNumber, NthRead, LastChained, Found, Nothing, Done, Refused};
 ghost use Rattle.s3_job_files.specs.Records.{place_read, place_sought, appended, added, updated, overlaid};
-ghost use Rattle.s3_job_files.specs.Samples.{two_keys, b_a_and_c, fifth_byte, other_key, answer_behind, count_at_end};
+ghost use Rattle.s3_job_files.specs.Inner.Samples.{two_keys, b_a_and_c, fifth_byte, other_key, answer_behind, count_at_end};
 
 /// An indexed file is read in key order, and a job reads those records alone that stood at its start; what it added is found by
 /// its key and by its number.

@@ -1,6 +1,6 @@
 //! The records of an open file.
 ghost use Rattle.std.specs.Prelude.{◌≡◌};
-ghost use Rattle.s3_job_files.specs.Holds.{count_of};
+ghost use Rattle.s3_job_files.specs.Inner.Holds.{count_of};
 
 use s3_files::{RecordFile, Sequential};
 use s3_keyed::Keyed;

@@ -3,14 +3,16 @@ use Rattle.std.proofs.Common.{◌≡◌, ◌≢◌, ℕ, zero, suc, ◌+◌, ◌
 use Rattle.std.proofs.lemmas.Bool.{ltb-true, eqb-true, eq-eqb}
 use Rattle.std.proofs.lemmas.List.{take_all, take-append-le}
 use Rattle.std.specs.List.{range_with_len, position_from, list_any, list_all, All}
-use Rattle.s3_store.specs.Bytes.{part, SameOutside}
+use Rattle.s3_store.specs.Bytes.{part}
+use Rattle.s3_store.specs.Inner.Bytes.{SameOutside}
 use Rattle.s3_files.specs.Records.{records_in}
 use Rattle.s3_files.proofs.RecordLemmas.{records_push}
 use Rattle.s3_keyed.specs.declared.fault.KeyedFault.TheVariants.{Duplicate, Full, NotAscending}
 use Rattle.s3_keyed.specs.KeyOrder.{Entry, key_order, insert_entry, insert_entries, ascends, keys_in}
-use Rattle.s3_keyed.specs.Index.{KeyPlace, Layout, key_of, keys_of, keys_at, entry_at, index_in}
+use Rattle.s3_keyed.specs.Index.{KeyPlace, Layout, key_of, keys_of, entry_at, index_in}
+use Rattle.s3_keyed.specs.Inner.Index.{keys_at}
 use Rattle.s3_keyed.specs.Calls.{place_of_key, with_added, with_loaded}
-use Rattle.s3_keyed.specs.Keyed.{IsOrdered}
+use Rattle.s3_keyed.specs.Inner.Keyed.{IsOrdered}
 use Rattle.s3_keyed.proofs.Order.{by_lt, below, at_most, In, In-insert_cases, In-key_order_back, In-inserts_right, length-insert_entry, key_order-append, inserts-added, insert-last, Lacks, Above, Ascends}
 use Rattle.s3_keyed.proofs.CallLemmas.{ordered_same}
 use Rattle.s3_keyed.proofs.Places.{length_keys, entries_stay, index_stays}

@@ -9,8 +9,8 @@ use Rattle.s3_keyed.specs.KeyOrder.{Entry}
 use Rattle.s3_keyed.specs.Index.{KeyPlace, key_of, keys_of}
 use Rattle.s3_keyed.specs.Calls.{with_updated, updated_from, keyed_result}
 use Rattle.s3_keyed.specs.declared.fault.KeyedFault.TheVariants.{NoKey, KeyChanged}
-use Rattle.s3_store.specs.State.{PoolState, KeepsContents}
-use Rattle.s3_keyed.specs.Keyed.{KeyedFile, IsOrdered, HasKeyOrder}
+use Rattle.s3_store.specs.Inner.State.{PoolState, KeepsContents}
+use Rattle.s3_keyed.specs.Inner.Keyed.{KeyedFile, IsOrdered, HasKeyOrder}
 use Rattle.s3_keyed.proofs.Order.{below}
 
 got_none : {X : Type 0} (xs : List X) (i : ℕ) → length xs ≤ i → slice_get xs i ≡ None

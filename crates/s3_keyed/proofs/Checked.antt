@@ -7,7 +7,8 @@ use Rattle.std.specs.List.{range_with_len}
 use Rattle.std.specs.Ordering.{nat_cmp}
 use Rattle.std.specs.declared.cmp.Ordering.{Ordering}
 use Rattle.std.specs.declared.cmp.Ordering.TheVariants.{Less, Equal, Greater}
-use Rattle.s3_keyed.specs.KeyOrder.{Entry, IsAscending}
+use Rattle.s3_keyed.specs.KeyOrder.{Entry}
+use Rattle.s3_keyed.specs.Inner.KeyOrder.{IsAscending}
 use Rattle.s3_keyed.proofs.Order.{IsGoodIndex}
 
 -- the first j entries are good

@@ -2,7 +2,7 @@
 use Rattle.std.proofs.Common.{◌≡◌, ℕ, ◌+◌, ◌≤◌, true, ◌&&◌, nat_le, sym, subst}
 use Rattle.std.proofs.lemmas.Bool.{and_parts, leb-true}
 use Rattle.std.specs.List.{sum_by}
-use Rattle.s3_slots.specs.Kept.{IsOfPack}
+use Rattle.s3_slots.specs.Inner.Kept.{IsOfPack}
 use Rattle.s3_slots.specs.Labels.{is_indexed}
 use Rattle.s3_slots.specs.Slots.{is_key_of, sectors_needed, record_sectors, index_sectors}
 use Rattle.s3_slots.specs.declared.label.FileLabel.{FileLabel}
@@ -10,7 +10,7 @@ use Rattle.s3_slots.specs.declared.label.Organization.{Organization}
 use Rattle.s3_slots.specs.declared.label.Organization.TheVariants.{Sequential, Indexed, Direct}
 use Rattle.s3_slots.proofs.Keeping.{formed_parts}
 use Rattle.s3_files.proofs.Rooms.{length_sectors}
-use Rattle.s3_keyed.specs.Index.{HasIndex}
+use Rattle.s3_keyed.specs.Inner.Index.{HasIndex}
 
 pub of_pack_index : (sectors : ℕ) (label : FileLabel) → IsOfPack sectors label → is_indexed label.organization ≡ true → HasIndex label
 of_pack_index sectors label is indexed = by label.organization indexed (formed_parts is.region label is.formed).key (formed_parts is.region label is.formed).fits

@@ -5,7 +5,8 @@ use Rattle.std.proofs.lemmas.Bool.{eqb-true}
 use Rattle.s3_slots.specs.Slots.{record_sectors}
 use Rattle.s3_keyed.specs.declared.indexed.IndexEntry.{IndexEntry}
 use Rattle.s3_keyed.specs.declared.indexed.IndexedFile.{IndexedFile}
-use Rattle.s3_keyed.specs.KeyOrder.{number_of, Entry, ascends, keys_in, IsAscending, insert_entries}
+use Rattle.s3_keyed.specs.KeyOrder.{number_of, Entry, ascends, keys_in, insert_entries}
+use Rattle.s3_keyed.specs.Inner.KeyOrder.{IsAscending}
 use Rattle.s3_keyed.specs.Inner.Shape.{entry_of}
 use Rattle.s3_keyed.proofs.Order.{get_from_In, Above, Ascends, Below}
 use Rattle.s3_keyed.proofs.Goodness.{to_ascends, from_ascends}

@@ -4,11 +4,12 @@ use Rattle.std.proofs.lemmas.Bool.{eqb-true, eq-eqb}
 use Rattle.std.proofs.lemmas.List.{take_all}
 use Rattle.std.specs.List.{range_with_len, position_from}
 use Rattle.s3_keyed.specs.declared.indexed.IndexEntry.{IndexEntry}
-use Rattle.s3_keyed.specs.KeyOrder.{number_of, Entry, key_order, ascends, keys_in, is_good_index, IsAscending}
+use Rattle.s3_keyed.specs.KeyOrder.{number_of, Entry, key_order, ascends, keys_in, is_good_index}
+use Rattle.s3_keyed.specs.Inner.KeyOrder.{IsAscending}
 use Rattle.s3_keyed.specs.Index.{Layout, entry_at, index_in}
 use Rattle.s3_keyed.specs.Calls.{place_of_key, place_in, nth_by_key}
 use Rattle.s3_keyed.specs.Inner.Shape.{entry_of}
-use Rattle.s3_keyed.specs.Keyed.{IsOrdered}
+use Rattle.s3_keyed.specs.Inner.Keyed.{IsOrdered}
 use Rattle.s3_keyed.proofs.Order.{In, In-from_get, get_from_In, In-key_order, In-key_order_back, In-inserts_left, In-inserts_right, In-inserts_cases, length-key_order}
 use Rattle.s3_keyed.proofs.Goodness.{to_ascends, from_ascends, ascends_get, one_entry, good_order, good_ascends}
 use Rattle.s3_keyed.proofs.Checked.{get-listed, listed}

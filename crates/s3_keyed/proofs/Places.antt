@@ -6,13 +6,15 @@ use Rattle.std.specs.List.{range_with_len}
 use borrow.Rule.Slice.PartMut.{mid_of}
 use Rattle.byteorder.specs.Endian.{big_bytes, big_number}
 use Rattle.byteorder.specs.Numbers.{big_number-reads_back}
-use Rattle.s3_store.specs.Bytes.{part, SameOutside}
+use Rattle.s3_store.specs.Bytes.{part}
+use Rattle.s3_store.specs.Inner.Bytes.{SameOutside}
 use Rattle.s3_slots.specs.Slots.{record_sectors, entries_per_sector}
 use Rattle.s3_files.specs.Records.{records_in}
 use Rattle.s3_files.proofs.PartLemmas.{length-part, part-before, part-after}
 use Rattle.s3_files.proofs.RecordLemmas.{length_records, get_record, records_before}
 use Rattle.s3_keyed.specs.KeyOrder.{number_of}
-use Rattle.s3_keyed.specs.Index.{Layout, key_of, keys_of, keys_at, entry_in, entry_at, entry_place, index_in}
+use Rattle.s3_keyed.specs.Index.{Layout, key_of, keys_of, entry_in, entry_at, entry_place, index_in}
+use Rattle.s3_keyed.specs.Inner.Index.{keys_at}
 
 -- ---- division
 

@@ -8,7 +8,8 @@ use Rattle.std.proofs.lemmas.Nat.{div-mul-add, mod-mul-add}
 use Rattle.std.specs.List.{range_with_len}
 use Rattle.s3_store.specs.Bytes.{part}
 use Rattle.s3_slots.specs.Slots.{record_sectors, entries_per_sector}
-use Rattle.s3_keyed.specs.KeyOrder.{Entry, IsAscending}
+use Rattle.s3_keyed.specs.KeyOrder.{Entry}
+use Rattle.s3_keyed.specs.Inner.KeyOrder.{IsAscending}
 use Rattle.s3_keyed.specs.Index.{Layout, entry_in, entry_at}
 use Rattle.s3_keyed.specs.Inner.Shape.{entry_here, IsOfRecord}
 use Rattle.s3_keyed.specs.Inner.Sought.{StandsAs}

@@ -1,12 +1,10 @@
 -- The index of a file, in the sectors behind those of its records.
-use Rattle.std.specs.Prelude.{ℕ, ◌+◌, ◌-◌, ◌*◌, ◌/◌, ◌%◌, ◌≤◌, List, length, map, take, drop}
+use Rattle.std.specs.Prelude.{ℕ, ◌+◌, ◌-◌, ◌*◌, ◌/◌, ◌%◌, List, length, map, take, drop}
 use Rattle.std.specs.List.{range_with_len}
 use Rattle.byteorder.specs.Endian.{big_number}
 use Rattle.s3_store.specs.Bytes.{part}
-use Rattle.s3_store.specs.Stretches.{sectors_in}
-use Rattle.s3_slots.specs.Slots.{record_sectors, entries_per_sector, index_sectors}
+use Rattle.s3_slots.specs.Slots.{record_sectors, entries_per_sector}
 use Rattle.s3_slots.specs.declared.label.FileLabel.{FileLabel}
-use Rattle.s3_files.specs.Records.{records_in}
 use Rattle.s3_keyed.specs.KeyOrder.{number_of, Entry}
 
 -- where a key lies in a record: its length, and its start from 1
@@ -32,18 +30,6 @@ layout_of label = record {
   capacity = label.capacity;
   key = record { length = label.key_length; start = label.key_start };
 }
-
--- What a sound label of an indexed file says of it: its key lies in its records, and its index behind them fits.
-pub record HasIndex (label : FileLabel) : Type 0 where
-  pub some_key : 1 ≤ label.key_length
-  pub short_key : label.key_length ≤ 29
-  pub some_start : 1 ≤ label.key_start
-  pub inside : label.key_start + label.key_length ≤ label.record_length + 1
-  pub fits : record_sectors label.capacity label.record_length + index_sectors label.capacity label.key_length ≤ length (sectors_in label.extents)
-
--- the keys of the first so many records
-abbrev pub keys_at : Layout → (count : ℕ) → List ℕ → List ℕ
-keys_at layout count bytes = keys_of layout.key (records_in layout.record_length count bytes)
 
 -- the place of an entry: in the sectors behind those of the records, as many in each as fit
 abbrev pub entry_place : Layout → ℕ → ℕ

@@ -1,3 +1,8 @@
--- Words of inner functions and of proofs: none of them says what the product means.
+-- What the contracts of a run and of a session don't reach: words of inner functions, of proofs and of other calls.
+pub mod Calls
+pub mod Index
+pub mod KeyOrder
+pub mod Keyed
+pub mod Samples
 pub mod Shape
 pub mod Sought

@@ -1,5 +1,5 @@
 -- Keys as numbers, the order of records by key, and good indexes.
-use Rattle.std.specs.Prelude.{ℕ, ◌+◌, ◌-◌, ◌*◌, ◌^◌, ◌<◌, ◌==◌, Bool, true, false, ◌&&◌, nat_lt, List, [], ◌∷◌, length, map, slice_get, Option, Some, None, if◌then◌else◌}
+use Rattle.std.specs.Prelude.{ℕ, ◌+◌, ◌-◌, ◌*◌, ◌^◌, ◌==◌, Bool, true, false, ◌&&◌, nat_lt, List, [], ◌∷◌, length, map, slice_get, Option, Some, None, if◌then◌else◌}
 use Rattle.std.specs.List.{range_with_len, list_all, list_any}
 
 -- the number whose bytes these are, the highest first: keys of one length ascend as their numbers do
@@ -56,7 +56,3 @@ is_good_index entries keys =
     && ascends (keys_in entries)
     && list_all (λ number. list_any (λ entry. entry.number == number) entries) (range_with_len 1 (length keys))
     && list_all (λ entry. is_that_key entry.key (slice_get keys (entry.number - 1))) entries
-
--- the keys of the first n entries ascend
-abbrev pub IsAscending : (ℕ → Entry) → ℕ → Type 0
-IsAscending entry n = (i j : ℕ) → i < j → j < n → (entry i).key < (entry j).key

@@ -1,9 +1,10 @@
 //! Whether an index is that of the records.
 ghost use Rattle.std.specs.Prelude.{◌≡◌, ◌≢◌, ◌≤◌, ◌<◌, ◌+◌, ◌*◌, ◌/◌, ◌^◌, ℕ, IfOk, IfErr, MatchBool};
-ghost use Rattle.s3_store.specs.State.{KeepsContents};
-ghost use Rattle.s3_store.specs.Failures.{failed_transfers};
-ghost use Rattle.s3_files.specs.Files.{AreStored};
-ghost use Rattle.s3_keyed.specs.KeyOrder.{number_of, is_good_index, IsAscending};
+ghost use Rattle.s3_store.specs.Inner.State.{KeepsContents};
+ghost use Rattle.s3_store.specs.Inner.Failures.{failed_transfers};
+ghost use Rattle.s3_files.specs.Inner.Files.{AreStored};
+ghost use Rattle.s3_keyed.specs.KeyOrder.{number_of, is_good_index};
+ghost use Rattle.s3_keyed.specs.Inner.KeyOrder.{IsAscending};
 ghost use Rattle.s3_keyed.specs.Index.{index_in};
 ghost use Rattle.s3_keyed.specs.Inner.Shape.{layout_in, bytes_in, keys_on, entry_here};
 

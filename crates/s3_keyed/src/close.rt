@@ -1,11 +1,12 @@
 //! The added entries merged into the index.
 ghost use Rattle.std.specs.Prelude.{◌≡◌, ◌≢◌, ◌≤◌, ◌<◌, ◌+◌, ◌-◌, ◌^◌, ℕ, true, length, map, OnOk, IfOk, IfErr, MatchOption};
 ghost use Rattle.std.specs.List.{All, Contains};
-ghost use Rattle.s3_store.specs.State.{KeepsContents, ChangesWithin};
-ghost use Rattle.s3_store.specs.Failures.{failed_transfers};
-ghost use Rattle.s3_files.specs.Files.{AreStored};
+ghost use Rattle.s3_store.specs.Inner.State.{KeepsContents, ChangesWithin};
+ghost use Rattle.s3_store.specs.Inner.Failures.{failed_transfers};
+ghost use Rattle.s3_files.specs.Inner.Files.{AreStored};
 ghost use Rattle.s3_files.specs.Records.{records_in};
-ghost use Rattle.s3_keyed.specs.KeyOrder.{number_of, insert_entries, ascends, keys_in, IsAscending};
+ghost use Rattle.s3_keyed.specs.KeyOrder.{number_of, insert_entries, ascends, keys_in};
+ghost use Rattle.s3_keyed.specs.Inner.KeyOrder.{IsAscending};
 ghost use Rattle.s3_keyed.specs.Index.{entry_at, index_in};
 ghost use Rattle.s3_keyed.specs.Inner.Shape.{layout_in, bytes_in, entry_of};
 

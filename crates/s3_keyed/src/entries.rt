@@ -1,10 +1,10 @@
 //! The entries of an index, and the keys of records.
 ghost use Rattle.std.specs.Prelude.{◌≡◌, ◌≢◌, ◌≤◌, ◌<◌, ◌+◌, ◌-◌, ◌*◌, ◌^◌, ◌==◌, ℕ, length, IfOk, IfErr};
-ghost use Rattle.s3_store.specs.State.{KeepsContents};
-ghost use Rattle.s3_store.specs.Failures.{failed_transfers};
+ghost use Rattle.s3_store.specs.Inner.State.{KeepsContents};
+ghost use Rattle.s3_store.specs.Inner.Failures.{failed_transfers};
 ghost use Rattle.s3_store.specs.Bytes.{part};
 ghost use Rattle.s3_slots.specs.Slots.{record_sectors};
-ghost use Rattle.s3_files.specs.Files.{AreStored};
+ghost use Rattle.s3_files.specs.Inner.Files.{AreStored};
 ghost use Rattle.s3_keyed.specs.KeyOrder.{number_of};
 ghost use Rattle.s3_keyed.specs.Index.{entry_place, entry_at, key_of};
 ghost use Rattle.s3_keyed.specs.Inner.Shape.{layout_in, bytes_in, entry_of};

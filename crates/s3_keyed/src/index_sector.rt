@@ -1,11 +1,11 @@
 //! Sectors of an index, whose entries are looked at where they lie.
 ghost use Rattle.std.specs.Prelude.{◌≡◌, ◌≢◌, ◌≤◌, ◌<◌, ◌+◌, ◌*◌, ◌/◌, ◌^◌, ℕ, length, take, nat_lt, ◌==◌, OnOk, IfErr};
 ghost use Rattle.std.specs.Ordering.{nat_cmp};
-ghost use Rattle.s3_store.specs.State.{KeepsContents};
-ghost use Rattle.s3_store.specs.Failures.{failed_transfers};
+ghost use Rattle.s3_store.specs.Inner.State.{KeepsContents};
+ghost use Rattle.s3_store.specs.Inner.Failures.{failed_transfers};
 ghost use Rattle.s3_store.specs.Bytes.{part};
 ghost use Rattle.s3_slots.specs.Slots.{entries_per_sector as entries_of, index_sectors};
-ghost use Rattle.s3_files.specs.Files.{AreStored};
+ghost use Rattle.s3_files.specs.Inner.Files.{AreStored};
 ghost use Rattle.s3_keyed.specs.KeyOrder.{number_of};
 ghost use Rattle.s3_keyed.specs.Inner.Shape.{bytes_in, index_sector, entry_here};
 

@@ -27,9 +27,10 @@ pub struct IndexedFile {
 }
 
 impl IndexedFile {
-    ghost use Rattle.s3_files.specs.Files.{HasRoom};
+    ghost use Rattle.s3_files.specs.Inner.Files.{HasRoom};
     ghost use Rattle.s3_slots.specs.Labels.{sectors_of};
-    ghost use Rattle.s3_keyed.specs.Index.{HasIndex, layout_of};
+    ghost use Rattle.s3_keyed.specs.Inner.Index.{HasIndex};
+    ghost use Rattle.s3_keyed.specs.Index.{layout_of};
     ghost use Rattle.s3_keyed.specs.Inner.Shape.{layout_in};
 
     /// The file that a label describes.

@@ -1,14 +1,15 @@
 //! A file with keys that is open.
 ghost use Rattle.std.specs.Prelude.{◌≡◌, ◌≢◌, ◌≤◌, ◌<◌, ◌+◌, ◌-◌, ◌*◌, ◌^◌, ◌/◌, [], ◌∷◌, ◌++◌, ℕ, true, nat_lt, Ok, Err, None, Some, length, slice_get, take, OnOk, OnErr, IfOk, IfErr, IfSome, IsErrOf, IsTrue, ◌↔◌};
 ghost use Rattle.std.specs.List.{Contains, list_all};
-ghost use Rattle.s3_store.specs.State.{KeepsContents, ChangesWithin};
-ghost use Rattle.s3_store.specs.Failures.{failed_transfers};
-ghost use Rattle.s3_files.specs.Files.{AreStored};
+ghost use Rattle.s3_store.specs.Inner.State.{KeepsContents, ChangesWithin};
+ghost use Rattle.s3_store.specs.Inner.Failures.{failed_transfers};
+ghost use Rattle.s3_files.specs.Inner.Files.{AreStored};
 ghost use Rattle.s3_keyed.specs.KeyOrder.{number_of, key_order, is_good_index};
-ghost use Rattle.s3_files.specs.Records.{record_at};
+ghost use Rattle.s3_files.specs.Inner.Records.{record_at};
 ghost use Rattle.s3_keyed.specs.Index.{key_of, index_in};
 ghost use Rattle.s3_keyed.specs.Inner.Shape.{layout_in, bytes_in, keys_on};
-ghost use Rattle.s3_keyed.specs.Calls.{place_of_key, nth_by_key as nth_by_key_spec, with_added, with_loaded, with_updated, IsOfSectors, keyed_result, index_answer, unit_of, Answers, Leaves, OnRefusal, or_no_key, failed_keyed_transfers};
+ghost use Rattle.s3_keyed.specs.Calls.{place_of_key, nth_by_key as nth_by_key_spec, with_added, with_loaded, with_updated, keyed_result};
+ghost use Rattle.s3_keyed.specs.Inner.Calls.{IsOfSectors, index_answer, unit_of, Answers, Leaves, OnRefusal, or_no_key, failed_keyed_transfers};
 
 use crate::added::{insert_added, is_above_added, number_among};
 use crate::check::is_good;
@@ -41,11 +42,12 @@ pub struct Keyed {
 }
 
 impl Keyed {
-    ghost use Rattle.s3_keyed.specs.Keyed.{shown, records_now, keys_now, bytes_now, HasKeyOrder, IsSameFile, IsUntouched, opened_of};
+    ghost use Rattle.s3_keyed.specs.Inner.Keyed.{shown, records_now, keys_now, bytes_now, HasKeyOrder, IsSameFile, IsUntouched, opened_of};
     ghost use Rattle.s3_store.specs.Bytes.{bytes_at};
-    ghost use Rattle.s3_files.specs.Files.{HasRoom};
+    ghost use Rattle.s3_files.specs.Inner.Files.{HasRoom};
     ghost use Rattle.s3_slots.specs.Labels.{sectors_of};
-    ghost use Rattle.s3_keyed.specs.Index.{HasIndex, layout_of, keys_at};
+    ghost use Rattle.s3_keyed.specs.Inner.Index.{HasIndex, keys_at};
+    ghost use Rattle.s3_keyed.specs.Index.{layout_of};
 
     /// Opens the indexed file that a label describes, if its index is good, which takes one pass over its entries. Refused with
     /// `BadIndex` exactly where it isn't.

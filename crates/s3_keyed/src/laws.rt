@@ -1,15 +1,16 @@
 //! What the definitions say of themselves: worked rows.
 
 ghost use Rattle.std.specs.Prelude.{◌≡◌, ◌+◌, ◌++◌, ℕ, [], ◌∷◌, true, false, replicate, Some, None, Ok, Err};
-ghost use Rattle.s3_slots.specs.Kept.{IsOfPack};
+ghost use Rattle.s3_slots.specs.Inner.Kept.{IsOfPack};
 ghost use Rattle.s3_slots.specs.Labels.{is_indexed};
 ghost use Rattle.s3_slots.specs.Slots.{sectors_needed};
 ghost use Rattle.s3_slots.specs.declared.label.FileLabel.{FileLabel};
 ghost use Rattle.s3_slots.specs.declared.label.Organization.TheVariants.{Indexed};
 ghost use Rattle.s3_keyed.specs.KeyOrder.{key_order, insert_entries, is_good_index};
-ghost use Rattle.s3_keyed.specs.Index.{HasIndex, entry_place, index_in, keys_at};
+ghost use Rattle.s3_keyed.specs.Inner.Index.{HasIndex, keys_at};
+ghost use Rattle.s3_keyed.specs.Index.{entry_place, index_in};
 ghost use Rattle.s3_keyed.specs.Calls.{nth_by_key, place_of_key, with_added, with_loaded, with_updated};
-ghost use Rattle.s3_keyed.specs.Samples.{first_byte, ten_records, letter, b_and_a, two_letters, four_letters, entry};
+ghost use Rattle.s3_keyed.specs.Inner.Samples.{first_byte, ten_records, letter, b_and_a, two_letters, four_letters, entry};
 ghost use Rattle.s3_keyed.specs.declared.fault.KeyedFault.TheVariants.{Duplicate, Full, KeyChanged, NoKey, NotAscending};
 
 /// The index of B and A is c100000002c200000001 at the start of the next sector; no other order, key twice or zeros are good.

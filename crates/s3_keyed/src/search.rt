@@ -1,10 +1,11 @@
 //! An entry found by its key.
 ghost use Rattle.std.specs.Prelude.{◌≡◌, ◌≢◌, ◌≤◌, ◌<◌, ◌+◌, ◌^◌, ℕ, true, nat_lt, IfOk, IfErr, IfSome, MatchOption};
 ghost use Rattle.std.specs.List.{list_all};
-ghost use Rattle.s3_store.specs.State.{KeepsContents};
-ghost use Rattle.s3_store.specs.Failures.{failed_transfers};
-ghost use Rattle.s3_files.specs.Files.{AreStored};
-ghost use Rattle.s3_keyed.specs.KeyOrder.{number_of, ascends, keys_in, IsAscending};
+ghost use Rattle.s3_store.specs.Inner.State.{KeepsContents};
+ghost use Rattle.s3_store.specs.Inner.Failures.{failed_transfers};
+ghost use Rattle.s3_files.specs.Inner.Files.{AreStored};
+ghost use Rattle.s3_keyed.specs.KeyOrder.{number_of, ascends, keys_in};
+ghost use Rattle.s3_keyed.specs.Inner.KeyOrder.{IsAscending};
 ghost use Rattle.s3_keyed.specs.Index.{entry_at, index_in};
 ghost use Rattle.s3_keyed.specs.Inner.Shape.{layout_in, bytes_in};
 

@@ -1,6 +1,7 @@
 //! Where a key lies among the entries of one sector of an index.
 ghost use Rattle.std.specs.Prelude.{◌≡◌, ◌≤◌, ◌<◌, ◌+◌, ◌*◌, ◌/◌, ◌^◌, ℕ, length, IfSome};
-ghost use Rattle.s3_keyed.specs.KeyOrder.{number_of, IsAscending};
+ghost use Rattle.s3_keyed.specs.KeyOrder.{number_of};
+ghost use Rattle.s3_keyed.specs.Inner.KeyOrder.{IsAscending};
 ghost use Rattle.s3_keyed.specs.Inner.Shape.{entry_here};
 ghost use Rattle.s3_keyed.specs.Inner.Sought.{StandsAs};
 

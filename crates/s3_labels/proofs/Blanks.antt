@@ -6,7 +6,7 @@ use Rattle.std.specs.Prelude.{Result, Ok, Err, OnOk, true}
 use Rattle.std.specs.List.{All, Contains, range_with_len}
 use Rattle.s3_store.proofs.Frames.{within_trans, within_weaker}
 use Rattle.s3_store.proofs.SectorLists.{slice_get_set_same, slice_get_set_other}
-use Rattle.s3_store.specs.State.{PoolState, ChangesWithin}
+use Rattle.s3_store.specs.Inner.State.{PoolState, ChangesWithin}
 use Rattle.s3_store.specs.Stretches.{end_of, sectors_in}
 use Rattle.s3_store.specs.declared.stretch.Stretch.{Stretch}
 use Rattle.s3_slots.specs.Stretches.{IsIn}
@@ -14,7 +14,7 @@ use Rattle.s3_slots.proofs.Runs.{range_in, in_first, in_rest}
 use Rattle.s3_slots.specs.Labels.{is_direct, sectors_of}
 use Rattle.s3_slots.specs.declared.label.FileLabel.{FileLabel}
 use Rattle.s3_slots.specs.declared.label.Organization.TheVariants.{Direct}
-use Rattle.s3_labels.specs.Areas.{AreFilled, IsRecordOfDirect}
+use Rattle.s3_labels.specs.Inner.Areas.{AreFilled, IsRecordOfDirect}
 
 -- the sectors from a first one up to n are this one
 pub record AreSet (sector : List ℕ) (start n : ℕ) (contents : List (List ℕ)) : Type 0 where

@@ -4,19 +4,20 @@ use Rattle.std.specs.List.{position_from}
 use Rattle.s3_cards.specs.declared.levels.LevelId.{LevelId}
 use Rattle.s3_cards.specs.declared.levels.LevelId.TheVariants.{One, Two}
 use Rattle.s3_cards.specs.declared.name.Name.{Name}
-use Rattle.s3_store.specs.State.{PoolState, ChangesWithin}
+use Rattle.s3_store.specs.Inner.State.{PoolState, ChangesWithin}
 use Rattle.s3_slots.specs.Slots.{bears, standing, is_count_of}
-use Rattle.s3_slots.specs.Making.{refusal, changed_in, counted, dropped, with_count, without_label, unless_refused, made, IsNewFile}
+use Rattle.s3_slots.specs.Inner.Making.{refusal, with_count, without_label, unless_refused, IsNewFile}
+use Rattle.s3_slots.specs.Making.{changed_in, counted, dropped, made}
 use Rattle.s3_slots.specs.declared.making.LabelFault.{LabelFault}
 use Rattle.s3_slots.specs.declared.slot.Slot.{Slot}
 use Rattle.s3_slots.specs.declared.slot.Slot.TheVariants.{Free, Sound}
-use Rattle.s3_slots.specs.Kept.{AreKept}
+use Rattle.s3_slots.specs.Inner.Kept.{AreKept}
 use Rattle.s3_slots.specs.declared.label.FileLabel.{FileLabel}
 use Rattle.s3_slots.specs.declared.making.NewFile.{NewFile}
 use Rattle.s3_slots.specs.declared.slot.Standing.{Standing}
 use Rattle.s3_slots.specs.declared.slot.Standing.TheVariants.{Present}
 use Rattle.s3_slots.proofs.Judging.{counted_kept, dropped_kept, made_kept}
-use Rattle.s3_labels.specs.Areas.{Areas, IsReady, MayHave, region_at, slots_at, with_slots}
+use Rattle.s3_labels.specs.Inner.Areas.{Areas, IsReady, MayHave, region_at, slots_at, with_slots}
 use Rattle.s3_labels.proofs.Regions.{ready_region, ready_set}
 
 pub at_with : (level : LevelId) (slots : List Slot) (areas : Areas) → slots_at level (with_slots level slots areas) ≡ slots

@@ -3,7 +3,7 @@ use Rattle.std.proofs.Common.{◌≡◌, ℕ, zero, suc, ◌+◌, ◌≤◌, Lis
 use Rattle.std.proofs.lemmas.Grind.{flat_map-append}
 use Rattle.std.specs.List.{range_with_len, flat_map}
 use Rattle.s3_store.specs.Bytes.{sector_bytes, bytes_at}
-use Rattle.s3_labels.specs.Images.{migrated_byte, migrated_bytes}
+use Rattle.s3_labels.specs.Inner.Images.{migrated_byte, migrated_bytes}
 
 -- ---- the migrated bytes up to a place
 pub record IsMigrating (bytes : List ℕ) (at : ℕ) (done : List ℕ) : Type 0 where

@@ -12,7 +12,7 @@ use Rattle.s3_store.proofs.SectorParts.{sector_bytes-same}
 use Rattle.s3_store.specs.Bytes.{part}
 use Rattle.s3_store.specs.declared.stretch.Stretch.{Stretch}
 use Rattle.s3_slots.specs.Header.{region_of}
-use Rattle.s3_slots.specs.Kept.{AreKept}
+use Rattle.s3_slots.specs.Inner.Kept.{AreKept}
 use Rattle.s3_slots.specs.Labels.{label_in, name_in, sectors_of}
 use Rattle.s3_slots.specs.Slots.{bears, is_apart_from_slot, is_clear, is_disentangled, is_entangled, is_entangled_label, is_well_formed, judged, judged_behind, judged_label, labels_at, slot_bytes, slots_of}
 use Rattle.s3_slots.specs.declared.header.Format.{Format}
@@ -24,8 +24,10 @@ use Rattle.s3_slots.specs.Stretches.{IsIn, is_apart}
 use Rattle.s3_slots.proofs.Ranges.{take_all}
 use Rattle.s3_slots.proofs.Rooms.{sectors_apart}
 use Rattle.s3_slots.proofs.Runs.{in_first, in_rest}
-use Rattle.s3_labels.specs.Areas.{Areas, IsLabelSector, area_of, areas_on, region_at, slots_at}
-use Rattle.s3_labels.specs.Labelled.{IsUntangled, KeepsSaid, SaysSlots, slots_alone}
+use Rattle.s3_labels.specs.Inner.Areas.{Areas, areas_on, region_at, slots_at}
+use Rattle.s3_labels.specs.Areas.{IsLabelSector, area_of}
+use Rattle.s3_labels.specs.Untangled.{IsUntangled}
+use Rattle.s3_labels.specs.Inner.Labelled.{KeepsSaid, SaysSlots, slots_alone}
 use Rattle.s3_labels.proofs.NewSlots.{append_none, judged_behind_is, judged_later}
 
 -- ---- they are those of the label sectors

@@ -6,14 +6,15 @@ use Rattle.s3_cards.specs.declared.levels.LevelId.{LevelId}
 use Rattle.s3_cards.specs.declared.levels.LevelId.TheVariants.{One, Two}
 use Rattle.s3_cards.specs.declared.name.Name.{Name}
 use Rattle.s3_store.proofs.Frames.{within_trans, within_weaker}
-use Rattle.s3_store.specs.State.{PoolState, ChangesWithin}
+use Rattle.s3_store.specs.Inner.State.{PoolState, ChangesWithin}
 use Rattle.s3_store.specs.Stretches.{end_of}
 use Rattle.s3_store.specs.declared.stretch.Stretch.{Stretch}
 use Rattle.s3_slots.specs.Labels.{sectors_of}
 use Rattle.s3_slots.specs.Slots.{are_extents, labels_at, slot_bytes, standing}
 use Rattle.s3_store.specs.Bytes.{part}
 use Rattle.s3_store.proofs.SectorParts.{sector_bytes-same}
-use Rattle.s3_slots.specs.Making.{made, planned, and_then, file_in, found}
+use Rattle.s3_slots.specs.Making.{made}
+use Rattle.s3_slots.specs.Inner.Making.{planned, and_then, file_in, found}
 use Rattle.s3_slots.specs.declared.header.Format.{Format}
 use Rattle.s3_slots.specs.declared.label.FileLabel.{FileLabel}
 use Rattle.s3_slots.specs.declared.making.LabelFault.{LabelFault}
@@ -24,7 +25,8 @@ use Rattle.s3_slots.specs.declared.slot.Standing.{Standing}
 use Rattle.s3_slots.specs.declared.slot.Standing.TheVariants.{Absent}
 use Rattle.s3_slots.proofs.Ranges.{take_all}
 use Rattle.s3_slots.proofs.Keeping.{extents_inside, extents_there}
-use Rattle.s3_labels.specs.Areas.{Areas, IsReady, region_at, area_of, IsLabelSector, IsRecordOfDirect, IsOfMake, AreFilled}
+use Rattle.s3_labels.specs.Inner.Areas.{Areas, IsReady, region_at, IsRecordOfDirect, IsOfMake, AreFilled}
+use Rattle.s3_labels.specs.Areas.{area_of, IsLabelSector}
 use Rattle.s3_labels.proofs.Regions.{ready_region}
 
 -- ---- which sectors it changes

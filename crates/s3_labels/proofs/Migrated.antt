@@ -16,7 +16,7 @@ use Rattle.s3_slots.specs.declared.header.Format.TheVariants.{First, Second}
 use Rattle.s3_slots.specs.declared.label.Organization.{Organization}
 use Rattle.s3_slots.specs.declared.slot.Slot.{Slot}
 use Rattle.s3_slots.specs.declared.slot.Slot.TheVariants.{Damaged, Free}
-use Rattle.s3_labels.specs.Images.{is_further_extent, migrated_byte, migrated_bytes}
+use Rattle.s3_labels.specs.Inner.Images.{is_further_extent, migrated_byte, migrated_bytes}
 use Rattle.s3_labels.proofs.Sectors.{part_part, short_take, same_within, same_number, same_index}
 
 -- ---- one byte

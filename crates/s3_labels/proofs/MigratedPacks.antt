@@ -18,8 +18,9 @@ use Rattle.s3_slots.specs.declared.label.FileLabel.{FileLabel}
 use Rattle.s3_slots.specs.declared.slot.Slot.TheVariants.{Sound}
 use Rattle.s3_slots.proofs.Judging.{slots_kept}
 use Rattle.s3_slots.proofs.Keeping.{formed_parts, extents_inside}
-use Rattle.s3_labels.specs.Areas.{areas_on, slots_in}
-use Rattle.s3_labels.specs.Images.{contents_of, in_second, migrated, migrated_bytes, migrated_from, migrated_by}
+use Rattle.s3_labels.specs.Inner.Areas.{areas_on, slots_in}
+use Rattle.s3_labels.specs.Contents.{contents_of}
+use Rattle.s3_labels.specs.Inner.Images.{in_second, migrated, migrated_bytes, migrated_from, migrated_by}
 use Rattle.s3_labels.proofs.Headers.{first_text, header_of, second_format, still_mounted}
 use Rattle.s3_labels.proofs.Migrated.{IsOfOne, behind_same, index_migrated, kept_behind, kept_header, length_migrated, part_migrated, slot_of_one}
 use Rattle.s3_labels.proofs.Mounts.{mounted_itself, tested}

@@ -1,7 +1,7 @@
 -- What a mount gives, and what a store that comes back has.
 use Rattle.std.proofs.Common.{◌≡◌, ℕ, suc, ◌≤◌, Bool, true, false, not, List, [], ◌∷◌, length, slice_get, Option, Some, None, Result, Ok, Err, if◌then◌else◌, refl, sym, ap, ap₂, ◌∙◌, inl, inr, subst}
 use Rattle.std.specs.Prelude.{nat_lt}
-use Rattle.s3_store.specs.State.{PoolState, KeepsContents}
+use Rattle.s3_store.specs.Inner.State.{PoolState, KeepsContents}
 use Rattle.s3_store.specs.Bytes.{sector_bytes}
 use Rattle.s3_slots.specs.Header.{are_quotas, are_regions, accepted, header_by, format_in, mounted}
 use Rattle.s3_slots.specs.declared.header.Header.{Header}
@@ -9,10 +9,10 @@ use Rattle.s3_slots.specs.declared.header.MountFault.{MountFault}
 use Rattle.s3_slots.specs.declared.header.MountFault.TheVariants.{BadHeader, BadRegions, Short}
 use Rattle.s3_cards.specs.declared.levels.LevelId.{LevelId}
 use Rattle.s3_cards.specs.declared.levels.LevelId.TheVariants.{One, Two}
-use Rattle.s3_slots.specs.Kept.{AreKept}
+use Rattle.s3_slots.specs.Inner.Kept.{AreKept}
 use Rattle.s3_slots.specs.declared.slot.Slot.{Slot}
 use Rattle.s3_slots.proofs.Judging.{slots_kept}
-use Rattle.s3_labels.specs.Areas.{Areas, IsReady, areas_on, region_at, slots_at}
+use Rattle.s3_labels.specs.Inner.Areas.{Areas, IsReady, areas_on, region_at, slots_at}
 
 abbrev pub tested : Bool → Bool → Bool → Header → Result Header MountFault
 tested quotas regions few header =

@@ -9,7 +9,8 @@ use Rattle.s3_cards.specs.declared.name.Name.{Name}
 use Rattle.s3_cards.specs.Names.{is_name}
 use Rattle.s3_store.specs.Stretches.{end_of}
 use Rattle.s3_store.specs.declared.stretch.Stretch.{Stretch}
-use Rattle.s3_slots.specs.Labels.{extent_at, is_unused, IsWritable}
+use Rattle.s3_slots.specs.Inner.Labels.{extent_at, IsWritable}
+use Rattle.s3_slots.specs.Labels.{is_unused}
 use Rattle.s3_slots.specs.Stretches.{is_apart, is_apart_from_all, are_apart, is_inside}
 use Rattle.s3_slots.specs.Slots.{bears, is_clear, is_disentangled, is_extent, is_key_of, is_count_of, is_sound, is_well_formed, record_sectors, sectors_needed}
 use Rattle.s3_slots.specs.declared.label.FileLabel.{FileLabel}
@@ -18,7 +19,7 @@ use Rattle.s3_slots.specs.declared.label.Organization.TheVariants.{Direct, Index
 use Rattle.s3_slots.specs.declared.slot.Slot.{Slot}
 use Rattle.s3_slots.specs.declared.slot.Slot.TheVariants.{Damaged, Free, Sound}
 use Rattle.s3_slots.proofs.Keeping.{formed_parts, formed_from}
-use Rattle.s3_labels.specs.Images.{master_slot, moved, moved_label}
+use Rattle.s3_labels.specs.Inner.Images.{master_slot, moved, moved_label}
 use Rattle.s3_labels.proofs.Regions.{IsRegion}
 
 -- ---- an extent

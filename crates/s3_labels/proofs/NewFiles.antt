@@ -12,7 +12,7 @@ use Rattle.s3_store.specs.declared.stretch.Stretch.{Stretch}
 use Rattle.s3_slots.specs.Header.{are_quotas, mounted}
 use Rattle.s3_slots.specs.Labels.{file_bytes, sectors_of}
 use Rattle.s3_cards.proofs.NameLemmas.{same_name-equal, same_name-self}
-use Rattle.s3_slots.specs.Kept.{AreKept}
+use Rattle.s3_slots.specs.Inner.Kept.{AreKept}
 use Rattle.s3_slots.specs.Slots.{bears, is_damaged_under, is_extent, slot_at, standing, standing_with, judged, judged_behind, slot_bytes, slots_of}
 use Rattle.s3_slots.specs.declared.header.Format.{Format}
 use Rattle.s3_slots.specs.declared.header.Format.TheVariants.{Second}
@@ -22,8 +22,9 @@ use Rattle.s3_slots.specs.declared.slot.Slot.{Slot}
 use Rattle.s3_slots.specs.declared.slot.Slot.TheVariants.{Damaged, Free, Sound}
 use Rattle.s3_slots.specs.declared.slot.Standing.TheVariants.{Present}
 use Rattle.s3_slots.proofs.Judging.{slots_kept}
-use Rattle.s3_labels.specs.Areas.{Areas, areas_on}
-use Rattle.s3_labels.specs.Images.{Masters, contents_of, image_bytes, image_from, image_of, image_with_masters, master_bytes, master_slot, masters_from, moved, moved_label, new_areas, new_header, no_masters, regions_from, regions_of, with_free}
+use Rattle.s3_labels.specs.Inner.Areas.{Areas, areas_on}
+use Rattle.s3_labels.specs.Inner.Images.{Masters, image_bytes, image_from, image_of, image_with_masters, master_bytes, master_slot, masters_from, moved, moved_label, new_areas, new_header, no_masters, regions_from, regions_of, with_free}
+use Rattle.s3_labels.specs.Contents.{contents_of}
 use Rattle.s3_labels.specs.declared.fault.ImageFault.TheVariants.{BadQuota, TooLarge}
 use Rattle.s3_labels.proofs.Moved.{room_parts, within_parts}
 use Rattle.s3_labels.proofs.NewPacks.{IsNewPack, empty_area, header_sector, masters_judged, new_bytes, new_mounted, region_here}

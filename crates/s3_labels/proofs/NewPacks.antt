@@ -19,7 +19,8 @@ use Rattle.s3_slots.specs.declared.header.MountFault.TheVariants.{BadHeader, Bad
 use Rattle.s3_slots.specs.Slots.{judged_behind, slots_of}
 use Rattle.s3_slots.specs.declared.slot.Slot.{Slot}
 use Rattle.s3_slots.specs.declared.slot.Slot.TheVariants.{Free}
-use Rattle.s3_labels.specs.Images.{contents_of, header_bytes, image_of, master_bytes, master_slot, with_free, padded, regions_of, Masters}
+use Rattle.s3_labels.specs.Contents.{contents_of}
+use Rattle.s3_labels.specs.Inner.Images.{header_bytes, image_of, master_bytes, master_slot, with_free, padded, regions_of, Masters}
 use Rattle.s3_labels.proofs.Headers.{second_format, still_mounted}
 use Rattle.s3_labels.proofs.Moved.{target}
 use Rattle.s3_labels.proofs.NewSlots.{AreJudged, chunks_labels, chunks_zero, drop_zeros, judged_again, master_part, parts_slots, zeros_free}

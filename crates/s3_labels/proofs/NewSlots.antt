@@ -14,7 +14,8 @@ use Rattle.s3_store.specs.Stretches.{end_of}
 use Rattle.s3_store.specs.Bytes.{part}
 use Rattle.s3_store.specs.declared.stretch.Stretch.{Stretch}
 use Rattle.s3_slots.specs.Header.{stretch_at}
-use Rattle.s3_slots.specs.Labels.{extent_at, extent_bytes, extents_in, label_bytes, label_in, label_with, name_in, organization_by, organization_code, retention_by, retention_code, used_count}
+use Rattle.s3_slots.specs.Inner.Labels.{extent_at, extent_bytes, label_bytes, organization_code, retention_code}
+use Rattle.s3_slots.specs.Labels.{extents_in, label_in, label_with, name_in, organization_by, retention_by, used_count}
 use Rattle.s3_slots.specs.Slots.{is_disentangled, is_sound, is_well_formed, judged, judged_behind, judged_label}
 use Rattle.s3_slots.specs.declared.header.Format.{Format}
 use Rattle.s3_slots.specs.declared.header.Format.TheVariants.{First, Second}
@@ -24,7 +25,7 @@ use Rattle.s3_slots.specs.declared.slot.Slot.{Slot}
 use Rattle.s3_slots.specs.declared.slot.Slot.TheVariants.{Damaged, Free, Sound}
 use Rattle.s3_slots.proofs.Keeping.{push_cases}
 use Rattle.s3_slots.proofs.ReadBack.{reads_back}
-use Rattle.s3_labels.specs.Images.{master_bytes, master_slot, moved_label}
+use Rattle.s3_labels.specs.Inner.Images.{master_bytes, master_slot, moved_label}
 use Rattle.s3_labels.proofs.Moved.{AreFormed, IsRead, moved_formed, moved_read, moved_sound, target, writable}
 use Rattle.s3_labels.proofs.Regions.{IsRegion}
 use Rattle.s3_labels.proofs.Sectors.{part_length}

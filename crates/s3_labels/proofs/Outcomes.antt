@@ -2,17 +2,17 @@
 use Rattle.std.proofs.Common.{◌≡◌, ◌≢◌, ℕ, ◌+◌, ◌/◌, List, Result, Ok, Err, refl, sym, ap, ◌∙◌, subst, arith, inl, inr, ◌⊎◌}
 use Rattle.std.specs.Prelude.{IfErr, OnErr}
 use Rattle.std.specs.Result.{IsErrAnd}
-use Rattle.s3_store.specs.Failures.{failed_transfers}
+use Rattle.s3_store.specs.Inner.Failures.{failed_transfers}
 use Rattle.s3_store.specs.declared.pool_fault.PoolFault.{PoolFault}
 use Rattle.s3_store.specs.declared.pool_fault.PoolFault.TheVariants.{Device, NoMemory as NoMemoryForSectors, NoSector}
 use Rattle.s3_slots.specs.declared.making.LabelFault.{LabelFault}
 use Rattle.s3_slots.specs.declared.slot.Slot.{Slot}
-use Rattle.s3_labels.specs.Areas.{IsChangeRefusal, IsOfSectors, failed_change}
+use Rattle.s3_labels.specs.Inner.Areas.{IsChangeRefusal, IsOfSectors, failed_change}
 use Rattle.s3_labels.specs.declared.fault.ChangeFault.{ChangeFault}
 use Rattle.s3_labels.specs.declared.fault.ChangeFault.TheVariants.{Label, Sectors as ChangedSectors}
 use Rattle.s3_slots.specs.Header.{mounted}
 use Rattle.s3_slots.specs.declared.header.Header.{Header}
-use Rattle.s3_labels.specs.Images.{IsImageFault, image_from, image_with_masters, new_header, masters_from}
+use Rattle.s3_labels.specs.Inner.Images.{IsImageFault, image_from, image_with_masters, new_header, masters_from}
 use Rattle.s3_labels.specs.declared.fault.ImageFault.{ImageFault}
 use Rattle.s3_labels.specs.declared.fault.ImageFault.TheVariants.{Mount, TooLarge, NoMemory, BadQuota}
 

@@ -2,10 +2,12 @@
 use Rattle.std.proofs.Common.{◌≡◌, ◌≢◌, ℕ, zero, suc, ◌+◌, ◌*◌, ◌/◌, ◌%◌, ◌<◌, ◌≤◌, List, [], ◌∷◌, ◌++◌, length, take, drop, slice_get, slice_set, unwrap_or, replicate, refl, sym, ap, ◌∙◌, arith, inl, inr, ◌⊎◌, Result, Ok, Err, OnOk, OnErr, append_assoc, length-append, length-drop}
 use Rattle.s3_store.proofs.SectorLists.{slice_get_set_same, slice_get_set_other}
 use Rattle.s3_store.proofs.Frames.{within_weaker}
-use Rattle.s3_store.specs.State.{PoolState, ChangesWithin}
+use Rattle.s3_store.specs.Inner.State.{PoolState, ChangesWithin}
 use Rattle.byteorder.specs.Endian.{big_bytes}
-use Rattle.s3_labels.specs.Areas.{IsLabelSector, with_count_bytes}
-use Rattle.s3_store.specs.Bytes.{sector_bytes, part, with_piece}
+use Rattle.s3_labels.specs.Areas.{IsLabelSector}
+use Rattle.s3_labels.specs.Inner.Areas.{with_count_bytes}
+use Rattle.s3_store.specs.Bytes.{sector_bytes, part}
+use Rattle.s3_store.specs.Inner.Bytes.{with_piece}
 use Rattle.s3_store.specs.declared.pool_fault.PoolFault.{PoolFault}
 use Rattle.s3_slots.specs.Slots.{slot_bytes, labels_at}
 use Rattle.s3_slots.proofs.Ranges.{take_all}

@@ -8,18 +8,19 @@ use Rattle.s3_cards.specs.declared.levels.LevelId.TheVariants.{One, Two}
 use Rattle.s3_store.specs.Stretches.{end_of}
 use Rattle.s3_store.specs.declared.stretch.Stretch.{Stretch}
 use Rattle.s3_cards.specs.declared.name.Name.{Name}
-use Rattle.s3_slots.specs.Kept.{AreKept, IsOfPack}
+use Rattle.s3_slots.specs.Inner.Kept.{AreKept, IsOfPack}
 use Rattle.s3_slots.specs.Slots.{standing}
 use Rattle.s3_slots.specs.declared.label.FileLabel.{FileLabel}
 use Rattle.s3_slots.specs.declared.slot.Slot.TheVariants.{Sound}
 use Rattle.s3_slots.specs.declared.slot.Standing.TheVariants.{Present}
 use Rattle.s3_slots.proofs.Makes.{present_at}
-use Rattle.s3_slots.specs.Stretches.{IsIn, IsWhole, is_apart, is_apart_from_all, are_apart}
+use Rattle.s3_slots.specs.Stretches.{IsIn, is_apart, is_apart_from_all, are_apart}
+use Rattle.s3_slots.specs.Inner.Stretches.{IsWhole}
 use Rattle.s3_slots.proofs.Rooms.{apart_sectors}
 use Rattle.s3_slots.specs.declared.slot.Slot.{Slot}
 use Rattle.s3_slots.specs.Header.{are_quotas, is_region, are_regions, regions, region_of, accepted, mounted}
 use Rattle.s3_slots.specs.declared.header.Header.{Header}
-use Rattle.s3_labels.specs.Areas.{Areas, ArePlaced, IsReady, region_at, slots_at, with_slots}
+use Rattle.s3_labels.specs.Inner.Areas.{Areas, ArePlaced, IsReady, region_at, slots_at, with_slots}
 use Rattle.s3_labels.proofs.Mounts.{tested, mounted_itself}
 
 -- whole tracks behind the spool blocks, all of them there

@@ -16,9 +16,11 @@ use Rattle.s3_store.proofs.SectorParts.{length-sector_bytes}
 use Rattle.s3_store.specs.Bytes.{part, sector_bytes}
 use Rattle.s3_store.specs.declared.stretch.Stretch.{Stretch}
 use Rattle.s3_slots.specs.Header.{stretch_at}
-use Rattle.s3_slots.specs.Kept.{AreKept}
-use Rattle.s3_slots.specs.Labels.{IsWritable, extents_in, label_bytes, label_in, label_with, name_by, name_in, organization_by, retention_by, used}
-use Rattle.s3_slots.specs.Making.{IsNewFile, changed_at, changed_in, dropped, is_permanent, made, new_label, put, put_at, put_in, put_over, refusal, tracks_of}
+use Rattle.s3_slots.specs.Inner.Kept.{AreKept}
+use Rattle.s3_slots.specs.Inner.Labels.{IsWritable, label_bytes}
+use Rattle.s3_slots.specs.Labels.{extents_in, label_in, label_with, name_by, name_in, organization_by, retention_by, used}
+use Rattle.s3_slots.specs.Inner.Making.{IsNewFile, refusal}
+use Rattle.s3_slots.specs.Making.{changed_at, changed_in, dropped, is_permanent, made, new_label, put, put_at, put_in, put_over, tracks_of}
 use Rattle.s3_slots.specs.Placement.{free_slot, placed, placed_or, lowest_place}
 use Rattle.s3_slots.specs.Slots.{bears, is_sound, is_well_formed, judged, judged_label, labels_at, slot_bytes, standing}
 use Rattle.s3_slots.specs.declared.header.Format.{Format}
@@ -37,8 +39,9 @@ use Rattle.s3_slots.proofs.Makes.{dropped_is, present_is, present_somewhere}
 use Rattle.s3_slots.proofs.NewFiles.{new_tracks}
 use Rattle.s3_slots.proofs.ReadBack.{reads_back, reads_back_first}
 use Rattle.s3_slots.proofs.Rooms.{placed_is}
-use Rattle.s3_labels.specs.Areas.{Areas, IsReady, area_of, region_at, slots_at, with_count_bytes, with_slots}
-use Rattle.s3_labels.specs.Labelled.{KeepsSaid, SaysSlots, slots_alone}
+use Rattle.s3_labels.specs.Inner.Areas.{Areas, IsReady, region_at, slots_at, with_count_bytes, with_slots}
+use Rattle.s3_labels.specs.Areas.{area_of}
+use Rattle.s3_labels.specs.Inner.Labelled.{KeepsSaid, SaysSlots, slots_alone}
 use Rattle.s3_labels.proofs.Labelled.{sound_alone}
 use Rattle.s3_labels.proofs.Moved.{IsRead, writable}
 use Rattle.s3_labels.proofs.Parts.{drop_behind, part_before, part_put}

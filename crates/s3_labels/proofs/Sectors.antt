@@ -10,7 +10,7 @@ use Rattle.s3_store.specs.Bytes.{sector_bytes, part}
 use Rattle.s3_store.specs.declared.stretch.Stretch.{Stretch}
 use Rattle.s3_slots.specs.Slots.{judged_behind, labels_at, slot_bytes, slots_of}
 use Rattle.s3_slots.specs.declared.header.Format.{Format}
-use Rattle.s3_labels.specs.Images.{contents_of}
+use Rattle.s3_labels.specs.Contents.{contents_of}
 use Rattle.s3_labels.proofs.Ways.{sector_read}
 
 -- ---- parts

@@ -1,5 +1,4 @@
 pub mod Areas
-pub mod Images
-pub mod Labelled
-pub mod Samples
-pub mod Written
+pub mod Contents
+pub mod Untangled
+pub mod Inner

@@ -3,8 +3,9 @@ ghost use Rattle.std.specs.Prelude.{◌≡◌, ◌≤◌, ◌<◌, ◌+◌, leng
 ghost use Rattle.std.specs.List.{position_from};
 ghost use Rattle.s3_slots.specs.Header.{quota_of};
 ghost use Rattle.s3_slots.specs.Slots.{are_extents, bears, standing};
-ghost use Rattle.s3_slots.specs.Stretches.{IsWhole};
-ghost use Rattle.s3_slots.specs.Making.{made, tracks_of, refusal, changed_in, new_label, dropped};
+ghost use Rattle.s3_slots.specs.Inner.Stretches.{IsWhole};
+ghost use Rattle.s3_slots.specs.Making.{made, tracks_of, changed_in, new_label, dropped};
+ghost use Rattle.s3_slots.specs.Inner.Making.{refusal};
 ghost use Rattle.s3_slots.specs.Placement.{free_slot};
 ghost use Rattle.s3_store.specs.Stretches.{end_of};
 ghost use Rattle.s3_slots.specs.declared.slot.Slot.TheVariants.{Free, Sound};
@@ -26,7 +27,7 @@ pub struct AreaSlots {
 
 impl Model for AreaSlots {
     ghost use Rattle.std.specs.Prelude.{◌≡◌, length};
-    ghost use Rattle.s3_labels.specs.Areas.{Areas};
+    ghost use Rattle.s3_labels.specs.Inner.Areas.{Areas};
 
     ghost Value = { Areas };
 
@@ -36,7 +37,7 @@ impl Model for AreaSlots {
 }
 
 impl AreaSlots {
-    ghost use Rattle.s3_labels.specs.Areas.{Areas, slots_at, slots_in, region_at, with_slots};
+    ghost use Rattle.s3_labels.specs.Inner.Areas.{Areas, slots_at, slots_in, region_at, with_slots};
 
     /// These slots, 32 of each area.
     pub fn of(

@@ -2,9 +2,9 @@
 ghost use Rattle.std.specs.Prelude.{ℕ, List, ◌≡◌, ◌≤◌, ◌/◌, [], ◌∷◌, slice_get, Some, None, Ok, Err};
 ghost use Rattle.s3_cards.specs.declared.levels.LevelId.{LevelId};
 ghost use Rattle.std.specs.List.{flat_map};
-ghost use Rattle.s3_slots.specs.Samples.{all_ff, extents_under, named, no_label, ten, ten_bytes, two_files};
+ghost use Rattle.s3_slots.specs.Inner.Samples.{all_ff, extents_under, named, no_label, ten, ten_bytes, two_files};
 ghost use Rattle.s3_slots.specs.Header.{mounted, region_of};
-ghost use Rattle.s3_slots.specs.Kept.{AreKept};
+ghost use Rattle.s3_slots.specs.Inner.Kept.{AreKept};
 ghost use Rattle.s3_slots.specs.Labels.{file_bytes};
 ghost use Rattle.s3_slots.specs.Slots.{slots_of, standing};
 ghost use Rattle.s3_slots.specs.declared.header.Header.{Header};
@@ -12,10 +12,13 @@ ghost use Rattle.s3_slots.specs.declared.label.FileLabel.{FileLabel};
 ghost use Rattle.s3_slots.specs.declared.slot.Slot.TheVariants.{Sound};
 ghost use Rattle.s3_slots.specs.declared.slot.Standing.TheVariants.{Blocked, Present};
 ghost use Rattle.s3_slots.specs.declared.header.Format.TheVariants.{First, Second};
-ghost use Rattle.s3_labels.specs.Areas.{Areas, IsLabelSector, area_of, areas_on, region_at, slots_at, slots_in};
-ghost use Rattle.s3_labels.specs.Images.{contents_of, header_bytes, image_bytes, in_second, master_slot, migrated, migrated_byte, migrated_bytes, moved_label, new_areas, new_header, regions_from, regions_of};
-ghost use Rattle.s3_labels.specs.Labelled.{IsUntangled, KeepsSaid, SaysSlots, slots_alone};
-ghost use Rattle.s3_labels.specs.Samples.{bytes_of, first_sectors, labels_in, second_track};
+ghost use Rattle.s3_labels.specs.Inner.Areas.{Areas, areas_on, region_at, slots_at, slots_in};
+ghost use Rattle.s3_labels.specs.Areas.{IsLabelSector, area_of};
+ghost use Rattle.s3_labels.specs.Contents.{contents_of};
+ghost use Rattle.s3_labels.specs.Inner.Images.{header_bytes, image_bytes, in_second, master_slot, migrated, migrated_byte, migrated_bytes, moved_label, new_areas, new_header, regions_from, regions_of};
+ghost use Rattle.s3_labels.specs.Untangled.{IsUntangled};
+ghost use Rattle.s3_labels.specs.Inner.Labelled.{KeepsSaid, SaysSlots, slots_alone};
+ghost use Rattle.s3_labels.specs.Inner.Samples.{bytes_of, first_sectors, labels_in, second_track};
 ghost use Rattle.s3_labels.specs.declared.fault.ImageFault.TheVariants.{BadQuota, TooLarge};
 
 /// The header of a new pack, how large it may be, and its refusals in their order.

@@ -1,6 +1,6 @@
 //! Packs of the first format brought into the second.
 ghost use Rattle.std.specs.Prelude.{◌≡◌, Ok, IfOk, IfErr};
-ghost use Rattle.s3_labels.specs.Images.{is_further_extent as is_further_spec, migrated_byte as migrated_byte_spec, migrated_bytes as migrated_bytes_spec, migrated, IsMigrateFault};
+ghost use Rattle.s3_labels.specs.Inner.Images.{is_further_extent as is_further_spec, migrated_byte as migrated_byte_spec, migrated_bytes as migrated_bytes_spec, migrated, IsMigrateFault};
 
 use crate::fault::{MigrateFault, Refusal};
 use crate::pack::read_header;

@@ -5,7 +5,8 @@ ghost use Rattle.std.specs.List.{flat_map, range_with_len};
 ghost use Rattle.byteorder.specs.Endian.{big_bytes};
 ghost use Rattle.s3_store.specs.Bytes.{bytes_at};
 ghost use Rattle.s3_slots.specs.Header.{mounted};
-ghost use Rattle.s3_labels.specs.Images.{contents_of, new_header as new_header_spec, region_bytes, header_bytes, padded, image_of, moved as moved_spec, moved_label as moved_label_spec, master_bytes as master_bytes_spec, no_masters, masters_from, image_from, image_bytes, IsImageFault};
+ghost use Rattle.s3_labels.specs.Contents.{contents_of};
+ghost use Rattle.s3_labels.specs.Inner.Images.{new_header as new_header_spec, region_bytes, header_bytes, padded, image_of, moved as moved_spec, moved_label as moved_label_spec, master_bytes as master_bytes_spec, no_masters, masters_from, image_from, image_bytes, IsImageFault};
 
 use crate::fault::{ImageFault, Refusal};
 use crate::pack::read_header;

@@ -1,16 +1,18 @@
 //! A pack.
 ghost use Rattle.std.specs.Prelude.{◌≡◌, ◌≢◌, ◌≤◌, ◌<◌, ◌+◌, ℕ, length, slice_get, replicate, Ok, Err, Some, true, OnOk, OnErr, IsOk, ◌⊎◌, IfOk, IfErr};
 ghost use Rattle.std.specs.List.{All, position_from};
-ghost use Rattle.s3_store.specs.State.{KeepsContents, ChangesWithin};
+ghost use Rattle.s3_store.specs.Inner.State.{KeepsContents, ChangesWithin};
 ghost use Rattle.s3_slots.specs.Header.{mounted};
 ghost use Rattle.s3_slots.specs.Labels.{is_direct, sectors_of};
 ghost use Rattle.s3_slots.specs.Slots.{standing, are_extents, bears, slot_bytes};
-ghost use Rattle.s3_slots.specs.Kept.{IsOfPack};
+ghost use Rattle.s3_slots.specs.Inner.Kept.{IsOfPack};
 ghost use Rattle.s3_slots.specs.Placement.{free_slot};
-ghost use Rattle.s3_slots.specs.Making.{found, made, planned, with_count, without_label, IsNewFile, new_label, dropped};
-ghost use Rattle.s3_labels.specs.Areas.{slots_at, slots_in, region_at, with_slots, area_of as area_of_spec, areas_on, IsReady, IsRefusal, failed_by, failed_mount, IsChangeRefusal, IsOfSectors, failed_change, IsLabelSector, IsOfMake, AreFilled, IsPlanRefusal, MayHave, with_count_bytes};
-ghost use Rattle.s3_labels.specs.Labelled.{KeepsSaid};
-ghost use Rattle.s3_labels.specs.Written.{IsWritten, WritesSlot};
+ghost use Rattle.s3_slots.specs.Inner.Making.{found, planned, with_count, without_label, IsNewFile};
+ghost use Rattle.s3_slots.specs.Making.{made, new_label, dropped};
+ghost use Rattle.s3_labels.specs.Inner.Areas.{slots_at, slots_in, region_at, with_slots, areas_on, IsReady, IsRefusal, failed_by, failed_mount, IsChangeRefusal, IsOfSectors, failed_change, IsOfMake, AreFilled, IsPlanRefusal, MayHave, with_count_bytes};
+ghost use Rattle.s3_labels.specs.Areas.{area_of as area_of_spec, IsLabelSector};
+ghost use Rattle.s3_labels.specs.Inner.Labelled.{KeepsSaid};
+ghost use Rattle.s3_labels.specs.Inner.Written.{IsWritten, WritesSlot};
 
 use crate::areas::{AreaSlots, copy_of};
 use crate::fault::{ChangeFault, PlanFault, Refusal};

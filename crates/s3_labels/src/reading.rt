@@ -1,7 +1,7 @@
 //! The labels of a pack, read.
 ghost use Rattle.std.specs.Prelude.{◌≡◌, ◌≢◌, ◌≤◌, ◌<◌, ◌+◌, length, IfOk, IfErr};
-ghost use Rattle.s3_store.specs.State.{KeepsContents};
-ghost use Rattle.s3_store.specs.Failures.{failed_transfers};
+ghost use Rattle.s3_store.specs.Inner.State.{KeepsContents};
+ghost use Rattle.s3_store.specs.Inner.Failures.{failed_transfers};
 ghost use Rattle.s3_store.specs.Bytes.{sector_bytes};
 ghost use Rattle.s3_slots.specs.Slots.{slot_bytes, slots_of};
 

@@ -1,13 +1,15 @@
 //! The labels of a pack, written.
 ghost use Rattle.std.specs.Prelude.{◌≡◌, ◌≢◌, ◌≤◌, ◌<◌, ◌+◌, ◌*◌, ◌/◌, ◌++◌, ℕ, length, take, drop, replicate, slice_get, Some, true, OnOk, IfErr, IfSome};
-ghost use Rattle.s3_store.specs.State.{ChangesWithin};
-ghost use Rattle.s3_store.specs.Failures.{failed_transfers};
+ghost use Rattle.s3_store.specs.Inner.State.{ChangesWithin};
+ghost use Rattle.s3_store.specs.Inner.Failures.{failed_transfers};
 ghost use Rattle.s3_slots.specs.Slots.{slot_bytes};
-ghost use Rattle.s3_slots.specs.Labels.{label_bytes, is_direct, sectors_of};
+ghost use Rattle.s3_slots.specs.Inner.Labels.{label_bytes};
+ghost use Rattle.s3_slots.specs.Labels.{is_direct, sectors_of};
 ghost use Rattle.s3_slots.specs.Stretches.{IsIn};
 ghost use Rattle.s3_store.specs.Stretches.{end_of, sectors_in};
 ghost use Rattle.std.specs.List.{All, Contains};
-ghost use Rattle.s3_labels.specs.Areas.{IsLabelSector, IsRecordOfDirect, AreFilled, with_count_bytes};
+ghost use Rattle.s3_labels.specs.Areas.{IsLabelSector};
+ghost use Rattle.s3_labels.specs.Inner.Areas.{IsRecordOfDirect, AreFilled, with_count_bytes};
 
 use crate::reading::read_slot;
 use byteorder::{BigEndian, ByteOrder};

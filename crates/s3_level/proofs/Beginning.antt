@@ -7,7 +7,7 @@ use Rattle.s3_solo.specs.declared.action.Did.TheVariants.{Acted, Idle}
 use Rattle.s3_solo.specs.World.{World}
 use Rattle.s3_solo.specs.Serving.{begun}
 use Rattle.s3_level.specs.declared.level.Level.{Level}
-use Rattle.s3_level.specs.Holds.{Becomes, HoldsParts, Shown}
+use Rattle.s3_level.specs.Inner.Holds.{Becomes, HoldsParts, Shown}
 use Rattle.s3_level.specs.Inner.Turning.{Begins, Starts}
 
 -- no job is left

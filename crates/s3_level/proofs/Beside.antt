@@ -1,24 +1,25 @@
 -- What a call of one level leaves of the pack and the queues beside it.
 use Rattle.std.proofs.Common.{◌≡◌, ◌⊎◌, inl, inr, ℕ, ◌<◌, ◌≤◌, List, length, slice_get, Some, Result, Ok, refl, sym, ap, subst, ◌∙◌, arith}
-use Rattle.s3_cards.specs.Levels.{other}
+use Rattle.s3_cards.specs.Inner.Levels.{other}
 use Rattle.s3_cards.specs.Printed.{Printed}
 use Rattle.s3_cards.specs.declared.levels.LevelId.{LevelId}
 use Rattle.s3_cards.specs.declared.levels.LevelId.TheVariants.{One, Two}
-use Rattle.s3_store.specs.State.{PoolState, ChangesWithin, KeepsContents, KeepsInStep}
+use Rattle.s3_store.specs.Inner.State.{PoolState, ChangesWithin, KeepsContents, KeepsInStep}
 use Rattle.s3_slots.specs.Header.{accepted, region_of}
 use Rattle.s3_slots.specs.Stretches.{IsIn}
 use Rattle.s3_slots.specs.declared.header.Header.{Header}
-use Rattle.s3_labels.specs.Areas.{Areas, IsLabelSector, area_of, slots_at, with_slots, IsReady as IsPackReady}
+use Rattle.s3_labels.specs.Inner.Areas.{Areas, slots_at, with_slots, IsReady as IsPackReady}
+use Rattle.s3_labels.specs.Areas.{IsLabelSector, area_of}
 use Rattle.s3_labels.proofs.Changes.{header_with}
 use Rattle.s3_labels.proofs.Regions.{accepted_placed, ready_region}
-use Rattle.s3_job_files.specs.Holds.{IsOutOfReach, seen}
+use Rattle.s3_job_files.specs.Inner.Holds.{IsOutOfReach, seen}
 use Rattle.s3_job_files.proofs.Staying.{SeesSame, ready_over as files_ready_over}
-use Rattle.s3_spool.specs.Queues.{Blocks, IsFreeSector, block_sector, blocks_of, lines_in, queue_of, quota_of}
+use Rattle.s3_spool.specs.Inner.Queues.{Blocks, IsFreeSector, block_sector, blocks_of, lines_in, queue_of, quota_of}
 use Rattle.s3_spool.proofs.QueueLemmas.{SameBlocks, same_queue}
 use Rattle.s3_solo.specs.World.{World}
 use Rattle.s3_level.specs.declared.level.Level.{Level}
 use Rattle.s3_level.specs.declared.taken.Taken.{Taken}
-use Rattle.s3_level.specs.Holds.{AreAll, Around, HoldsParts, IsBeyond, IsReady, KeepsOthers, Shown, Spares, around, open_files, shown, with_seen}
+use Rattle.s3_level.specs.Inner.Holds.{AreAll, Around, HoldsParts, IsBeyond, IsReady, KeepsOthers, Shown, Spares, around, open_files, shown, with_seen}
 use Rattle.s3_level.specs.Inner.Turning.{TakesTurns}
 
 -- ---- sectors

@@ -7,15 +7,15 @@ use Rattle.s3_sheets.specs.Lines.{lines_of}
 use Rattle.s3_sheets.specs.Sheets.{sheet_diagnostics}
 use Rattle.s3_meaning.specs.Source.{Source, source_of}
 use Rattle.s3_program.specs.declared.program.Program.{Program}
-use Rattle.s3_program.specs.Stands.{Stands}
-use Rattle.s3_program.specs.Translation.{StandsFor}
+use Rattle.s3_program.specs.Inner.Stands.{Stands}
+use Rattle.s3_program.specs.Inner.Translation.{StandsFor}
 use Rattle.s3_diagnose.specs.Diagnostics.{compile_diagnostics}
 use Rattle.s3_solo.specs.Serving.{compiled, compiled_data, details_of, first_else, halting, stocked}
 use Rattle.s3_operator.specs.declared.halt_code.HaltCode.TheVariants.{FaultySource}
 use Rattle.s3_lines.specs.declared.diagnostic.Diagnostic.{Diagnostic}
 use Rattle.s3_level.specs.declared.job.OpenJob.{OpenJob}
 use Rattle.s3_solo.specs.World.{World, JobAtWork}
-use Rattle.s3_level.specs.Holds.{HoldsAtWork, Stocks, Becomes}
+use Rattle.s3_level.specs.Inner.Holds.{HoldsAtWork, Stocks, Becomes}
 
 -- a source without diagnostics goes into the library, as the program that stands for its lines
 pub stocked_source : {T E : Type 0} (result : Result T E) (number run_card : ℕ) (lines : List Line) (program : Program) (old new : World → Type 0)

@@ -4,7 +4,7 @@ use Rattle.std.specs.List.{list_all}
 use Rattle.std.proofs.lemmas.Bool.{and_parts}
 use Rattle.std.proofs.lemmas.Bool.Decides.{nat_tests}
 use Rattle.s3_cards.specs.Names.{is_digit}
-use Rattle.s3_operations.specs.Beginning.{IsDate, are_digits}
+use Rattle.s3_operations.specs.Inner.Beginning.{IsDate, are_digits}
 use Rattle.s3_operations.proofs.BeginLemmas.{date_of_digits}
 
 low_half : (code : ℕ) → is_digit code ≡ true → nat_lt (code % 16) 10 ≡ true

@@ -2,11 +2,11 @@
 use Rattle.std.proofs.Common.{◌≡◌, ℕ, zero, suc, ◌+◌, ◌≤◌, List, [], ◌∷◌, ◌++◌, length, replicate, Bool, true, false, if◌then◌else◌, Some, None, refl, sym, ap, subst, ◌∙◌, arith, lt-ltb, le-ltb, length-append, append_assoc}
 use Rattle.std.proofs.lemmas.Bool.{ltb-false}
 use Rattle.s3_cards.specs.Printed.{Printed}
-use Rattle.s3_store.specs.State.{PoolState, KeepsContents}
+use Rattle.s3_store.specs.Inner.State.{PoolState, KeepsContents}
 use Rattle.s3_store.proofs.Frames.{keeps_refl, keeps_trans}
-use Rattle.s3_job_files.specs.Holds.{HoldsFiles, seen}
-use Rattle.s3_labels.specs.Areas.{Areas}
-use Rattle.s3_spool.specs.Queues.{Blocks, blocks_of, queue_of, quota_of}
+use Rattle.s3_job_files.specs.Inner.Holds.{HoldsFiles, seen}
+use Rattle.s3_labels.specs.Inner.Areas.{Areas}
+use Rattle.s3_spool.specs.Inner.Queues.{Blocks, blocks_of, queue_of, quota_of}
 use Rattle.s3_spool.proofs.QueueLemmas.{queue_length}
 use Rattle.s3_solo.specs.declared.action.Action.TheVariants.{Drain}
 use Rattle.s3_solo.specs.declared.action.Did.{Did}
@@ -17,7 +17,7 @@ use Rattle.s3_solo.specs.Serving.{Outcome, acted}
 use Rattle.s3_solo.specs.Solo.{refused, solo, step_of}
 use Rattle.s3_solo.proofs.Asking.{step_asks}
 use Rattle.s3_level.specs.declared.level.Level.{Level}
-use Rattle.s3_level.specs.Holds.{AreAll, Around, Becomes, Holds, HoldsAtWork, HoldsParts, IsReady, Shown, Spares, Steps, around, open_files, shown}
+use Rattle.s3_level.specs.Inner.Holds.{AreAll, Around, Becomes, Holds, HoldsAtWork, HoldsParts, IsReady, Shown, Spares, Steps, around, open_files, shown}
 use Rattle.s3_level.proofs.Beside.{spares_none, spares_then}
 use Rattle.s3_cards.specs.declared.levels.LevelId.{LevelId}
 

@@ -4,19 +4,19 @@ use Rattle.std.proofs.lemmas.Option.{none-some}
 use Rattle.s3_cards.specs.declared.levels.LevelId.{LevelId}
 use Rattle.s3_job_files.specs.Closing.{files_closed}
 use Rattle.s3_job_files.specs.Files.{FilesInUse}
-use Rattle.s3_job_files.specs.Holds.{HoldsFiles, Seen, Holds as HoldsInUse, IsReady as AreFilesReady}
+use Rattle.s3_job_files.specs.Inner.Holds.{HoldsFiles, Seen, Holds as HoldsInUse, IsReady as AreFilesReady}
 use Rattle.s3_job_files.specs.declared.file.OpenFile.{OpenFile}
 use Rattle.s3_solo.specs.World.{World, JobAtWork}
 use Rattle.s3_solo.specs.Serving.{job_ended, over}
 use Rattle.s3_level.specs.declared.job.OpenJob.{OpenJob}
 use Rattle.s3_level.specs.declared.level.Level.{Level}
-use Rattle.s3_store.specs.State.{PoolState}
-use Rattle.s3_labels.specs.Areas.{Areas, IsReady as IsPackReady}
-use Rattle.s3_job_files.specs.Holds.{seen}
-use Rattle.s3_spool.specs.Queues.{Blocks}
-use Rattle.s3_solo.specs.Asked.{IsAsked}
+use Rattle.s3_store.specs.Inner.State.{PoolState}
+use Rattle.s3_labels.specs.Inner.Areas.{Areas, IsReady as IsPackReady}
+use Rattle.s3_job_files.specs.Inner.Holds.{seen}
+use Rattle.s3_spool.specs.Inner.Queues.{Blocks}
+use Rattle.s3_solo.specs.Inner.Asked.{IsAsked}
 use Rattle.s3_level.proofs.Beside.{shown_moved}
-use Rattle.s3_level.specs.Holds.{AreAll, Becomes, Holds, HoldsAtWork, KeepsOthers, around, shown, HoldsJob, HoldsParts, IsAtWorkReady, IsReady, Shown, open_files, with_seen}
+use Rattle.s3_level.specs.Inner.Holds.{AreAll, Becomes, Holds, HoldsAtWork, KeepsOthers, around, shown, HoldsJob, HoldsParts, IsAtWorkReady, IsReady, Shown, open_files, with_seen}
 
 -- the job at work is over
 pub job_closed : (s : Shown) {T E : Type 0} (result : Result T E) (old new : Level) (job : OpenJob) (before after : Seen) → old.job ≡ Some job → IsReady old before

@@ -3,9 +3,9 @@ use Rattle.std.proofs.Common.{◌≡◌, ℕ, List, slice_range, Bool, true, fal
 use Rattle.std.proofs.lemmas.Option.{none-some}
 use Rattle.s3_cards.specs.declared.levels.LevelId.{LevelId}
 use Rattle.s3_meaning.specs.Requests.{Request}
-use Rattle.s3_cycle.specs.Following.{Resumes, waits}
+use Rattle.s3_cycle.specs.Inner.Following.{Resumes, waits}
 use Rattle.s3_cycle.proofs.FollowLemmas.{follows_on, waits_as}
-use Rattle.s3_job_files.specs.Holds.{Seen, HoldsFiles, Holds as HoldsInUse, IsReady as AreFilesReady}
+use Rattle.s3_job_files.specs.Inner.Holds.{Seen, HoldsFiles, Holds as HoldsInUse, IsReady as AreFilesReady}
 use Rattle.s3_job_files.specs.Requests as files
 use Rattle.s3_job_files.specs.Requests.{Served}
 use Rattle.s3_job_files.specs.declared.file.OpenFile.{OpenFile}
@@ -15,7 +15,7 @@ use Rattle.s3_solo.specs.declared.action.Did.{Did}
 use Rattle.s3_solo.specs.declared.action.Did.TheVariants.{Acted, Idle}
 use Rattle.s3_level.specs.declared.job.OpenJob.{OpenJob}
 use Rattle.s3_level.specs.declared.level.Level.{Level}
-use Rattle.s3_level.specs.Holds.{Shown, HoldsParts, HoldsJob, HoldsAtWork, IsAtWorkReady, IsJobReady, IsReady, Stays, open_files, with_seen}
+use Rattle.s3_level.specs.Inner.Holds.{Shown, HoldsParts, HoldsJob, HoldsAtWork, IsAtWorkReady, IsJobReady, IsReady, Stays, open_files, with_seen}
 use Rattle.s3_level.specs.Inner.Turning.{AtWorkBecomes, FileServed, FileThere, HasFile, KeepsPlace, Serves, ServesFile, on_files}
 use Rattle.s3_level.proofs.Running.{standing_same}
 

@@ -5,20 +5,20 @@ use Rattle.std.proofs.lemmas.Option.{none-some}
 use Rattle.s3_operator.specs.declared.halt_code.HaltCode.{HaltCode}
 use Rattle.s3_operator.specs.Replies.{is_allowed}
 use Rattle.s3_meaning.specs.Requests as Meant
-use Rattle.s3_meaning.specs.Requests.{fits}
+use Rattle.s3_meaning.specs.Inner.Requests.{fits}
 use Rattle.s3_cycle.specs.declared.request.Answer.{Answer}
 use Rattle.s3_cycle.specs.declared.request.Answer.TheVariants as answers
 use Rattle.s3_cycle.specs.declared.request.Request.{Request}
 use Rattle.s3_cycle.specs.declared.request.Request.TheVariants as asks
 use Rattle.s3_cycle.specs.declared.stepper.Stepper.{Stepper}
-use Rattle.s3_cycle.specs.Requests.{answer_of}
-use Rattle.s3_cycle.specs.Following.{asked, is_fit, waits}
+use Rattle.s3_cycle.specs.Inner.Requests.{answer_of}
+use Rattle.s3_cycle.specs.Inner.Following.{asked, is_fit, waits}
 use Rattle.s3_cycle.proofs.FollowLemmas.{waits_card, waits_read, waits_chain, waits_append, waits_add, waits_update, waits_print, waits_jump, waits_ask, waits_end}
 use Rattle.s3_level.specs.declared.job.OpenJob.{OpenJob}
 use Rattle.s3_level.specs.declared.level.Level.{Level}
 use Rattle.s3_solo.specs.World.{World, JobAtWork}
 use Rattle.s3_solo.specs.Serving.{pending}
-use Rattle.s3_level.specs.Holds.{Shown, HoldsParts}
+use Rattle.s3_level.specs.Inner.Holds.{Shown, HoldsParts}
 use Rattle.s3_level.specs.Inner.Turning.{FitsJob, MayReply, Pends, code_asked, request_by, waits_by}
 use Rattle.s3_level.proofs.Running.{pends}
 

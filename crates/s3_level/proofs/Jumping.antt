@@ -6,24 +6,24 @@ use Rattle.s3_meaning.specs.Requests.{Answer, Request, Jump, Done}
 use Rattle.s3_meaning.specs.Cycle.{Req}
 use Rattle.s3_operator.specs.Halts.{is_waiting}
 use Rattle.s3_cycle.specs.declared.request.Request.TheVariants as asks
-use Rattle.s3_cycle.specs.Following.{PassesJumps, asked}
+use Rattle.s3_cycle.specs.Inner.Following.{PassesJumps, asked}
 use Rattle.s3_cycle.proofs.FollowLemmas.{waits_jump}
 use Rattle.s3_cycle.proofs.JumpLemmas.{done_last}
 use Rattle.s3_solo.specs.declared.action.Action.{Action}
 use Rattle.s3_solo.specs.declared.action.Action.TheVariants.{Turn}
 use Rattle.s3_solo.specs.declared.action.Did.TheVariants.{Acted}
 use Rattle.s3_solo.specs.World.{World, JobAtWork}
-use Rattle.s3_solo.specs.Asked.{IsAsked}
+use Rattle.s3_solo.specs.Inner.Asked.{IsAsked}
 use Rattle.s3_solo.specs.Serving.{Outcome, acted, at_work, idle, pending, served, standing_at, with_answer}
 use Rattle.s3_solo.specs.Solo.{gone_on, solo, step_of}
 use Rattle.s3_solo.proofs.Asking.{step_asks}
-use Rattle.s3_job_files.specs.Holds.{HoldsFiles, job_file_of}
+use Rattle.s3_job_files.specs.Inner.Holds.{HoldsFiles, job_file_of}
 use Rattle.s3_job_files.specs.declared.file.OpenFile.{OpenFile}
 use Rattle.s3_job_files.specs.declared.job_files.JobFiles.{JobFiles}
 use Rattle.s3_level.specs.declared.job.OpenJob.{OpenJob}
 use Rattle.s3_level.specs.declared.level.Level.{Level}
 use Rattle.s3_level.specs.declared.taken.Taken.{Taken}
-use Rattle.s3_level.specs.Holds.{HoldsJob, HoldsParts, IsUpTo, Shown, open_files}
+use Rattle.s3_level.specs.Inner.Holds.{HoldsJob, HoldsParts, IsUpTo, Shown, open_files}
 use Rattle.s3_level.specs.Inner.Turning.{AtWorkBecomes, JumpsBecome, KeepsPlace, Pends, TakesTurns, request_by, waits_by, with_done}
 use Rattle.s3_level.proofs.Running.{job_held, pends, standing_same}
 

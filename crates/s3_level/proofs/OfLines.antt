@@ -7,25 +7,27 @@ use Rattle.std.proofs.lemmas.Bool.Decides.{nat_tests}
 use Rattle.s3_cards.specs.Names.{same_name}
 use Rattle.s3_cards.proofs.NameLemmas.{same_name-equal}
 use Rattle.s3_cards.specs.declared.levels.LevelId.{LevelId}
-use Rattle.s3_lines.specs.Ranges.{file_in_range, is_between, longest_record}
+use Rattle.s3_lines.specs.Inner.Ranges.{file_in_range}
+use Rattle.s3_lines.specs.Ranges.{is_between, longest_record}
 use Rattle.s3_lines.specs.declared.sheet.Device.TheVariants.{Disk}
 use Rattle.s3_lines.specs.declared.sheet.FileUse.{FileUse}
 use Rattle.s3_lines.specs.declared.sheet.FileUse.TheVariants.{Input, Output, Update}
 use Rattle.s3_lines.specs.declared.sheet.FileLine.{FileLine}
 use Rattle.s3_lines.specs.declared.sheet.KeyField.{KeyField}
 use Rattle.s3_program.specs.FileTable.{is_input_use}
-use Rattle.s3_program.specs.Positions.{are_in_range}
-use Rattle.s3_program.specs.Stands.{parts_of}
-use Rattle.s3_program.specs.Valid.{tables_of, file_entry}
+use Rattle.s3_program.specs.Inner.Positions.{are_in_range}
+use Rattle.s3_program.specs.Inner.Stands.{parts_of}
+use Rattle.s3_program.specs.Inner.Valid.{tables_of}
+use Rattle.s3_program.specs.FileEntries.{file_entry}
 use Rattle.s3_program.proofs.SlotLemmas.{kept, own_slot}
-use Rattle.s3_program.specs.Tables.{slot_in}
-use Rattle.s3_match.specs.Types.{name_of_file}
+use Rattle.s3_program.specs.Inner.Tables.{slot_in}
+use Rattle.s3_match.specs.Inner.Types.{name_of_file}
 use Rattle.s3_job_files.specs.Files.{place_named}
-use Rattle.s3_job_files.specs.Holds.{AllAt, OpenedAs, TakesRecord as Takes, job_file_of, opened_as}
+use Rattle.s3_job_files.specs.Inner.Holds.{AllAt, OpenedAs, TakesRecord as Takes, job_file_of, opened_as}
 use Rattle.s3_job_files.specs.declared.file.OpenFile.{OpenFile}
 use Rattle.s3_job_files.proofs.Lists.{found_passes, get_mapped}
 use Rattle.s3_opening.specs.Asked.{is_input, is_only_read as is_only_read_by, is_used, key_length_of}
-use Rattle.s3_opening.specs.OpenFiles.{AreOfEach, IsLaidOutAs, IsOfLine}
+use Rattle.s3_opening.specs.Inner.OpenFiles.{AreOfEach, IsLaidOutAs, IsOfLine}
 use Rattle.s3_meaning.specs.Output.{filled}
 use Rattle.s3_meaning.specs.Source.{Source}
 use Rattle.s3_cycle.specs.declared.request.Request.{Request as ProgramRequest}
@@ -33,11 +35,11 @@ use Rattle.s3_cycle.specs.declared.request.Request.TheVariants as asks
 use Rattle.s3_cycle.specs.declared.request.Sought.{Sought}
 use Rattle.s3_cycle.specs.declared.request.Sought.TheVariants.{Key, RecordNumber}
 use Rattle.s3_cycle.specs.declared.stepper.Stepper.{Stepper}
-use Rattle.s3_cycle.specs.Following.{StandsFor, asked, files, put}
-use Rattle.s3_cycle.specs.Requests.{FitsFile, IsDiskFile, IsReadInOrder, IsChainedBy, IsSoughtBy, TakesRecord, TakesAddition, TakesChanges, is_only_read}
+use Rattle.s3_cycle.specs.Inner.Following.{StandsFor, asked, files, put}
+use Rattle.s3_cycle.specs.Inner.Requests.{FitsFile, IsDiskFile, IsReadInOrder, IsChainedBy, IsSoughtBy, TakesRecord, TakesAddition, TakesChanges, is_only_read}
 use Rattle.s3_cycle.proofs.FollowLemmas.{file_filled, files_stay, slot_named}
 use Rattle.s3_level.specs.declared.job.OpenJob.{OpenJob}
-use Rattle.s3_level.specs.Holds.{IsJobReady}
+use Rattle.s3_level.specs.Inner.Holds.{IsJobReady}
 use Rattle.s3_level.specs.Inner.Turning.{IsForFile, IsForRecord, IsPut, SuitsRequest, SuitsSought}
 
 -- ---- lists

@@ -2,14 +2,14 @@
 use Rattle.std.proofs.Common.{◌≡◌, List, refl, sym, ap, ◌∙◌, subst}
 use Rattle.s3_cards.specs.declared.levels.LevelId.{LevelId}
 use Rattle.s3_cards.specs.declared.levels.LevelId.TheVariants.{One, Two}
-use Rattle.s3_store.specs.State.{PoolState, KeepsContents, KeepsInStep}
+use Rattle.s3_store.specs.Inner.State.{PoolState, KeepsContents, KeepsInStep}
 use Rattle.s3_store.proofs.Frames.{step_refl, step_trans, step_from_keeps}
 use Rattle.s3_slots.specs.declared.header.Header.{Header}
 use Rattle.s3_slots.specs.declared.slot.Slot.{Slot}
-use Rattle.s3_labels.specs.Areas.{Areas, slots_at, with_slots, IsReady as IsPackReady}
+use Rattle.s3_labels.specs.Inner.Areas.{Areas, slots_at, with_slots, IsReady as IsPackReady}
 use Rattle.s3_labels.proofs.Changes.{header_with}
-use Rattle.s3_job_files.specs.Holds.{IsOutOfReach}
-use Rattle.s3_level.specs.Holds.{KeepsOthers}
+use Rattle.s3_job_files.specs.Inner.Holds.{IsOutOfReach}
+use Rattle.s3_level.specs.Inner.Holds.{KeepsOthers}
 
 with_own : (level : LevelId) (areas : Areas) → areas ≡ with_slots level (slots_at level areas) areas
 with_own One areas = refl

@@ -3,18 +3,18 @@ use Rattle.std.specs.Prelude.{map}
 use Rattle.std.proofs.Common.{◌≡◌, ℕ, ◌-◌, ◌<◌, ◌≤◌, List, [], ◌∷◌, ◌++◌, length, Bool, nat_lt, if◌then◌else◌, Option, Some, None, Result, Ok, Err, OnOk, refl, sym, ap, subst, ◌∙◌, arith, lt-ltb, le-ltb, length-append, append_assoc, IsErr, true≢false}
 use Rattle.s3_cards.specs.Printed.{Printed}
 use Rattle.s3_cards.specs.declared.levels.LevelId.{LevelId}
-use Rattle.s3_store.specs.State.{PoolState, ChangesWithin}
-use Rattle.s3_labels.specs.Areas.{Areas, IsReady as IsPackReady}
+use Rattle.s3_store.specs.Inner.State.{PoolState, ChangesWithin}
+use Rattle.s3_labels.specs.Inner.Areas.{Areas, IsReady as IsPackReady}
 use Rattle.s3_meaning.specs.Output.{filled}
 use Rattle.s3_meaning.specs.Requests.{Print, Done}
-use Rattle.s3_job_files.specs.Holds.{seen, job_file_of}
+use Rattle.s3_job_files.specs.Inner.Holds.{seen, job_file_of}
 use Rattle.s3_job_files.proofs.Staying.{held_over}
-use Rattle.s3_spool.specs.Queues.{Blocks, IsFreeSector, blocks_of, queue_of, quota_of}
+use Rattle.s3_spool.specs.Inner.Queues.{Blocks, IsFreeSector, blocks_of, queue_of, quota_of}
 use Rattle.s3_spool.proofs.QueueLemmas.{queue_length}
 use Rattle.s3_cycle.specs.declared.request.Request as code
 use Rattle.s3_cycle.specs.declared.request.Request.TheVariants as asks
-use Rattle.s3_cycle.specs.Requests.{IsLine}
-use Rattle.s3_cycle.specs.Following.{asked, put}
+use Rattle.s3_cycle.specs.Inner.Requests.{IsLine}
+use Rattle.s3_cycle.specs.Inner.Following.{asked, put}
 use Rattle.s3_cycle.proofs.FollowLemmas.{waits_print}
 use Rattle.s3_solo.specs.declared.action.Did.{Did}
 use Rattle.s3_solo.specs.declared.action.Did.TheVariants.{Acted, Idle}
@@ -23,7 +23,7 @@ use Rattle.s3_solo.specs.World.{World, JobAtWork}
 use Rattle.s3_solo.specs.Serving.{acted, answered, idle, line_put, served}
 use Rattle.s3_level.specs.declared.job.OpenJob.{OpenJob}
 use Rattle.s3_level.specs.declared.level.Level.{Level}
-use Rattle.s3_level.specs.Holds.{AreAll, Shown, HoldsParts, HoldsAtWork, IsReady, KeepsOthers, Becomes, around, open_files, shown, with_seen}
+use Rattle.s3_level.specs.Inner.Holds.{AreAll, Shown, HoldsParts, HoldsAtWork, IsReady, KeepsOthers, Becomes, around, open_files, shown, with_seen}
 use Rattle.s3_level.specs.Inner.Turning.{AtWorkBecomes, Serves, request_by, waits_by}
 use Rattle.s3_level.proofs.Beside.{put_sees, shown_after}
 

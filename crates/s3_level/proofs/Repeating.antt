@@ -2,13 +2,13 @@
 use Rattle.std.proofs.Common.{◌≡◌, ◌≢◌, ◌⊎◌, inl, inr, ℕ, zero, suc, ◌<◌, ◌≤◌, ◌+◌, ◌-◌, List, [], ◌∷◌, Bool, true, false, if◌then◌else◌, Option, Some, None, Result, Ok, Err, replicate, refl, sym, ap, subst, ◌∙◌, arith}
 use Rattle.std.specs.Prelude.{OnErr}
 use Rattle.s3_cards.specs.declared.levels.LevelId.{LevelId}
-use Rattle.s3_store.specs.State.{PoolState}
+use Rattle.s3_store.specs.Inner.State.{PoolState}
 use Rattle.s3_store.proofs.Frames.{keeps_refl}
-use Rattle.s3_labels.specs.Labelled.{KeepsSaid}
+use Rattle.s3_labels.specs.Inner.Labelled.{KeepsSaid}
 use Rattle.s3_meaning.specs.Requests.{Request}
 use Rattle.s3_meaning.specs.Requests as request
 use Rattle.s3_operator.specs.Halts.{is_waiting}
-use Rattle.s3_job_files.specs.Holds.{seen}
+use Rattle.s3_job_files.specs.Inner.Holds.{seen}
 use Rattle.s3_job_files.specs.Requests.{Served}
 use Rattle.s3_job_files.specs.Requests as files
 use Rattle.s3_ocl.specs.Jobs.{Job}
@@ -23,7 +23,7 @@ use Rattle.s3_solo.specs.Serving.{Outcome, acted, answered, begun, file_served, 
 use Rattle.s3_solo.specs.Solo.{gone_on, solo, step_of}
 use Rattle.s3_level.specs.declared.level.Level.{Level}
 use Rattle.s3_level.specs.declared.taken.Taken.{Taken}
-use Rattle.s3_level.specs.Holds.{AreAll, Around, Holds, IsReady, Repeats, Spares, Stays}
+use Rattle.s3_level.specs.Inner.Holds.{AreAll, Around, Holds, IsReady, Repeats, Spares, Stays}
 use Rattle.s3_level.proofs.Beside.{spares_none, spares_then}
 use Rattle.s3_level.proofs.Said.{said_same}
 

@@ -14,12 +14,12 @@ use Rattle.s3_level.specs.declared.level.Level.{Level}
 use Rattle.s3_solo.specs.World.{World, JobAtWork}
 use Rattle.s3_solo.specs.Serving.{Outcome, acted, answered, pending}
 use Rattle.s3_solo.specs.Solo.{refused, replied, reply_given, resumed}
-use Rattle.s3_solo.specs.Asked.{halt_asked}
-use Rattle.s3_level.specs.Holds.{AreAll, Around, KeepsOthers, Shown, Holds, HoldsParts, HoldsAtWork, Becomes, Steps, around, shown, with_seen}
-use Rattle.s3_store.specs.State.{PoolState}
-use Rattle.s3_labels.specs.Areas.{Areas, IsReady as IsPackReady}
-use Rattle.s3_job_files.specs.Holds.{seen}
-use Rattle.s3_spool.specs.Queues.{Blocks}
+use Rattle.s3_solo.specs.Inner.Asked.{halt_asked}
+use Rattle.s3_level.specs.Inner.Holds.{AreAll, Around, KeepsOthers, Shown, Holds, HoldsParts, HoldsAtWork, Becomes, Steps, around, shown, with_seen}
+use Rattle.s3_store.specs.Inner.State.{PoolState}
+use Rattle.s3_labels.specs.Inner.Areas.{Areas, IsReady as IsPackReady}
+use Rattle.s3_job_files.specs.Inner.Holds.{seen}
+use Rattle.s3_spool.specs.Inner.Queues.{Blocks}
 use Rattle.s3_level.proofs.Beside.{shown_moved}
 use Rattle.s3_level.specs.Inner.Turning.{AtWorkBecomes, FitsJob, MayReply}
 use Rattle.s3_solo.proofs.Asking.{step_asks}

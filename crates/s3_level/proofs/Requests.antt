@@ -4,14 +4,15 @@ use Rattle.std.specs.Prelude.{Option, Some, None, is_some, option_map, slice_get
 use Rattle.std.proofs.lemmas.Bool.Decides.{nat_tests}
 use Rattle.std.proofs.lemmas.Option.{none-some}
 use Rattle.s3_cards.specs.declared.name.Name.{Name}
-use Rattle.s3_match.specs.Types.{name_of_file}
+use Rattle.s3_match.specs.Inner.Types.{name_of_file}
 use Rattle.s3_meaning.specs.Output.{filled}
-use Rattle.s3_meaning.specs.Requests.{Answer, fits, fits_done, fits_record, refuses_append, refuses_add, refuses_update}
+use Rattle.s3_meaning.specs.Requests.{Answer}
+use Rattle.s3_meaning.specs.Inner.Requests.{fits, fits_done, fits_record, refuses_append, refuses_add, refuses_update}
 use Rattle.s3_meaning.specs.Requests.{Current as MeantCurrent, Sought as MeantSought}
-use Rattle.s3_job_files.specs.Calls.{found_answer, put_answer}
+use Rattle.s3_job_files.specs.Inner.Calls.{found_answer, put_answer}
 use Rattle.s3_job_files.specs.Files.{FilesInUse, FileAtWork, place_named}
-use Rattle.s3_job_files.specs.Holds.{AllAt, Seen, TakesRecord, IsReady as AreFilesReady, Holds as HoldsInUse, Meets, Serves as Serving, job_file_of}
-use Rattle.s3_job_files.specs.Records.{changes_of}
+use Rattle.s3_job_files.specs.Inner.Holds.{AllAt, Seen, TakesRecord, IsReady as AreFilesReady, Holds as HoldsInUse, Meets, Serves as Serving, job_file_of}
+use Rattle.s3_job_files.specs.Inner.Records.{changes_of}
 use Rattle.s3_job_files.specs.Requests as meant
 use Rattle.s3_job_files.specs.Requests.{Served, served_named, served_on, record_read, record_chained, record_appended, record_added, record_updated}
 use Rattle.s3_job_files.specs.declared.file.OpenFile.{OpenFile}
@@ -25,8 +26,8 @@ use Rattle.s3_cycle.specs.declared.request.Request.{Request as ProgramRequest}
 use Rattle.s3_cycle.specs.declared.request.Request.TheVariants as asks
 use Rattle.s3_cycle.specs.declared.request.Sought.{Sought}
 use Rattle.s3_cycle.specs.declared.stepper.Stepper.{Stepper}
-use Rattle.s3_cycle.specs.Following.{Resumes, asked, is_fit, put, waits}
-use Rattle.s3_cycle.specs.Requests.{answer_of, current_of, sought_of}
+use Rattle.s3_cycle.specs.Inner.Following.{Resumes, asked, is_fit, put, waits}
+use Rattle.s3_cycle.specs.Inner.Requests.{answer_of, current_of, sought_of}
 use Rattle.s3_cycle.proofs.FollowLemmas.{waits_card, waits_read, waits_chain, waits_append, waits_add, waits_update, waits_print, waits_jump, waits_ask, waits_end}
 use Rattle.s3_level.specs.declared.job.OpenJob.{OpenJob}
 use Rattle.s3_level.specs.Inner.Turning.{HasFile, IsForFile, IsForRecord, IsPut, ServesAt, ServesFile, SuitsRequest, SuitsSought}

@@ -6,8 +6,8 @@ use Rattle.s3_meaning.specs.Requests.{Answer, Request, Card, Read, Chain, Append
 use Rattle.s3_operator.specs.declared.halt_code.HaltCode.{HaltCode}
 use Rattle.s3_cycle.specs.declared.request.Request as code
 use Rattle.s3_cycle.specs.declared.request.Request.TheVariants as asks
-use Rattle.s3_cycle.specs.Requests.{IsLine}
-use Rattle.s3_cycle.specs.Following.{Follows, Resumes, asked, waits}
+use Rattle.s3_cycle.specs.Inner.Requests.{IsLine}
+use Rattle.s3_cycle.specs.Inner.Following.{Follows, Resumes, asked, waits}
 use Rattle.s3_cycle.proofs.FollowLemmas.{follows_on, waits_as, waits_card, waits_read, waits_chain, waits_append, waits_add, waits_update, waits_print, waits_jump, waits_ask, waits_end}
 use Rattle.s3_level.specs.declared.job.OpenJob.{OpenJob}
 use Rattle.s3_level.specs.declared.level.Level.{Level}
@@ -15,10 +15,10 @@ use Rattle.s3_level.specs.declared.next.Next.TheVariants.{Halts, IsOver, GoesOn}
 use Rattle.s3_solo.specs.declared.action.Did.TheVariants.{Acted}
 use Rattle.s3_solo.specs.World.{World, JobAtWork}
 use Rattle.s3_solo.specs.Serving.{at_work, card_answer, halting, job_ended, line_put, over, pending, served, standing_at, with_answer, with_card_read}
-use Rattle.s3_job_files.specs.Holds.{HoldsFiles, job_file_of}
+use Rattle.s3_job_files.specs.Inner.Holds.{HoldsFiles, job_file_of}
 use Rattle.s3_job_files.specs.declared.file.OpenFile.{OpenFile}
 use Rattle.s3_job_files.specs.declared.job_files.JobFiles.{JobFiles}
-use Rattle.s3_level.specs.Holds.{Shown, HoldsParts, HoldsJob, HoldsAtWork, Becomes, open_files}
+use Rattle.s3_level.specs.Inner.Holds.{Shown, HoldsParts, HoldsJob, HoldsAtWork, Becomes, open_files}
 use Rattle.s3_level.specs.Inner.Turning.{AtWorkBecomes, Comes, KeepsPlace, Pends, request_by, waits_by}
 
 -- ---- the open job and the world's

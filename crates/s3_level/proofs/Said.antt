@@ -2,11 +2,12 @@
 use Rattle.std.proofs.Common.{◌≡◌, ℕ, ◌≤◌, List, Result, Ok, Err, OnOk, sym, subst, arith}
 use Rattle.s3_cards.specs.declared.levels.LevelId.{LevelId}
 use Rattle.s3_cards.specs.declared.levels.LevelId.TheVariants.{One, Two}
-use Rattle.s3_store.specs.State.{PoolState, ChangesWithin, KeepsContents}
-use Rattle.s3_labels.specs.Areas.{Areas, IsLabelSector, area_of}
-use Rattle.s3_labels.specs.Labelled.{KeepsSaid, SaysSlots}
+use Rattle.s3_store.specs.Inner.State.{PoolState, ChangesWithin, KeepsContents}
+use Rattle.s3_labels.specs.Inner.Areas.{Areas}
+use Rattle.s3_labels.specs.Areas.{IsLabelSector, area_of}
+use Rattle.s3_labels.specs.Inner.Labelled.{KeepsSaid, SaysSlots}
 use Rattle.s3_labels.proofs.Labelled.{says_kept}
-use Rattle.s3_spool.specs.Queues.{Blocks, IsFreeSector}
+use Rattle.s3_spool.specs.Inner.Queues.{Blocks, IsFreeSector}
 use Rattle.s3_level.proofs.Beside.{free_is_block}
 
 -- what changes neither a slot nor a sector

@@ -11,47 +11,48 @@ use Rattle.s3_cards.specs.Names.{same_name}
 use Rattle.s3_meaning.specs.Requests.{Answer}
 use Rattle.s3_meaning.specs.Cycle.{Req}
 use Rattle.s3_cycle.specs.declared.stepper.Stepper.{Stepper}
-use Rattle.s3_cycle.specs.Rest.{rest}
-use Rattle.s3_cycle.specs.Following.{StandsFor as RunsFor}
+use Rattle.s3_cycle.specs.Inner.Rest.{rest}
+use Rattle.s3_cycle.specs.Inner.Following.{StandsFor as RunsFor}
 use Rattle.s3_solo.specs.World.{World, JobAtWork}
 use Rattle.s3_meaning.specs.Source.{Source}
 use Rattle.s3_program.specs.declared.program.Program.{Program}
-use Rattle.s3_program.specs.Stands.{Stands, parts_of}
-use Rattle.s3_program.specs.Valid.{named}
+use Rattle.s3_program.specs.Inner.Stands.{Stands, parts_of}
+use Rattle.s3_program.specs.Inner.Valid.{named}
 use Rattle.s3_ocl.specs.declared.faults.FaultyJob.{FaultyJob}
 use Rattle.s3_ocl.specs.Faults.{fault_number}
 use Rattle.s3_ocl.specs.declared.jobs.OclFault.{OclFault}
 use Rattle.s3_ocl.specs.declared.jobs.OclFault.TheVariants.{NoMemory, Faulty}
-use Rattle.s3_ocl.specs.Jobs.{Job, Gives, is_compile, job_at, job_place, next_job, place_after}
+use Rattle.s3_ocl.specs.Jobs.{Job, is_compile, job_at, next_job, place_after}
+use Rattle.s3_ocl.specs.Inner.Jobs.{Gives, job_place}
 use Rattle.s3_ocl.specs.Streams.{jobs_from}
 use Rattle.s3_ocl.proofs.StreamLemmas.{jobs_from-none, jobs_from-next}
 use Rattle.s3_level.specs.declared.job.OpenJob.{OpenJob}
 use Rattle.s3_level.specs.declared.level.Level.{Level}
 use Rattle.s3_solo.specs.Serving.{at_work, halting, pending, run, run_over, settings, compiled_data, data_of, performed, run_card_of, started, switches_after, with_jobs, with_settings}
-use Rattle.s3_lines.specs.Ranges.{file_in_range}
+use Rattle.s3_lines.specs.Inner.Ranges.{file_in_range}
 use Rattle.s3_lines.specs.declared.sheet.FileLine.{FileLine}
 use Rattle.s3_operator.specs.declared.halt_code.HaltCode.{HaltCode}
 use Rattle.s3_operator.specs.declared.halt_code.HaltCode.TheVariants.{FaultyJob as FaultyStatements, NoProgram}
 use Rattle.s3_job_files.specs.Files.{Files, FilesInUse}
-use Rattle.s3_job_files.specs.Holds.{HoldsFiles, Seen, Holds as HoldsInUse, IsReady as AreFilesReady}
+use Rattle.s3_job_files.specs.Inner.Holds.{HoldsFiles, Seen, Holds as HoldsInUse, IsReady as AreFilesReady}
 use Rattle.s3_job_files.specs.declared.file.OpenFile.{OpenFile}
 use Rattle.s3_job_files.specs.declared.job_files.JobFiles.{JobFiles}
 use Rattle.s3_opening.specs.Opening.{opened}
-use Rattle.s3_opening.specs.OpenFiles.{AreOfLines, HoldsStarted}
+use Rattle.s3_opening.specs.Inner.OpenFiles.{AreOfLines, HoldsStarted}
 use Rattle.s3_cycle.proofs.FollowLemmas.{files_stand}
 use Rattle.s3_program.proofs.SlotLemmas.{kept}
-use Rattle.s3_program.specs.Positions.{are_in_range}
-use Rattle.s3_program.specs.Stands.{source_named}
+use Rattle.s3_program.specs.Inner.Positions.{are_in_range}
+use Rattle.s3_program.specs.Inner.Stands.{source_named}
 use Rattle.s3_cards.specs.Printed.{Printed}
 use Rattle.s3_cards.specs.declared.levels.LevelId.{LevelId}
-use Rattle.s3_labels.specs.Areas.{Areas}
+use Rattle.s3_labels.specs.Inner.Areas.{Areas}
 use Rattle.s3_slots.specs.Header.{quota_of as header_quota}
 use Rattle.s3_job_files.specs.Files.{files_on}
-use Rattle.s3_job_files.specs.Holds.{seen}
+use Rattle.s3_job_files.specs.Inner.Holds.{seen}
 use Rattle.s3_job_files.proofs.Starting.{holds_mounted}
-use Rattle.s3_spool.specs.Queues.{lines_in, queue_of}
+use Rattle.s3_spool.specs.Inner.Queues.{lines_in, queue_of}
 use Rattle.s3_solo.specs.World.{at_start}
-use Rattle.s3_level.specs.Holds.{Around, Holds, IsFresh, Shown, HoldsParts, HoldsAtWork, IsReady, Stocks, Becomes, open_files, with_seen}
+use Rattle.s3_level.specs.Inner.Holds.{Around, Holds, IsFresh, Shown, HoldsParts, HoldsAtWork, IsReady, Stocks, Becomes, open_files, with_seen}
 use Rattle.s3_level.specs.Inner.Turning.{AtWorkBecomes, NextIs, Starts}
 use Rattle.s3_level.proofs.Running.{standing_same}
 

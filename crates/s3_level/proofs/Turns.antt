@@ -8,9 +8,9 @@ use Rattle.s3_operator.specs.Halts.{is_waiting}
 use Rattle.s3_cycle.specs.declared.request.Request as code
 use Rattle.s3_cycle.specs.declared.request.Request.TheVariants as asks
 use Rattle.s3_cycle.specs.declared.stepper.Stepper.{Stepper}
-use Rattle.s3_cycle.specs.Following.{asked, put, waits}
+use Rattle.s3_cycle.specs.Inner.Following.{asked, put, waits}
 use Rattle.s3_cycle.proofs.FollowLemmas.{waits_card, waits_read, waits_chain, waits_append, waits_add, waits_update, waits_print, waits_ask, waits_end}
-use Rattle.s3_store.specs.Failures.{failed_transfers}
+use Rattle.s3_store.specs.Inner.Failures.{failed_transfers}
 use Rattle.s3_store.specs.declared.pool_fault.PoolFault.{PoolFault}
 use Rattle.s3_solo.specs.declared.action.Action.{Action}
 use Rattle.s3_solo.specs.declared.action.Action.TheVariants.{Turn}
@@ -24,7 +24,7 @@ use Rattle.s3_solo.specs.Serving.{Outcome, begun, file_served, idle, in_use, job
 use Rattle.s3_solo.specs.Serving as Serving
 use Rattle.s3_job_files.specs.Requests as files
 use Rattle.s3_solo.specs.Solo.{gone_on, solo, step_of}
-use Rattle.s3_level.specs.Holds.{Around, Shown, Holds, HoldsParts, IsUpTo, Becomes, Repeats, Steps, once, shown}
+use Rattle.s3_level.specs.Inner.Holds.{Around, Shown, Holds, HoldsParts, IsUpTo, Becomes, Repeats, Steps, once, shown}
 use Rattle.s3_cards.specs.declared.levels.LevelId.{LevelId}
 use Rattle.s3_operator.specs.declared.halt_code.HaltCode.{HaltCode}
 use Rattle.s3_level.specs.Inner.Turning.{Begins, Pends, Serves, TakesTurns, Turns, on_files, request_by, waits_by}

@@ -1,2 +1,3 @@
--- Words of inner functions and of proofs: none of them says what the product means.
+-- What the contracts of a run and of a session don't reach: words of inner functions, of proofs and of other calls.
+pub mod Holds
 pub mod Turning

@@ -16,17 +16,17 @@ impl Level {
     ghost use Rattle.std.specs.Prelude.{◌≡◌, ◌≤◌, ◌+◌, None, IfOk, IsOk, OnOk, ◌≢◌, IfErr};
     ghost use Rattle.std.specs.Int.NonZero.{non_zero_u16_get};
     ghost use Rattle.std.specs.Option.{option_copied};
-    ghost use Rattle.s3_store.specs.Failures.{failed_transfers};
-    ghost use Rattle.s3_labels.specs.Labelled.{KeepsSaid};
-    ghost use Rattle.s3_store.specs.State.{KeepsContents};
+    ghost use Rattle.s3_store.specs.Inner.Failures.{failed_transfers};
+    ghost use Rattle.s3_labels.specs.Inner.Labelled.{KeepsSaid};
+    ghost use Rattle.s3_store.specs.Inner.State.{KeepsContents};
     ghost use Rattle.s3_meaning.specs.Requests as Meant;
     ghost use Rattle.s3_cycle.specs.declared.request.Request.TheVariants as asks;
-    ghost use Rattle.s3_cycle.specs.Requests.{answer_of};
-    ghost use Rattle.s3_job_files.specs.Holds.{Seen, seen};
+    ghost use Rattle.s3_cycle.specs.Inner.Requests.{answer_of};
+    ghost use Rattle.s3_job_files.specs.Inner.Holds.{Seen, seen};
     ghost use Rattle.s3_solo.specs.declared.action.Did.TheVariants.{Acted};
     ghost use Rattle.s3_solo.specs.World.{World, JobAtWork};
     ghost use Rattle.s3_solo.specs.Serving.{answered, at_work, halting, job_ended, served, with_answer};
-    ghost use Rattle.s3_level.specs.Holds.{Shown, AreAll, around, shown, with_seen, HoldsParts, IsQuiet, IsReady, IsUpTo, Becomes, Stays, Spares, KeepsOthers};
+    ghost use Rattle.s3_level.specs.Inner.Holds.{Shown, AreAll, around, shown, with_seen, HoldsParts, IsQuiet, IsReady, IsUpTo, Becomes, Stays, Spares, KeepsOthers};
     ghost use Rattle.s3_level.specs.Inner.Turning.{Pends, request_by, waits_by, FitsJob, Comes, AtWorkBecomes, JumpsBecome, TakesTurns};
 
     /// Turns, so many at most and one at least: each performs the pending request of the job at work, or begins the next job. They are

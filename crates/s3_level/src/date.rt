@@ -3,7 +3,7 @@ ghost use Rattle.std.specs.Prelude.{◌≡◌, IsTrue, replicate};
 ghost use Rattle.std.specs.List.{list_all};
 ghost use Rattle.s3_cards.specs.declared.ebcdic.TheConstants.{DIGIT_0};
 ghost use Rattle.s3_cards.specs.Names.{is_digit};
-ghost use Rattle.s3_operations.specs.Beginning.{IsDate};
+ghost use Rattle.s3_operations.specs.Inner.Beginning.{IsDate};
 
 use s3_cards::ebcdic::DIGIT_0;
 use std::marker::Model;

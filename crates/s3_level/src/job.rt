@@ -1,21 +1,21 @@
 //! The job at work.
 ghost use Rattle.std.specs.Prelude.{◌≡◌, true, false, ◌+◌, ◌<◌, ◌≤◌, [], ◌∷◌, length, map, drop, slice_get, slice_range, option_map, replicate, Some, IfOk, IfSome, IsTrue, OnOk, OnErr, MatchOption, ⊤, ◌≢◌, IfErr};
-ghost use Rattle.s3_store.specs.State.{KeepsContents, KeepsInStep};
-ghost use Rattle.s3_store.specs.Failures.{failed_transfers};
-ghost use Rattle.s3_labels.specs.Labelled.{KeepsSaid};
+ghost use Rattle.s3_store.specs.Inner.State.{KeepsContents, KeepsInStep};
+ghost use Rattle.s3_store.specs.Inner.Failures.{failed_transfers};
+ghost use Rattle.s3_labels.specs.Inner.Labelled.{KeepsSaid};
 ghost use Rattle.s3_job_files.specs.Files.{FilesInUse, place_named};
 ghost use Rattle.s3_job_files.specs.Closing.{files_closed};
-ghost use Rattle.s3_job_files.specs.Calls.{found_answer, put_answer};
+ghost use Rattle.s3_job_files.specs.Inner.Calls.{found_answer, put_answer};
 ghost use Rattle.s3_job_files.specs.Requests.{record_chained, record_updated};
-ghost use Rattle.s3_job_files.specs.Holds.{seen, job_file_of, opened_as, AllAt, IsOutOfReach, Serves, Holds as HoldsInUse, IsReady as AreFilesReady, current_of as current_of_file};
-ghost use Rattle.s3_match.specs.Types.{name_of_file};
-ghost use Rattle.s3_labels.specs.Areas.{IsReady as IsPackReady};
-ghost use Rattle.s3_meaning.specs.Requests.{fits, fits_done, refuses_update};
-ghost use Rattle.s3_cycle.specs.Following.{PassesJumps, Resumes, asked, is_fit, put, waits};
-ghost use Rattle.s3_cycle.specs.Requests.{answer_of, current_of, sought_of};
+ghost use Rattle.s3_job_files.specs.Inner.Holds.{seen, job_file_of, opened_as, AllAt, IsOutOfReach, Serves, Holds as HoldsInUse, IsReady as AreFilesReady, current_of as current_of_file};
+ghost use Rattle.s3_match.specs.Inner.Types.{name_of_file};
+ghost use Rattle.s3_labels.specs.Inner.Areas.{IsReady as IsPackReady};
+ghost use Rattle.s3_meaning.specs.Inner.Requests.{fits, fits_done, refuses_update};
+ghost use Rattle.s3_cycle.specs.Inner.Following.{PassesJumps, Resumes, asked, is_fit, put, waits};
+ghost use Rattle.s3_cycle.specs.Inner.Requests.{answer_of, current_of, sought_of};
 ghost use Rattle.s3_cycle.specs.declared.request.Request.TheVariants as asks;
 ghost use Rattle.s3_solo.specs.Serving.{card_answer};
-ghost use Rattle.s3_level.specs.Holds.{IsJobReady, IsUntouched, KeepsOthers};
+ghost use Rattle.s3_level.specs.Inner.Holds.{IsJobReady, IsUntouched, KeepsOthers};
 ghost use Rattle.s3_level.specs.Inner.Turning.{HasFile, IsForFile, IsForRecord, IsPut, KeepsPlace, ServesAt, ServesFile, SuitsRequest, SuitsSought};
 
 use s3_cards::{Card, Deck};
@@ -208,8 +208,8 @@ fn store<P: Sectors>(
 }
 
 impl OpenJob {
-    ghost use Rattle.s3_cycle.specs.Following.{files};
-    ghost use Rattle.s3_cycle.specs.Requests.{FitsFile, IsDiskFile};
+    ghost use Rattle.s3_cycle.specs.Inner.Following.{files};
+    ghost use Rattle.s3_cycle.specs.Inner.Requests.{FitsFile, IsDiskFile};
 
     /// Reads the next data card, if there is one, and goes on with it.
     #[inline(always)]

@@ -19,19 +19,19 @@ use std::alloc::AllocError;
 impl Level {
     ghost use Rattle.std.specs.Prelude.{◌≡◌, ◌≢◌, ◌<◌, ◌≤◌, ◌+◌, [], true, false, nat_lt, length, unwrap_or, None, IfOk, IsTrue, OnOk, IfErr};
     ghost use Rattle.std.specs.List.{list_all};
-    ghost use Rattle.s3_store.specs.Failures.{failed_transfers};
-    ghost use Rattle.s3_labels.specs.Labelled.{KeepsSaid};
+    ghost use Rattle.s3_store.specs.Inner.Failures.{failed_transfers};
+    ghost use Rattle.s3_labels.specs.Inner.Labelled.{KeepsSaid};
     ghost use Rattle.s3_meaning.specs.Source.{Source};
-    ghost use Rattle.s3_program.specs.Stands.{Stands};
+    ghost use Rattle.s3_program.specs.Inner.Stands.{Stands};
     ghost use Rattle.s3_ocl.specs.Jobs.{next_job};
-    ghost use Rattle.s3_ocl.specs.Sound.{is_sound_date, is_sound_file};
+    ghost use Rattle.s3_ocl.specs.Inner.Sound.{is_sound_date, is_sound_file};
     ghost use Rattle.s3_ocl.specs.Streams.{jobs_from};
     ghost use Rattle.s3_job_files.specs.Files.{FilesInUse};
-    ghost use Rattle.s3_job_files.specs.Holds.{Seen, seen, Holds as HoldsInUse, IsReady as AreFilesReady};
-    ghost use Rattle.s3_opening.specs.OpenFiles.{AreOfLines};
+    ghost use Rattle.s3_job_files.specs.Inner.Holds.{Seen, seen, Holds as HoldsInUse, IsReady as AreFilesReady};
+    ghost use Rattle.s3_opening.specs.Inner.OpenFiles.{AreOfLines};
     ghost use Rattle.s3_solo.specs.World.{World};
     ghost use Rattle.s3_solo.specs.Serving.{at_work, data_of, performed, run, started, switches_after, with_jobs};
-    ghost use Rattle.s3_level.specs.Holds.{Shown, with_seen, HoldsParts, IsQuiet, IsReady, Becomes, Stays, KeepsOthers};
+    ghost use Rattle.s3_level.specs.Inner.Holds.{Shown, with_seen, HoldsParts, IsQuiet, IsReady, Becomes, Stays, KeepsOthers};
     ghost use Rattle.s3_level.specs.Inner.Turning.{NextIs, Begins, Starts};
 
     /// Begins the next job, if there is one.

@@ -37,19 +37,20 @@ pub struct Level {
 impl Level {
     ghost use Rattle.std.specs.Prelude.{◌≡◌, ◌≢◌, ◌+◌, ℕ, [], map, None, Ok, IfOk, IsOk, OnOk, OnErr, IfErr};
     ghost use Rattle.std.specs.Int.NonZero.{non_zero_u16_get};
-    ghost use Rattle.s3_store.specs.Failures.{failed_transfers};
-    ghost use Rattle.s3_labels.specs.Labelled.{KeepsSaid};
-    ghost use Rattle.s3_store.specs.State.{KeepsContents};
-    ghost use Rattle.s3_spool.specs.Queues.{Blocks, blocks_of};
-    ghost use Rattle.s3_job_files.specs.Holds.{seen};
+    ghost use Rattle.s3_store.specs.Inner.Failures.{failed_transfers};
+    ghost use Rattle.s3_labels.specs.Inner.Labelled.{KeepsSaid};
+    ghost use Rattle.s3_store.specs.Inner.State.{KeepsContents};
+    ghost use Rattle.s3_spool.specs.Inner.Queues.{Blocks, blocks_of};
+    ghost use Rattle.s3_job_files.specs.Inner.Holds.{seen};
     ghost use Rattle.s3_solo.specs.declared.action.Action.TheVariants.{Turn, Reply, Drain};
     ghost use Rattle.s3_solo.specs.declared.action.Did.TheVariants.{Acted, Idle, Refused};
-    ghost use Rattle.s3_operator.specs.Halts.{halt_of};
-    ghost use Rattle.s3_solo.specs.Lines.{all_drained, drained_lines};
+    ghost use Rattle.s3_operator.specs.Inner.Halts.{halt_of};
+    ghost use Rattle.s3_solo.specs.Lines.{all_drained};
+    ghost use Rattle.s3_solo.specs.Inner.Lines.{drained_lines};
     ghost use Rattle.s3_solo.specs.World.{World, at_start};
     ghost use Rattle.s3_solo.specs.Serving.{job_ended};
     ghost use Rattle.s3_solo.specs.Solo.{step_of};
-    ghost use Rattle.s3_level.specs.Holds.{Around, AreAll, around, Holds, IsFresh, IsQuiet, IsReady, IsUpTo, Becomes, Repeats, Steps, Stays, Spares, KeepsOthers};
+    ghost use Rattle.s3_level.specs.Inner.Holds.{Around, AreAll, around, Holds, IsFresh, IsQuiet, IsReady, IsUpTo, Becomes, Repeats, Steps, Stays, Spares, KeepsOthers};
 
     /// A level with this deck, before its first entry.
     pub fn new(alloc: Global, id: LevelId, deck: Deck) -> Level

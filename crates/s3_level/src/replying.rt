@@ -9,14 +9,14 @@ use s3_store::{PoolFault, Sectors};
 
 impl Level {
     ghost use Rattle.std.specs.Prelude.{◌≡◌, ◌+◌, true, OnOk, OnErr, option_and_then, ◌≢◌, IfErr};
-    ghost use Rattle.s3_store.specs.Failures.{failed_transfers};
-    ghost use Rattle.s3_labels.specs.Labelled.{KeepsSaid};
+    ghost use Rattle.s3_store.specs.Inner.Failures.{failed_transfers};
+    ghost use Rattle.s3_labels.specs.Inner.Labelled.{KeepsSaid};
     ghost use Rattle.s3_cycle.specs.declared.request.Answer.TheVariants as answers;
-    ghost use Rattle.s3_job_files.specs.Holds.{seen};
+    ghost use Rattle.s3_job_files.specs.Inner.Holds.{seen};
     ghost use Rattle.s3_operator.specs.Halts.{answer_to, waiting, with_reply};
     ghost use Rattle.s3_solo.specs.World.{World, JobAtWork};
     ghost use Rattle.s3_solo.specs.Solo.{resumed};
-    ghost use Rattle.s3_level.specs.Holds.{Shown, with_seen, HoldsParts, IsReady, Becomes, Stays, KeepsOthers};
+    ghost use Rattle.s3_level.specs.Inner.Holds.{Shown, with_seen, HoldsParts, IsReady, Becomes, Stays, KeepsOthers};
     ghost use Rattle.s3_level.specs.Inner.Turning.{code_asked, request_by, FitsJob, MayReply};
 
     /// Gives the halt that waits its reply.

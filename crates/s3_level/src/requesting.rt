@@ -9,15 +9,15 @@ use s3_store::{PoolFault, Sectors};
 
 impl Level {
     ghost use Rattle.std.specs.Prelude.{◌≡◌, ◌≢◌, ◌<◌, ◌+◌, ℕ, List, false, length, IfOk, OnOk, OnErr, IfErr};
-    ghost use Rattle.s3_store.specs.Failures.{failed_transfers};
-    ghost use Rattle.s3_labels.specs.Labelled.{KeepsSaid};
+    ghost use Rattle.s3_store.specs.Inner.Failures.{failed_transfers};
+    ghost use Rattle.s3_labels.specs.Inner.Labelled.{KeepsSaid};
     ghost use Rattle.s3_meaning.specs.Requests as Meant;
     ghost use Rattle.s3_cycle.specs.declared.request.Request.TheVariants as asks;
-    ghost use Rattle.s3_spool.specs.Queues.{blocks_of, quota_of};
+    ghost use Rattle.s3_spool.specs.Inner.Queues.{blocks_of, quota_of};
     ghost use Rattle.s3_solo.specs.declared.action.Did.TheVariants.{Acted};
-    ghost use Rattle.s3_job_files.specs.Holds.{Seen, seen};
+    ghost use Rattle.s3_job_files.specs.Inner.Holds.{Seen, seen};
     ghost use Rattle.s3_solo.specs.Serving.{card_answer, line_put, served, with_answer, with_card_read};
-    ghost use Rattle.s3_level.specs.Holds.{Shown, AreAll, around, shown, with_seen, HoldsParts, IsQuiet, IsReady, IsUntouched, Becomes, Stays, Spares, KeepsOthers};
+    ghost use Rattle.s3_level.specs.Inner.Holds.{Shown, AreAll, around, shown, with_seen, HoldsParts, IsQuiet, IsReady, IsUntouched, Becomes, Stays, Spares, KeepsOthers};
     ghost use Rattle.s3_level.specs.Inner.Turning.{request_by, waits_by, Acts, AtWorkBecomes, Serves, FileServed, FileThere, on_files};
 
     /// Reads a card for the job at work.

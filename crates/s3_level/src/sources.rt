@@ -13,12 +13,12 @@ use std::alloc::AllocError;
 impl Level {
     ghost use Rattle.std.specs.Prelude.{◌≡◌, ◌≤◌, length, slice_range, IsTrue, OnOk};
     ghost use Rattle.s3_meaning.specs.Source.{Source};
-    ghost use Rattle.s3_lines.specs.Ranges.{are_read};
+    ghost use Rattle.s3_lines.specs.Inner.Ranges.{are_read};
     ghost use Rattle.s3_diagnose.specs.Diagnostics.{compile_diagnostics};
-    ghost use Rattle.s3_program.specs.Stands.{Stands};
+    ghost use Rattle.s3_program.specs.Inner.Stands.{Stands};
     ghost use Rattle.s3_operator.specs.declared.halt_code.HaltCode.TheVariants.{FaultySource};
     ghost use Rattle.s3_solo.specs.Serving.{compiled, compiled_data, details_of, halting, stocked};
-    ghost use Rattle.s3_level.specs.Holds.{Shown, HoldsParts, Becomes, Stays};
+    ghost use Rattle.s3_level.specs.Inner.Holds.{Shown, HoldsParts, Becomes, Stays};
 
     /// Compiles the source between two places into the library, or shows its diagnostics.
     pub(crate) fn compile(

@@ -1,7 +1,7 @@
 //! Entries that are taken at once.
 ghost use Rattle.std.specs.Prelude.{◌≡◌, ◌≤◌};
 ghost use Rattle.s3_solo.specs.declared.action.Did.TheVariants.{Acted};
-ghost use Rattle.s3_level.specs.Holds.{once as once_spec};
+ghost use Rattle.s3_level.specs.Inner.Holds.{once as once_spec};
 
 use s3_solo::Did;
 use s3_store::PoolFault;

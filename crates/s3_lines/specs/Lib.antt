@@ -1,6 +1,5 @@
-pub mod Ascending
-pub mod Blanks
 pub mod Files
 pub mod Indicators
 pub mod Ranges
 pub mod Reserved
+pub mod Inner

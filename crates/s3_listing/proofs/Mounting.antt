@@ -3,12 +3,12 @@ use Rattle.std.proofs.Common.{◌≡◌, ℕ, List, Result, Ok, Err, sym, ap, su
 use Rattle.s3_slots.specs.Header.{mounted}
 use Rattle.s3_slots.specs.declared.header.Header.{Header}
 use Rattle.s3_slots.specs.declared.header.MountFault.{MountFault}
-use Rattle.s3_labels.specs.Areas.{IsRefusal}
-use Rattle.s3_labels.specs.Images.{contents_of}
+use Rattle.s3_labels.specs.Inner.Areas.{IsRefusal}
+use Rattle.s3_labels.specs.Contents.{contents_of}
 use Rattle.s3_labels.specs.declared.fault.Refusal.{Refusal}
 use Rattle.s3_labels.specs.declared.fault.Refusal.TheVariants.{BadPack, Sectors}
-use Rattle.s3_listing.specs.Faults.{fault_of}
-use Rattle.s3_listing.specs.Listing.{text_if, listing, IsRefused}
+use Rattle.s3_listing.specs.Inner.Faults.{fault_of}
+use Rattle.s3_listing.specs.Inner.Listing.{text_if, listing, IsRefused}
 use Rattle.s3_listing.specs.declared.fault.ListFault.{ListFault}
 
 refused_by : (contents : List (List ℕ)) (found : Result Header MountFault) (refusal : Refusal) → IsRefusal found refusal

@@ -1,4 +1,1 @@
-pub mod Lines
-pub mod Listing
-pub mod Faults
-pub mod Samples
+pub mod Inner

@@ -4,9 +4,9 @@ ghost use Rattle.s3_cards.specs.Names.{name_of};
 ghost use Rattle.s3_cards.specs.declared.retention.Retention.TheVariants.{Permanent, Scratch, Temporary};
 ghost use Rattle.s3_slots.specs.declared.label.Organization.TheVariants.{Direct, Indexed, Sequential};
 ghost use Rattle.s3_slots.specs.declared.slot.Slot.TheVariants.{Damaged, Free, Sound};
-ghost use Rattle.s3_listing.specs.Lines.{slot_line};
-ghost use Rattle.s3_listing.specs.Listing.{area_text};
-ghost use Rattle.s3_listing.specs.Samples.{file};
+ghost use Rattle.s3_listing.specs.Inner.Lines.{slot_line};
+ghost use Rattle.s3_listing.specs.Inner.Listing.{area_text};
+ghost use Rattle.s3_listing.specs.Inner.Samples.{file};
 
 /// Lines: of files, of damaged slots with and without a name, and none of a free slot.
 pub fn slots_are_shown()

@@ -1,7 +1,7 @@
 //! The line of each used slot.
 ghost use Rattle.std.specs.Prelude.{◌≡◌, ◌<◌, ◌++◌, OnOk, map};
-ghost use Rattle.s3_listing.specs.Lines.{shown_byte, name_text, label_text, organization_letter, retention_letter, fields_text, slot_line};
-ghost use Rattle.s3_listing.specs.Listing.{area_text};
+ghost use Rattle.s3_listing.specs.Inner.Lines.{shown_byte, name_text, label_text, organization_letter, retention_letter, fields_text, slot_line};
+ghost use Rattle.s3_listing.specs.Inner.Listing.{area_text};
 
 use crate::number::push_number;
 use s3_cards::{Name, Retention, host_byte};

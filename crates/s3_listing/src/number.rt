@@ -1,6 +1,6 @@
 //! Numbers in lines.
 ghost use Rattle.std.specs.Prelude.{◌≡◌, ◌++◌, OnOk};
-ghost use Rattle.s3_listing.specs.Lines.{in_digits};
+ghost use Rattle.s3_listing.specs.Inner.Lines.{in_digits};
 
 use itoa::Buffer;
 use std::alloc::AllocError;

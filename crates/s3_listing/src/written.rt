@@ -1,10 +1,10 @@
 //! The list of a pack's files.
 ghost use Rattle.std.specs.Prelude.{◌≡◌, Ok, OnOk, IfOk, IfErr};
 ghost use Rattle.s3_slots.specs.Header.{mounted};
-ghost use Rattle.s3_labels.specs.Areas.{areas_on};
-ghost use Rattle.s3_labels.specs.Images.{contents_of};
-ghost use Rattle.s3_listing.specs.Faults.{fault_of as fault_of_spec};
-ghost use Rattle.s3_listing.specs.Listing.{text_of as text_of_spec, listing, WritesText, IsRefused};
+ghost use Rattle.s3_labels.specs.Inner.Areas.{areas_on};
+ghost use Rattle.s3_labels.specs.Contents.{contents_of};
+ghost use Rattle.s3_listing.specs.Inner.Faults.{fault_of as fault_of_spec};
+ghost use Rattle.s3_listing.specs.Inner.Listing.{text_of as text_of_spec, listing, WritesText, IsRefused};
 
 use crate::fault::ListFault;
 use crate::lines::push_area;

@@ -14,10 +14,10 @@ use Rattle.s3_meaning.specs.Selection.{InputFile, Stands, type_of, match_key, in
 use Rattle.s3_meaning.specs.Cycle.{headed, typed, counted_read, on_read}
 use Rattle.s3_program.specs.declared.program.Program.{Program}
 use Rattle.s3_program.specs.declared.starts.TypeStart.{TypeStart}
-use Rattle.s3_program.specs.Stands.{source_named}
-use Rattle.s3_match.specs.Types.{kind_at}
-use Rattle.s3_match.specs.Heads.{ended, put}
-use Rattle.s3_match.specs.Reading.{no_input, input_at, read_from, read_behind, on_record, is_record}
+use Rattle.s3_program.specs.Inner.Stands.{source_named}
+use Rattle.s3_match.specs.Inner.Types.{kind_at}
+use Rattle.s3_match.specs.Inner.Heads.{ended, put}
+use Rattle.s3_match.specs.Inner.Reading.{no_input, input_at, read_from, read_behind, on_record, is_record}
 
 pub record_counted : (source : Source) (anew : Anew) (inputs : List InputFile) (place : ℕ) (bytes : List ℕ) (go : List InputFile → Rest) (e : Environment) → place < length inputs
     → on_read source anew (input_at inputs place) (read_behind source anew inputs place go) (Found bytes) e ≡ on_record source anew (set inputs place (counted_read (input_at inputs place))) place bytes go e

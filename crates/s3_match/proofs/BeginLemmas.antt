@@ -10,16 +10,16 @@ use Rattle.s3_meaning.specs.Environment.{Environment}
 use Rattle.s3_meaning.specs.Selection as meaning
 use Rattle.s3_meaning.specs.Cycle.{first_standing, first_reading}
 use Rattle.s3_program.specs.declared.program.Program.{Program}
-use Rattle.s3_program.specs.Stands.{source_named}
-use Rattle.s3_program.specs.Valid.{named}
+use Rattle.s3_program.specs.Inner.Stands.{source_named}
+use Rattle.s3_program.specs.Inner.Valid.{named}
 use Rattle.s3_match.specs.declared.heads.InputFile.{InputFile}
 use Rattle.s3_match.specs.declared.keys.RecordKey.{RecordKey}
-use Rattle.s3_match.specs.Keys.{key_in}
-use Rattle.s3_match.specs.Heads.{file_at, input_of, IsInput}
-use Rattle.s3_match.specs.Selecting.{reading_of}
-use Rattle.s3_match.specs.Beginning.{BeginsWith}
+use Rattle.s3_match.specs.Inner.Keys.{key_in}
+use Rattle.s3_match.specs.Inner.Heads.{file_at, input_of, IsInput}
+use Rattle.s3_match.specs.Inner.Selecting.{reading_of}
+use Rattle.s3_match.specs.Inner.BeginningEnvironment.{BeginsWith}
 use Rattle.s3_match.specs.Inner.Beginning.{IsFirst, AreFirst}
-use Rattle.s3_match.specs.Reading.{is_input_slot}
+use Rattle.s3_match.specs.Inner.Reading.{is_input_slot}
 use Rattle.s3_match.proofs.SelectLemmas.{file_here}
 use Rattle.s3_match.proofs.SlotLemmas.{one_more_kept}
 

@@ -15,10 +15,10 @@ use Rattle.s3_match.specs.declared.heads.InputFile.{InputFile}
 use Rattle.s3_match.specs.declared.heads.Standing.{Standing}
 use Rattle.s3_match.specs.declared.heads.Standing.TheVariants as at
 use Rattle.s3_match.specs.declared.keys.RecordKey.{RecordKey}
-use Rattle.s3_match.specs.Keys.{key_in}
-use Rattle.s3_match.specs.Heads.{file_at, is_head_standing, has_head, input_of, IsInput}
-use Rattle.s3_match.specs.Selecting.{inputs_of, reading_of, selected_of, selected_at}
-use Rattle.s3_match.specs.Choice.{heads, standing_at, has_head_at, IsHeadAt, is_keyless, is_keyless_alone, in_group, is_in, least_onto}
+use Rattle.s3_match.specs.Inner.Keys.{key_in}
+use Rattle.s3_match.specs.Inner.Heads.{file_at, is_head_standing, has_head, input_of, IsInput}
+use Rattle.s3_match.specs.Inner.Selecting.{inputs_of, reading_of, selected_of, selected_at}
+use Rattle.s3_match.specs.Inner.Choice.{heads, standing_at, has_head_at, IsHeadAt, is_keyless, is_keyless_alone, in_group, is_in, least_onto}
 use Rattle.s3_match.proofs.ControlLemmas.{given}
 use Rattle.s3_match.proofs.SelectLemmas.{Seen, seen, head_seen, with_standing, passes, any_kept, mapped}
 

@@ -8,7 +8,7 @@ use Rattle.s3_lines.specs.declared.sheet.RecordCode.{RecordCode}
 use Rattle.s3_lines.specs.declared.sheet.InputLine.{InputLine}
 use Rattle.s3_lines.specs.declared.sheet.InputLine.TheVariants.{Record}
 use Rattle.s3_program.specs.declared.program.Reference.{Reference}
-use Rattle.s3_match.specs.Types.{entry_holds, further_codes_hold, goes_on_by, further_hold, first_codes_hold, type_holds}
+use Rattle.s3_match.specs.Inner.Types.{entry_holds, further_codes_hold, goes_on_by, further_hold, first_codes_hold, type_holds}
 
 -- at a line, by what its codes say
 pub further_at : (bytes : List ℕ) (inputs : List (InputLine Reference)) (from k : ℕ) (d : InputLine Reference) (here found : Option Bool) → k < length inputs

@@ -9,7 +9,8 @@ use Rattle.s3_lines.specs.declared.sheet.FieldForm.{FieldForm}
 use Rattle.s3_lines.specs.declared.sheet.FieldForm.TheVariants.{Alphanumeric, Zoned, Packed, PackedText}
 use Rattle.s3_lines.specs.declared.sheet.FieldLine.{FieldLine}
 use Rattle.s3_lines.specs.declared.sheet.Shape.TheVariants.{Numeric}
-use Rattle.s3_lines.specs.Ranges.{field_in_range, shape_in_range, shape_of_positions}
+use Rattle.s3_lines.specs.Inner.Ranges.{field_in_range}
+use Rattle.s3_lines.specs.Ranges.{shape_in_range, shape_of_positions}
 use Rattle.s3_meaning.specs.Selection.{compared, is_below}
 
 -- ---- items in front of what is still to come

@@ -13,7 +13,7 @@ use Rattle.s3_meaning.specs.Selection.{compared_field}
 use Rattle.s3_program.specs.declared.mark.Key.TheVariants as key
 use Rattle.s3_program.specs.declared.program.Program.{Program}
 use Rattle.s3_program.specs.declared.program.Reference.{Reference}
-use Rattle.s3_match.specs.Fields.{named_field, is_own, has_level, field_on, begins_group, first_field}
+use Rattle.s3_match.specs.Inner.Fields.{named_field, is_own, has_level, field_on, begins_group, first_field}
 use Rattle.s3_match.specs.Inner.ControlFields.{compared_on}
 use Rattle.s3_match.proofs.FieldLemmas.{no_end, group_ends, field_nowhere}
 

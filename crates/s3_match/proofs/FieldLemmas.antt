@@ -10,7 +10,7 @@ use Rattle.s3_lines.specs.declared.indicator.Indicator.{Indicator}
 use Rattle.s3_lines.specs.declared.sheet.FieldLine.{FieldLine}
 use Rattle.s3_lines.specs.declared.sheet.InputLine.{InputLine}
 use Rattle.s3_lines.specs.declared.sheet.InputLine.TheVariants.{Record, And as AndCodes, Or as OrCodes, Field as InputField}
-use Rattle.s3_lines.specs.Ranges.{field_in_range, input_in_range}
+use Rattle.s3_lines.specs.Inner.Ranges.{field_in_range, input_in_range}
 use Rattle.s3_meaning.specs.RecordTypes.{RecordType, group_fields}
 use Rattle.s3_meaning.specs.Source.{is_field_of}
 use Rattle.s3_program.specs.declared.mark.Key.{Key}
@@ -19,14 +19,15 @@ use Rattle.s3_program.specs.declared.program.Program.{Program}
 use Rattle.s3_program.specs.declared.program.Reference.{Reference}
 use Rattle.s3_program.specs.declared.starts.TypeStart.{TypeStart}
 use Rattle.s3_program.specs.Lines.{map_field}
-use Rattle.s3_program.specs.Positions.{are_in_range}
-use Rattle.s3_program.specs.Started.{type_on}
-use Rattle.s3_program.specs.Stands.{parts_of}
-use Rattle.s3_program.specs.Tables.{Tables, name_of}
-use Rattle.s3_program.specs.Valid.{named_input, meant_input}
+use Rattle.s3_program.specs.Inner.Positions.{are_in_range}
+use Rattle.s3_program.specs.Inner.Started.{type_on}
+use Rattle.s3_program.specs.Inner.Stands.{parts_of}
+use Rattle.s3_program.specs.Tables.{Tables}
+use Rattle.s3_program.specs.Inner.Tables.{name_of}
+use Rattle.s3_program.specs.Inner.Valid.{named_input, meant_input}
 use Rattle.s3_program.proofs.SlotLemmas.{kept}
-use Rattle.s3_match.specs.Types.{tables_in, kind_at, no_type, is_type_start}
-use Rattle.s3_match.specs.Fields.{named_field, is_own, has_level, level_of, field_on, begins_group, first_field, indicator_on, field_at}
+use Rattle.s3_match.specs.Inner.Types.{tables_in, kind_at, no_type, is_type_start}
+use Rattle.s3_match.specs.Inner.Fields.{named_field, is_own, has_level, level_of, field_on, begins_group, first_field, indicator_on, field_at}
 
 -- ---- a loop over lines
 field_here : (indicator : Indicator) (key : Key) (level : Option ℕ) (inputs : List (InputLine Reference)) (from k : ℕ) (d : InputLine Reference) → k < length inputs

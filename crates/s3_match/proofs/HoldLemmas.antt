@@ -12,7 +12,8 @@ use Rattle.s3_lines.specs.declared.indicator.Indicator.{Indicator}
 use Rattle.s3_lines.specs.declared.sheet.FieldLine.{FieldLine}
 use Rattle.s3_lines.specs.declared.sheet.InputLine.{InputLine}
 use Rattle.s3_lines.specs.declared.sheet.InputLine.TheVariants.{Record, And as AndCodes, Or as OrCodes, Field as InputField}
-use Rattle.s3_lines.specs.Ranges.{is_between, if_given, field_in_range}
+use Rattle.s3_lines.specs.Ranges.{is_between, if_given}
+use Rattle.s3_lines.specs.Inner.Ranges.{field_in_range}
 use Rattle.s3_meaning.specs.RecordTypes.{group_fields, types_from}
 use Rattle.s3_meaning.specs.Source.{own_fields, has_control_fields, has_levels}
 use Rattle.s3_meaning.specs.Selection.{compared_field, control_value, same_key, levels}
@@ -20,14 +21,15 @@ use Rattle.s3_program.specs.declared.mark.Key.TheVariants as key
 use Rattle.s3_program.specs.declared.program.Program.{Program}
 use Rattle.s3_program.specs.declared.program.Reference.{Reference}
 use Rattle.s3_program.specs.declared.starts.TypeStart.{TypeStart}
-use Rattle.s3_program.specs.Starts.{is_type}
-use Rattle.s3_program.specs.Stands.{source_named}
-use Rattle.s3_program.specs.Tables.{Tables, name_of}
-use Rattle.s3_program.specs.Valid.{named, named_input}
+use Rattle.s3_program.specs.Inner.Starts.{is_type}
+use Rattle.s3_program.specs.Inner.Stands.{source_named}
+use Rattle.s3_program.specs.Tables.{Tables}
+use Rattle.s3_program.specs.Inner.Tables.{name_of}
+use Rattle.s3_program.specs.Inner.Valid.{named, named_input}
 use Rattle.s3_match.specs.declared.fields.NamedLevels.{NamedLevels}
-use Rattle.s3_match.specs.Types.{tables_in, is_type_start, kind_at}
-use Rattle.s3_match.specs.Fields.{named_field, is_own, has_level, first_field, field_at, named_levels}
-use Rattle.s3_match.specs.Controls.{names_some_level, some_type_names_level, breaks_at, break_of}
+use Rattle.s3_match.specs.Inner.Types.{tables_in, is_type_start, kind_at}
+use Rattle.s3_match.specs.Inner.Fields.{named_field, is_own, has_level, first_field, field_at, named_levels}
+use Rattle.s3_match.specs.Inner.Controls.{names_some_level, some_type_names_level, breaks_at, break_of}
 use Rattle.s3_match.proofs.FieldLemmas.{field_is, field_ranged}
 use Rattle.s3_match.proofs.MatchFieldLemmas.{no_field, is_off}
 use Rattle.s3_match.proofs.KeyLemmas.{control_is, level_any, any_found, is_some_map}

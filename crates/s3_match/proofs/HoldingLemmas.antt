@@ -8,16 +8,17 @@ use Rattle.s3_lines.specs.declared.indicator.Indicator.{Indicator}
 use Rattle.s3_lines.specs.declared.sheet.FieldLine.{FieldLine}
 use Rattle.s3_lines.specs.declared.sheet.InputLine.{InputLine}
 use Rattle.s3_lines.specs.declared.sheet.InputLine.TheVariants.{Record, And as AndCodes, Or as OrCodes, Field as InputField}
-use Rattle.s3_lines.specs.Ranges.{is_between, field_in_range}
+use Rattle.s3_lines.specs.Ranges.{is_between}
+use Rattle.s3_lines.specs.Inner.Ranges.{field_in_range}
 use Rattle.s3_meaning.specs.Selection.{compared_field, control_value, same_key, levels}
 use Rattle.s3_program.specs.declared.mark.Key.TheVariants as key
 use Rattle.s3_program.specs.declared.program.Program.{Program}
 use Rattle.s3_program.specs.declared.program.Reference.{Reference}
 use Rattle.s3_program.specs.declared.starts.TypeStart.{TypeStart}
 use Rattle.s3_match.specs.declared.held.HeldField.{HeldField}
-use Rattle.s3_match.specs.Types.{is_type_start, kind_at}
-use Rattle.s3_match.specs.Fields.{is_own, has_level, field_on, begins_group, first_field}
-use Rattle.s3_match.specs.Controls.{held_in, breaks_at, break_of}
+use Rattle.s3_match.specs.Inner.Types.{is_type_start, kind_at}
+use Rattle.s3_match.specs.Inner.Fields.{is_own, has_level, field_on, begins_group, first_field}
+use Rattle.s3_match.specs.Inner.Controls.{held_in, breaks_at, break_of}
 use Rattle.s3_match.specs.Inner.ControlFields.{compared_on}
 use Rattle.s3_match.specs.Inner.Holding.{seen_in, HoldsLine, breaks_by, IsGreatest, AreHeldTo}
 use Rattle.s3_match.proofs.FieldLemmas.{no_end, field_is, field_ranged}

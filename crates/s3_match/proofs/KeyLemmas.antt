@@ -10,9 +10,9 @@ use Rattle.s3_meaning.specs.Selection.{levels, is_at, compared_field, match_fiel
 use Rattle.s3_program.specs.declared.mark.Key.TheVariants as key
 use Rattle.s3_program.specs.declared.program.Program.{Program}
 use Rattle.s3_program.specs.declared.starts.TypeStart.{TypeStart}
-use Rattle.s3_match.specs.Types.{kind_at}
-use Rattle.s3_match.specs.Fields.{has_level, field_at}
-use Rattle.s3_match.specs.Keys.{value_at, match_values}
+use Rattle.s3_match.specs.Inner.Types.{kind_at}
+use Rattle.s3_match.specs.Inner.Fields.{has_level, field_at}
+use Rattle.s3_match.specs.Inner.Keys.{value_at, match_values}
 
 -- ---- fields at a level
 level_same : (n : ℕ) (entry : Option ℕ) → has_level (Some n) entry ≡ is_at n entry

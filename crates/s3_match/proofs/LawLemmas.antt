@@ -10,7 +10,7 @@ use Rattle.s3_cards.specs.Names.{same_name}
 use Rattle.s3_lines.specs.declared.sheet.Designation.TheVariants.{Primary, Secondary}
 use Rattle.s3_meaning.specs.Source.{is_designated}
 use Rattle.s3_meaning.specs.Selection.{Head, Unread, InputFile, Reading, Selected, head_of, selectable, is_unread, vacated, taken, key_of, is_below, is_less, same_key, lesser, least, has_met_end, select_at_end, primary_first, select, is_matched}
-use Rattle.s3_match.specs.Laws.{heads_of, stands_at, IsFirstLeast, HasKey, IsMatchedBySecondary, IsFirst, has_no_key, has_last_key}
+use Rattle.s3_match.specs.Inner.Laws.{heads_of, stands_at, IsFirstLeast, HasKey, IsMatchedBySecondary, IsFirst, has_no_key, has_last_key}
 
 -- ---- the first of the least
 same_some : {X : Type 0} (a b : X) → Some a ≡ Some b → a ≡ b

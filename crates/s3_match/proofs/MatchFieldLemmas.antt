@@ -14,8 +14,8 @@ use Rattle.s3_program.specs.declared.program.Program.{Program}
 use Rattle.s3_program.specs.declared.program.Reference.{Reference}
 use Rattle.s3_program.specs.declared.starts.TypeStart.{TypeStart}
 use Rattle.s3_match.specs.declared.fields.NamedLevels.{NamedLevels}
-use Rattle.s3_match.specs.Types.{is_type_start, kind_at}
-use Rattle.s3_match.specs.Fields.{named_field, is_own, has_level, level_of, first_field, field_at, names_level, some_names_level, named_levels}
+use Rattle.s3_match.specs.Inner.Types.{is_type_start, kind_at}
+use Rattle.s3_match.specs.Inner.Fields.{named_field, is_own, has_level, level_of, first_field, field_at, names_level, some_names_level, named_levels}
 use Rattle.s3_match.proofs.FieldLemmas.{field_is}
 use Rattle.s3_match.proofs.KeyLemmas.{is_some_map}
 

@@ -6,7 +6,7 @@ use Rattle.s3_meaning.specs.Environment.{Environment}
 use Rattle.s3_meaning.specs.Runs.{Rest, Anew}
 use Rattle.s3_meaning.specs.Selection.{InputFile, is_unread}
 use Rattle.s3_meaning.specs.Cycle.{files_read, file_read}
-use Rattle.s3_match.specs.Reading.{no_input, input_at, AreRead, IsNextUnread, read_from}
+use Rattle.s3_match.specs.Inner.Reading.{no_input, input_at, AreRead, IsNextUnread, read_from}
 
 -- all files are read on from the first place
 pub read_whole : (source : Source) (anew : Anew) (inputs : List InputFile) (go : List InputFile → Rest) → files_read source anew inputs go ≡ read_from source anew inputs 0 go

@@ -11,19 +11,19 @@ use Rattle.s3_lines.specs.declared.sheet.FileLine.{FileLine}
 use Rattle.s3_meaning.specs.Selection as meaning
 use Rattle.s3_meaning.specs.Selection.{Selected, key_of}
 use Rattle.s3_program.specs.declared.program.Program.{Program}
-use Rattle.s3_program.specs.Tables.{name_in}
-use Rattle.s3_program.specs.Valid.{file_entry}
+use Rattle.s3_program.specs.Inner.Tables.{name_in}
+use Rattle.s3_program.specs.FileEntries.{file_entry}
 use Rattle.s3_program.specs.declared.starts.TypeStart.{TypeStart}
 use Rattle.s3_match.specs.declared.heads.InputFile.{InputFile}
 use Rattle.s3_match.specs.declared.heads.Standing.{Standing}
 use Rattle.s3_match.specs.declared.heads.Standing.TheVariants as at
 use Rattle.s3_match.specs.declared.keys.RecordKey.{RecordKey}
 use Rattle.s3_match.specs.declared.reading.Reading.{Reading}
-use Rattle.s3_match.specs.Types.{tables_in, is_type_start}
-use Rattle.s3_match.specs.Keys.{key_in}
-use Rattle.s3_match.specs.Heads.{no_file, file_at, is_unread, is_unread_standing, has_head, is_head_standing, input_of, IsInput}
-use Rattle.s3_match.specs.Selecting.{inputs_of, reading_of, selected_of, selected_at}
-use Rattle.s3_match.specs.Reading.{no_input, input_at, slots_of, bytes_at, is_unread_at, changed_at, head_with, IsReading, AreOnlyTypes, AreNumbersOf, AreLineNumbers, IsUnreadAt}
+use Rattle.s3_match.specs.Inner.Types.{tables_in, is_type_start}
+use Rattle.s3_match.specs.Inner.Keys.{key_in}
+use Rattle.s3_match.specs.Inner.Heads.{no_file, file_at, is_unread, is_unread_standing, has_head, is_head_standing, input_of, IsInput}
+use Rattle.s3_match.specs.Inner.Selecting.{inputs_of, reading_of, selected_of, selected_at}
+use Rattle.s3_match.specs.Inner.Reading.{no_input, input_at, slots_of, bytes_at, is_unread_at, changed_at, head_with, IsReading, AreOnlyTypes, AreNumbersOf, AreLineNumbers, IsUnreadAt}
 use Rattle.s3_match.proofs.SelectLemmas.{with_standing}
 use Rattle.s3_match.proofs.SlotLemmas.{slot_kept}
 

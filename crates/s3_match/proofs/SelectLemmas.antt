@@ -14,9 +14,9 @@ use Rattle.s3_match.specs.declared.heads.InputFile.{InputFile}
 use Rattle.s3_match.specs.declared.heads.Standing.{Standing}
 use Rattle.s3_match.specs.declared.heads.Standing.TheVariants as at
 use Rattle.s3_match.specs.declared.keys.RecordKey.{RecordKey}
-use Rattle.s3_match.specs.Keys.{key_in}
-use Rattle.s3_match.specs.Heads.{no_file, file_at, is_head_standing, has_head, standing_as, input_of, IsInput}
-use Rattle.s3_match.specs.Selecting.{inputs_of, reading_of, selected_of, selected_at, is_secondary_with_key, delays_end}
+use Rattle.s3_match.specs.Inner.Keys.{key_in}
+use Rattle.s3_match.specs.Inner.Heads.{no_file, file_at, is_head_standing, has_head, standing_as, input_of, IsInput}
+use Rattle.s3_match.specs.Inner.Selecting.{inputs_of, reading_of, selected_of, selected_at, is_secondary_with_key, delays_end}
 
 -- ---- the line of a file
 pub file_here : (program : Program) (file : ℕ) (d : FileLine) → file < length program.files.items → file_at program file ≡ get_or program.files.items file d

@@ -6,8 +6,8 @@ use Rattle.std.proofs.lemmas.Bool.{cases_Bool, true≢false}
 use Rattle.std.proofs.lemmas.Bool.Decides.{nat_tests}
 use Rattle.s3_meaning.specs.Source.{is_input}
 use Rattle.s3_program.specs.declared.program.Program.{Program}
-use Rattle.s3_match.specs.Heads.{file_at}
-use Rattle.s3_match.specs.Reading.{is_input_slot, input_slots}
+use Rattle.s3_match.specs.Inner.Heads.{file_at}
+use Rattle.s3_match.specs.Inner.Reading.{is_input_slot, input_slots}
 
 -- ---- kept numbers of a range, in order
 abbrev kept_of : (ℕ → Bool) → ℕ → ℕ → List ℕ

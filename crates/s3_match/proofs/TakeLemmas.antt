@@ -11,17 +11,17 @@ use Rattle.s3_meaning.specs.Source.{is_designated}
 use Rattle.s3_meaning.specs.Selection as meaning
 use Rattle.s3_meaning.specs.Selection.{Selected, key_of, taken}
 use Rattle.s3_program.specs.declared.program.Program.{Program}
-use Rattle.s3_program.specs.Stands.{parts_of}
-use Rattle.s3_program.specs.Valid.{file_entry}
+use Rattle.s3_program.specs.Inner.Stands.{parts_of}
+use Rattle.s3_program.specs.FileEntries.{file_entry}
 use Rattle.s3_program.proofs.SlotLemmas.{kept}
 use Rattle.s3_match.specs.declared.heads.InputFile.{InputFile}
 use Rattle.s3_match.specs.declared.keys.RecordKey.{RecordKey}
 use Rattle.s3_match.specs.declared.reading.Reading.{Reading}
-use Rattle.s3_match.specs.Types.{tables_in}
-use Rattle.s3_match.specs.Keys.{key_in}
-use Rattle.s3_match.specs.Heads.{file_at, input_of, vacated}
-use Rattle.s3_match.specs.Selecting.{inputs_of, selected_of, selected_at}
-use Rattle.s3_match.specs.Reading.{no_input, slots_of, reading_in, IsReading}
+use Rattle.s3_match.specs.Inner.Types.{tables_in}
+use Rattle.s3_match.specs.Inner.Keys.{key_in}
+use Rattle.s3_match.specs.Inner.Heads.{file_at, input_of, vacated}
+use Rattle.s3_match.specs.Inner.Selecting.{inputs_of, selected_of, selected_at}
+use Rattle.s3_match.specs.Inner.Reading.{no_input, slots_of, reading_in, IsReading}
 use Rattle.s3_match.proofs.SelectLemmas.{seen, own_head}
 use Rattle.s3_match.proofs.SlotLemmas.{slot_kept, slot_once}
 use Rattle.s3_program.proofs.TypeLemmas.{same_file}

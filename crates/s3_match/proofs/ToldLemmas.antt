@@ -14,11 +14,11 @@ use Rattle.s3_lines.specs.declared.sheet.InputLine.TheVariants.{And as AndCodes}
 use Rattle.s3_program.specs.declared.program.Program.{Program}
 use Rattle.s3_program.specs.declared.program.Reference.{Reference}
 use Rattle.s3_program.specs.declared.starts.TypeStart.{TypeStart}
-use Rattle.s3_program.specs.Starts.{types_of_file, type_starts}
-use Rattle.s3_match.specs.Types.{IsOnlyType, first_that_holds, is_type_start, kind_at}
+use Rattle.s3_program.specs.Inner.Starts.{types_of_file, type_starts}
+use Rattle.s3_match.specs.Inner.Types.{IsOnlyType, first_that_holds, is_type_start, kind_at}
 use Rattle.s3_match.proofs.FieldLemmas.{start_indicator, start_within}
-use Rattle.s3_match.specs.Fields.{indicator_on}
-use Rattle.s3_match.specs.Reading.{AreLineNumbers, AreNumbersOf, indicators_on, number_on}
+use Rattle.s3_match.specs.Inner.Fields.{indicator_on}
+use Rattle.s3_match.specs.Inner.Reading.{AreLineNumbers, AreNumbersOf, indicators_on, number_on}
 
 -- ---- only types
 pub only_found : (program : Program) (file : ℕ) (bytes : List ℕ) (only : Option TypeStart) → IsOnlyType program file only → is_some only ≡ true

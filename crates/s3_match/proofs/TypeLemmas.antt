@@ -16,15 +16,16 @@ use Rattle.s3_meaning.specs.Selection.{code_holds, type_of}
 use Rattle.s3_program.specs.declared.program.Program.{Program}
 use Rattle.s3_program.specs.declared.program.Reference.{Reference}
 use Rattle.s3_program.specs.declared.starts.TypeStart.{TypeStart}
-use Rattle.s3_program.specs.Started.{type_on, type_at}
-use Rattle.s3_program.specs.Starts.{is_type_of, types_of_file, type_starts}
-use Rattle.s3_program.specs.Stands.{parts_of, source_named}
-use Rattle.s3_program.specs.Tables.{Tables, name_in}
-use Rattle.s3_program.specs.Valid.{named_input}
+use Rattle.s3_program.specs.Inner.Started.{type_on, type_at}
+use Rattle.s3_program.specs.Inner.Starts.{is_type_of, types_of_file, type_starts}
+use Rattle.s3_program.specs.Inner.Stands.{parts_of, source_named}
+use Rattle.s3_program.specs.Tables.{Tables}
+use Rattle.s3_program.specs.Inner.Tables.{name_in}
+use Rattle.s3_program.specs.Inner.Valid.{named_input}
 use Rattle.s3_program.proofs.SlotLemmas.{kept}
 use Rattle.s3_program.proofs.StartedLemmas.{types_stand}
 use Rattle.s3_program.proofs.TypeLemmas.{same_file, starts_have_files}
-use Rattle.s3_match.specs.Types.{tables_in, name_of_file, kind_at, no_type, is_type_start, entry_holds, further_hold, type_holds, first_that_holds}
+use Rattle.s3_match.specs.Inner.Types.{tables_in, name_of_file, kind_at, no_type, is_type_start, entry_holds, further_hold, type_holds, first_that_holds}
 
 -- ---- codes
 entries_all : (bytes : List ℕ) (codes : List (Option RecordCode)) → list_all (entry_holds bytes) codes ≡ list_all (code_holds bytes) (entries codes)

@@ -9,9 +9,9 @@ use Rattle.s3_program.specs.declared.program.Program.{Program}
 use Rattle.s3_match.specs.declared.heads.InputFile.{InputFile}
 use Rattle.s3_match.specs.declared.heads.Standing.{Standing}
 use Rattle.s3_match.specs.declared.heads.Standing.TheVariants as at
-use Rattle.s3_match.specs.Heads.{is_unread, is_unread_standing, input_of}
-use Rattle.s3_match.specs.Selecting.{inputs_of}
-use Rattle.s3_match.specs.Reading.{no_input, input_at, is_unread_at, AreRead, IsNextUnread}
+use Rattle.s3_match.specs.Inner.Heads.{is_unread, is_unread_standing, input_of}
+use Rattle.s3_match.specs.Inner.Selecting.{inputs_of}
+use Rattle.s3_match.specs.Inner.Reading.{no_input, input_at, is_unread_at, AreRead, IsNextUnread}
 use Rattle.s3_match.proofs.SelectLemmas.{with_standing}
 
 pub unread_same : (program : Program) (input : InputFile) → meaning.is_unread (input_of program input) ≡ is_unread input

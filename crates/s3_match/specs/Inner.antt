@@ -1,4 +1,14 @@
--- Words of inner functions and of proofs: none of them says what the product means.
-pub mod ControlFields
+-- What the contracts of a run and of a session don't reach: words of inner functions, of proofs and of other calls.
 pub mod Beginning
+pub mod BeginningEnvironment
+pub mod Choice
+pub mod ControlFields
+pub mod Controls
+pub mod Fields
+pub mod Heads
 pub mod Holding
+pub mod Keys
+pub mod Laws
+pub mod Reading
+pub mod Selecting
+pub mod Types

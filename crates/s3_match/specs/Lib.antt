@@ -1,11 +1,1 @@
-pub mod Types
-pub mod Fields
-pub mod Keys
-pub mod Laws
-pub mod Heads
-pub mod Controls
-pub mod Selecting
-pub mod Choice
-pub mod Reading
-pub mod Beginning
 pub mod Inner

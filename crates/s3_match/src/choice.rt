@@ -5,10 +5,10 @@ ghost use Rattle.std.specs.List.{All, list_any};
 ghost use Rattle.s3_meaning.specs.Selection as meaning;
 ghost use Rattle.s3_meaning.specs.Selection.{Selected, lesser, key_of};
 ghost use Rattle.s3_program.specs.declared.program.Program.{Program};
-ghost use Rattle.s3_match.specs.Heads.{IsInput};
-ghost use Rattle.s3_match.specs.Keys.{key_in};
-ghost use Rattle.s3_match.specs.Selecting.{reading_of, selected_at};
-ghost use Rattle.s3_match.specs.Choice as spec;
+ghost use Rattle.s3_match.specs.Inner.Heads.{IsInput};
+ghost use Rattle.s3_match.specs.Inner.Keys.{key_in};
+ghost use Rattle.s3_match.specs.Inner.Selecting.{reading_of, selected_at};
+ghost use Rattle.s3_match.specs.Inner.Choice as spec;
 
 use crate::heads::InputFile;
 use crate::keys::RecordKey;

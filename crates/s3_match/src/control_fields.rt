@@ -2,13 +2,14 @@
 
 ghost use Rattle.std.specs.Prelude.{◌≡◌, ◌≤◌, ◌==◌, ◌&&◌, ℕ, true, not, nat_lt, length, IsTrue, IfSome, Some, None, if◌then◌else◌};
 ghost use Rattle.std.specs.Option.{option_or};
-ghost use Rattle.s3_lines.specs.Ranges.{field_in_range, is_between};
+ghost use Rattle.s3_lines.specs.Inner.Ranges.{field_in_range};
+ghost use Rattle.s3_lines.specs.Ranges.{is_between};
 ghost use Rattle.s3_meaning.specs.Selection.{control_value, same_key};
 ghost use Rattle.s3_program.specs.declared.mark.Key.TheVariants as key;
-ghost use Rattle.s3_match.specs.Types.{is_type_start, kind_at};
-ghost use Rattle.s3_match.specs.Controls.{break_of, held_in};
-ghost use Rattle.s3_match.specs.Fields.{field_on as field_on_spec};
-ghost use Rattle.s3_match.specs.Keys.{held_key};
+ghost use Rattle.s3_match.specs.Inner.Types.{is_type_start, kind_at};
+ghost use Rattle.s3_match.specs.Inner.Controls.{break_of, held_in};
+ghost use Rattle.s3_match.specs.Inner.Fields.{field_on as field_on_spec};
+ghost use Rattle.s3_match.specs.Inner.Keys.{held_key};
 ghost use Rattle.s3_match.specs.Inner.ControlFields.{compared_on};
 ghost use Rattle.s3_match.specs.Inner.Holding as spec;
 

@@ -3,15 +3,15 @@
 ghost use Rattle.std.specs.Prelude.{◌≡◌, ◌≤◌, ◌==◌, ℕ, IsTrue, IfSome, None, length, option_map, if◌then◌else◌};
 ghost use Rattle.std.specs.Option.{option_or};
 ghost use Rattle.std.specs.List.{list_any};
-ghost use Rattle.s3_lines.specs.Ranges.{field_in_range};
+ghost use Rattle.s3_lines.specs.Inner.Ranges.{field_in_range};
 ghost use Rattle.s3_meaning.specs.RecordTypes.{RecordType};
 ghost use Rattle.s3_meaning.specs.Selection.{control_value};
 ghost use Rattle.s3_meaning.specs.Source.{has_control_fields as has_control_fields_spec, has_levels as has_levels_spec};
-ghost use Rattle.s3_program.specs.Stands.{source_named};
-ghost use Rattle.s3_program.specs.Starts.{is_type};
-ghost use Rattle.s3_match.specs.Types.{is_type_start, kind_at};
-ghost use Rattle.s3_match.specs.Fields.{named_levels};
-ghost use Rattle.s3_match.specs.Controls as spec;
+ghost use Rattle.s3_program.specs.Inner.Stands.{source_named};
+ghost use Rattle.s3_program.specs.Inner.Starts.{is_type};
+ghost use Rattle.s3_match.specs.Inner.Types.{is_type_start, kind_at};
+ghost use Rattle.s3_match.specs.Inner.Fields.{named_levels};
+ghost use Rattle.s3_match.specs.Inner.Controls as spec;
 
 use crate::control_fields::hold_fields;
 use crate::fields::{NamedLevels, field_at};

@@ -1,10 +1,10 @@
 //! Finds the match and control fields of a record type.
 
 ghost use Rattle.std.specs.Prelude.{◌≡◌, drop, is_some, IsTrue, IfSome, None, option_map};
-ghost use Rattle.s3_lines.specs.Ranges.{field_in_range};
+ghost use Rattle.s3_lines.specs.Inner.Ranges.{field_in_range};
 ghost use Rattle.s3_program.specs.declared.mark.Key.TheVariants as key_of;
-ghost use Rattle.s3_match.specs.Types.{is_type_start, kind_at};
-ghost use Rattle.s3_match.specs.Fields as spec;
+ghost use Rattle.s3_match.specs.Inner.Types.{is_type_start, kind_at};
+ghost use Rattle.s3_match.specs.Inner.Fields as spec;
 
 use s3_lines::indicator::Indicator;
 use s3_lines::sheet::{FieldLine, InputLine};

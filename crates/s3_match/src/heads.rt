@@ -4,9 +4,9 @@ ghost use Rattle.std.specs.Prelude.{◌≡◌, ◌≤◌, ◌<◌, length, not, 
 ghost use Rattle.s3_meaning.specs.Cycle.{counted_read};
 ghost use Rattle.s3_meaning.specs.Selection as meaning;
 ghost use Rattle.s3_program.specs.declared.program.Program.{Program};
-ghost use Rattle.s3_match.specs.Types.{is_type_start, kind_at};
-ghost use Rattle.s3_match.specs.Fields.{named_levels};
-ghost use Rattle.s3_match.specs.Heads as spec;
+ghost use Rattle.s3_match.specs.Inner.Types.{is_type_start, kind_at};
+ghost use Rattle.s3_match.specs.Inner.Fields.{named_levels};
+ghost use Rattle.s3_match.specs.Inner.Heads as spec;
 
 use crate::fields::NamedLevels;
 use crate::keys::RecordKey;

@@ -20,9 +20,9 @@ pub struct HeldField {
 
 impl HeldField {
     ghost use Rattle.std.specs.Prelude.{◌≡◌, ◌≤◌, None, Some, IsTrue, length};
-    ghost use Rattle.s3_lines.specs.Ranges.{field_in_range};
+    ghost use Rattle.s3_lines.specs.Inner.Ranges.{field_in_range};
     ghost use Rattle.s3_meaning.specs.Selection.{same_key};
-    ghost use Rattle.s3_match.specs.Keys.{held_key};
+    ghost use Rattle.s3_match.specs.Inner.Keys.{held_key};
     ghost use Rattle.s3_match.specs.Inner.ControlFields.{compared_on};
 
     /// None is held.

@@ -2,11 +2,11 @@
 
 ghost use Rattle.std.specs.Prelude.{◌≡◌, ◌+◌, ◌≤◌, ◌++◌, [], None, IsTrue, IfSome, is_some, length, option_map, unwrap_or};
 ghost use Rattle.arrayvec.specs.ArrayVec.{array_vec_len};
-ghost use Rattle.s3_lines.specs.Ranges.{field_in_range};
+ghost use Rattle.s3_lines.specs.Inner.Ranges.{field_in_range};
 ghost use Rattle.s3_meaning.specs.Selection as meaning;
-ghost use Rattle.s3_match.specs.Types.{is_type_start, kind_at};
-ghost use Rattle.s3_match.specs.Fields.{named_levels};
-ghost use Rattle.s3_match.specs.Keys as spec;
+ghost use Rattle.s3_match.specs.Inner.Types.{is_type_start, kind_at};
+ghost use Rattle.s3_match.specs.Inner.Fields.{named_levels};
+ghost use Rattle.s3_match.specs.Inner.Keys as spec;
 ghost use Rattle.s3_match.specs.Inner.ControlFields.{compared_on};
 
 use crate::compared::{KEY_BYTES, field_bytes, is_below, push_compared};

@@ -13,12 +13,12 @@ ghost use Rattle.s3_meaning.specs.RecordTypes.{RecordType};
 ghost use Rattle.s3_operator.specs.declared.halt_code.HaltCode.TheVariants.{OutOfSequence, UnidentifiedRecord};
 ghost use Rattle.s3_program.specs.declared.program.Program.{Program};
 ghost use Rattle.s3_program.specs.declared.starts.TypeStart.{TypeStart};
-ghost use Rattle.s3_program.specs.Stands.{source_named};
-ghost use Rattle.s3_match.specs.Types.{kind_at};
-ghost use Rattle.s3_match.specs.Controls.{break_of};
-ghost use Rattle.s3_match.specs.Heads.{ended, put};
-ghost use Rattle.s3_match.specs.Laws.{heads_of, stands_at, IsFirstLeast, IsMatchedBySecondary, HasKey, IsFirst, has_no_key, has_last_key};
-ghost use Rattle.s3_match.specs.Reading.{input_at, read_from, read_behind, on_record, is_record, AreRead, IsNextUnread};
+ghost use Rattle.s3_program.specs.Inner.Stands.{source_named};
+ghost use Rattle.s3_match.specs.Inner.Types.{kind_at};
+ghost use Rattle.s3_match.specs.Inner.Controls.{break_of};
+ghost use Rattle.s3_match.specs.Inner.Heads.{ended, put};
+ghost use Rattle.s3_match.specs.Inner.Laws.{heads_of, stands_at, IsFirstLeast, IsMatchedBySecondary, HasKey, IsFirst, has_no_key, has_last_key};
+ghost use Rattle.s3_match.specs.Inner.Reading.{input_at, read_from, read_behind, on_record, is_record, AreRead, IsNextUnread};
 
 /// Where all heads have match fields, the selected one is the first least one, the primary standing before the secondary files and
 /// these in F order: each head before it has a higher key.

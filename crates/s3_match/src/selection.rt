@@ -7,8 +7,8 @@ ghost use Rattle.s3_meaning.specs.Source.{is_designated};
 ghost use Rattle.s3_meaning.specs.Selection as meaning;
 ghost use Rattle.s3_meaning.specs.Selection.{Selected};
 ghost use Rattle.s3_match.specs.declared.heads.InputFile.{InputFile};
-ghost use Rattle.s3_match.specs.Heads.{IsInput, file_at, has_head};
-ghost use Rattle.s3_match.specs.Selecting as spec;
+ghost use Rattle.s3_match.specs.Inner.Heads.{IsInput, file_at, has_head};
+ghost use Rattle.s3_match.specs.Inner.Selecting as spec;
 
 use crate::heads::InputFile;
 use crate::keys::RecordKey;

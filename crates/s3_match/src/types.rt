@@ -3,9 +3,9 @@
 ghost use Rattle.std.specs.Prelude.{ℕ, List, ◌≡◌, ◌-◌, ◌<◌, ◌≤◌, length, drop, slice_index, option_map, None, IsTrue, IfSome};
 ghost use Rattle.std.specs.List.{list_all};
 ghost use Rattle.s3_meaning.specs.Selection as meaning;
-ghost use Rattle.s3_program.specs.Stands.{source_named};
-ghost use Rattle.s3_program.specs.Starts.{types_of_file, type_starts};
-ghost use Rattle.s3_match.specs.Types as spec;
+ghost use Rattle.s3_program.specs.Inner.Stands.{source_named};
+ghost use Rattle.s3_program.specs.Inner.Starts.{types_of_file, type_starts};
+ghost use Rattle.s3_match.specs.Inner.Types as spec;
 
 use s3_cards::ebcdic::{AMPERSAND, BLANK, MINUS};
 use s3_lines::sheet::{CodePart, InputLine, RecordCode};

@@ -25,7 +25,7 @@ use Rattle.s3_meaning.specs.Output.{printed, stored_or_halted, file_line_put, li
 use Rattle.s3_meaning.specs.Calculating.{divided, not_found, chained_to, on_chain, chained, performed, calculated}
 use Rattle.s3_meaning.specs.Cycle.{halts_shown, headings, cleared, headed, typed, on_read, file_read, files_read, totals, last_time, total_time, overflow_lines, detail_time, record_time, selected_or_last, reading_time, one_cycle, anew_within, again, Req}
 use Rattle.s3_meaning.specs.Source.{source_of}
-use Rattle.s3_meaning.specs.Samples.{named, padded_to}
+use Rattle.s3_meaning.specs.Inner.Samples.{named, padded_to}
 
 -- the request after each of the answers
 asked : Run → List Answer → List Request

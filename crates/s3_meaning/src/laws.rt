@@ -4,19 +4,20 @@ ghost use Rattle.std.specs.Prelude.{◌≡◌, ◌+◌, ◌*◌, ◌<◌, ◌≤
 ghost use Rattle.s3_meaning.specs.Carriage.{Carriage, spaced, skipped};
 ghost use Rattle.s3_meaning.specs.Selection.{Selected, key_of, is_less, least};
 ghost use Rattle.s3_meaning.specs.Source.{Source, source_of};
-ghost use Rattle.s3_meaning.specs.Requests.{Card, Read, Chain, RecordNumber, Append, Add, Update, Jump, Found, Nothing, Done, Refused, Print, End, Ask, Reply, fits};
+ghost use Rattle.s3_meaning.specs.Requests.{Card, Read, Chain, RecordNumber, Append, Add, Update, Jump, Found, Nothing, Done, Refused, Print, End, Ask, Reply};
+ghost use Rattle.s3_meaning.specs.Inner.Requests.{fits};
 ghost use Rattle.s3_operator.specs.declared.halt_code.HaltCode.TheVariants.{FileFull, KeyNotAscending, DuplicateKey, NothingToUpdate, KeyChanged};
-ghost use Rattle.s3_operator.specs.Samples.{going_codes, ending_codes};
-ghost use Rattle.s3_meaning.specs.Fitting.{all_answers};
-ghost use Rattle.s3_meaning.specs.SheetWords.{ComeOut};
-ghost use Rattle.s3_meaning.specs.LevelCorners.{level_corners};
-ghost use Rattle.s3_meaning.specs.ReplyCorners.{reply_corners, file_reply_corners};
-ghost use Rattle.s3_meaning.specs.LineCorners.{line_corners, carriage_corners};
-ghost use Rattle.s3_meaning.specs.CalculationCorners.{calculation_corners};
-ghost use Rattle.s3_meaning.specs.FileCorners.{file_corners};
-ghost use Rattle.s3_meaning.specs.MatchingCorners.{matching_corners};
+ghost use Rattle.s3_operator.specs.Inner.Samples.{going_codes, ending_codes};
+ghost use Rattle.s3_meaning.specs.Inner.Fitting.{all_answers};
+ghost use Rattle.s3_meaning.specs.Inner.SheetWords.{ComeOut};
+ghost use Rattle.s3_meaning.specs.Inner.LevelCorners.{level_corners};
+ghost use Rattle.s3_meaning.specs.Inner.ReplyCorners.{reply_corners, file_reply_corners};
+ghost use Rattle.s3_meaning.specs.Inner.LineCorners.{line_corners, carriage_corners};
+ghost use Rattle.s3_meaning.specs.Inner.CalculationCorners.{calculation_corners};
+ghost use Rattle.s3_meaning.specs.Inner.FileCorners.{file_corners};
+ghost use Rattle.s3_meaning.specs.Inner.MatchingCorners.{matching_corners};
 ghost use Rattle.s3_meaning.specs.Cycle.{again, renewed, Req};
-ghost use Rattle.s3_meaning.specs.Samples.{card_lister, level_totals, card, print_line, no_date, cards};
+ghost use Rattle.s3_meaning.specs.Inner.Samples.{card_lister, level_totals, card, print_line, no_date, cards};
 
 /// What a run can begin anew is what its definition makes of itself: no bound is left in it.
 pub fn nothing_is_bounded()

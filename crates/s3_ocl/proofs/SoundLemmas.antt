@@ -27,10 +27,11 @@ use Rattle.s3_ocl.specs.Statements.{pieces_in, pieces_from, pieces_of, texts_of,
 use Rattle.s3_ocl.specs.declared.contents.FileStatement.{FileStatement}
 use Rattle.s3_ocl.specs.declared.faults.Mark.{Mark}
 use Rattle.s3_ocl.specs.declared.jobs.OclFault.{OclFault}
-use Rattle.s3_ocl.specs.Jobs.{Job, Gives, job_at, job_or_fault, job_with, heading_at, cards_of}
+use Rattle.s3_ocl.specs.Jobs.{Job, job_at, job_or_fault, job_with, heading_at, cards_of}
+use Rattle.s3_ocl.specs.Inner.Jobs.{Gives}
 use Rattle.std.specs.Option.{option_map, option_or}
 use Rattle.s3_ocl.specs.Contents.{rank, is_parameter, stands_at, gives, right_value, value_in, named, count, dated as value_date, name_in, count_in, date_in, date_of, first_in, size_of, file_with, files_of}
-use Rattle.s3_ocl.specs.Sound.{is_padded_name, is_between, is_size, is_sound_date, is_sound_file}
+use Rattle.s3_ocl.specs.Inner.Sound.{is_padded_name, is_between, is_size, is_sound_date, is_sound_file}
 use Rattle.s3_cards.specs.Numbers.{number_of}
 use Rattle.s3_cards.proofs.NumberLemmas.{number_below}
 

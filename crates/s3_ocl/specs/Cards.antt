@@ -2,8 +2,6 @@
 use Rattle.std.specs.Prelude.{ℕ, ◌+◌, ◌==◌, ◌||◌, ◌&&◌, not, List, [], ◌∷◌, Bool, take, drop, length, nat_eq}
 use Rattle.std.specs.List.{prefix_len, position_or_len, starts_with}
 use Rattle.s3_cards.specs.declared.ebcdic.TheConstants.{BLANK, AMPERSAND, ASTERISK, SLASH}
-use Rattle.s3_ocl.specs.declared.cards.Stop.{Stop}
-use Rattle.s3_ocl.specs.declared.cards.Stop.TheVariants.{Beginning, Separator, JobEnd, Close}
 use Rattle.s3_cards.specs.Names.{is_blank, is_mark}
 
 -- a card that begins `/*`
@@ -29,13 +27,6 @@ begins_job card = not (is_separator card)
 -- a card at which a job ends once its data have ended
 abbrev pub closes_job : List ℕ → Bool
 closes_job card = is_job_end card || is_statement card
-
--- what a search among cards stops at
-abbrev pub stops_at : Stop → List ℕ → Bool
-stops_at Beginning = begins_job
-stops_at Separator = is_separator
-stops_at JobEnd = is_job_end
-stops_at Close = closes_job
 
 -- the first place from a place on whose card passes a test, or the place behind the last card
 abbrev pub next_place : (List ℕ → Bool) → List (List ℕ) → ℕ → ℕ

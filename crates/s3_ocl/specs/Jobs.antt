@@ -1,5 +1,5 @@
 -- The jobs of a list of cards.
-use Rattle.std.specs.Prelude.{◌≡◌, ◌<◌, ◌≤◌, ℕ, ◌+◌, ◌-◌, List, [], ◌∷◌, ◌++◌, Bool, false, Option, Some, None, Result, Ok, Err, length, min, drop, replicate, sum_by, unwrap_or, slice_get, nat_lt, if◌then◌else◌}
+use Rattle.std.specs.Prelude.{ℕ, ◌+◌, ◌-◌, List, [], ◌∷◌, ◌++◌, Bool, false, Option, Some, None, Result, Ok, Err, length, min, drop, replicate, sum_by, unwrap_or, slice_get, if◌then◌else◌}
 use Rattle.s3_cards.specs.declared.name.Name.{Name}
 use Rattle.s3_ocl.specs.declared.values.Switch.{Switch}
 use Rattle.s3_ocl.specs.declared.values.Switch.TheVariants.{Leave}
@@ -8,8 +8,6 @@ use Rattle.s3_ocl.specs.declared.contents.FileStatement.{FileStatement}
 use Rattle.s3_ocl.specs.declared.faults.JobFault.TheVariants.{NotOcl, NoRun}
 use Rattle.s3_ocl.specs.declared.faults.Mark.{Mark}
 use Rattle.s3_ocl.specs.declared.faults.FaultyJob.{FaultyJob}
-use Rattle.s3_ocl.specs.declared.jobs.OclFault.{OclFault}
-use Rattle.s3_ocl.specs.declared.jobs.OclFault.TheVariants.{NoMemory, Faulty}
 use Rattle.s3_ocl.specs.Cards.{is_separator, is_job_end, begins_job, closes_job, next_place}
 use Rattle.s3_cards.specs.Names.{same_name, no_name}
 use Rattle.s3_ocl.specs.declared.words.TheConstants.{COMPILER}
@@ -98,21 +96,3 @@ place_after (Err faulty) = faulty.after
 -- the place of the next job from a place on, or that behind the last card
 abbrev pub next_job : List (List ℕ) → ℕ → ℕ
 next_job cards from = next_place begins_job cards from
-
--- the same as an answer: none where there is no job
-abbrev pub job_place : List (List ℕ) → ℕ → Option ℕ
-job_place cards from = if nat_lt (next_job cards from) (length cards) then Some (next_job cards from) else None
-
--- what a call answered is this job or its fault, unless memory ran out
-abbrev pub Gives : Result Job OclFault → Result Job FaultyJob → Type 0
-Gives (Err NoMemory) meant = Unit {0}
-Gives (Err (Faulty faulty)) meant = meant ≡ Err faulty
-Gives (Ok job) meant = meant ≡ Ok job
-
--- where a job that begins at a place lies in the deck, and the card at fault in it
-abbrev pub LiesWithin : List (List ℕ) → ℕ → Result Job OclFault → Type 0
-LiesWithin cards place (Err NoMemory) = Unit {0}
-LiesWithin cards place (Err (Faulty faulty)) =
-    (place < faulty.card) × (faulty.card ≤ length cards) × (place < faulty.after) × (faulty.after ≤ length cards)
-LiesWithin cards place (Ok job) =
-    (place < job.data_from) × (job.data_from ≤ job.data_to) × (job.data_to ≤ job.after) × (job.after ≤ length cards)

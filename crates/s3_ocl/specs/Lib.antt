@@ -4,7 +4,6 @@ pub mod Faults
 pub mod Jobs
 pub mod Parameters
 pub mod Signs
-pub mod Sound
 pub mod Statements
 pub mod Streams
 pub mod Values

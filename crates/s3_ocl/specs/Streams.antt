@@ -1,15 +1,7 @@
 -- The job stream of a list of cards.
-use Rattle.std.specs.Prelude.{◌≡◌, ◌<◌, ◌≤◌, ℕ, zero, suc, List, [], ◌∷◌, Result, length, nat_lt, if◌then◌else◌}
+use Rattle.std.specs.Prelude.{ℕ, zero, suc, List, [], ◌∷◌, Result, length, nat_lt, if◌then◌else◌}
 use Rattle.s3_ocl.specs.declared.faults.FaultyJob.{FaultyJob}
 use Rattle.s3_ocl.specs.Jobs.{Job, job_at, next_job, place_after}
-
--- what stands from a place on is this list of jobs: separators and nothing else, or separators, a job, and what stands
--- behind that job
-pub data Stream (cards : List (List ℕ)) : ℕ → List (Result Job FaultyJob) → Type 0 where
-  ends : (from : ℕ) → length cards ≤ next_job cards from → Stream cards from []
-  next : (from : ℕ) (jobs : List (Result Job FaultyJob)) → next_job cards from < length cards
-      → Stream cards (place_after (job_at cards (next_job cards from))) jobs
-      → Stream cards from (job_at cards (next_job cards from) ∷ jobs)
 
 -- at most so many jobs as turns, from a place on
 unfoldable pub jobs_within : ℕ → List (List ℕ) → ℕ → List (Result Job FaultyJob)
@@ -22,9 +14,3 @@ jobs_within (suc turns) cards from =
 -- the jobs from a place on
 abbrev pub jobs_from : List (List ℕ) → ℕ → List (Result Job FaultyJob)
 jobs_from cards from = jobs_within (length cards) cards from
-
--- from each place of each list of cards there is a list of jobs, and no other
-abbrev pub OneStream : Type 0
-OneStream =
-    (cards : List (List ℕ)) (from : ℕ)
-    → Stream cards from (jobs_from cards from) × ((jobs : List (Result Job FaultyJob)) → Stream cards from jobs → jobs ≡ jobs_from cards from)

@@ -1,10 +1,11 @@
 //! The jobs of a deck.
 ghost use Rattle.std.specs.Prelude.{◌≡◌, ◌<◌, ◌≤◌, ◌+◌, [], IfOk, IfSome, IsTrue, length, drop, slice_get, slice_index_or};
 ghost use Rattle.s3_ocl.specs.Cards.{is_job_end as job_end_spec, is_statement as statement_spec};
-ghost use Rattle.s3_ocl.specs.Jobs.{job_with as job_with_spec, faulty_end, job_end as job_end_at, stop_fault as stop_fault_spec, holds_at, job_at as job_at_spec, next_job, job_place, is_compile as is_compile_spec, Gives, LiesWithin};
+ghost use Rattle.s3_ocl.specs.Jobs.{job_with as job_with_spec, faulty_end, job_end as job_end_at, stop_fault as stop_fault_spec, holds_at, job_at as job_at_spec, next_job, is_compile as is_compile_spec};
+ghost use Rattle.s3_ocl.specs.Inner.Jobs.{job_place, Gives, LiesWithin};
 ghost use Rattle.s3_ocl.specs.Inner.Steps.{Behind, IsKept, KeptOf, last_fault as last_fault_spec, with_last};
-ghost use Rattle.s3_ocl.specs.Sound.{is_sound_date, is_sound_file};
-ghost use Rattle.s3_ocl.specs.Streams.{OneStream};
+ghost use Rattle.s3_ocl.specs.Inner.Sound.{is_sound_date, is_sound_file};
+ghost use Rattle.s3_ocl.specs.Inner.Streams.{OneStream};
 ghost use Rattle.std.specs.List.{list_all};
 ghost use Rattle.s3_ocl.specs.Faults.{first_fault, statement_faults};
 ghost use Rattle.s3_ocl.specs.Statements.{statement_at};

@@ -1,6 +1,6 @@
 //! The words of the statements.
 ghost use Rattle.std.specs.Prelude.{◌≡◌};
-ghost use Rattle.s3_ocl.specs.Words.{words as words_spec, punched_words};
+ghost use Rattle.s3_ocl.specs.Inner.Words.{words as words_spec, punched_words};
 
 use s3_cards::punched;
 

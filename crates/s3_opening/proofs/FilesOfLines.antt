@@ -8,7 +8,7 @@ use Rattle.s3_cards.proofs.NameLemmas.{same_name-self, same_name-equal}
 use Rattle.s3_lines.specs.declared.sheet.FileLine.{FileLine}
 use Rattle.s3_job_files.specs.declared.file.OpenFile.{OpenFile}
 use Rattle.s3_opening.specs.Asked.{is_used}
-use Rattle.s3_opening.specs.OpenFiles.{AreOfEach, AreOfLines, IsLaidOutAs, IsOfLine}
+use Rattle.s3_opening.specs.Inner.OpenFiles.{AreOfEach, AreOfLines, IsLaidOutAs, IsOfLine}
 
 -- ---- by the place of a file
 -- a line that the job uses, which a file is of

@@ -5,15 +5,15 @@ use Rattle.std.specs.Prelude.{Some, Err, slice_get}
 use Rattle.std.specs.List.{list_all}
 use Rattle.s3_cards.specs.declared.levels.LevelId.{LevelId}
 use Rattle.s3_lines.specs.declared.sheet.FileLine.{FileLine}
-use Rattle.s3_store.specs.State.{PoolState, KeepsContents}
+use Rattle.s3_store.specs.Inner.State.{PoolState, KeepsContents}
 use Rattle.s3_store.proofs.Frames.{keeps_refl, keeps_trans}
-use Rattle.s3_labels.specs.Areas.{Areas, IsReady as IsPackReady}
-use Rattle.s3_job_files.specs.Holds.{seen}
+use Rattle.s3_labels.specs.Inner.Areas.{Areas, IsReady as IsPackReady}
+use Rattle.s3_job_files.specs.Inner.Holds.{seen}
 use Rattle.s3_opening.specs.declared.fault.OpeningFault.{OpeningFault}
 use Rattle.s3_opening.specs.declared.starts.Start.{Start}
 use Rattle.s3_opening.specs.Opening.{Settings}
-use Rattle.s3_opening.specs.Starts.{step_in, TestsTo, AreRight}
-use Rattle.s3_opening.specs.Tests.{passed, tested_lines}
+use Rattle.s3_opening.specs.Inner.Starts.{step_in, TestsTo, AreRight}
+use Rattle.s3_opening.specs.Inner.Tests.{passed, tested_lines}
 use Rattle.s3_opening.proofs.Steps.{lines_first, lines_refused}
 
 -- the first i lines are tested, and nothing has changed

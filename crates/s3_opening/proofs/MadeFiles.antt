@@ -8,16 +8,17 @@ use Rattle.s3_cards.specs.declared.levels.LevelId.TheVariants.{One, Two}
 use Rattle.s3_cards.specs.declared.name.Name.{Name}
 use Rattle.s3_cards.specs.Names.{same_name}
 use Rattle.s3_cards.proofs.NameLemmas.{same_name-self, same_name-equal}
-use Rattle.s3_store.specs.State.{PoolState, ChangesWithin, KeepsInStep}
+use Rattle.s3_store.specs.Inner.State.{PoolState, ChangesWithin, KeepsInStep}
 use Rattle.s3_store.specs.declared.stretch.Stretch.{Stretch}
 use Rattle.s3_store.proofs.Frames.{step_from_within}
 use Rattle.s3_slots.specs.Header.{region_of}
 use Rattle.s3_cards.specs.declared.ebcdic.TheConstants.{BLANK}
 use Rattle.s3_files.proofs.Rooms.{of_pack_room}
-use Rattle.s3_labels.specs.Written.{IsWritten}
-use Rattle.s3_slots.specs.Kept.{AreKept, IsOfPack}
+use Rattle.s3_labels.specs.Inner.Written.{IsWritten}
+use Rattle.s3_slots.specs.Inner.Kept.{AreKept, IsOfPack}
 use Rattle.s3_slots.specs.Labels.{is_direct, sectors_of}
-use Rattle.s3_slots.specs.Making.{capacity_of, made, new_label, IsNewFile}
+use Rattle.s3_slots.specs.Making.{capacity_of, made, new_label}
+use Rattle.s3_slots.specs.Inner.Making.{IsNewFile}
 use Rattle.s3_slots.specs.Slots.{bears, is_damaged_under, standing, standing_with, slot_at}
 use Rattle.s3_slots.specs.Stretches.{IsIn}
 use Rattle.s3_slots.specs.declared.header.Header.{Header}
@@ -30,19 +31,20 @@ use Rattle.s3_slots.specs.declared.slot.Standing.TheVariants.{Present}
 use Rattle.s3_slots.proofs.Judging.{made_kept}
 use Rattle.s3_slots.proofs.Keeping.{formed_parts, extents_inside}
 use Rattle.s3_slots.proofs.Runs.{none_at}
-use Rattle.s3_labels.specs.Areas.{Areas, area_of, region_at, slots_at, with_slots, AreFilled, IsLabelSector, IsOfDirect, IsOfMake, IsReady as IsPackReady}
+use Rattle.s3_labels.specs.Inner.Areas.{Areas, region_at, slots_at, with_slots, AreFilled, IsOfDirect, IsOfMake, IsReady as IsPackReady}
+use Rattle.s3_labels.specs.Areas.{area_of, IsLabelSector}
 use Rattle.s3_labels.proofs.Changes.{header_with}
 use Rattle.s3_labels.proofs.Regions.{ready_region}
 use Rattle.s3_job_files.specs.declared.file.OpenFile.{OpenFile}
 use Rattle.s3_job_files.specs.Kept.{Kept, kept_on, nothing_kept}
 use Rattle.s3_job_files.specs.Files.{Files, area_by}
-use Rattle.s3_job_files.specs.Holds.{seen, slots_by, Stands, IsReady, IsOutOfReach, HoldsRecords, HoldsFiles, is_open}
+use Rattle.s3_job_files.specs.Inner.Holds.{seen, slots_by, Stands, IsReady, IsOutOfReach, HoldsRecords, HoldsFiles, is_open}
 use Rattle.s3_job_files.proofs.Frames.{SameAt, same_kept, same_records, same_of}
 use Rattle.s3_job_files.proofs.Putting.{differ_sym, pack_over, same_apart, same_masters}
 use Rattle.s3_job_files.proofs.Lists.{found_passes}
 use Rattle.s3_opening.specs.Opening.{first_kept, with_new}
-use Rattle.s3_opening.specs.Starts.{IsOpened}
-use Rattle.s3_opening.specs.Starting.{IsMade}
+use Rattle.s3_opening.specs.Inner.Starts.{IsOpened}
+use Rattle.s3_opening.specs.Inner.Starting.{IsMade}
 use Rattle.s3_opening.proofs.Made.{found_at, made_else}
 use Rattle.s3_opening.proofs.NewKept.{new_kept}
 

@@ -2,7 +2,8 @@
 use Rattle.std.proofs.Common.{◌≡◌, ◌≤◌, ℕ, Bool, true, false, ◌&&◌, refl, ap, sym, ◌∙◌, subst}
 use Rattle.std.proofs.lemmas.Bool.{leb-true}
 use Rattle.std.specs.Prelude.{List, Option, Some, None, is_some, if◌then◌else◌}
-use Rattle.s3_lines.specs.Ranges.{file_in_range, is_between, key_in_range, if_given, longest_record}
+use Rattle.s3_lines.specs.Inner.Ranges.{file_in_range, key_in_range}
+use Rattle.s3_lines.specs.Ranges.{is_between, if_given, longest_record}
 use Rattle.s3_lines.specs.declared.sheet.Device.{Device}
 use Rattle.s3_lines.specs.declared.sheet.Device.TheVariants.{Disk, CardReader, Printer}
 use Rattle.s3_lines.specs.declared.sheet.FileLine.{FileLine}
@@ -10,8 +11,8 @@ use Rattle.s3_lines.specs.declared.sheet.KeyField.{KeyField}
 use Rattle.s3_ocl.specs.declared.contents.FileStatement.{FileStatement}
 use Rattle.s3_ocl.specs.declared.contents.FileSize.{FileSize}
 use Rattle.s3_ocl.specs.declared.contents.FileSize.TheVariants as Stated
-use Rattle.s3_ocl.specs.Sound.{is_sound_file, is_size}
-use Rattle.s3_slots.specs.Making.{IsNewFile, IsSize}
+use Rattle.s3_ocl.specs.Inner.Sound.{is_sound_file, is_size}
+use Rattle.s3_slots.specs.Inner.Making.{IsNewFile, IsSize}
 use Rattle.s3_slots.specs.Slots.{is_key_of}
 use Rattle.s3_slots.specs.declared.making.Size.{Size}
 use Rattle.s3_slots.specs.declared.label.Organization.{Organization}

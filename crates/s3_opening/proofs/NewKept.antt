@@ -11,8 +11,8 @@ use Rattle.s3_slots.specs.declared.label.FileLabel.{FileLabel}
 use Rattle.s3_slots.specs.declared.label.Organization.{Organization}
 use Rattle.s3_slots.specs.declared.label.Organization.TheVariants.{Sequential, Indexed, Direct}
 use Rattle.s3_slots.specs.declared.making.NewFile.{NewFile}
-use Rattle.s3_labels.specs.Areas.{AreFilled}
-use Rattle.s3_files.specs.Files.{HasRoom}
+use Rattle.s3_labels.specs.Inner.Areas.{AreFilled}
+use Rattle.s3_files.specs.Inner.Files.{HasRoom}
 use Rattle.s3_files.specs.Records.{records_in}
 use Rattle.s3_files.proofs.PartLemmas.{parts-more}
 use Rattle.s3_keyed.specs.Index.{index_in, keys_of, layout_of}

@@ -13,27 +13,28 @@ use Rattle.s3_ocl.specs.declared.contents.FileStatement.{FileStatement}
 use Rattle.s3_operator.specs.declared.halt_code.HaltCode.{HaltCode}
 use Rattle.s3_operator.specs.declared.halt_code.HaltCode.TheVariants.{MasterForUpdate, LabelMismatch, BadIndex, DuplicateLabel}
 use Rattle.s3_slots.specs.Labels.{is_indexed}
-use Rattle.s3_slots.specs.Making.{found, new_label}
+use Rattle.s3_slots.specs.Inner.Making.{found}
+use Rattle.s3_slots.specs.Making.{new_label}
 use Rattle.s3_slots.specs.Slots.{standing}
 use Rattle.s3_slots.specs.declared.label.FileLabel.{FileLabel}
 use Rattle.s3_slots.specs.declared.label.Organization.TheVariants.{Sequential, Indexed, Direct}
 use Rattle.s3_slots.specs.declared.making.LabelFault.{LabelFault}
 use Rattle.s3_slots.specs.declared.making.NewFile.{NewFile}
 use Rattle.s3_slots.specs.declared.slot.Standing.TheVariants.{Present}
-use Rattle.s3_labels.specs.Areas.{slots_at}
+use Rattle.s3_labels.specs.Inner.Areas.{slots_at}
 use Rattle.s3_job_files.specs.Kept.{kept_on}
 use Rattle.s3_job_files.specs.Files.{JobFile}
-use Rattle.s3_job_files.specs.Holds.{Seen, slots_by, IsReady, job_file_of}
+use Rattle.s3_job_files.specs.Inner.Holds.{Seen, slots_by, IsReady, job_file_of}
 use Rattle.s3_job_files.specs.declared.file.OpenFile.{OpenFile}
 use Rattle.s3_job_files.proofs.Standings.{present_named}
 use Rattle.s3_opening.specs.declared.starts.Start.{Start}
 use Rattle.s3_opening.specs.declared.starts.Start.TheVariants.{Opened, ToMake}
 use Rattle.s3_opening.specs.Asked.{is_chained, is_new, is_of_layout, is_only_read, is_used, key_length_of, key_start_of, new_file}
 use Rattle.s3_opening.specs.Opening.{Settings, job_file, refusal_of, statement_of}
-use Rattle.s3_opening.specs.OpenFiles.{AreOfEach, AreOfLines, IsLaidOutAs, IsOfLine}
-use Rattle.s3_opening.specs.Starting.{AddsFiles, AreFrom, AreNew, AreStartsOf, IsAskedBy, IsFrom, IsStartOf, label_by, labels_left}
-use Rattle.s3_opening.specs.Starts.{step_in, AreRight, IsOpened, IsRight}
-use Rattle.s3_opening.specs.Tests.{Step, Makes, Tested, behind, is_label_of, label_of, opening, passed, step_of, step_stated, tested, tested_file, tested_found, tested_lines, tested_standing}
+use Rattle.s3_opening.specs.Inner.OpenFiles.{AreOfEach, AreOfLines, IsLaidOutAs, IsOfLine}
+use Rattle.s3_opening.specs.Inner.Starting.{AddsFiles, AreFrom, AreNew, AreStartsOf, IsAskedBy, IsFrom, IsStartOf, label_by, labels_left}
+use Rattle.s3_opening.specs.Inner.Starts.{step_in, AreRight, IsOpened, IsRight}
+use Rattle.s3_opening.specs.Inner.Tests.{Step, Makes, Tested, behind, is_label_of, label_of, opening, passed, step_of, step_stated, tested, tested_file, tested_found, tested_lines, tested_standing}
 use Rattle.s3_opening.proofs.Refusals.{found_stands}
 
 -- ---- an opened file

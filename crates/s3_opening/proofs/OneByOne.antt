@@ -10,10 +10,11 @@ use Rattle.s3_cards.specs.declared.name.Name.{Name}
 use Rattle.s3_cards.specs.Names.{same_name}
 use Rattle.s3_cards.proofs.NameLemmas.{same_name-self}
 use Rattle.s3_operator.specs.declared.halt_code.HaltCode.{HaltCode}
-use Rattle.s3_store.specs.State.{PoolState, KeepsContents}
+use Rattle.s3_store.specs.Inner.State.{PoolState, KeepsContents}
 use Rattle.s3_store.specs.declared.pool_fault.PoolFault.{PoolFault}
 use Rattle.s3_store.specs.declared.stretch.Stretch.{Stretch}
-use Rattle.s3_slots.specs.Making.{and_then, made, made as made_by, new_label, planned, IsNewFile}
+use Rattle.s3_slots.specs.Inner.Making.{and_then, planned, IsNewFile}
+use Rattle.s3_slots.specs.Making.{made, made as made_by, new_label}
 use Rattle.s3_slots.specs.Slots.{standing}
 use Rattle.s3_slots.specs.declared.header.Format.{Format}
 use Rattle.s3_slots.specs.declared.label.FileLabel.{FileLabel}
@@ -22,19 +23,19 @@ use Rattle.s3_slots.specs.declared.making.NewFile.{NewFile}
 use Rattle.s3_slots.specs.declared.slot.Slot.{Slot}
 use Rattle.s3_slots.specs.declared.slot.Standing.TheVariants.{Present}
 use Rattle.s3_slots.proofs.Runs.{none_at}
-use Rattle.s3_labels.specs.Areas.{Areas, region_at, slots_at, with_slots}
+use Rattle.s3_labels.specs.Inner.Areas.{Areas, region_at, slots_at, with_slots}
 use Rattle.s3_job_files.specs.Kept.{kept_on}
 use Rattle.s3_job_files.specs.Files.{Files, FilesInUse, area_by}
-use Rattle.s3_job_files.specs.Holds.{Seen, seen, slots_by, AreOf, Stands, Holds, HoldsFiles, HoldsRecords, is_open, job_file_of}
+use Rattle.s3_job_files.specs.Inner.Holds.{Seen, seen, slots_by, AreOf, Stands, Holds, HoldsFiles, HoldsRecords, is_open, job_file_of}
 use Rattle.s3_job_files.specs.declared.file.OpenFile.{OpenFile}
 use Rattle.s3_job_files.proofs.Opened.{opened_ready, opened_holds}
 use Rattle.s3_opening.specs.declared.starts.Start.{Start}
 use Rattle.s3_opening.specs.declared.starts.Start.TheVariants.{Opened, ToMake}
 use Rattle.s3_opening.specs.Opening.{after_make, first_kept, job_file, make_file, unless_halted, with_file, with_new}
-use Rattle.s3_opening.specs.Tests.{label_of, news_of, taken, taken_one}
-use Rattle.s3_opening.specs.Starts.{step_in, AreRight, IsOpened, IsPlanned, IsRight}
-use Rattle.s3_opening.specs.OpenFiles.{HoldsStarted}
-use Rattle.s3_opening.specs.Starting.{AddsFiles, AreFrom, AreNew, CanStart, IsMade, IsOpenedNew, Readies, Starts, labels_left, labels_open}
+use Rattle.s3_opening.specs.Inner.Tests.{label_of, news_of, taken, taken_one}
+use Rattle.s3_opening.specs.Inner.Starts.{step_in, AreRight, IsOpened, IsPlanned, IsRight}
+use Rattle.s3_opening.specs.Inner.OpenFiles.{HoldsStarted}
+use Rattle.s3_opening.specs.Inner.Starting.{AddsFiles, AreFrom, AreNew, CanStart, IsMade, IsOpenedNew, Readies, Starts, labels_left, labels_open}
 use Rattle.s3_opening.proofs.MadeFiles.{made_files, opened_still, ready_still}
 
 -- ---- names that are new

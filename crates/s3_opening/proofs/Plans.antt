@@ -4,25 +4,25 @@ use Rattle.std.specs.Prelude.{Option, Some, None, Result, Ok, Err, IsOk, filter_
 use Rattle.std.specs.List.{All}
 use Rattle.s3_cards.specs.declared.levels.LevelId.{LevelId}
 use Rattle.s3_operator.specs.declared.halt_code.HaltCode.{HaltCode}
-use Rattle.s3_slots.specs.Making.{IsNewFile, planned}
+use Rattle.s3_slots.specs.Inner.Making.{IsNewFile, planned}
 use Rattle.s3_slots.specs.declared.making.LabelFault.{LabelFault}
 use Rattle.s3_slots.specs.declared.making.NewFile.{NewFile}
 use Rattle.s3_lines.specs.declared.sheet.FileLine.{FileLine}
 use Rattle.s3_slots.specs.declared.slot.Slot.{Slot}
-use Rattle.s3_store.specs.State.{PoolState, KeepsContents}
-use Rattle.s3_labels.specs.Areas.{Areas, IsPlanRefusal, IsReady as IsPackReady, region_at, slots_at}
+use Rattle.s3_store.specs.Inner.State.{PoolState, KeepsContents}
+use Rattle.s3_labels.specs.Inner.Areas.{Areas, IsPlanRefusal, IsReady as IsPackReady, region_at, slots_at}
 use Rattle.s3_labels.specs.declared.fault.PlanFault.{PlanFault}
 use Rattle.s3_labels.specs.declared.fault.PlanFault.TheVariants.{File, NoMemory as NoMemoryToPlan}
 use Rattle.s3_job_files.specs.Files.{Files, FilesInUse}
 use Rattle.s3_opening.specs.declared.fault.OpeningFault.{OpeningFault}
 use Rattle.s3_opening.specs.declared.fault.OpeningFault.TheVariants.{Halted, Sectors}
 use Rattle.s3_opening.proofs.Worlds.{AgreesWith, plan_same, tests_same}
-use Rattle.s3_job_files.specs.Holds.{HoldsFiles, Seen, seen}
+use Rattle.s3_job_files.specs.Inner.Holds.{HoldsFiles, Seen, seen}
 use Rattle.s3_opening.specs.declared.starts.Start.{Start}
 use Rattle.s3_opening.specs.declared.starts.Start.TheVariants.{Opened, ToMake}
 use Rattle.s3_opening.specs.Opening.{Settings, halt_of_make, none_in_use, opened, unless_halted}
-use Rattle.s3_opening.specs.Starts.{step_in, first_refusal, fault_of_plan, AreRight, Comes, IsHaltOfPlan, IsPlanned, PlansTo, TestsTo}
-use Rattle.s3_opening.specs.Tests.{Step, ending, finished, new_of, news_of, taken, tested_lines}
+use Rattle.s3_opening.specs.Inner.Starts.{step_in, first_refusal, fault_of_plan, AreRight, Comes, IsHaltOfPlan, IsPlanned, PlansTo, TestsTo}
+use Rattle.s3_opening.specs.Inner.Tests.{Step, ending, finished, new_of, news_of, taken, tested_lines}
 
 abbrev pub news_in : List Start → List NewFile
 news_in starts = filter_map (λ start. new_of (step_in start)) starts

@@ -6,23 +6,23 @@ use Rattle.s3_cards.specs.declared.name.Name.{Name}
 use Rattle.s3_lines.specs.declared.sheet.FileLine.{FileLine}
 use Rattle.s3_operator.specs.declared.halt_code.HaltCode.{HaltCode}
 use Rattle.s3_operator.specs.declared.halt_code.HaltCode.TheVariants.{MasterForUpdate, LabelMismatch, BadIndex}
-use Rattle.s3_slots.specs.Making.{found, file_in}
+use Rattle.s3_slots.specs.Inner.Making.{found, file_in}
 use Rattle.s3_slots.specs.Slots.{standing}
 use Rattle.s3_slots.specs.declared.label.FileLabel.{FileLabel}
 use Rattle.s3_slots.specs.declared.making.LabelFault.{LabelFault}
 use Rattle.s3_slots.specs.declared.slot.Standing.{Standing}
 use Rattle.s3_slots.specs.declared.slot.Standing.TheVariants.{Absent, Blocked, Present}
-use Rattle.s3_labels.specs.Areas.{Areas, slots_at}
+use Rattle.s3_labels.specs.Inner.Areas.{Areas, slots_at}
 use Rattle.s3_job_files.specs.Kept.{kept_on}
 use Rattle.s3_job_files.specs.Files.{JobFile}
-use Rattle.s3_job_files.specs.Holds.{seen, job_file_of, slots_by}
+use Rattle.s3_job_files.specs.Inner.Holds.{seen, job_file_of, slots_by}
 use Rattle.s3_job_files.specs.declared.file.OpenFile.{OpenFile}
 use Rattle.s3_job_files.proofs.Standings.{present_named}
 use Rattle.s3_opening.specs.Asked.{is_only_read, is_of_layout}
 use Rattle.s3_opening.specs.Opening.{job_file, refusal_of}
-use Rattle.s3_opening.specs.Starts.{IsKeptFile, IsOpened, halt_unless_good, index_refusal}
+use Rattle.s3_opening.specs.Inner.Starts.{IsKeptFile, IsOpened, halt_unless_good, index_refusal}
 use Rattle.s3_opening.specs.declared.fault.OpeningFault.{OpeningFault}
-use Rattle.s3_opening.specs.Tests.{line_refusal, tested, tested_standing}
+use Rattle.s3_opening.specs.Inner.Tests.{line_refusal, tested, tested_standing}
 
 -- ---- refusals in their order
 abbrev line_by : (changes other : Bool) → Option HaltCode

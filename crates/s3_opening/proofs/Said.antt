@@ -2,13 +2,13 @@
 use Rattle.std.proofs.Common.{◌≡◌, ℕ, List, subst, sym, ◌∙◌}
 use Rattle.std.specs.Prelude.{Result, Ok, Err, IfErr, OnOk}
 use Rattle.s3_cards.specs.declared.levels.LevelId.{LevelId}
-use Rattle.s3_store.specs.State.{PoolState, KeepsContents}
+use Rattle.s3_store.specs.Inner.State.{PoolState, KeepsContents}
 use Rattle.s3_slots.specs.declared.making.LabelFault.{LabelFault}
 use Rattle.s3_slots.specs.declared.slot.Slot.{Slot}
-use Rattle.s3_labels.specs.Areas.{Areas}
-use Rattle.s3_labels.specs.Labelled.{KeepsSaid, SaysSlots}
-use Rattle.s3_opening.specs.OpenFiles.{FindsSectors}
-use Rattle.s3_opening.specs.Starts.{PlansTo, first_refusal}
+use Rattle.s3_labels.specs.Inner.Areas.{Areas}
+use Rattle.s3_labels.specs.Inner.Labelled.{KeepsSaid, SaysSlots}
+use Rattle.s3_opening.specs.Inner.OpenFiles.{FindsSectors}
+use Rattle.s3_opening.specs.Inner.Starts.{PlansTo, first_refusal}
 use Rattle.s3_opening.specs.declared.fault.OpeningFault.{OpeningFault}
 use Rattle.s3_opening.specs.declared.fault.OpeningFault.TheVariants.{Halted, Sectors}
 

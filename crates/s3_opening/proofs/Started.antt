@@ -4,17 +4,17 @@ use Rattle.std.specs.Prelude.{filter, Result, Ok, Err, IsOk}
 use Rattle.s3_cards.specs.declared.levels.LevelId.{LevelId}
 use Rattle.s3_cards.specs.declared.levels.LevelId.TheVariants.{One, Two}
 use Rattle.s3_lines.specs.declared.sheet.FileLine.{FileLine}
-use Rattle.s3_slots.specs.Making.{planned}
+use Rattle.s3_slots.specs.Inner.Making.{planned}
 use Rattle.s3_slots.specs.declared.making.LabelFault.{LabelFault}
 use Rattle.s3_slots.specs.declared.slot.Slot.{Slot}
-use Rattle.s3_store.specs.State.{PoolState, KeepsContents, KeepsInStep}
-use Rattle.s3_store.specs.Failures.{failed_transfers}
+use Rattle.s3_store.specs.Inner.State.{PoolState, KeepsContents, KeepsInStep}
+use Rattle.s3_store.specs.Inner.Failures.{failed_transfers}
 use Rattle.s3_store.specs.declared.pool_fault.PoolFault.{PoolFault}
 use Rattle.s3_store.specs.declared.pool_fault.PoolFault.TheVariants.{Device, NoMemory, NoSector}
 use Rattle.s3_store.proofs.Frames.{step_from_keeps, step_trans}
-use Rattle.s3_labels.specs.Areas.{Areas, region_at, slots_at, with_slots, IsReady as IsPackReady}
+use Rattle.s3_labels.specs.Inner.Areas.{Areas, region_at, slots_at, with_slots, IsReady as IsPackReady}
 use Rattle.s3_job_files.specs.Files.{Files, FilesInUse}
-use Rattle.s3_job_files.specs.Holds.{Seen, seen, Holds, HoldsFiles, IsOutOfReach}
+use Rattle.s3_job_files.specs.Inner.Holds.{Seen, seen, Holds, HoldsFiles, IsOutOfReach}
 use Rattle.s3_job_files.specs.declared.file.OpenFile.{OpenFile}
 use Rattle.s3_job_files.specs.declared.job_files.JobFiles.{JobFiles}
 use Rattle.s3_job_files.proofs.Starting.{ready_none}
@@ -23,10 +23,10 @@ use Rattle.s3_opening.specs.declared.fault.OpeningFault.TheVariants.{Halted, Sec
 use Rattle.s3_opening.specs.declared.starts.Start.{Start}
 use Rattle.s3_opening.specs.Asked.{is_used}
 use Rattle.s3_opening.specs.Opening.{Settings, none_in_use, opened}
-use Rattle.s3_opening.specs.OpenFiles.{HoldsStarted, IfHalted, StartsAs}
-use Rattle.s3_opening.specs.Starting.{AreStartsOf, CanStart}
-use Rattle.s3_opening.specs.Starts.{step_in, failed_opening, first_refusal, AreRight, Comes, PlansTo, TestsTo}
-use Rattle.s3_opening.specs.Tests.{Step, Tested, news_of, passed, taken, tested_lines}
+use Rattle.s3_opening.specs.Inner.OpenFiles.{HoldsStarted, IfHalted, StartsAs}
+use Rattle.s3_opening.specs.Inner.Starting.{AreStartsOf, CanStart}
+use Rattle.s3_opening.specs.Inner.Starts.{step_in, failed_opening, first_refusal, AreRight, Comes, PlansTo, TestsTo}
+use Rattle.s3_opening.specs.Inner.Tests.{Step, Tested, news_of, passed, taken, tested_lines}
 use Rattle.s3_opening.proofs.OfLines.{starts_new, starts_of_lines}
 use Rattle.s3_opening.proofs.Plans.{comes, with_value}
 

@@ -8,17 +8,17 @@ use Rattle.s3_cards.specs.declared.name.Name.{Name}
 use Rattle.s3_cards.specs.Names.{same_name}
 use Rattle.s3_lines.specs.declared.sheet.FileLine.{FileLine}
 use Rattle.s3_ocl.specs.declared.contents.FileStatement.{FileStatement}
-use Rattle.s3_ocl.specs.Sound.{is_sound_file}
+use Rattle.s3_ocl.specs.Inner.Sound.{is_sound_file}
 use Rattle.s3_job_files.specs.Files.{JobFile}
-use Rattle.s3_job_files.specs.Holds.{Seen, job_file_of}
+use Rattle.s3_job_files.specs.Inner.Holds.{Seen, job_file_of}
 use Rattle.s3_job_files.specs.declared.file.OpenFile.{OpenFile}
 use Rattle.s3_opening.specs.declared.starts.Start.{Start}
 use Rattle.s3_opening.specs.Opening.{Settings, statement_of}
 use Rattle.s3_opening.specs.declared.fault.OpeningFault.{OpeningFault}
 use Rattle.s3_opening.specs.declared.fault.OpeningFault.TheVariants.{Halted, Sectors}
 use Rattle.s3_opening.specs.Asked.{is_new, is_used, new_file}
-use Rattle.s3_opening.specs.Starts.{step_in, Gives, TestsTo, IsRight, AreRight}
-use Rattle.s3_opening.specs.Tests.{Step, Makes, Tested, step_stated, opening, tested_file, label_of, is_label_of, behind, passed, refused_at, step_of, tested_lines}
+use Rattle.s3_opening.specs.Inner.Starts.{step_in, Gives, TestsTo, IsRight, AreRight}
+use Rattle.s3_opening.specs.Inner.Tests.{Step, Makes, Tested, step_stated, opening, tested_file, label_of, is_label_of, behind, passed, refused_at, step_of, tested_lines}
 use Rattle.s3_operator.specs.declared.halt_code.HaltCode.{HaltCode}
 use Rattle.s3_operator.specs.declared.halt_code.HaltCode.TheVariants.{DuplicateLabel, NoLabel}
 use Rattle.s3_slots.specs.declared.making.NewFile.{NewFile}

@@ -20,14 +20,14 @@ use Rattle.s3_slots.specs.declared.slot.Standing.{Standing}
 use Rattle.s3_slots.specs.declared.slot.Standing.TheVariants.{Absent, Blocked, Present}
 use Rattle.s3_job_files.specs.Files.{Files, FilesInUse, JobFile}
 use Rattle.s3_opening.specs.Opening.{Settings, first_kept, halt_of_make, open_file, open_line, open_lines, open_master, open_own, open_standing, open_stated, refusal_of, statement_of, unless_halted, unless_refused, with_file, with_new, job_file, is_taken, make_file, after_make, none_in_use, opened}
-use Rattle.s3_opening.specs.Tests.{Step, ending, finished, news_of, opening, refused_at, behind, step_of, step_stated, tested, tested_file, tested_found, tested_lines, Opens, Makes, label_of, is_label_of, taken_one, taken}
+use Rattle.s3_opening.specs.Inner.Tests.{Step, ending, finished, news_of, opening, refused_at, behind, step_of, step_stated, tested, tested_file, tested_found, tested_lines, Opens, Makes, label_of, is_label_of, taken_one, taken}
 use Rattle.s3_opening.specs.Asked.{is_new, is_used, new_file}
 use Rattle.s3_opening.proofs.Made.{made_else}
 use Rattle.s3_job_files.proofs.Putting.{differ_sym}
 use Rattle.s3_job_files.proofs.Standings.{present_named}
 use Rattle.s3_job_files.specs.Kept.{Kept, kept_on}
-use Rattle.s3_job_files.specs.Holds.{HoldsFiles, Seen}
-use Rattle.s3_slots.specs.Making.{and_then, file_in, found, planned}
+use Rattle.s3_job_files.specs.Inner.Holds.{HoldsFiles, Seen}
+use Rattle.s3_slots.specs.Inner.Making.{and_then, file_in, found, planned}
 
 -- after these steps: only under their labels it may have changed
 pub record Follows (files : Files) (steps : List Step) (so_far : FilesInUse) : Type 0 where

@@ -1,7 +1,3 @@
 pub mod Asked
 pub mod Opening
-pub mod Samples
-pub mod Tests
-pub mod Starts
-pub mod OpenFiles
-pub mod Starting
+pub mod Inner

@@ -3,9 +3,9 @@ ghost use Rattle.std.specs.Prelude.{◌≡◌, true, not, is_some, if◌then◌e
 ghost use Rattle.std.specs.Option.{option_copied};
 ghost use Rattle.s3_opening.specs.Opening.{statement_of as statement_of_spec};
 ghost use Rattle.s3_slots.specs.Labels.{is_indexed};
-ghost use Rattle.s3_lines.specs.Ranges.{file_in_range};
-ghost use Rattle.s3_ocl.specs.Sound.{is_sound_file, is_size};
-ghost use Rattle.s3_slots.specs.Making.{IsNewFile, IsSize};
+ghost use Rattle.s3_lines.specs.Inner.Ranges.{file_in_range};
+ghost use Rattle.s3_ocl.specs.Inner.Sound.{is_sound_file, is_size};
+ghost use Rattle.s3_slots.specs.Inner.Making.{IsNewFile, IsSize};
 ghost use Rattle.s3_opening.specs.Asked.{is_disk as is_disk_spec, is_switched_on as is_switched_on_spec, is_used as is_used_spec, is_new as is_new_spec, is_only_read as is_only_read_spec, is_chained as is_chained_spec, key_length_of as key_length_spec, key_start_of as key_start_spec, is_of_layout as is_of_layout_spec, organization_of as organization_spec, size_of as size_spec, new_file as new_file_spec};
 
 use s3_cards::Name;

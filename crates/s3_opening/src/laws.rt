@@ -3,9 +3,9 @@
 ghost use Rattle.std.specs.Prelude.{◌≡◌, [], ◌∷◌, Some, None, true, false, replicate};
 ghost use Rattle.s3_lines.specs.declared.sheet.FileUse.TheVariants.{Input, Output, Update};
 ghost use Rattle.s3_operator.specs.declared.halt_code.HaltCode.TheVariants.{NoLabel, DamagedLabel, MasterForUpdate, NoSpace, RetainedFile, DuplicateLabel, LabelMismatch, BadIndex};
-ghost use Rattle.s3_slots.specs.Samples.{named};
-ghost use Rattle.s3_keyed.specs.Samples.{b_and_a};
-ghost use Rattle.s3_opening.specs.Samples.{line, keyed, longer, with_additions, under_switch, direct, labelled, alike, halt_with, halt_by, halt_under, used, records_under};
+ghost use Rattle.s3_slots.specs.Inner.Samples.{named};
+ghost use Rattle.s3_keyed.specs.Inner.Samples.{b_and_a};
+ghost use Rattle.s3_opening.specs.Inner.Samples.{line, keyed, longer, with_additions, under_switch, direct, labelled, alike, halt_with, halt_by, halt_under, used, records_under};
 
 /// A file without a FILE statement, or with the label of an earlier file, is told before anything else of it; a file whose switch
 /// is off is neither tested nor does its label count.

@@ -1,19 +1,19 @@
 //! Whether the files of a job can be had: all tests, and the plan of what is made, with nothing changed.
 ghost use Rattle.std.specs.Prelude.{◌≡◌, ◌+◌, [], true, filter, filter_map, map, IfOk, IfErr};
 ghost use Rattle.std.specs.List.{list_all};
-ghost use Rattle.s3_lines.specs.Ranges.{file_in_range};
-ghost use Rattle.s3_ocl.specs.Sound.{is_sound_file};
-ghost use Rattle.s3_store.specs.State.{KeepsContents};
-ghost use Rattle.s3_slots.specs.Making.{planned};
-ghost use Rattle.s3_labels.specs.Areas.{slots_at, region_at, IsReady as IsPackReady};
+ghost use Rattle.s3_lines.specs.Inner.Ranges.{file_in_range};
+ghost use Rattle.s3_ocl.specs.Inner.Sound.{is_sound_file};
+ghost use Rattle.s3_store.specs.Inner.State.{KeepsContents};
+ghost use Rattle.s3_slots.specs.Inner.Making.{planned};
+ghost use Rattle.s3_labels.specs.Inner.Areas.{slots_at, region_at, IsReady as IsPackReady};
 ghost use Rattle.s3_job_files.specs.Files.{Files};
-ghost use Rattle.s3_job_files.specs.Holds.{seen, HoldsFiles};
+ghost use Rattle.s3_job_files.specs.Inner.Holds.{seen, HoldsFiles};
 ghost use Rattle.s3_opening.specs.Asked.{is_used};
-ghost use Rattle.s3_opening.specs.OpenFiles.{FindsSectors};
+ghost use Rattle.s3_opening.specs.Inner.OpenFiles.{FindsSectors};
 ghost use Rattle.s3_opening.specs.Opening.{halt_of_make as halt_of_make_spec, none_in_use, opened};
-ghost use Rattle.s3_opening.specs.Tests.{news_of as news_of_spec, new_of};
-ghost use Rattle.s3_opening.specs.Starts.{settings_of, step_in, failed_opening, fault_of_plan, first_refusal as first_refusal_spec, AreRight, Comes, PlansTo};
-ghost use Rattle.s3_opening.specs.Starting.{AreStartsOf, CanStart};
+ghost use Rattle.s3_opening.specs.Inner.Tests.{news_of as news_of_spec, new_of};
+ghost use Rattle.s3_opening.specs.Inner.Starts.{settings_of, step_in, failed_opening, fault_of_plan, first_refusal as first_refusal_spec, AreRight, Comes, PlansTo};
+ghost use Rattle.s3_opening.specs.Inner.Starting.{AreStartsOf, CanStart};
 
 use crate::fault::OpeningFault;
 use crate::settings::JobSettings;

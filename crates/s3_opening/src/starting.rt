@@ -1,22 +1,23 @@
 //! The start of a job: its files are made and opened, once all tests have passed.
 ghost use Rattle.std.specs.Prelude.{◌≡◌, ◌≢◌, ◌+◌, [], ◌∷◌, true, length, map, IfOk, IfErr, IsOk, OnOk};
 ghost use Rattle.std.specs.List.{list_all};
-ghost use Rattle.s3_lines.specs.Ranges.{file_in_range};
-ghost use Rattle.s3_ocl.specs.Sound.{is_sound_file};
-ghost use Rattle.s3_store.specs.State.{KeepsContents, KeepsInStep};
-ghost use Rattle.s3_store.specs.Failures.{failed_transfers};
-ghost use Rattle.s3_slots.specs.Kept.{IsOfPack};
-ghost use Rattle.s3_slots.specs.Making.{made, IsNewFile};
-ghost use Rattle.s3_labels.specs.Areas.{region_at, slots_at, with_slots, IsReady as IsPackReady};
-ghost use Rattle.s3_labels.specs.Labelled.{KeepsSaid};
+ghost use Rattle.s3_lines.specs.Inner.Ranges.{file_in_range};
+ghost use Rattle.s3_ocl.specs.Inner.Sound.{is_sound_file};
+ghost use Rattle.s3_store.specs.Inner.State.{KeepsContents, KeepsInStep};
+ghost use Rattle.s3_store.specs.Inner.Failures.{failed_transfers};
+ghost use Rattle.s3_slots.specs.Inner.Kept.{IsOfPack};
+ghost use Rattle.s3_slots.specs.Making.{made};
+ghost use Rattle.s3_slots.specs.Inner.Making.{IsNewFile};
+ghost use Rattle.s3_labels.specs.Inner.Areas.{region_at, slots_at, with_slots, IsReady as IsPackReady};
+ghost use Rattle.s3_labels.specs.Inner.Labelled.{KeepsSaid};
 ghost use Rattle.s3_job_files.specs.Files.{Files, FilesInUse};
-ghost use Rattle.s3_job_files.specs.Holds.{seen, Holds, HoldsFiles, IsOutOfReach, IsReady};
+ghost use Rattle.s3_job_files.specs.Inner.Holds.{seen, Holds, HoldsFiles, IsOutOfReach, IsReady};
 ghost use Rattle.s3_job_files.specs.Kept.{kept_on};
 ghost use Rattle.s3_opening.specs.Opening.{opened};
-ghost use Rattle.s3_opening.specs.OpenFiles.{AreOfLines, FindsSectors, HoldsStarted, IfHalted, StartsAs};
-ghost use Rattle.s3_opening.specs.Starting.{AddsFiles, CanStart, IsMade, IsOpenedNew, Readies, Starts};
-ghost use Rattle.s3_opening.specs.Starts.{settings_of, step_in, failed_opening, IsPlanned, IsRight};
-ghost use Rattle.s3_opening.specs.Tests.{taken};
+ghost use Rattle.s3_opening.specs.Inner.OpenFiles.{AreOfLines, FindsSectors, HoldsStarted, IfHalted, StartsAs};
+ghost use Rattle.s3_opening.specs.Inner.Starting.{AddsFiles, CanStart, IsMade, IsOpenedNew, Readies, Starts};
+ghost use Rattle.s3_opening.specs.Inner.Starts.{settings_of, step_in, failed_opening, IsPlanned, IsRight};
+ghost use Rattle.s3_opening.specs.Inner.Tests.{taken};
 ghost use Rattle.s3_opening.specs.declared.starts.Start.TheVariants.{ToMake};
 
 use crate::fault::OpeningFault;

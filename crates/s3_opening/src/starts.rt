@@ -2,8 +2,8 @@
 ghost use Rattle.std.specs.Prelude.{◌≡◌};
 ghost use Rattle.std.specs.List.{list_any};
 ghost use Rattle.s3_cards.specs.Names.{same_name};
-ghost use Rattle.s3_opening.specs.Starts.{step_in};
-ghost use Rattle.s3_opening.specs.Tests.{label_of, new_of};
+ghost use Rattle.s3_opening.specs.Inner.Starts.{step_in};
+ghost use Rattle.s3_opening.specs.Inner.Tests.{label_of, new_of};
 
 use s3_cards::Name;
 use s3_job_files::OpenFile;

@@ -23,22 +23,23 @@ use Rattle.s3_meaning.specs.Source.{length_of as length_in_source}
 use Rattle.s3_meaning.specs.Environment.{put_number, date_part, on_at_first}
 use Rattle.s3_lines.specs.declared.indicator.Indicator.{Indicator}
 use Rattle.std.proofs.Math.Path.{fun_ext}
-use Rattle.s3_program.specs.Tables.{slot_in}
+use Rattle.s3_program.specs.Inner.Tables.{slot_in}
 use Rattle.s3_program.specs.declared.program.Program.{Program}
 use Rattle.s3_program.specs.declared.program.Defined.{Defined}
 use Rattle.s3_program.specs.declared.program.Reference.TheVariants.{Field as FieldSlot}
 use Rattle.s3_program.specs.declared.program.Meaning.TheVariants as meaning
-use Rattle.s3_program.specs.Tables.{name_of, meaning_at, or_undefined, found_in}
-use Rattle.s3_program.specs.Valid.{entry_of, named, is_shaped}
-use Rattle.s3_program.specs.Stands.{parts_of, source_named}
+use Rattle.s3_program.specs.Inner.Tables.{name_of, meaning_at}
+use Rattle.s3_program.specs.Tables.{or_undefined, found_in}
+use Rattle.s3_program.specs.Inner.Valid.{entry_of, named, is_shaped}
+use Rattle.s3_program.specs.Inner.Stands.{parts_of, source_named}
 use Rattle.s3_program.proofs.SlotLemmas.{Kept, kept, no_shape}
 use Rattle.s3_program.proofs.TableLemmas.{slot_entry}
-use Rattle.s3_operations.specs.Fits.{tables, is_number_field, is_numeric_shape}
+use Rattle.s3_operations.specs.Inner.Fits.{tables, is_number_field, is_numeric_shape}
 use Rattle.s3_operations.specs.declared.values.Values.{Values}
-use Rattle.s3_operations.specs.Indicators.{on_in}
-use Rattle.s3_operations.specs.Held.{form_of, form_in, form_in_shape, length_in, number_at, text_at, remainder_in, held, IsSound, Changes}
-use Rattle.s3_operations.specs.Texts.{blank_texts, length_of}
-use Rattle.s3_operations.specs.Beginning.{IsDate, IsZeros, are_digits, are_fields_in_range, no_number, with_date, Begins}
+use Rattle.s3_operations.specs.Inner.Indicators.{on_in}
+use Rattle.s3_operations.specs.Inner.Held.{form_of, form_in, form_in_shape, length_in, number_at, text_at, remainder_in, held, IsSound, Changes}
+use Rattle.s3_operations.specs.Inner.Texts.{blank_texts, length_of}
+use Rattle.s3_operations.specs.Inner.Beginning.{IsDate, IsZeros, are_digits, are_fields_in_range, no_number, with_date, Begins}
 use Rattle.s3_operations.proofs.ChangeLemmas.{at_get}
 use Rattle.s3_operations.proofs.ValueLemmas.{FieldAt, NumberField, field_entry, field_at, field_number, digits_when, decimals_when}
 

@@ -19,7 +19,8 @@ use Rattle.s3_lines.specs.declared.sheet.Factor.{Factor}
 use Rattle.s3_lines.specs.declared.sheet.Factor.TheVariants.{Named, Number, Text}
 use Rattle.s3_lines.specs.declared.sheet.Operation.TheVariants as op
 use Rattle.s3_lines.specs.declared.sheet.CalculationLine.{CalculationLine}
-use Rattle.s3_lines.specs.Ranges.{factor_in_range, file_in_range, key_in_range, if_given}
+use Rattle.s3_lines.specs.Inner.Ranges.{factor_in_range, file_in_range, key_in_range}
+use Rattle.s3_lines.specs.Ranges.{if_given}
 use Rattle.s3_meaning.specs.Source.{file_named}
 use Rattle.s3_meaning.specs.Environment.{Environment, at_first}
 use Rattle.s3_meaning.specs.Calculations.{name_in as name_in_factor}
@@ -32,19 +33,21 @@ use Rattle.s3_program.specs.declared.program.Meaning.{Meaning}
 use Rattle.s3_program.specs.declared.program.Meaning.TheVariants as meaning
 use Rattle.s3_program.specs.declared.row.Operand.TheVariants as operand
 use Rattle.s3_program.specs.declared.row.Pairing.TheVariants as pairing
-use Rattle.s3_program.specs.Distinct.{are_distinct}
+use Rattle.s3_program.specs.Inner.Distinct.{are_distinct}
 use Rattle.s3_program.specs.FileTable.{is_chained}
-use Rattle.s3_program.specs.Meant.{is_of, factor_passes}
+use Rattle.s3_program.specs.Inner.Meant.{is_of, factor_passes}
 use Rattle.s3_program.specs.Operands.{factor_fits, pair_fits, is_no_key, shape_of_factor}
-use Rattle.s3_program.specs.Positions.{are_in_range}
-use Rattle.s3_program.specs.Stands.{parts_of, source_named}
-use Rattle.s3_program.specs.Tables.{name_in, name_of, or_undefined, item_in}
-use Rattle.s3_program.specs.Valid.{file_entry, named}
+use Rattle.s3_program.specs.Inner.Positions.{are_in_range}
+use Rattle.s3_program.specs.Inner.Stands.{parts_of, source_named}
+use Rattle.s3_program.specs.Inner.Tables.{name_in, name_of, item_in}
+use Rattle.s3_program.specs.Tables.{or_undefined}
+use Rattle.s3_program.specs.FileEntries.{file_entry}
+use Rattle.s3_program.specs.Inner.Valid.{named}
 use Rattle.s3_program.proofs.SlotLemmas.{Kept, kept, not_among, opposite}
 use Rattle.s3_operations.specs.declared.values.Values.{Values}
-use Rattle.s3_operations.specs.Chaining.{IsLiteral, file_sought, has_key, is_chained_file, is_literal, key_field}
-use Rattle.s3_operations.specs.Fits.{tables, IsLineOf, meant_factor, named_factor, is_value, is_number}
-use Rattle.s3_operations.specs.Held.{held, IsSound, length_in, text_at}
+use Rattle.s3_operations.specs.Inner.Chaining.{IsLiteral, file_sought, has_key, is_chained_file, is_literal, key_field}
+use Rattle.s3_operations.specs.Inner.Fits.{tables, IsLineOf, meant_factor, named_factor, is_value, is_number}
+use Rattle.s3_operations.specs.Inner.Held.{held, IsSound, length_in, text_at}
 use Rattle.s3_operations.proofs.FitLemmas.{Brings, brings, some_same, value_factor}
 use Rattle.s3_program.proofs.TypeLemmas.{no_file}
 use Rattle.s3_operations.proofs.ValueLemmas.{all_at, FieldAt, field_entry, numeric_when, digits_when, text_when}

@@ -17,13 +17,13 @@ use Rattle.s3_program.specs.declared.program.Program.{Program}
 use Rattle.s3_program.specs.declared.program.Reference.TheVariants.{Field as FieldSlot}
 use Rattle.s3_program.specs.declared.program.Meaning.{Meaning}
 use Rattle.s3_program.specs.declared.program.Meaning.TheVariants as meaning
-use Rattle.s3_program.specs.Tables.{slot_in, name_of, meaning_at}
-use Rattle.s3_program.specs.Stands.{parts_of, source_named}
+use Rattle.s3_program.specs.Inner.Tables.{slot_in, name_of, meaning_at}
+use Rattle.s3_program.specs.Inner.Stands.{parts_of, source_named}
 use Rattle.s3_program.proofs.SlotLemmas.{Kept, kept, same_slot}
 use Rattle.s3_operations.specs.declared.values.Values.{Values}
-use Rattle.s3_operations.specs.Fits.{tables, is_text_field, is_text}
-use Rattle.s3_operations.specs.Indicators.{on_in}
-use Rattle.s3_operations.specs.Held.{held, number_at, text_at, remainder_in, IsSound, Changes, IsNumberIn, IsTextIn, length_in, form_of}
+use Rattle.s3_operations.specs.Inner.Fits.{tables, is_text_field, is_text}
+use Rattle.s3_operations.specs.Inner.Indicators.{on_in}
+use Rattle.s3_operations.specs.Inner.Held.{held, number_at, text_at, remainder_in, IsSound, Changes, IsNumberIn, IsTextIn, length_in, form_of}
 use Rattle.s3_operations.proofs.ValueLemmas.{FieldAt, NumberAt, TextField, text_field, text_when, within_texts}
 use Rattle.s3_operations.proofs.ChangeLemmas.{map_set, set_same, text_set}
 

@@ -9,22 +9,24 @@ use Rattle.s3_lines.specs.declared.indicator.Indicator.{Indicator}
 use Rattle.s3_lines.specs.declared.indicator.Indicator.TheVariants.{General, Level, LastRecord, Matching, Halt, FirstPage, Overflow, Switch}
 use Rattle.s3_lines.specs.declared.sheet.InputLine.{InputLine}
 use Rattle.s3_lines.specs.declared.sheet.InputLine.TheVariants.{Record, And as AndCodes, Or as OrCodes, Field as InputField}
-use Rattle.s3_lines.specs.Ranges.{is_record_indicator, input_in_range}
+use Rattle.s3_lines.specs.Ranges.{is_record_indicator}
+use Rattle.s3_lines.specs.Inner.Ranges.{input_in_range}
 use Rattle.s3_meaning.specs.Names.{same_indicator}
 use Rattle.s3_meaning.specs.Selection.{is_level_to}
 use Rattle.s3_meaning.specs.Environment.{Environment, is_level}
 use Rattle.s3_program.specs.declared.program.Program.{Program}
 use Rattle.s3_program.specs.declared.program.Reference.{Reference}
-use Rattle.s3_program.specs.Tables.{Tables, slot_in}
-use Rattle.s3_program.specs.Positions.{are_in_range}
-use Rattle.s3_program.specs.Valid.{meant_input}
-use Rattle.s3_program.specs.Stands.{parts_of}
+use Rattle.s3_program.specs.Tables.{Tables}
+use Rattle.s3_program.specs.Inner.Tables.{slot_in}
+use Rattle.s3_program.specs.Inner.Positions.{are_in_range}
+use Rattle.s3_program.specs.Inner.Valid.{meant_input}
+use Rattle.s3_program.specs.Inner.Stands.{parts_of}
 use Rattle.s3_program.proofs.SlotLemmas.{kept}
 use Rattle.s3_operations.specs.declared.values.Values.{Values}
-use Rattle.s3_operations.specs.Fits.{tables}
-use Rattle.s3_operations.specs.Held.{held, number_at, text_at, remainder_in, IsSound, Changes, form_of}
-use Rattle.s3_operations.specs.Indicators.{on_in, is_settable, is_settable_entry}
-use Rattle.s3_operations.specs.Indicating.{type_indicator}
+use Rattle.s3_operations.specs.Inner.Fits.{tables}
+use Rattle.s3_operations.specs.Inner.Held.{held, number_at, text_at, remainder_in, IsSound, Changes, form_of}
+use Rattle.s3_operations.specs.Inner.Indicators.{on_in, is_settable, is_settable_entry}
+use Rattle.s3_operations.specs.Inner.Indicating.{type_indicator}
 
 -- indicators alone change
 pub turned_by : (f : (Indicator → Bool) → Indicator → Bool) (p : Program) (old new : Values) → IsSound p old → new.numbers.items ≡ old.numbers.items → new.texts ≡ old.texts → new.division ≡ old.division

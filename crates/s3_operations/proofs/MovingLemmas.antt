@@ -19,11 +19,11 @@ use Rattle.s3_program.specs.declared.program.Meaning.{Meaning}
 use Rattle.s3_program.specs.declared.program.Meaning.TheVariants as meaning
 use Rattle.s3_program.specs.declared.program.Reference.{Reference}
 use Rattle.s3_program.specs.declared.program.Reference.TheVariants.{Field as FieldSlot}
-use Rattle.s3_program.specs.Tables.{meaning_at}
-use Rattle.s3_program.specs.Stands.{source_named}
+use Rattle.s3_program.specs.Inner.Tables.{meaning_at}
+use Rattle.s3_program.specs.Inner.Stands.{source_named}
 use Rattle.s3_operations.specs.declared.values.Values.{Values}
-use Rattle.s3_operations.specs.Fits.{tables, TakesText, is_value, is_text, is_number_field, is_numeric_shape, is_text_shape, meant_factor, named_factor, named_line}
-use Rattle.s3_operations.specs.Held.{IsSound, Changes, held, text_at}
+use Rattle.s3_operations.specs.Inner.Fits.{tables, TakesText, is_value, is_text, is_number_field, is_numeric_shape, is_text_shape, meant_factor, named_factor, named_line}
+use Rattle.s3_operations.specs.Inner.Held.{IsSound, Changes, held, text_at}
 use Rattle.s3_operations.proofs.TextLemmas.{right_length, left_length}
 use Rattle.s3_operations.proofs.ValueLemmas.{NumberAt, NumberField, TextField, field_number, text_field, number_held, number_operand, number_read, text_operand, result_text, within_texts}
 use Rattle.s3_operations.proofs.ChangeLemmas.{text_moved, into_text}

@@ -16,7 +16,7 @@ use Rattle.s3_lines.specs.declared.sheet.RecordCode.{RecordCode}
 use Rattle.s3_lines.specs.declared.sheet.InputLine.{InputLine}
 use Rattle.s3_lines.specs.declared.sheet.InputLine.TheVariants.{Record, And as AndCodes, Or as OrCodes, Field as InputField}
 use Rattle.s3_lines.specs.declared.sheet.Shape.{Shape}
-use Rattle.s3_lines.specs.Ranges.{is_within}
+use Rattle.s3_lines.specs.Inner.Ranges.{is_within}
 use Rattle.s3_meaning.specs.RecordTypes.{RecordType, types_from, group_fields}
 use Rattle.s3_meaning.specs.Selection.{type_of, code_holds}
 use Rattle.s3_meaning.specs.Source.{file_named}
@@ -28,18 +28,21 @@ use Rattle.s3_program.specs.declared.program.Kind.TheVariants as kind
 use Rattle.s3_program.specs.declared.program.TagPlace.{TagPlace}
 use Rattle.s3_program.specs.declared.program.SubroutinePlace.{SubroutinePlace}
 use Rattle.s3_program.specs.declared.standing.InputStanding.{InputStanding}
-use Rattle.s3_program.specs.Conditions.{is_clear, input_holds, inputs_clear, are_clear}
-use Rattle.s3_program.specs.Distinct.{are_distinct}
+use Rattle.s3_program.specs.Inner.Conditions.{is_clear, inputs_clear, are_clear}
+use Rattle.s3_program.specs.Conditions.{input_holds}
+use Rattle.s3_program.specs.Inner.Distinct.{are_distinct}
 use Rattle.s3_program.specs.Matching.{Marks, marks_of}
-use Rattle.s3_program.specs.Meant.{is_of, input_passes, are_of_kinds}
-use Rattle.s3_program.specs.Positions.{record_length, inputs_within, are_within}
+use Rattle.s3_program.specs.Inner.Meant.{is_of, input_passes, are_of_kinds}
+use Rattle.s3_program.specs.Inner.Positions.{record_length, inputs_within, are_within}
 use Rattle.s3_program.specs.Standings.{first_input, behind_input}
-use Rattle.s3_program.specs.Tables.{Tables, name_of, meaning_at, item_in, or_undefined}
-use Rattle.s3_program.specs.Valid.{named, named_input, meant_input, meant, file_entry}
-use Rattle.s3_program.specs.Stands.{parts_of, source_named}
+use Rattle.s3_program.specs.Tables.{Tables, or_undefined}
+use Rattle.s3_program.specs.Inner.Tables.{name_of, meaning_at, item_in}
+use Rattle.s3_program.specs.Inner.Valid.{named, named_input, meant_input, meant}
+use Rattle.s3_program.specs.FileEntries.{file_entry}
+use Rattle.s3_program.specs.Inner.Stands.{parts_of, source_named}
 use Rattle.s3_program.proofs.SlotLemmas.{Kept, kept, not_among, opposite}
-use Rattle.s3_operations.specs.Fits.{tables}
-use Rattle.s3_operations.specs.Moves.{named_field}
+use Rattle.s3_operations.specs.Inner.Fits.{tables}
+use Rattle.s3_operations.specs.Inner.Moves.{named_field}
 use Rattle.s3_operations.proofs.FitLemmas.{head_not, rest_not}
 
 some_same : {X : Type 0} (x y : X) → Some x ≡ Some y → x ≡ y

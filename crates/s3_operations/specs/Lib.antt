@@ -1,10 +1,1 @@
-pub mod Indicators
-pub mod Texts
-pub mod Fits
-pub mod Held
-pub mod Groups
-pub mod Beginning
-pub mod Indicating
-pub mod Moves
-pub mod Performing
-pub mod Chaining
+pub mod Inner

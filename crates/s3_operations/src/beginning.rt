@@ -2,10 +2,10 @@
 ghost use Rattle.std.specs.Prelude.{◌≡◌, ◌+◌, ◌^◌, ◌<◌, ◌≤◌, true, pos, IfOk, Some};
 ghost use Rattle.s3_lines.specs.Ranges.{shape_in_range};
 ghost use Rattle.s3_meaning.specs.Environment.{date_part as date_part_spec, put_number};
-ghost use Rattle.s3_program.specs.Tables.{meaning_at, name_of};
-ghost use Rattle.s3_operations.specs.Fits.{tables, is_number_field};
-ghost use Rattle.s3_operations.specs.Held.{IsSound, Changes, form_of, form_in_shape};
-ghost use Rattle.s3_operations.specs.Beginning.{Begins, IsDate, IsZeros, are_fields_in_range, with_date};
+ghost use Rattle.s3_program.specs.Inner.Tables.{meaning_at, name_of};
+ghost use Rattle.s3_operations.specs.Inner.Fits.{tables, is_number_field};
+ghost use Rattle.s3_operations.specs.Inner.Held.{IsSound, Changes, form_of, form_in_shape};
+ghost use Rattle.s3_operations.specs.Inner.Beginning.{Begins, IsDate, IsZeros, are_fields_in_range, with_date};
 
 use crate::indicators::Indicators;
 use crate::numbers::ZERO;

@@ -1,14 +1,15 @@
 //! CHAIN: the file that it names, and what it seeks there.
 ghost use Rattle.std.specs.Prelude.{◌≡◌, ◌<◌, ◌≤◌, true, false, Some, IfSome, IfNone, length, slice_get};
-ghost use Rattle.s3_lines.specs.Ranges.{factor_in_range, if_given};
+ghost use Rattle.s3_lines.specs.Inner.Ranges.{factor_in_range};
+ghost use Rattle.s3_lines.specs.Ranges.{if_given};
 ghost use Rattle.s3_lines.specs.declared.sheet.KeyField.{KeyField};
 ghost use Rattle.s3_lines.specs.declared.sheet.Operation.TheVariants as op;
 ghost use Rattle.s3_meaning.specs.Calculating.{bytes_in, number_in, zoned};
 ghost use Rattle.s3_meaning.specs.Environment.{Environment};
-ghost use Rattle.s3_program.specs.Stands.{source_named};
-ghost use Rattle.s3_operations.specs.Chaining.{IsLiteral, file_sought, has_key, is_chained_file, is_literal, key_field, names_file};
-ghost use Rattle.s3_operations.specs.Fits.{IsLineOf, named_factor};
-ghost use Rattle.s3_operations.specs.Held.{IsSound, held};
+ghost use Rattle.s3_program.specs.Inner.Stands.{source_named};
+ghost use Rattle.s3_operations.specs.Inner.Chaining.{IsLiteral, file_sought, has_key, is_chained_file, is_literal, key_field, names_file};
+ghost use Rattle.s3_operations.specs.Inner.Fits.{IsLineOf, named_factor};
+ghost use Rattle.s3_operations.specs.Inner.Held.{IsSound, held};
 
 use crate::operand::Operand;
 use crate::texts::MOST_DIGITS;

@@ -4,9 +4,9 @@ ghost use Rattle.s3_lines.specs.declared.sheet.Operation.TheVariants as op;
 ghost use Rattle.s3_meaning.specs.Environment.{Environment};
 ghost use Rattle.s3_meaning.specs.Calculating.{changed, factor_order, text_order as text_order_spec};
 ghost use Rattle.s3_cards.specs.declared.ebcdic.TheConstants.{BLANK};
-ghost use Rattle.s3_program.specs.Stands.{source_named};
-ghost use Rattle.s3_operations.specs.Fits.{IsLineOf, TakesAlike, named_line};
-ghost use Rattle.s3_operations.specs.Held.{IsSound, Changes, held};
+ghost use Rattle.s3_program.specs.Inner.Stands.{source_named};
+ghost use Rattle.s3_operations.specs.Inner.Fits.{IsLineOf, TakesAlike, named_line};
+ghost use Rattle.s3_operations.specs.Inner.Held.{IsSound, Changes, held};
 
 use crate::operand::Operand;
 use crate::values::Values;

@@ -5,9 +5,9 @@ ghost use Rattle.s3_decimal.specs.declared.rounding.Rounding.TheVariants.{Trunca
 ghost use Rattle.s3_lines.specs.declared.sheet.Operation.TheVariants as op;
 ghost use Rattle.s3_meaning.specs.Environment.{Environment, put_remainder, no_remainder};
 ghost use Rattle.s3_meaning.specs.Calculating.{changed, number_in, with_quotient, with_zero_quotient};
-ghost use Rattle.s3_program.specs.Stands.{source_named};
-ghost use Rattle.s3_operations.specs.Fits.{IsLineOf, named_line, named_factor};
-ghost use Rattle.s3_operations.specs.Held.{IsSound, Changes, held, remainder_in, left_by, left_in};
+ghost use Rattle.s3_program.specs.Inner.Stands.{source_named};
+ghost use Rattle.s3_operations.specs.Inner.Fits.{IsLineOf, named_line, named_factor};
+ghost use Rattle.s3_operations.specs.Inner.Held.{IsSound, Changes, held, remainder_in, left_by, left_in};
 
 use crate::division::{Division, LeftOver};
 use crate::numbers::{ZERO, rounding};

@@ -3,10 +3,10 @@ ghost use Rattle.std.specs.Prelude.{◌≡◌, true, length, replicate, Some};
 ghost use Rattle.s3_cards.specs.declared.ebcdic.TheConstants.{BLANK};
 ghost use Rattle.s3_meaning.specs.Environment.{put_text};
 ghost use Rattle.s3_meaning.specs.Source.{length_of};
-ghost use Rattle.s3_program.specs.Stands.{source_named};
-ghost use Rattle.s3_program.specs.Tables.{meaning_at, name_of};
-ghost use Rattle.s3_operations.specs.Fits.{tables, is_text_field};
-ghost use Rattle.s3_operations.specs.Held.{IsSound, Changes};
+ghost use Rattle.s3_program.specs.Inner.Stands.{source_named};
+ghost use Rattle.s3_program.specs.Inner.Tables.{meaning_at, name_of};
+ghost use Rattle.s3_operations.specs.Inner.Fits.{tables, is_text_field};
+ghost use Rattle.s3_operations.specs.Inner.Held.{IsSound, Changes};
 
 use crate::values::Values;
 use s3_program::program::{Program, Reference};

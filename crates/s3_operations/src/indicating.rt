@@ -4,9 +4,9 @@ ghost use Rattle.s3_lines.specs.declared.indicator.Indicator.{Indicator};
 ghost use Rattle.s3_meaning.specs.Environment.{Environment, turn, turn_levels, with_last_record};
 ghost use Rattle.s3_meaning.specs.Selection.{is_level_to};
 ghost use Rattle.s3_meaning.specs.Output.{is_served};
-ghost use Rattle.s3_operations.specs.Held.{IsSound, Changes, held};
-ghost use Rattle.s3_operations.specs.Indicators.{on_in, is_settable};
-ghost use Rattle.s3_operations.specs.Indicating.{with_levels_to};
+ghost use Rattle.s3_operations.specs.Inner.Held.{IsSound, Changes, held};
+ghost use Rattle.s3_operations.specs.Inner.Indicators.{on_in, is_settable};
+ghost use Rattle.s3_operations.specs.Inner.Indicating.{with_levels_to};
 
 use crate::indicators::Indicators;
 use crate::values::Values;

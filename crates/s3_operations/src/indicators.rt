@@ -16,7 +16,7 @@ impl Indicators {
     ghost use Rattle.std.specs.List.{list_all};
     ghost use Rattle.s3_meaning.specs.Names.{same_indicator, is_indicator};
     ghost use Rattle.s3_lines.specs.declared.indicator.Indicator.{Indicator};
-    ghost use Rattle.s3_operations.specs.Indicators.{on_in, entry_holds, is_settable, is_settable_entry, are_settable, turned_all, shown_on, lowered, raised};
+    ghost use Rattle.s3_operations.specs.Inner.Indicators.{on_in, entry_holds, is_settable, is_settable_entry, are_settable, turned_all, shown_on, lowered, raised};
     ghost use Rattle.s3_meaning.specs.Environment.{on_at_first};
 
     /// 1P and L0 are on, and the switches as they are set.

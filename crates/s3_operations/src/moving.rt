@@ -5,11 +5,11 @@ ghost use Rattle.s3_lines.specs.declared.sheet.Operation.TheVariants as op;
 ghost use Rattle.s3_meaning.specs.Environment.{Environment, put_number};
 ghost use Rattle.s3_meaning.specs.Calculating.{changed, bytes_in, result_of, with_move};
 ghost use Rattle.s3_meaning.specs.Source.{digits_of, decimals_of};
-ghost use Rattle.s3_program.specs.Tables.{meaning_at};
-ghost use Rattle.s3_program.specs.Meant.{is_defined};
-ghost use Rattle.s3_program.specs.Stands.{source_named};
-ghost use Rattle.s3_operations.specs.Fits.{tables, IsLineOf, TakesText, named_line, named_factor, meant_factor, meant_result, is_value, is_field, is_number_field, is_text_field};
-ghost use Rattle.s3_operations.specs.Held.{IsSound, Changes, held};
+ghost use Rattle.s3_program.specs.Inner.Tables.{meaning_at};
+ghost use Rattle.s3_program.specs.Inner.Meant.{is_defined};
+ghost use Rattle.s3_program.specs.Inner.Stands.{source_named};
+ghost use Rattle.s3_operations.specs.Inner.Fits.{tables, IsLineOf, TakesText, named_line, named_factor, meant_factor, meant_result, is_value, is_field, is_number_field, is_text_field};
+ghost use Rattle.s3_operations.specs.Inner.Held.{IsSound, Changes, held};
 
 use crate::numbers::number_slot;
 use crate::operand::{Operand, literal_codes, literal_number};

@@ -6,11 +6,11 @@ ghost use Rattle.s3_meaning.specs.Moving.{sign_marks as sign_marks_spec};
 ghost use Rattle.s3_meaning.specs.Environment.{Environment, put_number};
 ghost use Rattle.s3_meaning.specs.Source.{digits_of, decimals_of};
 ghost use Rattle.s3_meaning.specs.Calculating.{result_of, order_marks as order_marks_spec};
-ghost use Rattle.s3_program.specs.Stands.{source_named};
-ghost use Rattle.s3_program.specs.Tables.{meaning_at, name_of};
-ghost use Rattle.s3_operations.specs.Indicators.{alone, are_settable, is_settable_entry, on_in, shown_alone, shown_on};
-ghost use Rattle.s3_operations.specs.Fits.{tables, named_line, named_factor, meant_result, is_number_field, GivesNumber, TakesNumber, TakesNumbers};
-ghost use Rattle.s3_operations.specs.Held.{IsSound, IsNumberOf, Changes, held, with_value};
+ghost use Rattle.s3_program.specs.Inner.Stands.{source_named};
+ghost use Rattle.s3_program.specs.Inner.Tables.{meaning_at, name_of};
+ghost use Rattle.s3_operations.specs.Inner.Indicators.{alone, are_settable, is_settable_entry, on_in, shown_alone, shown_on};
+ghost use Rattle.s3_operations.specs.Inner.Fits.{tables, named_line, named_factor, meant_result, is_number_field, GivesNumber, TakesNumber, TakesNumbers};
+ghost use Rattle.s3_operations.specs.Inner.Held.{IsSound, IsNumberOf, Changes, held, with_value};
 
 use crate::indicators::Indicators;
 use crate::values::Values;

@@ -1,11 +1,11 @@
 //! The values of factors.
 ghost use Rattle.std.specs.Prelude.{◌≡◌, ◌<◌, ◌≤◌, true, IsTrue, Some, length, take};
 ghost use Rattle.s3_meaning.specs.Environment.{Environment};
-ghost use Rattle.s3_program.specs.Tables.{meaning_at, name_of};
-ghost use Rattle.s3_program.specs.Stands.{source_named};
-ghost use Rattle.s3_program.specs.Meant.{is_defined};
-ghost use Rattle.s3_operations.specs.Fits.{tables, named_factor, meant_factor, is_value, is_number, is_number_literal, is_text, is_text_literal};
-ghost use Rattle.s3_operations.specs.Held.{IsSound, IsOperand, IsNumberOf, IsTextOf, IsValueOf, held};
+ghost use Rattle.s3_program.specs.Inner.Tables.{meaning_at, name_of};
+ghost use Rattle.s3_program.specs.Inner.Stands.{source_named};
+ghost use Rattle.s3_program.specs.Inner.Meant.{is_defined};
+ghost use Rattle.s3_operations.specs.Inner.Fits.{tables, named_factor, meant_factor, is_value, is_number, is_number_literal, is_text, is_text_literal};
+ghost use Rattle.s3_operations.specs.Inner.Held.{IsSound, IsOperand, IsNumberOf, IsTextOf, IsValueOf, held};
 
 use crate::values::Values;
 use s3_decimal::Dec;

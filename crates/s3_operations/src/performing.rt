@@ -1,9 +1,9 @@
 //! One line, by its operation.
 ghost use Rattle.std.specs.Prelude.{◌≡◌, true, false};
 ghost use Rattle.s3_meaning.specs.Calculating.{changed};
-ghost use Rattle.s3_operations.specs.Fits.{IsLineOf, named_line};
-ghost use Rattle.s3_operations.specs.Held.{IsSound, Changes};
-ghost use Rattle.s3_operations.specs.Performing.{makes_no_request};
+ghost use Rattle.s3_operations.specs.Inner.Fits.{IsLineOf, named_line};
+ghost use Rattle.s3_operations.specs.Inner.Held.{IsSound, Changes};
+ghost use Rattle.s3_operations.specs.Inner.Performing.{makes_no_request};
 
 use crate::values::Values;
 use s3_lines::sheet::{CalculationLine, Operation};

@@ -1,7 +1,7 @@
 //! The texts of fields, by slot.
 ghost use Rattle.std.specs.Prelude.{◌≡◌, ◌≤◌, ◌+◌, ◌-◌, ◌++◌, List, ℕ, min, take, drop, IfOk, OnOk, length, replicate};
 ghost use Rattle.s3_meaning.specs.Calculating.{moved_right, moved_left, zoned};
-ghost use Rattle.s3_operations.specs.Texts.{IsCut, texts_on, blank_texts, length_of as length_of_spec};
+ghost use Rattle.s3_operations.specs.Inner.Texts.{IsCut, texts_on, blank_texts, length_of as length_of_spec};
 
 use crate::laying::{lay, lay_within};
 use crate::zoned::write_zoned;
@@ -119,7 +119,7 @@ fn overlay_blanks(target: &mut [u8])
 
 impl Texts {
     ghost use Rattle.std.specs.Prelude.{◌≡◌, ◌<◌, Some, length, replicate, slice_get, slice_set};
-    ghost use Rattle.s3_operations.specs.Texts.{text_at};
+    ghost use Rattle.s3_operations.specs.Inner.Texts.{text_at};
 
     /// A blank text for each field.
     pub fn blank(alloc: Global, fields: &[Defined<Shape>]) -> Result<Texts, AllocError>

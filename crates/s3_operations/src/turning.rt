@@ -1,8 +1,8 @@
 //! SETON and SETOF.
 ghost use Rattle.s3_lines.specs.declared.sheet.Operation.TheVariants as op;
 ghost use Rattle.s3_meaning.specs.Calculating.{changed};
-ghost use Rattle.s3_operations.specs.Fits.{IsLineOf, named_line};
-ghost use Rattle.s3_operations.specs.Held.{IsSound, Changes};
+ghost use Rattle.s3_operations.specs.Inner.Fits.{IsLineOf, named_line};
+ghost use Rattle.s3_operations.specs.Inner.Held.{IsSound, Changes};
 
 use crate::values::Values;
 use s3_lines::sheet::CalculationLine;

@@ -4,7 +4,8 @@ use Rattle.std.specs.Option.{option_map}
 use Rattle.std.proofs.lemmas.List.{map-set, length-map}
 use Rattle.std.proofs.lemmas.Option.{slice_get-map, slice_get_read}
 use Rattle.s3_operator.specs.declared.halt.Halt.{Halt}
-use Rattle.s3_operator.specs.Halts.{halt_of, with_reply}
+use Rattle.s3_operator.specs.Inner.Halts.{halt_of}
+use Rattle.s3_operator.specs.Halts.{with_reply}
 
 pub filled : (digit : ℕ) (items : List Halt) (halt : Halt) (count : ℕ) → count ≡ length items → 0 < count → halt ≡ get_or items (count - 1) halt
     → map halt_of (set items (count - 1) (record halt { reply = Some digit })) ≡ with_reply digit (map halt_of items)

@@ -1,7 +1,6 @@
 -- The halts that were shown, and a reply to the one that waits.
 use Rattle.std.specs.Prelude.{ℕ, ◌-◌, Bool, List, [], ◌∷◌, ◌++◌, length, set, slice_get, Option, Some, None, is_some, Result, Ok, Err, if◌then◌else◌}
 use Rattle.s3_operator.specs.declared.halt_code.HaltCode.{HaltCode}
-use Rattle.s3_operator.specs.declared.halt.Halt.{Halt}
 use Rattle.s3_operator.specs.declared.reply_fault.ReplyFault.{ReplyFault}
 use Rattle.s3_operator.specs.declared.reply_fault.ReplyFault.TheVariants.{NotHalted, NotAllowed}
 use Rattle.s3_operator.specs.Replies.{is_allowed}
@@ -13,9 +12,6 @@ pub record ShownHalt : Type 0 where
   pub code : HaltCode
   pub details : List (ℕ × ℕ)
   pub reply : Option ℕ
-
-abbrev pub halt_of : Halt → ShownHalt
-halt_of halt = record { job = halt.job; code = halt.code; details = halt.details.items; reply = halt.reply }
 
 -- a halt is shown, behind the others and without a reply
 abbrev pub with_halt : (job : ℕ) → HaltCode → (details : List (ℕ × ℕ)) → List ShownHalt → List ShownHalt

@@ -1,3 +1,3 @@
-pub mod Replies
 pub mod Halts
-pub mod Samples
+pub mod Replies
+pub mod Inner

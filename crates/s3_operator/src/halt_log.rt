@@ -1,6 +1,7 @@
 //! The halts of a level, in order.
 ghost use Rattle.std.specs.Prelude.{◌≡◌, [], map, OnOk, OnErr};
-ghost use Rattle.s3_operator.specs.Halts.{answer_to, halt_of, is_waiting, waiting, with_halt, with_reply};
+ghost use Rattle.s3_operator.specs.Halts.{answer_to, is_waiting, waiting, with_halt, with_reply};
+ghost use Rattle.s3_operator.specs.Inner.Halts.{halt_of};
 
 use crate::halt::Halt;
 use crate::halt_code::HaltCode;
@@ -17,7 +18,8 @@ pub struct HaltLog {
 
 impl Model for HaltLog {
     ghost use Rattle.std.specs.Prelude.{List, map};
-    ghost use Rattle.s3_operator.specs.Halts.{ShownHalt, halt_of};
+    ghost use Rattle.s3_operator.specs.Halts.{ShownHalt};
+    ghost use Rattle.s3_operator.specs.Inner.Halts.{halt_of};
 
     ghost Value = { List ShownHalt };
 

@@ -4,7 +4,7 @@ ghost use Rattle.s3_operator.specs.declared.halt_code.HaltCode.TheVariants.{Zero
 ghost use Rattle.s3_operator.specs.declared.reply_fault.ReplyFault.TheVariants.{NotHalted, NotAllowed};
 ghost use Rattle.s3_operator.specs.Replies.{is_allowed};
 ghost use Rattle.s3_operator.specs.Halts.{answer_to, waiting, with_halt, with_reply};
-ghost use Rattle.s3_operator.specs.Samples.{digits, going_on, ending, going_codes, ending_codes};
+ghost use Rattle.s3_operator.specs.Inner.Samples.{digits, going_on, ending, going_codes, ending_codes};
 
 /// Each code of the first list allows 0, 2 and 3, each of the second 2 and 3, and none another digit.
 pub fn replies_are_by_table()

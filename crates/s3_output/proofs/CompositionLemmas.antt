@@ -4,7 +4,7 @@ use Rattle.std.specs.Prelude.{Option, Some, None, is_some, unwrap_or, replicate,
 use Rattle.std.proofs.lemmas.List.{map-append, length-map, length-append, length-drop, length-take-le, take-take, take-map, drop-map, drop-take, length-replicate}
 use Rattle.s3_cards.specs.declared.ebcdic.TheConstants.{BLANK}
 use Rattle.s3_meaning.specs.Output.{filled, laid}
-use Rattle.s3_output.specs.Compositions.{first_position, position, positions_in, positions_on}
+use Rattle.s3_output.specs.Inner.Compositions.{first_position, position, positions_in, positions_on}
 
 none_on : (puts : List Bool) → positions_on puts [] ≡ []
 none_on [] = refl

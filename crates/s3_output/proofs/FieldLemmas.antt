@@ -26,15 +26,16 @@ use Rattle.s3_program.specs.declared.program.Program.{Program}
 use Rattle.s3_program.specs.declared.program.Defined.{Defined}
 use Rattle.s3_program.specs.declared.program.Reference.TheVariants.{Field as FieldSlot}
 use Rattle.s3_program.specs.declared.program.Meaning.TheVariants as meaning
-use Rattle.s3_program.specs.Meant.{is_defined}
+use Rattle.s3_program.specs.Inner.Meant.{is_defined}
 use Rattle.s3_program.specs.Operands.{field_put_fits, is_within_end, text_fits, number_fits}
 use Rattle.s3_program.specs.Shapes.{shape_meant}
-use Rattle.s3_program.specs.Tables.{name_of, meaning_at, or_undefined}
-use Rattle.s3_program.specs.Stands.{parts_of, source_named}
+use Rattle.s3_program.specs.Inner.Tables.{name_of, meaning_at}
+use Rattle.s3_program.specs.Tables.{or_undefined}
+use Rattle.s3_program.specs.Inner.Stands.{parts_of, source_named}
 use Rattle.s3_program.proofs.SlotLemmas.{Kept, kept, same_slot}
 use Rattle.s3_operations.specs.declared.values.Values.{Values}
-use Rattle.s3_operations.specs.Fits.{tables}
-use Rattle.s3_operations.specs.Held.{IsSound, Changes, IsNumberIn, IsTextIn, held}
+use Rattle.s3_operations.specs.Inner.Fits.{tables}
+use Rattle.s3_operations.specs.Inner.Held.{IsSound, Changes, IsNumberIn, IsTextIn, held}
 use Rattle.s3_operations.proofs.ValueLemmas.{FieldAt, NumberAt, NumberField, field_entry, field_at, field_number, number_held, number_read, within_fields, within_numbers, digits_when, decimals_when, text_when}
 use Rattle.s3_operations.proofs.BeginLemmas.{page_at}
 use Rattle.s3_output.specs.declared.preparing.SlotOutput.{SlotOutput}

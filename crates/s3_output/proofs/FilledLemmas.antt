@@ -9,7 +9,7 @@ use Rattle.s3_meaning.specs.Names.{entries}
 use Rattle.s3_meaning.specs.Source.{Source}
 use Rattle.s3_meaning.specs.Environment.{Environment, all_hold}
 use Rattle.s3_meaning.specs.Output.{Composed, blanked, composed, counted, field_content, filled, laid, put_out}
-use Rattle.s3_output.specs.Compositions.{first_position}
+use Rattle.s3_output.specs.Inner.Compositions.{first_position}
 use Rattle.s3_output.proofs.CompositionLemmas.{filled_first, filled_laid}
 
 pub record Alike (one two : Composed) : Type 0 where

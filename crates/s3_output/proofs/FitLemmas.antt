@@ -7,20 +7,21 @@ use Rattle.std.proofs.lemmas.Option.{slice_get-map, slice_get-get_or}
 use Rattle.s3_lines.specs.declared.sheet.OutputCard.{OutputCard}
 use Rattle.s3_lines.specs.declared.sheet.OutputLine.{OutputLine}
 use Rattle.s3_lines.specs.declared.sheet.OutputLine.TheVariants.{Line as LineCard}
-use Rattle.s3_lines.specs.Ranges.{output_in_range, spacing_in_range}
+use Rattle.s3_lines.specs.Inner.Ranges.{output_in_range, spacing_in_range}
 use Rattle.s3_program.specs.declared.program.Program.{Program}
 use Rattle.s3_program.specs.declared.program.Reference.{Reference}
 use Rattle.s3_program.specs.declared.program.Meaning.{Meaning}
 use Rattle.s3_program.specs.declared.standing.OutputStanding.{OutputStanding}
-use Rattle.s3_program.specs.Meant.{is_of, output_passes, are_of_kinds}
-use Rattle.s3_program.specs.Positions.{are_in_range}
+use Rattle.s3_program.specs.Inner.Meant.{is_of, output_passes, are_of_kinds}
+use Rattle.s3_program.specs.Inner.Positions.{are_in_range}
 use Rattle.s3_program.specs.Operands.{output_unfit}
 use Rattle.s3_program.specs.Standings.{first_output, behind_output}
-use Rattle.s3_program.specs.Conditions.{is_clear, output_holds, outputs_clear, are_clear}
-use Rattle.s3_program.specs.Valid.{meant_output, meant}
-use Rattle.s3_program.specs.Stands.{parts_of}
+use Rattle.s3_program.specs.Inner.Conditions.{is_clear, outputs_clear, are_clear}
+use Rattle.s3_program.specs.Conditions.{output_holds}
+use Rattle.s3_program.specs.Inner.Valid.{meant_output, meant}
+use Rattle.s3_program.specs.Inner.Stands.{parts_of}
 use Rattle.s3_program.proofs.SlotLemmas.{Kept, kept}
-use Rattle.s3_operations.specs.Fits.{tables}
+use Rattle.s3_operations.specs.Inner.Fits.{tables}
 use Rattle.s3_operations.proofs.ValueLemmas.{all_at}
 
 some_same : {X : Type 0} (x y : X) → Some x ≡ Some y → x ≡ y

@@ -17,17 +17,18 @@ use Rattle.s3_program.specs.declared.program.Program.{Program}
 use Rattle.s3_program.specs.declared.program.Reference.{Reference}
 use Rattle.s3_program.specs.declared.starts.OutputStart.{OutputStart}
 use Rattle.s3_program.specs.declared.starts.Walk.{Walk}
-use Rattle.s3_program.specs.Starts.{output_starts, walked, is_walked}
+use Rattle.s3_program.specs.Inner.Starts.{output_starts, walked, is_walked}
 use Rattle.s3_program.specs.Lines.{map_card}
 use Rattle.s3_program.proofs.StartedLemmas.{outputs_stand}
-use Rattle.s3_program.specs.Distinct.{are_distinct}
-use Rattle.s3_program.specs.Started.{output_at, output_on}
-use Rattle.s3_program.specs.Stands.{parts_of, source_named}
-use Rattle.s3_program.specs.Tables.{name_of, name_in}
-use Rattle.s3_program.specs.Valid.{file_entry, named, named_output}
+use Rattle.s3_program.specs.Inner.Distinct.{are_distinct}
+use Rattle.s3_program.specs.Inner.Started.{output_at, output_on}
+use Rattle.s3_program.specs.Inner.Stands.{parts_of, source_named}
+use Rattle.s3_program.specs.Inner.Tables.{name_of, name_in}
+use Rattle.s3_program.specs.FileEntries.{file_entry}
+use Rattle.s3_program.specs.Inner.Valid.{named, named_output}
 use Rattle.s3_program.proofs.SlotLemmas.{Kept, kept}
-use Rattle.s3_operations.specs.Fits.{tables}
-use Rattle.s3_output.specs.Lines.{IsLineAt, IsStart, file_of}
+use Rattle.s3_operations.specs.Inner.Fits.{tables}
+use Rattle.s3_output.specs.Inner.Lines.{IsLineAt, IsStart, file_of}
 use Rattle.s3_output.proofs.ComposeLemmas.{StartsAt, starts_at}
 
 pub line_starts : (p : Program) (start : OutputStart) → IsStart p start → is_some (output_at (tables p) p.outputs.items start) ≡ true

@@ -1,9 +1,1 @@
-pub mod Carriages
-pub mod Compositions
-pub mod Composing
-pub mod Guards
 pub mod Inner
-pub mod Lines
-pub mod Prepared
-pub mod Requests
-pub mod Rows

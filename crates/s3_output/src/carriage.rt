@@ -1,6 +1,7 @@
 //! The carriage of the printer.
 ghost use Rattle.std.specs.Prelude.{◌≡◌, ◌≤◌, ◌&&◌, ◌||◌, true, false, None, Some, IfSome};
-ghost use Rattle.s3_lines.specs.Ranges.{spacing_in_range, is_between, if_given};
+ghost use Rattle.s3_lines.specs.Inner.Ranges.{spacing_in_range};
+ghost use Rattle.s3_lines.specs.Ranges.{is_between, if_given};
 ghost use Rattle.s3_meaning.specs.Carriage as meaning;
 
 use s3_lines::sheet::Spacing;
@@ -89,7 +90,7 @@ fn space_after_alone(spacing: &Spacing) -> Option<u8>
 }
 
 impl Moved {
-    ghost use Rattle.s3_output.specs.Carriages.{place_moved};
+    ghost use Rattle.s3_output.specs.Inner.Carriages.{place_moved};
 
     /// So many lines on; line 1 of the next page comes after line 66. Above the overflow line, as mostly, nothing else changes.
     fn spaced(self, lines: u8) -> Moved
@@ -168,7 +169,7 @@ impl Moved {
 }
 
 impl Carriage {
-    ghost use Rattle.s3_output.specs.Carriages.{IsPrinted, place, place_moved};
+    ghost use Rattle.s3_output.specs.Inner.Carriages.{IsPrinted, place, place_moved};
 
     /// To the place of print: skip before, then space before; printing at line 60 sets overflow.
     pub fn to_print(self, spacing: &Spacing) -> Moved

@@ -6,13 +6,13 @@ ghost use Rattle.s3_meaning.specs.Names.{page};
 ghost use Rattle.s3_meaning.specs.Environment.{Environment};
 ghost use Rattle.s3_meaning.specs.Output.{counted, field_content, blanked, laid};
 ghost use Rattle.s3_program.specs.Lines.{map_field_output};
-ghost use Rattle.s3_program.specs.Meant.{is_defined};
+ghost use Rattle.s3_program.specs.Inner.Meant.{is_defined};
 ghost use Rattle.s3_program.specs.Operands.{field_put_fits, number_fits};
 ghost use Rattle.s3_program.specs.Shapes.{shape_meant};
-ghost use Rattle.s3_program.specs.Stands.{source_named};
-ghost use Rattle.s3_program.specs.Tables.{meaning_at, name_of};
-ghost use Rattle.s3_operations.specs.Fits.{tables};
-ghost use Rattle.s3_operations.specs.Held.{IsSound, Changes, held};
+ghost use Rattle.s3_program.specs.Inner.Stands.{source_named};
+ghost use Rattle.s3_program.specs.Inner.Tables.{meaning_at, name_of};
+ghost use Rattle.s3_operations.specs.Inner.Fits.{tables};
+ghost use Rattle.s3_operations.specs.Inner.Held.{IsSound, Changes, held};
 ghost use Rattle.s3_output.specs.Inner.Contents.{number_put, shown_form as shown_form_spec, cleared, HasPageForm};
 
 use crate::composition::Composition;

@@ -11,12 +11,12 @@ ghost use Rattle.s3_meaning.specs.Output.{counted, number_bytes};
 ghost use Rattle.s3_meaning.specs.Source.{Source, file_named};
 ghost use Rattle.s3_program.specs.declared.starts.OutputStart.{OutputStart};
 ghost use Rattle.s3_program.specs.declared.starts.Walk.{Walk};
-ghost use Rattle.s3_program.specs.Starts.{walked, is_walked};
-ghost use Rattle.s3_program.specs.Started.{output_at};
-ghost use Rattle.s3_program.specs.Stands.{source_named};
-ghost use Rattle.s3_operations.specs.Fits.{tables};
-ghost use Rattle.s3_output.specs.Lines.{IsStart, IsLineAt, file_of};
-ghost use Rattle.s3_output.specs.Rows.{at, past, skip_to, printed, credit, no_lines};
+ghost use Rattle.s3_program.specs.Inner.Starts.{walked, is_walked};
+ghost use Rattle.s3_program.specs.Inner.Started.{output_at};
+ghost use Rattle.s3_program.specs.Inner.Stands.{source_named};
+ghost use Rattle.s3_operations.specs.Inner.Fits.{tables};
+ghost use Rattle.s3_output.specs.Inner.Lines.{IsStart, IsLineAt, file_of};
+ghost use Rattle.s3_output.specs.Inner.Rows.{at, past, skip_to, printed, credit, no_lines};
 
 /// A page has 66 lines; line 61 is reached from line 60 with overflow, which a skip to a line past 60 sets too, and a skip to
 /// the next page doesn't. Page 0 comes after page 9,999.

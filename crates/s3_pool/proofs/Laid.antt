@@ -3,7 +3,7 @@ use Rattle.std.proofs.Common.{◌≡◌, ◌≢◌, ℕ, zero, suc, ◌<◌, Lis
 use Rattle.std.proofs.lemmas.Bool.Decides.{eqb_tells}
 use Rattle.s3_store.proofs.SectorLists.{slice_get_set_same, slice_get_set_other, slice_set_known, slice_set_set_other}
 use Rattle.s3_pool.specs.declared.buffers.Buffer.{Buffer}
-use Rattle.s3_pool.specs.Buffers.{laid, IsMissed}
+use Rattle.s3_pool.specs.Inner.Buffers.{laid, IsMissed}
 
 pub length_laid : (xs : List Buffer) (b : List (List ℕ)) → length (laid xs b) ≡ length b
 length_laid [] b = refl

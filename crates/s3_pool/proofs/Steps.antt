@@ -4,16 +4,16 @@ use Rattle.std.proofs.lemmas.Option.{slice_get_within}
 use Rattle.std.proofs.lemmas.Bool.Decides.{eqb_tells}
 use Rattle.s3_store.specs.declared.pool_fault.PoolFault.{PoolFault}
 use Rattle.s3_store.specs.declared.pool_fault.PoolFault.TheVariants.{NoSector}
-use Rattle.s3_store.specs.Failures.{failed_transfers}
-use Rattle.s3_store.specs.State.{PoolState, KeepsContents, ChangesWithin}
+use Rattle.s3_store.specs.Inner.Failures.{failed_transfers}
+use Rattle.s3_store.specs.Inner.State.{PoolState, KeepsContents, ChangesWithin}
 use Rattle.s3_store.proofs.Frames.{keeps_trans, within_from_keeps}
 use Rattle.s3_store.proofs.SectorLists.{slice_get_set_same, slice_get_set_other, slice_set_known, slice_set_set_same}
 use Rattle.s3_pool.specs.declared.buffers.Buffer.{Buffer}
 use Rattle.s3_pool.specs.declared.buffers.Buffers.{Buffers}
-use Rattle.s3_pool.specs.Buffers.{laid, IsAt, IsMissed, IsSound, KeepsLaid, Overwrites, pool_state}
+use Rattle.s3_pool.specs.Inner.Buffers.{laid, IsAt, IsMissed, IsSound, KeepsLaid, Overwrites, pool_state}
 use Rattle.s3_pool.specs.Inner.BufferLending.{dirty, with_buffer, place, with_taken, IsInStep}
 use Rattle.s3_pool.specs.Inner.Places.{IsPlaced, IsIndexed}
-use Rattle.s3_pool.specs.Lending.{ChangesSector, KeepsAll}
+use Rattle.s3_pool.specs.Inner.Lending.{ChangesSector, KeepsAll}
 use Rattle.s3_pool.proofs.Laid.{but, but_missed, length_laid, laid_missed, laid_written, laid_append, IsElsewhere, laid_over, laid_held, set_tells, append_tells, laid_set, laid_nothing}
 
 -- ---- steps together

@@ -1,3 +1,1 @@
-pub mod Buffers
-pub mod Lending
 pub mod Inner

@@ -1,8 +1,8 @@
 //! Up to 16 sectors in memory, and the transfers between them and a store.
 ghost use Rattle.std.specs.Prelude.{◌≡◌, ◌≢◌, ◌<◌, ◌≤◌, ◌+◌, ◌++◌, ◌↔◌, [], ◌∷◌, length, slice_get, slice_set, Some, OnOk, OnErr, IfOk, IfErr, IsErrOf, IsTrue, MatchOption, false};
 ghost use Rattle.std.specs.Borrow.{sem};
-ghost use Rattle.s3_store.specs.Failures.{failed_calls, failed_transfers};
-ghost use Rattle.s3_pool.specs.Buffers.{IsAt, IsMissed, IsSound, KeepsLaid, Overwrites};
+ghost use Rattle.s3_store.specs.Inner.Failures.{failed_calls, failed_transfers};
+ghost use Rattle.s3_pool.specs.Inner.Buffers.{IsAt, IsMissed, IsSound, KeepsLaid, Overwrites};
 ghost use Rattle.s3_pool.specs.Inner.BufferLending.{LendsBytes, LendsBuffer, IsInStep, place, with_taken};
 ghost use Rattle.s3_pool.specs.Inner.Places.{IsPlaced, IsIndexed};
 

@@ -1,8 +1,8 @@
 //! The pool.
 ghost use Rattle.std.specs.Prelude.{◌≡◌, ◌≤◌, ◌+◌, ◌↔◌, length, slice_get, Some, OnOk, IfOk, IfErr, IsErrOf};
 ghost use Rattle.std.specs.Borrow.{sem};
-ghost use Rattle.s3_store.specs.Failures.{failed_transfers};
-ghost use Rattle.s3_store.specs.State.{KeepsContents};
+ghost use Rattle.s3_store.specs.Inner.Failures.{failed_transfers};
+ghost use Rattle.s3_store.specs.Inner.State.{KeepsContents};
 
 use crate::buffers::{Buffers, give_up_all, load, overwrite};
 use s3_store::{PackStore, PoolFault, Sectors, put_part, take_part};
@@ -19,8 +19,8 @@ pub struct Pool<S: PackStore> {
 }
 
 impl<S: PackStore> Model for Pool<S> {
-    ghost use Rattle.s3_store.specs.State.{PoolState};
-    ghost use Rattle.s3_pool.specs.Buffers.{IsSound, pool_state};
+    ghost use Rattle.s3_store.specs.Inner.State.{PoolState};
+    ghost use Rattle.s3_pool.specs.Inner.Buffers.{IsSound, pool_state};
     ghost use Rattle.s3_pool.specs.Inner.Places.{IsIndexed};
 
     ghost Value = { PoolState };
@@ -31,7 +31,7 @@ impl<S: PackStore> Model for Pool<S> {
 }
 
 impl<S: PackStore> Pool<S> {
-    ghost use Rattle.s3_pool.specs.Lending.{LendsSector, EndsKept};
+    ghost use Rattle.s3_pool.specs.Inner.Lending.{LendsSector, EndsKept};
 
     /// A pool over a store, which comes back where memory is refused.
     pub fn new(alloc: Global, store: S) -> Result<Self, AllocFailed<S>>

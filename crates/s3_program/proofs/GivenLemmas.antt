@@ -17,10 +17,10 @@ use Rattle.s3_lines.specs.Reserved.{reserved_names}
 use Rattle.s3_lines.specs.declared.sheet.Shape.{Shape}
 use Rattle.s3_lines.specs.declared.sheet.Shape.TheVariants.{Alphanumeric, Numeric}
 use Rattle.s3_meaning.specs.Source.{reserved_shapes, shape_in}
-use Rattle.s3_program.specs.Distinct.{are_distinct}
+use Rattle.s3_program.specs.Inner.Distinct.{are_distinct}
 use Rattle.s3_program.specs.Shapes.{same_shape}
-use Rattle.s3_program.specs.Valid.{begin_reserved}
-use Rattle.s3_program.specs.Given.{noted, all_noted, firsts}
+use Rattle.s3_program.specs.Inner.Valid.{begin_reserved}
+use Rattle.s3_program.specs.Inner.Given.{noted, all_noted, firsts}
 use Rattle.s3_program.proofs.SoundLemmas.{both}
 
 -- ---- look-ups

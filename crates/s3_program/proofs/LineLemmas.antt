@@ -17,11 +17,13 @@ use Rattle.s3_program.specs.declared.program.Kind.{Kind}
 use Rattle.s3_program.specs.declared.program.Kind.TheVariants as kind
 use Rattle.s3_program.specs.declared.program.Meaning.{Meaning}
 use Rattle.s3_program.specs.declared.program.Meaning.TheVariants as meaning
-use Rattle.s3_program.specs.Tables.{Tables, reference, name_of, meaning_of, meaning_at, or_undefined, found_in}
+use Rattle.s3_program.specs.Tables.{Tables, meaning_of, or_undefined, found_in}
+use Rattle.s3_program.specs.Inner.Tables.{reference, name_of, meaning_at}
 use Rattle.s3_program.specs.Lines.{map_factor, map_content}
-use Rattle.s3_program.specs.Meant.{first_kind, second_kind, is_defined, factor_passes, entry_passes, input_passes, calculation_passes, output_passes}
-use Rattle.s3_program.specs.Valid.{named_input, named_calculation, named_output, meant_input, meant_calculation, meant_output}
-use Rattle.s3_program.specs.Translation.{slotted_input, slotted_calculation, slotted_output, known_input, known_calculation, known_output}
+use Rattle.s3_program.specs.Kinds.{first_kind, second_kind}
+use Rattle.s3_program.specs.Inner.Meant.{is_defined, factor_passes, entry_passes, input_passes, calculation_passes, output_passes}
+use Rattle.s3_program.specs.Inner.Valid.{named_input, named_calculation, named_output, meant_input, meant_calculation, meant_output}
+use Rattle.s3_program.specs.Inner.Translation.{slotted_input, slotted_calculation, slotted_output, known_input, known_calculation, known_output}
 use Rattle.s3_program.proofs.TableLemmas.{slot_item, slot_entry, slot_name}
 
 -- ---- one name

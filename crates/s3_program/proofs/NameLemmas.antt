@@ -5,12 +5,12 @@ use Rattle.std.specs.List.{list_all, find}
 use Rattle.std.proofs.lemmas.Bool.{and_parts}
 use Rattle.s3_cards.specs.Names.{same_name, no_name}
 use Rattle.s3_lines.specs.declared.sheet.FileLine.{FileLine}
-use Rattle.s3_lines.specs.Ranges.{is_named, file_in_range}
+use Rattle.s3_lines.specs.Inner.Ranges.{is_named, file_in_range}
 use Rattle.s3_meaning.specs.Source.{file_named}
 use Rattle.s3_program.specs.declared.program.Program.{Program}
-use Rattle.s3_program.specs.Positions.{are_in_range}
-use Rattle.s3_program.specs.Valid.{named}
-use Rattle.s3_program.specs.Stands.{parts_of, source_named}
+use Rattle.s3_program.specs.Inner.Positions.{are_in_range}
+use Rattle.s3_program.specs.Inner.Valid.{named}
+use Rattle.s3_program.specs.Inner.Stands.{parts_of, source_named}
 use Rattle.s3_program.proofs.SlotLemmas.{kept}
 
 file_has_name : (file : FileLine) → file_in_range file ≡ true → is_named file.name ≡ true

@@ -23,13 +23,14 @@ use Rattle.s3_program.specs.declared.program.Reference.TheVariants as slot
 use Rattle.s3_program.specs.declared.program.Meaning.TheVariants as meaning
 use Rattle.s3_program.specs.declared.program.TagPlace.{TagPlace}
 use Rattle.s3_program.specs.declared.program.SubroutinePlace.{SubroutinePlace}
-use Rattle.s3_program.specs.Tables.{Tables, slot_in, found_in, item_in, name_in, name_of, meaning_at, or_undefined}
-use Rattle.s3_program.specs.Distinct.{are_distinct}
-use Rattle.s3_program.specs.Meant.{is_of, entry_passes, input_passes, calculation_passes, are_of_kinds}
-use Rattle.s3_program.specs.Positions.{are_in_range, are_within}
-use Rattle.s3_program.specs.Labels.{labels_stand}
-use Rattle.s3_program.specs.Conditions.{are_clear}
-use Rattle.s3_program.specs.Valid.{Parts, tables_of, named, meant, named_input, named_calculation, meant_input, meant_calculation, is_valid, are_right, are_sound, are_shaped, begin_reserved}
+use Rattle.s3_program.specs.Tables.{Tables, found_in, or_undefined}
+use Rattle.s3_program.specs.Inner.Tables.{slot_in, item_in, name_in, name_of, meaning_at}
+use Rattle.s3_program.specs.Inner.Distinct.{are_distinct}
+use Rattle.s3_program.specs.Inner.Meant.{is_of, entry_passes, input_passes, calculation_passes, are_of_kinds}
+use Rattle.s3_program.specs.Inner.Positions.{are_in_range, are_within}
+use Rattle.s3_program.specs.Inner.Labels.{labels_stand}
+use Rattle.s3_program.specs.Inner.Conditions.{are_clear}
+use Rattle.s3_program.specs.Inner.Valid.{Parts, tables_of, named, meant, named_input, named_calculation, meant_input, meant_calculation, is_valid, are_right, are_sound, are_shaped, begin_reserved}
 use Rattle.s3_program.proofs.TableLemmas.{place, slot_is}
 
 -- ---- what a valid program keeps

@@ -21,7 +21,8 @@ use Rattle.s3_lines.specs.declared.sheet.OutputLine.TheVariants.{Line as LineCar
 use Rattle.s3_lines.specs.declared.sheet.SheetLine.{SheetLine}
 use Rattle.s3_lines.specs.declared.sheet.SheetLine.TheVariants.{Header, File, Input, Calculation, Output}
 use Rattle.s3_lines.specs.declared.sheet.Line.{Line}
-use Rattle.s3_lines.specs.Ranges.{if_given, factor_in_range, file_in_range, input_in_range, calculation_in_range, output_in_range, content_in_range, in_range, codes_within, positions_within, input_length_behind as input_length_on, output_length_behind as output_length_on, all_within, record_length_in, are_read}
+use Rattle.s3_lines.specs.Ranges.{if_given}
+use Rattle.s3_lines.specs.Inner.Ranges.{factor_in_range, file_in_range, input_in_range, calculation_in_range, output_in_range, content_in_range, in_range, codes_within, positions_within, input_length_behind as input_length_on, output_length_behind as output_length_on, all_within, record_length_in, are_read}
 use Rattle.s3_meaning.specs.Source.{file_line, input_line, calculation_line, output_line}
 use Rattle.s3_program.specs.declared.program.Kind.{Kind}
 use Rattle.s3_program.specs.declared.program.Kind.TheVariants as kind
@@ -29,10 +30,11 @@ use Rattle.s3_program.specs.declared.program.Meaning.{Meaning}
 use Rattle.s3_program.specs.declared.program.Meaning.TheVariants as meaning
 use Rattle.s3_program.specs.Tables.{Tables, meaning_of, or_undefined, found_in}
 use Rattle.s3_program.specs.Lines.{map_factor, map_content}
-use Rattle.s3_program.specs.Meant.{first_kind, second_kind, is_defined, is_of, factor_passes, entry_passes, input_passes, calculation_passes, content_passes, output_passes, are_defined, are_of_kinds}
-use Rattle.s3_program.specs.Positions.{record_length, inputs_within, outputs_within, are_within, are_in_range}
-use Rattle.s3_program.specs.Valid.{file_entry}
-use Rattle.s3_program.specs.Translation.{known_input, known_calculation, known_output, known_lines}
+use Rattle.s3_program.specs.Kinds.{first_kind, second_kind}
+use Rattle.s3_program.specs.Inner.Meant.{is_defined, is_of, factor_passes, entry_passes, input_passes, calculation_passes, content_passes, output_passes, are_defined, are_of_kinds}
+use Rattle.s3_program.specs.Inner.Positions.{record_length, inputs_within, outputs_within, are_within, are_in_range}
+use Rattle.s3_program.specs.FileEntries.{file_entry}
+use Rattle.s3_program.specs.Inner.Translation.{known_input, known_calculation, known_output, known_lines}
 
 pub both : (a b : Bool) → a ≡ true → b ≡ true → (a && b) ≡ true
 both a b pa pb = rw (pa, pb) refl

@@ -15,7 +15,7 @@ use Rattle.s3_program.specs.declared.starts.TypeStart.{TypeStart}
 use Rattle.s3_program.specs.declared.starts.OutputStart.{OutputStart}
 use Rattle.s3_program.specs.declared.starts.Starts.{Starts}
 use Rattle.s3_program.specs.declared.starts.Walk.TheVariants as walk
-use Rattle.s3_program.specs.Starts.{first_from, fields_begin, goes_on, type_file, type_start, type_starts_from, types_of_file, output_file, output_start, output_starts_from, types_by_file, walked, sections_of, AreStarts, SameStarts}
+use Rattle.s3_program.specs.Inner.Starts.{first_from, fields_begin, goes_on, type_file, type_start, type_starts_from, types_of_file, output_file, output_start, output_starts_from, types_by_file, walked, sections_of, AreStarts, SameStarts}
 
 -- the lines from a place on: that line and those behind it
 lines_from : {X : Type 0} (xs : List X) (k : ℕ) (d : X) → k < length xs → drop k xs ≡ get_or xs k d ∷ drop (k + 1) xs

@@ -20,16 +20,18 @@ use Rattle.s3_program.specs.declared.program.Reference.{Reference}
 use Rattle.s3_program.specs.declared.program.Reference.TheVariants as slot
 use Rattle.s3_program.specs.declared.program.Meaning.{Meaning}
 use Rattle.s3_program.specs.declared.program.Meaning.TheVariants as meaning
-use Rattle.s3_program.specs.Tables.{Tables, name_in, name_of, meaning_at, or_undefined, item_in}
-use Rattle.s3_program.specs.Meant.{is_of, entry_passes, input_passes, output_passes}
-use Rattle.s3_program.specs.Starts.{first_from, fields_begin, file_slot, type_starts, type_starts_from, output_slot, output_starts, output_starts_from}
+use Rattle.s3_program.specs.Tables.{Tables, or_undefined}
+use Rattle.s3_program.specs.Inner.Tables.{name_in, name_of, meaning_at, item_in}
+use Rattle.s3_program.specs.Inner.Meant.{is_of, entry_passes, input_passes, output_passes}
+use Rattle.s3_program.specs.Inner.Starts.{first_from, fields_begin, file_slot, type_starts, type_starts_from, output_slot, output_starts, output_starts_from}
 use Rattle.s3_program.specs.declared.program.Program.{Program}
-use Rattle.s3_program.specs.Stands.{parts_of, source_named}
-use Rattle.s3_program.specs.Valid.{Parts, tables_of, file_entry, named, named_input, named_output, meant_input, meant_output, is_valid}
+use Rattle.s3_program.specs.Inner.Stands.{parts_of, source_named}
+use Rattle.s3_program.specs.Inner.Valid.{Parts, tables_of, named, named_input, named_output, meant_input, meant_output, is_valid}
+use Rattle.s3_program.specs.FileEntries.{file_entry}
 use Rattle.s3_program.specs.Lines.{map_card}
-use Rattle.s3_program.specs.Meant.{are_of_kinds}
+use Rattle.s3_program.specs.Inner.Meant.{are_of_kinds}
 use Rattle.s3_program.proofs.SlotLemmas.{kept}
-use Rattle.s3_program.specs.Started.{type_on, type_at, output_on, output_at}
+use Rattle.s3_program.specs.Inner.Started.{type_on, type_at, output_on, output_at}
 
 -- ---- what is of the kind of files is a file's slot
 no_file : {X : Type 0} (known : X → Meaning) → ((x : X) → is_of kind.File (known x) ≡ false) → (o : Option X) → is_of kind.File (or_undefined known o) ≡ true → ⊥

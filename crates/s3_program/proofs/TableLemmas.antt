@@ -10,7 +10,8 @@ use Rattle.std.proofs.lemmas.Bool.{cases_Bool}
 use Rattle.s3_cards.specs.declared.name.Name.{Name}
 use Rattle.s3_cards.specs.Names.{no_name, same_name}
 use Rattle.s3_cards.proofs.NameLemmas.{same_name-equal}
-use Rattle.s3_program.specs.Tables.{slot_in, name_in, found_in, item_in}
+use Rattle.s3_program.specs.Inner.Tables.{slot_in, name_in, item_in}
+use Rattle.s3_program.specs.Tables.{found_in}
 
 -- the slot as a count, without its test
 abbrev pub place : {X : Type 0} → List (Name × X) → Name → ℕ

@@ -15,10 +15,10 @@ use Rattle.s3_lines.specs.declared.sheet.Line.{Line}
 use Rattle.s3_meaning.specs.Source.{Source, source_of, source_from, file_line, input_line, calculation_line, output_line}
 use Rattle.s3_program.specs.declared.definitions.Definitions.{Definitions}
 use Rattle.s3_program.specs.Tables.{Tables}
-use Rattle.s3_program.specs.Meant.{Meant, is_defined, input_passes, calculation_passes, output_passes, are_defined}
+use Rattle.s3_program.specs.Inner.Meant.{Meant, is_defined, input_passes, calculation_passes, output_passes, are_defined}
 use Rattle.s3_program.proofs.SoundLemmas.{both, of_kinds, ranged, within}
-use Rattle.s3_program.specs.Valid.{Parts, tables_of, entry_of, defined_of, named, named_input, named_calculation, named_output, is_valid, are_right, are_sound, meant_input, meant_calculation, meant_output}
-use Rattle.s3_program.specs.Translation.{file_on, IsAccepted, tables_in, known_lines, slotted_input, slotted_calculation, slotted_output, known_input, known_calculation, known_output}
+use Rattle.s3_program.specs.Inner.Valid.{Parts, tables_of, entry_of, defined_of, named, named_input, named_calculation, named_output, is_valid, are_right, are_sound, meant_input, meant_calculation, meant_output}
+use Rattle.s3_program.specs.Inner.Translation.{file_on, IsAccepted, tables_in, known_lines, slotted_input, slotted_calculation, slotted_output, known_input, known_calculation, known_output}
 use Rattle.s3_program.proofs.PartsLemmas.{same_parts}
 use Rattle.s3_program.proofs.LineLemmas.{input_meant, calculation_meant, output_meant, input_back, calculation_back, output_back, all_meant, all_back, all_taken}
 

@@ -27,13 +27,15 @@ use Rattle.s3_program.specs.declared.starts.TypeStart.{TypeStart}
 use Rattle.s3_program.specs.declared.standing.InputStanding.{InputStanding}
 use Rattle.s3_program.specs.Standings.{first_input, behind_input}
 use Rattle.s3_program.specs.Matching.{Marks, marks_of}
-use Rattle.s3_program.specs.Conditions.{numbers, is_clear, input_holds, inputs_clear, are_clear}
-use Rattle.s3_program.specs.Distinct.{are_distinct}
-use Rattle.s3_program.specs.Meant.{is_of, input_passes, are_of_kinds}
-use Rattle.s3_program.specs.Starts.{file_slot, types_of_file, type_starts, type_starts_from}
-use Rattle.s3_program.specs.Stands.{parts_of}
-use Rattle.s3_program.specs.Tables.{Tables, name_in, meaning_at, or_undefined, item_in}
-use Rattle.s3_program.specs.Valid.{meant_input, meant, tables_of}
+use Rattle.s3_program.specs.Conditions.{numbers, input_holds}
+use Rattle.s3_program.specs.Inner.Conditions.{is_clear, inputs_clear, are_clear}
+use Rattle.s3_program.specs.Inner.Distinct.{are_distinct}
+use Rattle.s3_program.specs.Inner.Meant.{is_of, input_passes, are_of_kinds}
+use Rattle.s3_program.specs.Inner.Starts.{file_slot, types_of_file, type_starts, type_starts_from}
+use Rattle.s3_program.specs.Inner.Stands.{parts_of}
+use Rattle.s3_program.specs.Tables.{Tables, or_undefined}
+use Rattle.s3_program.specs.Inner.Tables.{name_in, meaning_at, item_in}
+use Rattle.s3_program.specs.Inner.Valid.{meant_input, meant, tables_of}
 use Rattle.s3_program.proofs.SlotLemmas.{kept, own_slot, same_slot}
 
 -- ---- as many lists of starts as files, and which is whose

@@ -1,6 +1,5 @@
 -- The condition of each of the numbers 5 to 12, on a line where it stands; and the lines of a program without any of them.
-use Rattle.std.specs.Prelude.{ℕ, ◌+◌, ◌==◌, Bool, true, false, not, ◌&&◌, List, [], ◌∷◌, Option, map, if◌then◌else◌}
-use Rattle.std.specs.List.{list_any}
+use Rattle.std.specs.Prelude.{ℕ, ◌+◌, ◌==◌, Bool, false, List, [], ◌∷◌, Option, if◌then◌else◌}
 use Rattle.std.specs.Map.{lookup}
 use Rattle.s3_cards.specs.declared.name.Name.{Name}
 use Rattle.s3_cards.specs.Names.{same_name}
@@ -14,15 +13,15 @@ use Rattle.s3_program.specs.declared.standing.FileStanding.{FileStanding}
 use Rattle.s3_program.specs.declared.standing.InputStanding.{InputStanding}
 use Rattle.s3_program.specs.declared.standing.CalculationStanding.{CalculationStanding}
 use Rattle.s3_program.specs.declared.standing.OutputStanding.{OutputStanding}
-use Rattle.s3_program.specs.Standings.{first_file, behind_file, first_input, behind_input, first_calculation, behind_calculation, first_output, behind_output}
+use Rattle.s3_program.specs.Standings.{first_calculation}
 use Rattle.s3_program.specs.Undefined.{input_undefined, calculation_undefined, output_undefined}
 use Rattle.s3_program.specs.Redefined.{file_redefined, input_redefined, calculation_redefined}
 use Rattle.s3_program.specs.Indications.{input_misindicated, calculation_misindicated}
 use Rattle.s3_program.specs.Operands.{input_unfit, calculation_unfit, output_unfit}
 use Rattle.s3_program.specs.Places.{Verb, is_cut_by, input_misplaced, calculation_misplaced, output_misplaced}
 use Rattle.s3_program.specs.Jumps.{calls_from, is_forbidden, calculation_strays}
-use Rattle.s3_program.specs.Matching.{Marks, marks_of, has_type, input_mismatched}
-use Rattle.s3_program.specs.Uses.{has_one_primary, file_misused, input_misused, output_misused}
+use Rattle.s3_program.specs.Matching.{Marks, has_type, input_mismatched}
+use Rattle.s3_program.specs.Uses.{file_misused, input_misused, output_misused}
 
 -- by the place of the first F line of a name
 abbrev pub file_holds : (first : Name → Option ℕ) → FileStanding → FileLine → ℕ → Bool
@@ -66,10 +65,6 @@ output_holds at line number =
 abbrev pub numbers : List ℕ
 numbers = 5 ∷ 6 ∷ 7 ∷ 8 ∷ 9 ∷ 10 ∷ 11 ∷ 12 ∷ []
 
--- no condition holds
-abbrev pub is_clear : (ℕ → Bool) → Bool
-is_clear holds = not (list_any holds numbers)
-
 abbrev pub verb_of : {N : Type 0} → CalculationLine N → Verb
 verb_of line = (line.time, line.operation)
 
@@ -82,31 +77,6 @@ file_places place (file ∷ files) = (file.name, place) ∷ file_places (place +
 abbrev pub first_file_of : List FileLine → Name → Option ℕ
 first_file_of files name = lookup (same_name name) (file_places 0 files)
 
-abbrev pub files_clear : (Name → Option ℕ) → FileStanding → List FileLine → Bool
-files_clear first at [] = true
-files_clear first at (file ∷ files) = is_clear (file_holds first at file) && files_clear first (behind_file at file) files
-
-abbrev pub inputs_clear : Marks → InputStanding → List (InputLine Meaning) → Bool
-inputs_clear marks at [] = true
-inputs_clear marks at (line ∷ lines) = is_clear (input_holds marks at line) && inputs_clear marks (behind_input at line) lines
-
-abbrev pub calculations_clear : (Call → Bool) → CalculationStanding → List (CalculationLine Meaning) → Bool
-calculations_clear forbidden at [] = true
-calculations_clear forbidden at (line ∷ lines) =
-    is_clear (calculation_holds forbidden at (map verb_of lines) line) && calculations_clear forbidden (behind_calculation at line) lines
-
-abbrev pub outputs_clear : OutputStanding → List (OutputLine Meaning) → Bool
-outputs_clear at [] = true
-outputs_clear at (line ∷ lines) = is_clear (output_holds at line) && outputs_clear (behind_output at line) lines
-
 -- the test whether a call is forbidden, among all calls
 unfoldable pub forbidden_among : List (CalculationLine Meaning) → Call → Bool
 forbidden_among lines call = is_forbidden (calls_from first_calculation lines) call
-
-unfoldable pub are_clear : List FileLine → List (InputLine Meaning) → List (CalculationLine Meaning) → List (OutputLine Meaning) → Bool
-are_clear files inputs calculations outputs =
-    has_one_primary files
-    && files_clear (first_file_of files) first_file files
-    && inputs_clear (marks_of inputs) first_input inputs
-    && calculations_clear (forbidden_among calculations) first_calculation calculations
-    && outputs_clear first_output outputs

@@ -1,9 +1,7 @@
 -- 12: a combination that isn't in the table of files, a second card file or print file, a record line for an output file that isn't a
 -- direct load, an output line that its file doesn't allow, packed data, spaces or skips on a file that can't have them.
-use Rattle.std.specs.Prelude.{Bool, true, false, not, ◌&&◌, ◌||◌, Option, Some, None, List, ◌==◌}
+use Rattle.std.specs.Prelude.{Bool, true, false, not, ◌&&◌, ◌||◌, Option, Some, None}
 use Rattle.std.specs.Option.{option_or}
-use Rattle.std.specs.List.{count_by}
-use Rattle.s3_lines.specs.declared.sheet.Designation.TheVariants.{Primary}
 use Rattle.s3_lines.specs.declared.sheet.FileLine.{FileLine}
 use Rattle.s3_lines.specs.declared.sheet.FieldForm.{FieldForm}
 use Rattle.s3_lines.specs.declared.sheet.FieldForm.TheVariants.{Packed, PackedText}
@@ -16,7 +14,6 @@ use Rattle.s3_lines.specs.declared.sheet.OutputContent.{OutputContent}
 use Rattle.s3_lines.specs.declared.sheet.OutputContent.TheVariants.{Constant as ConstantContent, Field as FieldContent}
 use Rattle.s3_lines.specs.declared.sheet.OutputLine.{OutputLine}
 use Rattle.s3_lines.specs.declared.sheet.OutputLine.TheVariants.{Line as LineCard, Field as FieldCard}
-use Rattle.s3_lines.specs.Files.{is_designated}
 use Rattle.s3_program.specs.declared.program.Meaning.{Meaning}
 use Rattle.s3_program.specs.declared.program.Meaning.TheVariants as a
 use Rattle.s3_program.specs.declared.standing.FileStanding.{FileStanding}
@@ -72,7 +69,3 @@ abbrev pub output_misused : OutputStanding → OutputLine Meaning → Bool
 output_misused at (LineCard card) = refuses_line card (option_or card.file at.file)
 output_misused at (FieldCard field) = is_packed_content field.content && is_entry_off_disk at.file
 output_misused at _ = false
-
--- on the whole program: not exactly one file of designation P
-abbrev pub has_one_primary : List FileLine → Bool
-has_one_primary files = count_by (is_designated Primary) files == 1

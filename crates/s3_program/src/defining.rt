@@ -3,7 +3,7 @@
 ghost use Rattle.std.specs.Prelude.{◌≡◌, IfOk, OnOk};
 ghost use Rattle.std.specs.Option.{option_to_list};
 ghost use Rattle.s3_meaning.specs.Source.{field_shape, width};
-ghost use Rattle.s3_program.specs.Given as spec;
+ghost use Rattle.s3_program.specs.Inner.Given as spec;
 
 use indexmap::IndexMap;
 use s3_cards::Name;

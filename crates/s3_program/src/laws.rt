@@ -8,16 +8,16 @@ ghost use Rattle.std.specs.Map.{lookup, keys_of};
 ghost use Rattle.s3_cards.specs.declared.name.Name.{Name};
 ghost use Rattle.s3_cards.specs.Names.{no_name, same_name};
 ghost use Rattle.s3_lines.specs.declared.sheet.Shape.{Shape};
-ghost use Rattle.s3_program.specs.Distinct.{are_distinct};
-ghost use Rattle.s3_program.specs.Given.{firsts};
+ghost use Rattle.s3_program.specs.Inner.Distinct.{are_distinct};
+ghost use Rattle.s3_program.specs.Inner.Given.{firsts};
 ghost use Rattle.s3_program.specs.Jumps.{ends_chain};
 ghost use Rattle.s3_program.specs.declared.call.Call.{Call};
-ghost use Rattle.s3_program.specs.Valid.{is_valid, tables_of, begin_reserved};
-ghost use Rattle.s3_program.specs.Stands.{parts_of, source_named};
-ghost use Rattle.s3_program.specs.Starts.{type_starts, output_starts};
-ghost use Rattle.s3_program.specs.Started.{type_at, output_at};
+ghost use Rattle.s3_program.specs.Inner.Valid.{is_valid, tables_of, begin_reserved};
+ghost use Rattle.s3_program.specs.Inner.Stands.{parts_of, source_named};
+ghost use Rattle.s3_program.specs.Inner.Starts.{type_starts, output_starts};
+ghost use Rattle.s3_program.specs.Inner.Started.{type_at, output_at};
 ghost use Rattle.s3_program.specs.declared.program.Program.{Program};
-ghost use Rattle.s3_program.specs.Samples.{whole, wrong_slots, wrong_tables, wrong_lines};
+ghost use Rattle.s3_program.specs.Inner.Samples.{whole, wrong_slots, wrong_tables, wrong_lines};
 
 /// A program with every sheet and every operation is valid; with a wrong slot, a wrong table or a wrong line it isn't.
 pub fn worked_programs()

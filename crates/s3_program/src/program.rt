@@ -1,7 +1,7 @@
 //! A compiled program: the lines of its source, with slots for names.
 ghost use Rattle.std.specs.Prelude.{IsTrue};
-ghost use Rattle.s3_program.specs.Starts.{AreStarts};
-ghost use Rattle.s3_program.specs.Valid.{is_valid};
+ghost use Rattle.s3_program.specs.Inner.Starts.{AreStarts};
+ghost use Rattle.s3_program.specs.Inner.Valid.{is_valid};
 
 use crate::copied::copied;
 use crate::starts::Starts;
@@ -110,7 +110,7 @@ pub struct Program {
 
 impl Program {
     ghost use Rattle.std.specs.Prelude.{◌≡◌, IfOk};
-    ghost use Rattle.s3_program.specs.Stands.{parts_of};
+    ghost use Rattle.s3_program.specs.Inner.Stands.{parts_of};
 
     /// The same program; refused only where memory runs out.
     #[tactic(auto, using(crate::proofs::PartsLemmas::same_parts, crate::proofs::PartsLemmas::still_valid))]

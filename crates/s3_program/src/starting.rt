@@ -3,7 +3,7 @@
 ghost use Rattle.std.specs.Prelude.{◌≡◌, ◌+◌, ◌<◌, ◌≤◌, ◌++◌, map, filter, drop, length, IfOk, OnOk};
 ghost use Rattle.std.specs.List.{range_with_len};
 ghost use Rattle.std.specs.Option.{option_to_list};
-ghost use Rattle.s3_program.specs.Starts as spec;
+ghost use Rattle.s3_program.specs.Inner.Starts as spec;
 
 use crate::program::Reference;
 use crate::starts::{OutputStart, Sections, Starts, TypeStart, Walk};

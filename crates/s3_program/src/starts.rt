@@ -67,7 +67,7 @@ pub struct Starts {
 
 impl Starts {
     ghost use Rattle.std.specs.Prelude.{IfOk};
-    ghost use Rattle.s3_program.specs.Starts.{SameStarts};
+    ghost use Rattle.s3_program.specs.Inner.Starts.{SameStarts};
 
     /// The same starts; refused only where memory runs out.
     pub fn copy(&self, alloc: Global) -> Result<Starts, AllocError>

@@ -3,11 +3,11 @@
 ghost use Rattle.std.specs.Prelude.{◌≡◌, map, option_map, filter_map, find, is_some, Some, IfOk, OnOk, ◌++◌};
 ghost use Rattle.std.specs.Option.{option_copied, option_to_list};
 ghost use Rattle.s3_meaning.specs.Source.{input_line, calculation_line, output_line, header_name as header_name_spec, program_name as program_name_spec};
-ghost use Rattle.s3_program.specs.Tables.{slot_in, reference as reference_spec};
+ghost use Rattle.s3_program.specs.Inner.Tables.{slot_in, reference as reference_spec};
 ghost use Rattle.s3_program.specs.Lines.{map_factor, map_field, map_content};
-ghost use Rattle.s3_program.specs.Valid.{defined_of};
-ghost use Rattle.s3_program.specs.Meant.{first_kind as first_kind_spec, second_kind as second_kind_spec};
-ghost use Rattle.s3_program.specs.Translation as spec;
+ghost use Rattle.s3_program.specs.Inner.Valid.{defined_of};
+ghost use Rattle.s3_program.specs.Kinds.{first_kind as first_kind_spec, second_kind as second_kind_spec};
+ghost use Rattle.s3_program.specs.Inner.Translation as spec;
 
 use crate::definitions::Definitions;
 use crate::program::{Defined, Kind, Program, Reference};

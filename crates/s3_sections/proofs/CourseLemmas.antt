@@ -19,15 +19,16 @@ use Rattle.s3_program.specs.declared.standing.CalculationStanding.{CalculationSt
 use Rattle.s3_program.specs.declared.call.Call.{Call}
 use Rattle.s3_program.specs.Standings.{begins_subroutine, ends_subroutine, first_calculation, behind_calculation}
 use Rattle.s3_program.specs.Jumps.{called, callee_of, caller_of, subroutine_of, with_call, calls_from, is_place, is_in_circle, has_circle, ends_chain, same_call, is_forbidden, calls_badly, calculation_strays}
-use Rattle.s3_program.specs.Conditions.{calculations_clear, forbidden_among}
-use Rattle.s3_program.specs.Stands.{source_named}
+use Rattle.s3_program.specs.Inner.Conditions.{calculations_clear}
+use Rattle.s3_program.specs.Conditions.{forbidden_among}
+use Rattle.s3_program.specs.Inner.Stands.{source_named}
 use Rattle.s3_program.proofs.CallLemmas.{room_left}
-use Rattle.s3_operations.specs.Fits.{meant_line, meant_factor}
+use Rattle.s3_operations.specs.Inner.Fits.{meant_line, meant_factor}
 use Rattle.s3_sections.specs.declared.spot.Section.TheVariants as section
 use Rattle.s3_sections.specs.declared.spot.Spot.{Spot}
-use Rattle.s3_sections.specs.Sections.{rest_of, standing_behind, number_of}
-use Rattle.s3_sections.specs.Spots.{IsSpot, IsLineAt, IsOfSection, subroutine_in}
-use Rattle.s3_sections.specs.Courses.{rest_at, goes_through, ReturnsTo, AreCalls}
+use Rattle.s3_sections.specs.Inner.Sections.{rest_of, standing_behind, number_of}
+use Rattle.s3_sections.specs.Inner.Spots.{IsSpot, IsLineAt, IsOfSection, subroutine_in}
+use Rattle.s3_sections.specs.Inner.Courses.{rest_at, goes_through, ReturnsTo, AreCalls}
 use Rattle.s3_sections.proofs.SheetLemmas.{some_same, clear_at}
 use Rattle.s3_sections.proofs.CutLemmas.{none_some}
 use Rattle.s3_sections.proofs.SpotLemmas.{sheet_clear}

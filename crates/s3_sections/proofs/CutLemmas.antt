@@ -16,8 +16,8 @@ use Rattle.s3_program.specs.declared.program.Reference.{Reference}
 use Rattle.s3_program.specs.declared.standing.CalculationStanding.{CalculationStanding}
 use Rattle.s3_program.specs.Standings.{goes_on, time_on, behind_calculation}
 use Rattle.s3_program.specs.Conditions.{verb_of}
-use Rattle.s3_operations.specs.Fits.{named_line}
-use Rattle.s3_sections.specs.Sections.{standing_behind}
+use Rattle.s3_operations.specs.Inner.Fits.{named_line}
+use Rattle.s3_sections.specs.Inner.Sections.{standing_behind}
 use Rattle.s3_sections.proofs.SheetLemmas.{Sits, AllSit, own_time, some_same}
 
 -- the calculations of lines with slots

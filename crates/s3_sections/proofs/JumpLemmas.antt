@@ -11,8 +11,8 @@ use Rattle.s3_program.specs.declared.program.Defined.{Defined}
 use Rattle.s3_program.specs.declared.program.TagPlace.{TagPlace}
 use Rattle.s3_program.specs.declared.program.SubroutinePlace.{SubroutinePlace}
 use Rattle.s3_program.specs.Places.{Verb, ends_group, is_astray}
-use Rattle.s3_program.specs.Valid.{entry_of, named}
-use Rattle.s3_program.specs.Stands.{source_named}
+use Rattle.s3_program.specs.Inner.Valid.{entry_of, named}
+use Rattle.s3_program.specs.Inner.Stands.{source_named}
 use Rattle.s3_lines.specs.declared.sheet.Operation.{Operation}
 use Rattle.s3_lines.specs.declared.sheet.Operation.TheVariants as op
 use Rattle.s3_lines.specs.declared.sheet.CalculationTime.{CalculationTime}
@@ -27,13 +27,13 @@ use Rattle.s3_program.specs.declared.program.Reference.{Reference}
 use Rattle.s3_program.specs.declared.standing.CalculationStanding.{CalculationStanding}
 use Rattle.s3_program.specs.Standings.{goes_on, section_on, subroutine_section, own_subroutine, subroutine_behind, begins_subroutine, ends_subroutine, first_calculation, behind_calculation}
 use Rattle.s3_program.specs.Conditions.{verb_of}
-use Rattle.s3_operations.specs.Fits.{named_line, named_factor}
+use Rattle.s3_operations.specs.Inner.Fits.{named_line, named_factor}
 use Rattle.s3_sections.specs.declared.spot.Section.{Section}
 use Rattle.s3_sections.specs.declared.spot.Section.TheVariants as section
 use Rattle.s3_sections.specs.declared.spot.Spot.{Spot}
-use Rattle.s3_sections.specs.Jumps.{named_in, tag_place, subroutine_place, GoesBelow, GoesAbove}
-use Rattle.s3_sections.specs.Sections.{lines_from, rest_of, standing_behind, standing_at, is_detail_time, is_total_time, number_at, number_of}
-use Rattle.s3_sections.specs.Spots.{IsOpen, Continues, IsIn, IsSpot, IsLineAt, IsOfSection}
+use Rattle.s3_sections.specs.Inner.Jumps.{named_in, tag_place, subroutine_place, GoesBelow, GoesAbove}
+use Rattle.s3_sections.specs.Inner.Sections.{lines_from, rest_of, standing_behind, standing_at, is_detail_time, is_total_time, number_at, number_of}
+use Rattle.s3_sections.specs.Inner.Spots.{IsOpen, Continues, IsIn, IsSpot, IsLineAt, IsOfSection}
 use Rattle.s3_sections.proofs.SheetLemmas.{or_parts, standing_further, standing_more, AllSit, Keeps, own_time, some_same, sits_at, keeps_behind}
 use Rattle.s3_sections.proofs.CutLemmas.{none_some, none_of}
 use Rattle.s3_sections.proofs.TotalLemmas.{behind_totals}

@@ -25,19 +25,20 @@ use Rattle.s3_program.specs.declared.program.TagPlace.{TagPlace}
 use Rattle.s3_program.specs.declared.program.SubroutinePlace.{SubroutinePlace}
 use Rattle.s3_program.specs.declared.row.Operand.TheVariants as operand
 use Rattle.s3_program.specs.declared.standing.CalculationStanding.{CalculationStanding}
-use Rattle.s3_program.specs.Tables.{slot_in, item_in, or_undefined}
-use Rattle.s3_program.specs.Distinct.{are_distinct}
-use Rattle.s3_program.specs.Meant.{is_of, factor_passes}
+use Rattle.s3_program.specs.Inner.Tables.{slot_in, item_in}
+use Rattle.s3_program.specs.Tables.{or_undefined}
+use Rattle.s3_program.specs.Inner.Distinct.{are_distinct}
+use Rattle.s3_program.specs.Inner.Meant.{is_of, factor_passes}
 use Rattle.s3_program.specs.Standings.{first_calculation, behind_calculation}
 use Rattle.s3_program.specs.Jumps.{section_of}
-use Rattle.s3_program.specs.Labels.{tag_on, tags_from, subroutine_on, subroutines_from, same_tag, labels_stand}
+use Rattle.s3_program.specs.Inner.Labels.{tag_on, tags_from, subroutine_on, subroutines_from, same_tag, labels_stand}
 use Rattle.s3_program.specs.Operands.{factor_fits}
-use Rattle.s3_program.specs.Stands.{parts_of}
+use Rattle.s3_program.specs.Inner.Stands.{parts_of}
 use Rattle.s3_program.proofs.SlotLemmas.{kept, own_slot, same_slot}
-use Rattle.s3_operations.specs.Fits.{tables, IsLineOf, meant_line, meant_factor, named_factor}
+use Rattle.s3_operations.specs.Inner.Fits.{tables, IsLineOf, meant_line, meant_factor, named_factor}
 use Rattle.s3_operations.proofs.FitLemmas.{brings}
-use Rattle.s3_sections.specs.Sections.{standing_behind, number_at}
-use Rattle.s3_sections.specs.Spots.{IsLineAt}
+use Rattle.s3_sections.specs.Inner.Sections.{standing_behind, number_at}
+use Rattle.s3_sections.specs.Inner.Spots.{IsLineAt}
 use Rattle.s3_sections.proofs.SheetLemmas.{some_same}
 use Rattle.s3_sections.proofs.CutLemmas.{none_some}
 

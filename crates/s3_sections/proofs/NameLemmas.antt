@@ -17,10 +17,10 @@ use Rattle.s3_program.specs.Standings.{first_calculation}
 use Rattle.s3_program.specs.Jumps.{section_of, leaves, calculation_strays}
 use Rattle.s3_program.specs.Redefined.{calculation_redefined, label_redefined}
 use Rattle.s3_program.specs.Conditions.{forbidden_among}
-use Rattle.s3_operations.specs.Fits.{tables, named_line, meant_line, meant_factor}
+use Rattle.s3_operations.specs.Inner.Fits.{tables, named_line, meant_line, meant_factor}
 use Rattle.s3_operations.proofs.FitLemmas.{brings}
-use Rattle.s3_sections.specs.Sections.{standing_at, number_at}
-use Rattle.s3_sections.specs.Spots.{IsLineAt}
+use Rattle.s3_sections.specs.Inner.Sections.{standing_at, number_at}
+use Rattle.s3_sections.specs.Inner.Spots.{IsLineAt}
 use Rattle.s3_sections.proofs.SheetLemmas.{ClearAt, opposite, or_parts, some_same, clear_at}
 use Rattle.s3_sections.proofs.SpotLemmas.{sheet_clear}
 use Rattle.s3_sections.proofs.LabelLemmas.{place_at, labels, one_slot, one_tag, one_subroutine, number_is, TagNamed, SubroutineNamed, tag_named, subroutine_named, line_of, tag_name, subroutine_name, tag_meant, subroutine_meant}

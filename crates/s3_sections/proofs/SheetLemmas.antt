@@ -19,9 +19,10 @@ use Rattle.s3_program.specs.Places.{Verb, is_cut_by, is_begin, is_finish, is_clo
 use Rattle.s3_program.specs.Operands.{calculation_unfit}
 use Rattle.s3_program.specs.Redefined.{calculation_redefined}
 use Rattle.s3_program.specs.Jumps.{calculation_strays}
-use Rattle.s3_program.specs.Conditions.{is_clear, verb_of, calculation_holds, calculations_clear}
-use Rattle.s3_operations.specs.Fits.{meant_line}
-use Rattle.s3_sections.specs.Sections.{standing_behind}
+use Rattle.s3_program.specs.Inner.Conditions.{is_clear, calculations_clear}
+use Rattle.s3_program.specs.Conditions.{verb_of, calculation_holds}
+use Rattle.s3_operations.specs.Inner.Fits.{meant_line}
+use Rattle.s3_sections.specs.Inner.Sections.{standing_behind}
 
 -- ---- of conditions
 pub or_parts : (a b : Bool) → (a || b) ≡ false → (a ≡ false) × (b ≡ false)

@@ -16,13 +16,13 @@ use Rattle.s3_program.specs.declared.program.Reference.{Reference}
 use Rattle.s3_program.specs.declared.standing.CalculationStanding.{CalculationStanding}
 use Rattle.s3_program.specs.declared.starts.Sections.{Sections}
 use Rattle.s3_program.specs.Standings.{goes_on, time_on, part_on, first_calculation, behind_calculation}
-use Rattle.s3_program.specs.Starts.{first_from, begins_totals}
-use Rattle.s3_program.specs.Valid.{named}
-use Rattle.s3_program.specs.Stands.{source_named}
-use Rattle.s3_operations.specs.Fits.{named_line}
+use Rattle.s3_program.specs.Inner.Starts.{first_from, begins_totals}
+use Rattle.s3_program.specs.Inner.Valid.{named}
+use Rattle.s3_program.specs.Inner.Stands.{source_named}
+use Rattle.s3_operations.specs.Inner.Fits.{named_line}
 use Rattle.s3_sections.specs.declared.spot.Section.TheVariants as section
-use Rattle.s3_sections.specs.Sections.{rest_of, standing_behind, standing_at, is_total_time}
-use Rattle.s3_sections.specs.Spots.{IsIn, IsSpot}
+use Rattle.s3_sections.specs.Inner.Sections.{rest_of, standing_behind, standing_at, is_total_time}
+use Rattle.s3_sections.specs.Inner.Spots.{IsIn, IsSpot}
 use Rattle.s3_sections.proofs.SheetLemmas.{AllSit, Keeps, own_time, some_same, rank, own_rank, keeps_behind}
 use Rattle.s3_sections.proofs.CutLemmas.{named_calculations, none_some, agrees_on}
 use Rattle.s3_sections.proofs.SpotLemmas.{is_total_so, ordered, no_detail, sheet_sits, sheet_keeps, get_drop}

@@ -1,4 +1,1 @@
-pub mod Sections
-pub mod Spots
-pub mod Jumps
-pub mod Courses
+pub mod Inner

@@ -2,11 +2,11 @@
 ghost use Rattle.std.specs.Prelude.{◌≡◌, [], None};
 ghost use Rattle.s3_lines.specs.declared.sheet.Operation.TheVariants as op;
 ghost use Rattle.s3_meaning.specs.Calculations.{name_in};
-ghost use Rattle.s3_operations.specs.Fits.{named_line};
-ghost use Rattle.s3_sections.specs.Jumps.{IsSubroutineOf};
-ghost use Rattle.s3_sections.specs.Sections.{rest_of};
-ghost use Rattle.s3_sections.specs.Spots.{IsSpot, IsLineAt, IsOfSection, subroutine_in};
-ghost use Rattle.s3_sections.specs.Courses as spec;
+ghost use Rattle.s3_operations.specs.Inner.Fits.{named_line};
+ghost use Rattle.s3_sections.specs.Inner.Jumps.{IsSubroutineOf};
+ghost use Rattle.s3_sections.specs.Inner.Sections.{rest_of};
+ghost use Rattle.s3_sections.specs.Inner.Spots.{IsSpot, IsLineAt, IsOfSection, subroutine_in};
+ghost use Rattle.s3_sections.specs.Inner.Courses as spec;
 ghost use Rattle.s3_program.specs.declared.program.Program.{Program};
 
 use crate::spot::Spot;

@@ -4,11 +4,11 @@ ghost use Rattle.s3_lines.specs.declared.sheet.Operation.TheVariants as op;
 ghost use Rattle.s3_meaning.specs.Calculations.{name_in};
 ghost use Rattle.s3_meaning.specs.Source.{body};
 ghost use Rattle.s3_program.specs.Jumps.{called};
-ghost use Rattle.s3_program.specs.Stands.{source_named};
-ghost use Rattle.s3_operations.specs.Fits.{IsLineOf, named_line, meant_factor};
-ghost use Rattle.s3_sections.specs.Sections.{rest_of};
-ghost use Rattle.s3_sections.specs.Spots.{IsSpot, IsLineAt, IsOfSection, subroutine_in};
-ghost use Rattle.s3_sections.specs.Jumps as spec;
+ghost use Rattle.s3_program.specs.Inner.Stands.{source_named};
+ghost use Rattle.s3_operations.specs.Inner.Fits.{IsLineOf, named_line, meant_factor};
+ghost use Rattle.s3_sections.specs.Inner.Sections.{rest_of};
+ghost use Rattle.s3_sections.specs.Inner.Spots.{IsSpot, IsLineAt, IsOfSection, subroutine_in};
+ghost use Rattle.s3_sections.specs.Inner.Jumps as spec;
 
 use crate::spot::{Section, Spot};
 use s3_lines::sheet::{CalculationLine, Factor};

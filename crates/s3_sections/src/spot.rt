@@ -1,15 +1,15 @@
 //! Where a run stands in a section of the C sheet, and which calculation comes next.
 ghost use Rattle.std.specs.Prelude.{◌≡◌, ◌&&◌, true, false, None, Some, IfSome, IfNone, is_some, slice_get};
 ghost use Rattle.s3_meaning.specs.Source.{detail_calculations, total_calculations};
-ghost use Rattle.s3_program.specs.Stands.{source_named};
+ghost use Rattle.s3_program.specs.Inner.Stands.{source_named};
 ghost use Rattle.s3_meaning.specs.Environment.{Environment, all_hold};
 ghost use Rattle.s3_meaning.specs.Names.{entries};
 ghost use Rattle.s3_meaning.specs.Calculating.{level_on};
 ghost use Rattle.s3_program.specs.Standings.{ends_subroutine};
 ghost use Rattle.s3_program.specs.declared.program.Program.{Program};
-ghost use Rattle.s3_operations.specs.Held.{held};
-ghost use Rattle.s3_sections.specs.Sections.{rest_of, has_line, is_detail_time, is_total_time};
-ghost use Rattle.s3_sections.specs.Spots.{IsSpot, IsLevelOf, ComesAny, subroutine_in};
+ghost use Rattle.s3_operations.specs.Inner.Held.{held};
+ghost use Rattle.s3_sections.specs.Inner.Sections.{rest_of, has_line, is_detail_time, is_total_time};
+ghost use Rattle.s3_sections.specs.Inner.Spots.{IsSpot, IsLevelOf, ComesAny, subroutine_in};
 
 use s3_lines::sheet::{CalculationLine, CalculationTime, Operation};
 use s3_operations::groups::Gathered;

@@ -11,7 +11,8 @@ use Rattle.std.proofs.lemmas.List.Sums.{prefix_len-le-length}
 use Rattle.std.proofs.lemmas.Int.Digits.{number_lt}
 use Rattle.s3_cards.specs.Names.{is_digit}
 use Rattle.s3_cards.specs.declared.name.Name.{Name}
-use Rattle.s3_lines.specs.Ranges.{is_between, if_given, factor_in_range}
+use Rattle.s3_lines.specs.Ranges.{is_between, if_given}
+use Rattle.s3_lines.specs.Inner.Ranges.{factor_in_range}
 use Rattle.s3_lines.specs.declared.sheet.Factor.{Factor}
 use Rattle.s3_lines.specs.declared.sheet.Factor.TheVariants.{Named, Number, Text}
 use Rattle.s3_sheets.specs.Columns.{are_blank, digit}

@@ -6,8 +6,8 @@ use Rattle.std.proofs.lemmas.Bool.{cases_Bool}
 use Rattle.std.proofs.lemmas.Bool.Decides.{nat_tests}
 use Rattle.std.proofs.lemmas.List.Folds.{list_all-append}
 use Rattle.std.proofs.lemmas.List.Elements.{filter-append}
-use Rattle.s3_lines.specs.Ascending.{cards_ascend}
-use Rattle.s3_lines.specs.Ranges.{in_range, sheet_number, stands_behind, in_order_behind}
+use Rattle.s3_lines.specs.Inner.Ascending.{cards_ascend}
+use Rattle.s3_lines.specs.Inner.Ranges.{in_range, sheet_number, stands_behind, in_order_behind}
 use Rattle.s3_lines.specs.declared.sheet.Line.{Line}
 use Rattle.s3_lines.specs.declared.sheet.SheetLine.{SheetLine}
 use Rattle.s3_sheets.specs.Kinds.{kind_of, sheet_of}

@@ -8,7 +8,7 @@ use Rattle.std.proofs.lemmas.Bool.{cases_Bool, eqb-true}
 use Rattle.std.proofs.lemmas.Bool.Decides.{nat_tests}
 use Rattle.s3_cards.specs.declared.name.Name.{Name}
 use Rattle.s3_cards.specs.Names.{name_of, same_name}
-use Rattle.s3_lines.specs.Ranges.{in_order_behind, record_length_in, is_within, codes_within, all_within, are_read}
+use Rattle.s3_lines.specs.Inner.Ranges.{in_order_behind, record_length_in, is_within, codes_within, all_within, are_read}
 use Rattle.s3_lines.specs.declared.sheet.FileLine.{FileLine}
 use Rattle.s3_lines.specs.declared.sheet.SheetLine.TheVariants as sheet
 use Rattle.s3_lines.specs.declared.sheet.Line.{Line}

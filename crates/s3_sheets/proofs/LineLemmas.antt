@@ -8,7 +8,8 @@ use Rattle.std.proofs.lemmas.Bool.Decides.{nat_tests}
 use Rattle.std.proofs.lemmas.List.Folds.{list_any_at}
 use Rattle.s3_cards.specs.declared.name.Name.{Name}
 use Rattle.s3_cards.specs.Names.{begins_name, is_mark, is_word, is_name, name_of}
-use Rattle.s3_lines.specs.Ranges.{is_between, if_given, in_range, is_named, conditions_in_range, longest_record, is_printer, is_selected, key_in_range, is_overflow_indicator, file_in_range, field_in_range, shape_in_range, shape_of_positions, calculation_in_range, output_in_range, content_in_range}
+use Rattle.s3_lines.specs.Ranges.{is_between, if_given, longest_record, is_printer, is_selected, is_overflow_indicator, shape_in_range, shape_of_positions}
+use Rattle.s3_lines.specs.Inner.Ranges.{in_range, is_named, conditions_in_range, key_in_range, file_in_range, field_in_range, calculation_in_range, output_in_range, content_in_range}
 use Rattle.s3_lines.specs.declared.indicator.Indicator.{Indicator}
 use Rattle.s3_lines.specs.declared.sheet.KeyField.{KeyField}
 use Rattle.s3_lines.specs.declared.sheet.FieldOutput.{FieldOutput}

@@ -6,7 +6,8 @@ use Rattle.std.proofs.lemmas.Bool.{cases_Bool}
 use Rattle.std.proofs.lemmas.Bool.Decides.{nat_tests}
 use Rattle.std.proofs.lemmas.List.{take-take}
 use Rattle.s3_cards.specs.declared.name.Name.{Name}
-use Rattle.s3_lines.specs.Ranges.{is_between, if_given, in_order_behind, sheet_number, stands_behind, record_length_on, record_length_in, is_within, codes_within, input_length_behind, output_length_behind, positions_within, all_within}
+use Rattle.s3_lines.specs.Ranges.{is_between, if_given}
+use Rattle.s3_lines.specs.Inner.Ranges.{in_order_behind, sheet_number, stands_behind, record_length_on, record_length_in, is_within, codes_within, input_length_behind, output_length_behind, positions_within, all_within}
 use Rattle.s3_lines.specs.declared.sheet.CodePart.{CodePart}
 use Rattle.s3_lines.specs.declared.sheet.SheetLine.{SheetLine}
 use Rattle.s3_lines.specs.declared.sheet.SheetLine.TheVariants as sheet

@@ -6,7 +6,8 @@ use Rattle.std.proofs.lemmas.Bool.{cases_Bool}
 use Rattle.std.proofs.lemmas.Bool.Decides.{nat_tests}
 use Rattle.s3_cards.specs.Codes.{ebcdic}
 use Rattle.s3_cards.specs.Names.{is_digit, is_within}
-use Rattle.s3_lines.specs.Ranges.{is_between, if_given, indicator_in_range, is_record_indicator, is_total_indicator, conditions_in_range, codes_in_range, time_in_range}
+use Rattle.s3_lines.specs.Ranges.{is_between, if_given, is_record_indicator, is_total_indicator}
+use Rattle.s3_lines.specs.Inner.Ranges.{indicator_in_range, conditions_in_range, codes_in_range, time_in_range}
 use Rattle.s3_lines.specs.declared.indicator.Indicator.{Indicator}
 use Rattle.s3_lines.specs.declared.indicator.Indicator.TheVariants.{General}
 use Rattle.s3_lines.specs.declared.indicator.Condition.{Condition}

@@ -6,10 +6,11 @@ use Rattle.std.proofs.lemmas.Bool.{cases_Bool}
 use Rattle.std.proofs.lemmas.List.{map-append, get_or_default}
 use Rattle.std.proofs.lemmas.List.Elements.{filter-append}
 use Rattle.s3_sheets.specs.Lines.{card_at, line_of, lines_below, lines_of}
-use Rattle.s3_sheets.specs.Sheets.{standing_at, card_holds, holds, numbers, pairs, diagnostic, sheet_diagnostics, card_diagnostics}
+use Rattle.s3_sheets.specs.Sheets.{standing_at, card_holds, holds, numbers, pairs, diagnostic, sheet_diagnostics}
+use Rattle.s3_sheets.specs.Inner.Sheets.{card_diagnostics}
 use Rattle.s3_sheets.specs.Inner.Progress.{Kept, nothing_kept, kept_behind, standing_behind}
-use Rattle.s3_lines.specs.Ascending.{cards_ascend}
-use Rattle.s3_lines.specs.Ranges.{are_read}
+use Rattle.s3_lines.specs.Inner.Ascending.{cards_ascend}
+use Rattle.s3_lines.specs.Inner.Ranges.{are_read}
 use Rattle.s3_sheets.proofs.HeldLemmas.{IsHeld, all_held, kept_at}
 use Rattle.s3_sheets.proofs.InsideLemmas.{all_read}
 use Rattle.s3_sheets.proofs.ProgressLemmas.{IsKept, none_kept, kept_next, standing_same}

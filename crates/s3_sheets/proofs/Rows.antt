@@ -13,7 +13,7 @@ use Rattle.s3_sheets.specs.Tables.{header_rules, file_rules, record_rules, recor
 use Rattle.s3_sheets.specs.Lines.{device_of, file_line, field_line, calculation_line, is_addition, spacing_of, output_card, output_field, line_of, lines_of}
 use Rattle.s3_sheets.specs.Combinations.{has_stray_entry, has_bad_extent, has_bad_positions, has_bad_factor, has_bad_definition, has_bad_addition, has_bad_space, has_bad_content, has_early_constant}
 use Rattle.s3_sheets.specs.Sheets.{faults_of, is_at_fault, is_outside, is_too_many, card_holds, sheet_diagnostics, fields}
-use Rattle.s3_sheets.specs.Samples.{AreAsWanted, found_in, sources, pairs_of_sources, many_files, defining_cards, named, whole_source, whole_lines, order_rows, file_rows_1, file_rows_2, file_rows_3, record_rows_1, record_rows_2, field_rows_1, field_rows_2, calculation_rows_1, calculation_rows_2, calculation_rows_3, line_rows_1, line_rows_2, put_rows_1, put_rows_2, put_rows_3}
+use Rattle.s3_sheets.specs.Inner.Samples.{AreAsWanted, found_in, sources, pairs_of_sources, many_files, defining_cards, named, whole_source, whole_lines, order_rows, file_rows_1, file_rows_2, file_rows_3, record_rows_1, record_rows_2, field_rows_1, field_rows_2, calculation_rows_1, calculation_rows_2, calculation_rows_3, line_rows_1, line_rows_2, put_rows_1, put_rows_2, put_rows_3}
 
 pub order_rows_found : AreAsWanted order_rows
 unfolding order_rows code_page ebcdic faults_of rule_faults reserved_names digits_number number_between indicator_of listed level_behind condition_of is_word text_of constant_text number_literal_of factor_of code_of time_of operations says_and says_or kind_of header_rules file_rules record_rules record_and_rules record_or_rules field_rules calculation_rules output_line_rules output_group_rules output_field_rules device_of file_line field_line calculation_line is_addition spacing_of output_card output_field line_of lines_of has_stray_entry has_bad_extent has_bad_positions has_bad_factor has_bad_definition has_bad_addition has_bad_space has_bad_content has_early_constant is_at_fault is_outside is_too_many card_holds sheet_diagnostics

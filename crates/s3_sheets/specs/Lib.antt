@@ -1,11 +1,10 @@
 pub mod Columns
-pub mod Indicators
-pub mod Entries
-pub mod Kinds
-pub mod Rules
-pub mod Tables
-pub mod Lines
 pub mod Combinations
+pub mod Entries
+pub mod Indicators
+pub mod Kinds
+pub mod Lines
+pub mod Rules
 pub mod Sheets
-pub mod Samples
+pub mod Tables
 pub mod Inner

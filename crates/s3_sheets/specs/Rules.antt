@@ -1,5 +1,5 @@
 -- What may stand in the columns of a card, and what is wrong where something else does.
-use Rattle.std.specs.Prelude.{ℕ, ◌+◌, ◌-◌, List, Bool, true, false, ◌==◌, ◌&&◌, ◌||◌, Option, is_some, take, slice_index, nat_le, nat_lt, if◌then◌else◌}
+use Rattle.std.specs.Prelude.{ℕ, ◌-◌, List, Bool, true, false, ◌==◌, ◌&&◌, ◌||◌, Option, is_some, take, slice_index, if◌then◌else◌}
 use Rattle.std.specs.List.{list_all, list_any}
 use Rattle.s3_cards.specs.declared.ebcdic.TheConstants.{BLANK, LETTER_N}
 use Rattle.s3_cards.specs.Names.{is_letter, is_name}
@@ -114,17 +114,3 @@ broken_by rules card = record {
   name = list_any (λ rule. (rule_faults card rule).name) rules;
   number = list_any (λ rule. (rule_faults card rule).number) rules;
 }
-
--- ---- where an entry can stand
--- whether an entry can stand in so many columns
-abbrev pub fits : Entry → ℕ → Bool
-fits MaybeConstant width = nat_le width 26
-fits (MaybeFactor longest) width = nat_le longest 8 && nat_le longest width && nat_le width 10
-fits CodeTest width = width == 7
-fits CodePosition width = width == 7
-fits MaybeEditCode width = nat_lt 0 width
-fits _ width = true
-
--- whether the columns of a rule are on a card, and so many as its entry needs
-abbrev pub is_on_card : Rule → Bool
-is_on_card rule = nat_lt 0 rule.from && nat_le rule.from rule.to && nat_le rule.to 96 && fits rule.entry (rule.to + 1 - rule.from)

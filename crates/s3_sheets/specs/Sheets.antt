@@ -1,27 +1,21 @@
 -- The diagnostics of a source's single cards: each number is a condition on a card and the cards before it.
-use Rattle.std.specs.Prelude.{◌≡◌, ◌≢◌, ℕ, zero, suc, ◌+◌, List, [], ◌∷◌, ◌++◌, Bool, true, false, ◌==◌, ◌&&◌, ◌||◌, not, Option, Some, None, Result, Ok, Err, is_some, length, map, filter, take, nat_lt, Vec, if◌then◌else◌}
+use Rattle.std.specs.Prelude.{ℕ, zero, suc, ◌+◌, List, [], ◌∷◌, ◌++◌, Bool, true, false, ◌==◌, ◌&&◌, ◌||◌, not, Option, Some, None, is_some, length, map, filter, take, nat_lt, if◌then◌else◌}
 use Rattle.std.specs.List.{list_any}
 use Rattle.std.specs.Map.{lookup}
 use Rattle.std.specs.Option.{option_to_list}
-use Rattle.std.specs.declared.alloc.Global.{Global}
 use Rattle.s3_sheets.specs.Columns.{columns, are_blank, number_of}
 use Rattle.s3_cards.specs.Names.{name_of, same_name}
 use Rattle.s3_sheets.specs.Kinds.{kind_of, sheet_of, is_record, is_output_line}
 use Rattle.s3_sheets.specs.Rules.{both_faults, broken_by}
 use Rattle.s3_sheets.specs.Combinations.{combined_faults}
 use Rattle.s3_sheets.specs.Tables.{rules_of}
-use Rattle.s3_sheets.specs.Lines.{card_at, lines_of, number_or_zero, maybe_name}
+use Rattle.s3_sheets.specs.Lines.{card_at, number_or_zero, maybe_name}
 use Rattle.s3_cards.specs.declared.name.Name.{Name}
 use Rattle.s3_sheets.specs.declared.kind.CardKind.{CardKind}
 use Rattle.s3_sheets.specs.declared.kind.CardKind.TheVariants.{Comment, Unknown, File, Record, RecordAnd, RecordOr, Field, Calculation, OutputField}
 use Rattle.s3_sheets.specs.declared.faults.Faults.{Faults}
 use Rattle.s3_sheets.specs.declared.progress.Standing.{Standing}
-use Rattle.s3_lines.specs.Ascending.{cards_ascend}
-use Rattle.s3_lines.specs.Ranges.{are_read}
 use Rattle.s3_lines.specs.declared.diagnostic.Diagnostic.{Diagnostic}
-use Rattle.s3_sheets.specs.declared.fault.SheetFault.{SheetFault}
-use Rattle.s3_sheets.specs.declared.fault.SheetFault.TheVariants.{NoMemory, Diagnostics}
-use Rattle.s3_lines.specs.declared.sheet.Line.{Line}
 
 abbrev pub kind_at : List (List ℕ) → ℕ → CardKind
 kind_at cards i = kind_of (card_at cards i)
@@ -207,18 +201,6 @@ pairs (suc n) = pairs n ++ map (λ number. (n, number)) numbers
 abbrev pub diagnostic : ℕ → ℕ × ℕ → Diagnostic
 diagnostic from pair = record { card = from + pair.0 + 1; number = pair.1 }
 
--- the diagnostics of the card with this number
-abbrev pub card_diagnostics : ℕ → Standing → List Diagnostic
-card_diagnostics number standing = map (λ n. record { card = number; number = n }) (filter (card_holds standing) numbers)
-
 -- the diagnostics of cards that stand from a place of their deck on
 unfoldable pub sheet_diagnostics : ℕ → List (List ℕ) → List Diagnostic
 sheet_diagnostics from cards = map (diagnostic from) (filter (holds cards) (pairs (length cards)))
-
--- what a reading of cards answers: the lines of cards without diagnostics, which are those of cards without a fault of their own, with
--- ascending cards; or the diagnostics, unless memory ran out
-abbrev pub Reads : ℕ → List (List ℕ) → Result (Vec Line Global) SheetFault → Type 0
-Reads from cards (Ok lines) =
-    (sheet_diagnostics from cards ≡ []) × (lines.items ≡ lines_of from cards) × (are_read lines.items ≡ true) × (cards_ascend from lines.items ≡ true)
-Reads from cards (Err NoMemory) = Unit {0}
-Reads from cards (Err (Diagnostics found)) = (found.items ≢ []) × (found.items ≡ sheet_diagnostics from cards)

@@ -4,7 +4,8 @@ ghost use Rattle.std.specs.Prelude.{◌≡◌, ◌≤◌, map, length, true};
 ghost use Rattle.std.specs.List.{list_all, list_any};
 ghost use Rattle.s3_cards.specs.Names.{is_letter as letter_spec};
 ghost use Rattle.s3_sheets.specs.Columns.{same_codes};
-ghost use Rattle.s3_sheets.specs.Rules.{allows as allows_spec, fault_of, rule_faults as rule_faults_spec, is_on_card, fits, CodeTest, CodePosition};
+ghost use Rattle.s3_sheets.specs.Rules.{allows as allows_spec, fault_of, rule_faults as rule_faults_spec, CodeTest, CodePosition};
+ghost use Rattle.s3_sheets.specs.Inner.Rules.{is_on_card, fits};
 ghost use Rattle.s3_sheets.specs.Inner.RuleViews.{rule_view, entry_view};
 
 use crate::columns::{columns, number_between};

@@ -3,7 +3,7 @@
 
 ghost use Rattle.std.specs.Prelude.{◌≡◌, map, true};
 ghost use Rattle.std.specs.List.{list_all};
-ghost use Rattle.s3_sheets.specs.Rules.{is_on_card};
+ghost use Rattle.s3_sheets.specs.Inner.Rules.{is_on_card};
 ghost use Rattle.s3_sheets.specs.Inner.RuleViews.{rule_view};
 ghost use Rattle.s3_sheets.specs.Tables.{rules_of as rules_of_spec};
 

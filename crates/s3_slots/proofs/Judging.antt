@@ -9,12 +9,13 @@ use Rattle.s3_cards.specs.Names.{same_name}
 use Rattle.s3_cards.proofs.NameLemmas.{same_name-equal}
 use Rattle.s3_store.proofs.SectorLists.{slice_get_set_same}
 use Rattle.s3_store.specs.declared.stretch.Stretch.{Stretch}
-use Rattle.s3_slots.specs.Stretches.{IsWhole}
+use Rattle.s3_slots.specs.Inner.Stretches.{IsWhole}
 use Rattle.s3_slots.specs.Labels.{name_in, label_in}
 use Rattle.s3_slots.specs.Slots.{is_well_formed, is_count_of, sectors_needed, index_sectors, is_clear, bears, is_disentangled, is_sound, judged_label, judged, judged_behind, slot_bytes, slots_of, standing, standing_with, slot_at, is_damaged_under}
 use Rattle.s3_slots.specs.Placement.{free_slot, placed}
-use Rattle.s3_slots.specs.Making.{IsNewFile, IsSize, greatest, greatest_capacity, tracks_of, tracks_of_size, capacity_of, capacity_of_size, first_count, new_label, put_in, put_at, put, put_over, made, is_permanent, changed_in, changed_at, dropped, counted}
-use Rattle.s3_slots.specs.Kept.{AreKept}
+use Rattle.s3_slots.specs.Inner.Making.{IsNewFile, IsSize}
+use Rattle.s3_slots.specs.Making.{greatest, greatest_capacity, tracks_of, tracks_of_size, capacity_of, capacity_of_size, first_count, new_label, put_in, put_at, put, put_over, made, is_permanent, changed_in, changed_at, dropped, counted}
+use Rattle.s3_slots.specs.Inner.Kept.{AreKept}
 use Rattle.s3_slots.specs.declared.header.Format.{Format}
 use Rattle.s3_slots.specs.declared.label.FileLabel.{FileLabel}
 use Rattle.s3_slots.specs.declared.label.Organization.{Organization}

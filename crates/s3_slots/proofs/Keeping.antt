@@ -9,7 +9,7 @@ use Rattle.s3_cards.proofs.NameLemmas.{same_name-self}
 use Rattle.s3_slots.specs.Stretches.{is_apart, is_apart_from_all, are_apart, is_inside, IsIn}
 use Rattle.s3_slots.specs.Labels.{sectors_of}
 use Rattle.s3_slots.specs.Slots.{is_key_of, is_extent, are_extents, is_count_of, is_well_formed, sectors_needed, is_apart_from_slot, is_clear, bears}
-use Rattle.s3_slots.specs.Kept.{AreKept}
+use Rattle.s3_slots.specs.Inner.Kept.{AreKept}
 use Rattle.s3_slots.specs.declared.label.FileLabel.{FileLabel}
 use Rattle.s3_slots.specs.declared.slot.Slot.{Slot}
 use Rattle.s3_slots.specs.declared.slot.Slot.TheVariants.{Sound}

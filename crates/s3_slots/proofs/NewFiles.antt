@@ -7,7 +7,8 @@ use Rattle.s3_slots.specs.declared.making.NewFile.{NewFile}
 use Rattle.s3_slots.specs.declared.making.Size.{Size}
 use Rattle.s3_slots.specs.declared.making.Size.TheVariants.{Records, Tracks}
 use Rattle.s3_slots.specs.Slots.{sectors_needed, record_sectors}
-use Rattle.s3_slots.specs.Making.{IsNewFile, IsSize, tracks_of, tracks_of_size}
+use Rattle.s3_slots.specs.Inner.Making.{IsNewFile, IsSize}
+use Rattle.s3_slots.specs.Making.{tracks_of, tracks_of_size}
 use Rattle.s3_slots.proofs.SlotLemmas.{key_fits}
 
 pub new_key : (new : NewFile) → IsNewFile new → new.key_length ≤ 29

@@ -9,7 +9,8 @@ use Rattle.s3_cards.specs.Names.{is_name}
 use Rattle.s3_store.specs.Bytes.{part}
 use Rattle.s3_store.specs.declared.stretch.Stretch.{Stretch}
 use Rattle.s3_slots.specs.Header.{stretch_at}
-use Rattle.s3_slots.specs.Labels.{label_bytes, label_in, label_with, name_by, organization_by, retention_by, organization_code, retention_code, extent_bytes, extent_at, is_unused, used, IsWritable}
+use Rattle.s3_slots.specs.Inner.Labels.{label_bytes, organization_code, retention_code, extent_bytes, extent_at, IsWritable}
+use Rattle.s3_slots.specs.Labels.{label_in, label_with, name_by, organization_by, retention_by, is_unused, used}
 use Rattle.s3_slots.specs.declared.header.Format.TheVariants.{First, Second}
 use Rattle.s3_slots.specs.declared.label.FileLabel.{FileLabel}
 use Rattle.s3_slots.specs.declared.label.Organization.{Organization}

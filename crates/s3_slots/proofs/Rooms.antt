@@ -6,7 +6,8 @@ use Rattle.std.specs.Prelude.{find}
 use Rattle.std.specs.List.{list_all, range_with_len, sum_by}
 use Rattle.s3_store.specs.Stretches.{end_of}
 use Rattle.s3_store.specs.declared.stretch.Stretch.{Stretch}
-use Rattle.s3_slots.specs.Stretches.{is_apart, is_apart_from_all, are_apart, is_inside, sectors_of_tracks, IsWhole}
+use Rattle.s3_slots.specs.Stretches.{is_apart, is_apart_from_all, are_apart, is_inside, sectors_of_tracks}
+use Rattle.s3_slots.specs.Inner.Stretches.{IsWhole}
 use Rattle.s3_slots.specs.Slots.{extents_of, is_apart_from_slot, is_clear, is_extent, are_extents}
 use Rattle.s3_slots.specs.Placement.{tracks_at, lowest_place, ended, grown, empty_behind, free_runs, free_stretches, cut, cut_if, lowest_stretches, placed, placed_or}
 use Rattle.s3_slots.specs.declared.header.Format.{Format}

@@ -1,8 +1,7 @@
-pub mod Stretches
 pub mod Header
 pub mod Labels
-pub mod Slots
-pub mod Placement
 pub mod Making
-pub mod Kept
-pub mod Samples
+pub mod Placement
+pub mod Slots
+pub mod Stretches
+pub mod Inner

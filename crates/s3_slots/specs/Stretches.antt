@@ -1,5 +1,5 @@
 -- Runs of sectors that do or don't meet, and tracks.
-use Rattle.std.specs.Prelude.{◌≡◌, ◌<◌, ◌≤◌, ℕ, ◌+◌, ◌*◌, ◌/◌, ◌%◌, ◌==◌, Bool, true, ◌&&◌, ◌||◌, nat_le, List, [], ◌∷◌}
+use Rattle.std.specs.Prelude.{◌<◌, ◌≤◌, ℕ, ◌+◌, ◌*◌, ◌/◌, ◌==◌, Bool, true, ◌&&◌, ◌||◌, nat_le, List, [], ◌∷◌}
 use Rattle.std.specs.List.{list_all}
 use Rattle.s3_store.specs.Stretches.{end_of}
 use Rattle.s3_store.specs.declared.stretch.Stretch.{Stretch}
@@ -26,10 +26,6 @@ sectors_of_tracks tracks = 24 * tracks
 -- the tracks that so many sectors take
 abbrev pub tracks_for : ℕ → ℕ
 tracks_for sectors = (sectors + 23) / 24
-
--- whole tracks
-abbrev pub IsWhole : Stretch → Type 0
-IsWhole region = (region.start % 24 ≡ 0) × (region.sectors % 24 ≡ 0)
 
 -- a sector of it
 abbrev pub IsIn : Stretch → ℕ → Type 0

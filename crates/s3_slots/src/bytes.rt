@@ -1,7 +1,7 @@
 //! The 64 bytes of a slot, put together from its fields.
 ghost use Rattle.std.specs.Prelude.{◌≡◌, ◌≤◌, ◌+◌, ◌++◌, ℕ, List, [], length, take};
 ghost use Rattle.byteorder.specs.Endian.{big_bytes};
-ghost use Rattle.s3_slots.specs.Labels.{organization_code as organization_code_spec, retention_code as retention_code_spec, extent_bytes, extent_at as extent_at_spec, label_bytes};
+ghost use Rattle.s3_slots.specs.Inner.Labels.{organization_code as organization_code_spec, retention_code as retention_code_spec, extent_bytes, extent_at as extent_at_spec, label_bytes};
 
 use crate::label::{FileLabel, Organization};
 use byteorder::{BigEndian, ByteOrder};

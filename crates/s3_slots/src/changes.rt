@@ -3,7 +3,8 @@ ghost use Rattle.std.specs.Prelude.{◌≡◌, ◌<◌, length, Some, None, IfOk
 ghost use Rattle.std.specs.List.{position_from};
 ghost use Rattle.s3_slots.specs.declared.slot.Slot.TheVariants.{Free, Sound};
 ghost use Rattle.s3_slots.specs.Slots.{bears as bears_spec, standing as standing_spec};
-ghost use Rattle.s3_slots.specs.Making.{refusal, changed_in};
+ghost use Rattle.s3_slots.specs.Inner.Making.{refusal};
+ghost use Rattle.s3_slots.specs.Making.{changed_in};
 
 use crate::making::LabelFault;
 use crate::slot::{Slot, Standing, place_of, standing_of};

@@ -1,23 +1,25 @@
 //! Worked rows of headers, labels and slots.
 ghost use Rattle.std.specs.Prelude.{ℕ, List, true, ◌≡◌, ◌*◌, ◌/◌, ◌++◌, [], ◌∷◌, length, take, drop, replicate, slice_get, slice_set, Some, Ok, Err};
 ghost use Rattle.s3_slots.specs.Header.{mounted};
-ghost use Rattle.s3_slots.specs.Labels.{label_bytes, label_in, sectors_of, IsWritable};
+ghost use Rattle.s3_slots.specs.Inner.Labels.{label_bytes, IsWritable};
+ghost use Rattle.s3_slots.specs.Labels.{label_in, sectors_of};
 ghost use Rattle.s3_slots.specs.Slots.{slots_of, standing, is_count_of};
-ghost use Rattle.s3_slots.specs.Kept.{AreKept};
-ghost use Rattle.s3_slots.specs.Stretches.{IsWhole};
+ghost use Rattle.s3_slots.specs.Inner.Kept.{AreKept};
+ghost use Rattle.s3_slots.specs.Inner.Stretches.{IsWhole};
 ghost use Rattle.s3_cards.specs.declared.name.Name.{Name};
 ghost use Rattle.s3_store.specs.declared.stretch.Stretch.{Stretch};
 ghost use Rattle.s3_slots.specs.declared.header.Format.{Format};
 ghost use Rattle.s3_slots.specs.declared.label.FileLabel.{FileLabel};
 ghost use Rattle.s3_slots.specs.declared.making.NewFile.{NewFile};
 ghost use Rattle.s3_slots.specs.declared.slot.Slot.{Slot};
-ghost use Rattle.s3_slots.specs.Making.{capacity_of, tracks_of, new_label, made, planned, counted, dropped, IsNewFile};
+ghost use Rattle.s3_slots.specs.Making.{capacity_of, tracks_of, new_label, made, counted, dropped};
+ghost use Rattle.s3_slots.specs.Inner.Making.{planned, IsNewFile};
 ghost use Rattle.s3_slots.specs.declared.header.Format.TheVariants.{First, Second};
 ghost use Rattle.s3_slots.specs.declared.header.MountFault.TheVariants.{BadHeader, BadRegions, Short};
 ghost use Rattle.s3_slots.specs.declared.making.LabelFault.TheVariants.{NoSlot, NoSpace};
 ghost use Rattle.s3_slots.specs.declared.slot.Slot.TheVariants.{Sound};
 ghost use Rattle.s3_slots.specs.declared.slot.Standing.TheVariants.{Blocked, Present};
-ghost use Rattle.s3_slots.specs.Samples.{ten_bytes, ten, pack_of, with_quotas, named, new_data, new_index, file, of_records, all_free, without_b, d_label, all_ff, no_label, two_files, extents_under, standing_after};
+ghost use Rattle.s3_slots.specs.Inner.Samples.{ten_bytes, ten, pack_of, with_quotas, named, new_data, new_index, file, of_records, all_free, without_b, d_label, all_ff, no_label, two_files, extents_under, standing_after};
 
 /// A header of three regions of ten tracks is read. With too few sectors, another first byte or regions that meet it is
 /// refused, and it is one of the first format by its eighth byte.

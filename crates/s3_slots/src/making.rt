@@ -4,7 +4,7 @@ ghost use Rattle.std.specs.Prelude.{◌≡◌, ◌≤◌, ◌<◌, ◌+◌, Ok, 
 ghost use Rattle.std.specs.List.{list_any, position_from};
 ghost use Rattle.s3_slots.specs.Placement.{free_slot as free_slot_spec};
 ghost use Rattle.s3_slots.specs.Slots.{standing as standing_spec, are_extents, bears, sectors_needed as sectors_needed_spec};
-ghost use Rattle.s3_slots.specs.Stretches.{IsWhole};
+ghost use Rattle.s3_slots.specs.Inner.Stretches.{IsWhole};
 ghost use Rattle.s3_slots.specs.declared.slot.Standing.TheVariants.{Present};
 ghost use Rattle.s3_slots.specs.declared.slot.Slot.TheVariants.{Sound};
 ghost use Rattle.s3_slots.specs.Making.{greatest_capacity as greatest_capacity_spec, tracks_of as tracks_of_spec, capacity_of as capacity_of_spec, first_count as first_count_spec, new_label as new_label_spec, put as put_spec, dropped, put_over as put_over_spec, made as made_spec};

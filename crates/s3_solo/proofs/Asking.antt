@@ -26,7 +26,7 @@ use Rattle.s3_solo.specs.Lines.{has_room, is_queued, with_drained}
 use Rattle.s3_solo.specs.World.{World, JobAtWork}
 use Rattle.s3_solo.specs.Serving.{Outcome, acted, answered, at_work, begun, card_answer, compiled, compiled_data, data_of, diagnostics_of, file_served, idle, in_use, job_over, line_put, over, pending, performed, run, run_card_of, run_over, served, settings, standing_at, started, stocked, with_answer, with_card_read, with_jobs, with_settings}
 use Rattle.s3_solo.specs.Solo.{closed, drained, gone_on, refused, replied, reply_given, resumed, step_of, turned}
-use Rattle.s3_solo.specs.Asked.{IsAsked, halt_asked}
+use Rattle.s3_solo.specs.Inner.Asked.{IsAsked, halt_asked}
 
 -- without a job there is nothing to ask
 at_rest : (w : World) → w.job ≡ None → IsAsked w

@@ -33,7 +33,7 @@ use Rattle.s3_meaning.specs.Cycle.{halts_shown, headings, cleared, headed, typed
 use Rattle.s3_solo.specs.declared.action.Action.TheVariants.{Turn}
 use Rattle.s3_solo.specs.declared.action.Did.TheVariants.{Idle}
 use Rattle.s3_solo.specs.Solo.{step_of, closed}
-use Rattle.s3_solo.specs.Samples.{after_turns, first_line, listing}
+use Rattle.s3_solo.specs.Inner.Samples.{after_turns, first_line, listing}
 
 -- what the lister's run is said to do
 pub record ListerRun : Type 0 where

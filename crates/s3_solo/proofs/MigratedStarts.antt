@@ -17,8 +17,10 @@ use Rattle.s3_slots.specs.declared.slot.Slot.TheVariants.{Sound}
 use Rattle.s3_slots.specs.declared.slot.Standing.{Standing}
 use Rattle.s3_slots.specs.declared.slot.Standing.TheVariants.{Absent, Blocked, Present}
 use Rattle.s3_slots.proofs.Makes.{present_at}
-use Rattle.s3_labels.specs.Areas.{Areas, area_of}
-use Rattle.s3_labels.specs.Images.{contents_of, in_second, migrated}
+use Rattle.s3_labels.specs.Inner.Areas.{Areas}
+use Rattle.s3_labels.specs.Areas.{area_of}
+use Rattle.s3_labels.specs.Contents.{contents_of}
+use Rattle.s3_labels.specs.Inner.Images.{in_second, migrated}
 use Rattle.s3_labels.proofs.Headers.{header_of}
 use Rattle.s3_labels.proofs.MigratedPacks.{migrated_areas, migrated_files, migrated_is}
 use Rattle.s3_job_files.specs.Files.{Area, Files, area_of_slots, area_on, files_on}
@@ -27,7 +29,7 @@ use Rattle.s3_solo.specs.declared.action.Action.{Action}
 use Rattle.s3_solo.specs.Lines.{no_lines}
 use Rattle.s3_solo.specs.Solo.{solo}
 use Rattle.s3_solo.specs.World.{World, at_start}
-use Rattle.s3_solo.specs.Formats.{answers, over_second, shows_no_space}
+use Rattle.s3_solo.specs.Inner.Formats.{answers, over_second, shows_no_space}
 use Rattle.s3_solo.proofs.SecondFiles.{second}
 use Rattle.s3_solo.proofs.SecondSteps.{answers_same, run_same}
 

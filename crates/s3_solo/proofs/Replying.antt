@@ -12,9 +12,9 @@ use Rattle.s3_ocl.specs.Streams.{jobs_within}
 use Rattle.s3_solo.specs.declared.action.Action.TheVariants.{Turn, Reply}
 use Rattle.s3_solo.specs.declared.action.Did.TheVariants.{Acted, Refused}
 use Rattle.s3_operator.specs.declared.halt_code.HaltCode.TheVariants.{NoProgram}
-use Rattle.s3_solo.specs.Samples.{at_first}
+use Rattle.s3_solo.specs.Inner.Samples.{at_first}
 use Rattle.s3_solo.specs.Solo.{step_of, refused}
-use Rattle.s3_solo.specs.Samples.{at_halt, halted, passed_over, two_jobs_deck}
+use Rattle.s3_solo.specs.Inner.Samples.{at_halt, halted, passed_over, two_jobs_deck}
 
 pub not_allowed : step_of (at_halt two_jobs_deck) (Reply 0) ≡ refused 2 (at_halt two_jobs_deck)
 unfolding code_page card_of is_word count_value date_value switches_value texts_behind pieces_in pieces_from statement_at statements_within first_in first_fault statement_faults faults_behind job_at jobs_within

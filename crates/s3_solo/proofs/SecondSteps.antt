@@ -26,7 +26,7 @@ use Rattle.s3_solo.specs.Lines.{all_drained, has_room, is_queued, with_drained}
 use Rattle.s3_solo.specs.World.{World, JobAtWork}
 use Rattle.s3_solo.specs.Serving.{Outcome, acted, answered, begun, card_answer, compiled, compiled_data, data_of, diagnostics_of, file_served, idle, in_use, job_over, line_put, over, pending, performed, run, run_card_of, run_over, served, settings, standing_at, started, with_answer, with_card_read, with_jobs, with_settings}
 use Rattle.s3_solo.specs.Solo.{closed, drained, gone_on, refused, replied, reply_given, resumed, solo, step_of, turned}
-use Rattle.s3_solo.specs.Formats.{answers, is_no_space, over_second, shows_no_space}
+use Rattle.s3_solo.specs.Inner.Formats.{answers, is_no_space, over_second, shows_no_space}
 use Rattle.s3_solo.proofs.SecondFiles.{Opens, closed_same, opened_same, second, second_answered, second_in_use, served_same}
 
 -- ---- halts

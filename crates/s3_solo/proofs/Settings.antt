@@ -12,9 +12,9 @@ use Rattle.s3_ocl.specs.Streams.{jobs_within}
 use Rattle.s3_solo.specs.declared.action.Action.TheVariants.{Turn}
 use Rattle.s3_operator.specs.declared.halt_code.HaltCode.TheVariants.{FaultyJob, NoProgram}
 use Rattle.s3_operator.specs.Halts.{with_halt}
-use Rattle.s3_solo.specs.Samples.{at_first}
+use Rattle.s3_solo.specs.Inner.Samples.{at_first}
 use Rattle.s3_solo.specs.Solo.{step_of}
-use Rattle.s3_solo.specs.Samples.{settings_deck, faulty_deck}
+use Rattle.s3_solo.specs.Inner.Samples.{settings_deck, faulty_deck}
 
 pub date : (step_of (at_first settings_deck) Turn).world.date ≡ 0xf0 ∷ 0xf6 ∷ 0xf1 ∷ 0xf5 ∷ 0xf7 ∷ 0xf6 ∷ []
 unfolding code_page card_of is_word count_value date_value switches_value texts_behind pieces_in pieces_from statement_at statements_within first_in first_fault statement_faults faults_behind job_at jobs_within

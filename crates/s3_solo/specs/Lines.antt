@@ -1,5 +1,5 @@
 -- The printed lines of a level.
-use Rattle.std.specs.Prelude.{ℕ, ◌+◌, ◌-◌, nat_lt, Bool, List, [], ◌∷◌, ◌++◌, length, take}
+use Rattle.std.specs.Prelude.{ℕ, ◌+◌, ◌-◌, nat_lt, Bool, List, [], ◌∷◌, ◌++◌, length}
 use Rattle.s3_cards.specs.Printed.{Printed}
 
 -- the lines that were printed, how many of them were drained, and how many may be queued
@@ -30,7 +30,3 @@ with_drained lines = record lines { drained = lines.drained + 1 }
 -- all lines are drained
 abbrev pub all_drained : Lines → Lines
 all_drained lines = record lines { drained = length lines.printed }
-
--- the lines that were drained
-abbrev pub drained_lines : Lines → List Printed
-drained_lines lines = take lines.drained lines.printed

@@ -10,13 +10,14 @@ ghost use Rattle.s3_operator.specs.Halts.{with_halt};
 ghost use Rattle.s3_cards.specs.declared.levels.LevelId.{LevelId};
 ghost use Rattle.s3_slots.specs.Header.{mounted};
 ghost use Rattle.s3_slots.specs.declared.header.Header.{Header};
-ghost use Rattle.s3_labels.specs.Images.{contents_of, in_second, migrated};
-ghost use Rattle.s3_solo.specs.Formats.{answers, over_second, shows_no_space};
+ghost use Rattle.s3_labels.specs.Contents.{contents_of};
+ghost use Rattle.s3_labels.specs.Inner.Images.{in_second, migrated};
+ghost use Rattle.s3_solo.specs.Inner.Formats.{answers, over_second, shows_no_space};
 ghost use Rattle.s3_solo.specs.World.{World, at_start};
 ghost use Rattle.s3_solo.specs.declared.action.Action.{Action};
-ghost use Rattle.s3_solo.specs.Samples.{at_first};
+ghost use Rattle.s3_solo.specs.Inner.Samples.{at_first};
 ghost use Rattle.s3_solo.specs.Solo.{step_of, refused, solo, closed};
-ghost use Rattle.s3_solo.specs.Samples.{after_turns, at_halt, first_line, halted, listing, passed_over, settings_deck, faulty_deck, two_jobs_deck};
+ghost use Rattle.s3_solo.specs.Inner.Samples.{after_turns, at_halt, first_line, halted, listing, passed_over, settings_deck, faulty_deck, two_jobs_deck};
 
 /// The deck that compiles the card lister and lists ABC and DEF. Its turns are: compile, start, card, line, card, line, end of
 /// the cards, end of the job.

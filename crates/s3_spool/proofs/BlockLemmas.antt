@@ -6,7 +6,7 @@ use Rattle.byteorder.specs.Endian.{big_bytes}
 use Rattle.s3_store.specs.Bytes.{part}
 use Rattle.s3_cards.specs.Printed.{Printed}
 use Rattle.s3_cards.specs.declared.ebcdic.TheConstants.{BLANK}
-use Rattle.s3_spool.specs.Queues.{block_bytes, line_of_block, text_length}
+use Rattle.s3_spool.specs.Inner.Queues.{block_bytes, line_of_block, text_length}
 use Rattle.byteorder.specs.Numbers.{big_number-reads_back}
 use Rattle.std.proofs.lemmas.Bool.Decides.{nat_tests}
 

@@ -9,12 +9,12 @@ use Rattle.circular_buffer.specs.Buffer.{Buffer, buffer, keep_last}
 use Rattle.s3_store.specs.Bytes.{sector_bytes}
 use Rattle.s3_store.proofs.SectorLists.{slice_get_set_same, slice_get_set_other}
 use Rattle.s3_store.proofs.Frames.{within_weaker}
-use Rattle.s3_store.specs.State.{PoolState, ChangesWithin}
+use Rattle.s3_store.specs.Inner.State.{PoolState, ChangesWithin}
 use Rattle.s3_cards.specs.Printed.{Printed}
 use Rattle.s3_cards.specs.declared.levels.LevelId.{LevelId}
 use Rattle.s3_cards.specs.declared.levels.LevelId.TheVariants.{One, Two}
-use Rattle.s3_cards.specs.Levels.{other}
-use Rattle.s3_spool.specs.Queues.{AreBlocks, Blocks, IsFreeSector, quota_of, times, block_sector, line_of_block, lines_in, queue_of, blocks_of, with_queued, with_taken}
+use Rattle.s3_cards.specs.Inner.Levels.{other}
+use Rattle.s3_spool.specs.Inner.Queues.{AreBlocks, Blocks, IsFreeSector, quota_of, times, block_sector, line_of_block, lines_in, queue_of, blocks_of, with_queued, with_taken}
 use Rattle.std.proofs.lemmas.Bool.Decides.{nat_tests, eqb_tells, leb_tells}
 use Rattle.std.specs.Prelude.{true, false, eqb, leb, slice_set}
 

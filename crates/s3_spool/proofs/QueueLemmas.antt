@@ -7,7 +7,7 @@ use Rattle.s3_cards.specs.Printed.{Printed}
 use Rattle.s3_cards.specs.declared.levels.LevelId.{LevelId}
 use Rattle.s3_cards.specs.declared.levels.LevelId.TheVariants.{One, Two}
 use Rattle.s3_store.specs.Bytes.{sector_bytes}
-use Rattle.s3_spool.specs.Queues.{AreBlocks, Blocks, block_sector, blocks_of, line_of_block, lines_in, queue_of, times}
+use Rattle.s3_spool.specs.Inner.Queues.{AreBlocks, Blocks, block_sector, blocks_of, line_of_block, lines_in, queue_of, times}
 use Rattle.s3_spool.proofs.BlocksLemmas.{times-same}
 
 -- each block has the same sector

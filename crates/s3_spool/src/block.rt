@@ -2,7 +2,7 @@
 ghost use Rattle.std.specs.Prelude.{◌≡◌, ◌<◌, ◌≤◌, ◌+◌, ◌-◌, ◌++◌, [], ◌∷◌, length, take, drop, replicate};
 ghost use Rattle.byteorder.specs.Endian.{big_bytes};
 ghost use Rattle.s3_store.specs.Bytes.{part};
-ghost use Rattle.s3_spool.specs.Queues.{block_bytes as block_bytes_spec, text_length as text_length_spec, line_of_block as line_of_block_spec};
+ghost use Rattle.s3_spool.specs.Inner.Queues.{block_bytes as block_bytes_spec, text_length as text_length_spec, line_of_block as line_of_block_spec};
 
 use crate::composed_line::ComposedLine;
 use byteorder::{BigEndian, ByteOrder};

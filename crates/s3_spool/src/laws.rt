@@ -1,7 +1,7 @@
 //! A worked block.
 
 ghost use Rattle.std.specs.Prelude.{◌≡◌, ◌++◌, [], ◌∷◌, replicate};
-ghost use Rattle.s3_spool.specs.Queues.{block_bytes, line_of_block};
+ghost use Rattle.s3_spool.specs.Inner.Queues.{block_bytes, line_of_block};
 
 /// Line 1 of page 1 with the text ABC in 132 positions: page, line and length, the text as printed, and zeros; and back.
 pub fn a_line_stands_in_its_block()

@@ -1,11 +1,11 @@
 //! The queues of both levels.
 ghost use Rattle.std.specs.Prelude.{◌≡◌, ◌≢◌, ◌<◌, ◌≤◌, ◌+◌, ◌++◌, ◌∷◌, [], ◌↔◌, Err, length, slice_get, IfOk, OnOk, OnErr, IfErr, slice_set};
 ghost use Rattle.std.specs.List.{range_with_len};
-ghost use Rattle.s3_cards.specs.Levels.{other};
-ghost use Rattle.s3_store.specs.Failures.{failed_transfers};
+ghost use Rattle.s3_cards.specs.Inner.Levels.{other};
+ghost use Rattle.s3_store.specs.Inner.Failures.{failed_transfers};
 ghost use Rattle.s3_store.specs.Bytes.{sector_bytes};
-ghost use Rattle.s3_store.specs.State.{KeepsContents, ChangesWithin};
-ghost use Rattle.s3_spool.specs.Queues.{times, blocks_of, quota_of, queue_of, with_queued, with_taken, AreBlocks, IsFreeSector, failed_by, line_of_block as line_of_block_spec, block_bytes as block_bytes_spec, block_sector};
+ghost use Rattle.s3_store.specs.Inner.State.{KeepsContents, ChangesWithin};
+ghost use Rattle.s3_spool.specs.Inner.Queues.{times, blocks_of, quota_of, queue_of, with_queued, with_taken, AreBlocks, IsFreeSector, failed_by, line_of_block as line_of_block_spec, block_bytes as block_bytes_spec, block_sector};
 
 use crate::block::{lay_line, line_of_block};
 use crate::composed_line::ComposedLine;
@@ -32,7 +32,7 @@ pub struct Spool {
 
 impl Model for Spool {
     ghost use Rattle.std.specs.Prelude.{◌≡◌, ◌+◌, ◌≤◌, length};
-    ghost use Rattle.s3_spool.specs.Queues.{Blocks, AreBlocks};
+    ghost use Rattle.s3_spool.specs.Inner.Queues.{Blocks, AreBlocks};
 
     ghost Value = { Blocks };
 

@@ -1,6 +1,6 @@
 -- How the relations between two states of sectors go together.
 use Rattle.std.proofs.Common.{ℕ, length, slice_get, refl, sym, ap, ◌∙◌, inl, inr}
-use Rattle.s3_store.specs.State.{PoolState, KeepsContents, ChangesWithin, KeepsInStep}
+use Rattle.s3_store.specs.Inner.State.{PoolState, KeepsContents, ChangesWithin, KeepsInStep}
 
 -- ---- calls that change no sector
 

@@ -1,8 +1,9 @@
 -- A sector of which a part is changed.
 use Rattle.std.proofs.Common.{◌≡◌, ◌≢◌, ℕ, zero, suc, ◌+◌, ◌<◌, ◌≤◌, List, [], ◌++◌, length, take, drop, replicate, slice_get, slice_set, unwrap_or, Some, refl, sym, ap, ◌∙◌, inl, arith, length-set, length-append, length-drop, length-take-le, append_assoc}
 use Rattle.std.proofs.lemmas.List.{take_at, drop_at}
-use Rattle.s3_store.specs.Bytes.{sector_bytes, part, with_part, with_piece, SameOutside}
-use Rattle.s3_store.specs.State.{ChangesWithin}
+use Rattle.s3_store.specs.Bytes.{sector_bytes, part}
+use Rattle.s3_store.specs.Inner.Bytes.{with_part, with_piece, SameOutside}
+use Rattle.s3_store.specs.Inner.State.{ChangesWithin}
 use Rattle.s3_store.proofs.SectorLists.{slice_get_set_same, slice_get_set_other}
 
 -- ---- the bytes of a sector

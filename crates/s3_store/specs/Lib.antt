@@ -1,6 +1,4 @@
 pub mod Bytes
 pub mod Contents
-pub mod Failures
-pub mod Fuse
-pub mod State
 pub mod Stretches
+pub mod Inner

@@ -1,6 +1,6 @@
 //! A store that fails at one call, for tests of what stands above it.
 ghost use Rattle.std.specs.Prelude.{◌≡◌, ◌≢◌, ◌+◌, ◌-◌, ◌<◌, ◌==◌, ℕ, List, length, slice_get, slice_set, Some, OnOk, OnErr, IsErr, true, false, if◌then◌else◌};
-ghost use Rattle.s3_store.specs.Failures.{failed_calls, fuse_failures};
+ghost use Rattle.s3_store.specs.Inner.Failures.{failed_calls, fuse_failures};
 
 use crate::pack_store::{PackStore, StoreFault};
 use std::marker::Model;
@@ -15,7 +15,7 @@ pub struct FuseStore<S: PackStore> {
 
 impl<S: PackStore> Model for FuseStore<S> {
     ghost use Rattle.std.specs.Prelude.{◌≡◌, true};
-    ghost use Rattle.s3_store.specs.Fuse.{Fuse};
+    ghost use Rattle.s3_store.specs.Inner.Fuse.{Fuse};
 
     ghost Value = { Fuse S };
 

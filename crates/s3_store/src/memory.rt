@@ -13,7 +13,8 @@ pub struct MemoryStore {
 
 impl Model for MemoryStore {
     ghost use Rattle.std.specs.Prelude.{ℕ, List};
-    ghost use Rattle.s3_store.specs.Contents.{sectors_of, IsWholeSectors};
+    ghost use Rattle.s3_store.specs.Contents.{sectors_of};
+    ghost use Rattle.s3_store.specs.Inner.Contents.{IsWholeSectors};
 
     ghost Value = { List (List ℕ) };
 

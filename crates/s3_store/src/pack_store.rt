@@ -1,6 +1,6 @@
 //! A store of sectors, by what it contains and how often it has failed.
 ghost use Rattle.std.specs.Prelude.{◌≡◌, ◌+◌, ◌<◌, ℕ, List, length, slice_get, slice_set, Some, OnOk, OnErr};
-ghost use Rattle.s3_store.specs.Failures.{failed_calls};
+ghost use Rattle.s3_store.specs.Inner.Failures.{failed_calls};
 
 use thiserror::Error;
 

@@ -1,6 +1,7 @@
 //! Parts of bytes.
 ghost use Rattle.std.specs.Prelude.{◌≡◌, ◌≤◌, ◌+◌, length};
-ghost use Rattle.s3_store.specs.Bytes.{part, with_part};
+ghost use Rattle.s3_store.specs.Bytes.{part};
+ghost use Rattle.s3_store.specs.Inner.Bytes.{with_part};
 
 /// Copies the bytes that begin at a place.
 pub fn take_part(bytes: &[u8], at: usize, piece: &mut [u8])

@@ -1,8 +1,9 @@
 //! What the layers above see: one list of sectors, over a store or over a pool.
 ghost use Rattle.std.specs.Prelude.{◌≡◌, ◌≢◌, ◌<◌, ◌≤◌, ◌+◌, ℕ, List, length, slice_get, slice_set, Some, OnOk, OnErr, IfErr};
-ghost use Rattle.s3_store.specs.State.{PoolState, KeepsContents, ChangesWithin};
-ghost use Rattle.s3_store.specs.Bytes.{part, sector_bytes, with_piece};
-ghost use Rattle.s3_store.specs.Failures.{failed_transfers};
+ghost use Rattle.s3_store.specs.Inner.State.{PoolState, KeepsContents, ChangesWithin};
+ghost use Rattle.s3_store.specs.Bytes.{part, sector_bytes};
+ghost use Rattle.s3_store.specs.Inner.Bytes.{with_piece};
+ghost use Rattle.s3_store.specs.Inner.Failures.{failed_transfers};
 
 use crate::pack_store::PackStore;
 use crate::part::{put_part, take_part};

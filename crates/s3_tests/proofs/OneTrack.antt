@@ -11,9 +11,9 @@ use Rattle.s3_store.specs.declared.stretch.Stretch.{Stretch}
 use Rattle.s3_slots.specs.Labels.{sectors_of}
 use Rattle.s3_slots.specs.Stretches.{are_apart}
 use Rattle.s3_slots.specs.declared.label.FileLabel.{FileLabel}
-use Rattle.s3_files.specs.Files.{HasRoom, AreStored}
+use Rattle.s3_files.specs.Inner.Files.{HasRoom, AreStored}
 use Rattle.s3_files.proofs.Rooms.{all_distinct, length_sectors}
-use Rattle.s3_keyed.specs.Index.{HasIndex}
+use Rattle.s3_keyed.specs.Inner.Index.{HasIndex}
 
 abbrev pub track : List Stretch
 track = record { start = 408; sectors = 24 } ∷ []

@@ -5,12 +5,12 @@ use Rattle.std.specs.List.{list_any}
 use Rattle.s3_cards.specs.declared.levels.LevelId.{LevelId}
 use Rattle.s3_cards.specs.declared.name.Name.{Name}
 use Rattle.s3_cards.specs.Names.{same_name}
-use Rattle.s3_slots.specs.Making.{found}
+use Rattle.s3_slots.specs.Inner.Making.{found}
 use Rattle.s3_slots.specs.declared.label.FileLabel.{FileLabel}
 use Rattle.s3_slots.specs.declared.making.LabelFault.{LabelFault}
-use Rattle.s3_labels.specs.Areas.{Areas, slots_at}
+use Rattle.s3_labels.specs.Inner.Areas.{Areas, slots_at}
 use Rattle.s3_job_files.specs.declared.file.OpenFile.{OpenFile}
-use Rattle.s3_job_files.specs.Holds.{Seen, seen, AreOf, IsReady, Stands, count_of}
+use Rattle.s3_job_files.specs.Inner.Holds.{Seen, seen, AreOf, IsReady, Stands, count_of}
 use Rattle.s3_job_files.proofs.Opened.{found_sound, found_named}
 
 abbrev pub found_file : FileLabel → Bool → Result (FileLabel × Bool) LabelFault

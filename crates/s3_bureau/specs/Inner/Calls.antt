@@ -1,26 +1,27 @@
 -- What calls on the parts of a bureau do, refused or not. These words serve the contracts of private functions alone.
 use Rattle.std.specs.Prelude.{◌≡◌, ◌≢◌, ◌+◌, ◌≤◌, ℕ, true, None, Result, Ok, Err, IfErr, IfOk, IsOk, OnOk, ⊤}
-use Rattle.s3_cards.specs.Levels.{other}
+use Rattle.s3_cards.specs.Inner.Levels.{other}
 use Rattle.s3_cards.specs.declared.levels.LevelId.{LevelId}
 use Rattle.s3_cards.specs.declared.levels.LevelId.TheVariants.{One, Two}
-use Rattle.s3_store.specs.Failures.{failed_transfers}
-use Rattle.s3_store.specs.State.{KeepsContents, KeepsInStep}
+use Rattle.s3_store.specs.Inner.Failures.{failed_transfers}
+use Rattle.s3_store.specs.Inner.State.{KeepsContents, KeepsInStep}
 use Rattle.s3_store.specs.declared.pool_fault.PoolFault.{PoolFault}
 use Rattle.s3_store.specs.declared.pool_fault.PoolFault.TheVariants.{NoMemory, NoSector}
 use Rattle.s3_slots.specs.Header.{region_of}
 use Rattle.s3_slots.specs.Slots.{slots_of}
 use Rattle.s3_labels.specs.Areas.{area_of}
-use Rattle.s3_labels.specs.Labelled.{KeepsSaid, SaysSlots}
-use Rattle.s3_job_files.specs.Holds.{seen}
+use Rattle.s3_labels.specs.Inner.Labelled.{KeepsSaid, SaysSlots}
+use Rattle.s3_job_files.specs.Inner.Holds.{seen}
 use Rattle.s3_solo.specs.declared.action.Action.{Action}
 use Rattle.s3_solo.specs.declared.action.Did.TheVariants.{Acted}
 use Rattle.s3_solo.specs.Solo.{closed, step_of}
 use Rattle.s3_solo.specs.World.{World}
 use Rattle.s3_level.specs.declared.level.Level.{Level}
 use Rattle.s3_level.specs.declared.taken.Taken.{Taken}
-use Rattle.s3_level.specs.Holds.{Around, Becomes, Holds, IsReady, IsUpTo, Repeats, Spares}
+use Rattle.s3_level.specs.Inner.Holds.{Around, Becomes, Holds, IsReady, IsUpTo, Repeats, Spares}
 use Rattle.s3_bureau.specs.declared.bureau.Phase.TheVariants.{Open, Finished, Stopped}
-use Rattle.s3_bureau.specs.Held.{HasNoWork, IsCommon, IsDone, IsOwn, IsReadyFor, State, header_of, is_open, level_of, rests}
+use Rattle.s3_bureau.specs.Inner.Held.{HasNoWork, IsDone, IsReadyFor, State, header_of, is_open, level_of, rests}
+use Rattle.s3_bureau.specs.Sharing.{IsCommon, IsOwn}
 
 -- ---- one level, and what is beside it
 -- an entry was performed so many times, or it stopped: then it would have acted, and the drained lines are the same

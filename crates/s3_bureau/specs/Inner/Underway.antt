@@ -7,17 +7,18 @@ use Rattle.s3_cards.specs.declared.levels.LevelId.{LevelId}
 use Rattle.s3_cards.specs.declared.levels.LevelId.TheVariants.{One, Two}
 use Rattle.s3_cards.specs.Deck.{deck_of}
 use Rattle.s3_store.specs.Contents.{sectors_of}
-use Rattle.s3_store.specs.State.{KeepsInStep}
+use Rattle.s3_store.specs.Inner.State.{KeepsInStep}
 use Rattle.s3_slots.specs.Header.{mounted, region_of}
 use Rattle.s3_slots.specs.Slots.{slots_of}
 use Rattle.s3_labels.specs.Areas.{area_of}
 use Rattle.s3_slots.specs.declared.header.Header.{Header}
-use Rattle.s3_solo.specs.Lines.{drained_lines}
+use Rattle.s3_solo.specs.Inner.Lines.{drained_lines}
 use Rattle.s3_solo.specs.World.{World}
 use Rattle.s3_solo.specs.Solo.{solo, closed}
 use Rattle.s3_bureau.specs.declared.entry.Entry.{Entry}
 use Rattle.s3_bureau.specs.Entries.{own}
-use Rattle.s3_bureau.specs.Held.{HoldsFor, IsCommon, IsOwn, IsSaid, State, header_of, level_of, rests}
+use Rattle.s3_bureau.specs.Inner.Held.{HoldsFor, IsSaid, State, header_of, level_of, rests}
+use Rattle.s3_bureau.specs.Sharing.{IsCommon, IsOwn}
 use Rattle.s3_bureau.specs.declared.outcome.Outcome.{Outcome}
 use Rattle.s3_bureau.specs.declared.run_fault.RunFault.{RunFault}
 use Rattle.s3_bureau.specs.declared.run_fault.RunFault.TheVariants.{Script, Mount, Device, NoMemory}

@@ -6,10 +6,10 @@ use Rattle.s3_lines.specs.declared.sheet.Line.{Line}
 use Rattle.s3_meaning.specs.Source.{reserved_shapes, input_line, calculation_line}
 use Rattle.s3_program.specs.declared.definitions.Definitions.{Definitions}
 use Rattle.s3_program.specs.declared.program.Meaning.{Meaning}
-use Rattle.s3_program.specs.Given.{firsts, files_given}
+use Rattle.s3_program.specs.Inner.Given.{firsts, files_given}
 use Rattle.s3_program.specs.Standings.{first_calculation}
 use Rattle.s3_program.specs.Tables.{meaning_of}
-use Rattle.s3_program.specs.Translation.{tables_in}
+use Rattle.s3_program.specs.Inner.Translation.{tables_in}
 use Rattle.s3_diagnose.specs.declared.tables.KnownTables.{KnownTables}
 use Rattle.s3_diagnose.specs.Known.{meant_input, meant_calculation}
 use Rattle.s3_diagnose.specs.Lookups.{fields_given, tags_from, subroutines_from}

@@ -9,7 +9,7 @@ use Rattle.s3_meaning.specs.Names.{same_indicator}
 use Rattle.s3_meaning.specs.Source.{Source}
 use Rattle.s3_program.specs.declared.program.Program.{Program}
 use Rattle.s3_program.specs.declared.starts.TypeStart.{TypeStart}
-use Rattle.s3_match.specs.Types.{kind_at}
+use Rattle.s3_match.specs.Inner.Types.{kind_at}
 
 -- what is left of an indicator when these go off
 abbrev pub turned_off : List Indicator → Indicator → Bool → Bool

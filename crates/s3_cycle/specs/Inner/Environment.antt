@@ -4,13 +4,13 @@ use Rattle.s3_cards.specs.declared.name.Name.{Name}
 use Rattle.s3_meaning.specs.Environment.{Environment, no_remainder}
 use Rattle.s3_meaning.specs.Requests as Meant
 use Rattle.s3_program.specs.declared.program.Program.{Program}
-use Rattle.s3_program.specs.Tables.{slot_in}
-use Rattle.s3_operations.specs.Fits.{tables}
-use Rattle.s3_operations.specs.Held.{held}
-use Rattle.s3_match.specs.Controls.{held_in}
+use Rattle.s3_program.specs.Inner.Tables.{slot_in}
+use Rattle.s3_operations.specs.Inner.Fits.{tables}
+use Rattle.s3_operations.specs.Inner.Held.{held}
+use Rattle.s3_match.specs.Inner.Controls.{held_in}
 use Rattle.s3_cycle.specs.declared.request.Current.{Current}
 use Rattle.s3_cycle.specs.declared.state.State.{State}
-use Rattle.s3_cycle.specs.Requests.{current_of}
+use Rattle.s3_cycle.specs.Inner.Requests.{current_of}
 
 -- the current record of each file, by its name
 abbrev pub current_in : Program → List (Option Current) → Name → Option Meant.Current

@@ -19,17 +19,17 @@ use Rattle.s3_program.specs.declared.program.Reference.TheVariants.{File}
 use Rattle.s3_program.specs.declared.starts.TypeStart.{TypeStart}
 use Rattle.s3_program.specs.declared.starts.Walk.{Walk}
 use Rattle.s3_program.specs.declared.starts.Walk.TheVariants as walk
-use Rattle.s3_program.specs.Stands.{source_named}
-use Rattle.s3_operations.specs.Held.{IsSound as AreValues}
+use Rattle.s3_program.specs.Inner.Stands.{source_named}
+use Rattle.s3_operations.specs.Inner.Held.{IsSound as AreValues}
 use Rattle.s3_match.specs.declared.heads.InputFile.{InputFile}
 use Rattle.s3_match.specs.declared.heads.Standing.TheVariants.{Stands}
-use Rattle.s3_match.specs.Heads.{file_at}
-use Rattle.s3_match.specs.Reading.{IsReading, IsUnreadAt, input_at}
-use Rattle.s3_match.specs.Types.{is_type_start}
-use Rattle.s3_sections.specs.Courses.{IsCourse}
-use Rattle.s3_prepared.specs.Prepared.{ArePrepared}
-use Rattle.s3_fields.specs.Inputs.{ArePreparedInputs}
-use Rattle.s3_output.specs.Guards.{AreGuarded}
+use Rattle.s3_match.specs.Inner.Heads.{file_at}
+use Rattle.s3_match.specs.Inner.Reading.{IsReading, IsUnreadAt, input_at}
+use Rattle.s3_match.specs.Inner.Types.{is_type_start}
+use Rattle.s3_sections.specs.Inner.Courses.{IsCourse}
+use Rattle.s3_prepared.specs.Inner.Prepared.{ArePrepared}
+use Rattle.s3_fields.specs.Inner.Inputs.{ArePreparedInputs}
+use Rattle.s3_output.specs.Inner.Guards.{AreGuarded}
 use Rattle.s3_cycle.specs.declared.progress.Progress.{Progress}
 use Rattle.s3_cycle.specs.declared.progress.Selection.{Selection}
 use Rattle.s3_cycle.specs.declared.progress.Time.{Time}
@@ -44,8 +44,8 @@ use Rattle.s3_cycle.specs.declared.request.Request.{Request}
 use Rattle.s3_cycle.specs.declared.request.Request.TheVariants as asks
 use Rattle.s3_cycle.specs.declared.state.State.{State}
 use Rattle.s3_cycle.specs.declared.stepper.Stepper.{Stepper}
-use Rattle.s3_cycle.specs.Requests.{IsLine, FitsFile}
-use Rattle.s3_cycle.specs.Rest.{rest, inputs_in, moved_bytes, selected_bytes, fields_at}
+use Rattle.s3_cycle.specs.Inner.Requests.{IsLine, FitsFile}
+use Rattle.s3_cycle.specs.Inner.Rest.{rest, inputs_in, moved_bytes, selected_bytes, fields_at}
 use Rattle.s3_cycle.specs.Inner.Environment.{environment}
 
 -- ---- where a run stands

@@ -7,12 +7,12 @@ use Rattle.s3_meaning.specs.OutputLines.{Output}
 use Rattle.s3_meaning.specs.Output.{is_served, line_holds}
 use Rattle.s3_program.specs.declared.starts.OutputStart.{OutputStart}
 use Rattle.s3_program.specs.declared.starts.Walk.{Walk}
-use Rattle.s3_program.specs.Started.{output_at}
-use Rattle.s3_operations.specs.Fits.{tables}
+use Rattle.s3_program.specs.Inner.Started.{output_at}
+use Rattle.s3_operations.specs.Inner.Fits.{tables}
 use Rattle.s3_cycle.specs.declared.stepper.Stepper.{Stepper}
 use Rattle.s3_cycle.specs.declared.went.Went.{Went}
 use Rattle.s3_cycle.specs.declared.went.Went.TheVariants as went
-use Rattle.s3_cycle.specs.Rest.{starts_of, is_at_overflow, lines_then, lines_from}
+use Rattle.s3_cycle.specs.Inner.Rest.{starts_of, is_at_overflow, lines_then, lines_from}
 use Rattle.s3_cycle.specs.Inner.Going.{own, held_by, here, GoesOn}
 
 -- a file is there, and used

@@ -4,11 +4,11 @@ use Rattle.s3_meaning.specs.OutputLines.{Output}
 use Rattle.s3_meaning.specs.Source.{is_printer}
 use Rattle.s3_meaning.specs.Output.{composed}
 use Rattle.s3_program.specs.declared.starts.OutputStart.{OutputStart}
-use Rattle.s3_output.specs.Compositions.{first_position}
-use Rattle.s3_output.specs.Lines.{IsLineAt}
-use Rattle.s3_match.specs.Heads.{file_at}
+use Rattle.s3_output.specs.Inner.Compositions.{first_position}
+use Rattle.s3_output.specs.Inner.Lines.{IsLineAt}
+use Rattle.s3_match.specs.Inner.Heads.{file_at}
 use Rattle.s3_cycle.specs.declared.stepper.Stepper.{Stepper}
-use Rattle.s3_cycle.specs.Requests.{IsDiskFile, TakesRecord}
+use Rattle.s3_cycle.specs.Inner.Requests.{IsDiskFile, TakesRecord}
 use Rattle.s3_cycle.specs.Inner.Environment.{environment}
 use Rattle.s3_cycle.specs.Inner.Going.{AreSound, own, held_by}
 

@@ -3,11 +3,11 @@ use Rattle.std.specs.Prelude.{◌≡◌, ℕ, true, Some}
 use Rattle.std.specs.List.{All}
 use Rattle.s3_meaning.specs.Environment.{Environment, turn}
 use Rattle.s3_meaning.specs.Selection.{Selected, broken, is_matched, taken}
-use Rattle.s3_match.specs.Reading.{IsReading, reading_in}
-use Rattle.s3_match.specs.Selecting.{selected_at}
+use Rattle.s3_match.specs.Inner.Reading.{IsReading, reading_in}
+use Rattle.s3_match.specs.Inner.Selecting.{selected_at}
 use Rattle.s3_cycle.specs.declared.progress.Selection.{Selection}
 use Rattle.s3_cycle.specs.declared.stepper.Stepper.{Stepper}
-use Rattle.s3_cycle.specs.Rest.{selected_of}
+use Rattle.s3_cycle.specs.Inner.Rest.{selected_of}
 use Rattle.s3_cycle.specs.Inner.Going.{IsTaken, IsHeadWithin}
 
 -- the head of the file at the place is taken, and is the record that is processed

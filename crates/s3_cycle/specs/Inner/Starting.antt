@@ -4,12 +4,12 @@ use Rattle.std.specs.List.{All}
 use Rattle.s3_meaning.specs.Environment.{at_first}
 use Rattle.s3_meaning.specs.Cycle.{Req, first_reading}
 use Rattle.s3_program.specs.declared.program.Program.{Program}
-use Rattle.s3_program.specs.Stands.{source_named}
-use Rattle.s3_match.specs.Reading.{IsReading, reading_in}
+use Rattle.s3_program.specs.Inner.Stands.{source_named}
+use Rattle.s3_match.specs.Inner.Reading.{IsReading, reading_in}
 use Rattle.s3_cycle.specs.declared.progress.Progress.{Progress}
 use Rattle.s3_cycle.specs.declared.state.State.{State}
 use Rattle.s3_cycle.specs.declared.stepper.Stepper.{Stepper}
-use Rattle.s3_cycle.specs.Rest.{rest}
+use Rattle.s3_cycle.specs.Inner.Rest.{rest}
 use Rattle.s3_cycle.specs.Inner.Environment.{environment}
 use Rattle.s3_cycle.specs.Inner.Going.{AreSound, CanBegin, IsHeadWithin, IsWaiting}
 

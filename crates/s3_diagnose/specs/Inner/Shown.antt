@@ -4,7 +4,7 @@ use Rattle.indexmap.specs.IndexSet.{contains}
 use Rattle.s3_cards.specs.Names.{same_name}
 use Rattle.s3_program.specs.Jumps.{same_call}
 use Rattle.s3_program.specs.Tables.{meaning_of}
-use Rattle.s3_program.specs.Translation.{tables_in}
+use Rattle.s3_program.specs.Inner.Translation.{tables_in}
 use Rattle.s3_program.specs.Matching.{Marks, same_group_mark, same_type_mark, same_level, same_type}
 use Rattle.s3_diagnose.specs.Lookups.{Known}
 use Rattle.s3_diagnose.specs.declared.tables.MarkTables.{MarkTables}

@@ -3,7 +3,7 @@ use Rattle.std.specs.Prelude.{◌≡◌, ◌≤◌, Result, Ok, Err}
 use Rattle.s3_store.specs.declared.pool_fault.PoolFault.{PoolFault}
 use Rattle.s3_labels.specs.declared.fault.ChangeFault.{ChangeFault}
 use Rattle.s3_labels.specs.declared.fault.ChangeFault.TheVariants.{Label, Sectors}
-use Rattle.s3_files.specs.Files.{FileShape}
+use Rattle.s3_files.specs.Inner.Files.{FileShape}
 use Rattle.s3_keyed.specs.declared.fault.KeyedFault.{KeyedFault}
 use Rattle.s3_keyed.specs.declared.fault.KeyedFault.TheVariants.{Pool}
 

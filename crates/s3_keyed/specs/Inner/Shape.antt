@@ -5,7 +5,8 @@ use Rattle.s3_slots.specs.Slots.{record_sectors}
 use Rattle.s3_keyed.specs.declared.indexed.IndexedFile.{IndexedFile}
 use Rattle.s3_keyed.specs.declared.indexed.IndexEntry.{IndexEntry}
 use Rattle.s3_keyed.specs.KeyOrder.{number_of, Entry}
-use Rattle.s3_keyed.specs.Index.{Layout, keys_at, entry_in}
+use Rattle.s3_keyed.specs.Index.{Layout, entry_in}
+use Rattle.s3_keyed.specs.Inner.Index.{keys_at}
 
 abbrev pub layout_in : IndexedFile → Layout
 layout_in f = record {

@@ -4,7 +4,7 @@ use Rattle.std.specs.Prelude.{◌≡◌, ◌<◌, ℕ, length, Bool, List, ◌�
 use Rattle.s3_operator.specs.declared.halt_code.HaltCode.{HaltCode}
 use Rattle.s3_operator.specs.Replies.{is_allowed}
 use Rattle.s3_meaning.specs.Requests.{Request, Ask, End, Jump, Answer, Done}
-use Rattle.s3_cycle.specs.Following.{Resumes, asked, waits, is_fit}
+use Rattle.s3_cycle.specs.Inner.Following.{Resumes, asked, waits, is_fit}
 use Rattle.s3_cycle.specs.declared.request.Request.{Request as ProgramRequest}
 use Rattle.s3_cycle.specs.declared.request.Request.TheVariants as asks
 use Rattle.s3_cycle.specs.declared.request.Answer.{Answer as ProgramAnswer}
@@ -23,17 +23,17 @@ use Rattle.s3_level.specs.declared.next.Next.TheVariants.{Halts, IsOver, GoesOn}
 use Rattle.s3_solo.specs.World.{World, JobAtWork}
 use Rattle.s3_solo.specs.Serving.{Outcome, pending, standing_at, started, with_jobs, begun, with_answer, in_use, file_served}
 use Rattle.s3_job_files.specs.Files.{FilesInUse}
-use Rattle.s3_job_files.specs.Holds.{Seen, TakesRecord, Holds as HoldsInUse, Serves as Serving}
+use Rattle.s3_job_files.specs.Inner.Holds.{Seen, TakesRecord, Holds as HoldsInUse, Serves as Serving}
 use Rattle.s3_job_files.specs.declared.file.OpenFile.{OpenFile}
 use Rattle.s3_slots.specs.Labels.{is_indexed}
 use Rattle.s3_meaning.specs.Output.{filled}
-use Rattle.s3_cycle.specs.Requests.{current_of, sought_of}
+use Rattle.s3_cycle.specs.Inner.Requests.{current_of, sought_of}
 use Rattle.s3_cycle.specs.declared.request.Sought.{Sought}
 use Rattle.s3_cycle.specs.declared.request.Sought.TheVariants as sought
 use Rattle.s3_job_files.specs.Requests as files
 use Rattle.s3_job_files.specs.Requests.{Served}
 use Rattle.s3_solo.specs.Solo.{step_of}
-use Rattle.s3_level.specs.Holds.{Repeats, Steps}
+use Rattle.s3_level.specs.Inner.Holds.{Repeats, Steps}
 
 -- ---- a job at work
 -- the pending request of an open job, and as the meaning has it

@@ -6,10 +6,10 @@ use Rattle.s3_meaning.specs.Source.{is_input}
 use Rattle.s3_meaning.specs.Cycle.{first_standing}
 use Rattle.s3_program.specs.declared.program.Program.{Program}
 use Rattle.s3_match.specs.declared.heads.InputFile.{InputFile}
-use Rattle.s3_match.specs.Heads.{file_at, input_of, IsInput}
-use Rattle.s3_match.specs.Selecting.{inputs_of}
-use Rattle.s3_match.specs.Reading.{is_input_slot, slots_of}
-use Rattle.s3_match.specs.Beginning.{BeginsWith}
+use Rattle.s3_match.specs.Inner.Heads.{file_at, input_of, IsInput}
+use Rattle.s3_match.specs.Inner.Selecting.{inputs_of}
+use Rattle.s3_match.specs.Inner.Reading.{is_input_slot, slots_of}
+use Rattle.s3_match.specs.Inner.BeginningEnvironment.{BeginsWith}
 
 -- the file of a slot as a job begins
 pub record IsFirst (program : Program) (switches slot : ℕ) (input : InputFile) : Type 0 where

@@ -9,8 +9,8 @@ use Rattle.s3_meaning.specs.Selection.{same_key}
 use Rattle.s3_program.specs.declared.mark.Key.TheVariants as key
 use Rattle.s3_program.specs.declared.program.Reference.{Reference}
 use Rattle.s3_match.specs.declared.held.HeldField.{HeldField}
-use Rattle.s3_match.specs.Controls.{held_in}
-use Rattle.s3_match.specs.Fields.{field_on, first_field}
+use Rattle.s3_match.specs.Inner.Controls.{held_in}
+use Rattle.s3_match.specs.Inner.Fields.{field_on, first_field}
 use Rattle.s3_match.specs.Inner.ControlFields.{compared_on}
 
 -- whether a line with the level was seen, L1 first

@@ -1,6 +1,6 @@
 //! A level by itself over a pack.
-ghost use Rattle.s3_job_files.specs.Holds.{seen};
-ghost use Rattle.s3_level.specs.Holds.{AreAll, IsReady};
+ghost use Rattle.s3_job_files.specs.Inner.Holds.{seen};
+ghost use Rattle.s3_level.specs.Inner.Holds.{AreAll, IsReady};
 
 use crate::bureau::packs::new_pack;
 use s3_cards::{Deck, LevelId};

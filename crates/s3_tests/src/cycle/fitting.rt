@@ -1,6 +1,6 @@
 //! A cycle goes on with the answers that it takes.
 ghost use Rattle.std.specs.Prelude.{◌≡◌};
-ghost use Rattle.s3_cycle.specs.Following.{is_fit};
+ghost use Rattle.s3_cycle.specs.Inner.Following.{is_fit};
 
 use s3_cycle::{Answer, Cycle, fits};
 

@@ -1,5 +1,5 @@
 //! Jobs that run through the cycle.
-ghost use Rattle.s3_operations.specs.Beginning.{IsDate};
+ghost use Rattle.s3_operations.specs.Inner.Beginning.{IsDate};
 
 use crate::cycle::fitting::goes_on;
 use crate::cycle::list_file::{Held, ListFile, Record};

@@ -1,8 +1,8 @@
 //! Each byte of a header, of a label and of an index set to 00 and to ff. The letters wanted were worked by a program written
 //! from the rules of packs alone.
 ghost use Rattle.std.specs.Prelude.{◌≡◌, ◌≤◌, ◌<◌, IfOk, length};
-ghost use Rattle.s3_slots.specs.Making.{IsNewFile};
-ghost use Rattle.s3_labels.specs.Areas.{IsReady};
+ghost use Rattle.s3_slots.specs.Inner.Making.{IsNewFile};
+ghost use Rattle.s3_labels.specs.Inner.Areas.{IsReady};
 
 use crate::files::fixtures::{INDEX, RECORDS, blank_store, label_of, record};
 use s3_cards::ebcdic::{BLANK, LETTER_A, LETTER_B, LETTER_C};

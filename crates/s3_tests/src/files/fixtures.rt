@@ -1,8 +1,8 @@
 //! Labels of files over the first track of level 1 of a new pack, and the records in them.
 ghost use Rattle.std.specs.Prelude.{◌≡◌, ◌≤◌, ℕ, List, length, IfOk};
 ghost use Rattle.s3_slots.specs.Labels.{sectors_of};
-ghost use Rattle.s3_files.specs.Files.{HasRoom, AreStored};
-ghost use Rattle.s3_keyed.specs.Index.{HasIndex};
+ghost use Rattle.s3_files.specs.Inner.Files.{HasRoom, AreStored};
+ghost use Rattle.s3_keyed.specs.Inner.Index.{HasIndex};
 
 use s3_cards::ebcdic::BLANK;
 use s3_cards::{Name, Retention};

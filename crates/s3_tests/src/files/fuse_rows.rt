@@ -1,7 +1,7 @@
 //! A run that makes, loads, adds and closes, over a store that fails at each of its calls in turn.
 ghost use Rattle.std.specs.Prelude.{◌≡◌};
-ghost use Rattle.s3_slots.specs.Making.{IsNewFile};
-ghost use Rattle.s3_labels.specs.Areas.{IsReady};
+ghost use Rattle.s3_slots.specs.Inner.Making.{IsNewFile};
+ghost use Rattle.s3_labels.specs.Inner.Areas.{IsReady};
 
 use crate::files::fixtures::{RECORDS, label_of, record};
 use s3_cards::ebcdic::BLANK;

@@ -1,9 +1,9 @@
 //! Files that a pack has made.
 ghost use Rattle.std.specs.Prelude.{◌≡◌};
-ghost use Rattle.s3_slots.specs.Making.{IsNewFile};
+ghost use Rattle.s3_slots.specs.Inner.Making.{IsNewFile};
 ghost use Rattle.s3_slots.specs.declared.label.Organization.TheVariants.{Direct as DirectVariant};
-ghost use Rattle.s3_files.specs.Files.{AreStored};
-ghost use Rattle.s3_labels.specs.Areas.{IsReady};
+ghost use Rattle.s3_files.specs.Inner.Files.{AreStored};
+ghost use Rattle.s3_labels.specs.Inner.Areas.{IsReady};
 
 use crate::files::fixtures::record;
 use s3_cards::ebcdic::BLANK;

@@ -1,7 +1,7 @@
 //! Calls on the files of a job, with what they require tested.
 ghost use Rattle.std.specs.Prelude.{◌≡◌, [], OnOk};
-ghost use Rattle.s3_labels.specs.Areas.{IsReady as IsPackReady};
-ghost use Rattle.s3_job_files.specs.Holds.{seen, IsReady};
+ghost use Rattle.s3_labels.specs.Inner.Areas.{IsReady as IsPackReady};
+ghost use Rattle.s3_job_files.specs.Inner.Holds.{seen, IsReady};
 
 use crate::job_files::fault::Fault;
 use crate::job_files::packs::{Label, RECORD_BYTES, Record, name_of};

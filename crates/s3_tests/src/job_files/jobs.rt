@@ -1,7 +1,7 @@
 //! Jobs over a pack, one after another.
 ghost use Rattle.std.specs.Prelude.{◌≡◌, OnOk};
-ghost use Rattle.s3_labels.specs.Areas.{IsReady as IsPackReady};
-ghost use Rattle.s3_job_files.specs.Holds.{seen, IsReady};
+ghost use Rattle.s3_labels.specs.Inner.Areas.{IsReady as IsPackReady};
+ghost use Rattle.s3_job_files.specs.Inner.Holds.{seen, IsReady};
 
 use crate::job_files::calls::{Call, Outcome, begin, make_call, open};
 use crate::job_files::fault::Fault;

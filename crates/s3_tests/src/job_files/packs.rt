@@ -1,9 +1,9 @@
 //! Packs in memory, and the files that are made on them.
 ghost use Rattle.std.specs.Prelude.{◌≡◌, ◌≤◌, true};
 ghost use Rattle.s3_cards.specs.Names.{is_name};
-ghost use Rattle.s3_slots.specs.Making.{IsNewFile, IsSize};
+ghost use Rattle.s3_slots.specs.Inner.Making.{IsNewFile, IsSize};
 ghost use Rattle.s3_slots.specs.Slots.{is_key_of};
-ghost use Rattle.s3_labels.specs.Areas.{IsReady};
+ghost use Rattle.s3_labels.specs.Inner.Areas.{IsReady};
 
 use crate::job_files::fault::Fault;
 use s3_cards::ebcdic::BLANK;

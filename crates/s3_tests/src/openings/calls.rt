@@ -1,10 +1,10 @@
 //! The start of a job of level 1, with its answers by their names.
 ghost use Rattle.std.specs.Prelude.{◌≡◌, true, IfOk};
 ghost use Rattle.std.specs.List.{list_all};
-ghost use Rattle.s3_lines.specs.Ranges.{file_in_range};
-ghost use Rattle.s3_ocl.specs.Sound.{is_sound_file};
-ghost use Rattle.s3_labels.specs.Areas.{IsReady as IsPackReady};
-ghost use Rattle.s3_job_files.specs.Holds.{seen, IsReady};
+ghost use Rattle.s3_lines.specs.Inner.Ranges.{file_in_range};
+ghost use Rattle.s3_ocl.specs.Inner.Sound.{is_sound_file};
+ghost use Rattle.s3_labels.specs.Inner.Areas.{IsReady as IsPackReady};
+ghost use Rattle.s3_job_files.specs.Inner.Holds.{seen, IsReady};
 
 use s3_cards::LevelId;
 use s3_cards::ebcdic::DIGIT_0;

@@ -2,10 +2,10 @@
 ghost use Rattle.std.specs.Prelude.{◌≡◌, [], ◌∷◌, true, IfOk, OnOk};
 ghost use Rattle.std.specs.List.{list_all};
 ghost use Rattle.s3_cards.specs.Names.{is_name, name_of};
-ghost use Rattle.s3_lines.specs.Ranges.{file_in_range, is_named};
-ghost use Rattle.s3_ocl.specs.Sound.{is_sound_file};
-ghost use Rattle.s3_labels.specs.Areas.{IsReady as IsPackReady};
-ghost use Rattle.s3_opening.specs.Samples.{line as sample_line};
+ghost use Rattle.s3_lines.specs.Inner.Ranges.{file_in_range, is_named};
+ghost use Rattle.s3_ocl.specs.Inner.Sound.{is_sound_file};
+ghost use Rattle.s3_labels.specs.Inner.Areas.{IsReady as IsPackReady};
+ghost use Rattle.s3_opening.specs.Inner.Samples.{line as sample_line};
 
 use crate::openings::calls::{DATE, Fault, Halt, start};
 use s3_cards::{LevelId, Name, Retention};

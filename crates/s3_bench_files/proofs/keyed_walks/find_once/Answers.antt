@@ -1,6 +1,6 @@
 use Rattle.std.proofs.Common.{◌≡◌, List, ℕ, subst, rules}
-use Rattle.s3_files.specs.Files.{AreStored}
-use Rattle.s3_keyed.specs.Keyed.{shown}
+use Rattle.s3_files.specs.Inner.Files.{AreStored}
+use Rattle.s3_keyed.specs.Inner.Keyed.{shown}
 use Rattle.s3_bench_files.proofs.keyed_walks.find_once.Goals as goal
 
 pub find-found-requires-clause-stored : goal.find-found-requires-clause-stored

@@ -1,5 +1,5 @@
 use Rattle.std.proofs.Common.{◌≡◌}
-use Rattle.s3_files.specs.Files.{AreStored}
+use Rattle.s3_files.specs.Inner.Files.{AreStored}
 use Rattle.s3_bench_files.proofs.record_walks.load.Given as goal
 
 abbrev pub invariant-loop-i : goal.invariant-loop-i

@@ -1,6 +1,6 @@
 -- The text so far is that of the halts so far.
 use Rattle.std.proofs.Common.{◌≡◌, map, take, vec_items}
-use Rattle.s3_operator.specs.Halts.{halt_of}
+use Rattle.s3_operator.specs.Inner.Halts.{halt_of}
 use Rattle.s3_bureau.specs.Texts.{halt_text_of}
 use Rattle.s3_bureau.proofs.halts.halt_text.Given as goal
 

@@ -1,6 +1,6 @@
 use Rattle.std.proofs.Common.{arith}
 use Rattle.std.proofs.lemmas.List.{take_more}
-use Rattle.s3_bureau.specs.Held.{held_by}
+use Rattle.s3_bureau.specs.Inner.Held.{held_by}
 use Rattle.s3_bureau.proofs.Performing.{command_more, commands_leave, commands_stopped}
 use Rattle.s3_bureau.proofs.runs.perform.Goals as goal
 

@@ -1,6 +1,6 @@
 -- The commands so far were performed, and the bureau is open.
 use Rattle.std.proofs.Common.{◌≡◌, take, true}
-use Rattle.s3_bureau.specs.Held.{held_by, is_open}
+use Rattle.s3_bureau.specs.Inner.Held.{held_by, is_open}
 use Rattle.std.specs.List.{flat_map}
 use Rattle.s3_bureau.specs.Inner.Underway.{KeepSaying, Leaves, Performs}
 use Rattle.s3_bureau.specs.Script.{entries_by}

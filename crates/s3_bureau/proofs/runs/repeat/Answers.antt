@@ -1,5 +1,5 @@
 use Rattle.std.proofs.Common.{◌≡◌, ◌+◌, ◌-◌, ℕ, replicate, subst, arith}
-use Rattle.s3_bureau.specs.Held.{held_by}
+use Rattle.s3_bureau.specs.Inner.Held.{held_by}
 use Rattle.s3_bureau.specs.Inner.Underway.{Leaves, Performs}
 use Rattle.s3_bureau.proofs.Performing.{leaves_entry, leaves_more, leaves_stopped, times_more}
 use Rattle.s3_bureau.proofs.runs.repeat.Goals as goal

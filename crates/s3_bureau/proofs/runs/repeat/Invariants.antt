@@ -1,6 +1,6 @@
 -- The entry was performed so many times, and the bureau is open.
 use Rattle.std.proofs.Common.{◌≡◌, ◌≤◌, ◌-◌, replicate, true}
-use Rattle.s3_bureau.specs.Held.{held_by, is_open}
+use Rattle.s3_bureau.specs.Inner.Held.{held_by, is_open}
 use Rattle.s3_bureau.specs.Inner.Underway.{KeepSaying, Leaves, Performs}
 use Rattle.s3_bureau.proofs.runs.repeat.Given as goal
 

@@ -1,5 +1,5 @@
 use Rattle.std.proofs.Common.{◌∙◌}
-use Rattle.s3_bureau.specs.Held.{held_by}
+use Rattle.s3_bureau.specs.Inner.Held.{held_by}
 use Rattle.s3_bureau.proofs.Performing.{sectors_left}
 use Rattle.s3_bureau.proofs.Running.{files_stand, slots_stand, texts_shown}
 use Rattle.s3_bureau.proofs.runs.served.Goals as goal

@@ -4,7 +4,7 @@ use Rattle.s3_lines.specs.declared.sheet.InputLine.{InputLine}
 use Rattle.s3_program.specs.declared.program.Meaning.{Meaning}
 use Rattle.s3_program.specs.Matching.{marks_of}
 use Rattle.s3_program.specs.Tables.{meaning_of}
-use Rattle.s3_program.specs.Translation.{tables_in}
+use Rattle.s3_program.specs.Inner.Translation.{tables_in}
 use Rattle.s3_diagnose.specs.Inner.Shown.{marks_shown}
 use Rattle.s3_compile.proofs.Ranging.{ranged_meant_inputs}
 use Rattle.s3_compile.proofs.known.mark.Goals as goal

@@ -1,7 +1,7 @@
 use Rattle.std.specs.Prelude.{filter_map, List}
 use Rattle.s3_lines.specs.declared.sheet.Line.{Line}
 use Rattle.s3_meaning.specs.Source.{calculation_line}
-use Rattle.s3_program.specs.Given.{firsts}
+use Rattle.s3_program.specs.Inner.Given.{firsts}
 use Rattle.s3_program.specs.Standings.{first_calculation}
 use Rattle.s3_diagnose.specs.Lookups.{subroutines_from}
 use Rattle.s3_compile.specs.Inner.Noted.{subroutine_on, calculation_behind}

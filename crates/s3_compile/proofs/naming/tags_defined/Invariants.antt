@@ -1,7 +1,7 @@
 use Rattle.std.proofs.Common.{◌≡◌, drop}
 use Rattle.std.specs.Prelude.{filter_map}
 use Rattle.s3_meaning.specs.Source.{calculation_line}
-use Rattle.s3_program.specs.Given.{all_noted, firsts}
+use Rattle.s3_program.specs.Inner.Given.{all_noted, firsts}
 use Rattle.s3_program.specs.Standings.{first_calculation}
 use Rattle.s3_diagnose.specs.Inner.Early.{IsWithin}
 use Rattle.s3_diagnose.specs.Lookups.{tags_from}

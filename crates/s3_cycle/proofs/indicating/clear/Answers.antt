@@ -1,8 +1,8 @@
 use Rattle.std.proofs.Common.{◌∙◌, ap, refl}
 use Rattle.s3_meaning.specs.Environment.{turn_levels}
 use Rattle.s3_meaning.specs.Cycle.{without_types}
-use Rattle.s3_program.specs.Stands.{source_named}
-use Rattle.s3_operations.specs.Held.{held}
+use Rattle.s3_program.specs.Inner.Stands.{source_named}
+use Rattle.s3_operations.specs.Inner.Held.{held}
 use Rattle.s3_cycle.proofs.ClearingLemmas.{types_cleared}
 use Rattle.s3_cycle.proofs.indicating.clear.Goals as goal
 

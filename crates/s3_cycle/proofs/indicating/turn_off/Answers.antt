@@ -1,6 +1,6 @@
 use Rattle.std.proofs.Common.{refl, arith, rules}
 use Rattle.s3_lines.specs.declared.indicator.Indicator.TheVariants.{LastRecord}
-use Rattle.s3_operations.specs.Indicators.{on_in}
+use Rattle.s3_operations.specs.Inner.Indicators.{on_in}
 use Rattle.s3_cycle.proofs.ClearingLemmas.{one_more_off, only_off}
 use Rattle.s3_cycle.proofs.indicating.turn_off.Goals as goal
 

@@ -1,7 +1,7 @@
 use Rattle.std.proofs.Common.{◌≡◌, take}
 use Rattle.s3_lines.specs.declared.indicator.Indicator.{Indicator}
-use Rattle.s3_match.specs.Reading.{indicators_on}
-use Rattle.s3_operations.specs.Indicators.{on_in}
+use Rattle.s3_match.specs.Inner.Reading.{indicators_on}
+use Rattle.s3_operations.specs.Inner.Indicators.{on_in}
 use Rattle.s3_cycle.specs.Inner.Clearing.{turned_off}
 use Rattle.s3_cycle.proofs.indicating.turn_off.Given as goal
 

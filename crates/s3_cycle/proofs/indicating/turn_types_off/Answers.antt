@@ -1,6 +1,6 @@
 use Rattle.std.proofs.Common.{rules}
-use Rattle.s3_match.specs.Types.{is_type_start}
-use Rattle.s3_operations.specs.Indicators.{on_in}
+use Rattle.s3_match.specs.Inner.Types.{is_type_start}
+use Rattle.s3_operations.specs.Inner.Indicators.{on_in}
 use Rattle.s3_cycle.proofs.ClearingLemmas.{holds_at}
 use Rattle.s3_cycle.proofs.FileTypeLemmas.{one_type_off}
 use Rattle.s3_cycle.proofs.indicating.turn_types_off.Goals as goal

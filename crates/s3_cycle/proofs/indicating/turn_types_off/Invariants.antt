@@ -1,6 +1,6 @@
 use Rattle.std.proofs.Common.{◌≡◌, take}
 use Rattle.s3_lines.specs.declared.indicator.Indicator.{Indicator}
-use Rattle.s3_operations.specs.Indicators.{on_in}
+use Rattle.s3_operations.specs.Inner.Indicators.{on_in}
 use Rattle.s3_cycle.specs.Inner.Clearing.{shown_by, turned_off}
 use Rattle.s3_cycle.proofs.indicating.turn_types_off.Given as goal
 

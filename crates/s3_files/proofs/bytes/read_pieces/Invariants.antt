@@ -1,5 +1,5 @@
 use Rattle.std.proofs.Common.{◌≡◌, ◌-◌, ◌≤◌, length, take}
-use Rattle.s3_store.specs.State.{KeepsContents}
+use Rattle.s3_store.specs.Inner.State.{KeepsContents}
 use Rattle.s3_store.specs.Bytes.{bytes_at, part}
 use Rattle.s3_files.proofs.bytes.read_pieces.Given as goal
 

@@ -1,7 +1,8 @@
 use Rattle.std.proofs.Common.{◌≡◌, ◌-◌, ◌≤◌, length, take}
 use Rattle.std.specs.List.{Contains}
-use Rattle.s3_store.specs.State.{ChangesWithin}
-use Rattle.s3_store.specs.Bytes.{bytes_at, part, SameOutside}
+use Rattle.s3_store.specs.Inner.State.{ChangesWithin}
+use Rattle.s3_store.specs.Bytes.{bytes_at, part}
+use Rattle.s3_store.specs.Inner.Bytes.{SameOutside}
 use Rattle.s3_files.proofs.bytes.write_pieces.Given as goal
 
 abbrev pub invariant-loop-done : goal.invariant-loop-done

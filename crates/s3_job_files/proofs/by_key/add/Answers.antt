@@ -1,5 +1,5 @@
 use Rattle.std.proofs.Common.{ap, sym, ◌∙◌}
-use Rattle.s3_keyed.specs.Keyed.{shown}
+use Rattle.s3_keyed.specs.Inner.Keyed.{shown}
 use Rattle.s3_job_files.specs.Records.{by_key}
 use Rattle.s3_job_files.proofs.Keys.{order_left, refusal_puts}
 use Rattle.s3_job_files.proofs.by_key.add.Goals as goal

@@ -1,9 +1,9 @@
 use Rattle.std.proofs.Common.{◌≡◌, length}
 use Rattle.std.specs.Vec.Iter.{into_iter_items, into_iter_len}
-use Rattle.s3_store.specs.State.{KeepsInStep}
-use Rattle.s3_labels.specs.Areas.{slots_at, with_slots}
-use Rattle.s3_labels.specs.Labelled.{KeepsSaid}
-use Rattle.s3_job_files.specs.Holds.{Seen, seen, IsOutOfReach, IsReady}
+use Rattle.s3_store.specs.Inner.State.{KeepsInStep}
+use Rattle.s3_labels.specs.Inner.Areas.{slots_at, with_slots}
+use Rattle.s3_labels.specs.Inner.Labelled.{KeepsSaid}
+use Rattle.s3_job_files.specs.Inner.Holds.{Seen, seen, IsOutOfReach, IsReady}
 use Rattle.s3_job_files.proofs.Closed.{ClosesAll}
 use Rattle.s3_job_files.proofs.closing.close_all.Given as goal
 

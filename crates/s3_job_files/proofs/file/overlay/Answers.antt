@@ -1,6 +1,6 @@
 use Rattle.std.proofs.Common.{◌≤◌, length, min, sym, ap, ◌∙◌, arith}
 use Rattle.std.proofs.lemmas.List.{length-set}
-use Rattle.s3_job_files.specs.Records.{changes_of}
+use Rattle.s3_job_files.specs.Inner.Records.{changes_of}
 use Rattle.s3_job_files.proofs.Overlaid.{have_all, laid_all, laid_one, past_all}
 use Rattle.s3_job_files.proofs.file.overlay.Goals as goal
 

@@ -1,6 +1,7 @@
 use Rattle.std.proofs.Common.{◌≡◌, ℕ, List, length}
 use Rattle.std.specs.Prelude.{Option}
-use Rattle.s3_job_files.specs.Records.{changes_of, overlaid}
+use Rattle.s3_job_files.specs.Inner.Records.{changes_of}
+use Rattle.s3_job_files.specs.Records.{overlaid}
 use Rattle.s3_job_files.proofs.Overlaid.{laid_to}
 use Rattle.s3_job_files.proofs.file.overlay.Given as goal
 

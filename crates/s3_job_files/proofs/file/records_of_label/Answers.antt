@@ -2,7 +2,7 @@ use Rattle.std.proofs.Common.{ap, sym, ◌∙◌}
 use Rattle.std.specs.Prelude.{is_some, true, false}
 use Rattle.s3_files.proofs.Rooms.{of_pack_room, of_pack_stored}
 use Rattle.s3_keyed.proofs.Indexes.{of_pack_index}
-use Rattle.s3_keyed.specs.Keyed.{KeyedFile, shown}
+use Rattle.s3_keyed.specs.Inner.Keyed.{KeyedFile, shown}
 use Rattle.s3_job_files.proofs.Checked.{keyed_good, keyed_kept, keyed_of_label, plain_good, plain_kept, plain_of_label, some_opened}
 use Rattle.s3_job_files.proofs.file.records_of_label.Goals as goal
 

@@ -2,7 +2,8 @@ use Rattle.std.proofs.Common.{◌≡◌, ◌*◌, ◌+◌, ◌-◌, ◌<◌, ◌
 use Rattle.std.specs.List.{range_with_len}
 use Rattle.s3_store.proofs.Frames.{keeps_trans}
 use Rattle.s3_store.specs.Bytes.{part}
-use Rattle.s3_keyed.specs.KeyOrder.{number_of, IsAscending}
+use Rattle.s3_keyed.specs.KeyOrder.{number_of}
+use Rattle.s3_keyed.specs.Inner.KeyOrder.{IsAscending}
 use Rattle.s3_keyed.specs.Index.{entry_at, index_in}
 use Rattle.s3_keyed.specs.Inner.Shape.{layout_in, bytes_in, keys_on, index_sector, entry_here, IsOfRecord}
 use Rattle.s3_keyed.proofs.Checked.{AreChecked, checked-none, checked-good, none_short, not_after}

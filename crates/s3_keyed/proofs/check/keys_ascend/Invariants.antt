@@ -1,5 +1,6 @@
 use Rattle.std.proofs.Common.{◌≡◌, ◌-◌, ◌<◌, ◌^◌}
-use Rattle.s3_keyed.specs.KeyOrder.{number_of, IsAscending}
+use Rattle.s3_keyed.specs.KeyOrder.{number_of}
+use Rattle.s3_keyed.specs.Inner.KeyOrder.{IsAscending}
 use Rattle.s3_keyed.specs.Inner.Shape.{entry_here}
 use Rattle.s3_keyed.proofs.check.keys_ascend.Given as goal
 

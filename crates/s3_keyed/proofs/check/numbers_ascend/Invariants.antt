@@ -1,5 +1,5 @@
 use Rattle.std.proofs.Common.{◌≡◌, ◌-◌}
-use Rattle.s3_keyed.specs.KeyOrder.{IsAscending}
+use Rattle.s3_keyed.specs.Inner.KeyOrder.{IsAscending}
 use Rattle.s3_keyed.specs.Inner.Shape.{entry_here}
 use Rattle.s3_keyed.proofs.check.numbers_ascend.Given as goal
 

@@ -1,6 +1,6 @@
 use Rattle.std.proofs.Common.{◌≡◌, ◌+◌, ◌^◌, ◌<◌, ◌≤◌, ℕ, true, length, map}
 use Rattle.std.specs.List.{All, Contains, range_with_len}
-use Rattle.s3_store.specs.State.{ChangesWithin}
+use Rattle.s3_store.specs.Inner.State.{ChangesWithin}
 use Rattle.s3_files.specs.Records.{records_in}
 use Rattle.s3_keyed.specs.KeyOrder.{ascends, keys_in, insert_entries}
 use Rattle.s3_keyed.specs.Index.{entry_at}

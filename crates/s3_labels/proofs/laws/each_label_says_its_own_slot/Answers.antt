@@ -2,7 +2,7 @@ use Rattle.std.proofs.Common.{refl}
 use Rattle.s3_cards.specs.Names.{is_word}
 use Rattle.s3_store.specs.Bytes.{sector_bytes}
 use Rattle.s3_slots.specs.Slots.{slots_of, standing}
-use Rattle.s3_labels.specs.Labelled.{slots_alone}
+use Rattle.s3_labels.specs.Inner.Labelled.{slots_alone}
 use Rattle.s3_labels.proofs.laws.each_label_says_its_own_slot.Goals as goal
 
 pub returns-clause-sound : goal.returns-clause-sound

@@ -1,6 +1,6 @@
 use Rattle.std.proofs.Common.{◌≡◌, sym, ap, ◌∙◌, arith, length}
 use Rattle.s3_slots.specs.Header.{mounted}
-use Rattle.s3_labels.specs.Images.{contents_of}
+use Rattle.s3_labels.specs.Contents.{contents_of}
 use Rattle.s3_labels.proofs.Regions.{mounted_region}
 use Rattle.s3_labels.proofs.Outcomes.{header_refused}
 use Rattle.s3_labels.proofs.new_packs.image_from_old.Goals as goal

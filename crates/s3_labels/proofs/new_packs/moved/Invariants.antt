@@ -1,5 +1,5 @@
 use Rattle.std.proofs.Common.{◌≡◌, take, map}
-use Rattle.s3_labels.specs.Images.{moved}
+use Rattle.s3_labels.specs.Inner.Images.{moved}
 use Rattle.s3_labels.proofs.new_packs.moved.Given as goal
 
 abbrev pub invariant-loop-extent : goal.invariant-loop-extent

@@ -1,5 +1,5 @@
 use Rattle.std.proofs.Common.{◌≡◌, length}
-use Rattle.s3_store.specs.State.{KeepsContents}
+use Rattle.s3_store.specs.Inner.State.{KeepsContents}
 use Rattle.s3_labels.proofs.Ways.{IsOnTheWay}
 use Rattle.s3_labels.proofs.reading.read_slots.Given as goal
 

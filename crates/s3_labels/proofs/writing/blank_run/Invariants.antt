@@ -1,5 +1,5 @@
 use Rattle.std.proofs.Common.{◌≡◌, ◌+◌, replicate}
-use Rattle.s3_store.specs.State.{ChangesWithin}
+use Rattle.s3_store.specs.Inner.State.{ChangesWithin}
 use Rattle.s3_slots.specs.Stretches.{IsIn}
 use Rattle.s3_labels.proofs.Blanks.{AreSet}
 use Rattle.s3_labels.proofs.writing.blank_run.Given as goal

@@ -1,7 +1,7 @@
 use Rattle.std.proofs.Common.{ap, rules, sym, ◌∙◌, length}
 use Rattle.s3_meaning.specs.Requests.{Key, RecordNumber}
-use Rattle.s3_job_files.specs.Calls.{found_answer}
-use Rattle.s3_cycle.specs.Requests.{sought_of}
+use Rattle.s3_job_files.specs.Inner.Calls.{found_answer}
+use Rattle.s3_cycle.specs.Inner.Requests.{sought_of}
 use Rattle.s3_cycle.specs.declared.request.Sought.TheVariants as sought
 use Rattle.s3_level.proofs.Requests.{chains_same, key_sought}
 use Rattle.s3_level.proofs.job.chain.Goals as goal

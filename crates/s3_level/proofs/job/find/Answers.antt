@@ -1,5 +1,5 @@
 use Rattle.std.proofs.Common.{length, sym, ◌∙◌}
-use Rattle.s3_job_files.specs.Calls.{found_answer}
+use Rattle.s3_job_files.specs.Inner.Calls.{found_answer}
 use Rattle.s3_cycle.specs.declared.request.Request.TheVariants as asks
 use Rattle.s3_level.proofs.Others.{others_kept}
 use Rattle.s3_level.proofs.Requests.{chain_long, found_if, read_long, serves_same, suits_same}

@@ -1,7 +1,7 @@
 use Rattle.std.proofs.Common.{refl}
 use Rattle.std.specs.Fmt.{digits}
 use Rattle.s3_cards.specs.Codes.{code_page}
-use Rattle.s3_listing.specs.Lines.{slot_line, fields_text}
+use Rattle.s3_listing.specs.Inner.Lines.{slot_line, fields_text}
 use Rattle.s3_listing.proofs.laws.slots_are_shown.Goals as goal
 
 pub returns : goal.returns

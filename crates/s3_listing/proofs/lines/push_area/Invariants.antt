@@ -1,6 +1,6 @@
 -- The lines of the slots so far.
 use Rattle.std.proofs.Common.{◌≡◌, ◌++◌, take, vec_items}
-use Rattle.s3_listing.specs.Listing.{area_text}
+use Rattle.s3_listing.specs.Inner.Listing.{area_text}
 use Rattle.s3_listing.proofs.lines.push_area.Given as goal
 
 abbrev pub invariant-loop-slot : goal.invariant-loop-slot

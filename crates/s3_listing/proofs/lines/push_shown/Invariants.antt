@@ -1,7 +1,7 @@
 -- The characters so far.
 use Rattle.std.proofs.Common.{◌≡◌, ◌++◌, take, vec_items}
 use Rattle.std.specs.Prelude.{map}
-use Rattle.s3_listing.specs.Lines.{shown_byte}
+use Rattle.s3_listing.specs.Inner.Lines.{shown_byte}
 use Rattle.s3_listing.proofs.lines.push_shown.Given as goal
 
 abbrev pub invariant-loop-code : goal.invariant-loop-code

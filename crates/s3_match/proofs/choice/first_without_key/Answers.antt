@@ -1,6 +1,6 @@
 use Rattle.std.proofs.Common.{◌≡◌, ◌∙◌, true, false, sym, refl, subst}
 use Rattle.s3_match.specs.declared.heads.InputFile.{InputFile}
-use Rattle.s3_match.specs.Choice.{is_keyless}
+use Rattle.s3_match.specs.Inner.Choice.{is_keyless}
 use Rattle.s3_match.proofs.ChoiceLemmas.{keyless_here, keyless_later, keyless_nowhere}
 use Rattle.s3_match.proofs.choice.first_without_key.Goals as goal
 

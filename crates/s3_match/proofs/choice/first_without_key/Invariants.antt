@@ -1,7 +1,7 @@
 use Rattle.std.proofs.Common.{◌≡◌, drop}
 use Rattle.std.specs.List.{All}
 use Rattle.s3_program.specs.declared.program.Program.{Program}
-use Rattle.s3_match.specs.Heads.{IsInput}
+use Rattle.s3_match.specs.Inner.Heads.{IsInput}
 use Rattle.s3_match.proofs.ChoiceLemmas.{keyless_in}
 use Rattle.s3_match.proofs.choice.first_without_key.Given as goal
 

@@ -1,8 +1,8 @@
 use Rattle.std.proofs.Common.{◌≡◌, ◌∙◌, ◌-◌, ◌+◌, length, true, false, sym, ap, subst, arith}
 use Rattle.std.specs.Prelude.{IfSome}
 use Rattle.s3_match.specs.declared.heads.InputFile.{InputFile}
-use Rattle.s3_match.specs.Keys.{key_in}
-use Rattle.s3_match.specs.Choice.{standing_at, IsHeadAt, is_in}
+use Rattle.s3_match.specs.Inner.Keys.{key_in}
+use Rattle.s3_match.specs.Inner.Choice.{standing_at, IsHeadAt, is_in}
 use Rattle.s3_match.proofs.ChoiceLemmas.{takes_head, passes_head}
 use Rattle.s3_match.proofs.choice.least_onto.Goals.{then-is_in, else-is_in}
 use Rattle.s3_match.proofs.choice.least_onto.Goals as goal

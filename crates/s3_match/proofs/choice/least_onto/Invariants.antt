@@ -1,7 +1,7 @@
 use Rattle.std.proofs.Common.{◌≡◌, ◌-◌, length, drop}
 use Rattle.std.specs.Prelude.{IfSome}
-use Rattle.s3_match.specs.Keys.{key_in}
-use Rattle.s3_match.specs.Choice.{standing_at, IsHeadAt}
+use Rattle.s3_match.specs.Inner.Keys.{key_in}
+use Rattle.s3_match.specs.Inner.Choice.{standing_at, IsHeadAt}
 use Rattle.s3_match.proofs.ChoiceLemmas.{least_in}
 use Rattle.s3_match.proofs.choice.least_onto.Given as goal
 

@@ -1,4 +1,4 @@
-use Rattle.s3_match.specs.Keys.{key_in}
+use Rattle.s3_match.specs.Inner.Keys.{key_in}
 use Rattle.s3_match.proofs.ChoiceLemmas.{primary_then_secondary}
 use Rattle.s3_match.proofs.choice.select_by_key.Goals as goal
 

@@ -1,7 +1,7 @@
 use Rattle.std.proofs.Common.{◌+◌, ◌-◌, ◌∙◌, length, drop, ap, arith, length-drop}
 use Rattle.std.specs.List.{list_any}
 use Rattle.std.proofs.lemmas.List.{take_all}
-use Rattle.s3_match.specs.Controls.{names_some_level}
+use Rattle.s3_match.specs.Inner.Controls.{names_some_level}
 use Rattle.s3_match.proofs.HoldLemmas.{types_begin}
 use Rattle.s3_match.proofs.controls.some_type_names_level.Goals as goal
 

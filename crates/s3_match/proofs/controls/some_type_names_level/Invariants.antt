@@ -1,5 +1,5 @@
 use Rattle.std.proofs.Common.{◌≡◌, drop}
-use Rattle.s3_match.specs.Controls.{some_type_names_level}
+use Rattle.s3_match.specs.Inner.Controls.{some_type_names_level}
 use Rattle.s3_match.proofs.controls.some_type_names_level.Given as goal
 
 abbrev pub invariant-loop-place : goal.invariant-loop-place

@@ -1,7 +1,7 @@
 use Rattle.std.proofs.Common.{◌∙◌, sym, ap, subst, drop}
 use Rattle.std.specs.Prelude.{option_map, IfSome, IsTrue}
-use Rattle.s3_lines.specs.Ranges.{field_in_range}
-use Rattle.s3_match.specs.Fields.{named_field, first_field}
+use Rattle.s3_lines.specs.Inner.Ranges.{field_in_range}
+use Rattle.s3_match.specs.Inner.Fields.{named_field, first_field}
 use Rattle.s3_match.proofs.FieldLemmas.{field_is, field_ranged}
 use Rattle.s3_match.proofs.fields.field_at.Goals as goal
 

@@ -1,5 +1,5 @@
 use Rattle.std.proofs.Common.{◌≡◌, drop}
-use Rattle.s3_match.specs.Fields.{first_field}
+use Rattle.s3_match.specs.Inner.Fields.{first_field}
 use Rattle.s3_match.proofs.fields.first_field.Given as goal
 
 abbrev pub invariant-loop-place : goal.invariant-loop-place

@@ -1,6 +1,6 @@
 use Rattle.std.proofs.Common.{refl, arith}
 use Rattle.s3_meaning.specs.Selection.{levels}
-use Rattle.s3_match.specs.Keys.{match_values}
+use Rattle.s3_match.specs.Inner.Keys.{match_values}
 use Rattle.s3_match.proofs.ComparedLemmas.{at_end}
 use Rattle.s3_match.proofs.KeyLemmas.{none_yet, no_room_taken, values_more, more_room}
 use Rattle.s3_match.proofs.keys.push_match_fields.Goals as goal

@@ -1,6 +1,6 @@
 use Rattle.std.proofs.Common.{◌≡◌, ◌++◌, ◌*◌, ◌≤◌, length, drop}
 use Rattle.s3_meaning.specs.Selection.{levels}
-use Rattle.s3_match.specs.Keys.{match_values}
+use Rattle.s3_match.specs.Inner.Keys.{match_values}
 use Rattle.s3_match.proofs.keys.push_match_fields.Given as goal
 
 abbrev pub invariant-loop-step : goal.invariant-loop-step

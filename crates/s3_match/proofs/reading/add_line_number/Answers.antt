@@ -1,5 +1,5 @@
 use Rattle.std.proofs.Common.{◌++◌, [], ◌∷◌, sym, subst}
-use Rattle.s3_match.specs.Reading.{AreLineNumbers}
+use Rattle.s3_match.specs.Inner.Reading.{AreLineNumbers}
 use Rattle.s3_match.proofs.ToldLemmas.{one_more_line}
 use Rattle.s3_match.proofs.reading.add_line_number.Goals as goal
 

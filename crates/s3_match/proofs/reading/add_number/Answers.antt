@@ -1,5 +1,5 @@
 use Rattle.std.proofs.Common.{◌∙◌, ◌++◌, [], ◌∷◌, sym, subst}
-use Rattle.s3_match.specs.Reading.{AreNumbersOf}
+use Rattle.s3_match.specs.Inner.Reading.{AreNumbersOf}
 use Rattle.s3_match.proofs.ToldLemmas.{one_more_number, no_more_numbers}
 use Rattle.s3_match.proofs.reading.add_number.Goals as goal
 

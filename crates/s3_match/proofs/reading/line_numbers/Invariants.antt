@@ -1,5 +1,5 @@
 use Rattle.std.proofs.Common.{take}
-use Rattle.s3_match.specs.Reading.{AreLineNumbers}
+use Rattle.s3_match.specs.Inner.Reading.{AreLineNumbers}
 use Rattle.s3_match.proofs.reading.line_numbers.Given as goal
 
 abbrev pub invariant-loop-line : goal.invariant-loop-line

@@ -4,9 +4,9 @@ use Rattle.s3_lines.specs.declared.sheet.Designation.TheVariants.{Primary}
 use Rattle.s3_meaning.specs.Source.{is_designated}
 use Rattle.s3_meaning.specs.Selection.{same_key}
 use Rattle.s3_match.specs.declared.heads.InputFile.{InputFile}
-use Rattle.s3_match.specs.Keys.{key_in}
-use Rattle.s3_match.specs.Heads.{file_at}
-use Rattle.s3_match.specs.Selecting.{is_secondary_with_key}
+use Rattle.s3_match.specs.Inner.Keys.{key_in}
+use Rattle.s3_match.specs.Inner.Heads.{file_at}
+use Rattle.s3_match.specs.Inner.Selecting.{is_secondary_with_key}
 use Rattle.s3_match.proofs.SelectLemmas.{keyless_is_not_matched, primary_is_matched, other_is_matched}
 use Rattle.s3_match.proofs.selection.is_matched.Goals as goal
 

@@ -1,5 +1,5 @@
 use Rattle.std.proofs.Common.{◌∙◌, ◌&&◌, ◌+◌, drop, sym, ap, Bool}
-use Rattle.s3_match.specs.Types.{further_hold}
+use Rattle.s3_match.specs.Inner.Types.{further_hold}
 use Rattle.s3_match.proofs.CodeLemmas.{further_at, no_more_codes}
 use Rattle.s3_match.proofs.types.and_lines_hold.Goals as goal
 

@@ -1,5 +1,5 @@
 use Rattle.std.proofs.Common.{◌≡◌, drop}
-use Rattle.s3_match.specs.Types.{further_hold}
+use Rattle.s3_match.specs.Inner.Types.{further_hold}
 use Rattle.s3_match.proofs.types.and_lines_hold.Given as goal
 
 abbrev pub invariant-loop-place : goal.invariant-loop-place

@@ -1,5 +1,5 @@
 use Rattle.std.proofs.Common.{◌∙◌, ◌<◌, length, drop, ap, arith}
-use Rattle.s3_match.specs.Types.{type_holds, first_that_holds}
+use Rattle.s3_match.specs.Inner.Types.{type_holds, first_that_holds}
 use Rattle.s3_program.proofs.TypeLemmas.{as_many, own_starts}
 use Rattle.s3_match.proofs.CodeLemmas.{first_passes}
 use Rattle.s3_match.proofs.types.only_type.Goals as goal

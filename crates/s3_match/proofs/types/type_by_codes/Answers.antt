@@ -1,5 +1,5 @@
 use Rattle.std.proofs.Common.{◌∙◌, ap}
-use Rattle.s3_match.specs.Types.{first_that_holds}
+use Rattle.s3_match.specs.Inner.Types.{first_that_holds}
 use Rattle.s3_program.proofs.TypeLemmas.{as_many, own_starts}
 use Rattle.s3_match.proofs.types.type_by_codes.Goals as goal
 

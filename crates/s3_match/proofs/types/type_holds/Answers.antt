@@ -1,5 +1,5 @@
 use Rattle.std.proofs.Common.{◌∙◌, ◌&&◌, ◌+◌, drop, sym, ap, Bool}
-use Rattle.s3_match.specs.Types.{further_hold}
+use Rattle.s3_match.specs.Inner.Types.{further_hold}
 use Rattle.s3_match.proofs.CodeLemmas.{type_past, type_here}
 use Rattle.s3_match.proofs.types.type_holds.Goals as goal
 

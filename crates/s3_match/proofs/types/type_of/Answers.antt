@@ -1,5 +1,5 @@
 use Rattle.std.proofs.Common.{◌∙◌, ap, option_map}
-use Rattle.s3_match.specs.Types.{kind_at}
+use Rattle.s3_match.specs.Inner.Types.{kind_at}
 use Rattle.s3_match.proofs.TypeLemmas.{type_found, type_starts_there}
 use Rattle.s3_match.proofs.types.type_of.Goals as goal
 

@@ -1,7 +1,7 @@
 use Rattle.std.proofs.Common.{map, refl, sym, ◌∙◌}
 use Rattle.std.specs.Prelude.{Ok, Err}
 use Rattle.s3_opening.proofs.Started.{are_starts, can_start, comes_of, failures_none, failures_of}
-use Rattle.s3_opening.specs.Starts.{settings_of, step_in}
+use Rattle.s3_opening.specs.Inner.Starts.{settings_of, step_in}
 use Rattle.s3_opening.proofs.Said.{fault_found}
 use Rattle.s3_opening.proofs.planning.test_files.Goals as goal
 

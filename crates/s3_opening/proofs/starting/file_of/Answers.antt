@@ -1,9 +1,9 @@
 use Rattle.std.proofs.Common.{[], ◌∷◌, refl, subst, sym}
 use Rattle.std.specs.Prelude.{IfOk}
 use Rattle.s3_store.proofs.Frames.{keeps_refl, step_from_keeps}
-use Rattle.s3_job_files.specs.Holds.{seen}
-use Rattle.s3_opening.specs.Starting.{Readies}
-use Rattle.s3_opening.specs.Starts.{IsPlanned, IsRight, step_in}
+use Rattle.s3_job_files.specs.Inner.Holds.{seen}
+use Rattle.s3_opening.specs.Inner.Starting.{Readies}
+use Rattle.s3_opening.specs.Inner.Starts.{IsPlanned, IsRight, step_in}
 use Rattle.s3_opening.proofs.OneByOne.{make_planned, readies_open}
 use Rattle.s3_opening.proofs.Started.{others_same}
 use Rattle.s3_opening.proofs.starting.file_of.Goals as goal

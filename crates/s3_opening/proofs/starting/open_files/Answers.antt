@@ -3,7 +3,7 @@ use Rattle.std.specs.Prelude.{Err}
 use Rattle.s3_opening.proofs.OfLines.{of_lines}
 use Rattle.s3_opening.proofs.Started.{can_after, halts_result}
 use Rattle.s3_opening.specs.declared.starts.Start.{Start}
-use Rattle.s3_opening.specs.Starts.{settings_of, step_in}
+use Rattle.s3_opening.specs.Inner.Starts.{settings_of, step_in}
 use Rattle.s3_opening.proofs.Said.{reads_say}
 use Rattle.s3_opening.proofs.starting.open_files.Goals as goal
 

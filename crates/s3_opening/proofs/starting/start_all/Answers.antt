@@ -1,6 +1,6 @@
 use Rattle.std.proofs.Common.{rules, length, arith, ap, sym, ◌∙◌}
 use Rattle.std.specs.Vec.Iter.{into_iter_items}
-use Rattle.s3_job_files.specs.Holds.{seen}
+use Rattle.s3_job_files.specs.Inner.Holds.{seen}
 use Rattle.s3_job_files.proofs.Closed.{spares_all}
 use Rattle.s3_opening.proofs.OneByOne.{adds_all, adds_nothing, can_next, can_one, holds_all, holds_none}
 use Rattle.s3_opening.proofs.starting.start_all.Goals as goal

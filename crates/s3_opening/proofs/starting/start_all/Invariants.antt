@@ -1,11 +1,11 @@
 use Rattle.std.proofs.Common.{◌≡◌, List, length}
 use Rattle.std.specs.Vec.Iter.{into_iter_items, into_iter_len}
-use Rattle.s3_store.specs.State.{KeepsInStep}
-use Rattle.s3_labels.specs.Areas.{slots_at, with_slots}
-use Rattle.s3_labels.specs.Labelled.{KeepsSaid}
-use Rattle.s3_job_files.specs.Holds.{Seen, seen, IsOutOfReach}
+use Rattle.s3_store.specs.Inner.State.{KeepsInStep}
+use Rattle.s3_labels.specs.Inner.Areas.{slots_at, with_slots}
+use Rattle.s3_labels.specs.Inner.Labelled.{KeepsSaid}
+use Rattle.s3_job_files.specs.Inner.Holds.{Seen, seen, IsOutOfReach}
 use Rattle.s3_job_files.specs.declared.file.OpenFile.{OpenFile}
-use Rattle.s3_opening.specs.Starting.{AddsFiles, CanStart}
+use Rattle.s3_opening.specs.Inner.Starting.{AddsFiles, CanStart}
 use Rattle.s3_opening.proofs.OneByOne.{HoldsAll}
 use Rattle.s3_opening.proofs.starting.start_all.Given as goal
 

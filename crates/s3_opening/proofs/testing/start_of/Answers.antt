@@ -1,7 +1,7 @@
 use Rattle.std.proofs.Common.{ap, sym, ◌∙◌}
 use Rattle.std.specs.Option.{option_copied}
-use Rattle.s3_opening.specs.Starts.{settings_of}
-use Rattle.s3_opening.specs.Tests.{opening}
+use Rattle.s3_opening.specs.Inner.Starts.{settings_of}
+use Rattle.s3_opening.specs.Inner.Tests.{opening}
 use Rattle.s3_opening.proofs.Steps.{label_taken, none_stated, stated_sound, step_made, step_opened, step_refused}
 use Rattle.s3_opening.proofs.testing.start_of.Goals as goal
 

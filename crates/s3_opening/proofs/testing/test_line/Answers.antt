@@ -1,5 +1,5 @@
 use Rattle.std.proofs.Common.{sym, ◌∙◌}
-use Rattle.s3_opening.specs.Starts.{step_in, settings_of}
+use Rattle.s3_opening.specs.Inner.Starts.{step_in, settings_of}
 use Rattle.s3_opening.specs.declared.starts.Start.{Start}
 use Rattle.s3_opening.proofs.Steps.{line_unused, line_taken, line_refused, right_pushed}
 use Rattle.s3_opening.proofs.testing.test_line.Goals as goal

@@ -1,6 +1,6 @@
-use Rattle.s3_lines.specs.Ranges.{file_in_range}
+use Rattle.s3_lines.specs.Inner.Ranges.{file_in_range}
 use Rattle.s3_store.proofs.Frames.{keeps_trans}
-use Rattle.s3_opening.specs.Starts.{settings_of}
+use Rattle.s3_opening.specs.Inner.Starts.{settings_of}
 use Rattle.s3_opening.proofs.Lines.{here_at, line_there, testing_end, testing_fails, testing_on}
 use Rattle.s3_opening.proofs.testing.test_lines.Goals as goal
 

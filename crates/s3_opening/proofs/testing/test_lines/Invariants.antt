@@ -1,4 +1,4 @@
-use Rattle.s3_opening.specs.Starts.{settings_of}
+use Rattle.s3_opening.specs.Inner.Starts.{settings_of}
 use Rattle.s3_opening.proofs.Lines.{IsTesting}
 use Rattle.s3_opening.proofs.testing.test_lines.Given as goal
 

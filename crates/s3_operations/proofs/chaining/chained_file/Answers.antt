@@ -1,5 +1,5 @@
 use Rattle.std.proofs.Common.{ap}
-use Rattle.s3_operations.specs.Chaining.{names_file}
+use Rattle.s3_operations.specs.Inner.Chaining.{names_file}
 use Rattle.s3_operations.proofs.ChainLemmas.{chains, sought}
 use Rattle.s3_operations.proofs.chaining.chained_file.Goals as goal
 

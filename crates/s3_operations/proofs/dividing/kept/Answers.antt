@@ -2,7 +2,7 @@ use Rattle.std.proofs.Common.{sym, ap, ◌∙◌}
 use Rattle.s3_decimal.specs.declared.rounding.Rounding.TheVariants.{Truncate}
 use Rattle.s3_decimal.specs.Exact.{stored}
 use Rattle.s3_operations.specs.declared.division.LeftOver.{LeftOver}
-use Rattle.s3_operations.specs.Held.{left_in}
+use Rattle.s3_operations.specs.Inner.Held.{left_in}
 use Rattle.s3_operations.proofs.ChangeLemmas.{number_given}
 use Rattle.s3_operations.proofs.dividing.kept.Goals as goal
 

@@ -1,6 +1,6 @@
 use Rattle.std.proofs.Common.{[]}
 use Rattle.s3_meaning.specs.Environment.{at_first}
-use Rattle.s3_program.specs.Stands.{source_named}
+use Rattle.s3_program.specs.Inner.Stands.{source_named}
 use Rattle.s3_output.proofs.FieldLemmas.{number_fits_in, page_form_in, text_begins}
 use Rattle.s3_output.proofs.fields.lay_field.Goals as goal
 

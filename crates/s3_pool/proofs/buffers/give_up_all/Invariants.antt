@@ -1,6 +1,6 @@
 use Rattle.std.proofs.Common.{◌≡◌, ◌<◌, ℕ, Some, slice_get, length}
 use Rattle.s3_pool.specs.declared.buffers.Buffer.{Buffer}
-use Rattle.s3_pool.specs.Buffers.{KeepsLaid}
+use Rattle.s3_pool.specs.Inner.Buffers.{KeepsLaid}
 use Rattle.s3_pool.proofs.buffers.give_up_all.Given as goal
 
 abbrev pub invariant-loop-slot : goal.invariant-loop-slot

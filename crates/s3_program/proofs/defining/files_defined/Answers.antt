@@ -1,5 +1,5 @@
 use Rattle.std.proofs.Common.{◌∙◌, sym}
-use Rattle.s3_program.specs.Given.{file_given}
+use Rattle.s3_program.specs.Inner.Given.{file_given}
 use Rattle.s3_program.proofs.GivenLemmas.{one_more, none_first}
 use Rattle.s3_program.proofs.defining.files_defined.Goals as goal
 

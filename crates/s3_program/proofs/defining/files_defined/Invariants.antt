@@ -1,6 +1,6 @@
 use Rattle.std.proofs.Common.{◌≡◌, take}
 use Rattle.std.specs.Prelude.{filter_map}
-use Rattle.s3_program.specs.Given.{firsts, file_given}
+use Rattle.s3_program.specs.Inner.Given.{firsts, file_given}
 use Rattle.s3_program.proofs.defining.files_defined.Given as goal
 
 abbrev pub invariant-loop-line : goal.invariant-loop-line

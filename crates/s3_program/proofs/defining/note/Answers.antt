@@ -5,7 +5,7 @@ use Rattle.std.proofs.lemmas.Bool.{true≢false}
 use Rattle.indexmap.specs.IndexMap.{insert_entry}
 use Rattle.s3_cards.specs.declared.name.Name.{Name}
 use Rattle.s3_cards.specs.Names.{same_name}
-use Rattle.s3_program.specs.Given.{noted}
+use Rattle.s3_program.specs.Inner.Given.{noted}
 use Rattle.s3_program.proofs.defining.note.Goals as goal
 
 appended : {X : Type 0} (table : List (Name × X)) (name : Name) (x : X) → is_some (lookup (same_name name) table) ≡ false → insert_entry same_name table name x ≡ table ++ (name, x) ∷ []

@@ -1,6 +1,6 @@
 use Rattle.std.proofs.Common.{◌∙◌, ap, sym}
 use Rattle.std.specs.Prelude.{not}
-use Rattle.s3_program.specs.Starts.{goes_on}
+use Rattle.s3_program.specs.Inner.Starts.{goes_on}
 use Rattle.s3_program.proofs.StartLemmas.{found, passed, none_from}
 use Rattle.s3_program.proofs.starting.first_behind.Goals as goal
 

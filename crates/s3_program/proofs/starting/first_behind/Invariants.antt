@@ -1,5 +1,5 @@
 use Rattle.std.proofs.Common.{◌≡◌, drop}
-use Rattle.s3_program.specs.Starts.{fields_begin}
+use Rattle.s3_program.specs.Inner.Starts.{fields_begin}
 use Rattle.s3_program.proofs.starting.first_behind.Given as goal
 
 abbrev pub invariant-loop-place : goal.invariant-loop-place

@@ -1,5 +1,5 @@
 use Rattle.std.proofs.Common.{◌≡◌, ◌++◌, drop}
-use Rattle.s3_program.specs.Starts.{output_starts_from}
+use Rattle.s3_program.specs.Inner.Starts.{output_starts_from}
 use Rattle.s3_program.proofs.starting.output_starts.Given as goal
 
 abbrev pub invariant-loop-place : goal.invariant-loop-place

@@ -5,7 +5,7 @@ use Rattle.s3_program.specs.declared.starts.TypeStart.{TypeStart}
 use Rattle.s3_program.specs.declared.starts.OutputStart.{OutputStart}
 use Rattle.s3_program.specs.declared.starts.Walk.{Walk}
 use Rattle.s3_program.specs.declared.starts.Walk.TheVariants as walk
-use Rattle.s3_program.specs.Starts.{types_of_file, is_walked}
+use Rattle.s3_program.specs.Inner.Starts.{types_of_file, is_walked}
 use Rattle.s3_program.proofs.starting.starts_of.Goals as goal
 
 put : Walk → List OutputStart → List OutputStart

@@ -1,5 +1,5 @@
 use Rattle.std.proofs.Common.{◌∙◌, sym}
-use Rattle.s3_program.specs.Starts.{begins_subroutines}
+use Rattle.s3_program.specs.Inner.Starts.{begins_subroutines}
 use Rattle.s3_program.proofs.StartLemmas.{found, passed, none_from}
 use Rattle.s3_program.proofs.starting.subroutines.Goals as goal
 

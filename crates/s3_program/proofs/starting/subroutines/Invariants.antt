@@ -1,5 +1,5 @@
 use Rattle.std.proofs.Common.{◌≡◌, drop}
-use Rattle.s3_program.specs.Starts.{first_from, begins_subroutines}
+use Rattle.s3_program.specs.Inner.Starts.{first_from, begins_subroutines}
 use Rattle.s3_program.proofs.starting.subroutines.Given as goal
 
 abbrev pub invariant-loop-place : goal.invariant-loop-place

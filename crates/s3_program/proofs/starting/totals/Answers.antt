@@ -1,5 +1,5 @@
 use Rattle.std.proofs.Common.{◌∙◌, sym}
-use Rattle.s3_program.specs.Starts.{begins_totals}
+use Rattle.s3_program.specs.Inner.Starts.{begins_totals}
 use Rattle.s3_program.proofs.StartLemmas.{found, passed, none_from}
 use Rattle.s3_program.proofs.starting.totals.Goals as goal
 

@@ -1,5 +1,5 @@
 use Rattle.std.proofs.Common.{◌≡◌, drop}
-use Rattle.s3_program.specs.Starts.{first_from, begins_totals}
+use Rattle.s3_program.specs.Inner.Starts.{first_from, begins_totals}
 use Rattle.s3_program.proofs.starting.totals.Given as goal
 
 abbrev pub invariant-loop-place : goal.invariant-loop-place

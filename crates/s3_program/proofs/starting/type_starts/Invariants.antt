@@ -1,5 +1,5 @@
 use Rattle.std.proofs.Common.{◌≡◌, ◌<◌, ◌++◌, drop}
-use Rattle.s3_program.specs.Starts.{type_starts_from, fields_begin}
+use Rattle.s3_program.specs.Inner.Starts.{type_starts_from, fields_begin}
 use Rattle.s3_program.proofs.starting.type_starts.Given as goal
 
 abbrev pub invariant-loop-place : goal.invariant-loop-place

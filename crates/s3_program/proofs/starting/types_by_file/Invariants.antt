@@ -1,6 +1,6 @@
 use Rattle.std.proofs.Common.{◌≡◌, map}
 use Rattle.std.specs.List.{range_with_len}
-use Rattle.s3_program.specs.Starts.{types_of_file}
+use Rattle.s3_program.specs.Inner.Starts.{types_of_file}
 use Rattle.s3_program.proofs.starting.types_by_file.Given as goal
 
 abbrev pub invariant-loop-file : goal.invariant-loop-file

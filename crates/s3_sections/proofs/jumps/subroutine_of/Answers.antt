@@ -1,5 +1,5 @@
 use Rattle.std.proofs.Common.{sym, ◌∙◌, ap}
-use Rattle.s3_sections.specs.Jumps.{subroutine_place}
+use Rattle.s3_sections.specs.Inner.Jumps.{subroutine_place}
 use Rattle.s3_sections.proofs.CutLemmas.{none_some}
 use Rattle.s3_sections.proofs.LabelLemmas.{target_subroutine}
 use Rattle.s3_sections.proofs.JumpLemmas.{subroutine_known}

@@ -1,5 +1,5 @@
 use Rattle.std.proofs.Common.{sym, ◌∙◌, ap}
-use Rattle.s3_sections.specs.Jumps.{tag_place}
+use Rattle.s3_sections.specs.Inner.Jumps.{tag_place}
 use Rattle.s3_sections.proofs.CutLemmas.{none_some}
 use Rattle.s3_sections.proofs.LabelLemmas.{target_tag}
 use Rattle.s3_sections.proofs.JumpLemmas.{tag_known}

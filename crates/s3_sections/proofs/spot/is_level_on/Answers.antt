@@ -1,4 +1,4 @@
-use Rattle.s3_operations.specs.Held.{held}
+use Rattle.s3_operations.specs.Inner.Held.{held}
 use Rattle.s3_sections.proofs.spot.is_level_on.Goals as goal
 
 pub returns-in-Total : goal.returns-in-Total

@@ -1,5 +1,5 @@
 use Rattle.std.proofs.Common.{refl}
-use Rattle.s3_operations.specs.Held.{held}
+use Rattle.s3_operations.specs.Inner.Held.{held}
 use Rattle.s3_sections.proofs.spot.total_level.Goals as goal
 
 pub returns-in-Total-clause-some : goal.returns-in-Total-clause-some

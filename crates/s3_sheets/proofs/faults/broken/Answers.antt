@@ -1,5 +1,5 @@
 use Rattle.std.proofs.Common.{arith}
-use Rattle.s3_sheets.specs.Rules.{is_on_card}
+use Rattle.s3_sheets.specs.Inner.Rules.{is_on_card}
 use Rattle.s3_sheets.specs.Inner.RuleViews.{rule_view}
 use Rattle.s3_sheets.proofs.RuleLemmas.{passes_at}
 use Rattle.s3_sheets.proofs.FaultLemmas.{broken_next, broken_whole}

@@ -1,5 +1,5 @@
 use Rattle.std.proofs.Common.{refl}
-use Rattle.s3_slots.specs.Labels.{label_bytes}
+use Rattle.s3_slots.specs.Inner.Labels.{label_bytes}
 use Rattle.s3_slots.specs.Making.{new_label}
 use Rattle.s3_slots.specs.Making.{greatest_capacity}
 use Rattle.s3_slots.specs.Labels.{sectors_of}

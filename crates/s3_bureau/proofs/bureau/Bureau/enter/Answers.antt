@@ -1,5 +1,5 @@
 use Rattle.std.proofs.Common.{ap, ◌∙◌}
-use Rattle.s3_bureau.specs.Held.{State, is_open}
+use Rattle.s3_bureau.specs.Inner.Held.{State, is_open}
 use Rattle.s3_bureau.proofs.Entering.{entered_one, entered_two, laid_out_one, laid_out_two, stopped_one, stopped_two}
 use Rattle.s3_bureau.proofs.bureau.Bureau.enter.Goals as goal
 

@@ -1,6 +1,6 @@
 use Rattle.std.proofs.Common.{ap, ◌∙◌}
 use Rattle.std.proofs.lemmas.Result.{IfErr-weaker, IfOk-weaker}
-use Rattle.s3_store.specs.State.{PoolState}
+use Rattle.s3_store.specs.Inner.State.{PoolState}
 use Rattle.s3_bureau.proofs.Opening.{said_at_start}
 use Rattle.s3_bureau.proofs.bureau.Bureau.open.Goals as goal
 

@@ -1,5 +1,5 @@
 use Rattle.std.proofs.Common.{refl}
-use Rattle.s3_level.specs.Holds.{around}
+use Rattle.s3_level.specs.Inner.Holds.{around}
 use Rattle.s3_bureau.proofs.Opening.{is_fresh}
 use Rattle.s3_bureau.proofs.bureau.Bureau.over.Goals as goal
 

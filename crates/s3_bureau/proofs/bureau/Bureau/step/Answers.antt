@@ -1,4 +1,4 @@
-use Rattle.s3_bureau.specs.Held.{HoldsFor}
+use Rattle.s3_bureau.specs.Inner.Held.{HoldsFor}
 use Rattle.s3_level.proofs.Turns.{one_step}
 use Rattle.s3_bureau.proofs.bureau.Bureau.step.Goals as goal
 

@@ -1,6 +1,6 @@
 use Rattle.std.proofs.Common.{ap, ◌∙◌}
 use Rattle.s3_cycle.specs.declared.stepper.Stepper.{Stepper}
-use Rattle.s3_cycle.specs.Following.{put}
+use Rattle.s3_cycle.specs.Inner.Following.{put}
 use Rattle.s3_cycle.proofs.cycle.Cycle.changes.Goals as goal
 
 pub returns : goal.returns

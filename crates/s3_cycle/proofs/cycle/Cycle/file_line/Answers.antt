@@ -1,7 +1,7 @@
 use Rattle.std.proofs.Common.{ap, ◌∙◌}
 use Rattle.std.specs.Prelude.{slice_get}
 use Rattle.s3_cycle.specs.declared.stepper.Stepper.{Stepper}
-use Rattle.s3_cycle.specs.Following.{files}
+use Rattle.s3_cycle.specs.Inner.Following.{files}
 use Rattle.s3_cycle.proofs.FollowLemmas.{slot_named}
 use Rattle.s3_cycle.proofs.cycle.Cycle.file_line.Goals as goal
 

@@ -1,6 +1,6 @@
 use Rattle.std.proofs.Common.{ap, ◌∙◌}
 use Rattle.s3_cycle.specs.declared.stepper.Stepper.{Stepper}
-use Rattle.s3_cycle.specs.Following.{asked}
+use Rattle.s3_cycle.specs.Inner.Following.{asked}
 use Rattle.s3_cycle.proofs.JumpLemmas.{jumps_seen, passes_seen}
 use Rattle.s3_cycle.proofs.cycle.Cycle.pass_jumps.Goals as goal
 

@@ -1,7 +1,7 @@
 use Rattle.std.proofs.Common.{ap, subst, ◌∙◌}
 use Rattle.s3_cycle.specs.declared.stepper.Stepper.{Stepper}
-use Rattle.s3_cycle.specs.Requests.{FitsFile}
-use Rattle.s3_cycle.specs.Following.{asked, files, put}
+use Rattle.s3_cycle.specs.Inner.Requests.{FitsFile}
+use Rattle.s3_cycle.specs.Inner.Following.{asked, files, put}
 use Rattle.s3_cycle.proofs.FollowLemmas.{waits_first}
 use Rattle.s3_cycle.proofs.cycle.Cycle.pending.Goals as goal
 

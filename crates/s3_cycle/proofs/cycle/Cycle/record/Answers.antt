@@ -1,8 +1,8 @@
 use Rattle.std.proofs.Common.{ap, ◌∙◌, sym, subst, List, ℕ}
 use Rattle.s3_meaning.specs.Output.{filled}
 use Rattle.s3_cycle.specs.declared.stepper.Stepper.{Stepper}
-use Rattle.s3_cycle.specs.Requests.{FitsFile, IsLine}
-use Rattle.s3_cycle.specs.Following.{asked, files, put}
+use Rattle.s3_cycle.specs.Inner.Requests.{FitsFile, IsLine}
+use Rattle.s3_cycle.specs.Inner.Following.{asked, files, put}
 use Rattle.s3_cycle.proofs.FollowLemmas.{file_filled, line_filled}
 use Rattle.s3_cycle.proofs.cycle.Cycle.record.Goals as goal
 

@@ -1,8 +1,8 @@
 use Rattle.std.proofs.Common.{ap, ◌∙◌}
-use Rattle.s3_meaning.specs.Requests.{fits}
+use Rattle.s3_meaning.specs.Inner.Requests.{fits}
 use Rattle.s3_cycle.specs.declared.stepper.Stepper.{Stepper}
-use Rattle.s3_cycle.specs.Requests.{answer_of, request_of}
-use Rattle.s3_cycle.specs.Following.{is_fit, waits}
+use Rattle.s3_cycle.specs.Inner.Requests.{answer_of, request_of}
+use Rattle.s3_cycle.specs.Inner.Following.{is_fit, waits}
 use Rattle.s3_cycle.proofs.FollowLemmas.{resumes}
 use Rattle.s3_cycle.proofs.cycle.Cycle.resume.Goals as goal
 

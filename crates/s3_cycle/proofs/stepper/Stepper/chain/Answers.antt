@@ -7,11 +7,11 @@ use Rattle.s3_lines.specs.declared.sheet.FileLine.{FileLine}
 use Rattle.s3_lines.specs.declared.sheet.CalculationLine.{CalculationLine}
 use Rattle.s3_meaning.specs.Calculating.{bytes_in, number_in}
 use Rattle.s3_program.specs.declared.program.Reference.{Reference}
-use Rattle.s3_operations.specs.Chaining.{has_key}
-use Rattle.s3_operations.specs.Fits.{named_line}
-use Rattle.s3_match.specs.Heads.{file_at}
+use Rattle.s3_operations.specs.Inner.Chaining.{has_key}
+use Rattle.s3_operations.specs.Inner.Fits.{named_line}
+use Rattle.s3_match.specs.Inner.Heads.{file_at}
 use Rattle.s3_cycle.specs.declared.request.Sought.TheVariants.{Key, RecordNumber}
-use Rattle.s3_cycle.specs.Requests.{IsSoughtBy}
+use Rattle.s3_cycle.specs.Inner.Requests.{IsSoughtBy}
 use Rattle.s3_cycle.specs.Inner.Environment.{environment, others}
 use Rattle.s3_cycle.specs.Inner.Going.{own, held_by}
 use Rattle.s3_cycle.proofs.CalculatingLemmas.{line_read, performed_line, performed_within}

@@ -1,7 +1,7 @@
 use Rattle.std.proofs.Common.{ap, sym, ◌∙◌}
 use Rattle.std.specs.Prelude.{Some, None}
 use Rattle.s3_meaning.specs.Calculating.{chained_to}
-use Rattle.s3_operations.specs.Indicators.{is_settable_entry}
+use Rattle.s3_operations.specs.Inner.Indicators.{is_settable_entry}
 use Rattle.s3_cycle.proofs.ChainingLemmas.{chain_settable}
 use Rattle.s3_cycle.proofs.FoundLemmas.{found_then}
 use Rattle.s3_cycle.proofs.GoingLemmas.{changed_running}

@@ -1,6 +1,6 @@
 use Rattle.std.proofs.Common.{ap, sym, ◌∙◌}
 use Rattle.s3_meaning.specs.Calculating.{not_found}
-use Rattle.s3_operations.specs.Indicators.{is_settable_entry}
+use Rattle.s3_operations.specs.Inner.Indicators.{is_settable_entry}
 use Rattle.s3_cycle.proofs.ChainingLemmas.{chain_settable, missed_on, missed_halts}
 use Rattle.s3_cycle.proofs.stepper.Stepper.chain_missed.Goals as goal
 

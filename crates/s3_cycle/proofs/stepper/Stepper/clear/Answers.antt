@@ -1,5 +1,5 @@
 use Rattle.std.proofs.Common.{refl}
-use Rattle.s3_operations.specs.Indicating.{cleared_of}
+use Rattle.s3_operations.specs.Inner.Indicating.{cleared_of}
 use Rattle.s3_cycle.proofs.GoingLemmas.{values_changed}
 use Rattle.s3_cycle.proofs.stepper.Stepper.clear.Goals as goal
 

@@ -1,6 +1,6 @@
 use Rattle.std.proofs.Common.{refl}
-use Rattle.s3_match.specs.Heads.{ended}
-use Rattle.s3_match.specs.Reading.{input_at, reading_in}
+use Rattle.s3_match.specs.Inner.Heads.{ended}
+use Rattle.s3_match.specs.Inner.Reading.{input_at, reading_in}
 use Rattle.s3_cycle.proofs.TurnLemmas.{goes_ended}
 use Rattle.s3_cycle.proofs.HeadLemmas.{heads_still, none_within, reading_running}
 use Rattle.s3_cycle.proofs.stepper.Stepper.end_file.Goals as goal

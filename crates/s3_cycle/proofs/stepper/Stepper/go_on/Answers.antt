@@ -1,5 +1,5 @@
 use Rattle.s3_cycle.specs.declared.progress.Point.TheVariants as at
-use Rattle.s3_cycle.specs.Requests.{answer_of}
+use Rattle.s3_cycle.specs.Inner.Requests.{answer_of}
 use Rattle.s3_cycle.proofs.AnswerLemmas.{asked_fits, chained_fits, head_ranged, never_answered, read_fits, stored_fits, waits_at}
 use Rattle.s3_cycle.proofs.stepper.Stepper.go_on.Goals as goal
 

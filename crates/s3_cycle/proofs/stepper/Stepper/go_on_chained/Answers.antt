@@ -1,6 +1,6 @@
 use Rattle.s3_cycle.specs.declared.request.Answer.TheVariants.{Found, Nothing}
-use Rattle.s3_cycle.specs.Requests.{answer_of}
-use Rattle.s3_cycle.specs.Rest.{chain_answered}
+use Rattle.s3_cycle.specs.Inner.Requests.{answer_of}
+use Rattle.s3_cycle.specs.Inner.Rest.{chain_answered}
 use Rattle.s3_cycle.proofs.AnswerLemmas.{answered_by}
 use Rattle.s3_cycle.proofs.stepper.Stepper.go_on_chained.Goals as goal
 

@@ -1,6 +1,6 @@
 use Rattle.s3_cycle.specs.declared.request.Answer.TheVariants.{Found, Nothing}
-use Rattle.s3_cycle.specs.Requests.{answer_of}
-use Rattle.s3_cycle.specs.Rest.{head_answered}
+use Rattle.s3_cycle.specs.Inner.Requests.{answer_of}
+use Rattle.s3_cycle.specs.Inner.Rest.{head_answered}
 use Rattle.s3_cycle.proofs.AnswerLemmas.{answered_by}
 use Rattle.s3_cycle.proofs.stepper.Stepper.go_on_read.Goals as goal
 

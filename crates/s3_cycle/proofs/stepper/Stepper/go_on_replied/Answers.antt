@@ -1,8 +1,8 @@
 use Rattle.s3_meaning.specs.Cycle.{again}
 use Rattle.s3_meaning.specs.Runs.{replied}
 use Rattle.s3_cycle.specs.declared.request.Answer.TheVariants.{Reply}
-use Rattle.s3_cycle.specs.Requests.{answer_of}
-use Rattle.s3_cycle.specs.Rest.{continued}
+use Rattle.s3_cycle.specs.Inner.Requests.{answer_of}
+use Rattle.s3_cycle.specs.Inner.Rest.{continued}
 use Rattle.s3_cycle.proofs.AnswerLemmas.{answered_by}
 use Rattle.s3_cycle.proofs.stepper.Stepper.go_on_replied.Goals as goal
 

@@ -1,8 +1,8 @@
 use Rattle.s3_meaning.specs.Cycle.{again}
 use Rattle.s3_meaning.specs.Output.{stored_or_halted}
 use Rattle.s3_cycle.specs.declared.request.Answer.TheVariants.{Done, Refused}
-use Rattle.s3_cycle.specs.Requests.{answer_of}
-use Rattle.s3_cycle.specs.Rest.{lines_from}
+use Rattle.s3_cycle.specs.Inner.Requests.{answer_of}
+use Rattle.s3_cycle.specs.Inner.Rest.{lines_from}
 use Rattle.s3_cycle.proofs.AnswerLemmas.{answered_by, stored_done, stored_refused}
 use Rattle.s3_cycle.proofs.stepper.Stepper.go_on_stored.Goals as goal
 

@@ -1,8 +1,8 @@
 use Rattle.std.proofs.Common.{ap, refl, ◌∙◌}
 use Rattle.std.specs.Option.{option_or}
 use Rattle.s3_meaning.specs.Selection.{control_value}
-use Rattle.s3_match.specs.Controls.{break_of, held_in}
-use Rattle.s3_match.specs.Types.{kind_at}
+use Rattle.s3_match.specs.Inner.Controls.{break_of, held_in}
+use Rattle.s3_match.specs.Inner.Types.{kind_at}
 use Rattle.s3_cycle.proofs.GoingLemmas.{changed_stays}
 use Rattle.s3_cycle.specs.Inner.Going.{IsTaken}
 use Rattle.s3_cycle.proofs.IdentifyLemmas.{bytes_there, identifies}

@@ -1,5 +1,5 @@
 use Rattle.std.proofs.Common.{◌∙◌, ap}
-use Rattle.s3_operations.specs.Indicators.{is_settable_entry}
+use Rattle.s3_operations.specs.Inner.Indicators.{is_settable_entry}
 use Rattle.s3_cycle.specs.declared.stepper.Stepper.{Stepper}
 use Rattle.s3_cycle.proofs.PrintLemmas.{overflow_settable, carriage_overflows, carriage_stays}
 use Rattle.s3_cycle.proofs.stepper.Stepper.move_carriage.Goals as goal

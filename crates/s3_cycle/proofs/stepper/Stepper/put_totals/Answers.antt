@@ -1,6 +1,6 @@
 use Rattle.std.proofs.Common.{refl}
 use Rattle.s3_program.specs.declared.starts.Walk.TheVariants as walk
-use Rattle.s3_cycle.specs.Rest.{totals_end}
+use Rattle.s3_cycle.specs.Inner.Rest.{totals_end}
 use Rattle.s3_cycle.proofs.TotalLemmas.{passed_all, same_running, same_totals, total_lines}
 use Rattle.s3_cycle.proofs.stepper.Stepper.put_totals.Goals as goal
 

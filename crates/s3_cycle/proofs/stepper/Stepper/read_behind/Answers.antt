@@ -1,6 +1,6 @@
 use Rattle.std.proofs.Common.{◌≡◌, true, List, sym, ◌∙◌, subst}
 use Rattle.s3_match.specs.declared.heads.InputFile.{InputFile}
-use Rattle.s3_match.specs.Choice.{is_keyless_alone}
+use Rattle.s3_match.specs.Inner.Choice.{is_keyless_alone}
 use Rattle.s3_match.proofs.ChoiceLemmas.{alone_stands}
 use Rattle.s3_cycle.proofs.ProcessLemmas.{reads_alone}
 use Rattle.s3_cycle.proofs.stepper.Stepper.read_behind.Goals as goal

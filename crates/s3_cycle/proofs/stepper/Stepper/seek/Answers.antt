@@ -5,7 +5,7 @@ use Rattle.s3_lines.specs.declared.sheet.Operation.TheVariants as op
 use Rattle.s3_meaning.specs.Calculating.{forgotten}
 use Rattle.s3_meaning.specs.Output.{is_served}
 use Rattle.s3_program.specs.declared.program.Program.{Program}
-use Rattle.s3_match.specs.Types.{name_of_file}
+use Rattle.s3_match.specs.Inner.Types.{name_of_file}
 use Rattle.s3_cycle.specs.Inner.Environment.{environment, others}
 use Rattle.s3_cycle.specs.Inner.Going.{CanCalculate, IsLineAt, held_by}
 use Rattle.s3_cycle.proofs.GoingLemmas.{changed_running, changed_stays, changed_program}

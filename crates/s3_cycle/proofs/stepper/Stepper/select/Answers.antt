@@ -2,8 +2,8 @@ use Rattle.std.proofs.Common.{subst, ◌≡◌, List}
 use Rattle.std.specs.Prelude.{Some, None}
 use Rattle.s3_meaning.specs.Selection as meaning
 use Rattle.s3_match.specs.declared.heads.InputFile.{InputFile}
-use Rattle.s3_match.specs.Choice.{IsHeadAt, standing_at}
-use Rattle.s3_match.specs.Selecting.{reading_of}
+use Rattle.s3_match.specs.Inner.Choice.{IsHeadAt, standing_at}
+use Rattle.s3_match.specs.Inner.Selecting.{reading_of}
 use Rattle.s3_cycle.proofs.ProcessLemmas.{selects, selects_none}
 use Rattle.s3_cycle.proofs.stepper.Stepper.select.Goals as goal
 

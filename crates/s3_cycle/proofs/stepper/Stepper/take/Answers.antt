@@ -3,7 +3,7 @@ use Rattle.std.specs.Prelude.{Some}
 use Rattle.s3_meaning.specs.Selection as meaning
 use Rattle.s3_meaning.specs.Selection.{Selected}
 use Rattle.s3_match.specs.declared.heads.InputFile.{InputFile}
-use Rattle.s3_match.specs.Selecting.{reading_of, selected_at}
+use Rattle.s3_match.specs.Inner.Selecting.{reading_of, selected_at}
 use Rattle.s3_cycle.proofs.TakeLemmas.{takes}
 use Rattle.s3_cycle.proofs.stepper.Stepper.take.Goals as goal
 

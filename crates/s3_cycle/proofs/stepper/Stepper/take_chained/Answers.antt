@@ -1,6 +1,6 @@
 use Rattle.std.proofs.Common.{refl, ◌∙◌, ◌<◌, length}
 use Rattle.s3_cycle.specs.Inner.Going.{CanCalculate}
-use Rattle.s3_match.specs.Types.{kind_at}
+use Rattle.s3_match.specs.Inner.Types.{kind_at}
 use Rattle.s3_cycle.proofs.GoingLemmas.{changed_program, changed_running, changed_stays}
 use Rattle.s3_cycle.proofs.ChainedLemmas.{chained_within, ends_within, takes_chained}
 use Rattle.s3_cycle.proofs.stepper.Stepper.take_chained.Goals as goal

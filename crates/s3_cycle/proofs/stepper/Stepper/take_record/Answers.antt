@@ -1,6 +1,6 @@
 use Rattle.std.proofs.Common.{sym, ap, ◌∙◌}
 use Rattle.std.specs.Prelude.{option_map}
-use Rattle.s3_match.specs.Types.{kind_at}
+use Rattle.s3_match.specs.Inner.Types.{kind_at}
 use Rattle.s3_cycle.proofs.TurnLemmas.{with_reading, goes_counted, goes_unidentified}
 use Rattle.s3_cycle.proofs.HeadLemmas.{reading_running, counted_heads}
 use Rattle.s3_cycle.proofs.stepper.Stepper.take_record.Goals as goal

@@ -1,6 +1,6 @@
 use Rattle.std.proofs.Common.{◌∙◌}
 use Rattle.s3_store.proofs.Frames.{keeps_within, within_from_keeps}
-use Rattle.s3_job_files.specs.Records.{changes_of}
+use Rattle.s3_job_files.specs.Inner.Records.{changes_of}
 use Rattle.s3_job_files.proofs.OneFile.{nothing_to_update, of_label_kept, updated_after, usable_kept}
 use Rattle.s3_job_files.proofs.file.OpenFile.update.Goals as goal
 

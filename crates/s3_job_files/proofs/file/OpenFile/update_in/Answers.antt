@@ -1,5 +1,6 @@
 use Rattle.std.proofs.Common.{ap, ◌∙◌}
-use Rattle.s3_job_files.specs.Records.{changes_of, overlaid}
+use Rattle.s3_job_files.specs.Inner.Records.{changes_of}
+use Rattle.s3_job_files.specs.Records.{overlaid}
 use Rattle.s3_store.proofs.Frames.{keeps_within, within_from_keeps}
 use Rattle.s3_job_files.proofs.OneFile.{found_there, none_found, of_label_kept, updated_found, usable_kept}
 use Rattle.s3_job_files.proofs.file.OpenFile.update_in.Goals as goal

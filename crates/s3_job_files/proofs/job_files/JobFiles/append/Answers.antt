@@ -1,9 +1,9 @@
 use Rattle.std.proofs.Common.{ap, refl}
 use Rattle.std.proofs.lemmas.Option.{slice_get_read}
 use Rattle.s3_job_files.specs.Records.{appended}
-use Rattle.s3_meaning.specs.Requests.{refuses_append}
+use Rattle.s3_meaning.specs.Inner.Requests.{refuses_append}
 use Rattle.s3_job_files.proofs.Fitting.{appended_within, fits_puts}
-use Rattle.s3_job_files.specs.Holds.{opened_as}
+use Rattle.s3_job_files.specs.Inner.Holds.{opened_as}
 use Rattle.s3_job_files.proofs.Held.{usable_at}
 use Rattle.s3_job_files.proofs.Lists.{map_stays}
 use Rattle.s3_job_files.proofs.Putting.{file_spares, of_put, own_sound, put_ready_if, put_serves}

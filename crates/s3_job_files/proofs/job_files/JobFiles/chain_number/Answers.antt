@@ -5,9 +5,9 @@ use Rattle.std.proofs.lemmas.Option.{slice_get_read}
 use Rattle.s3_meaning.specs.Requests.{RecordNumber}
 use Rattle.s3_job_files.specs.Records.{place_numbered}
 use Rattle.s3_job_files.specs.Requests.{answer_at, with_chained}
-use Rattle.s3_job_files.specs.Calls.{found_answer}
-use Rattle.s3_job_files.specs.Holds.{job_file_of, records_of}
-use Rattle.s3_job_files.specs.Holds.{opened_as}
+use Rattle.s3_job_files.specs.Inner.Calls.{found_answer}
+use Rattle.s3_job_files.specs.Inner.Holds.{job_file_of, records_of}
+use Rattle.s3_job_files.specs.Inner.Holds.{opened_as}
 use Rattle.s3_job_files.proofs.Held.{usable_at}
 use Rattle.s3_job_files.proofs.Lists.{map_stays}
 use Rattle.s3_job_files.proofs.Reading.{of_chained, read_ready, chain_serves}

@@ -1,6 +1,6 @@
 use Rattle.std.proofs.Common.{sym, ◌∙◌}
 use Rattle.s3_cards.specs.Names.{same_name}
-use Rattle.s3_job_files.specs.Holds.{job_file_of}
+use Rattle.s3_job_files.specs.Inner.Holds.{job_file_of}
 use Rattle.s3_job_files.proofs.Lists.{position_map}
 use Rattle.s3_job_files.proofs.job_files.JobFiles.place_of.Goals as goal
 

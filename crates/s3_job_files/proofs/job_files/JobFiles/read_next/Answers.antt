@@ -1,6 +1,6 @@
 use Rattle.std.proofs.Common.{ap, refl}
 use Rattle.std.proofs.lemmas.Option.{slice_get_read}
-use Rattle.s3_job_files.specs.Holds.{opened_as}
+use Rattle.s3_job_files.specs.Inner.Holds.{opened_as}
 use Rattle.s3_job_files.proofs.Held.{usable_at}
 use Rattle.s3_job_files.proofs.Lists.{map_stays}
 use Rattle.s3_job_files.proofs.Reading.{of_read, read_ready, read_serves}

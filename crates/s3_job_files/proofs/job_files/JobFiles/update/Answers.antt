@@ -1,9 +1,10 @@
 use Rattle.std.proofs.Common.{refl}
 use Rattle.std.proofs.lemmas.Option.{slice_get_read}
 use Rattle.std.specs.Prelude.{option_map}
-use Rattle.s3_job_files.specs.Records.{changes_of, place_current, updated}
-use Rattle.s3_job_files.specs.Holds.{current_of, records_of}
-use Rattle.s3_meaning.specs.Requests.{refuses_update}
+use Rattle.s3_job_files.specs.Inner.Records.{changes_of}
+use Rattle.s3_job_files.specs.Records.{place_current, updated}
+use Rattle.s3_job_files.specs.Inner.Holds.{current_of, records_of}
+use Rattle.s3_meaning.specs.Inner.Requests.{refuses_update}
 use Rattle.s3_job_files.proofs.Fitting.{updated_within, fits_puts}
 use Rattle.s3_job_files.proofs.Held.{usable_at}
 use Rattle.s3_job_files.proofs.Putting.{file_spares, own_sound, update_ready_if, update_serves}

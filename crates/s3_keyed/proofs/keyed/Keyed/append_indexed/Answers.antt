@@ -2,8 +2,9 @@ use Rattle.std.proofs.Common.{◌≡◌, ◌+◌, ◌++◌, ◌∷◌, [], ◌^�
 use Rattle.std.specs.List.{Contains}
 use Rattle.s3_store.proofs.Frames.{within_trans}
 use Rattle.s3_keyed.specs.KeyOrder.{number_of}
-use Rattle.s3_keyed.specs.Index.{index_in, keys_at}
-use Rattle.s3_keyed.specs.Keyed.{IsOrdered}
+use Rattle.s3_keyed.specs.Index.{index_in}
+use Rattle.s3_keyed.specs.Inner.Index.{keys_at}
+use Rattle.s3_keyed.specs.Inner.Keyed.{IsOrdered}
 use Rattle.s3_keyed.specs.Inner.Shape.{layout_in, bytes_in, entry_of}
 use Rattle.s3_files.proofs.RecordLemmas.{records_push}
 use Rattle.s3_keyed.proofs.Places.{length_keys, same_records}

@@ -1,10 +1,11 @@
 use Rattle.std.proofs.Common.{◌≡◌, IfOk, sym, subst}
 use Rattle.s3_store.specs.Bytes.{bytes_at}
-use Rattle.s3_keyed.specs.Index.{layout_of, index_in, keys_at}
-use Rattle.s3_keyed.specs.Calls.{Answers, index_answer, unit_of}
+use Rattle.s3_keyed.specs.Index.{layout_of, index_in}
+use Rattle.s3_keyed.specs.Inner.Index.{keys_at}
+use Rattle.s3_keyed.specs.Inner.Calls.{Answers, index_answer, unit_of}
 use Rattle.s3_keyed.specs.Inner.Shape.{layout_in}
-use Rattle.s3_keyed.specs.Keyed.{shown, opened_of}
-use Rattle.s3_files.specs.Files.{AreStored}
+use Rattle.s3_keyed.specs.Inner.Keyed.{shown, opened_of}
+use Rattle.s3_files.specs.Inner.Files.{AreStored}
 use Rattle.s3_keyed.proofs.keyed.Keyed.check.Goals as goal
 
 pub returns-clause-opened : goal.returns-clause-opened

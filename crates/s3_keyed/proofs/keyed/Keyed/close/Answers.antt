@@ -2,7 +2,7 @@ use Rattle.std.proofs.Common.{◌≡◌, ◌+◌, length, sym, ap, ◌∙◌, ar
 use Rattle.s3_keyed.specs.KeyOrder.{key_order, is_good_index}
 use Rattle.s3_keyed.specs.Index.{index_in, keys_of}
 use Rattle.s3_keyed.specs.Inner.Shape.{layout_in, bytes_in}
-use Rattle.s3_keyed.specs.Keyed.{shown, keys_now}
+use Rattle.s3_keyed.specs.Inner.Keyed.{shown, keys_now}
 use Rattle.s3_keyed.proofs.Places.{length_keys}
 use Rattle.s3_keyed.proofs.Goodness.{to_ascends, order_is_good}
 use Rattle.s3_keyed.proofs.MergeSteps.{length_entries}

@@ -1,5 +1,5 @@
 use Rattle.std.proofs.Common.{Ok, sym, ap, ◌∙◌}
-use Rattle.s3_files.specs.Records.{got}
+use Rattle.s3_files.specs.Inner.Records.{got}
 use Rattle.s3_files.proofs.RecordLemmas.{get_record}
 use Rattle.s3_keyed.specs.Calls.{keyed_result}
 use Rattle.s3_keyed.specs.Inner.Shape.{bytes_in}

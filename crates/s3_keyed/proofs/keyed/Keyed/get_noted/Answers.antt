@@ -3,7 +3,7 @@ use Rattle.s3_files.proofs.RecordLemmas.{get_record}
 use Rattle.s3_keyed.specs.KeyOrder.{number_of}
 use Rattle.s3_keyed.specs.Index.{key_of}
 use Rattle.s3_keyed.specs.Inner.Shape.{layout_in, bytes_in}
-use Rattle.s3_keyed.specs.Keyed.{shown, keys_now}
+use Rattle.s3_keyed.specs.Inner.Keyed.{shown, keys_now}
 use Rattle.s3_keyed.proofs.Places.{get_key}
 use Rattle.s3_keyed.proofs.Ordered.{place_is}
 use Rattle.s3_keyed.proofs.keyed.Keyed.get_noted.Goals as goal

@@ -3,7 +3,7 @@ use Rattle.std.specs.List.{list_all}
 use Rattle.s3_keyed.specs.KeyOrder.{number_of, keys_in}
 use Rattle.s3_keyed.specs.Index.{index_in}
 use Rattle.s3_keyed.specs.Inner.Shape.{layout_in, bytes_in, entry_of}
-use Rattle.s3_keyed.specs.Keyed.{shown, keys_now}
+use Rattle.s3_keyed.specs.Inner.Keyed.{shown, keys_now}
 use Rattle.s3_keyed.proofs.Places.{length_keys}
 use Rattle.s3_keyed.proofs.Highest.{order_above, order_not_above, above_answer}
 use Rattle.s3_keyed.proofs.keyed.Keyed.is_above_all.Goals as goal

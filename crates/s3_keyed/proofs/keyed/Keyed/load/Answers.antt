@@ -6,7 +6,7 @@ use Rattle.s3_files.proofs.RecordLemmas.{length_records}
 use Rattle.s3_keyed.specs.KeyOrder.{number_of}
 use Rattle.s3_keyed.specs.Calls.{place_of_key}
 use Rattle.s3_keyed.specs.Inner.Shape.{layout_in, bytes_in}
-use Rattle.s3_keyed.specs.Keyed.{shown, records_now, keys_now}
+use Rattle.s3_keyed.specs.Inner.Keyed.{shown, records_now, keys_now}
 use Rattle.s3_keyed.proofs.Appending.{loaded_not_ascending, loaded_full, loaded_made, above_is_new}
 use Rattle.s3_keyed.proofs.CallLemmas.{ordered_keeps, some_room}
 use Rattle.s3_keyed.proofs.MergeSteps.{none_added}

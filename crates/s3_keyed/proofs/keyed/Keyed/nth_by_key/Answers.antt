@@ -1,8 +1,8 @@
 use Rattle.std.proofs.Common.{◌-◌, Some, take, sym, ap, ◌∙◌}
-use Rattle.s3_keyed.specs.Calls.{or_no_key}
+use Rattle.s3_keyed.specs.Inner.Calls.{or_no_key}
 use Rattle.s3_keyed.specs.Index.{index_in, entry_at}
 use Rattle.s3_keyed.specs.Inner.Shape.{layout_in, bytes_in}
-use Rattle.s3_keyed.specs.Keyed.{shown, keys_now}
+use Rattle.s3_keyed.specs.Inner.Keyed.{shown, keys_now}
 use Rattle.s3_keyed.proofs.Ordered.{get_index, nth_is, nth_none, number_some, length_started}
 use Rattle.s3_keyed.proofs.keyed.Keyed.nth_by_key.Goals as goal
 

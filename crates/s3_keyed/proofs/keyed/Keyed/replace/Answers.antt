@@ -2,7 +2,7 @@ use Rattle.std.proofs.Common.{◌*◌, Ok, refl, sym, ap, ◌∙◌, arith}
 use Rattle.s3_files.proofs.RecordLemmas.{length_records, records_set}
 use Rattle.s3_keyed.specs.Index.{keys_of}
 use Rattle.s3_keyed.specs.Inner.Shape.{layout_in, bytes_in}
-use Rattle.s3_keyed.specs.Keyed.{shown, records_now}
+use Rattle.s3_keyed.specs.Inner.Keyed.{shown, records_now}
 use Rattle.s3_keyed.proofs.Places.{index_stays}
 use Rattle.s3_keyed.proofs.CallLemmas.{below_capacity, keys_updated, ordered_same, place_there, same_key, update_changed, update_made}
 use Rattle.s3_keyed.proofs.keyed.Keyed.replace.Goals as goal

@@ -1,12 +1,13 @@
 use Rattle.std.proofs.Common.{◌*◌, Ok, refl, sym, subst, ap, ◌∙◌, arith}
 use Rattle.std.specs.List.{Contains}
-use Rattle.s3_store.specs.Bytes.{part, SameOutside}
+use Rattle.s3_store.specs.Bytes.{part}
+use Rattle.s3_store.specs.Inner.Bytes.{SameOutside}
 use Rattle.s3_store.proofs.Frames.{within_from_keeps, keeps_within}
 use Rattle.s3_files.proofs.FileFrames.{stored_keeps}
 use Rattle.s3_files.proofs.RecordLemmas.{length_records, get_record, records_set}
 use Rattle.s3_keyed.specs.Index.{keys_of}
 use Rattle.s3_keyed.specs.Inner.Shape.{layout_in, bytes_in}
-use Rattle.s3_keyed.specs.Keyed.{shown, records_now}
+use Rattle.s3_keyed.specs.Inner.Keyed.{shown, records_now}
 use Rattle.s3_keyed.proofs.Places.{index_stays}
 use Rattle.s3_keyed.proofs.CallLemmas.{no_record, below_capacity, update_none, update_changed, update_made, same_key, keys_updated, ordered_same}
 use Rattle.s3_keyed.proofs.keyed.Keyed.update.Goals as goal

@@ -1,5 +1,5 @@
 use Rattle.std.proofs.Common.{◌≡◌, ◌<◌, ◌*◌, ℕ}
-use Rattle.s3_store.specs.State.{KeepsContents}
+use Rattle.s3_store.specs.Inner.State.{KeepsContents}
 use Rattle.s3_store.specs.Bytes.{part}
 use Rattle.s3_keyed.specs.Inner.Shape.{bytes_in, keys_on, entry_here, IsOfRecord}
 use Rattle.s3_keyed.proofs.record_sector.RecordSector.have_keys.Given as goal

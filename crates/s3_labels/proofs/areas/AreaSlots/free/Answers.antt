@@ -1,7 +1,7 @@
 use Rattle.std.proofs.Common.{List, length, drop, sym, ap, ◌∙◌}
 use Rattle.s3_slots.specs.declared.slot.Slot.{Slot}
 use Rattle.s3_slots.proofs.Ranges.{take_all}
-use Rattle.s3_labels.specs.Areas.{Areas}
+use Rattle.s3_labels.specs.Inner.Areas.{Areas}
 use Rattle.s3_labels.proofs.areas.AreaSlots.free.Goals as goal
 
 pub returns-in-One : goal.returns-in-One

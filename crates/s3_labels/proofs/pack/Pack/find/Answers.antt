@@ -1,7 +1,7 @@
 use Rattle.std.proofs.Common.{sym, ap, ◌∙◌}
 use Rattle.s3_slots.specs.Slots.{standing}
 use Rattle.s3_slots.specs.declared.slot.Standing.TheVariants.{Absent, Blocked, Present}
-use Rattle.s3_labels.specs.Areas.{slots_at}
+use Rattle.s3_labels.specs.Inner.Areas.{slots_at}
 use Rattle.s3_labels.proofs.Makes.{found_behind, found_own}
 use Rattle.s3_labels.proofs.Regions.{master_on_pack, own_on_pack}
 use Rattle.s3_labels.proofs.pack.Pack.find.Goals as goal

@@ -1,7 +1,8 @@
 use Rattle.std.proofs.Common.{refl, ap, ◌∙◌, arith}
 use Rattle.s3_store.proofs.Frames.{within_refl}
 use Rattle.s3_slots.proofs.NewFiles.{new_key, new_tracks}
-use Rattle.s3_labels.specs.Areas.{Areas, area_of, region_at}
+use Rattle.s3_labels.specs.Inner.Areas.{Areas, region_at}
+use Rattle.s3_labels.specs.Areas.{area_of}
 use Rattle.s3_labels.proofs.Regions.{region_fits, region_whole, ready_room, slot_on_pack}
 use Rattle.s3_labels.proofs.Changes.{made_ready}
 use Rattle.s3_labels.proofs.Outcomes.{label_refused, label_same, label_failed, sectors_refused, sectors_same, sectors_failed, later_failed}

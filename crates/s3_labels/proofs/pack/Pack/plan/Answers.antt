@@ -1,6 +1,6 @@
 use Rattle.std.proofs.Common.{arith, ◌∙◌}
 use Rattle.std.proofs.lemmas.Option.{slice_get-get_or}
-use Rattle.s3_labels.specs.Areas.{region_at, slots_at}
+use Rattle.s3_labels.specs.Inner.Areas.{region_at, slots_at}
 use Rattle.s3_labels.proofs.Makes.{planning_start, planning_written, planning_fails, planning_end}
 use Rattle.s3_labels.proofs.Regions.{region_fits, region_whole}
 use Rattle.s3_slots.proofs.NewFiles.{new_key, new_tracks}

@@ -1,4 +1,4 @@
-use Rattle.s3_labels.specs.Areas.{region_at, slots_at}
+use Rattle.s3_labels.specs.Inner.Areas.{region_at, slots_at}
 use Rattle.s3_labels.proofs.Makes.{IsPlanning}
 use Rattle.s3_labels.proofs.pack.Pack.plan.Given as goal
 

@@ -1,5 +1,5 @@
 use Rattle.std.proofs.Common.{◌≡◌, length, rules, subst, sym}
-use Rattle.s3_cycle.specs.Following.{asked}
+use Rattle.s3_cycle.specs.Inner.Following.{asked}
 use Rattle.s3_level.specs.Inner.Turning.{IsForRecord}
 use Rattle.s3_level.proofs.job.OpenJob.read.Goals as goal
 

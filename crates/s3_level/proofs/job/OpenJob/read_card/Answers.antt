@@ -1,7 +1,7 @@
 use Rattle.std.proofs.Common.{refl, rules, sym, ap, subst}
 use Rattle.s3_meaning.specs.Requests.{Answer}
-use Rattle.s3_cycle.specs.Requests.{answer_of}
-use Rattle.s3_cycle.specs.Following.{Resumes}
+use Rattle.s3_cycle.specs.Inner.Requests.{answer_of}
+use Rattle.s3_cycle.specs.Inner.Following.{Resumes}
 use Rattle.s3_solo.specs.Serving.{card_answer}
 use Rattle.s3_level.proofs.Fitting.{card_fits, nothing_fits}
 use Rattle.s3_level.proofs.OfLines.{job_stays}

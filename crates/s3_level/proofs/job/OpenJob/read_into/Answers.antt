@@ -1,6 +1,6 @@
 use Rattle.std.proofs.Common.{sym, ◌∙◌}
-use Rattle.s3_job_files.specs.Holds.{seen}
-use Rattle.s3_job_files.specs.Calls.{found_answer}
+use Rattle.s3_job_files.specs.Inner.Holds.{seen}
+use Rattle.s3_job_files.specs.Inner.Calls.{found_answer}
 use Rattle.s3_level.proofs.OfLines.{job_stays, on_disk, suits}
 use Rattle.s3_level.proofs.Requests.{fits_meant, has_file, has_where_fails, resumes_meant, serves_false, serves_true}
 use Rattle.s3_level.proofs.job.OpenJob.read_into.Goals as goal

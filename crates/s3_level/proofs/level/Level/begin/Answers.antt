@@ -1,9 +1,9 @@
 use Rattle.std.proofs.Common.{Ok, Err, subst, rules}
 use Rattle.s3_store.specs.declared.pool_fault.PoolFault.{PoolFault}
 use Rattle.s3_ocl.specs.Streams.{jobs_from}
-use Rattle.s3_level.specs.Holds.{HoldsParts, with_seen}
+use Rattle.s3_level.specs.Inner.Holds.{HoldsParts, with_seen}
 use Rattle.s3_level.specs.Inner.Turning.{NextIs}
-use Rattle.s3_job_files.specs.Holds.{seen}
+use Rattle.s3_job_files.specs.Inner.Holds.{seen}
 use Rattle.s3_level.proofs.Beginning.{nothing_begins, one_begins}
 use Rattle.s3_level.proofs.level.Level.begin.Goals as goal
 

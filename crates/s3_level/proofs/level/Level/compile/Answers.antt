@@ -1,9 +1,10 @@
 use Rattle.std.proofs.Common.{◌≡◌, ◌≢◌, ◌∙◌, ℕ, List, [], Err, sym, subst, slice_range}
 use Rattle.s3_lines.specs.declared.diagnostic.Diagnostic.{Diagnostic}
-use Rattle.s3_sheets.specs.Sheets.{Reads, sheet_diagnostics}
+use Rattle.s3_sheets.specs.Inner.Sheets.{Reads}
+use Rattle.s3_sheets.specs.Sheets.{sheet_diagnostics}
 use Rattle.s3_sheets.specs.declared.fault.SheetFault.{SheetFault}
 use Rattle.s3_level.proofs.Compiling.{compiled_source, diagnosed_cards}
-use Rattle.s3_level.specs.Holds.{HoldsParts}
+use Rattle.s3_level.specs.Inner.Holds.{HoldsParts}
 use Rattle.s3_level.proofs.level.Level.compile.Goals as goal
 
 pub returns-clause-world : goal.returns-clause-world

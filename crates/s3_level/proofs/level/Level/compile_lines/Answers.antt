@@ -1,10 +1,10 @@
 use Rattle.std.proofs.Common.{◌≡◌, ◌≢◌, List, [], Err, sym, subst}
 use Rattle.s3_lines.specs.declared.diagnostic.Diagnostic.{Diagnostic}
 use Rattle.s3_diagnose.specs.Diagnostics.{compile_diagnostics}
-use Rattle.s3_compile.specs.Compiles.{Compiles}
+use Rattle.s3_compile.specs.Inner.Compiles.{Compiles}
 use Rattle.s3_compile.specs.declared.compiler.CompileFault.{CompileFault}
 use Rattle.s3_level.proofs.Compiling.{diagnosed_source, stocked_source}
-use Rattle.s3_level.specs.Holds.{HoldsParts}
+use Rattle.s3_level.specs.Inner.Holds.{HoldsParts}
 use Rattle.s3_level.proofs.level.Level.compile_lines.Goals as goal
 
 pub returns-in-Ok-clause-world : goal.returns-in-Ok-clause-world

@@ -1,5 +1,5 @@
 use Rattle.std.proofs.Common.{Err, ap, refl, sym, ◌∙◌}
-use Rattle.s3_level.specs.Holds.{around}
+use Rattle.s3_level.specs.Inner.Holds.{around}
 use Rattle.s3_level.proofs.Beside.{spares_taken, spool_room}
 use Rattle.s3_level.proofs.Draining.{line_drained, none_drained, refused_drain}
 use Rattle.s3_level.proofs.level.Level.drain.Goals as goal

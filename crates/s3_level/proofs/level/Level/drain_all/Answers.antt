@@ -1,5 +1,5 @@
 use Rattle.std.proofs.Common.{arith}
-use Rattle.s3_level.specs.Holds.{around}
+use Rattle.s3_level.specs.Inner.Holds.{around}
 use Rattle.s3_level.proofs.Draining.{all_drained_by, then_one}
 use Rattle.s3_level.proofs.level.Level.drain_all.Goals as goal
 

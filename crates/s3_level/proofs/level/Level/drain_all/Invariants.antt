@@ -1,5 +1,5 @@
 -- So many lines were drained, and nothing else was done.
-use Rattle.s3_level.specs.Holds.{around}
+use Rattle.s3_level.specs.Inner.Holds.{around}
 use Rattle.s3_level.proofs.Draining.{DrainedSo}
 use Rattle.s3_level.proofs.level.Level.drain_all.Given as goal
 

@@ -1,6 +1,6 @@
 use Rattle.std.proofs.Common.{sym, ◌∙◌, ap, Option}
 use Rattle.s3_level.specs.declared.job.OpenJob.{OpenJob}
-use Rattle.s3_job_files.specs.Holds.{seen}
+use Rattle.s3_job_files.specs.Inner.Holds.{seen}
 use Rattle.s3_level.proofs.Ending.{job_closed}
 use Rattle.s3_level.proofs.level.Level.end_job.Goals as goal
 

@@ -1,6 +1,6 @@
-use Rattle.s3_cycle.specs.Requests.{answer_of}
-use Rattle.s3_level.specs.Holds.{HoldsParts, with_seen}
-use Rattle.s3_job_files.specs.Holds.{seen}
+use Rattle.s3_cycle.specs.Inner.Requests.{answer_of}
+use Rattle.s3_level.specs.Inner.Holds.{HoldsParts, with_seen}
+use Rattle.s3_job_files.specs.Inner.Holds.{seen}
 use Rattle.s3_level.proofs.Replies.{goes_on, stays_there}
 use Rattle.s3_level.proofs.level.Level.go_on.Goals as goal
 

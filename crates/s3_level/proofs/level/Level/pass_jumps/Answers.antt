@@ -1,6 +1,6 @@
 use Rattle.s3_level.proofs.Jumping.{jumps_stand}
-use Rattle.s3_level.specs.Holds.{HoldsParts, with_seen}
-use Rattle.s3_job_files.specs.Holds.{seen}
+use Rattle.s3_level.specs.Inner.Holds.{HoldsParts, with_seen}
+use Rattle.s3_job_files.specs.Inner.Holds.{seen}
 use Rattle.s3_level.proofs.level.Level.pass_jumps.Goals as goal
 
 pub returns-clause-world : goal.returns-clause-world

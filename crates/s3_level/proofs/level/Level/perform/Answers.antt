@@ -1,8 +1,8 @@
 use Rattle.std.proofs.Common.{Ok, sym, ◌∙◌, slice_range}
 use Rattle.s3_solo.specs.Serving.{data_of}
 use Rattle.s3_level.proofs.Starting.{program_performed, source_performed}
-use Rattle.s3_level.specs.Holds.{HoldsParts, with_seen}
-use Rattle.s3_job_files.specs.Holds.{seen}
+use Rattle.s3_level.specs.Inner.Holds.{HoldsParts, with_seen}
+use Rattle.s3_job_files.specs.Inner.Holds.{seen}
 use Rattle.s3_level.proofs.level.Level.perform.Goals as goal
 
 pub returns-in_ok-compile-clause-world : goal.returns-in_ok-compile-clause-world

@@ -1,7 +1,7 @@
 use Rattle.std.proofs.Common.{sym, ◌∙◌, true≢false}
 use Rattle.std.proofs.Math.Arith.{lt_of_le-ne}
 use Rattle.s3_level.proofs.Printing.{line_fails}
-use Rattle.s3_level.specs.Holds.{HoldsParts, around, shown}
+use Rattle.s3_level.specs.Inner.Holds.{HoldsParts, around, shown}
 use Rattle.s3_level.proofs.level.Level.print.Goals as goal
 
 pub print_line-requires-clause-room : goal.print_line-requires-clause-room

@@ -1,9 +1,9 @@
 use Rattle.std.proofs.Common.{arith}
-use Rattle.s3_cycle.specs.Requests.{answer_of}
+use Rattle.s3_cycle.specs.Inner.Requests.{answer_of}
 use Rattle.s3_level.proofs.Beside.{spares_files, spares_then}
 use Rattle.s3_level.proofs.Fitting.{line_done}
 use Rattle.s3_level.proofs.Printing.{line_then}
-use Rattle.s3_level.specs.Holds.{around}
+use Rattle.s3_level.specs.Inner.Holds.{around}
 use Rattle.s3_level.proofs.level.Level.print_line.Goals as goal
 
 pub put_line-requires-clause-room : goal.put_line-requires-clause-room

@@ -1,6 +1,6 @@
 use Rattle.s3_level.proofs.Running.{card_served}
-use Rattle.s3_level.specs.Holds.{HoldsParts, with_seen}
-use Rattle.s3_job_files.specs.Holds.{seen}
+use Rattle.s3_level.specs.Inner.Holds.{HoldsParts, with_seen}
+use Rattle.s3_job_files.specs.Inner.Holds.{seen}
 use Rattle.s3_level.proofs.level.Level.read_card.Goals as goal
 
 pub returns-clause-served : goal.returns-clause-served

@@ -1,7 +1,7 @@
 use Rattle.std.specs.Prelude.{Err}
 use Rattle.s3_level.proofs.Starting.{taken_then_started}
 use Rattle.s3_ocl.specs.Streams.{jobs_from}
-use Rattle.s3_level.specs.Holds.{HoldsParts}
+use Rattle.s3_level.specs.Inner.Holds.{HoldsParts}
 use Rattle.s3_level.proofs.level.Level.refuse.Goals as goal
 
 pub returns-clause-world : goal.returns-clause-world

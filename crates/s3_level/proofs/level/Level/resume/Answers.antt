@@ -1,8 +1,8 @@
-use Rattle.s3_cycle.specs.Requests.{answer_of}
+use Rattle.s3_cycle.specs.Inner.Requests.{answer_of}
 use Rattle.s3_solo.specs.Serving.{with_answer}
 use Rattle.s3_level.proofs.Running.{then_stands}
-use Rattle.s3_level.specs.Holds.{HoldsParts, with_seen}
-use Rattle.s3_job_files.specs.Holds.{seen}
+use Rattle.s3_level.specs.Inner.Holds.{HoldsParts, with_seen}
+use Rattle.s3_job_files.specs.Inner.Holds.{seen}
 use Rattle.s3_level.proofs.level.Level.resume.Goals as goal
 
 pub returns-clause-world : goal.returns-clause-world

@@ -6,13 +6,13 @@ use Rattle.s3_cards.specs.Names.{same_name}
 use Rattle.s3_operator.specs.declared.halt_code.HaltCode.TheVariants.{NoProgram}
 use Rattle.s3_solo.specs.Serving.{data_of, halting, run}
 use Rattle.s3_opening.specs.Opening.{opened}
-use Rattle.s3_opening.specs.OpenFiles.{HoldsStarted, IfHalted, StartsAs}
+use Rattle.s3_opening.specs.Inner.OpenFiles.{HoldsStarted, IfHalted, StartsAs}
 use Rattle.s3_opening.specs.declared.fault.OpeningFault.{OpeningFault}
-use Rattle.s3_store.specs.State.{KeepsContents}
+use Rattle.s3_store.specs.Inner.State.{KeepsContents}
 use Rattle.s3_level.proofs.Others.{others_closed, others_then}
 use Rattle.s3_level.proofs.Starting.{files_opened, files_refused, halts_so, no_program}
-use Rattle.s3_level.specs.Holds.{Becomes, HoldsParts, with_seen}
-use Rattle.s3_job_files.specs.Holds.{Seen, seen}
+use Rattle.s3_level.specs.Inner.Holds.{Becomes, HoldsParts, with_seen}
+use Rattle.s3_job_files.specs.Inner.Holds.{Seen, seen}
 use Rattle.s3_level.proofs.level.Level.run.Goals as goal
 
 pub returns-in_default-clause-world : goal.returns-in_default-clause-world

@@ -1,8 +1,8 @@
 use Rattle.std.proofs.Common.{slice_range}
 use Rattle.s3_solo.specs.Serving.{data_of}
 use Rattle.s3_level.proofs.Starting.{at_beginning, ready_at_beginning}
-use Rattle.s3_level.specs.Holds.{HoldsParts, with_seen}
-use Rattle.s3_job_files.specs.Holds.{seen}
+use Rattle.s3_level.specs.Inner.Holds.{HoldsParts, with_seen}
+use Rattle.s3_job_files.specs.Inner.Holds.{seen}
 use Rattle.s3_level.proofs.level.Level.run_over.Goals as goal
 
 pub stand-requires : goal.stand-requires

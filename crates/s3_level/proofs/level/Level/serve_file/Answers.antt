@@ -1,8 +1,8 @@
 use Rattle.std.proofs.Common.{subst}
 use Rattle.s3_cards.specs.declared.levels.LevelId.{LevelId}
 use Rattle.s3_store.specs.declared.pool_fault.PoolFault.{PoolFault}
-use Rattle.s3_job_files.specs.Holds.{seen}
-use Rattle.s3_level.specs.Holds.{HoldsParts, KeepsOthers, with_seen}
+use Rattle.s3_job_files.specs.Inner.Holds.{seen}
+use Rattle.s3_level.specs.Inner.Holds.{HoldsParts, KeepsOthers, with_seen}
 use Rattle.s3_level.specs.Inner.Turning.{FileServed}
 use Rattle.s3_level.proofs.Files.{file_acts, file_fails, file_idles, file_stops, stays_then}
 use Rattle.s3_level.proofs.Others.{others_then}

@@ -1,6 +1,6 @@
 use Rattle.std.proofs.Common.{◌∙◌, ap, ℕ, [], ◌∷◌}
 use Rattle.s3_level.proofs.Starting.{fault_shown}
-use Rattle.s3_level.specs.Holds.{HoldsParts}
+use Rattle.s3_level.specs.Inner.Holds.{HoldsParts}
 use Rattle.s3_level.proofs.level.Level.show_fault.Goals as goal
 
 pub returns-clause-world : goal.returns-clause-world

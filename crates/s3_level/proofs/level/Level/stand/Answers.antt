@@ -1,9 +1,9 @@
 use Rattle.std.proofs.Common.{subst, ℕ, List, Ok}
 use Rattle.s3_level.specs.declared.next.Next.{Next}
-use Rattle.s3_level.specs.Holds.{Becomes, HoldsParts, with_seen}
+use Rattle.s3_level.specs.Inner.Holds.{Becomes, HoldsParts, with_seen}
 use Rattle.s3_level.specs.Inner.Turning.{Comes}
 use Rattle.s3_solo.specs.Serving.{halting}
-use Rattle.s3_job_files.specs.Holds.{seen}
+use Rattle.s3_job_files.specs.Inner.Holds.{seen}
 use Rattle.s3_level.proofs.Running.{halt_shown, job_goes_on, job_over_then}
 use Rattle.s3_level.proofs.level.Level.stand.Goals as goal
 

@@ -3,8 +3,8 @@ use Rattle.std.specs.Prelude.{OnOk}
 use Rattle.s3_level.specs.Inner.Turning.{Starts}
 use Rattle.s3_level.proofs.Starting.{set_then_performed}
 use Rattle.s3_ocl.specs.Streams.{jobs_from}
-use Rattle.s3_level.specs.Holds.{HoldsParts, with_seen}
-use Rattle.s3_job_files.specs.Holds.{seen}
+use Rattle.s3_level.specs.Inner.Holds.{HoldsParts, with_seen}
+use Rattle.s3_job_files.specs.Inner.Holds.{seen}
 use Rattle.s3_level.proofs.level.Level.start.Goals as goal
 
 pub returns-clause-world : goal.returns-clause-world

@@ -2,11 +2,11 @@ use Rattle.std.proofs.Common.{rules, refl, sym, ◌∙◌, ap, Ok, Some}
 use Rattle.std.specs.Option.{option_copied}
 use Rattle.s3_store.specs.declared.pool_fault.PoolFault.{PoolFault}
 use Rattle.s3_solo.specs.declared.action.Did.TheVariants.{Idle}
-use Rattle.s3_job_files.specs.Holds.{seen}
+use Rattle.s3_job_files.specs.Inner.Holds.{seen}
 use Rattle.s3_level.proofs.Beside.{spares_files, spares_none, turns_moved}
 use Rattle.s3_level.proofs.Jumping.{jumps_taken_as_turns}
 use Rattle.s3_level.proofs.Turns.{asking_turn, begun_turn, card_turn, end_turn, file_turn, halted_turn, is_left_for_files, once_turns, print_turn}
-use Rattle.s3_level.specs.Holds.{HoldsParts, around, shown, with_seen}
+use Rattle.s3_level.specs.Inner.Holds.{HoldsParts, around, shown, with_seen}
 use Rattle.s3_level.proofs.level.Level.step.Goals as goal
 
 pub returns-in-Card-clause-world : goal.returns-in-Card-clause-world

@@ -1,7 +1,7 @@
 use Rattle.std.proofs.Common.{subst}
 use Rattle.s3_cards.specs.declared.levels.LevelId.{LevelId}
-use Rattle.s3_job_files.specs.Holds.{seen}
-use Rattle.s3_level.specs.Holds.{KeepsOthers, with_seen}
+use Rattle.s3_job_files.specs.Inner.Holds.{seen}
+use Rattle.s3_level.specs.Inner.Holds.{KeepsOthers, with_seen}
 use Rattle.s3_level.proofs.Files.{file_taken, file_there, files_ready, job_ready, level_of, none_taken, then_ready}
 use Rattle.s3_level.proofs.level.Level.take_file.Goals as goal
 

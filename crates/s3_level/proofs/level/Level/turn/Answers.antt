@@ -1,6 +1,6 @@
 use Rattle.std.proofs.Common.{Ok, ap, ◌∙◌}
 use Rattle.s3_level.proofs.Turns.{one_step}
-use Rattle.s3_level.specs.Holds.{Holds, around}
+use Rattle.s3_level.specs.Inner.Holds.{Holds, around}
 use Rattle.s3_solo.specs.declared.action.Action.TheVariants.{Turn}
 use Rattle.s3_solo.specs.declared.action.Did.{Did}
 use Rattle.s3_level.proofs.level.Level.turn.Goals as goal

@@ -2,7 +2,7 @@ use Rattle.std.proofs.Common.{ℕ, Ok, ◌+◌, ◌-◌, ◌≡◌, ap, subst, �
 use Rattle.s3_store.specs.declared.pool_fault.PoolFault.{PoolFault}
 use Rattle.s3_solo.specs.declared.action.Action.TheVariants.{Turn}
 use Rattle.s3_solo.specs.declared.action.Did.TheVariants.{Acted}
-use Rattle.s3_level.specs.Holds.{Around, Holds, Repeats, around}
+use Rattle.s3_level.specs.Inner.Holds.{Around, Holds, Repeats, around}
 use Rattle.s3_level.proofs.Repeating.{ends_idle, first_acts, is_first, none_yet, on_err, spares_after, then_turned}
 use Rattle.s3_level.proofs.Turns.{turns_wholly}
 use Rattle.s3_level.proofs.level.Level.turns.Goals as goal

@@ -1,6 +1,6 @@
 -- So many turns acted, and nothing else was done.
 use Rattle.std.proofs.Common.{◌-◌, ◌≤◌}
-use Rattle.s3_level.specs.Holds.{around}
+use Rattle.s3_level.specs.Inner.Holds.{around}
 use Rattle.s3_level.proofs.Repeating.{TurnedSo}
 use Rattle.s3_level.proofs.level.Level.turns.Given as goal
 

@@ -1,4 +1,4 @@
-use Rattle.s3_match.specs.Controls.{held_in}
+use Rattle.s3_match.specs.Inner.Controls.{held_in}
 use Rattle.s3_match.proofs.HoldLemmas.{none_breaks, none_is_held}
 use Rattle.s3_match.proofs.controls.Controls.break_and_hold.Goals as goal
 

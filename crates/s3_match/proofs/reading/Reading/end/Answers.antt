@@ -1,5 +1,5 @@
 use Rattle.std.proofs.Common.{refl}
-use Rattle.s3_match.specs.Heads.{ended}
+use Rattle.s3_match.specs.Inner.Heads.{ended}
 use Rattle.s3_match.proofs.ReadingLemmas.{headless, still_sound, changes_there}
 use Rattle.s3_match.proofs.reading.Reading.end.Goals as goal
 

@@ -1,5 +1,5 @@
 use Rattle.std.proofs.Common.{refl, ◌∙◌}
-use Rattle.s3_match.specs.Heads.{put as put_head}
+use Rattle.s3_match.specs.Inner.Heads.{put as put_head}
 use Rattle.s3_match.proofs.ReadingLemmas.{still_sound, unread_set, changes_if}
 use Rattle.s3_match.proofs.reading.Reading.put.Goals as goal
 

@@ -1,5 +1,5 @@
 use Rattle.std.proofs.Common.{◌∙◌, ◌<◌, length, sym, ap, subst, arith, option_map}
-use Rattle.s3_match.specs.Types.{IsOnlyType, kind_at}
+use Rattle.s3_match.specs.Inner.Types.{IsOnlyType, kind_at}
 use Rattle.s3_match.proofs.TypeLemmas.{type_found, type_starts_there}
 use Rattle.s3_match.proofs.ToldLemmas.{only_found}
 use Rattle.s3_match.proofs.reading.Reading.type_in.Goals as goal

@@ -1,6 +1,6 @@
 use Rattle.std.proofs.Common.{◌∙◌, ap}
 use Rattle.s3_meaning.specs.Selection.{type_of}
-use Rattle.s3_program.specs.Stands.{source_named}
+use Rattle.s3_program.specs.Inner.Stands.{source_named}
 use Rattle.s3_match.proofs.reading.Reading.type_of.Goals as goal
 
 pub returns-clause-found : goal.returns-clause-found

@@ -1,7 +1,7 @@
 use Rattle.std.proofs.Common.{◌≡◌}
 use Rattle.std.specs.Prelude.{take}
 use Rattle.s3_lines.specs.declared.indicator.Indicator.{Indicator}
-use Rattle.s3_operations.specs.Indicators.{on_in, raised}
+use Rattle.s3_operations.specs.Inner.Indicators.{on_in, raised}
 use Rattle.s3_operations.proofs.indicators.Indicators.raise.Given as goal
 
 abbrev pub invariant-loop-mark : goal.invariant-loop-mark

@@ -1,5 +1,5 @@
 use Rattle.std.proofs.Common.{◌∙◌, ap}
-use Rattle.s3_operations.specs.Indicators.{on_in, raised}
+use Rattle.s3_operations.specs.Inner.Indicators.{on_in, raised}
 use Rattle.s3_operations.proofs.IndicatorLemmas.{shown}
 use Rattle.s3_operations.proofs.indicators.Indicators.show.Goals as goal
 

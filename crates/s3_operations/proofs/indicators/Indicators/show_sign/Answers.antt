@@ -1,6 +1,6 @@
 use Rattle.std.proofs.Common.{sym, ap, ◌∙◌}
 use Rattle.std.specs.Prelude.{None}
-use Rattle.s3_operations.specs.Indicators.{on_in, shown_on}
+use Rattle.s3_operations.specs.Inner.Indicators.{on_in, shown_on}
 use Rattle.s3_operations.proofs.MarkLemmas.{nothing_shown, one_shown}
 use Rattle.s3_operations.proofs.indicators.Indicators.show_sign.Goals as goal
 

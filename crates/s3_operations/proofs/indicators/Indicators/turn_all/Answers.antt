@@ -1,5 +1,5 @@
 use Rattle.std.proofs.Common.{◌∙◌}
-use Rattle.s3_operations.specs.Indicators.{on_in}
+use Rattle.s3_operations.specs.Inner.Indicators.{on_in}
 use Rattle.s3_operations.proofs.IndicatorLemmas.{turn_more, settable_entry}
 use Rattle.s3_operations.proofs.indicators.Indicators.turn_all.Goals as goal
 

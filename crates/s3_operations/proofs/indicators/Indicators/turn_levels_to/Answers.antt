@@ -1,5 +1,5 @@
 use Rattle.std.proofs.Common.{◌∙◌}
-use Rattle.s3_operations.specs.Indicators.{on_in}
+use Rattle.s3_operations.specs.Inner.Indicators.{on_in}
 use Rattle.s3_operations.proofs.IndicatingLemmas.{no_level_yet, level_more}
 use Rattle.s3_operations.proofs.indicators.Indicators.turn_levels_to.Goals as goal
 

@@ -1,5 +1,5 @@
 use Rattle.std.proofs.Common.{take}
-use Rattle.s3_operations.specs.Texts.{IsBlank}
+use Rattle.s3_operations.specs.Inner.Texts.{IsBlank}
 use Rattle.s3_operations.proofs.texts.Texts.blank.Given as goal
 
 abbrev pub invariant-loop-field : goal.invariant-loop-field

@@ -1,5 +1,5 @@
 use Rattle.std.proofs.Common.{Some, ap, sym, ◌∙◌}
-use Rattle.s3_operations.specs.Texts.{text_on}
+use Rattle.s3_operations.specs.Inner.Texts.{text_on}
 use Rattle.s3_operations.proofs.TextLemmas.{span_at, within_area}
 use Rattle.s3_operations.proofs.texts.Texts.text.Goals as goal
 

@@ -1,10 +1,10 @@
 use Rattle.std.proofs.Common.{ap, subst, ℕ}
 use Rattle.std.specs.Prelude.{ℤ}
 use Rattle.s3_meaning.specs.Environment.{put_number}
-use Rattle.s3_program.specs.Tables.{name_of}
+use Rattle.s3_program.specs.Inner.Tables.{name_of}
 use Rattle.s3_program.specs.declared.program.Reference.TheVariants.{Field as FieldSlot}
-use Rattle.s3_operations.specs.Fits.{tables}
-use Rattle.s3_operations.specs.Held.{Changes}
+use Rattle.s3_operations.specs.Inner.Fits.{tables}
+use Rattle.s3_operations.specs.Inner.Held.{Changes}
 use Rattle.s3_operations.proofs.BeginLemmas.{number_range, number_form}
 use Rattle.s3_operations.proofs.values.Values.clear_number.Goals as goal
 

@@ -1,6 +1,6 @@
 use Rattle.std.proofs.Common.{refl, ap}
 use Rattle.s3_meaning.specs.Calculating.{order_marks, factor_order}
-use Rattle.s3_operations.specs.Fits.{named_line}
+use Rattle.s3_operations.specs.Inner.Fits.{named_line}
 use Rattle.s3_operations.proofs.FitLemmas.{compare_takes}
 use Rattle.s3_operations.proofs.ChangeLemmas.{shows}
 use Rattle.s3_operations.proofs.values.Values.compare.Goals as goal

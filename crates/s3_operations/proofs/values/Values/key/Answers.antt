@@ -1,5 +1,5 @@
 use Rattle.std.proofs.Common.{◌∙◌, ap, length, List, ℕ}
-use Rattle.s3_operations.specs.Held.{held}
+use Rattle.s3_operations.specs.Inner.Held.{held}
 use Rattle.s3_operations.proofs.ChainLemmas.{chain_ranged, literal_few, literal_bytes, literal_long}
 use Rattle.s3_operations.proofs.values.Values.key.Goals as goal
 

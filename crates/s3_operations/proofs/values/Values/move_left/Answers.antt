@@ -4,7 +4,7 @@ use Rattle.s3_lines.specs.declared.sheet.Factor.{Factor}
 use Rattle.s3_lines.specs.declared.sheet.Factor.TheVariants.{Named, Text}
 use Rattle.s3_program.specs.declared.program.Reference.{Reference}
 use Rattle.s3_program.specs.declared.program.Reference.TheVariants.{Field}
-use Rattle.s3_operations.specs.Fits.{is_text, meant_factor}
+use Rattle.s3_operations.specs.Inner.Fits.{is_text, meant_factor}
 use Rattle.s3_operations.proofs.FitLemmas.{move_left_takes, move_left_text}
 use Rattle.s3_operations.proofs.MovingLemmas.{text_within, result_within, text_bytes, text_literal_bytes, moves_left}
 use Rattle.s3_operations.proofs.values.Values.move_left.Goals as goal

@@ -1,4 +1,4 @@
-use Rattle.s3_operations.specs.Held.{remainder_in}
+use Rattle.s3_operations.specs.Inner.Held.{remainder_in}
 use Rattle.s3_operations.proofs.FitLemmas.{remainder_gives}
 use Rattle.s3_operations.proofs.ChangeLemmas.{given, given_remainder}
 use Rattle.s3_operations.proofs.values.Values.move_remainder.Goals as goal

@@ -1,7 +1,7 @@
 use Rattle.std.proofs.Common.{◌∙◌, ap, sym, ℕ, List, []}
 use Rattle.s3_decimal.specs.Records.{moved_number}
 use Rattle.s3_meaning.specs.Environment.{at_first}
-use Rattle.s3_program.specs.Stands.{source_named}
+use Rattle.s3_program.specs.Inner.Stands.{source_named}
 use Rattle.s3_operations.proofs.values.Values.moved.Goals as goal
 
 pub move_bytes-requires : goal.move_bytes-requires

@@ -2,8 +2,8 @@ use Rattle.std.proofs.Common.{refl, ap, subst, ◌∙◌, List, None}
 use Rattle.s3_lines.specs.declared.sheet.Shape.{Shape}
 use Rattle.s3_program.specs.declared.program.Defined.{Defined}
 use Rattle.s3_operations.specs.declared.values.Values.{Values}
-use Rattle.s3_operations.specs.Texts.{blank_texts}
-use Rattle.s3_operations.specs.Beginning.{IsZeros, are_fields_in_range}
+use Rattle.s3_operations.specs.Inner.Texts.{blank_texts}
+use Rattle.s3_operations.specs.Inner.Beginning.{IsZeros, are_fields_in_range}
 use Rattle.s3_operations.proofs.BeginLemmas.{fields_in_range, zeros_sound, begun}
 use Rattle.s3_operations.proofs.values.Values.new.Goals as goal
 

@@ -1,7 +1,7 @@
 use Rattle.std.proofs.Common.{[], sym, ◌∙◌}
 use Rattle.s3_meaning.specs.Environment.{at_first}
-use Rattle.s3_program.specs.Stands.{source_named}
-use Rattle.s3_operations.specs.Fits.{meant_factor}
+use Rattle.s3_program.specs.Inner.Stands.{source_named}
+use Rattle.s3_operations.specs.Inner.Fits.{meant_factor}
 use Rattle.s3_operations.proofs.ValueLemmas.{number_meant, text_meant, text_like}
 use Rattle.s3_operations.proofs.ChangeLemmas.{ordered, texts_ordered}
 use Rattle.s3_operations.proofs.values.Values.order.Goals as goal

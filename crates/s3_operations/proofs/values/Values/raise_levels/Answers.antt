@@ -1,6 +1,6 @@
 use Rattle.std.proofs.Common.{refl, ◌∙◌, ◌||◌}
 use Rattle.s3_meaning.specs.Selection.{is_level_to}
-use Rattle.s3_operations.specs.Indicators.{on_in}
+use Rattle.s3_operations.specs.Inner.Indicators.{on_in}
 use Rattle.s3_operations.proofs.IndicatingLemmas.{turned_by, raised_to}
 use Rattle.s3_operations.proofs.values.Values.raise_levels.Goals as goal
 

@@ -1,7 +1,7 @@
 use Rattle.std.proofs.Common.{◌∙◌, sym, []}
 use Rattle.std.proofs.lemmas.Bool.{true≢false}
 use Rattle.s3_meaning.specs.Environment.{at_first}
-use Rattle.s3_program.specs.Stands.{source_named}
+use Rattle.s3_program.specs.Inner.Stands.{source_named}
 use Rattle.s3_operations.proofs.ValueLemmas.{text_named}
 use Rattle.s3_operations.proofs.values.Values.text.Goals as goal
 

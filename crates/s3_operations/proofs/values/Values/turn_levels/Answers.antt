@@ -1,7 +1,7 @@
 use Rattle.std.proofs.Common.{refl, ◌∙◌, ap, Bool}
 use Rattle.std.specs.Prelude.{if◌then◌else◌}
 use Rattle.s3_meaning.specs.Environment.{is_level}
-use Rattle.s3_operations.specs.Indicators.{on_in}
+use Rattle.s3_operations.specs.Inner.Indicators.{on_in}
 use Rattle.s3_operations.proofs.IndicatingLemmas.{turned_by, all_levels}
 use Rattle.s3_operations.proofs.values.Values.turn_levels.Goals as goal
 

@@ -1,5 +1,5 @@
 use Rattle.std.proofs.Common.{◌≡◌, rules, length, slice_set, refl, sym, ap, ◌∙◌}
-use Rattle.s3_store.specs.Bytes.{with_part}
+use Rattle.s3_store.specs.Inner.Bytes.{with_part}
 use Rattle.s3_store.proofs.SectorParts.{sector_bytes-there}
 use Rattle.s3_pool.proofs.Steps.{changed_within}
 use Rattle.s3_pool.proofs.pool.PoolSectors.change_sector.Goals as goal

@@ -2,8 +2,8 @@ use Rattle.std.proofs.Common.{◌≡◌, ◌+◌, [], ◌∷◌, ◌++◌, ap, �
 use Rattle.s3_lines.specs.declared.sheet.Operation.TheVariants as op
 use Rattle.s3_meaning.specs.Calculations.{name_in}
 use Rattle.s3_meaning.specs.Source.{body}
-use Rattle.s3_program.specs.Stands.{source_named}
-use Rattle.s3_operations.specs.Fits.{named_factor}
+use Rattle.s3_program.specs.Inner.Stands.{source_named}
+use Rattle.s3_operations.specs.Inner.Fits.{named_factor}
 use Rattle.s3_sections.proofs.CourseLemmas.{room_at, exsr_callee, entered_calls, entered_rest}
 use Rattle.s3_sections.proofs.LabelLemmas.{target_subroutine, line_of}
 use Rattle.s3_sections.proofs.course.Course.enter.Goals as goal

@@ -2,7 +2,7 @@ use Rattle.std.proofs.Common.{◌≡◌, List, [], ◌∷◌, ◌++◌, ◌-◌,
 use Rattle.std.specs.Prelude.{None, slice_get}
 use Rattle.std.specs.Option.{option_copied, option_to_list}
 use Rattle.s3_sections.specs.declared.spot.Spot.{Spot}
-use Rattle.s3_sections.specs.Courses.{AreCalls}
+use Rattle.s3_sections.specs.Inner.Courses.{AreCalls}
 use Rattle.s3_sections.proofs.CourseLemmas.{calls_less, left, left_last, none_last}
 use Rattle.s3_sections.proofs.course.Course.leave.Goals as goal
 

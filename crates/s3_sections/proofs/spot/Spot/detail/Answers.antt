@@ -1,5 +1,5 @@
 use Rattle.std.proofs.Common.{refl}
-use Rattle.s3_program.specs.Valid.{named}
+use Rattle.s3_program.specs.Inner.Valid.{named}
 use Rattle.s3_sections.proofs.SpotLemmas.{begins_first}
 use Rattle.s3_sections.proofs.spot.Spot.detail.Goals as goal
 

@@ -1,8 +1,8 @@
 use Rattle.std.proofs.Common.{◌≡◌, ◌+◌, sym, ◌∙◌, subst, arith, rules, suc}
 use Rattle.s3_lines.specs.declared.sheet.Operation.TheVariants as op
-use Rattle.s3_operations.specs.Fits.{named_line}
+use Rattle.s3_operations.specs.Inner.Fits.{named_line}
 use Rattle.s3_meaning.specs.Calculations.{name_in}
-use Rattle.s3_sections.specs.Jumps.{GoesBelow, GoesAbove}
+use Rattle.s3_sections.specs.Inner.Jumps.{GoesBelow, GoesAbove}
 use Rattle.s3_sections.proofs.SheetLemmas.{some_same}
 use Rattle.s3_sections.proofs.LabelLemmas.{line_of, target_tag}
 use Rattle.s3_sections.proofs.JumpLemmas.{tag_known, tag_within, target, goes_below, goes_above}

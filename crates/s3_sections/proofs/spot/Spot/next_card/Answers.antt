@@ -1,7 +1,7 @@
 use Rattle.std.proofs.Common.{◌∙◌, ◌&&◌, ap}
 use Rattle.s3_meaning.specs.Environment.{all_hold}
 use Rattle.s3_meaning.specs.Names.{entries}
-use Rattle.s3_operations.specs.Held.{held}
+use Rattle.s3_operations.specs.Inner.Held.{held}
 use Rattle.s3_sections.proofs.SpotLemmas.{card_comes, card_passes}
 use Rattle.s3_sections.proofs.spot.Spot.next_card.Goals as goal
 

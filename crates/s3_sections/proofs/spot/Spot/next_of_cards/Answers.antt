@@ -1,8 +1,8 @@
 use Rattle.std.proofs.Common.{sym, ◌∙◌, [], rules}
 use Rattle.std.proofs.lemmas.Option.{slice_get_within}
 use Rattle.s3_meaning.specs.Environment.{at_first}
-use Rattle.s3_program.specs.Stands.{source_named}
-use Rattle.s3_operations.specs.Held.{held}
+use Rattle.s3_program.specs.Inner.Stands.{source_named}
+use Rattle.s3_operations.specs.Inner.Held.{held}
 use Rattle.s3_sections.proofs.SpotLemmas.{comes, passes, nothing}
 use Rattle.s3_sections.proofs.spot.Spot.next_of_cards.Goals as goal
 

@@ -1,11 +1,11 @@
 use Rattle.std.proofs.Common.{◌≡◌, refl, ◌+◌, sym, ◌∙◌, subst, arith, rules, suc}
 use Rattle.s3_meaning.specs.Calculations.{name_in}
 use Rattle.s3_meaning.specs.Source.{body}
-use Rattle.s3_program.specs.Stands.{source_named}
-use Rattle.s3_operations.specs.Fits.{named_factor}
+use Rattle.s3_program.specs.Inner.Stands.{source_named}
+use Rattle.s3_operations.specs.Inner.Fits.{named_factor}
 use Rattle.s3_sections.specs.declared.spot.Section.TheVariants as section
-use Rattle.s3_sections.specs.Sections.{rest_of}
-use Rattle.s3_sections.specs.Spots.{IsSpot}
+use Rattle.s3_sections.specs.Inner.Sections.{rest_of}
+use Rattle.s3_sections.specs.Inner.Spots.{IsSpot}
 use Rattle.s3_sections.proofs.SheetLemmas.{some_same}
 use Rattle.s3_sections.proofs.LabelLemmas.{target_subroutine}
 use Rattle.s3_sections.proofs.JumpLemmas.{subroutine_known, subroutine_within, subroutine_spot, subroutine_whole}

@@ -1,5 +1,5 @@
 use Rattle.std.proofs.Common.{arith}
-use Rattle.s3_spool.specs.Queues.{block_bytes}
+use Rattle.s3_spool.specs.Inner.Queues.{block_bytes}
 use Rattle.s3_spool.proofs.BlocksLemmas.{queued_last, queued_other, queued_quota, within_free}
 use Rattle.s3_spool.proofs.spool.Spool.put_composed.Goals as goal
 

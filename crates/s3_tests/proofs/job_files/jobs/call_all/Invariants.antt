@@ -1,4 +1,4 @@
-use Rattle.s3_job_files.specs.Holds.{seen, IsReady}
+use Rattle.s3_job_files.specs.Inner.Holds.{seen, IsReady}
 use Rattle.s3_tests.proofs.job_files.jobs.call_all.Given as goal
 
 abbrev pub invariant-loop-at : goal.invariant-loop-at

@@ -1,4 +1,4 @@
-use Rattle.s3_job_files.specs.Holds.{seen, IsReady}
+use Rattle.s3_job_files.specs.Inner.Holds.{seen, IsReady}
 use Rattle.s3_tests.proofs.job_files.jobs.open_all.Given as goal
 
 abbrev pub invariant-loop-label : goal.invariant-loop-label

@@ -1,4 +1,4 @@
-use Rattle.s3_labels.specs.Areas.{IsReady}
+use Rattle.s3_labels.specs.Inner.Areas.{IsReady}
 use Rattle.s3_tests.proofs.job_files.jobs.run_all.Given as goal
 
 abbrev pub invariant-loop-new : goal.invariant-loop-new

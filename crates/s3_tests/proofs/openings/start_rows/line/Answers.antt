@@ -1,7 +1,7 @@
 use Rattle.std.proofs.Common.{◌≡◌, Bool, true, ◌&&◌, Some, refl, ap, ◌∙◌}
-use Rattle.s3_lines.specs.Ranges.{file_in_range, is_named}
+use Rattle.s3_lines.specs.Inner.Ranges.{file_in_range, is_named}
 use Rattle.s3_lines.specs.declared.sheet.FileLine.{FileLine}
-use Rattle.s3_opening.specs.Samples.{line as sample_line}
+use Rattle.s3_opening.specs.Inner.Samples.{line as sample_line}
 use Rattle.s3_cards.specs.declared.name.Name.{Name}
 use Rattle.s3_tests.proofs.openings.start_rows.line.Goals as goal
 

@@ -1,0 +1,7 @@
+-- What the contracts of a run and of a session don't reach: words of inner functions, of proofs and of other calls.
+pub mod Codes
+pub mod Deck
+pub mod Levels
+pub mod NamedCodes
+pub mod Numbers
+pub mod Printed

@@ -1,0 +1,105 @@
+-- Requests and answers as the meaning of a source has them.
+use Rattle.std.specs.Prelude.{◌≡◌, ℕ, ◌≤◌, Bool, true, false, not, ◌&&◌, List, length, slice_get, Option, Some, None, is_some, option_map}
+use Rattle.s3_lines.specs.declared.sheet.Device.TheVariants.{Disk}
+use Rattle.s3_lines.specs.declared.sheet.FileLine.{FileLine}
+use Rattle.s3_lines.specs.declared.sheet.KeyField.{KeyField}
+use Rattle.s3_meaning.specs.Requests as Meant
+use Rattle.s3_meaning.specs.Output.{filled}
+use Rattle.s3_meaning.specs.Source.{is_input, is_updated}
+use Rattle.s3_program.specs.FileTable.{is_chained, is_input_use}
+use Rattle.s3_program.specs.declared.program.Program.{Program}
+use Rattle.s3_match.specs.Inner.Types.{name_of_file}
+use Rattle.s3_cycle.specs.declared.request.Current.{Current}
+use Rattle.s3_cycle.specs.declared.request.Current.TheVariants.{NthRead, LastChained}
+use Rattle.s3_cycle.specs.declared.request.Request.{Request}
+use Rattle.s3_cycle.specs.declared.request.Request.TheVariants.{Card, Read, Chain, Append, Add, Update, Print, Jump, Ask, End}
+use Rattle.s3_cycle.specs.declared.request.Answer.{Answer}
+use Rattle.s3_cycle.specs.declared.request.Answer.TheVariants.{Found, Nothing, Done, Refused, Reply}
+use Rattle.s3_cycle.specs.declared.request.Sought.{Sought}
+use Rattle.s3_cycle.specs.declared.request.Sought.TheVariants.{Key, RecordNumber}
+
+abbrev pub current_of : Current → Meant.Current
+current_of (NthRead n) = Meant.NthRead n
+current_of LastChained = Meant.LastChained
+
+abbrev pub sought_of : Sought → Meant.Sought
+sought_of (Key key) = Meant.Key key.items
+sought_of (RecordNumber number) = Meant.RecordNumber number
+
+-- files by their names; a text or a record is what is put at the positions of the composed one
+unfoldable pub request_of : Program → (positions : List (Option ℕ)) → Request → Meant.Request
+request_of program positions Card = Meant.Card
+request_of program positions (Read file length) = Meant.Read (name_of_file program file) length
+request_of program positions (Chain file length sought) = Meant.Chain (name_of_file program file) length (sought_of sought)
+request_of program positions (Append file) = Meant.Append (name_of_file program file) (filled positions)
+request_of program positions (Add file) = Meant.Add (name_of_file program file) (filled positions)
+request_of program positions (Update file current) = Meant.Update (name_of_file program file) (option_map current_of current) positions
+request_of program positions (Print page line) = Meant.Print page line (filled positions)
+request_of program positions Jump = Meant.Jump
+request_of program positions (Ask code) = Meant.Ask code
+request_of program positions (End at_once) = Meant.End at_once
+
+unfoldable pub answer_of : Answer → Meant.Answer
+answer_of (Found bytes) = Meant.Found bytes.now
+answer_of Nothing = Meant.Nothing
+answer_of Done = Meant.Done
+answer_of (Refused code) = Meant.Refused code
+answer_of (Reply digit) = Meant.Reply digit
+
+-- a line that is to be printed has 1 to 132 positions
+abbrev pub IsLine : {X : Type 0} → Request → List X → Type 0
+IsLine (Print page line) text = (1 ≤ length text) × (length text ≤ 132)
+IsLine request text = Unit {0}
+
+-- ---- the file that a request is for
+-- a file that is neither added to nor changed
+abbrev pub is_only_read : FileLine → Bool
+is_only_read line = is_input_use line.usage && not line.has_additions
+
+-- a file on disk stands at the slot, with such an F line
+pub record IsDiskFile (files : List FileLine) (slot : ℕ) (Suits : FileLine → Type 0) : Type 0 where
+  pub line : FileLine
+  pub there : slice_get files slot ≡ Some line
+  pub on_disk : line.device ≡ Disk
+  pub suits : Suits line
+
+-- records of this length are read by the cycle
+pub record IsReadInOrder (size : ℕ) (line : FileLine) : Type 0 where
+  pub long : size ≡ line.record_length
+  pub selected : is_input line ≡ true
+
+-- a key as long as that of the file, or a number where the file has no key
+abbrev pub IsSoughtBy : Option KeyField → Sought → Type 0
+IsSoughtBy (Some field) (Key key) = length key.items ≡ field.length
+IsSoughtBy None (RecordNumber number) = Unit {0}
+IsSoughtBy field sought = ⊥
+
+-- records of this length are got at by CHAIN
+pub record IsChainedBy (size : ℕ) (sought : Sought) (line : FileLine) : Type 0 where
+  pub long : size ≡ line.record_length
+  pub chained : is_chained line.designation ≡ true
+  pub sought_by : IsSoughtBy line.key sought
+
+-- records of this length are put into it
+pub record TakesRecord (size : ℕ) (line : FileLine) : Type 0 where
+  pub long : size ≡ line.record_length
+  pub put_out : is_only_read line ≡ false
+
+-- and by a key that the file doesn't have yet
+pub record TakesAddition (size : ℕ) (line : FileLine) : Type 0 where
+  pub takes : TakesRecord size line
+  pub keyed : is_some line.key ≡ true
+
+-- and its records are changed
+pub record TakesChanges (size : ℕ) (line : FileLine) : Type 0 where
+  pub takes : TakesRecord size line
+  pub updated : is_updated line ≡ true
+
+-- the F line of its file allows the request, which puts out so many positions
+abbrev pub FitsFile : {X : Type 0} → List FileLine → Request → List X → Type 0
+FitsFile files (Read slot size) positions = IsDiskFile files slot (IsReadInOrder size)
+FitsFile files (Chain slot size sought) positions = IsDiskFile files slot (IsChainedBy size sought)
+FitsFile files (Append slot) positions = IsDiskFile files slot (TakesRecord (length positions))
+FitsFile files (Add slot) positions = IsDiskFile files slot (TakesAddition (length positions))
+FitsFile files (Update slot current) positions = IsDiskFile files slot (TakesChanges (length positions))
+FitsFile files request positions = Unit {0}

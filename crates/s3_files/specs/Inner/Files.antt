@@ -1,0 +1,43 @@
+-- A file over the contents of a pool.
+use Rattle.std.specs.Prelude.{◌*◌, ◌^◌, ◌<◌, ◌≤◌, ℕ, List, length, nat_eq}
+use Rattle.std.specs.List.{All, IsDistinct}
+use Rattle.s3_store.specs.Bytes.{bytes_at}
+use Rattle.s3_store.specs.Inner.Bytes.{SameOutside}
+use Rattle.s3_store.specs.Stretches.{sectors_in}
+use Rattle.s3_slots.specs.Labels.{sectors_of}
+use Rattle.s3_slots.specs.declared.label.FileLabel.{FileLabel}
+use Rattle.s3_files.specs.Records.{records_in}
+
+-- where the records of a file are: the numbers of its sectors, in the order of its bytes; how long a record is; for how many
+-- there is room, and how many there are
+pub record FileShape : Type 0 where
+  pub sectors : List ℕ
+  pub record_length : ℕ
+  pub capacity : ℕ
+  pub count : ℕ
+
+-- the records of a file over these sectors
+abbrev pub records : FileShape → List (List ℕ) → List (List ℕ)
+records file contents = records_in file.record_length file.count (bytes_at file.sectors contents)
+
+-- the bytes of the file are the same but for those of the record at i
+abbrev pub ChangesRecord : FileShape → ℕ → List (List ℕ) → List (List ℕ) → Type 0
+ChangesRecord file i old new = SameOutside (i * file.record_length) file.record_length (bytes_at file.sectors old) (bytes_at file.sectors new)
+
+-- the sectors are there
+abbrev pub AreStored : List ℕ → List (List ℕ) → Type 0
+AreStored sectors contents = All (λ n. n < length contents) sectors
+
+-- ---- a file as its label says
+
+abbrev pub file_of : FileLabel → FileShape
+file_of label = record { sectors = sectors_of label; record_length = label.record_length; capacity = label.capacity; count = label.count }
+
+-- What a sound label says of its file: no sector is there twice, the records fit, and there are at most as many as there is room
+-- for.
+pub record HasRoom (label : FileLabel) : Type 0 where
+  pub small : All (λ n. n < 65536) (sectors_in label.extents)
+  pub distinct : IsDistinct nat_eq (sectors_in label.extents)
+  pub fits : label.capacity * label.record_length ≤ 256 * length (sectors_in label.extents)
+  pub few : 256 * length (sectors_in label.extents) < 2 ^ 31
+  pub counted : label.count ≤ label.capacity

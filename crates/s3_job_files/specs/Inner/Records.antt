@@ -1,0 +1,9 @@
+-- Words of proofs and of other calls beside Records.
+use Rattle.std.specs.Prelude.{ℕ, Bool, map, zip, List, Option, Some, None, if◌then◌else◌}
+
+-- the codes of a record, where they are put
+abbrev pub change_of : ℕ × Bool → Option ℕ
+change_of (code, put) = if put then Some code else None
+
+abbrev pub changes_of : (codes : List ℕ) → (put : List Bool) → List (Option ℕ)
+changes_of codes put = map change_of (zip codes put)

@@ -1,0 +1,19 @@
+-- Words of proofs and of other calls beside Index.
+use Rattle.std.specs.Prelude.{ℕ, ◌+◌, ◌≤◌, List, length}
+use Rattle.s3_store.specs.Stretches.{sectors_in}
+use Rattle.s3_slots.specs.Slots.{record_sectors, index_sectors}
+use Rattle.s3_slots.specs.declared.label.FileLabel.{FileLabel}
+use Rattle.s3_files.specs.Records.{records_in}
+use Rattle.s3_keyed.specs.Index.{keys_of, Layout}
+
+-- What a sound label of an indexed file says of it: its key lies in its records, and its index behind them fits.
+pub record HasIndex (label : FileLabel) : Type 0 where
+  pub some_key : 1 ≤ label.key_length
+  pub short_key : label.key_length ≤ 29
+  pub some_start : 1 ≤ label.key_start
+  pub inside : label.key_start + label.key_length ≤ label.record_length + 1
+  pub fits : record_sectors label.capacity label.record_length + index_sectors label.capacity label.key_length ≤ length (sectors_in label.extents)
+
+-- the keys of the first so many records
+abbrev pub keys_at : Layout → (count : ℕ) → List ℕ → List ℕ
+keys_at layout count bytes = keys_of layout.key (records_in layout.record_length count bytes)

@@ -1,0 +1,38 @@
+-- The control fields that are held, and what breaks.
+use Rattle.std.specs.Prelude.{ℕ, zero, suc, Bool, false, not, ◌&&◌, List, [], ◌∷◌, Option, None, is_some, find, slice_get, unwrap_or, if◌then◌else◌}
+use Rattle.std.specs.Option.{option_and_then}
+use Rattle.std.specs.List.{list_any}
+use Rattle.s3_lines.specs.declared.sheet.InputLine.{InputLine}
+use Rattle.s3_lines.specs.declared.sheet.InputLine.TheVariants.{Record, And as AndCodes, Or as OrCodes, Field as InputField}
+use Rattle.s3_meaning.specs.RecordTypes.{RecordType}
+use Rattle.s3_meaning.specs.Selection.{control_value, same_key, levels}
+use Rattle.s3_program.specs.declared.program.Reference.{Reference}
+use Rattle.s3_program.specs.Inner.Starts.{is_type}
+use Rattle.s3_match.specs.declared.held.HeldField.{HeldField}
+use Rattle.s3_match.specs.Inner.Keys.{held_key}
+
+-- by level, L1 first
+abbrev pub held_in : List HeldField → ℕ → Option (List ℕ)
+held_in held zero = None
+held_in held (suc n) = option_and_then held_key (slice_get held n)
+
+-- whether a level breaks, by what is held for each
+abbrev pub breaks_at : (ℕ → Option (List ℕ)) → RecordType → List ℕ → ℕ → Bool
+breaks_at held kind bytes n = is_some (control_value kind bytes n) && not (same_key (control_value kind bytes n) (held n))
+
+-- the greatest level that breaks, 0 if none: the meaning's, at an environment that holds this
+abbrev pub break_of : (ℕ → Option (List ℕ)) → RecordType → List ℕ → ℕ
+break_of held kind bytes = unwrap_or (find (breaks_at held kind bytes) levels) 0
+
+-- ---- on the lines as they stand
+-- a field with a control level
+abbrev pub names_some_level : InputLine Reference → Bool
+names_some_level (Record file indicator codes) = false
+names_some_level (AndCodes codes) = false
+names_some_level (OrCodes indicator codes) = false
+names_some_level (InputField field) = is_some field.control_level
+
+-- such a field behind the line where the first record type starts
+unfoldable pub some_type_names_level : List (InputLine Reference) → Bool
+some_type_names_level [] = false
+some_type_names_level (line ∷ lines) = if is_type line then list_any names_some_level lines else some_type_names_level lines

@@ -1,0 +1,124 @@
+-- What the cycle holds of its reading, and the files that are still to be read.
+use Rattle.std.specs.Prelude.{ℕ, ◌≡◌, ◌+◌, ◌<◌, ◌≤◌, Bool, true, false, List, [], ◌++◌, map, filter, filter_map, take, drop, length, get_or, Option, slice_get, slice_set, slice_index_or, unwrap_or, option_map, None}
+use Rattle.std.specs.List.{All, range_with_len}
+use Rattle.s3_lines.specs.Indicators.{indicator_number}
+use Rattle.s3_lines.specs.declared.indicator.Indicator.{Indicator}
+use Rattle.s3_lines.specs.declared.sheet.InputLine.{InputLine}
+use Rattle.s3_meaning.specs.Source.{Source, is_input}
+use Rattle.s3_meaning.specs.Requests.{Answer, Found}
+use Rattle.s3_meaning.specs.Runs.{Rest, Anew}
+use Rattle.s3_meaning.specs.Selection as meaning
+use Rattle.s3_meaning.specs.Cycle.{files_read, typed}
+use Rattle.s3_program.specs.declared.program.Program.{Program}
+use Rattle.s3_program.specs.declared.program.Reference.{Reference}
+use Rattle.s3_program.specs.declared.starts.TypeStart.{TypeStart}
+use Rattle.s3_match.specs.declared.heads.InputFile.{InputFile}
+use Rattle.s3_match.specs.declared.reading.Reading.{Reading}
+use Rattle.s3_match.specs.Inner.Types.{IsOnlyType, kind_at}
+use Rattle.s3_match.specs.Inner.Fields.{indicator_on, named_levels}
+use Rattle.s3_match.specs.Inner.Heads.{no_file, file_at, is_unread, IsInput}
+use Rattle.s3_match.specs.Inner.Selecting.{reading_of}
+
+abbrev pub reading_in : Program → Reading → meaning.Reading
+reading_in program reading = reading_of program reading.files.items reading.primary_key
+
+abbrev pub is_input_slot : Program → ℕ → Bool
+is_input_slot program slot = is_input (file_at program slot)
+
+-- the slots of the primary and secondary files, in F order
+abbrev pub input_slots : Program → List ℕ
+input_slots program = filter (is_input_slot program) (range_with_len 0 (length program.files.items))
+
+abbrev pub slots_of : List InputFile → List ℕ
+slots_of files = map (λ input. input.file) files
+
+-- for each file the type of each of its records, if there is such a type
+pub record AreOnlyTypes (program : Program) (types : List (Option TypeStart)) : Type 0 where
+  pub many : length types ≡ length program.files.items
+  pub each : (file : ℕ) (d : Option TypeStart) → file < length types → IsOnlyType program file (get_or types file d)
+
+-- the record identifying indicators on these lines
+abbrev pub indicators_on : List (InputLine Reference) → List Indicator
+indicators_on lines = filter_map indicator_on lines
+
+-- their numbers
+pub record AreNumbersOf (lines : List (InputLine Reference)) (numbers : List ℕ) : Type 0 where
+  pub numbered : numbers ≡ map indicator_number (indicators_on lines)
+  pub within : All (λ number. number < 2048) numbers
+
+-- the number of a line's record identifying indicator, 0 if it has none
+abbrev pub number_on : InputLine Reference → ℕ
+number_on line = unwrap_or (option_map indicator_number (indicator_on line)) 0
+
+pub record AreLineNumbers (lines : List (InputLine Reference)) (numbers : List ℕ) : Type 0 where
+  pub numbered : numbers ≡ map number_on lines
+  pub within : All (λ number. number < 2048) numbers
+
+-- each primary and secondary file stands there once, in F order, with the key of its head; and what is told once of all records
+pub record IsReading (program : Program) (reading : Reading) : Type 0 where
+  pub inputs : All (IsInput program) reading.files.items
+  pub slots : slots_of reading.files.items ≡ input_slots program
+  pub levels : reading.levels ≡ named_levels program
+  pub only_types : AreOnlyTypes program reading.only_types.items
+  pub type_numbers : AreNumbersOf program.inputs.items reading.type_numbers.items
+  pub line_numbers : AreLineNumbers program.inputs.items reading.line_numbers.items
+
+-- ---- one of the files
+-- what stands for the file where a place has none
+abbrev pub no_input : meaning.InputFile
+no_input = record { file = no_file; standing = meaning.Ended; reads = 0; last_key = None }
+
+abbrev pub input_at : List meaning.InputFile → (place : ℕ) → meaning.InputFile
+input_at inputs place = slice_index_or inputs place no_input
+
+-- the file at the place changes
+abbrev pub changed_at : (place : ℕ) → (meaning.InputFile → meaning.InputFile) → meaning.Reading → meaning.Reading
+changed_at place change reading = record reading { files = slice_set reading.files place (change (input_at reading.files place)) }
+
+abbrev pub is_unread_at : List InputFile → (place : ℕ) → Bool
+is_unread_at files place = unwrap_or (option_map is_unread (slice_get files place)) false
+
+-- the bytes of the record at the head of the file there, and of the last one once that is taken
+abbrev pub bytes_at : List InputFile → (place : ℕ) → List ℕ
+bytes_at files place = unwrap_or (option_map (λ input. input.bytes.items) (slice_get files place)) []
+
+-- a file stands at the place, and its next record is to be read
+pub record IsUnreadAt (files : List InputFile) (place : ℕ) : Type 0 where
+  pub within : place < length files
+  pub unread : is_unread_at files place ≡ true
+
+-- the head of a file, if a record of this type stands there
+abbrev pub head_with : Program → InputFile → TypeStart → meaning.Selected
+head_with program input start = record {
+  file = file_at program input.file;
+  head = record { number = input.reads; bytes = input.bytes.items; kind = kind_at program start };
+}
+
+-- ---- reading on
+-- none of the files from a place on, and before another, is to be read
+pub record AreRead (inputs : List meaning.InputFile) (from to : ℕ) : Type 0 where
+  pub each : (k : ℕ) → from ≤ k → k < to → meaning.is_unread (input_at inputs k) ≡ false
+
+-- the first file from a place on that is to be read
+pub record IsNextUnread (inputs : List meaning.InputFile) (from place : ℕ) : Type 0 where
+  pub behind : from ≤ place
+  pub within : place < length inputs
+  pub unread : meaning.is_unread (input_at inputs place) ≡ true
+  pub before : AreRead inputs from place
+
+-- the files from a place on are read; those before it stay as they are
+unfoldable pub read_from : Source → Anew → (inputs : List meaning.InputFile) → (place : ℕ) → (List meaning.InputFile → Rest) → Rest
+read_from source anew inputs place go = files_read source anew (drop place inputs) (λ later. go (take place inputs ++ later))
+
+-- what follows the reading of the file at a place: it stands there as it is then, and the files behind it are read on
+abbrev pub read_behind : Source → Anew → (inputs : List meaning.InputFile) → (place : ℕ) → (List meaning.InputFile → Rest) → meaning.InputFile → Rest
+read_behind source anew inputs place go input = read_from source anew (slice_set inputs place input) (place + 1) go
+
+-- a record was read from the file at a place, and counted
+abbrev pub on_record : Source → Anew → (inputs : List meaning.InputFile) → (place : ℕ) → (bytes : List ℕ) → (List meaning.InputFile → Rest) → Rest
+on_record source anew inputs place bytes go =
+    typed anew (input_at inputs place) bytes (meaning.type_of source (input_at inputs place).file.name bytes) (read_behind source anew inputs place go)
+
+abbrev pub is_record : Answer → Bool
+is_record (Found bytes) = true
+is_record _ = false

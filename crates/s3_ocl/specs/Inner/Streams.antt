@@ -1,0 +1,19 @@
+-- Words of proofs and of other calls beside Streams.
+use Rattle.std.specs.Prelude.{◌≡◌, ◌<◌, ◌≤◌, ℕ, List, [], ◌∷◌, Result, length}
+use Rattle.s3_ocl.specs.declared.faults.FaultyJob.{FaultyJob}
+use Rattle.s3_ocl.specs.Jobs.{Job, job_at, next_job, place_after}
+use Rattle.s3_ocl.specs.Streams.{jobs_from}
+
+-- what stands from a place on is this list of jobs: separators and nothing else, or separators, a job, and what stands
+-- behind that job
+pub data Stream (cards : List (List ℕ)) : ℕ → List (Result Job FaultyJob) → Type 0 where
+  ends : (from : ℕ) → length cards ≤ next_job cards from → Stream cards from []
+  next : (from : ℕ) (jobs : List (Result Job FaultyJob)) → next_job cards from < length cards
+      → Stream cards (place_after (job_at cards (next_job cards from))) jobs
+      → Stream cards from (job_at cards (next_job cards from) ∷ jobs)
+
+-- from each place of each list of cards there is a list of jobs, and no other
+abbrev pub OneStream : Type 0
+OneStream =
+    (cards : List (List ℕ)) (from : ℕ)
+    → Stream cards from (jobs_from cards from) × ((jobs : List (Result Job FaultyJob)) → Stream cards from jobs → jobs ≡ jobs_from cards from)

@@ -1,0 +1,11 @@
+-- What the contracts of a run and of a session don't reach: words of inner functions, of proofs and of other calls.
+pub mod Beginning
+pub mod Chaining
+pub mod Fits
+pub mod Groups
+pub mod Held
+pub mod Indicating
+pub mod Indicators
+pub mod Moves
+pub mod Performing
+pub mod Texts

@@ -1,0 +1,7 @@
+-- Words of proofs and of other calls beside Stretches.
+use Rattle.std.specs.Prelude.{◌≡◌, ◌%◌}
+use Rattle.s3_store.specs.declared.stretch.Stretch.{Stretch}
+
+-- whole tracks
+abbrev pub IsWhole : Stretch → Type 0
+IsWhole region = (region.start % 24 ≡ 0) × (region.sectors % 24 ≡ 0)

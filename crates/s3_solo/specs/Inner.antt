@@ -1,0 +1,5 @@
+-- What the contracts of a run and of a session don't reach: words of inner functions, of proofs and of other calls.
+pub mod Asked
+pub mod Formats
+pub mod Lines
+pub mod Samples
