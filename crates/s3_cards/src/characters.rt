@@ -45,14 +45,14 @@ static HOSTS: [u8; 256] = [
     0x30, 0x31, 0x32, 0x33, 0x34, 0x35, 0x36, 0x37, 0x38, 0x39, 0x00, 0x00, 0x00, 0x00, 0x00, 0x00,
 ];
 
-#[tactic(auto, unfolding(crate::specs::Codes::codes_of_bytes, crate::specs::Codes::code_page))]
+#[tactic(auto, unfolding(crate::specs::Inner::Codes::codes_of_bytes, crate::specs::Codes::code_page))]
 fn codes() -> &'static [u8; 256]
     ensures { result.now ≡ codes_of_bytes }
 {
     &CODES
 }
 
-#[tactic(auto, unfolding(crate::specs::Codes::hosts_of_codes, crate::specs::Codes::code_page))]
+#[tactic(auto, unfolding(crate::specs::Inner::Codes::hosts_of_codes, crate::specs::Codes::code_page))]
 fn hosts() -> &'static [u8; 256]
     ensures { result.now ≡ hosts_of_codes }
 {

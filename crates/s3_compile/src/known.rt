@@ -36,7 +36,7 @@ use s3_program::standing::CalculationStanding;
 use std::alloc::{AllocError, Global};
 
 /// Adds the fields that the language has itself.
-#[tactic(auto, unfolding(s3_program::specs::Given::all_noted))]
+#[tactic(auto, unfolding(s3_program::specs::Inner::Given::all_noted))]
 fn note_reserved(table: &mut IndexMap<Name, Shape>) -> Result<(), AllocError>
     ensures { OnOk result (table.new.entries ≡ all_noted table.old.entries reserved_shapes) }
 {

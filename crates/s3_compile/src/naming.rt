@@ -31,7 +31,7 @@ fn name_given(factor: Option<Factor>) -> Option<Name>
 }
 
 /// Adds the tag of a C line.
-#[tactic(auto, unfolding(s3_program::specs::Given::all_noted))]
+#[tactic(auto, unfolding(s3_program::specs::Inner::Given::all_noted))]
 fn note_tag(
     table: &mut IndexMap<Name, TagPlace>,
     at: &CalculationStanding,
@@ -52,7 +52,7 @@ fn note_tag(
 }
 
 /// Adds the subroutine of a C line.
-#[tactic(auto, unfolding(s3_program::specs::Given::all_noted))]
+#[tactic(auto, unfolding(s3_program::specs::Inner::Given::all_noted))]
 fn note_subroutine(
     table: &mut IndexMap<Name, SubroutinePlace>,
     at: &CalculationStanding,
@@ -70,7 +70,7 @@ fn note_subroutine(
 }
 
 /// Adds the tag of a line.
-#[tactic(auto, unfolding(s3_program::specs::Given::all_noted))]
+#[tactic(auto, unfolding(s3_program::specs::Inner::Given::all_noted))]
 fn note_tag_on(
     table: &mut IndexMap<Name, TagPlace>,
     at: &CalculationStanding,
@@ -86,7 +86,7 @@ fn note_tag_on(
 }
 
 /// Adds the subroutine of a line.
-#[tactic(auto, unfolding(s3_program::specs::Given::all_noted))]
+#[tactic(auto, unfolding(s3_program::specs::Inner::Given::all_noted))]
 fn note_subroutine_on(
     table: &mut IndexMap<Name, SubroutinePlace>,
     at: &CalculationStanding,
@@ -112,7 +112,7 @@ fn behind_line(at: &CalculationStanding, line: &Line) -> CalculationStanding
 }
 
 /// The tags, each by its first line.
-#[tactic(auto, unfolding(s3_program::specs::Given::all_noted))]
+#[tactic(auto, unfolding(s3_program::specs::Inner::Given::all_noted))]
 pub fn tags_defined(alloc: Global, lines: &[Line]) -> Result<IndexMap<Name, TagPlace>, AllocError>
     ensures { IfOk result (λ table. table.entries ≡ firsts (spec.tags_from first_calculation_spec (filter_map calculation_line lines.now))) }
 {
@@ -126,7 +126,7 @@ pub fn tags_defined(alloc: Global, lines: &[Line]) -> Result<IndexMap<Name, TagP
 }
 
 /// The subroutines, each by its first line.
-#[tactic(auto, unfolding(s3_program::specs::Given::all_noted))]
+#[tactic(auto, unfolding(s3_program::specs::Inner::Given::all_noted))]
 pub fn subroutines_defined(
     alloc: Global,
     lines: &[Line],
@@ -143,7 +143,7 @@ pub fn subroutines_defined(
 }
 
 /// Adds the result of a C line that defines one.
-#[tactic(auto, unfolding(s3_program::specs::Given::all_noted))]
+#[tactic(auto, unfolding(s3_program::specs::Inner::Given::all_noted))]
 fn note_result(table: &mut IndexMap<Name, Shape>, line: &CalculationLine) -> Result<(), AllocError>
     ensures { OnOk result (table.new.entries ≡ all_noted table.old.entries (option_to_list (spec.result_given line.now))) }
 {
@@ -154,7 +154,7 @@ fn note_result(table: &mut IndexMap<Name, Shape>, line: &CalculationLine) -> Res
 }
 
 /// Adds the result of a line.
-#[tactic(auto, unfolding(s3_program::specs::Given::all_noted))]
+#[tactic(auto, unfolding(s3_program::specs::Inner::Given::all_noted))]
 fn note_result_on(table: &mut IndexMap<Name, Shape>, line: &Line) -> Result<(), AllocError>
     ensures { OnOk result (table.new.entries ≡ all_noted table.old.entries (result_on line.now)) }
 {
@@ -165,7 +165,7 @@ fn note_result_on(table: &mut IndexMap<Name, Shape>, line: &Line) -> Result<(), 
 }
 
 /// Adds the field of a line in a record.
-#[tactic(auto, unfolding(s3_program::specs::Given::all_noted))]
+#[tactic(auto, unfolding(s3_program::specs::Inner::Given::all_noted))]
 fn note_field_on(table: &mut IndexMap<Name, Shape>, line: &Line) -> Result<(), AllocError>
     requires { IsTrue (is_ranged line.now.sheet) }
     ensures { OnOk result (table.new.entries ≡ all_noted table.old.entries (field_on line.now)) }
@@ -177,7 +177,7 @@ fn note_field_on(table: &mut IndexMap<Name, Shape>, line: &Line) -> Result<(), A
 }
 
 /// Adds the results of C lines.
-#[tactic(auto, unfolding(s3_program::specs::Given::all_noted))]
+#[tactic(auto, unfolding(s3_program::specs::Inner::Given::all_noted))]
 pub fn note_results(table: &mut IndexMap<Name, Shape>, lines: &[Line]) -> Result<(), AllocError>
     ensures { OnOk result (table.new.entries ≡ all_noted table.old.entries (filter_map spec.result_given (filter_map calculation_line lines.now))) }
 {
@@ -188,7 +188,7 @@ pub fn note_results(table: &mut IndexMap<Name, Shape>, lines: &[Line]) -> Result
 }
 
 /// Adds the fields of I lines.
-#[tactic(auto, unfolding(s3_program::specs::Given::all_noted))]
+#[tactic(auto, unfolding(s3_program::specs::Inner::Given::all_noted))]
 pub fn note_fields(table: &mut IndexMap<Name, Shape>, lines: &[Line]) -> Result<(), AllocError>
     requires { IsTrue (are_ranged lines.now) }
     ensures { OnOk result (table.new.entries ≡ all_noted table.old.entries (filter_map spec.input_given (filter_map input_line lines.now))) }

@@ -11,7 +11,7 @@ use s3_operator::{HaltCode, allowed};
 const CARD_LENGTH: usize = 96;
 
 /// A record of so many bytes, or none.
-#[tactic(auto, unfolding(crate::specs::Requests::answer_of))]
+#[tactic(auto, unfolding(crate::specs::Inner::Requests::answer_of))]
 fn is_record_or_none(length: usize, answer: &Answer<'_>) -> bool
     ensures { result ≡ fits_record length (answer_of answer.now) }
 {
@@ -23,7 +23,7 @@ fn is_record_or_none(length: usize, answer: &Answer<'_>) -> bool
 }
 
 /// Done, which nothing refuses.
-#[tactic(auto, unfolding(crate::specs::Requests::answer_of))]
+#[tactic(auto, unfolding(crate::specs::Inner::Requests::answer_of))]
 fn is_done(answer: &Answer<'_>) -> bool
     ensures { result ≡ fits_done refuses_never (answer_of answer.now) }
 {
@@ -31,7 +31,7 @@ fn is_done(answer: &Answer<'_>) -> bool
 }
 
 /// Done, or refused as a record behind the last one is.
-#[tactic(auto, unfolding(crate::specs::Requests::answer_of))]
+#[tactic(auto, unfolding(crate::specs::Inner::Requests::answer_of))]
 fn is_appended_or_refused(answer: &Answer<'_>) -> bool
     ensures { result ≡ fits_done refuses_append (answer_of answer.now) }
 {
@@ -43,7 +43,7 @@ fn is_appended_or_refused(answer: &Answer<'_>) -> bool
 }
 
 /// Done, or refused as a record under a new key is.
-#[tactic(auto, unfolding(crate::specs::Requests::answer_of))]
+#[tactic(auto, unfolding(crate::specs::Inner::Requests::answer_of))]
 fn is_added_or_refused(answer: &Answer<'_>) -> bool
     ensures { result ≡ fits_done refuses_add (answer_of answer.now) }
 {
@@ -55,7 +55,7 @@ fn is_added_or_refused(answer: &Answer<'_>) -> bool
 }
 
 /// Done, or refused as a change is.
-#[tactic(auto, unfolding(crate::specs::Requests::answer_of))]
+#[tactic(auto, unfolding(crate::specs::Inner::Requests::answer_of))]
 fn is_updated_or_refused(answer: &Answer<'_>) -> bool
     ensures { result ≡ fits_done refuses_update (answer_of answer.now) }
 {
@@ -67,7 +67,7 @@ fn is_updated_or_refused(answer: &Answer<'_>) -> bool
 }
 
 /// A digit that the replies to a halt allow.
-#[tactic(auto, unfolding(crate::specs::Requests::answer_of))]
+#[tactic(auto, unfolding(crate::specs::Inner::Requests::answer_of))]
 fn is_allowed_reply(code: HaltCode, answer: &Answer<'_>) -> bool
     ensures { result ≡ fits_reply code (answer_of answer.now) }
 {
@@ -80,7 +80,7 @@ fn is_allowed_reply(code: HaltCode, answer: &Answer<'_>) -> bool
 /// Whether an answer fits a request, as `Cycle::resume` demands of an answer to the pending one: a record of its file's length, a
 /// card's 96 bytes, or none, where one is asked for; for a record that is put out, that it is done or for which halt it isn't; a
 /// digit that is allowed, for a halt; and for a line or a jump that it is done. No answer fits the end.
-#[tactic(auto, unfolding(crate::specs::Requests::request_of))]
+#[tactic(auto, unfolding(crate::specs::Inner::Requests::request_of))]
 pub fn fits(request: &Request, answer: &Answer<'_>) -> bool
     ensures { (program : Program) (positions : List (Option ℕ)) → result ≡ fits_spec (request_of program positions request.now) (answer_of answer.now) }
 {

@@ -45,7 +45,7 @@ fn migrated_bytes(alloc: Global, bytes: &[u8]) -> Result<Vec<u8>, AllocError>
 /// slots change, and nothing else.
 ///
 /// It is refused where the pack isn't mounted, then where it is in the second format.
-#[tactic(auto, unfolding(crate::specs::Images::migrated))]
+#[tactic(auto, unfolding(crate::specs::Inner::Images::migrated))]
 pub fn migrate(alloc: Global, bytes: &[u8]) -> Result<Vec<u8>, MigrateFault>
     ensures ok { IfOk result (λ new. migrated bytes.now ≡ Ok new.items) }
     ensures err { IfErr result (IsMigrateFault (migrated bytes.now)) }

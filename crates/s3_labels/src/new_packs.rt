@@ -92,7 +92,7 @@ fn bytes_of_header(alloc: Global, header: &Header) -> Result<Vec<u8>, AllocError
 }
 
 /// Puts zeros behind the others, up to so many bytes.
-#[tactic(auto, unfolding(crate::specs::Images::padded))]
+#[tactic(auto, unfolding(crate::specs::Inner::Images::padded))]
 fn pad(bytes: &mut Vec<u8>, width: usize) -> Result<(), AllocError>
     ensures { OnOk result (bytes.new.items ≡ padded width bytes.old.items) }
 {
@@ -159,7 +159,7 @@ fn push_sectors(
 }
 
 /// A new pack with these regions, all its slots free.
-#[tactic(auto, unfolding(crate::specs::Images::image_of))]
+#[tactic(auto, unfolding(crate::specs::Inner::Images::image_of))]
 fn new_pack(alloc: Global, header: &Header) -> Result<Vec<u8>, AllocError>
     ensures { IfOk result (λ pack. pack.items ≡ image_of header.now no_masters) }
 {
@@ -171,7 +171,7 @@ fn new_pack(alloc: Global, header: &Header) -> Result<Vec<u8>, AllocError>
 }
 
 /// A new pack with these regions, whose masters are the sound files of an old pack's level 1.
-#[tactic(auto, unfolding(crate::specs::Images::image_of, crate::specs::Images::masters_from))]
+#[tactic(auto, unfolding(crate::specs::Inner::Images::image_of, crate::specs::Inner::Images::masters_from))]
 fn pack_with_masters(
     alloc: Global,
     header: &Header,

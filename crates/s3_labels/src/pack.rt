@@ -151,7 +151,7 @@ impl<P: Sectors> Pack<P> {
     }
 
     /// The file of a label for a level, its own before the masters', and whether it is a master's.
-    #[tactic(auto, using(crate::proofs::Regions::own_on_pack, crate::proofs::Regions::master_on_pack), unfolding(s3_slots::specs::Making::found))]
+    #[tactic(auto, using(crate::proofs::Regions::own_on_pack, crate::proofs::Regions::master_on_pack), unfolding(s3_slots::specs::Inner::Making::found))]
     pub fn find(&self, level: LevelId, name: Name) -> Result<(FileLabel, bool), LabelFault>
         ensures value { result ≡ found name (slots_at level self.now.areas) self.now.areas.masters }
         ensures on_pack { IsReady self.now.areas (P.state self.now.pool).contents → IfOk result (λ file. IsOfPack (length (P.state self.now.pool).contents) file.0) }

@@ -56,7 +56,7 @@ fn first_card(deck: &Deck, from: usize, to: usize) -> Option<&Card>
 }
 
 /// What a run goes on with where a record was found, or none.
-#[tactic(auto, unfolding(s3_cycle::specs::Requests::answer_of))]
+#[tactic(auto, unfolding(s3_cycle::specs::Inner::Requests::answer_of))]
 fn record_answer(found: bool, bytes: &[u8]) -> Answer<'_>
     ensures { answer_of result ≡ found_answer found bytes.now }
 {
@@ -68,7 +68,7 @@ fn record_answer(found: bool, bytes: &[u8]) -> Answer<'_>
 }
 
 /// What a run goes on with where a record was put, or refused.
-#[tactic(auto, unfolding(s3_cycle::specs::Requests::answer_of))]
+#[tactic(auto, unfolding(s3_cycle::specs::Inner::Requests::answer_of))]
 fn answer_of_put(put: Put) -> Answer<'static>
     ensures { answer_of result ≡ put_answer put }
 {

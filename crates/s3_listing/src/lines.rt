@@ -20,7 +20,7 @@ pub fn push_area(text: &mut Vec<u8>, area: u8, slots: &[Slot]) -> Result<(), All
 }
 
 /// Appends the line of a slot; a free one has none.
-#[tactic(auto, unfolding(crate::specs::Lines::slot_line))]
+#[tactic(auto, unfolding(crate::specs::Inner::Lines::slot_line))]
 fn push_slot(text: &mut Vec<u8>, area: u8, slot: &Slot) -> Result<(), AllocError>
     requires { area < 3 }
     ensures { OnOk result (text.new.items ≡ text.old.items ++ slot_line area slot.now) }
@@ -33,7 +33,7 @@ fn push_slot(text: &mut Vec<u8>, area: u8, slot: &Slot) -> Result<(), AllocError
 }
 
 /// Appends the line of a file.
-#[tactic(auto, unfolding(crate::specs::Lines::slot_line))]
+#[tactic(auto, unfolding(crate::specs::Inner::Lines::slot_line))]
 fn push_file(text: &mut Vec<u8>, area: u8, label: &FileLabel) -> Result<(), AllocError>
     requires { area < 3 }
     ensures { OnOk result (text.new.items ≡ text.old.items ++ slot_line area (Slot.Sound label.now)) }
@@ -47,7 +47,7 @@ fn push_file(text: &mut Vec<u8>, area: u8, label: &FileLabel) -> Result<(), Allo
 }
 
 /// Appends the line of a damaged slot.
-#[tactic(auto, unfolding(crate::specs::Lines::slot_line))]
+#[tactic(auto, unfolding(crate::specs::Inner::Lines::slot_line))]
 fn push_damage(text: &mut Vec<u8>, area: u8, name: Option<Name>) -> Result<(), AllocError>
     requires { area < 3 }
     ensures { OnOk result (text.new.items ≡ text.old.items ++ slot_line area (Slot.Damaged name)) }
@@ -88,7 +88,7 @@ fn push_shown(text: &mut Vec<u8>, codes: &[u8]) -> Result<(), AllocError>
 }
 
 /// Appends what a label says of its file, but for its name.
-#[tactic(auto, unfolding(crate::specs::Lines::fields_text))]
+#[tactic(auto, unfolding(crate::specs::Inner::Lines::fields_text))]
 fn push_fields(text: &mut Vec<u8>, label: &FileLabel) -> Result<(), AllocError>
     ensures { OnOk result (text.new.items ≡ text.old.items ++ fields_text label.now) }
 {

@@ -26,7 +26,7 @@ use s3_store::Sectors;
 use std::alloc::Global;
 
 /// What the level halts for where a line doesn't allow a file that stands, whatever its index is.
-#[tactic(auto, unfolding(crate::specs::Tests::line_refusal))]
+#[tactic(auto, unfolding(crate::specs::Inner::Tests::line_refusal))]
 fn line_refusal(line: &FileLine, is_master: bool, label: &FileLabel) -> Option<HaltCode>
     ensures { result ≡ line_refusal_spec line.now is_master label.now }
 {
@@ -101,7 +101,7 @@ fn halt_of_find(fault: LabelFault) -> HaltCode
     }
 }
 
-#[tactic(auto, using(crate::proofs::Steps::stated_sound, crate::proofs::Steps::any_mapped), unfolding(crate::specs::Tests::step_of))]
+#[tactic(auto, using(crate::proofs::Steps::stated_sound, crate::proofs::Steps::any_mapped), unfolding(crate::specs::Inner::Tests::step_of))]
 /// What a file that the job uses comes to, behind those that passed so far.
 fn start_of<P: Sectors>(
     alloc: Global,

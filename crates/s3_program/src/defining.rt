@@ -25,7 +25,7 @@ pub fn note<T: Copy>(
 }
 
 /// Adds the file of a line.
-#[tactic(auto, unfolding(crate::specs::Given::all_noted))]
+#[tactic(auto, unfolding(crate::specs::Inner::Given::all_noted))]
 fn note_file(table: &mut IndexMap<Name, FileLine>, line: &Line) -> Result<(), AllocError>
     ensures { OnOk result (table.new.entries ≡ spec.all_noted table.old.entries (option_to_list (spec.file_given line.now))) }
 {

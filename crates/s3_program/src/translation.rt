@@ -170,7 +170,7 @@ fn output(known: &Definitions, line: &OutputLine) -> OutputLine<Reference>
     }
 }
 
-#[tactic(auto, unfolding(crate::specs::Translation::file_on))]
+#[tactic(auto, unfolding(crate::specs::Inner::Translation::file_on))]
 fn file_on(line: &Line) -> Option<FileLine>
     ensures { result ≡ spec.file_on line.now }
 {

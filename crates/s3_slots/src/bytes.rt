@@ -125,7 +125,7 @@ fn extent_at(extents: &Extents, i: usize) -> Stretch
 }
 
 /// The 64 bytes of a label's slot.
-#[tactic(auto, unfolding(crate::specs::Labels::label_bytes))]
+#[tactic(auto, unfolding(crate::specs::Inner::Labels::label_bytes))]
 pub fn bytes_of(label: &FileLabel) -> [u8; 64]
     ensures { result ≡ label_bytes label.now }
 {

@@ -5,7 +5,7 @@ ghost use Rattle.s3_cycle.specs.Inner.Following.{is_fit};
 use s3_cycle::{Answer, Cycle, fits};
 
 /// Whether an answer fits the pending request of a cycle.
-#[tactic(auto, unfolding(s3_cycle::specs::Following::is_fit, s3_cycle::specs::Following::waits, s3_cycle::specs::Following::asked))]
+#[tactic(auto, unfolding(s3_cycle::specs::Inner::Following::is_fit, s3_cycle::specs::Inner::Following::waits, s3_cycle::specs::Inner::Following::asked))]
 fn takes(cycle: &Cycle, answer: &Answer<'_>) -> bool
     ensures { result ≡ is_fit cycle.now answer.now }
 {
