@@ -12,7 +12,8 @@ use Rattle.s3_ocl.specs.Contents.{has}
 use Rattle.s3_ocl.specs.Faults.{first_fault, faults_behind}
 use Rattle.s3_ocl.specs.Jobs.{Job, job_at, job_end, job_or_fault, holds_at, heading_at, cards_of, stop_fault, stop_faults, faulty_end, next_job, place_after}
 use Rattle.s3_ocl.specs.Inner.Streams.{Stream, OneStream}
-use Rattle.s3_ocl.specs.Streams.{ends, next, jobs_within, jobs_from}
+use Rattle.s3_ocl.specs.Inner.Streams.{ends, next}
+use Rattle.s3_ocl.specs.Streams.{jobs_within, jobs_from}
 use Rattle.s3_ocl.proofs.BoundLemmas.{each-append, each_later}
 use Rattle.s3_ocl.proofs.JobLemmas.{On, first_on, each_stop, no_faults, statement_cards}
 

@@ -3,7 +3,7 @@ use Rattle.std.specs.Prelude.{ℕ, ◌==◌, Bool, true, false, length}
 use Rattle.s3_operator.specs.declared.halt_code.HaltCode.{HaltCode}
 use Rattle.s3_operator.specs.declared.halt_code.HaltCode.TheVariants.{DuplicateKey, KeyChanged, NothingToUpdate, FileFull, KeyNotAscending}
 use Rattle.s3_operator.specs.Replies.{is_allowed}
-use Rattle.s3_meaning.specs.Requests.{Request, Answer}
+use Rattle.s3_meaning.specs.Requests.{Request, Answer, Add, Append, Ask, Card, Chain, Done, End, Found, Jump, Nothing, Print, Read, Refused, Reply, Update}
 
 -- ---- which answers fit which request
 -- a record of so many bytes, or none

@@ -1,6 +1,6 @@
 -- Words of proofs and of other calls beside Rules.
 use Rattle.std.specs.Prelude.{ℕ, ◌+◌, ◌-◌, Bool, true, ◌==◌, ◌&&◌, nat_le, nat_lt}
-use Rattle.s3_sheets.specs.Rules.{Entry, Rule}
+use Rattle.s3_sheets.specs.Rules.{Entry, Rule, CodePosition, CodeTest, MaybeConstant, MaybeEditCode, MaybeFactor}
 
 -- ---- where an entry can stand
 -- whether an entry can stand in so many columns
