@@ -92,7 +92,7 @@ fn perform(rt: &HostRuntime, matches: &ArgMatches<'_>) -> u8
         Some(("list", matches)) => list_files(rt, matches),
         Some(("migrate", matches)) => migrate_pack(rt, matches),
         // a command that is offered above has a line here
-        _ => return misuse(rt, "the command isn't built"),
+        _ => return misuse(rt, "there is no such command"),
     };
     match done {
         Ok(()) => 0,
