@@ -87,7 +87,7 @@ pub fn short_number_of(key: &[u8]) -> Option<u64>
 struct KeyNumber {
     /// The first 16 of its 32 bytes.
     high: u128,
-    /// The others.
+    /// The last 16 of the key's 32 bytes.
     low: u128,
 }
 
@@ -104,7 +104,7 @@ impl KeyNumber {
 /// no answer rests on it.
 #[derive(Clone, Copy)]
 pub struct QuickKey {
-    /// Its first eight bytes, or all of a shorter key.
+    /// The key's first eight bytes as a number, or all bytes of a shorter key.
     head: u64,
     key: Key,
 }
@@ -119,7 +119,7 @@ impl QuickKey {
         }
     }
 
-    /// Its first eight bytes, or all of a shorter key.
+    /// The key's first eight bytes as a number, or all bytes of a shorter key.
     pub fn head(&self) -> u64 {
         self.head
     }

@@ -50,7 +50,7 @@ impl Model for Spool {
         × ((length s.two.items ≤ s.two.capacity) × AreBlocks s.free.items s.one.items s.two.items))) };
 }
 
-/// All blocks, in order.
+/// The numbers of all spool blocks, from 0, in order.
 #[tactic(auto, using(crate::proofs::BlocksLemmas::pushed_in_order))]
 fn all_blocks(alloc: Global) -> Result<HeapCircularBuffer<u8>, AllocError>
     ensures items { IfOk result (λ ring. ring.items ≡ range_with_len 0 128) }
