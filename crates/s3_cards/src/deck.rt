@@ -29,13 +29,13 @@ const MAX_CARDS: usize = 9_999;
 /// What is wrong with a card of a text.
 #[derive(Clone, Copy, Debug, PartialEq, Eq, Error)]
 pub enum CardFault {
-    /// Its line has over 96 bytes.
+    /// The card's line has over 96 bytes.
     #[error("wider than 96 columns")]
     TooWide,
-    /// Its line has a byte that is no card character.
+    /// The card's line has a byte that is no card character.
     #[error("a character that no card can have")]
     BadCharacter,
-    /// It is the 9,999th card, and the text has more.
+    /// The card is the 9,999th one, and the text has more.
     #[error("more than 9,999 cards")]
     TooMany,
 }
@@ -151,14 +151,14 @@ impl Deck {
         Ok(Deck { cards })
     }
 
-    /// The card at a place, from 0.
+    /// The card at a place, from 0; `None` behind the last one.
     pub fn card(&self, place: usize) -> Option<&Card>
         ensures { option_copied result ≡ slice_get self.now place }
     {
         self.cards.get(place)
     }
 
-    /// The cards in order.
+    /// The cards of the deck in order, at most 9,999.
     pub fn cards(&self) -> &[Card]
         ensures value { result.now ≡ self.now }
         ensures short { length self.now ≤ 9_999 }
@@ -166,7 +166,7 @@ impl Deck {
         &self.cards
     }
 
-    /// How many cards there are, at most 9,999.
+    /// How many cards the deck has, at most 9,999.
     pub fn len(&self) -> usize
         ensures value { result ≡ length self.now }
         ensures short { length self.now ≤ 9_999 }
@@ -174,7 +174,7 @@ impl Deck {
         self.cards.len()
     }
 
-    /// Whether there are no cards.
+    /// Whether the deck has no cards.
     pub fn is_empty(&self) -> bool
         ensures { IsTrue result ↔ (self.now ≡ []) }
     {
@@ -182,8 +182,8 @@ impl Deck {
     }
 }
 
-/// Punches the first line of a text that isn't empty into a card, or gives its fault. Answers how wide the line is, and the text
-/// after it. It is tried first with a likely width, that of the line before, so that its end isn't searched for.
+/// Punches the first line of a text that isn't empty into a card, or gives its fault. Answers how wide the line is, and the
+/// text after it. It is tried first with a likely width, that of the line before, so that its end isn't searched for.
 #[inline(always)]
 fn punch_first<'a>(
     text: &'a [u8],
@@ -205,8 +205,8 @@ fn punch_first<'a>(
     Ok((line.len(), after))
 }
 
-/// Punches the first line of a text into a card if it is so wide and has no fault, and answers the text after it. Where each byte
-/// in front of a newline is a card character, none of them is a newline, nor a carriage return.
+/// Punches the first line of a text into a card if it is so wide and has no fault, and answers the text after it. Where each
+/// byte in front of a newline is a card character, none of them is a newline, nor a carriage return.
 #[inline(always)]
 #[tactic(auto, using(crate::proofs::DeckLemmas::likely_line))]
 fn punch_likely<'a>(text: &'a [u8], width: usize, card: &mut Card) -> Option<&'a [u8]>

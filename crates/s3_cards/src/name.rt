@@ -13,12 +13,12 @@ use super::texts::{are_blank, word_len};
 /// have at most 8 characters, the others at most 6.
 #[derive(Clone, Copy, Debug, PartialEq, Eq, Hash)]
 pub struct Name {
-    /// In EBCDIC, padded with blanks on the right.
+    /// The name's characters in EBCDIC, padded with blanks on the right.
     pub codes: [u8; 8],
 }
 
 impl Name {
-    /// At most eight codes as a name. Whether they are one is for the caller to test.
+    /// The name of at most eight EBCDIC codes. It isn't tested here whether they are one: `is_word` and `is_name` do that.
     pub fn of(codes: &[u8]) -> Name
         requires { length codes.now ≤ 8 }
         ensures { result ≡ name_of codes.now }
@@ -57,14 +57,14 @@ pub fn goes_on_in_name(code: u8) -> bool
     begins_name(code) || is_digit(code)
 }
 
-/// Whether all codes may stand in a name behind its first one.
+/// Whether each of these codes may stand in a name behind its first one.
 pub fn go_on_in_name(codes: &[u8]) -> bool
     ensures { result ≡ list_all goes_on_spec codes.now }
 {
     codes.iter().all(|code| goes_on_in_name(*code))
 }
 
-/// Whether a text is a letter, `$`, `#` or `@`, and then these or digits.
+/// Whether a text of EBCDIC codes is a word: a letter, `$`, `#` or `@`, and then these or digits, as many as there are.
 #[tactic(auto, unfolding(crate::specs::Names::is_word))]
 pub fn is_word(text: &[u8]) -> bool
     ensures { result ≡ word_spec text.now }
@@ -75,7 +75,7 @@ pub fn is_word(text: &[u8]) -> bool
     }
 }
 
-/// Whether the codes have a name on their left, and blanks behind it.
+/// Whether a field of EBCDIC codes has a word on its left and blanks behind it.
 pub fn is_name(codes: &[u8]) -> bool
     ensures { result ≡ name_spec codes.now }
 {

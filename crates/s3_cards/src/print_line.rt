@@ -55,7 +55,7 @@ fn lay(positions: &mut [u8], text: &[u8])
 impl PrintLine {
     ghost use Rattle.s3_cards.specs.Printed.{Printed};
 
-    /// The line of a page. Its text is the first `width` of the positions, 1 to 132 of them; those behind it are blanks.
+    /// A line of a page, whose text is the first `width` of the positions, 1 to 132; the positions behind it are blanks.
     pub fn new(page: u16, line: u8, width: u8, positions: [u8; PRINT_POSITIONS]) -> PrintLine
         requires printed { 0 < width }
         requires fits { width ≤ 132 }
@@ -70,7 +70,7 @@ impl PrintLine {
         }
     }
 
-    /// The line of a page with this text, of 1 to 132 EBCDIC bytes.
+    /// A line of a page with a text of 1 to 132 EBCDIC bytes.
     #[tactic(auto, using(crate::proofs::LineLemmas::blanks_behind))]
     pub fn with_text(page: u16, line: u8, text: &[u8]) -> PrintLine
         requires printed { 0 < length text.now }
@@ -82,14 +82,14 @@ impl PrintLine {
         PrintLine::new(page, line, text.len() as u8, positions)
     }
 
-    /// The page, 0 to 9,999.
+    /// The number of the page, 0 to 9,999.
     pub fn page(&self) -> u16
         ensures { result ≡ self.now.page }
     {
         self.page
     }
 
-    /// The line of the page, from 1.
+    /// The number of the line on its page, from 1.
     pub fn line(&self) -> u8
         ensures { result ≡ self.now.line }
     {

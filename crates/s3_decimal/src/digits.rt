@@ -13,11 +13,11 @@ pub const MINUS: u8 = 0xd;
 /// The four bits of the plus sign as it is written; read, all others than those of the minus sign are plus.
 pub const PLUS: u8 = 0xf;
 
-/// A field has a digit above 9.
+/// Why a field isn't read as a number: one of its digits is above 9.
 #[derive(Clone, Copy, Debug, PartialEq, Eq, Error)]
 #[error("a digit is above 9")]
 pub struct BadDigit {
-    /// What the field holds with its bad digits 0.
+    /// The number that the field holds where each bad digit counts as 0.
     pub number: Dec,
 }
 

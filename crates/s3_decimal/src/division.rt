@@ -13,12 +13,12 @@ use thiserror::Error;
 #[error("the divisor is zero")]
 pub struct ZeroDivisor;
 
-/// What a division gives.
+/// The quotient and the remainder of a division.
 #[derive(Clone, Copy, Debug, PartialEq, Eq)]
 pub struct Division {
     /// The quotient as its field keeps it.
     pub quotient: Dec,
-    /// What the quotient, cut to its decimals, leaves of the dividend, as its own field keeps it.
+    /// The dividend less the divisor times the quotient cut to its decimals, as the field of the remainder keeps it.
     pub remainder: Dec,
 }
 

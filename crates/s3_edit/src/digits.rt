@@ -6,7 +6,7 @@ ghost use Rattle.s3_edit.specs.Picture.{digit_character, suppressed_at};
 
 use s3_cards::ebcdic::{BLANK, DIGIT_0};
 
-/// Makes the first characters blank.
+/// Makes the first `count` characters blank.
 pub fn blank(count: usize, out: &mut [u8])
     requires { count ≤ length out.old }
     ensures { out.new ≡ replicate count BLANK ++ drop count out.old }
@@ -14,7 +14,7 @@ pub fn blank(count: usize, out: &mut [u8])
     out[..count].fill(BLANK);
 }
 
-/// Writes the last digits of a number, so many, up to `end`, and gives what is left of the number.
+/// Writes the last `count` digits of a number up to `end`, and gives what is left of the number.
 pub fn edit_digits(number: u64, count: usize, end: usize, out: &mut [u8]) -> u64
     requires begins { count ≤ end }
     requires ends { end ≤ length out.old }

@@ -11,7 +11,7 @@ ghost use Rattle.s3_files.specs.Inner.Files.{AreStored};
 use crate::file_sectors::FileSectors;
 use s3_store::{PoolFault, Sectors};
 
-/// Reads bytes that lie in sector `i` of a file, from this one of the sector on.
+/// Reads bytes that lie in sector `i` of a file, from 0, and begin at byte `start` of it.
 #[inline(always)]
 pub fn read_in_sector<P: Sectors>(
     pool: &mut P,
@@ -32,7 +32,7 @@ pub fn read_in_sector<P: Sectors>(
     pool.read_part(sectors.sector_at(i), start, piece)
 }
 
-/// Reads bytes that lie in one sector.
+/// Reads bytes of a file that lie in one sector, from byte `at` of the file on.
 #[inline(always)]
 fn read_piece<P: Sectors>(
     pool: &mut P,
@@ -51,7 +51,7 @@ fn read_piece<P: Sectors>(
     read_in_sector(pool, sectors, at / 256, at % 256, piece)
 }
 
-/// Writes bytes that lie in one sector.
+/// Writes bytes of a file that lie in one sector, from byte `at` of the file on.
 #[inline(always)]
 fn write_piece<P: Sectors>(
     pool: &mut P,
@@ -113,7 +113,7 @@ fn read_pieces<P: Sectors>(
     Ok(())
 }
 
-/// Reads bytes of a file.
+/// Reads the bytes of a file from byte `at` of it on, which must lie in its sectors. No sector changes.
 #[inline(always)]
 pub fn read_bytes<P: Sectors>(
     pool: &mut P,
@@ -160,7 +160,8 @@ fn write_pieces<P: Sectors>(
     Ok(())
 }
 
-/// Writes bytes of a file. A refused call may have written some of them.
+/// Writes bytes of a file over those from byte `at` of it on, which must lie in its sectors. A refused call may have written
+/// some of them; no sector outside the file changes.
 #[inline(always)]
 pub fn write_bytes<P: Sectors>(
     pool: &mut P,

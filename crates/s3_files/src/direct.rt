@@ -7,7 +7,7 @@ use crate::sequential::Sequential;
 use s3_slots::FileLabel;
 use s3_store::Sectors;
 
-/// As many records as there is room for, so that none can be appended.
+/// A file of as many records as there is room for, so that none can be appended; they are found by their numbers.
 #[derive(Drop)]
 pub struct Direct {
     /// The records in the order of their numbers.
@@ -19,7 +19,7 @@ impl Direct {
     ghost use Rattle.s3_files.specs.Inner.Files.{HasRoom};
     ghost use Rattle.s3_slots.specs.Labels.{sectors_of};
 
-    /// The records of the file that a label describes, which has as many as there is room for.
+    /// The direct file that a label describes, which has as many records as there is room for.
     pub fn of(label: &FileLabel) -> Self
         requires room { HasRoom label.now }
         requires full { label.now.count ≡ label.now.capacity }
@@ -49,7 +49,7 @@ impl RecordFile for Direct {
         self.file.put(pool, i, bytes)
     }
 
-    /// Always refused as full.
+    /// Always refused with `Full`.
     fn append<P: Sectors>(&mut self, _pool: &mut P, _bytes: &[u8]) -> Result<(), FileFault> {
         Err(FileFault::Full)
     }

@@ -8,13 +8,13 @@ use thiserror::Error;
 /// Why a call on a file of records is refused.
 #[derive(Clone, Copy, Debug, PartialEq, Eq, Error)]
 pub enum FileFault {
-    /// There is no record of that number.
+    /// The file has no record at that place.
     #[error("no such record")]
     NoRecord,
     /// The file has as many records as it has room for.
     #[error("the file is full")]
     Full,
-    /// The sectors refused.
+    /// A transfer failed, or memory was refused.
     #[error("{0}")]
     Pool(PoolFault),
 }

@@ -36,7 +36,7 @@ impl FileSectors {
         }
     }
 
-    /// The same once more.
+    /// A copy of the list.
     pub fn copied(&self) -> Self
         ensures { result ≡ self.now }
     {
@@ -45,7 +45,7 @@ impl FileSectors {
         }
     }
 
-    /// The number of sector `i` of the file. A file takes none twice.
+    /// The number on the pack of sector `i` of the file, from 0. A file takes none twice.
     pub fn sector_at(&self, i: usize) -> u16
         requires { i < length self.now }
         ensures sector { slice_get self.now i ≡ Some result }

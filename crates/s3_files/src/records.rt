@@ -9,7 +9,7 @@ ghost use Rattle.s3_files.specs.Inner.FileFault.{FindsSectors, failed_file_trans
 use crate::fault::FileFault;
 use s3_store::Sectors;
 
-/// Records of one length, over the sectors of a pool.
+/// A file as a list of records of one length, over the sectors of a pool.
 pub trait RecordFile {
     /// Where the records are.
     ghost file: { Self → FileShape };
@@ -18,7 +18,8 @@ pub trait RecordFile {
     fn len(&self) -> u32
         ensures { result ≡ (file self.now).count };
 
-    /// Reads a record.
+    /// Reads the record at place `i`, from 0. Refused with `NoRecord` exactly where there is none, and with `Pool`. No
+    /// sector changes.
     fn get<P: Sectors>(&self, pool: &mut P, i: u32, bytes: &mut [u8]) -> Result<(), FileFault>
         requires stored { AreStored (file self.now).sectors (P.state pool.old).contents }
         requires long { length bytes.old ≡ (file self.now).record_length }
@@ -29,7 +30,8 @@ pub trait RecordFile {
         ensures failures { (P.state pool.new).failures ≡ (P.state pool.old).failures + failed_file_transfers result }
         ensures fault { IfErr result FindsSectors };
 
-    /// Writes a record over the one that is there.
+    /// Writes a record over the one at place `i`, from 0. Refused with `NoRecord` exactly where there is none, where nothing
+    /// changes, and with `Pool`, where that record may be changed in part. No other record changes.
     fn put<P: Sectors>(&self, pool: &mut P, i: u32, bytes: &[u8]) -> Result<(), FileFault>
         requires stored { AreStored (file self.now).sectors (P.state pool.old).contents }
         requires long { length bytes.now ≡ (file self.now).record_length }
@@ -42,7 +44,8 @@ pub trait RecordFile {
         ensures failures { (P.state pool.new).failures ≡ (P.state pool.old).failures + failed_file_transfers result }
         ensures fault { IfErr result FindsSectors };
 
-    /// Adds a record after the last.
+    /// Adds a record behind the last one. Refused with `Full` exactly where there are as many as there is room for, where
+    /// nothing changes, and with `Pool`, where the list of records stays as it was.
     fn append<P: Sectors>(&mut self, pool: &mut P, bytes: &[u8]) -> Result<(), FileFault>
         requires stored { AreStored (file self.old).sectors (P.state pool.old).contents }
         requires long { length bytes.now ≡ (file self.old).record_length }

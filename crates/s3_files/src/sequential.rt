@@ -8,12 +8,16 @@ use crate::records::RecordFile;
 use s3_slots::FileLabel;
 use s3_store::Sectors;
 
-/// Records end to end over the sectors of a file.
+/// A file whose records lie end to end over its sectors, in the order in which they were written.
 #[derive(Drop)]
 pub struct Sequential {
+    /// The sectors of the file, in the order of its bytes.
     pub sectors: FileSectors,
+    /// The length of each record in bytes.
     pub record_length: u16,
+    /// For how many records the file has room.
     pub capacity: u32,
+    /// How many records the file has, at most its capacity.
     pub count: u32,
     ghost fits: { capacity * record_length ≤ 256 * length sectors },
     ghost small: { capacity * record_length < 2 ^ 32 },
@@ -24,7 +28,7 @@ impl Sequential {
     ghost use Rattle.s3_files.specs.Inner.Files.{HasRoom};
     ghost use Rattle.s3_slots.specs.Labels.{sectors_of};
 
-    /// The records of the file that a label describes.
+    /// The file that a label describes.
     pub fn of(label: &FileLabel) -> Self
         requires { HasRoom label.now }
         ensures sectors { result.sectors ≡ sectors_of label.now }
@@ -40,7 +44,7 @@ impl Sequential {
         )
     }
 
-    /// The records of a file.
+    /// A file of `count` records over these sectors, which have room for `capacity` records.
     pub fn new(sectors: FileSectors, record_length: u16, capacity: u32, count: u32) -> Self
         requires fits { capacity * record_length ≤ 256 * length sectors }
         requires small { capacity * record_length < 2 ^ 32 }

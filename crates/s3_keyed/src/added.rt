@@ -8,7 +8,7 @@ use crate::indexed::IndexEntry;
 use crate::keys::Key;
 use s3_store::PoolFault;
 
-/// The place of the first entry whose key is above this one. The entries are halved.
+/// The place of the first of the added entries whose key is above this one, or behind the last. The entries are halved.
 pub fn first_above(added: &[IndexEntry], key: &Key) -> usize
     requires ascending { ascends (keys_in (map entry_of added.now)) ≡ true }
     ensures within { result ≤ length added.now }
@@ -29,7 +29,7 @@ pub fn first_above(added: &[IndexEntry], key: &Key) -> usize
     low
 }
 
-/// The number of the record with this key among those that were added.
+/// The number, from 1, of the added record with this key; `None` where no added one has it.
 pub fn number_among(added: &[IndexEntry], key: &Key) -> Option<u32>
     requires ascending { ascends (keys_in (map entry_of added.now)) ≡ true }
     ensures { MatchOption result
@@ -47,7 +47,7 @@ pub fn number_among(added: &[IndexEntry], key: &Key) -> Option<u32>
     None
 }
 
-/// Whether a key is above those of all entries.
+/// Whether a key is above those of all added entries.
 pub fn is_above_added(added: &[IndexEntry], key: &Key) -> bool
     requires ascending { ascends (keys_in (map entry_of added.now)) ≡ true }
     ensures { list_all (λ other. nat_lt other (number_of key.now.bytes)) (keys_in (map entry_of added.now)) ≡ result }
@@ -60,7 +60,7 @@ pub fn is_above_added(added: &[IndexEntry], key: &Key) -> bool
     key.is_above(&last.key)
 }
 
-/// Puts an entry into its place.
+/// Puts an entry into its place among the added ones, which are in the order of their keys.
 pub fn insert_added(added: &mut Vec<IndexEntry>, entry: IndexEntry) -> Result<(), PoolFault>
     requires ascending { ascends (keys_in (map entry_of added.old.items)) ≡ true }
     ensures ok { OnOk result (map entry_of added.new.items ≡ insert_entry (entry_of entry) (map entry_of added.old.items)) }

@@ -36,7 +36,7 @@ fn numbers_ascend(sector: &[u8; 256], entries: usize, key_length: usize) -> bool
     true
 }
 
-/// The same of keys of any length.
+/// Whether the keys of the first so many entries of a sector, of any length, ascend.
 fn keys_ascend(sector: &[u8; 256], entries: usize, key_length: usize) -> bool
     requires short { key_length ≤ 29 }
     requires some { 0 < entries }
@@ -53,7 +53,7 @@ fn keys_ascend(sector: &[u8; 256], entries: usize, key_length: usize) -> bool
     true
 }
 
-/// The same, by numbers where the keys are short enough.
+/// Whether the keys of the first so many entries of a sector ascend, by numbers where they have four to eight bytes.
 fn ascend(sector: &[u8; 256], entries: usize, key_length: usize) -> bool
     requires short { key_length ≤ 29 }
     requires some { 0 < entries }

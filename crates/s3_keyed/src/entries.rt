@@ -24,7 +24,7 @@ pub fn sectors_before(file: &IndexedFile) -> u32
     (records + 255) / 256
 }
 
-/// Where an entry of the index begins in the bytes of the file.
+/// Where entry `i` of the index, from 0, begins in the bytes of the file.
 pub fn place_of(file: &IndexedFile, i: u32) -> u32
     requires { i < file.now.file.capacity }
     ensures place { result ≡ entry_place (layout_in file.now) i }
@@ -34,7 +34,7 @@ pub fn place_of(file: &IndexedFile, i: u32) -> u32
     256 * (sectors_before(file) + i / file.per_sector) + i % file.per_sector * width
 }
 
-/// Reads an entry of the index.
+/// Reads entry `i` of the index, from 0.
 pub fn read_entry<P: Sectors>(
     file: &IndexedFile,
     pool: &mut P,
@@ -57,7 +57,7 @@ pub fn read_entry<P: Sectors>(
     Ok(IndexEntry { key, number })
 }
 
-/// Reads the number in an entry of the index.
+/// Reads the record number, from 1 in a good index, in entry `i` of the index, from 0.
 pub fn read_number<P: Sectors>(file: &IndexedFile, pool: &mut P, i: u32) -> Result<u32, PoolFault>
     requires stored { AreStored file.now.file.sectors (P.state pool.old).contents }
     requires within { i < file.now.file.capacity }
@@ -72,7 +72,7 @@ pub fn read_number<P: Sectors>(file: &IndexedFile, pool: &mut P, i: u32) -> Resu
     Ok(BigEndian::read_u32(&bytes))
 }
 
-/// Where the key of a record begins in the bytes of the file.
+/// Where the key of the record at a place, from 0, begins in the bytes of the file.
 pub fn key_place(file: &IndexedFile, i: u32) -> u32
     requires { i < file.now.file.capacity }
     ensures place { result ≡ i * file.now.file.record_length + (file.now.key_start - 1) }
@@ -82,7 +82,7 @@ pub fn key_place(file: &IndexedFile, i: u32) -> u32
     i * u32::from(file.file.record_length) + u32::from(file.key_start - 1)
 }
 
-/// Reads the key of a record.
+/// Reads the key of the record at a place, from 0.
 pub fn read_key<P: Sectors>(file: &IndexedFile, pool: &mut P, i: u32) -> Result<Key, PoolFault>
     requires stored { AreStored file.now.file.sectors (P.state pool.old).contents }
     requires within { i < file.now.file.capacity }
@@ -99,7 +99,7 @@ pub fn read_key<P: Sectors>(file: &IndexedFile, pool: &mut P, i: u32) -> Result<
     Ok(Key::of(bytes))
 }
 
-/// Whether a record has the same key as one of these bytes.
+/// Whether the record at a place, from 0, has the same key as a record of these bytes.
 pub fn has_key_of<P: Sectors>(
     file: &IndexedFile,
     pool: &mut P,
@@ -122,7 +122,7 @@ pub fn has_key_of<P: Sectors>(
     Ok(are_same_first(key, &bytes[start..], key_length))
 }
 
-/// Whether two records have the same key.
+/// Whether two records, by their bytes, have the same key.
 pub fn have_same_key(file: &IndexedFile, one: &[u8], other: &[u8]) -> bool
     requires one { length one.now ≡ file.now.file.record_length }
     requires other { length other.now ≡ file.now.file.record_length }

@@ -17,16 +17,16 @@ pub enum KeyedFault {
     /// The file has as many records as it has room for.
     #[error("the file is full")]
     Full,
-    /// The new record has another key than the old one.
+    /// The record to be written has another key than the one there.
     #[error("the key would change")]
     KeyChanged,
     /// The index isn't that of the records.
     #[error("the index is not that of the records")]
     BadIndex,
-    /// A loaded key isn't above all others.
+    /// The key of a record to be loaded isn't above all others.
     #[error("the keys do not ascend")]
     NotAscending,
-    /// The sectors refused.
+    /// A transfer failed, or memory was refused.
     #[error("{0}")]
     Pool(PoolFault),
 }

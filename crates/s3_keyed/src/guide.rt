@@ -24,7 +24,7 @@ pub struct Guide {
 }
 
 impl Guide {
-    /// With no keys yet, but room for so many.
+    /// A guide without keys, but with room for those of so many entries.
     pub fn new(alloc: Global, count: u32) -> Result<Self, PoolFault>
         ensures { IfErr result (λ fault. fault ≡ PoolFault.NoMemory) }
     {
@@ -59,7 +59,7 @@ impl Guide {
         }
     }
 
-    /// The same of keys of four to eight bytes.
+    /// Notes keys of four to eight bytes of the first so many entries of a sector, which begins with this entry of the index.
     #[inline(never)]
     fn note_numbers(
         &mut self,

@@ -25,7 +25,7 @@ pub fn entries_per_sector(file: &IndexedFile) -> u32
     file.per_sector
 }
 
-/// Reads a sector of the index, from 0.
+/// Reads the sector of the index at a place, from 0.
 pub fn read_sector<P: Sectors>(
     file: &IndexedFile,
     pool: &mut P,
@@ -87,7 +87,7 @@ fn compare_bytes(entry: &[u8], key_length: usize, key: &Key) -> Ordering
     entry[..key_length].cmp(&key.bytes[32 - key_length..])
 }
 
-/// The same of a key of four to eight bytes.
+/// How the key at the start of an entry, which has four to eight bytes, stands to another, as numbers.
 fn compare_number(entry: &[u8], key_length: usize, key: &Key) -> Ordering
     requires long { 4 ≤ key_length }
     requires short { key_length ≤ 8 }
@@ -98,7 +98,8 @@ fn compare_number(entry: &[u8], key_length: usize, key: &Key) -> Ordering
     number_at(entry, key_length).cmp(&key.short_number())
 }
 
-/// The same of a longer key, by its first eight bytes where they aren't the same.
+/// How the key at the start of an entry, which has more than eight bytes, stands to another, by the first eight bytes where
+/// these differ.
 fn compare_head(entry: &[u8], key_length: usize, key: &Key) -> Ordering
     requires long { 8 ≤ key_length }
     requires short { key_length ≤ 29 }
@@ -128,7 +129,7 @@ pub fn compare_entry(sector: &[u8; 256], j: usize, key_length: usize, key: &Key)
     }
 }
 
-/// The key of entry `j` of a sector.
+/// The key of entry `j` of a sector of the index.
 pub fn key_of_entry(sector: &[u8; 256], j: usize, key_length: usize) -> Key
     requires short { key_length ≤ 29 }
     requires inside { j < 256 / (key_length + 4) }
@@ -168,7 +169,7 @@ pub fn is_key_of(sector: &[u8; 256], j: usize, key_length: usize, key: &Key) -> 
     compare_entry(sector, j, key_length, key) == Ordering::Equal
 }
 
-/// How the first so many bytes of one text stand to those of another.
+/// How the first `count` bytes of one text stand to those of another.
 fn compare_first(one: &[u8], other: &[u8], count: usize) -> Ordering
     requires one { count ≤ length one.now }
     requires other { count ≤ length other.now }
@@ -177,7 +178,7 @@ fn compare_first(one: &[u8], other: &[u8], count: usize) -> Ordering
     one[..count].cmp(&other[..count])
 }
 
-/// Whether two texts begin with the same so many bytes.
+/// Whether two texts begin with the same `count` bytes.
 pub fn are_same_first(one: &[u8], other: &[u8], count: usize) -> bool
     requires one { count ≤ length one.now }
     requires other { count ≤ length other.now }
@@ -186,7 +187,7 @@ pub fn are_same_first(one: &[u8], other: &[u8], count: usize) -> bool
     compare_first(other, one, count) == Ordering::Equal
 }
 
-/// The same, by numbers where eight bytes are there and the first four to eight of them count.
+/// Whether two texts begin with the same `count` bytes, by numbers where these are four to eight and both texts have eight.
 pub fn have_same_first(one: &[u8], other: &[u8], count: usize) -> bool
     requires one { count ≤ length one.now }
     requires other { count ≤ length other.now }
@@ -232,7 +233,7 @@ pub fn is_key_at(
     }
 }
 
-/// The number in entry `j` of a sector.
+/// The record number, from 1 in a good index, in entry `j` of a sector of the index.
 pub fn number_in(sector: &[u8; 256], j: usize, key_length: usize) -> u32
     requires short { key_length ≤ 29 }
     requires inside { j < 256 / (key_length + 4) }

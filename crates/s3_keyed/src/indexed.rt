@@ -33,7 +33,7 @@ impl IndexedFile {
     ghost use Rattle.s3_keyed.specs.Index.{layout_of};
     ghost use Rattle.s3_keyed.specs.Inner.Shape.{layout_in};
 
-    /// The file that a label describes.
+    /// The indexed file that a label describes.
     pub fn of(label: &FileLabel) -> Self
         requires room { HasRoom label.now }
         requires index { HasIndex label.now }
@@ -55,6 +55,6 @@ impl IndexedFile {
 pub struct IndexEntry {
     /// The key.
     pub key: Key,
-    /// The number.
+    /// The number of the record, from 1.
     pub number: u32,
 }

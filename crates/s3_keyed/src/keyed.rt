@@ -91,14 +91,14 @@ impl Keyed {
         })
     }
 
-    /// How many records there are.
+    /// How many records the file has, the added ones among them.
     pub fn len(&self) -> u32
         ensures { result ≡ (shown self.now).count }
     {
         self.count
     }
 
-    /// Whether there are no records.
+    /// Whether the file has no records.
     pub fn is_empty(&self) -> bool
         ensures { IsTrue result ↔ ((shown self.now).count ≡ 0) }
     {
@@ -142,8 +142,8 @@ impl Keyed {
         Ok(())
     }
 
-    /// Writes a record over the one at a place, from 0, which is `old`, under the same key. Refused with `KeyChanged` where it has
-    /// another one.
+    /// Writes a record over the one at a place, from 0, which is `old`, under the same key. Refused with `KeyChanged` where
+    /// it has another one.
     pub fn replace<P: Sectors>(
         &self,
         pool: &mut P,
@@ -230,8 +230,8 @@ impl Keyed {
         Ok(None)
     }
 
-    /// The place of the record with the key in these bytes, from 0, where they are four to eight and it stood at the check: no more of
-    /// the index is read than a few entries.
+    /// The place of the record with the key in these bytes, from 0, where they are four to eight and it stood at the check:
+    /// no more of the index is read than a few entries.
     #[inline(never)]
     fn quick_place<P: Sectors>(&self, pool: &mut P, key: &[u8]) -> Result<Option<u32>, PoolFault>
         requires stored { AreStored (shown self.now).sectors (P.state pool.old).contents }
@@ -272,8 +272,9 @@ impl Keyed {
         }
     }
 
-    /// Reads the record with the key in these bytes where they are four to eight and it stood at the check, and answers its place,
-    /// from 0. Its own key tells that it is the one, so that no sector of the index is read.
+    /// Reads the record with the key in these bytes where they are four to eight and it stood at the check, and answers its
+    /// place, from 0; `None` where it isn't noted, although it may be there. The record's own key is compared, so that no
+    /// sector of the index is read. Refused where a transfer fails or memory runs out.
     pub fn get_noted<P: Sectors>(
         &self,
         pool: &mut P,
@@ -306,8 +307,8 @@ impl Keyed {
         Ok(None)
     }
 
-    /// The place of the record that is number `n` by key, both from 0, among those that stood at the check. Refused with `NoKey`
-    /// where there were not so many.
+    /// The place of the record that is number `n` by key, both from 0, among those that stood at the check. Refused with
+    /// `NoKey` where there were not so many.
     pub fn nth_by_key<P: Sectors>(&self, pool: &mut P, n: u32) -> Result<u32, KeyedFault>
         requires stored { AreStored (shown self.now).sectors (P.state pool.old).contents }
         requires ordered { HasKeyOrder (shown self.now) (P.state pool.old).contents }

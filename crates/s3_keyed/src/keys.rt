@@ -6,16 +6,16 @@ ghost use Rattle.s3_keyed.specs.KeyOrder.{number_of};
 use byteorder::{BigEndian, ByteOrder};
 use std::cmp::Ordering;
 
-/// A key of at most 29 bytes, with zeros before it.
+/// A key of at most 29 bytes, with zeros before it, so that keys of one length compare as numbers.
 #[derive(Clone, Copy)]
 pub struct Key {
-    /// Its bytes, behind zeros: as many as two numbers of 128 bits have.
+    /// The bytes of the key, behind zeros: as many as two numbers of 128 bits have.
     pub bytes: [u8; 32],
     ghost in_range: { (i : ℕ) → slice_index bytes i < 256 },
 }
 
 impl Key {
-    /// The key in these bytes.
+    /// The key that these bytes are, at most 29.
     pub fn of(key: &[u8]) -> Self
         requires { length key.now ≤ 29 }
         ensures number { number_of result.bytes ≡ number_of key.now }
@@ -26,7 +26,7 @@ impl Key {
         Key { bytes }
     }
 
-    /// As a number.
+    /// The key as a number.
     fn number(&self) -> KeyNumber
         ensures high { result.high ≡ number_of (take 16 self.now.bytes) }
         ensures low { result.low ≡ number_of (drop 16 self.now.bytes) }
@@ -37,7 +37,7 @@ impl Key {
         }
     }
 
-    /// As a number, where it has at most eight bytes.
+    /// The key as a number of 64 bits, where it has at most eight bytes.
     pub fn short_number(&self) -> u64
         requires { number_of self.now.bytes < 256 ^ 8 }
         ensures { result ≡ number_of self.now.bytes }
@@ -45,21 +45,21 @@ impl Key {
         BigEndian::read_u64(&self.bytes[24..])
     }
 
-    /// How it stands to another key of the same length.
+    /// How the key stands to another one of the same length.
     pub fn compare(&self, other: &Key) -> Ordering
         ensures { result ≡ nat_cmp (number_of self.now.bytes) (number_of other.now.bytes) }
     {
         self.number().compare(&other.number())
     }
 
-    /// Whether another key is below this one.
+    /// Whether the key is above another one of the same length.
     pub fn is_above(&self, other: &Key) -> bool
         ensures { result ≡ nat_lt (number_of other.now.bytes) (number_of self.now.bytes) }
     {
         other.compare(self) == Ordering::Less
     }
 
-    /// Whether both are the same.
+    /// Whether the key is the same as another one of the same length.
     pub fn is_same(&self, other: &Key) -> bool
         ensures { result ≡ (number_of self.now.bytes == number_of other.now.bytes) }
     {
@@ -87,12 +87,12 @@ pub fn short_number_of(key: &[u8]) -> Option<u64>
 struct KeyNumber {
     /// The first 16 of its 32 bytes.
     high: u128,
-    /// The others.
+    /// The last 16 of the key's 32 bytes.
     low: u128,
 }
 
 impl KeyNumber {
-    /// How it stands to another one.
+    /// How the number stands to another one.
     fn compare(&self, other: &KeyNumber) -> Ordering
         ensures { result ≡ ordering_then (nat_cmp self.now.high other.now.high) (nat_cmp self.now.low other.now.low) }
     {
@@ -100,17 +100,17 @@ impl KeyNumber {
     }
 }
 
-/// A key with a number in front that tells it from nearly all others. Nothing is proved of it, so that a search may begin by it
-/// alone.
+/// A key with a number in front by which nearly all keys differ. Nothing is proved of it, so a search may begin by it, but
+/// no answer rests on it.
 #[derive(Clone, Copy)]
 pub struct QuickKey {
-    /// Its first eight bytes, or all of a shorter key.
+    /// The key's first eight bytes as a number, or all bytes of a shorter key.
     head: u64,
     key: Key,
 }
 
 impl QuickKey {
-    /// A key of so many bytes.
+    /// The quick form of a key of so many bytes.
     pub fn of(key: &Key, key_length: u8) -> Self {
         let start = 24.min(32_usize.saturating_sub(usize::from(key_length)));
         QuickKey {
@@ -119,12 +119,12 @@ impl QuickKey {
         }
     }
 
-    /// Its first eight bytes, or all of a shorter key.
+    /// The key's first eight bytes as a number, or all bytes of a shorter key.
     pub fn head(&self) -> u64 {
         self.head
     }
 
-    /// Whether it isn't above another one.
+    /// Whether the key isn't above another one.
     pub fn is_up_to(&self, other: &QuickKey) -> bool {
         self.head < other.head || self.head == other.head && !self.key.is_above(&other.key)
     }

@@ -13,9 +13,9 @@ const SPREAD: u64 = 0x9E37_79B9_7F4A_7C15;
 /// A record that is noted, or none.
 #[derive(Clone, Copy)]
 struct Slot {
-    /// The hash of its key, which tells it from nearly all others.
+    /// The hash of the record's key, which nearly all other keys don't have.
     hash: u32,
-    /// Its number, from 1; 0 for none.
+    /// The record's number, from 1; 0 for none.
     number: u32,
 }
 
@@ -35,7 +35,7 @@ fn hash_of(key: u64) -> u32 {
 }
 
 impl NotedRecords {
-    /// With none yet, but room for so many.
+    /// A table without records, but with room for those of so many keys.
     pub fn new(alloc: Global, keys: u32) -> Result<Self, PoolFault>
         ensures { IfErr result (λ fault. fault ≡ PoolFault.NoMemory) }
     {
@@ -67,7 +67,7 @@ impl NotedRecords {
         }
     }
 
-    /// The place of the record with this key, from 0, where it was noted. Seldom it is one with another key.
+    /// The place, from 0, of the record that was noted for a key. Seldom it is a record with another key.
     pub fn find(&self, key: u64) -> Option<u32> {
         let hash = hash_of(key);
         let first = self.first(hash);

@@ -18,12 +18,12 @@ use s3_store::{PoolFault, Sectors};
 pub struct RecordSector {
     /// Which one of the file it is, from 0.
     pub place: u32,
-    /// Its bytes.
+    /// The bytes of the sector.
     pub bytes: [u8; 256],
 }
 
 impl RecordSector {
-    /// One that isn't read yet.
+    /// The place for a sector, of which none is read yet.
     pub fn blank() -> Self {
         RecordSector {
             place: 0,
@@ -73,8 +73,8 @@ impl RecordSector {
         self.read(file, pool, place)
     }
 
-    /// Whether the key of a record is that of entry `j` of a sector of the index, going on to the record's sector. One that lies in
-    /// two sectors is read by itself.
+    /// Whether the key of a record is that of entry `j` of a sector of the index, going on to the record's sector. One that
+    /// lies in two sectors is read by itself.
     fn has_key<P: Sectors>(
         &mut self,
         file: &IndexedFile,

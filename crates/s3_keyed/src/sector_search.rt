@@ -43,7 +43,7 @@ fn count_lower(sector: &[u8; 256], entries: usize, key_length: usize, key: u64) 
     low
 }
 
-/// The same of a key of any length.
+/// How many of the first so many entries of a sector have a key below this one, of any length, byte by byte.
 fn count_below(sector: &[u8; 256], entries: usize, key_length: usize, key: &Key) -> usize
     requires short { key_length ≤ 29 }
     requires inside { entries ≤ 256 / (key_length + 4) }
@@ -66,7 +66,7 @@ fn count_below(sector: &[u8; 256], entries: usize, key_length: usize, key: &Key)
     low
 }
 
-/// The same, by numbers where the key is short enough.
+/// How many of the first so many entries of a sector have a key below this one, by numbers where it has four to eight bytes.
 fn entries_below(sector: &[u8; 256], entries: usize, key_length: usize, key: &Key) -> usize
     requires short { key_length ≤ 29 }
     requires inside { entries ≤ 256 / (key_length + 4) }
@@ -82,7 +82,7 @@ fn entries_below(sector: &[u8; 256], entries: usize, key_length: usize, key: &Ke
     }
 }
 
-/// Looks for a key among the first so many entries of a sector, which are halved.
+/// Where a key lies among the first so many entries of a sector, at least one, which are halved.
 pub fn find_entry(sector: &[u8; 256], entries: usize, key_length: usize, key: &Key) -> Standing
     requires short { key_length ≤ 29 }
     requires some { 0 < entries }
@@ -104,7 +104,7 @@ pub fn find_entry(sector: &[u8; 256], entries: usize, key_length: usize, key: &K
     Standing::Within(None)
 }
 
-/// The number in the one of these so many entries that has a key of four to eight bytes, if one has it.
+/// The record number in the one of `count` entries that has a key of four to eight bytes; `None` where none has it.
 pub fn number_with(bytes: &[u8], count: usize, key_length: usize, key: u64) -> Option<u32>
     requires long { 4 ≤ key_length }
     requires short { key_length ≤ 8 }

@@ -26,7 +26,7 @@ fn record_place(file: &IndexedFile, i: u32) -> u32
     i * u32::from(file.file.record_length)
 }
 
-/// Reads a record.
+/// Reads the record at a place, from 0.
 #[inline(always)]
 pub fn read_record<P: Sectors>(
     file: &IndexedFile,
@@ -45,7 +45,7 @@ pub fn read_record<P: Sectors>(
     read_bytes(pool, &file.file.sectors, record_place(file, i), bytes)
 }
 
-/// Writes a record.
+/// Writes a record over the one at a place, from 0.
 pub fn write_record<P: Sectors>(
     file: &IndexedFile,
     pool: &mut P,

@@ -39,7 +39,7 @@ impl Model for AreaSlots {
 impl AreaSlots {
     ghost use Rattle.s3_labels.specs.Inner.Areas.{Areas, slots_at, slots_in, region_at, with_slots};
 
-    /// These slots, 32 of each area.
+    /// The areas with this header and these slots, 32 of each area.
     pub fn of(
         header: Header,
         masters: Vec<Slot>,
@@ -62,14 +62,14 @@ impl AreaSlots {
         }
     }
 
-    /// The header.
+    /// The header of the pack.
     pub fn header(&self) -> Header
         ensures { result ≡ self.now.header }
     {
         self.header
     }
 
-    /// The slots of the masters.
+    /// The 32 slots of the masters.
     pub fn masters(&self) -> &[Slot]
         ensures slots { result.now ≡ self.now.masters }
         ensures count { length result.now ≡ 32 }
@@ -77,7 +77,7 @@ impl AreaSlots {
         &self.masters
     }
 
-    /// The slots of a level.
+    /// The 32 slots of a level.
     pub fn slots(&self, level: LevelId) -> &[Slot]
         ensures slots { result.now ≡ slots_at level self.now }
         ensures count { length result.now ≡ 32 }
@@ -88,7 +88,7 @@ impl AreaSlots {
         }
     }
 
-    /// Slot `i` of an area: 0 for the masters, 1, 2.
+    /// Slot `i`, 0 to 31, of an area: 0 for the masters, 1 and 2 for the levels.
     pub fn slot(&self, area: u16, i: usize) -> &Slot
         requires area { area < 3 }
         requires slot { i < 32 }
@@ -111,7 +111,7 @@ impl AreaSlots {
         }
     }
 
-    /// How many lines of a level may be queued.
+    /// How many printed lines of a level may be queued, 1 to 127.
     pub fn quota(&self, level: LevelId) -> u8
         ensures { result ≡ quota_of level self.now.header }
     {
@@ -121,7 +121,8 @@ impl AreaSlots {
         }
     }
 
-    /// The slot of the file that a level has under a label.
+    /// The place, 0 to 31, of the slot of the file that a level itself has under a label. Refused with `DamagedLabel` where
+    /// damage blocks the label, and with `NotFound`.
     pub fn place(&self, level: LevelId, name: Name) -> Result<usize, LabelFault>
         ensures ok { IfOk result (λ i. refusal (standing name (slots_at level self.now)) ≡ None) }
         ensures place { IfOk result (λ i. position_from (bears name) 0 (slots_at level self.now) ≡ Some i) }
@@ -131,7 +132,7 @@ impl AreaSlots {
         place_in(name, self.slots(level))
     }
 
-    /// Sets the count of the file in a slot of a level.
+    /// Sets the count of the file in the slot at a place, 0 to 31, of a level; a slot without a file stays as it is.
     pub fn recount(&mut self, level: LevelId, place: usize, count: u32)
         requires { place < 32 }
         ensures { self.new ≡ with_slots level (changed_in (λ label. Sound (record label { count = count })) (slots_at level self.old) (Some place)) self.old }
@@ -142,7 +143,7 @@ impl AreaSlots {
         }
     }
 
-    /// Frees the slot of a file of a level.
+    /// Frees the slot of a file at a place, 0 to 31, of a level; a slot without a file stays as it is.
     pub fn free(&mut self, level: LevelId, place: usize)
         requires { place < 32 }
         ensures { self.new ≡ with_slots level (changed_in (λ label. Free) (slots_at level self.old) (Some place)) self.old }
@@ -153,7 +154,8 @@ impl AreaSlots {
         }
     }
 
-    /// Makes a file of a level.
+    /// Makes a file of a level: changes the level's slots, and says which. All slots stay where it is refused, as `make_in`
+    /// says.
     pub fn make(&mut self, level: LevelId, new: &NewFile) -> Result<Made, LabelFault>
         requires fits { end_of (region_at level self.old) ≤ 65535 }
         requires key { new.now.key_length ≤ 29 }

@@ -7,10 +7,10 @@ use thiserror::Error;
 /// Why a pack isn't mounted.
 #[derive(Clone, Copy, Debug, PartialEq, Eq, Error)]
 pub enum Refusal {
-    /// Its header isn't accepted.
+    /// The pack's header isn't accepted.
     #[error("not a pack")]
     BadPack(MountFault),
-    /// Its sectors couldn't be read.
+    /// The pack's sectors couldn't be read, or memory was refused.
     #[error("its sectors can't be read")]
     Sectors(PoolFault),
 }
@@ -29,10 +29,10 @@ impl From<PoolFault> for Refusal {
 /// Why a label isn't changed.
 #[derive(Clone, Copy, Debug, PartialEq, Eq, Error)]
 pub enum ChangeFault {
-    /// The slots don't allow it.
+    /// The slots don't allow the change, and nothing changed.
     #[error("the labels don't allow it")]
     Label(LabelFault),
-    /// The sectors failed.
+    /// The pack's sectors couldn't be read or written.
     #[error("its sectors can't be read or written")]
     Sectors(PoolFault),
 }
@@ -112,10 +112,10 @@ impl From<AllocError> for ImageFault {
 /// Why a pack isn't brought into the second format.
 #[derive(Clone, Copy, Debug, PartialEq, Eq, Error)]
 pub enum MigrateFault {
-    /// It isn't mounted.
+    /// The pack isn't mounted.
     #[error("the pack can't be mounted")]
     Mount(MountFault),
-    /// It is in the second format.
+    /// The pack is in the second format already.
     #[error("the pack is in the second format")]
     AlreadyNew,
     /// A growth was refused.

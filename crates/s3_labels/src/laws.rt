@@ -64,8 +64,9 @@ pub fn a_new_pack_has_an_old_ones_files()
     ensures files { (old new : List ℕ) (from : Header) (masters level_one level_two quota_one quota_two i : ℕ) (label : FileLabel) → mounted (contents_of old) ≡ Ok from → image_bytes (Some old) masters level_one level_two quota_one quota_two ≡ Ok new → slice_get (areas_on from (contents_of old)).level_one i ≡ Some (Sound label) → file_bytes (moved_label from.level_one label) (contents_of new) ≡ file_bytes label (contents_of old) }
 {}
 
-/// Where a mount judges no slot entangled, the labels say the slots as they are judged; and where they say slots whose files
-/// stay apart, a mount judges those. What they say is in their own sectors.
+/// Where a mount judges no slot damaged for an overlap or a repeated label alone, each label by itself says its slot as it is
+/// judged; and where labels say slots whose files stay apart, a mount judges those slots. What labels say is in their own
+/// sectors.
 pub fn labels_say_their_slots()
     ensures mounted { (level : LevelId) (header : Header) (contents : List (List ℕ)) → IsUntangled header.format (region_of level header) (area_of level) contents → SaysSlots level (areas_on header contents) contents }
     ensures judged { (level : LevelId) (areas : Areas) (contents : List (List ℕ)) → AreKept (region_at level areas) (slots_at level areas) → SaysSlots level areas contents → slots_of areas.header.format (region_at level areas) (area_of level) contents ≡ slots_at level areas }

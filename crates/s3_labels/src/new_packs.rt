@@ -255,7 +255,8 @@ pub fn image_with(
     }
 }
 
-/// The same with 64 lines a level.
+/// A new pack as `image_with` gives it, whose levels may each have 64 lines queued. Refused where the old pack isn't
+/// mounted, then where there are more than 2,723 tracks.
 pub fn image(
     alloc: Global,
     from: Option<&[u8]>,

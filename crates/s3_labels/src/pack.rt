@@ -28,11 +28,11 @@ use s3_slots::{
 use s3_store::{PackStore, PoolFault, Sectors};
 use std::alloc::{AllocFailed, Global};
 
-/// Sectors that aren't those of a pack, with the cause.
+/// Sectors that aren't mounted as a pack, with the cause.
 pub struct Refused<P: Sectors> {
-    /// The sectors.
+    /// The sectors, handed back.
     pub pool: P,
-    /// Why they aren't.
+    /// Why the sectors aren't mounted.
     pub fault: Refusal,
 }
 
@@ -40,19 +40,19 @@ pub struct Refused<P: Sectors> {
 pub struct RefusedStore<S: PackStore> {
     /// The store, as it was.
     pub store: S,
-    /// Why it isn't.
+    /// Why the store isn't mounted.
     pub fault: Refusal,
 }
 
 /// A pack whose slots have been judged.
 pub struct Pack<P: Sectors> {
-    /// Its sectors. Sectors 0 to 24 are changed by the calls of a pack alone.
+    /// The sectors of the pack. The calls of a pack alone change sectors 0 to 24, its header and labels.
     pub pool: P,
-    /// Its slots, as they were judged and have been changed since.
+    /// The header and the slots of the pack, as they were judged at the mount and have been changed since.
     pub areas: AreaSlots,
 }
 
-/// The header of a pack.
+/// Reads the header of a pack.
 pub fn read_header<P: Sectors>(pool: &mut P) -> Result<Header, Refusal>
     ensures ok { IfOk result (λ header. mounted (P.state pool.old).contents ≡ Ok header) }
     ensures room { IfOk result (λ header. 168 ≤ length (P.state pool.old).contents) }
@@ -72,7 +72,7 @@ pub fn read_header<P: Sectors>(pool: &mut P) -> Result<Header, Refusal>
     }
 }
 
-/// The areas of a pack.
+/// Reads the header and the slots of a pack.
 fn read_areas<P: Sectors>(alloc: Global, pool: &mut P) -> Result<AreaSlots, Refusal>
     ensures ok { IfOk result (λ areas. mounted (P.state pool.old).contents ≡ Ok areas.header) }
     ensures areas { IfOk result (λ areas. areas ≡ areas_on areas.header (P.state pool.old).contents) }
@@ -89,8 +89,8 @@ fn read_areas<P: Sectors>(alloc: Global, pool: &mut P) -> Result<AreaSlots, Refu
 }
 
 impl<S: PackStore> Pack<Pool<S>> {
-    /// The pack on a store, over a pool. It is refused by its header alone, and where memory or the store fails; the
-    /// store then comes back as it was.
+    /// Mounts the pack on a store, over a new pool. It is refused by its header, or where memory or a transfer fails; then
+    /// the store comes back as it was.
     #[tactic(auto, using(crate::proofs::Mounts::mounted_ready, crate::proofs::Mounts::given_back))]
     pub fn mount(alloc: Global, store: S) -> Result<Self, RefusedStore<S>>
         ensures ok { IfOk result (λ pack. mounted (S.contents store) ≡ Ok pack.areas.header) }
@@ -123,7 +123,8 @@ impl<S: PackStore> Pack<Pool<S>> {
 }
 
 impl<P: Sectors> Pack<P> {
-    /// The pack on these sectors, with its slots as they are judged. It is refused by its header alone.
+    /// Mounts the pack on these sectors, with its slots as they are judged. It is refused by its header, or where memory or a
+    /// transfer fails; then the sectors come back as they were.
     #[tactic(auto, using(crate::proofs::Mounts::mounted_ready))]
     pub fn over(alloc: Global, mut pool: P) -> Result<Self, Refused<P>>
         ensures ok { IfOk result (λ pack. mounted (P.state pool).contents ≡ Ok pack.areas.header) }
@@ -141,7 +142,7 @@ impl<P: Sectors> Pack<P> {
         }
     }
 
-    /// What stands in slot `i`, below 32, of an area: 0 for the masters, 1, 2.
+    /// What stands in slot `i`, 0 to 31, of an area: 0 for the masters, 1 and 2 for the levels.
     pub fn slot(&self, area: u16, i: usize) -> &Slot
         requires area { area < 3 }
         requires slot { i < 32 }
@@ -150,7 +151,8 @@ impl<P: Sectors> Pack<P> {
         self.areas.slot(area, i)
     }
 
-    /// The file of a label for a level, its own before the masters', and whether it is a master's.
+    /// The file of a label for a level, one of its own before one of the masters', and whether it is a master's. Refused with
+    /// `DamagedLabel` where damage blocks the label, and with `NotFound`.
     #[tactic(auto, using(crate::proofs::Regions::own_on_pack, crate::proofs::Regions::master_on_pack), unfolding(s3_slots::specs::Inner::Making::found))]
     pub fn find(&self, level: LevelId, name: Name) -> Result<(FileLabel, bool), LabelFault>
         ensures value { result ≡ found name (slots_at level self.now.areas) self.now.areas.masters }
@@ -167,7 +169,8 @@ impl<P: Sectors> Pack<P> {
         }
     }
 
-    /// Whether these files could be made for a level, one after another; nothing is made. It answers the first refusal.
+    /// Whether these files could be made for a level, one after another; nothing is made. It is refused with the place, from
+    /// 0, of the first file that would be refused, and why.
     pub fn plan(&self, alloc: Global, level: LevelId, news: &[NewFile]) -> Result<(), PlanFault>
         requires ready { IsReady self.now.areas (P.state self.now.pool).contents }
         requires proper { All IsNewFile news.now }
@@ -185,10 +188,11 @@ impl<P: Sectors> Pack<P> {
         Ok(())
     }
 
-    /// Makes a file of a level. The records of a direct file are blank. Of its label slots the old file's changes, and the lowest
-    /// that is free without it, refused or not.
+    /// Makes a file of a level, and answers its label. The records of a direct file are blank. Refused or not, no label slots
+    /// change but that of the level's old file of this label and the lowest that is free without it. Refused with `Label` as
+    /// `make_in` says, where nothing changes, and with `Sectors`.
     ///
-    /// After a fault of the sectors no call on the pack is to be made.
+    /// After `Sectors` no call on the pack is to be made.
     pub fn make(&mut self, level: LevelId, new: &NewFile) -> Result<FileLabel, ChangeFault>
         requires ready { IsReady self.old.areas (P.state self.old.pool).contents }
         requires proper { IsNewFile new.now }
@@ -215,7 +219,8 @@ impl<P: Sectors> Pack<P> {
         Ok(made.label)
     }
 
-    /// Sets the count of the file that a level has under a label.
+    /// Sets the count of the file that a level itself has under a label. Refused with `Label`, `NotFound` or `DamagedLabel`
+    /// in it, where nothing changes, and with `Sectors`, after which no call on the pack is to be made.
     pub fn set_count(&mut self, level: LevelId, name: Name, count: u32) -> Result<(), ChangeFault>
         requires ready { IsReady self.old.areas (P.state self.old.pool).contents }
         requires room { MayHave count (standing name (slots_at level self.old.areas)) }
@@ -236,7 +241,8 @@ impl<P: Sectors> Pack<P> {
         Ok(())
     }
 
-    /// Drops the label of a file of a level, whatever its retention.
+    /// Drops the label of a file of a level, whatever its retention. Refused with `Label`, `NotFound` or `DamagedLabel` in
+    /// it, where nothing changes, and with `Sectors`, after which no call on the pack is to be made.
     pub fn drop_label(&mut self, level: LevelId, name: Name) -> Result<(), ChangeFault>
         requires ready { IsReady self.old.areas (P.state self.old.pool).contents }
         ensures ok { OnOk result (without_label name (slots_at level self.old.areas) ≡ Ok (slots_at level self.new.areas)) }
@@ -257,7 +263,8 @@ impl<P: Sectors> Pack<P> {
     }
 }
 
-/// How wide the name and the date of a new file are: the prover is told it where an array is read.
+/// Reads the name and the date of a new file, so that the prover knows how wide they are: it learns that where an array is
+/// read.
 fn know_widths(new: &NewFile)
     ensures codes { length new.now.name.codes ≡ 8 }
     ensures date { length new.now.date ≡ 6 }
@@ -265,7 +272,7 @@ fn know_widths(new: &NewFile)
     let _first = new.name.codes[0];
 }
 
-/// The number of a level's area.
+/// The number of a level's area, 1 or 2.
 fn area_of(level: LevelId) -> u16
     ensures value { result ≡ area_of_spec level }
     ensures few { result < 3 }

@@ -9,7 +9,7 @@ use s3_slots::{Format, Slot, judge};
 use s3_store::{PoolFault, Sectors, Stretch};
 use std::alloc::Global;
 
-/// The bytes of a sector.
+/// Reads sector `n`.
 #[tactic(auto, using(crate::proofs::Ways::sector_read))]
 pub fn read_at<P: Sectors>(pool: &mut P, n: u16) -> Result<[u8; 256], PoolFault>
     requires { n < length (P.state pool.old).contents }
@@ -23,7 +23,7 @@ pub fn read_at<P: Sectors>(pool: &mut P, n: u16) -> Result<[u8; 256], PoolFault>
     Ok(bytes)
 }
 
-/// The bytes of a slot.
+/// Reads the 64 bytes of slot `i`, 0 to 31, of an area: 0 for the masters, 1 and 2 for the levels.
 pub fn read_slot<P: Sectors>(pool: &mut P, area: u16, i: u16) -> Result<[u8; 64], PoolFault>
     requires area { area < 3 }
     requires slot { i < 32 }
@@ -40,7 +40,7 @@ pub fn read_slot<P: Sectors>(pool: &mut P, area: u16, i: u16) -> Result<[u8; 64]
     Ok(bytes)
 }
 
-/// The slots of an area, judged in their order.
+/// Reads the 32 slots of an area, each judged by its bytes and the slots before it.
 pub fn read_slots<P: Sectors>(
     alloc: Global,
     pool: &mut P,

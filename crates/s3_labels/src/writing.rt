@@ -17,7 +17,7 @@ use s3_cards::ebcdic::BLANK;
 use s3_slots::{FileLabel, Made, Organization, bytes_of};
 use s3_store::{PoolFault, Sectors, Stretch, put_part};
 
-/// Writes the bytes of a slot.
+/// Writes the 64 bytes of slot `i`, 0 to 31, of an area: 0 for the masters, 1 and 2 for the levels.
 pub fn write_slot<P: Sectors>(
     pool: &mut P,
     area: u16,
@@ -59,7 +59,7 @@ fn clear_freed<P: Sectors>(
     }
 }
 
-/// Writes zeros to a slot.
+/// Writes zeros to slot `i`, 0 to 31, of an area, which so is free.
 #[tactic(auto, using(crate::proofs::Parts::slot_within))]
 pub fn clear_slot<P: Sectors>(pool: &mut P, area: u16, i: u16) -> Result<(), PoolFault>
     requires area { area < 3 }
@@ -74,7 +74,7 @@ pub fn clear_slot<P: Sectors>(pool: &mut P, area: u16, i: u16) -> Result<(), Poo
     write_slot(pool, area, i, &[0; 64])
 }
 
-/// Writes the count of the file in a slot.
+/// Writes the count of records into slot `i`, 0 to 31, of an area.
 #[tactic(auto, using(crate::proofs::Parts::count_written))]
 pub fn write_count<P: Sectors>(pool: &mut P, area: u16, i: u16, count: u32) -> Result<(), PoolFault>
     requires area { area < 3 }
@@ -142,7 +142,7 @@ pub fn write_records<P: Sectors>(pool: &mut P, label: &FileLabel) -> Result<(), 
     }
 }
 
-/// Writes what a make has changed.
+/// Writes the slots that the making of a file has changed.
 #[tactic(auto, using(crate::proofs::Parts::slot_within, s3_store::proofs::Frames::within_trans))]
 pub fn write_made<P: Sectors>(pool: &mut P, area: u16, made: &Made) -> Result<(), PoolFault>
     requires area { area < 3 }

@@ -6,13 +6,13 @@ use thiserror::Error;
 /// Why the files of a pack aren't listed.
 #[derive(Clone, Copy, Debug, PartialEq, Eq, Error)]
 pub enum ListFault {
-    /// The pack isn't mounted.
+    /// The pack isn't mounted, for what is wrong with its header.
     #[error("the pack can't be mounted")]
     Mount(MountFault),
-    /// A growth was refused.
+    /// Memory was refused.
     #[error("out of memory")]
     NoMemory,
-    /// The write failed.
+    /// The writer failed; some of the list may be written.
     #[error("the list can't be written")]
     File,
 }

@@ -5,7 +5,7 @@ ghost use Rattle.s3_listing.specs.Inner.Lines.{in_digits};
 use itoa::Buffer;
 use std::alloc::AllocError;
 
-/// Appends a number with zeros in front up to a width.
+/// Appends the digits of a number, with zeros in front where they are fewer than `width`.
 #[tactic(auto, using(crate::proofs::Digits::one_more_zero))]
 pub fn push_number(text: &mut Vec<u8>, number: u32, width: usize) -> Result<(), AllocError>
     ensures { OnOk result (text.new.items ≡ text.old.items ++ in_digits width number) }

@@ -4,7 +4,7 @@ use crate::fault::ListFault;
 use crate::lines::{letter_of_organization, letter_of_retention};
 use crate::written::mount_slots;
 use s3_cards::{LevelId, Name, host_byte};
-use s3_labels::{AreaSlots, FileLabel, Format, Slot};
+use s3_labels::{AreaSlots, FileLabel, Format, Organization, Slot};
 use s3_store::Stretch;
 use std::alloc::{AllocError, Global};
 use std::io::Write;
@@ -12,10 +12,11 @@ use std::io::Write;
 /// The sectors of a track.
 const TRACK: u32 = 24;
 
-/// Writes a table of a pack: for the masters and each level the size of the region, how much of it is free, and the used
-/// slots with the extents, the dates and how full each file is.
+/// Writes a table of a pack: for the masters and each level the size of the region, how much of it is free, and each used
+/// slot by its number in the area, 0 to 31. Of a file it has the label, organization, retention and record length, length and
+/// start of the key where there is an index, the capacity, the count, how full the file is, the date and the extents.
 ///
-/// It refuses as the list does.
+/// Refused with `Mount`, `NoMemory` or `File`, as `list` is.
 pub fn write_table<W: Write>(alloc: Global, pack: &[u8], writer: &mut W) -> Result<(), ListFault> {
     let slots = mount_slots(alloc, pack)?;
     let text = table_text(alloc, &slots)?;
@@ -78,11 +79,11 @@ fn push_area(
     if free_slots < slots.len() {
         writeln!(
             text,
-            "Label    Kind Kept Length Capacity    Count Full Date     Sectors"
+            "Slot Label    Kind Kept Length Key length Key start Capacity    Count Full Date     Sectors"
         )?;
     }
-    for slot in slots {
-        push_slot(text, slot)?;
+    for (number, slot) in slots.iter().enumerate() {
+        push_slot(text, number, slot)?;
     }
     Ok(())
 }
@@ -113,30 +114,32 @@ fn sectors_of(label: &FileLabel) -> u32 {
     sectors
 }
 
-fn push_slot(text: &mut String, slot: &Slot) -> Result<(), AllocError> {
+/// Appends the line of the slot of this number in its area, 0 to 31; a free one has none.
+fn push_slot(text: &mut String, number: usize, slot: &Slot) -> Result<(), AllocError> {
     match slot {
         Slot::Free => Ok(()),
         Slot::Damaged(Some(name)) => {
+            write!(text, "{number:>4} ")?;
             push_name(text, *name)?;
             writeln!(text, " damaged")
         }
-        Slot::Damaged(None) => writeln!(text, "???????? damaged"),
-        Slot::Sound(label) => push_file(text, label),
+        Slot::Damaged(None) => writeln!(text, "{number:>4} ???????? damaged"),
+        Slot::Sound(label) => push_file(text, number, label),
     }
 }
 
-fn push_file(text: &mut String, label: &FileLabel) -> Result<(), AllocError> {
+fn push_file(text: &mut String, number: usize, label: &FileLabel) -> Result<(), AllocError> {
     let kind = char::from(letter_of_organization(label.organization));
     let kept = char::from(letter_of_retention(label.retention));
     let length = label.record_length;
     let capacity = label.capacity;
     let count = label.count;
     let full = percent(count, capacity);
+    write!(text, "{number:>4} ")?;
     push_name(text, label.name)?;
-    write!(
-        text,
-        " {kind}    {kept}    {length:>6} {capacity:>8} {count:>8} {full:>3}% "
-    )?;
+    write!(text, " {kind}    {kept}    {length:>6}")?;
+    push_key(text, label)?;
+    write!(text, " {capacity:>8} {count:>8} {full:>3}% ")?;
     push_date(text, &label.date)?;
     for extent in label.extents.as_slice() {
         let first = u32::from(extent.start);
@@ -146,7 +149,20 @@ fn push_file(text: &mut String, label: &FileLabel) -> Result<(), AllocError> {
     writeln!(text)
 }
 
-/// How full a file is, in hundredths.
+/// Appends length and start of the key of an indexed file, and blanks for a file without an index.
+fn push_key(text: &mut String, label: &FileLabel) -> Result<(), AllocError> {
+    let length = label.key_length;
+    let start = label.key_start;
+    match label.organization {
+        Organization::Indexed => write!(text, " {length:>10} {start:>9}"),
+        Organization::Sequential | Organization::Direct => {
+            let none = "";
+            write!(text, " {none:>10} {none:>9}")
+        }
+    }
+}
+
+/// How full a file is, in whole hundredths that are cut; 0 for one without room.
 fn percent(count: u32, capacity: u32) -> u64 {
     if capacity == 0 {
         return 0;
@@ -154,7 +170,7 @@ fn percent(count: u32, capacity: u32) -> u64 {
     u64::from(count) * 100 / u64::from(capacity)
 }
 
-/// Appends month, day and year.
+/// Appends month, day and year with slashes between them.
 fn push_date(text: &mut String, date: &[u8; 6]) -> Result<(), AllocError> {
     push_codes(text, &date[..2])?;
     text.push('/')?;

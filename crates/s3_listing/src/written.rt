@@ -14,9 +14,10 @@ use s3_store::MemoryStore;
 use std::alloc::{AllocError, Global};
 use std::io::Write;
 
-/// Writes a line for each used slot of a pack: of the masters, of level 1 and of level 2, in slot order.
+/// Writes a line for each used slot of a pack: of the masters, of level 1 and of level 2, in slot order (docs/PACK.md,
+/// "Commands").
 ///
-/// Nothing is written where it refuses, but for a write that failed.
+/// Refused with `Mount`, `NoMemory` or `File`. Nothing is written where it is refused, but for a write that failed.
 pub fn list<W: Write>(alloc: Global, pack: &[u8], writer: &mut W) -> Result<(), ListFault>
     ensures wrote { OnOk result (WritesText (listing pack.now) (W.contents writer.old) (W.contents writer.new)) }
     ensures refused { IfErr result (IsRefused (listing pack.now)) }

@@ -263,13 +263,13 @@ pub fn statement_fault(contents: &Contents, statement: &Statement) -> Option<Mar
     }
 }
 
-/// A job with a fault.
+/// A job with a fault: its first one, by card and then by number.
 #[derive(Clone, Copy, Debug, PartialEq, Eq)]
 pub struct FaultyJob {
     /// What is wrong there.
     pub fault: JobFault,
     /// The number of the card at fault, from 1 to 9,999.
     pub card: u16,
-    /// The place behind the job.
+    /// The place behind the job in the deck, from 0.
     pub after: usize,
 }

@@ -97,28 +97,28 @@ impl JobCards {
         self.date
     }
 
-    /// What SWITCH does with each of U1 to U8.
+    /// What SWITCH does with each of U1 to U8, in that order.
     pub fn switches(&self) -> [Switch; 8]
         ensures { result ≡ self.now.switches }
     {
         self.switches
     }
 
-    /// The number of the RUN card, which is the last card before the data.
+    /// The number of the RUN card, from 1 to 9,999, which is the last card before the data.
     pub fn run_card(&self) -> u16
         ensures { result ≡ self.now.data_from }
     {
         self.data_from as u16
     }
 
-    /// The place of the first card behind RUN.
+    /// The place of the first card behind RUN in the deck, from 0.
     pub fn data_from(&self) -> usize
         ensures { result ≡ self.now.data_from }
     {
         self.data_from
     }
 
-    /// The place behind the last card of the data.
+    /// The place behind the last card of the data in the deck, from 0; no data where it is that of the first one.
     pub fn data_to(&self) -> usize
         ensures value { result ≡ self.now.data_to }
         ensures order { self.now.data_from ≤ self.now.data_to }
@@ -126,7 +126,7 @@ impl JobCards {
         self.data_to
     }
 
-    /// The place behind the job.
+    /// The place behind the job in the deck, from 0 and at most 9,999, where the next job is looked for.
     pub fn after(&self) -> usize
         ensures value { result ≡ self.now.after }
         ensures order { self.now.data_to ≤ self.now.after }
@@ -294,7 +294,7 @@ fn read_job(alloc: Global, cards: &[Card], start: usize) -> Result<JobCards, Ocl
     Err(OclFault::Faulty(faulty(cards, stop_fault(cards, place))))
 }
 
-/// The place of the next job from a place on, or `None` where there is none.
+/// The place where the next job of a deck begins, looked for from a place on, both from 0; `None` where no job follows.
 pub fn job_at(deck: &Deck, from: usize) -> Option<usize>
     ensures { result ≡ job_place deck.now from }
 {
@@ -310,7 +310,8 @@ pub fn job_at(deck: &Deck, from: usize) -> Option<usize>
     }
 }
 
-/// The next job from a place on, or its fault, and the place behind it.
+/// The next job of a deck, looked for from a place on, from 0, behind which one must follow. Refused with `Faulty` where the
+/// job has a fault, with the first one and the place behind the job (docs/OCL.md).
 #[tactic(auto, using(crate::proofs::SoundLemmas::sound_result, crate::proofs::SoundLemmas::dated_result))]
 pub fn split(alloc: Global, deck: &Deck, from: usize) -> Result<JobCards, OclFault>
     requires { next_job deck.now from < length deck.now }

@@ -31,9 +31,9 @@ pub enum Verb {
 /// A parameter of a statement.
 #[derive(Clone, Copy, PartialEq, Eq)]
 pub enum Parameter {
-    /// The first one of LOAD.
+    /// The first parameter of LOAD, the program.
     Program,
-    /// The second one of LOAD, and UNIT of FILE.
+    /// The second parameter of LOAD, and UNIT of FILE: a unit.
     Unit,
     /// NAME of FILE.
     FileName,
@@ -47,20 +47,20 @@ pub enum Parameter {
     Tracks,
     /// RETAIN of FILE.
     Retain,
-    /// That of DATE.
+    /// The only parameter of DATE.
     Date,
-    /// That of SWITCH.
+    /// The only parameter of SWITCH.
     Switches,
 }
 
 /// What stands at the place of a parameter.
 #[derive(Clone, Copy)]
 pub enum Entry {
-    /// Nothing.
+    /// Nothing stands there.
     Empty,
-    /// What no parameter of the statement is.
+    /// A text that is no parameter of the statement.
     Unknown,
-    /// More than the statement has parameters.
+    /// A text behind the last parameter that the statement can have.
     Surplus,
     /// A parameter with nothing as its value.
     Missing(Parameter),
@@ -89,7 +89,7 @@ pub fn verb_of(keyword: &[u8]) -> Option<Verb>
     }
 }
 
-/// The parameter of a FILE statement that a word names.
+/// The parameter of a FILE statement that a keyword names.
 fn parameter_of(key: &[u8]) -> Option<Parameter>
     ensures { result ≡ parameter_spec key.now }
 {
@@ -151,7 +151,7 @@ fn key_len(text: &[u8]) -> usize
     text.iter().take_while(|code| **code != MINUS).count()
 }
 
-/// A parameter of a FILE statement: its word, a hyphen and its value.
+/// What a text is as a parameter of a FILE statement: its keyword, a hyphen and its value.
 fn keyed(text: &[u8]) -> Entry
     ensures { result ≡ keyed_spec text.now }
 {
@@ -204,7 +204,7 @@ pub fn entry_of(verb: Verb, place: usize, text: &[u8]) -> Entry
     entry_at(verb, place, text)
 }
 
-/// Whether a parameter text goes on at the next card.
+/// Whether a text of parameters goes on at the next card.
 pub fn goes_on(text: &[u8]) -> bool
     ensures { result ≡ goes_on_spec text.now }
 {

@@ -12,27 +12,27 @@ use s3_cards::Card;
 use std::alloc::{AllocError, Global};
 use std::marker::Model;
 
-/// A parameter, with the number of its card.
+/// What stands at the place of a parameter, with the number of its card.
 #[derive(Clone, Copy)]
 pub struct Piece {
     /// The number of the card, from 1 to 9,999.
     pub card: u16,
-    /// What stands there.
+    /// The parameter, or what stands in its place.
     pub entry: Entry,
 }
 
-/// A statement.
+/// A statement of a job, with all cards that it goes on over.
 #[derive(Drop)]
 pub struct Statement {
-    /// The number of its first card, from 1 to 9,999.
+    /// The number of the statement's first card, from 1 to 9,999.
     pub number: u16,
-    /// What it does, or none where its keyword is unknown.
+    /// What the statement does, or `None` where its keyword is unknown.
     pub verb: Option<Verb>,
-    /// Its parameters in their order; none where its keyword is unknown.
+    /// The statement's parameters in their order; none where its keyword is unknown.
     pub pieces: Vec<Piece>,
-    /// How many cards it has, at least 1.
+    /// How many cards the statement has, at least 1.
     pub cards: usize,
-    /// Whether it ends with a comma with nothing after it.
+    /// Whether the statement ends with a comma with nothing after it.
     pub is_open: bool,
 }
 
@@ -45,7 +45,7 @@ impl Model for Statement {
 }
 
 impl Statement {
-    /// Whether its keyword names this.
+    /// Whether the statement's keyword names this verb.
     pub fn does(&self, verb: Verb) -> bool
         ensures { result ≡ is_verb verb self.now.verb }
     {

@@ -13,9 +13,9 @@ use s3_cards::{Name, Retention, go_on_in_name, is_digit, is_word, number_spelled
 pub enum Switch {
     /// 1: the switch goes on.
     On,
-    /// 0: it goes off.
+    /// 0: the switch goes off.
     Off,
-    /// X: it stays as it is.
+    /// X: the switch stays as it is.
     Leave,
 }
 

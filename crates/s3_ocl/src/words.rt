@@ -55,7 +55,7 @@ pub const F2: [u8; 2] = punched!(2, b"F2");
 /// `$RPG`, the name of the compiler.
 pub const COMPILER: [u8; 8] = punched!(8, b"$RPG    ");
 
-/// The definitions' words are these texts as they are punched.
+/// Each word that the definitions name is its text as it is punched, in EBCDIC.
 #[tactic(auto, unfolding(s3_cards::specs::Codes::ebcdic, s3_cards::specs::Codes::code_page))]
 pub fn words_as_punched()
     ensures { words_spec ≡ punched_words }

@@ -27,7 +27,7 @@ impl Model for HaltLog {
 }
 
 impl HaltLog {
-    /// No halts.
+    /// A log without halts.
     pub fn new(alloc: Global) -> HaltLog
         ensures { result ≡ [] }
     {
@@ -36,7 +36,7 @@ impl HaltLog {
         }
     }
 
-    /// What the halt that waits was shown for, if one waits.
+    /// What the halt that waits for a reply was shown for; `None` where none waits.
     pub fn waiting(&self) -> Option<HaltCode>
         ensures { result ≡ waiting self.now }
     {
@@ -44,7 +44,7 @@ impl HaltLog {
         halt.reply.is_none().then_some(halt.code)
     }
 
-    /// Whether the last halt has no reply.
+    /// Whether a halt waits for a reply.
     pub fn is_waiting(&self) -> bool
         ensures { result ≡ is_waiting self.now }
     {
@@ -94,7 +94,7 @@ impl HaltLog {
         }
     }
 
-    /// The halts, in order.
+    /// The halts that were shown, in order.
     pub fn halts(&self) -> &[Halt]
         ensures { map halt_of result.now ≡ self.now }
     {

@@ -1,4 +1,10 @@
-//! What a level halts for, which replies an operator can give, and the log of the halts that were shown.
+//! What a level halts for, which replies an operator can give, and the log of the halts that were shown. docs/MESSAGES.md has
+//! each halt with its cause and cure.
+//!
+//! What is proved: `allowed` is the table of replies, for every halt and every digit (`replies_are_by_table`).
+//! `HaltLog::show` puts one halt behind the others, and changes nothing where memory is refused. `reply` fills in the halt
+//! that waits, or refuses exactly where none waits or the halt doesn't allow the digit, and then changes nothing; it takes
+//! no memory (`a_reply_is_kept_once` has worked rows). The words of the refusals are only tested.
 
 #![tactic(auto)]
 

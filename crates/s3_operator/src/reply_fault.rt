@@ -17,7 +17,7 @@ impl ReplyFault {
     ghost use Rattle.std.specs.Prelude.{◌≡◌};
     ghost use Rattle.s3_operator.specs.Halts.{fault_number};
 
-    /// 1 for NotHalted, 2 for NotAllowed.
+    /// The number of the fault: 1 for `NotHalted`, 2 for `NotAllowed`.
     pub fn number(self) -> u8
         ensures { result ≡ fault_number self }
     {

@@ -33,7 +33,7 @@ impl<S: PackStore> Model for Pool<S> {
 impl<S: PackStore> Pool<S> {
     ghost use Rattle.s3_pool.specs.Inner.Lending.{LendsSector, EndsKept};
 
-    /// A pool over a store, which comes back where memory is refused.
+    /// A pool over a store, with no sector in memory. Where memory is refused, the store comes back.
     pub fn new(alloc: Global, store: S) -> Result<Self, AllocFailed<S>>
         ensures contents { IfOk result (λ pool. pool.contents ≡ S.contents store) }
         ensures stored { IfOk result (λ pool. pool.stored ≡ S.contents store) }
@@ -46,7 +46,8 @@ impl<S: PackStore> Pool<S> {
         }
     }
 
-    /// Sector `n`. The contents stay, refused or not.
+    /// The bytes of sector `n`, to read. Refused with `NoSector` exactly where `n` isn't below the count of sectors, and
+    /// with `Device` or `NoMemory`. No sector changes, refused or not.
     pub fn sector(&mut self, n: u16) -> Result<&[u8; 256], PoolFault>
         ensures* keeps { sem 𝓛 (EndsKept S.row S.PackStore self.entry result) }
         ensures value { IfOk result (λ bytes. slice_get self.old.contents n ≡ Some bytes.now) }
@@ -56,7 +57,8 @@ impl<S: PackStore> Pool<S> {
         Ok(self.buffers.buffer(slot).bytes())
     }
 
-    /// Sector `n` to write to. The other sectors stay, and refused, all do.
+    /// The bytes of sector `n`, to write to. Refused with `NoSector` exactly where `n` isn't below the count of sectors, and
+    /// with `Device` or `NoMemory`. The other sectors stay as they were, and all of them where it is refused.
     pub fn sector_mut(&mut self, n: u16) -> Result<&mut [u8; 256], PoolFault>
         ensures* writes_back { sem 𝓛 (LendsSector S.row S.PackStore self.entry n result) }
         ensures value { IfOk result (λ bytes. slice_get self.old.contents n ≡ Some bytes.now) }
@@ -66,7 +68,8 @@ impl<S: PackStore> Pool<S> {
         Ok(self.buffers.buffer_mut(slot).bytes_mut())
     }
 
-    /// Has the store hold the contents. Afterwards no sector is in memory.
+    /// Writes every buffer that was written to, so that the store has what the pool shows; afterwards no sector is in memory.
+    /// Refused with `Device` alone, where what the pool shows stays.
     pub fn flush(&mut self) -> Result<(), PoolFault>
         ensures flushed { OnOk result (self.new.stored ≡ self.old.contents) }
         ensures keeps { KeepsContents self.old self.new }

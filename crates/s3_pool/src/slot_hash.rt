@@ -11,7 +11,7 @@ pub(crate) struct SlotHash {
 }
 
 impl SlotHash {
-    /// Of no slot yet.
+    /// The hash before a slot is hashed.
     pub(crate) fn new() -> Self {
         SlotHash { slot: 0 }
     }

@@ -26,7 +26,7 @@ impl Model for SlotBytes {
 }
 
 impl SlotBytes {
-    /// No bytes.
+    /// A slot of which no byte is put yet.
     fn new() -> Self
         ensures { result ≡ [] }
     {
@@ -36,7 +36,7 @@ impl SlotBytes {
         }
     }
 
-    /// These bytes behind the others.
+    /// Puts these bytes behind the others.
     fn push(&mut self, part: &[u8])
         requires { length self.old + length part.now ≤ 64 }
         ensures bytes { self.new ≡ self.old ++ part.now }
@@ -46,7 +46,7 @@ impl SlotBytes {
         self.count += part.len();
     }
 
-    /// A number of two bytes behind the others.
+    /// Puts a number of two bytes behind the others.
     fn push_u16(&mut self, n: u16)
         requires { length self.old + 2 ≤ 64 }
         ensures bytes { self.new ≡ self.old ++ big_bytes 2 n }
@@ -57,7 +57,7 @@ impl SlotBytes {
         self.push(&bytes);
     }
 
-    /// A number of four bytes behind the others.
+    /// Puts a number of four bytes behind the others.
     fn push_u32(&mut self, n: u32)
         requires { length self.old + 4 ≤ 64 }
         ensures bytes { self.new ≡ self.old ++ big_bytes 4 n }
@@ -68,7 +68,7 @@ impl SlotBytes {
         self.push(&bytes);
     }
 
-    /// Start and length of a run of sectors behind the others.
+    /// Puts start and length of a run of sectors behind the other bytes.
     #[tactic(auto, using(std::proofs::Common::append_assoc))]
     fn push_stretch(&mut self, stretch: Stretch)
         requires { length self.old + 4 ≤ 64 }
@@ -79,7 +79,7 @@ impl SlotBytes {
         self.push_u16(stretch.sectors);
     }
 
-    /// All of the slot.
+    /// The 64 bytes of the slot.
     fn finish(self) -> [u8; 64]
         requires { length self ≡ 64 }
         ensures { result ≡ self }
@@ -124,7 +124,7 @@ fn extent_at(extents: &Extents, i: usize) -> Stretch
     }
 }
 
-/// The 64 bytes of a label's slot.
+/// The 64 bytes of the slot of a label (docs/PACK.md, "Its sectors").
 #[tactic(auto, unfolding(crate::specs::Inner::Labels::label_bytes))]
 pub fn bytes_of(label: &FileLabel) -> [u8; 64]
     ensures { result ≡ label_bytes label.now }

@@ -10,7 +10,8 @@ use crate::making::LabelFault;
 use crate::slot::{Slot, Standing, place_of, standing_of};
 use s3_cards::Name;
 
-/// The slot of the file of that label.
+/// The place, from 0, of the slot that has the sound file of a label among the slots of an area. Refused with `DamagedLabel`
+/// where there is none but a damaged slot has the label, and with `NotFound` where no slot has it.
 #[tactic(auto, using(crate::proofs::Makes::present_somewhere))]
 pub fn place_in(name: Name, slots: &[Slot]) -> Result<usize, LabelFault>
     ensures ok { IfOk result (λ i. refusal (standing_spec name slots.now) ≡ None) }
@@ -28,7 +29,7 @@ pub fn place_in(name: Name, slots: &[Slot]) -> Result<usize, LabelFault>
     }
 }
 
-/// Sets the count of the file in a slot.
+/// Sets the count of the file in the slot at a place, from 0; a slot without a file stays as it is.
 pub fn recount(slots: &mut [Slot], place: usize, count: u32)
     requires { place < length slots.old }
     ensures { slots.new ≡ changed_in (λ label. Sound (record label { count = count })) slots.old (Some place) }
@@ -40,7 +41,7 @@ pub fn recount(slots: &mut [Slot], place: usize, count: u32)
     }
 }
 
-/// Frees the slot of a file.
+/// Frees the slot of a file at a place, from 0; a slot without a file stays as it is.
 pub fn free(slots: &mut [Slot], place: usize)
     requires { place < length slots.old }
     ensures { slots.new ≡ changed_in (λ label. Free) slots.old (Some place) }

@@ -10,39 +10,39 @@ use s3_store::Stretch;
 /// How a pack is laid out: files of the first format have one extent, those of the second up to four.
 #[derive(Clone, Copy, Debug, PartialEq, Eq)]
 pub enum Format {
-    /// `S3PACK01`.
+    /// The first format, `S3PACK01`: a file has one extent, and each level may have 64 lines queued.
     First,
-    /// `S3PACK02`.
+    /// The second format, `S3PACK02`: a file has up to four extents, and the quotas stand in the header.
     Second,
 }
 
 /// The header of a pack.
 #[derive(Clone, Copy, Debug, PartialEq, Eq)]
 pub struct Header {
-    /// Its format.
+    /// How the pack is laid out.
     pub format: Format,
-    /// How many sectors it has.
+    /// How many sectors the pack has.
     pub total: u16,
-    /// The region of the masters.
+    /// The region of the masters, which no job changes.
     pub masters: Stretch,
     /// The region of level 1.
     pub level_one: Stretch,
     /// The region of level 2.
     pub level_two: Stretch,
-    /// How many lines of level 1 may be queued.
+    /// How many printed lines of level 1 may be queued, 1 to 127.
     pub quota_one: u8,
-    /// How many lines of level 2 may be queued.
+    /// How many printed lines of level 2 may be queued, 1 to 127, at most 128 with those of level 1.
     pub quota_two: u8,
 }
 
-/// Why a header isn't accepted.
+/// Why a pack isn't mounted: what is wrong with its header (docs/PACK.md, "Commands").
 #[derive(Clone, Copy, Debug, PartialEq, Eq)]
 pub enum MountFault {
-    /// It doesn't begin as one, or its quotas aren't quotas.
+    /// The first eight bytes aren't those of a format, or the quotas aren't 1 to 127 and at most 128 together.
     BadHeader,
-    /// Its regions aren't regions.
+    /// A region isn't whole tracks from sector 168 on within the pack, or two regions meet.
     BadRegions,
-    /// There are fewer sectors.
+    /// There are fewer than 168 sectors, or fewer than the header says.
     Short,
 }
 
@@ -59,7 +59,7 @@ fn format_in(bytes: &[u8; 256]) -> Option<Format>
     }
 }
 
-/// Start and length in sectors from a place on.
+/// The run of sectors whose start and length stand in the bytes from a place on.
 pub fn stretch_at(at: usize, bytes: &[u8]) -> Stretch
     requires { at + 4 ≤ length bytes.now }
     ensures { result ≡ stretch_spec at bytes.now }
@@ -96,7 +96,7 @@ fn header_in(format: Format, bytes: &[u8; 256]) -> Header
     }
 }
 
-/// Whether each level may have a line queued, and both together 128.
+/// Whether so many lines may be queued for level 1 and for level 2: at least 1 for each, at most 128 together.
 pub fn are_quotas(one: u8, two: u8) -> bool
     ensures { result ≡ are_quotas_spec one two }
 {
@@ -113,14 +113,14 @@ fn is_region(total: u16, region: Stretch) -> bool
         && end_of(region) <= u32::from(total)
 }
 
-/// Whether all of them are regions.
+/// Whether each of these runs is a region.
 fn are_whole(total: u16, regions: &[Stretch]) -> bool
     ensures { result ≡ list_all (is_region_spec total) regions.now }
 {
     regions.iter().all(|region| is_region(total, *region))
 }
 
-/// Whether all three are regions that don't meet.
+/// Whether the regions of the masters and of both levels are regions, and no two of them meet.
 fn are_regions(header: &Header) -> bool
     ensures { result ≡ are_regions_spec header.now }
 {
@@ -128,7 +128,8 @@ fn are_regions(header: &Header) -> bool
     are_whole(header.total, &regions) && are_apart(&regions)
 }
 
-/// The header of so many sectors, of which these are the bytes of the first.
+/// The header of a pack of so many sectors, whose sector 0 has these bytes. Of several faults the first of these is answered:
+/// fewer than 168 sectors, `BadHeader`, `BadRegions`, fewer sectors than the header says (docs/PACK.md, "Commands").
 pub fn accept(sectors: u16, bytes: &[u8; 256]) -> Result<Header, MountFault>
     ensures { result ≡ accepted_spec sectors (header_by bytes.now (format_spec bytes.now)) }
 {

@@ -11,41 +11,41 @@ use s3_store::{Extents, Stretch};
 /// How the records of a file are found.
 #[derive(Clone, Copy, Debug, PartialEq, Eq)]
 pub enum Organization {
-    /// One after another.
+    /// Sequential, S: one after another.
     Sequential,
-    /// By keys.
+    /// Indexed, I: by their keys.
     Indexed,
-    /// By numbers.
+    /// Direct, D: by their numbers.
     Direct,
 }
 
-/// The label of a file.
+/// The label of a file on a pack (docs/PACK.md, "Its sectors").
 #[derive(Drop)]
 pub struct FileLabel {
-    /// Its name.
+    /// The label itself, by which OCL names the file.
     pub name: Name,
-    /// How its records are found.
+    /// How the file's records are found.
     pub organization: Organization,
-    /// How long it is kept.
+    /// How long the file is kept.
     pub retention: Retention,
-    /// The length of each record.
+    /// The length of each record in bytes, 1 to 1,024 in a sound label.
     pub record_length: u16,
-    /// The length of a key, 0 where the file has no index.
+    /// The length of a key in bytes, 1 to 29 in a sound label; 0 where the file has no index.
     pub key_length: u8,
-    /// The first byte of a key, from 1, 0 where the file has no index.
+    /// The first byte of the key in a record, from 1; 0 where the file has no index.
     pub key_start: u16,
-    /// Where it is.
+    /// The runs of sectors where the file is, one to four.
     pub extents: Extents,
-    /// For how many records it has room.
+    /// For how many records the file has room, at least 1 in a sound label.
     pub capacity: u32,
-    /// How many records it has.
+    /// How many records the file has, as the last job that closed it left it.
     pub count: u32,
-    /// The date of its making.
+    /// The date of the file's making, mmddyy, in EBCDIC.
     pub date: [u8; 6],
 }
 
 impl FileLabel {
-    /// The same once more.
+    /// A copy of the label.
     pub fn copied(&self) -> Self
         ensures { result ≡ self.now }
     {
@@ -115,7 +115,7 @@ fn is_unused(stretch: Stretch) -> bool
     stretch.start == 0 && stretch.sectors == 0
 }
 
-/// How many there are up to the last one that is used.
+/// How many extents there are up to the last one that is used.
 fn used_count(stretches: &[Stretch]) -> usize
     ensures value { result ≡ used_count_spec stretches.now }
     ensures within { result ≤ length stretches.now }

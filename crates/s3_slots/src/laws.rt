@@ -32,7 +32,7 @@ pub fn a_header_is_accepted_by_its_tests()
     ensures first { mounted (pack_of 887 (take 7 ten_bytes ++ 0x31 ∷ drop 8 ten_bytes)) ≡ Ok (record ten { format = First }) }
 {}
 
-/// Each level may have a line queued, both together 128.
+/// Quotas are at least 1 for each level, and at most 128 together.
 pub fn quotas_are_1_to_127()
     ensures most { mounted (with_quotas 127 1) ≡ Ok (record ten { quota_one = 127; quota_two = 1 }) }
     ensures none_for_two { mounted (with_quotas 128 0) ≡ Err BadHeader }
@@ -40,7 +40,7 @@ pub fn quotas_are_1_to_127()
     ensures none_for_one { mounted (with_quotas 0 64) ≡ Err BadHeader }
 {}
 
-/// The slots of a file DATA in one extent, and of one in two.
+/// The 64 bytes of the slot of a file DATA in one extent, and of one in two.
 pub fn a_label_is_64_bytes()
     ensures one { label_bytes (record (new_label new_data (record { start = 0x198; sectors = 0x18 } ∷ [])) { count = 3 }) ≡ 0x01 ∷ 0xc4 ∷ 0xc1 ∷ 0xe3 ∷ 0xc1 ∷ 0x40 ∷ 0x40 ∷ 0x40 ∷ 0x40 ∷ 0xe2 ∷ 0xe3 ∷ 0x00 ∷ 0x0a ∷ 0x00 ∷ 0x00 ∷ 0x00 ∷ 0x01 ∷ 0x98 ∷ 0x00 ∷ 0x18 ∷ 0x00 ∷ 0x00 ∷ 0x00 ∷ 0x0a ∷ 0x00 ∷ 0x00 ∷ 0x00 ∷ 0x03 ∷ 0xf0 ∷ 0xf6 ∷ 0xf1 ∷ 0xf5 ∷ 0xf7 ∷ 0xf6 ∷ replicate 30 0 }
     ensures first_extent { take 4 (drop 16 (label_bytes d_label)) ≡ 0x01 ∷ 0xc8 ∷ 0x00 ∷ 0x48 ∷ [] }

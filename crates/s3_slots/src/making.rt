@@ -19,56 +19,56 @@ use s3_store::{Extents, Stretch};
 /// Why a call on labels is refused.
 #[derive(Clone, Copy, Debug, PartialEq, Eq)]
 pub enum LabelFault {
-    /// No file has that label.
+    /// No file of the area has that label.
     NotFound,
-    /// A damaged slot has that label.
+    /// A damaged slot has that label and blocks it.
     DamagedLabel,
     /// A master has that label.
     Master,
-    /// There is no room.
+    /// The region has no room for the file.
     NoSpace,
-    /// The file there is permanent.
+    /// A permanent file has that label.
     Retained,
-    /// No slot is free.
+    /// No slot of the area is free.
     NoSlot,
 }
 
 /// How large a new file is to be.
 #[derive(Clone, Copy, Debug, PartialEq, Eq)]
 pub enum Size {
-    /// For so many records.
+    /// Room for so many records, 1 to 999,999.
     Records(u32),
-    /// Of so many tracks.
+    /// So many tracks, 1 to 999.
     Tracks(u16),
 }
 
-/// A file to be made.
+/// A file that is to be made.
 #[derive(Clone, Copy, Debug, PartialEq, Eq)]
 pub struct NewFile {
-    /// Its name.
+    /// The label that the file gets.
     pub name: Name,
-    /// How its records are found.
+    /// How the file's records are found.
     pub organization: Organization,
-    /// How long it is kept.
+    /// How long the file is kept.
     pub retention: Retention,
-    /// The length of each record.
+    /// The length of each record in bytes, 1 to 1,024.
     pub record_length: u16,
-    /// The length of a key, or 0.
+    /// The length of a key in bytes, 1 to 29 for an indexed file; else 0.
     pub key_length: u8,
-    /// The first byte of a key, from 1, or 0.
+    /// The first byte of the key in a record, from 1, for an indexed file; else 0.
     pub key_start: u16,
-    /// How large it is to be.
+    /// How large the file is to be.
     pub size: Size,
-    /// The date of its making.
+    /// The date of the file's making, mmddyy, in EBCDIC.
     pub date: [u8; 6],
 }
 
-/// Which slots a make has changed.
+/// Which slots of an area the making of a file has changed, by their places from 0.
 #[derive(Drop)]
 pub struct Made {
-    /// That of the old file, if there was one.
+    /// The slot that the old file of the label had, if there was one.
     pub freed: Option<usize>,
-    /// That of the new file.
+    /// The slot of the new file.
     pub at: usize,
     /// The new file's label.
     pub label: FileLabel,
@@ -286,7 +286,9 @@ fn put_instead(
     }
 }
 
-/// Makes a file: what becomes of the slots of an area beside those of the masters.
+/// Makes a file in a level's region: changes the level's slots, and says which. Where it is refused, with `Master` where a
+/// master has the label, then as `LabelFault` says, all slots stay. An old file of the label goes, unless it is permanent
+/// (docs/PACK.md).
 #[tactic(auto, unfolding(crate::specs::Making::made))]
 pub fn make_in(
     format: Format,

@@ -12,16 +12,16 @@ use s3_store::Stretch;
 /// What stands in a slot.
 #[derive(Drop)]
 pub enum Slot {
-    /// Nothing.
+    /// No file: the slot's first byte is 0.
     Free,
-    /// No label that can be used, with its name if the bytes are one.
+    /// A label that can't be used, with its name if the bytes of the name are one (docs/PACK.md, "Damage").
     Damaged(Option<Name>),
-    /// A label.
+    /// The label of a file that can be used.
     Sound(FileLabel),
 }
 
 impl Slot {
-    /// The same once more.
+    /// A copy of the slot.
     pub fn copied(&self) -> Self
         ensures { result ≡ self.now }
     {
@@ -36,15 +36,15 @@ impl Slot {
 /// What an area has under a label.
 #[derive(Drop)]
 pub enum Standing {
-    /// Nothing.
+    /// No slot has the label.
     Absent,
-    /// A damaged slot.
+    /// A damaged slot has the label and blocks it, and no sound file has it.
     Blocked,
-    /// A file.
+    /// A sound file has the label.
     Present(FileLabel),
 }
 
-/// The sectors that records take.
+/// How many sectors so many records take.
 #[tactic(auto, using(crate::proofs::SlotLemmas::few_sectors))]
 fn record_sectors(capacity: u32, record_length: u16) -> u64
     ensures value { result ≡ record_sectors_spec capacity record_length }
@@ -63,7 +63,7 @@ fn entries_per_sector(key_length: u8) -> u64
     256 / (u64::from(key_length) + 4)
 }
 
-/// The sectors that an index takes.
+/// How many sectors the index of so many records takes.
 #[tactic(auto, using(crate::proofs::SlotLemmas::few_entries))]
 fn index_sectors(capacity: u32, key_length: u8) -> u64
     requires { key_length ≤ 29 }
@@ -74,7 +74,7 @@ fn index_sectors(capacity: u32, key_length: u8) -> u64
     (u64::from(capacity) + entries - 1) / entries
 }
 
-/// The sectors that a file takes.
+/// How many sectors a file with room for so many records takes, those of its index among them.
 pub fn sectors_needed(
     organization: Organization,
     record_length: u16,
@@ -118,7 +118,7 @@ fn is_extent(region: Stretch, extent: Stretch) -> bool
         && is_inside(region, extent)
 }
 
-/// Whether each of them is an extent.
+/// Whether each of these runs is an extent of the region.
 fn are_whole(region: Stretch, extents: &[Stretch]) -> bool
     ensures { result ≡ list_all (is_extent_spec region) extents.now }
 {
@@ -167,7 +167,7 @@ fn is_well_formed(region: Stretch, label: &FileLabel) -> bool
         ) <= sectors_of(extents)
 }
 
-/// Whether no sector is of a run and of the file in a slot.
+/// Whether a run has no sector in common with the sound file in a slot.
 fn is_apart_from(stretch: Stretch, slot: &Slot) -> bool
     ensures { result ≡ is_apart_from_slot stretch slot.now }
 {
@@ -215,14 +215,15 @@ fn is_disentangled(earlier: &[Slot], label: &FileLabel) -> bool
     are_clear(earlier, label.extents.as_slice()) && !any_bears(label.name, earlier)
 }
 
-/// Whether a label is sound behind those slots.
+/// Whether a label is sound behind the slots before it.
 fn is_sound(region: Stretch, earlier: &[Slot], label: &FileLabel) -> bool
     ensures { result ≡ is_sound_spec region earlier.now label.now }
 {
     is_well_formed(region, label) && is_disentangled(earlier, label)
 }
 
-/// What a slot of these bytes is behind those that were judged before it.
+/// What a mount judges a slot to be, by its 64 bytes and by the slots of its area before it, as they were judged (docs/PACK.md,
+/// "Damage").
 pub fn judge(format: Format, region: Stretch, earlier: &[Slot], bytes: &[u8]) -> Slot
     requires { 64 ≤ length bytes.now }
     ensures { result ≡ judged format region earlier.now bytes.now }
@@ -256,7 +257,7 @@ fn any_damaged_under(name: Name, slots: &[Slot]) -> bool
     slots.iter().any(|slot| is_damaged_under(name, slot))
 }
 
-/// The first slot that has the sound file of that name.
+/// The place, from 0, of the first slot that has the sound file of a label.
 pub fn place_of(name: Name, slots: &[Slot]) -> Option<usize>
     ensures place { result ≡ position_from (bears_spec name) 0 slots.now }
     ensures within { IfSome result (λ i. i < length slots.now) }
@@ -275,7 +276,7 @@ fn without_file(is_blocked: bool) -> Standing
     }
 }
 
-/// What these slots have under a name.
+/// What the slots of an area have under a label.
 #[tactic(auto, unfolding(crate::specs::Slots::standing))]
 pub fn standing_of(name: Name, slots: &[Slot]) -> Standing
     ensures { result ≡ standing_spec name slots.now }

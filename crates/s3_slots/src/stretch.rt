@@ -6,14 +6,14 @@ ghost use Rattle.s3_slots.specs.Stretches.{is_apart as is_apart_spec, is_apart_f
 
 use s3_store::Stretch;
 
-/// The first sector behind it.
+/// The number of the first sector behind a run.
 pub fn end_of(stretch: Stretch) -> u32
     ensures { result ≡ end_spec stretch }
 {
     u32::from(stretch.start) + u32::from(stretch.sectors)
 }
 
-/// Whether no sector is of both.
+/// Whether two runs have no sector in common.
 pub fn is_apart(a: Stretch, b: Stretch) -> bool
     ensures { result ≡ is_apart_spec a b }
 {
@@ -23,14 +23,14 @@ pub fn is_apart(a: Stretch, b: Stretch) -> bool
         || end_of(b) <= u32::from(a.start)
 }
 
-/// Whether no sector is of it and one of the others.
+/// Whether a run has no sector in common with any of the others.
 pub fn is_apart_from_all(stretch: Stretch, others: &[Stretch]) -> bool
     ensures { result ≡ is_apart_from_all_spec stretch others.now }
 {
     others.iter().all(|other| is_apart(stretch, *other))
 }
 
-/// Whether no two of them have a sector in common.
+/// Whether no two of these runs have a sector in common.
 pub fn are_apart(stretches: &[Stretch]) -> bool
     ensures { result ≡ are_apart_spec stretches.now }
 {
@@ -40,14 +40,14 @@ pub fn are_apart(stretches: &[Stretch]) -> bool
     }
 }
 
-/// Whether all its sectors are of the outer one.
+/// Whether all sectors of a run are of the outer one.
 pub fn is_inside(outer: Stretch, stretch: Stretch) -> bool
     ensures { result ≡ is_inside_spec outer stretch }
 {
     outer.start <= stretch.start && end_of(stretch) <= end_of(outer)
 }
 
-/// How many sectors up to four of them have.
+/// How many sectors up to four runs have together.
 pub fn sectors_of(stretches: &[Stretch]) -> u64
     requires { length stretches.now ≤ 4 }
     ensures value { result ≡ sum_by (λ stretch. stretch.sectors) stretches.now }

@@ -12,10 +12,11 @@ use s3_cards::{PRINT_POSITIONS, PrintLine};
 /// Where the text of a line begins in its block.
 const TEXT: usize = 4;
 
-/// The most bytes of a known number that are copied without a call. All positions are some more, and so are copied in two parts.
+/// The most bytes of a known number that are copied without a call. All positions are some more, and so are copied in two
+/// parts.
 const FRONT: usize = 128;
 
-/// These bytes from a place of the block on.
+/// Puts these bytes into a block, from a place on.
 #[inline(always)]
 fn put(bytes: &mut [u8; 256], place: usize, part: &[u8])
     requires { place + length part.now ≤ 256 }
@@ -24,7 +25,7 @@ fn put(bytes: &mut [u8; 256], place: usize, part: &[u8])
     bytes[place..place + part.len()].copy_from_slice(part);
 }
 
-/// The text of a line in its block.
+/// Puts the text of a line into its block.
 #[inline(always)]
 fn put_text(block: &mut [u8; 256], text: &[u8])
     requires { length text.now ≤ 132 }
@@ -48,7 +49,7 @@ fn head_of(page: u16, line: u8, length: u8) -> [u8; 4]
     bytes
 }
 
-/// A block of zeros gets this line.
+/// Lays a line into a block of zeros.
 #[tactic(auto, using(crate::proofs::BlockLemmas::block_put_together, crate::proofs::BlockLemmas::block_reads_back, crate::proofs::BlockLemmas::block_is_whole))]
 #[inline(always)]
 pub fn lay_line(block: &mut [u8; 256], line: &ComposedLine<'_>)

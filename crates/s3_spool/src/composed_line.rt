@@ -3,7 +3,8 @@
 use s3_cards::PrintLine;
 use std::marker::Model;
 
-/// A printed line whose text stands elsewhere: its page, its line on the page, and the 1 to 132 EBCDIC bytes of the print record.
+/// A printed line whose text stands elsewhere: its page, its line on the page, and the 1 to 132 EBCDIC bytes of the print
+/// record.
 #[derive(Drop)]
 pub struct ComposedLine<'a> {
     page: u16,
@@ -25,7 +26,7 @@ impl<'a> Model for ComposedLine<'a> {
 impl<'a> ComposedLine<'a> {
     ghost use Rattle.std.specs.Prelude.{◌≡◌, ◌<◌, ◌≤◌, length};
 
-    /// The line of a page with this text.
+    /// A line of a page with a text of 1 to 132 EBCDIC bytes, which isn't copied.
     pub fn new(page: u16, line: u8, text: &'a [u8]) -> ComposedLine<'a>
         requires printed { 0 < length text.now }
         requires fits { length text.now ≤ 132 }
@@ -34,21 +35,21 @@ impl<'a> ComposedLine<'a> {
         ComposedLine { page, line, text }
     }
 
-    /// A line that has its text.
+    /// A printed line, whose text isn't copied.
     pub fn of(line: &'a PrintLine) -> ComposedLine<'a>
         ensures { result ≡ line.now }
     {
         ComposedLine::new(line.page(), line.line(), line.text())
     }
 
-    /// Its page.
+    /// The number of the page, 0 to 9,999.
     pub fn page(&self) -> u16
         ensures { result ≡ self.now.page }
     {
         self.page
     }
 
-    /// The line of the page.
+    /// The number of the line on its page, from 1.
     pub fn line(&self) -> u8
         ensures { result ≡ self.now.line }
     {

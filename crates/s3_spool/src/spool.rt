@@ -50,7 +50,7 @@ impl Model for Spool {
         × ((length s.two.items ≤ s.two.capacity) × AreBlocks s.free.items s.one.items s.two.items))) };
 }
 
-/// All blocks, in order.
+/// The numbers of all spool blocks, from 0, in order.
 #[tactic(auto, using(crate::proofs::BlocksLemmas::pushed_in_order))]
 fn all_blocks(alloc: Global) -> Result<HeapCircularBuffer<u8>, AllocError>
     ensures items { IfOk result (λ ring. ring.items ≡ range_with_len 0 128) }
@@ -102,7 +102,7 @@ fn read_line<P: Sectors>(sectors: &mut P, block: u8) -> Result<PrintLine, PoolFa
 impl Spool {
     ghost use Rattle.std.specs.Prelude.{◌≡◌, ◌≢◌, ◌<◌, ◌+◌, ◌++◌, ◌∷◌, ◌≤◌, ◌↔◌, IfOk, IfSome, OnOk, OnErr, IsTrue, Err, Some, [], length, slice_get};
 
-    /// Empty queues with these quotas, each at least 1 and together at most 128.
+    /// Empty queues with these quotas of lines, together at most 128.
     #[tactic(auto, using(crate::proofs::BlocksLemmas::first_blocks))]
     pub fn new(alloc: Global, quota_one: u8, quota_two: u8) -> Result<Spool, AllocError>
         requires { quota_one + quota_two ≤ 128 }
@@ -134,7 +134,7 @@ impl Spool {
         self.ring(level).len()
     }
 
-    /// Whether a level's quota is used up.
+    /// Whether a level has as many lines queued as its quota.
     pub fn is_full(&self, level: LevelId) -> bool
         ensures full { IsTrue result ↔ (length (blocks_of level self.now) ≡ quota_of level self.now) }
         ensures within { length (blocks_of level self.now) ≤ quota_of level self.now }
@@ -157,7 +157,7 @@ impl Spool {
         }
     }
 
-    /// The first block becomes a level's last.
+    /// The first free block becomes the last one of a level's queue.
     #[tactic(auto, using(crate::proofs::BlocksLemmas::kept_all, crate::proofs::BlocksLemmas::moved_one, crate::proofs::BlocksLemmas::moved_two))]
     fn enqueue(&mut self, level: LevelId, block: u8)
         requires first { slice_get self.old.free 0 ≡ Some block }
@@ -186,10 +186,10 @@ impl Spool {
         self.free.push_front(block);
     }
 
-    /// A line more for a level, put last in its queue.
+    /// Puts a line behind the last one of a level's queue.
     ///
-    /// Refused `QuotaFull` exactly where the level has as many lines queued as its quota, and by the sectors' faults; refused, the
-    /// queues stay. `sectors` are those of a pack: the spool's blocks are sectors 25 to 152.
+    /// Refused `QuotaFull` exactly where the level has as many lines queued as its quota, and by the sectors' faults;
+    /// refused, the queues stay. `sectors` are those of a pack: the spool's blocks are sectors 25 to 152.
     pub fn put<P: Sectors>(
         &mut self,
         level: LevelId,
@@ -211,9 +211,10 @@ impl Spool {
         self.put_composed(level, &ComposedLine::of(line), sectors)
     }
 
-    /// A line more for a level as it was composed, put last in its queue.
+    /// Puts a line whose text stands elsewhere behind the last one of a level's queue.
     ///
-    /// What is said of `put` is said of it.
+    /// Refused `QuotaFull` exactly where the level has as many lines queued as its quota, and by the sectors' faults;
+    /// refused, the queues stay. `sectors` are those of a pack: the spool's blocks are sectors 25 to 152.
     #[inline(always)]
     #[tactic(auto)]
     pub fn put_composed<P: Sectors>(
@@ -245,7 +246,7 @@ impl Spool {
         Ok(())
     }
 
-    /// The first line of a level's queue, which is taken off it.
+    /// Takes the first line off a level's queue.
     ///
     /// Refused `Empty` exactly where the level has none queued, and by the sectors' faults; refused, the queues stay.
     #[tactic(auto, using(crate::proofs::BlocksLemmas::first_of_queue, crate::proofs::BlocksLemmas::taken_quota, crate::proofs::BlocksLemmas::taken_other))]

@@ -21,7 +21,7 @@ impl Model for Extents {
 }
 
 impl Extents {
-    /// No extents.
+    /// The empty list of runs.
     pub fn new() -> Self
         ensures { result ≡ [] }
     {
@@ -34,7 +34,7 @@ impl Extents {
         }
     }
 
-    /// These runs.
+    /// The list of these runs, at most four.
     pub fn of(runs: &[Stretch]) -> Self
         requires { length runs.now ≤ 4 }
         ensures { result ≡ runs.now }
@@ -50,7 +50,7 @@ impl Extents {
         }
     }
 
-    /// The runs in their order.
+    /// The runs in the order of the file's bytes, at most four.
     pub fn as_slice(&self) -> &[Stretch]
         ensures value { result.now ≡ self.now }
         ensures few { length self.now ≤ 4 }
@@ -58,7 +58,7 @@ impl Extents {
         &self.runs[..self.count]
     }
 
-    /// One more, behind the others.
+    /// Puts one more run behind the others, of which there are at most three.
     pub fn push(&mut self, run: Stretch)
         requires { length self.old < 4 }
         ensures { self.new ≡ self.old ++ run ∷ [] }
@@ -67,7 +67,7 @@ impl Extents {
         self.count += 1;
     }
 
-    /// The same once more.
+    /// A copy of the list.
     pub fn copied(&self) -> Self
         ensures { result ≡ self.now }
     {

@@ -98,7 +98,7 @@ impl<S: PackStore> PackStore for FuseStore<S> {
         ensures err { OnErr result (S.contents self.new.inner ≡ S.contents self.old.inner) }
         ensures failures { fuse_failures (S.failures self.new.inner) self.new.has_failed ≡ fuse_failures (S.failures self.old.inner) self.old.has_failed + failed_calls result }
 
-        // As for a read.
+        // The write that the fuse was set for fails, and no other has another answer than the inner store's.
         ensures counted { self.new.calls_left ≡ self.old.calls_left - 1 }
         ensures burns { self.old.calls_left ≡ 1 → IsErr result }
         ensures untouched { self.old.calls_left ≡ 1 → self.new.inner ≡ self.old.inner }

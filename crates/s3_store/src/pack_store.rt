@@ -4,7 +4,7 @@ ghost use Rattle.s3_store.specs.Inner.Failures.{failed_calls};
 
 use thiserror::Error;
 
-/// A transfer failed.
+/// Why a store refuses a call: the transfer failed.
 #[derive(Clone, Copy, Debug, PartialEq, Eq, Error)]
 #[error("a transfer failed")]
 pub struct StoreFault;
@@ -23,14 +23,14 @@ pub trait PackStore {
     fn sectors(&self) -> u16
         ensures { result ≡ length (contents self.now) };
 
-    /// Reads sector `n`.
+    /// Reads sector `n`, which must be there. No sector changes; refused where the transfer fails.
     fn read(&mut self, n: u16, bytes: &mut [u8; 256]) -> Result<(), StoreFault>
         requires { n < length (contents self.old) }
         ensures ok { OnOk result (slice_get (contents self.old) n ≡ Some bytes.new) }
         ensures contents { contents self.new ≡ contents self.old }
         ensures failures { failures self.new ≡ failures self.old + failed_calls result };
 
-    /// Sets sector `n`.
+    /// Sets sector `n`, which must be there, to these bytes. Refused where the transfer fails, no sector changes.
     fn write(&mut self, n: u16, bytes: &[u8; 256]) -> Result<(), StoreFault>
         requires { n < length (contents self.old) }
         ensures ok { OnOk result (contents self.new ≡ slice_set (contents self.old) n bytes.now) }

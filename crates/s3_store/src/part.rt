@@ -3,7 +3,7 @@ ghost use Rattle.std.specs.Prelude.{◌≡◌, ◌≤◌, ◌+◌, length};
 ghost use Rattle.s3_store.specs.Bytes.{part};
 ghost use Rattle.s3_store.specs.Inner.Bytes.{with_part};
 
-/// Copies the bytes that begin at a place.
+/// Fills `piece` with the bytes that begin at place `at`, from 0; so many must follow there.
 pub fn take_part(bytes: &[u8], at: usize, piece: &mut [u8])
     requires { at + length piece.old ≤ length bytes.now }
     ensures { piece.new ≡ part bytes.now at (length piece.old) }
@@ -11,7 +11,7 @@ pub fn take_part(bytes: &[u8], at: usize, piece: &mut [u8])
     piece.copy_from_slice(&bytes[at..at + piece.len()]);
 }
 
-/// Writes bytes over those that begin at a place.
+/// Writes `piece` over the bytes that begin at place `at`, from 0; so many must follow there.
 pub fn put_part(bytes: &mut [u8], at: usize, piece: &[u8])
     requires { at + length piece.now ≤ length bytes.old }
     ensures { bytes.new ≡ with_part bytes.old at piece.now }

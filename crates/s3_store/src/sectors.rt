@@ -18,7 +18,7 @@ pub trait Sectors {
     fn sector_count(&self) -> u16
         ensures { result ≡ length (state self.now).contents };
 
-    /// Reads sector `n`.
+    /// Reads sector `n`, which must be there. No sector changes; refused with `Device` or `NoMemory`.
     fn read_sector(&mut self, n: u16, bytes: &mut [u8; 256]) -> Result<(), PoolFault>
         requires { n < length (state self.old).contents }
         ensures ok { OnOk result (slice_get (state self.old).contents n ≡ Some bytes.new) }
@@ -26,7 +26,8 @@ pub trait Sectors {
         ensures failures { (state self.new).failures ≡ (state self.old).failures + failed_transfers result }
         ensures fault { IfErr result (λ fault. fault ≢ PoolFault.NoSector) };
 
-    /// Reads the bytes of sector `n` that begin at `at`.
+    /// Reads the bytes of sector `n`, which must be there, that begin at byte `at` and end within it. No sector changes;
+    /// refused with `Device` or `NoMemory`.
     fn read_part(&mut self, n: u16, at: usize, piece: &mut [u8]) -> Result<(), PoolFault>
         requires there { n < length (state self.old).contents }
         requires fits { at + length piece.old ≤ 256 }
@@ -35,7 +36,7 @@ pub trait Sectors {
         ensures failures { (state self.new).failures ≡ (state self.old).failures + failed_transfers result }
         ensures fault { IfErr result (λ fault. fault ≢ PoolFault.NoSector) };
 
-    /// Sets sector `n`.
+    /// Sets sector `n`, which must be there, to these bytes. Refused with `Device` or `NoMemory`, no sector shows other bytes.
     fn write_sector(&mut self, n: u16, bytes: &[u8; 256]) -> Result<(), PoolFault>
         requires { n < length (state self.old).contents }
         ensures ok { OnOk result ((state self.new).contents ≡ slice_set (state self.old).contents n bytes.now) }
@@ -44,7 +45,8 @@ pub trait Sectors {
         ensures failures { (state self.new).failures ≡ (state self.old).failures + failed_transfers result }
         ensures fault { IfErr result (λ fault. fault ≢ PoolFault.NoSector) };
 
-    /// Writes these bytes over those of sector `n` that begin at `at`. The others of the sector stay.
+    /// Writes these bytes over those of sector `n`, which must be there, that begin at byte `at` and end within it. The
+    /// others of the sector stay. Refused with `Device` or `NoMemory`, no sector shows other bytes.
     fn change_sector(&mut self, n: u16, at: usize, piece: &[u8]) -> Result<(), PoolFault>
         requires there { n < length (state self.old).contents }
         requires fits { at + length piece.now ≤ 256 }

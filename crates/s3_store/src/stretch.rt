@@ -3,8 +3,8 @@
 /// A run of sectors: a region of a pack, an extent of a file, or free room.
 #[derive(Clone, Copy, Debug, PartialEq, Eq)]
 pub struct Stretch {
-    /// Its first sector.
+    /// The number of the first sector of the run.
     pub start: u16,
-    /// How many sectors it has, 0 for none.
+    /// How many sectors the run has, 0 for none.
     pub sectors: u16,
 }

@@ -1,4 +1,4 @@
--- Words of proofs and of other calls beside Codes.
+-- The code page as two tables, by bytes and by EBCDIC codes, with 0 where there is nothing.
 use Rattle.std.specs.Prelude.{ℕ, List, map, unwrap_or}
 use Rattle.std.specs.List.{range_with_len}
 use Rattle.s3_cards.specs.Codes.{ebcdic_of, host_of}

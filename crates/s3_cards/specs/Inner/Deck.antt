@@ -1,4 +1,4 @@
--- Words of proofs and of other calls beside Deck.
+-- What reading a deck may answer, and what it makes of the first line of a text.
 use Rattle.std.specs.Prelude.{◌≡◌, ℕ, ◌+◌, ◌-◌, ◌≤◌, List, ◌∷◌, ◌++◌, Some, None, Result, Ok, Err, length, map, replicate, unwrap_or}
 use Rattle.std.specs.Str.Lines.{lines}
 use Rattle.s3_cards.specs.Codes.{ebcdic_of}

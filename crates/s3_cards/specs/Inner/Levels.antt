@@ -1,4 +1,4 @@
--- The two levels.
+-- The other one of the two levels.
 use Rattle.s3_cards.specs.declared.levels.LevelId.{LevelId}
 use Rattle.s3_cards.specs.declared.levels.LevelId.TheVariants.{One, Two}
 

@@ -1,4 +1,4 @@
--- Words of proofs and of other calls beside Numbers.
+-- The number that a text spells, if it has digits alone.
 use Rattle.std.specs.Prelude.{ℕ, List, Option, Some, None, if◌then◌else◌}
 use Rattle.std.specs.List.{list_all}
 use Rattle.s3_cards.specs.Numbers.{is_digit_from, number_of}

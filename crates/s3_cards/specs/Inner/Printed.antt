@@ -1,4 +1,4 @@
--- Words of proofs and of other calls beside Printed.
+-- The text of a printed line and its 132 positions give each other.
 use Rattle.std.proofs.Common.{◌≡◌, ℕ, ◌-◌, ◌≤◌, List, ◌++◌, sym, arith, length, take, drop, replicate, take-append-drop}
 use Rattle.std.proofs.lemmas.List.{length-take-le}
 

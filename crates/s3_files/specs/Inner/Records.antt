@@ -1,4 +1,4 @@
--- Words of proofs and of other calls beside Records.
+-- The record that a read by its place gives, or that there is none.
 use Rattle.std.specs.Prelude.{ℕ, List, slice_get, Option, Some, None, Result, Ok, Err}
 use Rattle.s3_files.specs.declared.fault.FileFault.{FileFault}
 use Rattle.s3_files.specs.declared.fault.FileFault.TheVariants.{NoRecord}

@@ -1,4 +1,4 @@
--- Words of proofs and of other calls beside Calls.
+-- What the calls on an indexed file may answer, by what is meant and by its sectors.
 use Rattle.std.specs.Prelude.{◌≡◌, ◌≢◌, ℕ, List, Option, Some, None, Result, Ok, Err, if◌then◌else◌}
 use Rattle.s3_store.specs.Inner.Failures.{failed_transfers}
 use Rattle.s3_store.specs.declared.pool_fault.PoolFault.TheVariants.{NoSector}

@@ -1,4 +1,4 @@
--- Words of proofs and of other calls beside Index.
+-- What a sound label says of the index of its file, and the keys of the first so many records.
 use Rattle.std.specs.Prelude.{ℕ, ◌+◌, ◌≤◌, List, length}
 use Rattle.s3_store.specs.Stretches.{sectors_in}
 use Rattle.s3_slots.specs.Slots.{record_sectors, index_sectors}

@@ -1,4 +1,4 @@
--- Words of proofs and of other calls beside KeyOrder.
+-- The keys of the first so many entries ascend.
 use Rattle.std.specs.Prelude.{ℕ, ◌<◌}
 use Rattle.s3_keyed.specs.KeyOrder.{Entry}
 

@@ -1,4 +1,4 @@
--- Words of proofs and of other calls beside Areas.
+-- The header and slots of a mounted pack, when it can be used, what calls on it change, and how they are refused.
 use Rattle.std.specs.Prelude.{◌≡◌, ◌≢◌, ◌<◌, ◌≤◌, ◌+◌, ◌⊎◌, ℕ, zero, suc, true, List, ◌++◌, length, slice_get, take, drop, replicate, Some, Result, Ok, Err, ⊤}
 use Rattle.std.specs.List.{Contains}
 use Rattle.byteorder.specs.Endian.{big_bytes}

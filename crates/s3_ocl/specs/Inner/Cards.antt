@@ -1,4 +1,4 @@
--- Words of proofs and of other calls beside Cards.
+-- The cards that each search of the reader stops at.
 use Rattle.std.specs.Prelude.{ℕ, List, Bool}
 use Rattle.s3_ocl.specs.declared.cards.Stop.{Stop}
 use Rattle.s3_ocl.specs.declared.cards.Stop.TheVariants.{Beginning, Separator, JobEnd, Close}

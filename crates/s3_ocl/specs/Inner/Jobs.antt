@@ -1,11 +1,11 @@
--- Words of proofs and of other calls beside Jobs.
+-- What the calls on a deck may answer: the place of the next job, and that job or its fault, where it lies in the deck.
 use Rattle.std.specs.Prelude.{◌≡◌, ◌<◌, ◌≤◌, ℕ, List, Option, Some, None, Result, Ok, Err, length, nat_lt, if◌then◌else◌}
 use Rattle.s3_ocl.specs.declared.faults.FaultyJob.{FaultyJob}
 use Rattle.s3_ocl.specs.declared.jobs.OclFault.{OclFault}
 use Rattle.s3_ocl.specs.declared.jobs.OclFault.TheVariants.{NoMemory, Faulty}
 use Rattle.s3_ocl.specs.Jobs.{Job, next_job}
 
--- the same as an answer: none where there is no job
+-- the place of the next job from a place on, none where there is no job
 abbrev pub job_place : List (List ℕ) → ℕ → Option ℕ
 job_place cards from = if nat_lt (next_job cards from) (length cards) then Some (next_job cards from) else None
 

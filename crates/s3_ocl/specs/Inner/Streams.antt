@@ -1,4 +1,4 @@
--- Words of proofs and of other calls beside Streams.
+-- The list of jobs that stands from a place on, as a relation, and that there is exactly one.
 use Rattle.std.specs.Prelude.{◌≡◌, ◌<◌, ◌≤◌, ℕ, List, [], ◌∷◌, Result, length}
 use Rattle.s3_ocl.specs.declared.faults.FaultyJob.{FaultyJob}
 use Rattle.s3_ocl.specs.Jobs.{Job, job_at, next_job, place_after}

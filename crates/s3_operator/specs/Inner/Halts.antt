@@ -1,4 +1,4 @@
--- Words of proofs and of other calls beside Halts.
+-- A halt of the log as the definitions see it.
 use Rattle.s3_operator.specs.declared.halt.Halt.{Halt}
 use Rattle.s3_operator.specs.Halts.{ShownHalt}
 

@@ -1,4 +1,4 @@
--- Words of proofs and of other calls beside Labels.
+-- The 64 bytes that are written for a label, and labels that can be written.
 use Rattle.std.specs.Prelude.{◌≡◌, ◌<◌, ◌≤◌, ◌^◌, ℕ, ◌+◌, true, false, ◌++◌, List, [], ◌∷◌, length, replicate, slice_get, unwrap_or}
 use Rattle.byteorder.specs.Endian.{big_bytes}
 use Rattle.s3_cards.specs.declared.ebcdic.TheConstants.{LETTER_D, LETTER_I, LETTER_P, LETTER_S, LETTER_T}

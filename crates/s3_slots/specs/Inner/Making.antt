@@ -1,4 +1,4 @@
--- Words of proofs and of other calls beside Making.
+-- Files that may be asked for, a list of them made one after another, and labels of a level's own area and of the masters.
 use Rattle.std.specs.Prelude.{◌≡◌, ◌≤◌, ℕ, ◌+◌, Bool, true, false, List, [], ◌∷◌, Option, Some, None, Result, Ok, Err}
 use Rattle.s3_cards.specs.declared.name.Name.{Name}
 use Rattle.s3_cards.specs.Names.{is_name}

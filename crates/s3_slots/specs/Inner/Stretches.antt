@@ -1,4 +1,4 @@
--- Words of proofs and of other calls beside Stretches.
+-- Runs of sectors that are whole tracks.
 use Rattle.std.specs.Prelude.{◌≡◌, ◌%◌}
 use Rattle.s3_store.specs.declared.stretch.Stretch.{Stretch}
 

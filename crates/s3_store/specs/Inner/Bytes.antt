@@ -1,4 +1,4 @@
--- Words of proofs and of other calls beside Bytes.
+-- Bytes of which a part is another, and sectors of which one has a part of others.
 use Rattle.std.specs.Prelude.{◌≡◌, ℕ, ◌+◌, ◌++◌, List, length, take, drop, slice_set}
 use Rattle.s3_store.specs.Bytes.{sector_bytes}
 

@@ -1,4 +1,4 @@
--- Words of proofs and of other calls beside Contents.
+-- Bytes that are at most 65,535 whole sectors and nothing more.
 use Rattle.std.specs.Prelude.{◌≡◌, ◌≤◌, ◌*◌, ◌/◌, ℕ, List, length}
 
 -- these bytes are at most 65,535 sectors and nothing more
