@@ -1,5 +1,4 @@
-//! Tests that cross crates, by what they call. Their expected values come from the requirements or from plain programs, never
-//! from this program's own output.
+//! Tests that cross crates, by what they call.
 //!
 //! - `rows`: tables of arithmetic, editing, stores, the pool, new packs, and queues of lines.
 //! - `files`: records in order, by number and by key; the bytes of an index; a run that makes, loads, adds and closes over a
