@@ -22,8 +22,8 @@ const FILE: CliFault = CliFault::Session(SessionFault::File);
 /// A run without a pack has a new one, each of whose regions has so many tracks.
 const TRACKS: u16 = 10;
 
-/// Does what the process's words ask, and gives the exit status: 0 where it is done, 2 where the words can't be read,
-/// else that of the refusal whose line it wrote on standard error.
+/// Does what the words of the command line ask, and gives the exit status: 0 where it is done, 2 where the words can't be read,
+/// else the status of the refusal, whose line it wrote on standard error (docs/RUNNING.md, "Refusals").
 pub fn execute(rt: &HostRuntime) -> u8
     ensures { result ≤ 3 }
 {

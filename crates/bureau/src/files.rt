@@ -18,7 +18,7 @@ const LINK_LIMIT: u32 = 40;
 /// How many names are tried for the new file beside the old one.
 const NAME_LIMIT: u32 = 1000;
 
-/// The first 16,776,960 bytes of a file, or all if there are fewer.
+/// The first 16,776,960 bytes of the file at a path, or all if there are fewer. It fails where the file can't be opened or read.
 pub fn read_pack(rt: &HostRuntime, path: &str) -> io::Result<Vec<u8>> {
     let mut file = File::open(rt, path)?;
     let mut bytes = Vec::new(rt.alloc());

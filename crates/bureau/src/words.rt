@@ -9,7 +9,8 @@ const TRACKS: &str = "10";
 /// The levels of a new pack may have so many lines queued where the words don't say it.
 const QUOTA: &str = "64";
 
-/// The commands and their words.
+/// The command line of the program: its commands `run`, `init`, `list` and `migrate`, and their words. It is refused only where
+/// memory runs out.
 pub fn command<'a>(alloc: Global) -> Result<Command<'a>, AllocError> {
     Command::new(alloc, "bureau")
         .about("A dual-program RPG II job shop")

@@ -1,4 +1,5 @@
-//! Runs each decimal operation over a table of numbers, and prints what all results of it amount to.
+//! Runs each decimal operation over a table of numbers, and prints what all results of it amount to, for the benchmark
+//! `bench/decimal/run`, which compares it with plain Rust.
 //!
 //! With arguments it runs one operation so many times: `add 100`.
 #![tactic(auto)]

@@ -23,7 +23,7 @@ impl CountingStore {
         }
     }
 
-    /// The bytes of its sectors.
+    /// The bytes of the store's sectors, one sector after another.
     pub fn into_bytes(self) -> Vec<u8> {
         self.inner.into_bytes()
     }

@@ -14,9 +14,9 @@ use s3_slots::Organization;
 use s3_store::Sectors;
 use std::alloc::Global;
 
-/// How many records are loaded.
+/// How many records are loaded into the file.
 const RECORDS: u32 = 50_000;
-/// For how many there is room.
+/// For how many records the file has room.
 const ROOM: u32 = 55_000;
 
 /// The number that a call uses, of those below the count of loaded records.
@@ -53,7 +53,7 @@ fn load_all<P: Sectors>(alloc: Global, pool: &mut P) -> Result<(), KeyedFault>
     file.close(pool)
 }
 
-/// Finds records by their keys. It answers what their places add up to.
+/// Loads the file and finds so many records by their keys. It answers what their places add up to.
 pub fn find<P: Sectors>(alloc: Global, pool: &mut P, calls: u32) -> Result<u64, KeyedFault>
     requires { 24000 ≤ length (P.state pool.old).contents }
 {
@@ -68,7 +68,7 @@ pub fn find<P: Sectors>(alloc: Global, pool: &mut P, calls: u32) -> Result<u64, 
     Ok(total)
 }
 
-/// Adds records with odd keys, in no order, and closes the file.
+/// Loads the file, adds so many records with odd keys, in no order, and closes it.
 pub fn add<P: Sectors>(alloc: Global, pool: &mut P, calls: u32) -> Result<u64, KeyedFault>
     requires { 24000 ≤ length (P.state pool.old).contents }
 {

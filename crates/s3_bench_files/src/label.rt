@@ -11,10 +11,10 @@ use s3_store::{Extents, Stretch};
 
 /// How many sectors the store has.
 pub const SECTORS: u16 = 24_000;
-/// How long a record is.
+/// How long a record is, in bytes.
 pub const LENGTH: usize = 96;
 
-/// A file of records of 96 bytes, with a key in the first 6, over the whole store.
+/// The label of a file of records of 96 bytes, with a key in the first 6, over the whole store.
 pub fn label_of(organization: Organization, capacity: u32, count: u32) -> FileLabel
     requires few { capacity ≤ 60000 }
     requires counted { count ≤ capacity }

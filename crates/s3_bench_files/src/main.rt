@@ -1,4 +1,4 @@
-//! Calls on files through the pool, for the benchmark in `bench/files`.
+//! Calls on files through the pool, for the benchmark `bench/files/run`, which compares them with plain Rust.
 //!
 //! Its arguments are a walk and a count of calls. It prints what the bytes that it read and those that it left in the store add up
 //! to, and how many sectors were read and written; `cold-find` prints the most that one find read, through a pool of its own.

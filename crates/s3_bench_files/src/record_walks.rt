@@ -11,7 +11,7 @@ use s3_store::Sectors;
 /// How many records the file has room for.
 const RECORDS: u32 = 60_000;
 
-/// Reads records in their order. It answers what their first bytes add up to.
+/// Reads so many records in their order. It answers what their first bytes add up to.
 pub fn read<P: Sectors>(pool: &mut P, calls: u32) -> Result<u64, FileFault>
     requires { 24000 ≤ length (P.state pool.old).contents }
 {
@@ -25,7 +25,7 @@ pub fn read<P: Sectors>(pool: &mut P, calls: u32) -> Result<u64, FileFault>
     Ok(total)
 }
 
-/// Reads records in no order.
+/// Reads so many records in no order. It answers what their first bytes add up to.
 pub fn direct<P: Sectors>(pool: &mut P, calls: u32) -> Result<u64, FileFault>
     requires { 24000 ≤ length (P.state pool.old).contents }
 {
@@ -40,7 +40,7 @@ pub fn direct<P: Sectors>(pool: &mut P, calls: u32) -> Result<u64, FileFault>
     Ok(total)
 }
 
-/// Loads records, one behind another.
+/// Loads so many records, one behind another.
 pub fn load<P: Sectors>(pool: &mut P, calls: u32) -> Result<u64, FileFault>
     requires { 24000 ≤ length (P.state pool.old).contents }
 {

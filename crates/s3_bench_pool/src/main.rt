@@ -1,4 +1,4 @@
-//! Transfers through the pool, for the benchmark in `bench/pool`.
+//! Transfers through the pool, for the benchmark `bench/pool/run`, which compares them with plain Rust.
 //!
 //! Its arguments are a walk, a count of sectors and a count of calls. It prints what the bytes that it read and
 //! those that it left in the store add up to.

@@ -1,4 +1,5 @@
--- Which sectors of a pack both levels share, and which are a level's own.
+-- Which sectors of a pack are a level's own, which nobody uses, and which are common: the header's, the masters' and those that
+-- nobody uses.
 use Rattle.std.specs.Prelude.{◌≡◌, ◌⊎◌, ◌≤◌, ◌<◌, ℕ}
 use Rattle.s3_cards.specs.declared.levels.LevelId.{LevelId}
 use Rattle.s3_slots.specs.Header.{region_of}

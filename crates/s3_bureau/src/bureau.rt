@@ -220,7 +220,7 @@ impl<S: PackStore> Bureau<S> {
         }
     }
 
-    /// One entry of a script.
+    /// Performs one entry of a script, and answers what it did (docs/RUNNING.md, "The script").
     ///
     /// Where memory runs out it answers `Stop::NoMemory`, and where a transfer of the store fails `Stop::Device`. Nothing more is
     /// done then: each later call answers `Stop::Stopped`, as it does after `finish`.
@@ -261,10 +261,11 @@ impl<S: PackStore> Bureau<S> {
         Ok(self.repeat(entry, NonZeroU16::MIN)?.did)
     }
 
-    /// One entry of a script so many times at most, and at least once: several times only where its level takes turns, which go on
-    /// as long as they act.
+    /// Performs one entry of a script at most `most` times and at least once: several times only where its level takes turns,
+    /// which go on as long as they act. It answers how often, and what the entry did each time.
     ///
-    /// It stops as `step` does.
+    /// Where memory runs out it answers `Stop::NoMemory`, and where a transfer of the store fails `Stop::Device`. Nothing more is
+    /// done then: each later call answers `Stop::Stopped`, as it does after `finish`.
     pub fn repeat(&mut self, entry: Entry, most: NonZeroU16) -> Result<Taken, Stop>
         ensures times { IfOk result (λ taken. IsUpTo (non_zero_u16_get most) taken) }
 

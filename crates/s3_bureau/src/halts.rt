@@ -9,8 +9,8 @@ use super::number::push_number;
 use s3_operator::{Halt, HaltCode};
 use std::alloc::{AllocError, Global};
 
-/// The halt text of the halts. Where the deck was refused, the number of the card at fault and of its fault go first, as
-/// of job 000.
+/// The text of a level's halts (docs/RUNNING.md, "The output"). Where its deck was refused, the number of the card at fault and
+/// of its fault go first, as of job 000. It is refused only where memory runs out.
 pub fn halt_text(
     alloc: Global,
     refusal: Option<(u16, u8)>,

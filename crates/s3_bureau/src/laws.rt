@@ -18,7 +18,8 @@ ghost use Rattle.s3_bureau.specs.Texts.{report_of, halt_text_of};
 ghost use Rattle.s3_bureau.specs.Inner.Agreement.{AgreesAfter};
 ghost use Rattle.s3_bureau.specs.Inner.Samples.{turn, drain, reply, printed, shown};
 
-/// Scripts: turns, drains and replies, an empty line between them; and lines that aren't well formed.
+/// Worked scripts are read: turns, drains and replies, with an empty line between them; and of lines that aren't well formed the
+/// first is named.
 pub fn scripts_are_read()
     ensures entries { entries_of (codes "T1 2\r\n\nD2\nR2 0") ≡ Ok (turn One ∷ turn One ∷ drain Two ∷ reply Two 0 ∷ []) }
     ensures level { entries_of (codes "T1\nT3\n") ≡ Err 2 }
@@ -27,14 +28,14 @@ pub fn scripts_are_read()
     ensures carriage_return { entries_of (codes "T1\r") ≡ Err 1 }
 {}
 
-/// Reports: trailing blanks are cut, and a code without a character is shown as a question mark.
+/// Worked reports are written: trailing blanks are cut, and a code without a character is shown as a question mark.
 pub fn reports_are_written()
     ensures lines { report_of (printed 1 1 (0xc1 ∷ 0xc2 ∷ 0xc3 ∷ 0x40 ∷ []) ∷ printed 12 66 (0x40 ∷ 0xf0 ∷ []) ∷ []) ≡ codes "0001 01 ABC\n0012 66  0\n" }
     ensures blank { report_of (printed 1 3 (0x40 ∷ 0x40 ∷ []) ∷ []) ≡ codes "0001 03 \n" }
     ensures unknown { report_of (printed 9999 1 (0x00 ∷ 0xc1 ∷ []) ∷ []) ≡ codes "9999 01 ?A\n" }
 {}
 
-/// Halt texts: a refused deck's line goes first, and the details of a halt follow it.
+/// Worked halt texts are written: the line of a refused deck goes first, and the details of a halt follow it.
 pub fn halt_texts_are_written()
     ensures refused { halt_text_of (Some (3, 1)) [] ≡ codes "000 0003 01\n" }
     ensures faulty { halt_text_of None (shown 1 FaultyJob ((1, 2) ∷ []) None ∷ []) ≡ codes "001 OC -\n001 0001 02\n" }

@@ -5,7 +5,8 @@ ghost use Rattle.s3_bureau.specs.Texts.{in_digits};
 use itoa::Buffer;
 use std::alloc::AllocError;
 
-/// Appends a number with zeros in front up to a width.
+/// Appends a number in decimal digits, with zeros in front up to a width; a longer number has all its digits. It is refused only
+/// where memory runs out.
 #[tactic(auto, using(crate::proofs::Digits::one_more_zero))]
 pub fn push_number(text: &mut Vec<u8>, number: u16, width: usize) -> Result<(), AllocError>
     ensures { OnOk result (text.new.items ≡ text.old.items ++ in_digits width number) }

@@ -13,10 +13,10 @@ pub struct LevelTexts {
 /// What a run hands out.
 #[derive(Drop)]
 pub struct Outcome {
-    /// The texts of level one.
+    /// The report and the halt text of level 1.
     pub one: LevelTexts,
-    /// The texts of level two.
+    /// The report and the halt text of level 2.
     pub two: LevelTexts,
-    /// The bytes of the pack.
+    /// The bytes of the pack as the run leaves it.
     pub pack: Vec<u8>,
 }

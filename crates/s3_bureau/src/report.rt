@@ -28,7 +28,8 @@ struct Tables {
     ones: [u8; 100],
 }
 
-/// The report of the lines.
+/// The report of these printed lines: for each the page, its line on the page, and its text (docs/RUNNING.md, "The output"). It
+/// is refused only where memory runs out.
 pub fn report_text(alloc: Global, lines: &[PrintLine]) -> Result<Vec<u8>, AllocError>
     ensures { IfOk result (λ text. text.items ≡ report_of lines.now) }
 {

@@ -14,18 +14,18 @@ pub enum RunFault {
     /// The script has an ill-formed line; the first one's number, from 1.
     #[error("script {line}")]
     Script { line: usize },
-    /// The pack isn't mounted.
+    /// The pack isn't mounted, for what its header and its size say.
     #[error("mount {}", mount_number(*.0))]
     Mount(MountFault),
     /// A transfer of the store failed.
     #[error("device")]
     Device,
-    /// A growth was refused.
+    /// Memory ran out: a growth was refused.
     #[error("memory")]
     NoMemory,
 }
 
-/// The number of a mount's refusal, from 1.
+/// The number of a mount's refusal, from 1, as the line `bureau: mount N` has it (docs/RUNNING.md, "Refusals").
 pub fn mount_number(fault: MountFault) -> u8
     ensures { result ≡ mount_number_spec fault }
 {

@@ -40,9 +40,11 @@ pub fn run(
     run_on(alloc, Vec::from_slice(alloc, pack)?, deck1, deck2, script)
 }
 
-/// A run over a pack that is handed over, and so isn't copied.
+/// The texts of both levels after a script's entries over a pack, each level over its own deck, and the pack that they leave. The
+/// pack is handed over, and so isn't copied.
 ///
-/// What is said of `run` is said of it.
+/// A script with an ill-formed line is refused before anything else, then a pack that isn't mounted. A deck that can't be
+/// read counts as empty, and its level's halt text begins with its fault, as of job 000.
 pub fn run_on(
     alloc: Global,
     pack: Vec<u8>,
@@ -171,7 +173,7 @@ fn repeat<S: PackStore>(bureau: &mut Bureau<S>, entry: Entry, count: u16) -> Res
 {
     let mut left = count;
     while let Some(most) = NonZeroU16::new(left) {
-        // What the entries did isn't told: a turn, a reply or a drain that was idle or refused leaves no mark in the texts.
+        // What the entries did stands nowhere: a turn, a reply or a drain that was idle or refused leaves no mark in the texts.
         let taken = bureau.repeat(entry, most)?;
         left -= taken.times;
     }

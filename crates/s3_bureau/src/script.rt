@@ -21,10 +21,10 @@ pub struct Command {
 /// Why a script can't be read.
 #[derive(Clone, Copy, Debug, Error)]
 pub enum ScriptFault {
-    /// A growth was refused.
+    /// Memory ran out: a growth was refused.
     #[error("out of memory")]
     NoMemory,
-    /// The first ill-formed line, from 1.
+    /// The number of the first ill-formed line, from 1.
     #[error("line {0} is ill formed")]
     Line(usize),
 }
@@ -40,7 +40,7 @@ impl From<AllocFailed<Command>> for ScriptFault {
     }
 }
 
-/// The commands of a script, or its first ill-formed line.
+/// The commands of a script (docs/RUNNING.md, "The script"), or the number of its first ill-formed line.
 #[tactic(auto, using(crate::proofs::Scripts::none_read, crate::proofs::Scripts::all_read, crate::proofs::Scripts::passed_over, crate::proofs::Scripts::one_more, crate::proofs::Scripts::ill_formed))]
 pub fn read_script(alloc: Global, text: &[u8]) -> Result<Vec<Command>, ScriptFault>
     ensures { ReadsScript (entries_of text.now) result }

@@ -12,7 +12,7 @@ use s3_bureau::{RunFault, run_on};
 use std::alloc::Global;
 use std::io::{Read, Write};
 
-/// The most bytes of an input.
+/// The most bytes that the input of a session may have.
 pub const INPUT_LIMIT: u32 = 4_194_304;
 
 /// Reads an input to its end, runs its decks and its script over a pack, writes the reports and the halt texts, and gives
@@ -34,9 +34,11 @@ pub fn session<R: Read, W: Write>(
     session_on(alloc, Vec::from_slice(alloc, pack)?, reader, writer)
 }
 
-/// A session over a pack that is handed over, and so isn't copied.
+/// Reads an input to its end, runs its decks and its script over a pack, writes the reports and the halt texts, and gives
+/// the pack as the run leaves it. The pack is handed over, and so isn't copied.
 ///
-/// What is said of `session` is said of it.
+/// Nothing is written where it refuses, but for a write that failed: `Input` where a marker is missing or out of order or
+/// there are over 4,194,304 bytes, `File` where a read or the write failed, and else as the run does.
 pub fn session_on<R: Read, W: Write>(
     alloc: Global,
     pack: Vec<u8>,

@@ -14,7 +14,7 @@ use std::io;
 use std::io::Write;
 use thiserror::Error;
 
-/// Why a session did nothing, or not all.
+/// Why a session did nothing, or not all that it was to do.
 #[derive(Clone, Copy, Debug, Error)]
 pub enum SessionFault {
     /// The run itself was refused.

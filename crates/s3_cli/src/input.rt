@@ -19,7 +19,7 @@ pub enum ReadFault {
     /// A read failed.
     #[error("a read failed")]
     Failed,
-    /// A growth was refused.
+    /// Memory ran out: a growth was refused.
     #[error("out of memory")]
     NoMemory,
 }

@@ -1,4 +1,16 @@
-//! A session: bytes in, bytes out.
+//! A session: bytes in, bytes out, over any reader and writer; and the list of a pack.
+//!
+//! What is proved:
+//! - `session`, and `session_on` over a pack that is handed over, write exactly the texts of `run` over the pack and the parts of
+//!   some input of at most 4,194,304 bytes, which is what the reader gave wherever that is known, and hand out a pack that this
+//!   run may leave (`wrote`);
+//! - they write nothing where they refuse for another cause than a file (`wrote_nothing`), and answer `Input` only where the
+//!   bytes were more or a marker is missing, `Script` only for the first bad line, `Mount` only for the pack's header behind
+//!   that, and never `Device` (`refused`);
+//! - `list` writes exactly the list of a pack's files that `s3_listing` defines, and refuses the pack by its header alone;
+//! - `tell` gives the exit status that stands for each refusal.
+//!
+//! Only tested: the words of refusals. Nobody says when a reader or a writer fails.
 
 #![tactic(auto)]
 

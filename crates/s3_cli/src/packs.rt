@@ -20,7 +20,7 @@ pub fn list<W: Write>(alloc: Global, pack: &[u8], writer: &mut W) -> Result<(), 
     Ok(())
 }
 
-/// Writes a table of a pack's regions and files, for people.
+/// Writes a table of a pack's regions and files, for people (docs/PACK.md, "Commands").
 pub fn write_table<W: Write>(
     alloc: Global,
     pack: &[u8],

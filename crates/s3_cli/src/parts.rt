@@ -81,7 +81,7 @@ fn split_at_marker<'a>(text: &'a [u8], word: &[u8]) -> Option<(&'a [u8], &'a [u8
     None
 }
 
-/// The parts of an input; none where a marker is missing or out of order.
+/// The parts of a session's input (docs/RUNNING.md, "The input"); none where a marker is missing or out of order.
 #[tactic(auto, unfolding(crate::specs::Parts::parts_of))]
 pub fn split_parts(input: &[u8]) -> Option<Parts<'_>>
     ensures { option_map parts_view result ≡ parts_of input.entry.now }

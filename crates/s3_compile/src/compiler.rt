@@ -23,7 +23,7 @@ pub enum CompileFault {
     /// Memory ran out; nothing is known of the source.
     #[error("out of memory")]
     NoMemory,
-    /// By card and then number; at least one.
+    /// The diagnostics 5 to 12 of the source, by card and then number; at least one.
     #[error("a source with diagnostics")]
     Diagnostics(Vec<Diagnostic>),
 }
@@ -74,8 +74,8 @@ fn compile_with(
 }
 
 /// The program that stands for the source of these lines, under the name of its H card or RPGOBJ; or its diagnostics 5 to
-/// 12, by card and then number, where one on the whole program bears the number of the RUN card. The lines are those of
-/// cards without a fault of their own, as `read_sheets` gives them.
+/// 12 (docs/LANGUAGE.md, "Diagnostics"), by card and then number, where one on the whole program bears the number of the RUN card.
+/// The lines are those of cards without a fault of their own, as `read_sheets` gives them. It says so where memory runs out.
 pub fn compile(alloc: Global, lines: &[Line], run_card: u16) -> Result<Program, CompileFault>
     requires read { IsTrue (are_read lines.now) }
     ensures { Compiles lines.now run_card result }

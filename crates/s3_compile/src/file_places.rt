@@ -37,7 +37,7 @@ fn place_behind_line(place: usize, line: &Line) -> usize
     }
 }
 
-/// The places of the first F lines of names.
+/// For each file's name, the place of the first F line with it, from 0 among the F lines; refused only where memory runs out.
 pub fn file_places(alloc: Global, lines: &[Line]) -> Result<IndexMap<Name, usize>, AllocError>
     ensures { IfOk result (λ table. Finds same_name table (file_places_spec 0 (filter_map file_line lines.now))) }
 {

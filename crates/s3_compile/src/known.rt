@@ -177,7 +177,7 @@ fn calls_forbidden(
     forbidden_calls(alloc, &calls)
 }
 
-/// Tables of no lines.
+/// The tables of what no lines at all define.
 pub fn empty_tables(alloc: Global) -> KnownTables
     ensures { AreEmpty result }
 {
@@ -201,8 +201,8 @@ pub fn empty_tables(alloc: Global) -> KnownTables
     }
 }
 
-/// Fills tables with what lines define, and what their diagnostics ask of it. The caller owns them, so that no early
-/// return here drops them.
+/// Fills empty tables with what lines define, and with what their diagnostics ask of it; refused only where memory runs out. The
+/// caller owns the tables, so that no early return here drops them.
 pub fn fill_tables(alloc: Global, known: &mut KnownTables, lines: &[Line]) -> Result<(), AllocError>
     requires { IsTrue (are_ranged lines.now) }
     ensures shown { OnOk result (known_shown known.new ≡ known_of lines.now) }

@@ -1,4 +1,13 @@
 //! The compiler: programs of whole sources, or their diagnostics.
+//!
+//! It fills tables with what the lines define, asks `s3_diagnose` for the diagnostics 5 to 12, and where there are none has
+//! `s3_program` make the program of them.
+//!
+//! What is proved, for all lines that `read_sheets` of `s3_sheets` gives: `compile` answers a program that stands for its source,
+//! with a slot for each name, where the source has no diagnostic; else exactly the list of its diagnostics, by card and then number
+//! (`diagnostics_are_in_order`); or that memory ran out.
+//!
+//! Nothing is left to tests alone.
 
 #![tactic(auto)]
 

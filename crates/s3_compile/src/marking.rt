@@ -330,7 +330,7 @@ fn first_matched(tables: &MarkTables, lines: &[InputLine<Meaning>]) -> [bool; 9]
     [false; 9]
 }
 
-/// Fills tables with what I lines say of match and control fields.
+/// Fills empty tables with what I lines say of record types and of match and control fields; refused only where memory runs out.
 pub fn fill_marks(
     alloc: Global,
     tables: &mut MarkTables,

@@ -7,7 +7,7 @@ use indexmap::IndexMap;
 use std::alloc::AllocError;
 use std::hash::Hash;
 
-/// Adds what a key is given, if the key is new.
+/// Puts an entry for a key behind the others of a table, unless the key is there already. It is refused only where memory runs out.
 pub fn note<K: Copy + Eq + Hash, T: Copy>(
     table: &mut IndexMap<K, T>,
     key: K,

@@ -1,4 +1,4 @@
-//! Where the next line stands.
+//! Where the next line of a sheet stands, by where a line stands and what it is.
 
 ghost use Rattle.std.specs.Prelude.{◌≡◌, ◌<◌, ◌+◌, ◌^◌};
 ghost use Rattle.s3_program.specs.Standings as spec;
@@ -24,7 +24,7 @@ fn behind_file(at: &FileStanding, file: &FileLine) -> FileStanding
     }
 }
 
-/// Behind an I line.
+/// Where the line behind an I line stands.
 pub fn behind_input(at: &InputStanding, line: &InputLine<Meaning>) -> InputStanding
     requires { at.now.place + 8 < 2 ^ 64 }
     ensures { result ≡ spec.behind_input at.now line.now }
@@ -72,7 +72,7 @@ pub fn is_subroutine_time(time: CalculationTime) -> bool
     matches!(time, CalculationTime::Subroutine)
 }
 
-/// The level entry of a line's group.
+/// The level entry of the group that a C line is in: its own, or where it goes on with the line above that of the open group.
 pub fn time_on(group: Option<CalculationTime>, time: CalculationTime) -> CalculationTime
     ensures { result ≡ spec.time_on group time }
 {
@@ -132,7 +132,8 @@ fn own_subroutine(
     }
 }
 
-/// The section of a line whose group has this level entry.
+/// The section of a C line whose group has this level entry: 0 detail, 1 total, 2 outside of every subroutine, and 3 more than the
+/// place of its BEGSR in a subroutine.
 pub fn section_on(
     at: &CalculationStanding,
     time: CalculationTime,
@@ -169,7 +170,8 @@ fn subroutine_behind(
     }
 }
 
-/// The section of the DIV behind which a line, or the group that it goes on with, is the next.
+/// The section of the DIV without half adjust right before a C line, or right before the group that this line goes on with; none
+/// where no such DIV stands there.
 pub fn division_on(at: &CalculationStanding, time: CalculationTime) -> Option<usize>
     ensures { result ≡ spec.division_on at.now time }
 {
@@ -195,7 +197,7 @@ fn division_behind(
     }
 }
 
-/// The level entry of the group that a line leaves open.
+/// The level entry of the group that a C line leaves open for the next one; none where its group ends, since it has an operation.
 pub fn group_behind(time: CalculationTime, operation: Option<Operation>) -> Option<CalculationTime>
     ensures { result ≡ spec.group_behind time operation }
 {
@@ -205,7 +207,7 @@ pub fn group_behind(time: CalculationTime, operation: Option<Operation>) -> Opti
     }
 }
 
-/// Behind a C line.
+/// Where the line behind a C line stands.
 pub fn behind_calculation<N>(
     at: &CalculationStanding,
     line: &CalculationLine<N>,
@@ -248,7 +250,7 @@ fn behind_output(at: &OutputStanding, line: &OutputLine<Meaning>) -> OutputStand
     }
 }
 
-/// Above the first C line.
+/// Where the first C line stands.
 pub fn first_calculation() -> CalculationStanding
     ensures { result ≡ spec.first_calculation }
 {
@@ -262,7 +264,7 @@ pub fn first_calculation() -> CalculationStanding
     }
 }
 
-/// Above the first I line.
+/// Where the first I line stands.
 pub fn first_input() -> InputStanding
     ensures { result ≡ spec.first_input }
 {
@@ -274,7 +276,7 @@ pub fn first_input() -> InputStanding
     }
 }
 
-/// Above the first line.
+/// Where the first line of a source stands.
 pub fn first_standing() -> Standing
     ensures { result ≡ first_standing_spec }
 {
@@ -294,7 +296,7 @@ pub fn first_standing() -> Standing
     }
 }
 
-/// Behind a line.
+/// Where the line behind a line of any sheet stands.
 pub fn behind(at: &Standing, line: &MeantLine) -> Standing
     requires { IsEarlyLine at.now }
     ensures { result ≡ behind_spec at.now line.now }

@@ -29,7 +29,7 @@ use s3_program::call::Call;
 use s3_program::program::Meaning;
 use s3_program::standing::{CalculationStanding, FileStanding, InputStanding, OutputStanding};
 
-/// 6, on an F line.
+/// Whether 6 holds of an F line: the first F line with its name is another one.
 fn file_redefined(places: &IndexMap<Name, usize>, at: &FileStanding, file: &FileLine) -> bool
     ensures { result ≡ file_redefined_spec (get same_name places.now) at.now file.now }
 {
@@ -105,7 +105,8 @@ fn output_holds(at: &OutputStanding, line: &OutputLine<Meaning>, number: u8) -> 
     }
 }
 
-/// Whether the condition of a number holds of a line where it stands, above these lines.
+/// Whether the condition of a number, 5 to 12, holds of a line where it stands, with `later` as the lines below it and `known` as
+/// what all lines define.
 pub fn line_holds(
     known: &KnownTables,
     at: &Standing,

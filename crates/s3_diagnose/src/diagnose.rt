@@ -19,7 +19,7 @@ use s3_lines::Diagnostic;
 use s3_lines::sheet::{Line, SheetLine};
 use std::alloc::{AllocError, Global};
 
-/// What needs other lines.
+/// The diagnostics that look at other lines too.
 const NUMBERS: [u8; 8] = [5, 6, 7, 8, 9, 10, 11, 12];
 
 /// Adds the diagnostics of a line where it stands, above these lines.
@@ -144,7 +144,7 @@ fn has_one_primary(lines: &[Line]) -> bool
     lines.iter().filter(|line| is_primary_line(line)).count() == 1
 }
 
-/// With the diagnostic of the whole program on its RUN card.
+/// The diagnostics of lines with 12 on the RUN card added in its order, where the lines don't have exactly one primary file.
 fn completed(
     alloc: Global,
     found: Vec<Diagnostic>,
@@ -167,7 +167,8 @@ fn completed(
     }
 }
 
-/// The diagnostics of lines, and that of the whole program on its RUN card.
+/// The diagnostics 5 to 12 of lines, by card and then number, with `known` as what they define; where there isn't exactly one
+/// primary file, 12 stands on the RUN card. It is refused only where memory runs out.
 pub fn compile_diagnostics(
     alloc: Global,
     known: &KnownTables,

@@ -145,7 +145,7 @@ pub fn is_print_file(file: &FileLine) -> bool
     is_printer(file.device) && is_printed(file)
 }
 
-/// Whether a file may have record lines.
+/// Whether a file may have record lines: it is read, or loaded directly.
 pub fn allows_records(file: &FileLine) -> bool
     ensures { result ≡ spec.allows_records file.now }
 {

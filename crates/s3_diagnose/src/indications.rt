@@ -21,7 +21,7 @@ fn may_set_overflow(operation: Option<Operation>) -> bool
     )
 }
 
-/// On a C line.
+/// Whether 7 holds of a C line: it has an overflow indicator as a resulting one, and its operation may not set it.
 pub fn calculation_misindicated<N>(line: &CalculationLine<N>) -> bool
     ensures { result ≡ spec.calculation_misindicated line.now }
 {

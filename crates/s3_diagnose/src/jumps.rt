@@ -13,7 +13,8 @@ use s3_program::call::Call;
 use s3_program::program::Meaning;
 use s3_program::standing::CalculationStanding;
 
-/// The section of a C line.
+/// The section of a C line where it stands: 0 detail, 1 total, 2 outside of every subroutine, and 3 more than the place of its BEGSR
+/// in a subroutine.
 pub fn section_of(at: &CalculationStanding, line: &CalculationLine<Meaning>) -> usize
     requires { IsEarly at.now }
     ensures { result ≡ spec.section_of at.now line.now }
@@ -57,7 +58,7 @@ fn called(factor: Option<Factor<Meaning>>) -> Option<usize>
     }
 }
 
-/// The subroutine that a line calls.
+/// The subroutine that a C line calls by EXSR, as the place of its BEGSR; none where it calls none.
 pub fn callee_of(line: &CalculationLine<Meaning>) -> Option<usize>
     ensures { result ≡ spec.callee_of line.now }
 {
@@ -67,7 +68,7 @@ pub fn callee_of(line: &CalculationLine<Meaning>) -> Option<usize>
     }
 }
 
-/// The subroutine in which a C line is.
+/// The subroutine in which a C line stands, as the place of its BEGSR; none outside of all.
 pub fn caller_of(at: &CalculationStanding, line: &CalculationLine<Meaning>) -> Option<usize>
     requires { IsEarly at.now }
     ensures { result ≡ spec.caller_of at.now line.now }
@@ -85,7 +86,7 @@ fn calls_badly(forbidden: &IndexSet<Call>, caller: Option<usize>, callee: Option
     }
 }
 
-/// On a C line.
+/// Whether 10 holds of a C line: it is a GOTO to a tag of another section, or a call that is forbidden.
 pub fn calculation_strays(
     forbidden: &IndexSet<Call>,
     at: &CalculationStanding,

@@ -35,7 +35,7 @@ fn is_unrelated(tables: &MarkTables, group: Option<usize>, relation: Option<Indi
     }
 }
 
-/// 7, on an I line.
+/// Whether 7 holds of an I line: an indicator of a text for plus or minus, or a relation that isn't of its group.
 pub fn input_misindicated(
     tables: &MarkTables,
     at: &InputStanding,
@@ -177,7 +177,7 @@ fn is_matched_by(tables: &MarkTables, kind: &TypeKey, number: u8) -> bool
         || first_in_type(tables, kind.group, kind.indicator, level).is_some()
 }
 
-/// Which of M1 to M9 a type has.
+/// Which of M1 to M9 a record type has, M1 first.
 pub fn matched_by(tables: &MarkTables, kind: &TypeKey) -> [bool; 9]
     ensures { result ≡ spec.matched_by (marks_shown tables.now).in_all (marks_shown tables.now).in_type kind.now }
 {
@@ -194,7 +194,7 @@ pub fn matched_by(tables: &MarkTables, kind: &TypeKey) -> [bool; 9]
     ]
 }
 
-/// Whether there is any of M1 to M9.
+/// Whether any of M1 to M9 is there.
 pub fn has_any(matched: &[bool; 9]) -> bool
     ensures { result ≡ spec.has_any matched.now }
 {
@@ -208,7 +208,7 @@ fn is_unlike(tables: &MarkTables, kind: &TypeKey) -> bool
     has_any(&matched) && matched != tables.matched
 }
 
-/// The type that an I line is the first line of.
+/// The record type that begins on an I line; none on a line where no type begins.
 pub fn type_on<N>(at: &InputStanding, line: &InputLine<N>) -> Option<TypeKey>
     ensures { result ≡ spec.type_on at.now line.now }
 {
@@ -240,7 +240,7 @@ fn type_unlike(tables: &MarkTables, kind: Option<TypeKey>) -> bool
     }
 }
 
-/// On an I line.
+/// Whether 11 holds of an I line: match or control fields disagree, stand on a chained file, or are given twice in one type.
 pub fn input_mismatched(tables: &MarkTables, at: &InputStanding, line: &InputLine<Meaning>) -> bool
     requires { IsTrue (is_ranged_input line.now) }
     ensures { result ≡ spec.input_mismatched (marks_shown tables.now) at.now line.now }

@@ -81,7 +81,7 @@ fn field(known: &Definitions, line: &FieldLine) -> FieldLine<Meaning>
     }
 }
 
-/// An I line with what it names.
+/// An I line with what it names in place of the names.
 pub fn input(known: &Definitions, line: &InputLine) -> InputLine<Meaning>
     ensures { result ≡ spec.meant_input (meaning_of (tables_in known.now)) line.now }
 {
@@ -117,7 +117,7 @@ fn named(known: &Definitions, kind: Kind, name: Option<Name>) -> Option<Meaning>
     }
 }
 
-/// A C line with what it names.
+/// A C line with what it names in place of the names.
 pub fn calculation(known: &Definitions, line: &CalculationLine) -> CalculationLine<Meaning>
     ensures { result ≡ spec.meant_calculation (meaning_of (tables_in known.now)) line.now }
 {
@@ -168,7 +168,7 @@ fn output(known: &Definitions, line: &OutputLine) -> OutputLine<Meaning>
     }
 }
 
-/// A line with what it names.
+/// A line of any sheet with what it names in place of the names.
 pub fn meant_line(known: &Definitions, line: &SheetLine) -> MeantLine
     ensures { result ≡ spec.meant_line (meaning_of (tables_in known.now)) line.now }
 {

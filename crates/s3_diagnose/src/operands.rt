@@ -250,7 +250,8 @@ fn is_bare(line: &CalculationLine<Meaning>) -> bool
         && are_blank(&line.indicators)
 }
 
-/// On a C line; cut: no AN or OR goes on with it, though another line follows.
+/// Whether 8 holds of a C line: it isn't what its operation needs. `is_cut` says that another C line follows which doesn't go on
+/// with it by AN or OR.
 pub fn calculation_unfit(is_cut: bool, line: &CalculationLine<Meaning>) -> bool
     ensures { result ≡ spec.calculation_unfit is_cut line.now }
 {
@@ -267,7 +268,7 @@ fn is_packed_text(form: FieldForm) -> bool
     matches!(form, FieldForm::PackedText)
 }
 
-/// On an I line.
+/// Whether 8 holds of an I line: its field is packed and alphanumeric.
 pub fn input_unfit(line: &InputLine<Meaning>) -> bool
     ensures { result ≡ spec.input_unfit line.now }
 {
@@ -332,7 +333,7 @@ fn content_fits(content: &OutputContent<Meaning>, end: u16) -> bool
     }
 }
 
-/// On an O line.
+/// Whether 8 holds of an O line: its edit code or its packing doesn't fit its field, or the field would begin before position 1.
 pub fn output_unfit(line: &OutputLine<Meaning>) -> bool
     ensures { result ≡ spec.output_unfit line.now }
 {

@@ -14,7 +14,7 @@ use s3_lines::sheet::{
 };
 use s3_program::standing::{CalculationStanding, InputStanding, OutputStanding};
 
-/// On an I line.
+/// Whether 9 holds of an I line: it goes on with nothing, or it is a field line without a record line before it.
 pub fn input_misplaced<N>(at: &InputStanding, line: &InputLine<N>) -> bool
     ensures { result ≡ spec.input_misplaced at.now line.now }
 {
@@ -25,7 +25,7 @@ pub fn input_misplaced<N>(at: &InputStanding, line: &InputLine<N>) -> bool
     }
 }
 
-/// On an O line.
+/// Whether 9 holds of an O line: it goes on with nothing, or it is a field card without a line card before it.
 pub fn output_misplaced<N>(at: &OutputStanding, line: &OutputLine<N>) -> bool
     ensures { result ≡ spec.output_misplaced at.now line.now }
 {
@@ -57,7 +57,7 @@ fn is_other(time: Option<CalculationTime>) -> bool
     }
 }
 
-/// Whether a C line follows that doesn't go on with what stands above these lines.
+/// Whether a C line is among these lines, and the first such line doesn't go on by AN or OR with the one above them.
 pub fn is_cut_by(later: &[Line]) -> bool
     ensures { result ≡ spec.is_cut_by (verbs later.now) }
 {
@@ -179,7 +179,8 @@ fn is_unknown(operation: Option<Operation>) -> bool
     matches!(operation, Some(Operation::Unknown))
 }
 
-/// On a C line.
+/// Whether 9 holds of a C line where it stands, above these lines: it is out of order, goes on with nothing or leaves its group open,
+/// is an MVR without its DIV, or a BEGSR or ENDSR that doesn't pair.
 pub fn calculation_misplaced<N>(
     at: &CalculationStanding,
     later: &[Line],

@@ -16,7 +16,7 @@ const BARE: Row = Row {
     pairing: Pairing::Free,
 };
 
-/// What one needs that gives a number of factor 2, which may be half-adjusted.
+/// What an operation needs that makes a number of factor 2 and may half-adjust it.
 const OF_FACTOR2: Row = Row {
     factor2: Operand::Number,
     result: Target::Number,
@@ -25,7 +25,7 @@ const OF_FACTOR2: Row = Row {
     ..BARE
 };
 
-/// What one needs that gives a number of both factors.
+/// What an operation needs that makes a number of both factors.
 const OF_BOTH: Row = Row {
     factor1: Operand::Number,
     ..OF_FACTOR2
@@ -91,7 +91,7 @@ const CHAIN: Row = Row {
     ..BARE
 };
 
-/// The row of an operation.
+/// What an operation needs, by its row in the table of operations.
 pub fn row_of(operation: Operation) -> Row
     ensures { result ≡ row_of_spec operation }
 {

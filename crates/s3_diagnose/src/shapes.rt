@@ -8,7 +8,7 @@ ghost use Rattle.s3_diagnose.specs.Inner.Ranged.{is_ranged_field};
 use s3_lines::sheet::{FieldForm, FieldLine, Shape};
 use s3_program::program::Meaning;
 
-/// A field's shape, by its first definition.
+/// The shape of the field that a name means, by its first definition; none where the name doesn't mean a field.
 pub fn shape_meant(meaning: &Meaning) -> Option<Shape>
     ensures { result ≡ spec.shape_meant meaning.now }
 {
@@ -61,7 +61,7 @@ fn positions_of<N>(field: &FieldLine<N>) -> usize
     (usize::from(field.to) + 1).saturating_sub(usize::from(field.from))
 }
 
-/// The shape that a card gives its field.
+/// The shape that a field line of the I sheet gives its field.
 pub fn shape_of_field<N>(field: &FieldLine<N>) -> Shape
     requires { IsTrue (is_ranged_field field.now) }
     ensures { result ≡ shape_of_field_spec field.now }

@@ -19,15 +19,15 @@ pub enum MeantLine {
     Output(OutputLine<Meaning>),
 }
 
-/// Where a line stands among all lines.
+/// Where a line stands among all lines of a source, sheet by sheet.
 #[derive(Clone, Copy)]
 pub struct Standing {
-    /// Among the F lines.
+    /// Where the next F line stands.
     pub files: FileStanding,
-    /// Among the I lines.
+    /// Where the next I line stands.
     pub inputs: InputStanding,
-    /// Among the C lines.
+    /// Where the next C line stands.
     pub calculations: CalculationStanding,
-    /// Among the O lines.
+    /// Where the next O line stands.
     pub outputs: OutputStanding,
 }

@@ -7,32 +7,32 @@ use s3_program::call::Call;
 use s3_program::definitions::Definitions;
 use s3_program::mark::{GroupMark, Level, TypeKey, TypeMark};
 
-/// The types of records, and their match and control fields.
+/// What the I lines say of record types and of match and control fields.
 #[derive(Drop)]
 pub struct MarkTables {
-    /// The types.
+    /// The record types, by group and indicator.
     pub types: IndexSet<TypeKey>,
-    /// The places of the first fields with an Mn or Ln of those that count in all types of a group.
+    /// Of the fields that count in all types of their group, the place of the first with each Mn and Ln.
     pub in_all: IndexMap<GroupMark, usize>,
-    /// Of those that count in some of its types.
+    /// Of the fields that count in some type of their group, the place of the first with each Mn and Ln.
     pub in_some: IndexMap<GroupMark, usize>,
-    /// Of those that count in the types of an indicator alone.
+    /// Of the fields that count only in the types with one indicator, the place of the first with each Mn and Ln.
     pub in_type: IndexMap<TypeMark, usize>,
-    /// The shapes of the first fields of each Mn and Ln.
+    /// The shape of the first field of the source with each Mn and Ln.
     pub shapes: IndexMap<Level, Shape>,
-    /// Which of M1 to M9 the first type with match fields has.
+    /// Which of M1 to M9 the first type with match fields has, M1 first.
     pub matched: [bool; 9],
 }
 
-/// What a test may ask of all the lines.
+/// What all lines of a source define, as the tests of single lines ask for it.
 #[derive(Drop)]
 pub struct KnownTables {
     /// What names mean.
     pub definitions: Definitions,
-    /// The places of the first F lines of names.
+    /// For each file's name, the place of the first F line with it, from 0 among the F lines.
     pub file_places: IndexMap<Name, usize>,
-    /// Of match and control fields.
+    /// What the I lines say of record types and of match and control fields.
     pub marks: MarkTables,
-    /// The calls that are forbidden.
+    /// The calls of subroutines that are forbidden: in a circle, or the ninth of a chain.
     pub forbidden: IndexSet<Call>,
 }

@@ -9,7 +9,7 @@ use s3_program::program::Meaning;
 use s3_program::row::{Operand, Row, Target};
 use s3_program::standing::OutputStanding;
 
-/// Whether nothing bears a name.
+/// Whether nothing bears the name that has this meaning.
 pub fn is_undefined(meaning: &Meaning) -> bool
     ensures { result ≡ spec.is_undefined meaning.now }
 {
@@ -40,7 +40,7 @@ fn is_used(operand: Operand) -> bool
     !matches!(operand, Operand::Nothing)
 }
 
-/// Whether there is a result.
+/// Whether an operation has a result.
 pub fn is_target(target: Target) -> bool
     ensures { result ≡ spec.is_target target }
 {
@@ -55,7 +55,7 @@ fn row_has_undefined(row: &Row, line: &CalculationLine<Meaning>) -> bool
         || (is_target(row.result) && is_undefined_entry(line.result))
 }
 
-/// On a C line.
+/// Whether 5 holds of a C line: something that its operation uses isn't defined.
 pub fn calculation_undefined(line: &CalculationLine<Meaning>) -> bool
     ensures { result ≡ spec.calculation_undefined line.now }
 {
@@ -65,7 +65,7 @@ pub fn calculation_undefined(line: &CalculationLine<Meaning>) -> bool
     }
 }
 
-/// On an I line.
+/// Whether 5 holds of an I line: the file of a record line isn't defined.
 pub fn input_undefined(line: &InputLine<Meaning>) -> bool
     ensures { result ≡ spec.input_undefined line.now }
 {
@@ -84,7 +84,7 @@ fn content_undefined(content: &OutputContent<Meaning>) -> bool
     }
 }
 
-/// On an O line.
+/// Whether 5 holds of an O line where it stands: its file or its field isn't defined.
 pub fn output_undefined(at: &OutputStanding, line: &OutputLine<Meaning>) -> bool
     ensures { result ≡ spec.output_undefined at.now line.now }
 {

@@ -13,7 +13,7 @@ use s3_lines::sheet::{
 use s3_program::program::Meaning;
 use s3_program::standing::{FileStanding, InputStanding, OutputStanding};
 
-/// On an F line.
+/// Whether 12 holds of an F line where it stands: it isn't in the table of files, or is a second card file or print file.
 pub fn file_misused(at: &FileStanding, file: &FileLine) -> bool
     ensures { result ≡ spec.file_misused at.now file.now }
 {
@@ -46,7 +46,8 @@ fn is_packed(form: FieldForm) -> bool
     matches!(form, FieldForm::Packed(_) | FieldForm::PackedText)
 }
 
-/// On an I line.
+/// Whether 12 holds of an I line where it stands: a record line for a file that may have none, or packed data that its file can't
+/// have.
 pub fn input_misused(at: &InputStanding, line: &InputLine<Meaning>) -> bool
     ensures { result ≡ spec.input_misused at.now line.now }
 {
@@ -100,7 +101,8 @@ fn is_entry_off_disk(entry: Option<Meaning>) -> bool
     }
 }
 
-/// On an O line.
+/// Whether 12 holds of an O line where it stands: a line that its file doesn't allow, or spaces, skips or packed data that its file
+/// can't have.
 pub fn output_misused(at: &OutputStanding, line: &OutputLine<Meaning>) -> bool
     ensures { result ≡ spec.output_misused at.now line.now }
 {

@@ -99,7 +99,8 @@ pub fn get<P: Sectors>(
     }
 }
 
-/// The place of the record that is number `n` by key, both from 0, among those that stood at the check.
+/// The place of the record that is number `n` by key, both from 0, among those that stood when the file was opened; none past the
+/// last.
 pub fn nth<P: Sectors>(file: &Keyed, pool: &mut P, n: u32) -> Result<Option<u32>, PoolFault>
     requires stored { AreStored (shown file.now).sectors (P.state pool.old).contents }
     requires ordered { HasKeyOrder (shown file.now) (P.state pool.old).contents }
@@ -117,7 +118,7 @@ pub fn nth<P: Sectors>(file: &Keyed, pool: &mut P, n: u32) -> Result<Option<u32>
     }
 }
 
-/// The place of the record with the key in these bytes, from 0.
+/// The place of the record with the key in these bytes, from 0; none where no record has it.
 pub fn find<P: Sectors>(file: &Keyed, pool: &mut P, key: &[u8]) -> Result<Option<u32>, PoolFault>
     requires stored { AreStored (shown file.now).sectors (P.state pool.old).contents }
     requires ordered { HasKeyOrder (shown file.now) (P.state pool.old).contents }
@@ -136,7 +137,7 @@ pub fn find<P: Sectors>(file: &Keyed, pool: &mut P, key: &[u8]) -> Result<Option
     }
 }
 
-/// Puts a record behind the last one, under a key above all others.
+/// Puts a record behind the last one; it is refused where its key isn't above all others, else where the file is full.
 #[tactic(auto, using(crate::proofs::Keys::order_left))]
 pub fn load<P: Sectors>(file: &mut Keyed, pool: &mut P, bytes: &[u8]) -> Result<Put, PoolFault>
     requires stored { AreStored (shown file.old).sectors (P.state pool.old).contents }
@@ -158,7 +159,7 @@ pub fn load<P: Sectors>(file: &mut Keyed, pool: &mut P, bytes: &[u8]) -> Result<
     }
 }
 
-/// Puts a record behind the last one, under a key that no other has.
+/// Puts a record behind the last one; it is refused where another has its key, else where the file is full.
 #[tactic(auto, using(crate::proofs::Keys::order_left))]
 pub fn add<P: Sectors>(file: &mut Keyed, pool: &mut P, bytes: &[u8]) -> Result<Put, PoolFault>
     requires stored { AreStored (shown file.old).sectors (P.state pool.old).contents }
@@ -180,7 +181,7 @@ pub fn add<P: Sectors>(file: &mut Keyed, pool: &mut P, bytes: &[u8]) -> Result<P
     }
 }
 
-/// Writes a record over the one at a place, from 0, which is `old`, under the same key.
+/// Writes a record over the one at a place, from 0, whose bytes are `old`; it is refused where its key is another one.
 pub fn replace<P: Sectors>(
     file: &Keyed,
     pool: &mut P,
@@ -208,7 +209,7 @@ pub fn replace<P: Sectors>(
     }
 }
 
-/// Closes the file: its index on the pack becomes that of all its records.
+/// Closes the file: its index on the pack then has the keys of all its records.
 #[tactic(auto, using(crate::proofs::Keys::not_of_sectors))]
 pub fn close<P: Sectors>(file: Keyed, pool: &mut P) -> Result<(), PoolFault>
     requires stored { AreStored (shown file).sectors (P.state pool.old).contents }

@@ -96,7 +96,7 @@ fn close_file<P: Sectors>(
     set_count(level, name, count, pack)
 }
 
-/// Closes files, the first one first.
+/// Closes files one after another, in their order: counts are set, and scratch files that the job made are dropped.
 pub fn close_all<P: Sectors>(
     level: LevelId,
     files: Vec<OpenFile>,

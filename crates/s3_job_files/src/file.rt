@@ -29,7 +29,7 @@ const SHORT_RECORD: usize = 128;
 /// A file of the job at work.
 #[derive(Drop)]
 pub struct OpenFile {
-    /// By which the program knows it.
+    /// The name by which the program knows it.
     pub name: Name,
     /// Its label as it was opened.
     pub label: FileLabel,
@@ -39,18 +39,18 @@ pub struct OpenFile {
     pub is_made: bool,
     /// Its records.
     pub records: OpenRecords,
-    /// How many of its records were read.
+    /// How many of its records the job has read.
     pub read: u32,
-    /// The place of the record that was chained last, from 0.
+    /// The place of the record that was chained last, from 0; none where none was, or where the last CHAIN found nothing.
     pub chained: Option<u32>,
 }
 
 /// The record of a file that an update changes.
 #[derive(Clone, Copy)]
 pub enum Current {
-    /// The one that was read as the n-th, from 1.
+    /// The record that was read as the n-th, from 1.
     NthRead(u32),
-    /// The one that was chained last.
+    /// The record that was chained last.
     LastChained,
 }
 
@@ -61,7 +61,8 @@ impl OpenFile {
     ghost use Rattle.s3_job_files.specs.Closing.{is_kept_for_job};
     ghost use Rattle.s3_job_files.specs.Inner.Calls.{found_record, found_answer, Puts};
 
-    /// Opens the file of a label that the pack has, unless its index isn't good.
+    /// Opens the file of a label that the pack has, known to the program by a name; none where it is indexed and its index isn't
+    /// good.
     pub fn open<P: Sectors>(
         alloc: Global,
         pool: &mut P,
@@ -191,7 +192,8 @@ impl OpenFile {
         }
     }
 
-    /// Reads the record with the key in these bytes where it is told at once which one it is, and answers its place, from 0.
+    /// Reads the record with the key in these bytes where a table in memory names it, without a search of the index, and answers
+    /// its place, from 0. It may answer none although there is such a record.
     fn get_noted<P: Sectors>(
         &self,
         pool: &mut P,
@@ -298,7 +300,8 @@ impl OpenFile {
         self.chain(pool, place, bytes)
     }
 
-    /// Puts a record behind the last one: in an indexed file under a key above all others.
+    /// Puts a record behind the last one. It is refused in an indexed file where its key isn't above all others, and in any file
+    /// that is full.
     pub fn append<P: Sectors>(&mut self, pool: &mut P, bytes: &[u8]) -> Result<Put, PoolFault>
         requires usable { IsUsable (P.state pool.old).contents self.old.label self.old.records }
         requires long { length bytes.now ≡ self.old.label.record_length }
@@ -315,7 +318,8 @@ impl OpenFile {
         }
     }
 
-    /// Puts a record behind the last one of an indexed file, under a key that no other has.
+    /// Puts a record behind the last one of an indexed file. It is refused where another record has its key, and where the file
+    /// is full.
     pub fn add<P: Sectors>(&mut self, pool: &mut P, bytes: &[u8]) -> Result<Put, PoolFault>
         requires usable { IsUsable (P.state pool.old).contents self.old.label self.old.records }
         requires indexed { is_indexed_spec self.old.label.organization ≡ true }
@@ -441,7 +445,8 @@ impl OpenFile {
         }
     }
 
-    /// Changes the current record, as the file now holds it.
+    /// Changes the current record, as the file now holds it, at the positions that are put. It is refused where no such record is
+    /// there, and where the key of an indexed file would change.
     pub fn update<P: Sectors>(
         &self,
         pool: &mut P,
@@ -462,14 +467,14 @@ impl OpenFile {
         }
     }
 
-    /// Whether it goes at the end of the job: a scratch file that the job made.
+    /// Whether the file is dropped at the end of the job: it is a scratch file that the job made.
     pub fn goes_at_end(&self) -> bool
         ensures { result ≡ (self.now.is_made && is_kept_for_job self.now.label.retention) }
     {
         self.is_made && self.label.retention == Retention::Scratch
     }
 
-    /// Closes the file: the index on the pack of an indexed file becomes that of all its records.
+    /// Closes the file: the index of an indexed file on the pack then has the keys of all its records.
     pub fn close<P: Sectors>(self, pool: &mut P) -> Result<(), PoolFault>
         requires usable { IsUsable (P.state pool.old).contents self.label self.records }
         ensures kept { OnOk result (kept_on (record self.label { count = count_of self.records }) (P.state pool.new).contents ≡ record { records = records_of self.records (P.state pool.old).contents; has_good_index = true }) }

@@ -37,7 +37,7 @@ pub fn get<P: Sectors>(
     }
 }
 
-/// Puts a record behind the last one, where there is room.
+/// Puts a record behind the last one; it is refused where the file is full.
 #[tactic(auto, using(crate::proofs::Plain::last_taken, crate::proofs::Plain::last_refused))]
 pub fn append<P: Sectors>(
     file: &mut Sequential,

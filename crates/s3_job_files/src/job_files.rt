@@ -25,9 +25,9 @@ use std::alloc::{AllocError, Global};
 /// The files of the job at work in a level, in the order in which they were opened.
 #[derive(Drop)]
 pub struct JobFiles {
-    /// The level.
+    /// The level whose job it is.
     pub level: LevelId,
-    /// The files.
+    /// The open files, each called by its place in this list.
     pub files: Vec<OpenFile>,
 }
 
@@ -53,7 +53,7 @@ impl JobFiles {
     ghost use Rattle.s3_job_files.specs.Closing.{files_closed};
     ghost use Rattle.s3_job_files.specs.Inner.Holds.{AllAt, HoldsRecords, Seen, Stands, seen, IsReady, IsOutOfReach, Holds, Serves, TakesRecord, current_of, job_file_of, opened_as};
 
-    /// No files yet.
+    /// The files of a job before any is opened: none.
     pub fn new(alloc: Global, level: LevelId) -> Self
         ensures level { result.level ≡ level }
         ensures none { result.files.items ≡ [] }
@@ -64,7 +64,7 @@ impl JobFiles {
         }
     }
 
-    /// The file at a place.
+    /// The open file at a place.
     pub fn file(&self, place: usize) -> &OpenFile
         requires { place < length self.now.files.items }
         ensures { slice_get self.now.files.items place ≡ Some result.now }
@@ -79,7 +79,7 @@ impl JobFiles {
         self.files.iter().any(|file| file.label.name == label)
     }
 
-    /// One file more, behind the others.
+    /// Puts one more open file behind the others; refused only where memory runs out.
     pub fn push(&mut self, file: OpenFile) -> Result<(), AllocError>
         ensures pushed { OnOk result (self.new.files.items ≡ self.old.files.items ++ file ∷ []) }
         ensures ready { OnOk result ((pack : Seen) → IsReady self.old.level self.old.files.items pack → Stands self.old.level pack file → list_any (λ one. same_name one.label.name file.label.name) self.old.files.items ≡ false → IsReady self.new.level self.new.files.items pack) }
@@ -90,7 +90,7 @@ impl JobFiles {
         Ok(())
     }
 
-    /// The place of the file that the program knows by this name.
+    /// The place of the open file that the program knows by this name; none where no such file is open.
     pub fn place_of(&self, name: Name) -> Option<usize>
         ensures place { result ≡ place_named name (map job_file_of self.now.files.items) }
         ensures within { IfSome result (λ place. place < length self.now.files.items) }
@@ -98,7 +98,7 @@ impl JobFiles {
         position_of(&self.files, name)
     }
 
-    /// Reads the next record of the file at a place, and answers whether there is one.
+    /// Reads the next record of the file at a place into `bytes`, and answers whether there is one.
     pub fn read_next<P: Sectors>(
         &mut self,
         pack: &mut Pack<P>,
@@ -168,7 +168,8 @@ impl JobFiles {
         self.files[place].chain_number(&mut pack.pool, number, bytes)
     }
 
-    /// Puts a record behind the last one of the level's own file at a place: in an indexed file under a key above all others.
+    /// Puts a record behind the last one of the level's own file at a place. It is refused in an indexed file where its key isn't
+    /// above all others, and in any file that is full.
     ///
     /// After a fault of the sectors no request is to be made.
     pub fn append<P: Sectors>(
@@ -195,7 +196,8 @@ impl JobFiles {
         self.files[place].append(&mut pack.pool, bytes)
     }
 
-    /// Puts a record behind the last one of the level's own indexed file at a place, under a key that no other has.
+    /// Puts a record behind the last one of the level's own indexed file at a place. It is refused where another record has its
+    /// key, and where the file is full.
     ///
     /// After a fault of the sectors no request is to be made.
     pub fn add<P: Sectors>(
@@ -223,7 +225,8 @@ impl JobFiles {
         self.files[place].add(&mut pack.pool, bytes)
     }
 
-    /// Changes the current record of the level's own file at a place, as the file now holds it.
+    /// Changes the current record of the level's own file at a place, as the file now holds it, at the positions that are put. It
+    /// is refused where no such record is there, and where the key of an indexed file would change.
     ///
     /// After a fault of the sectors no request is to be made.
     pub fn update<P: Sectors>(

@@ -29,7 +29,8 @@ pub fn added_records_are_found_but_not_read()
     ensures no_request { answer_behind [] Card ≡ None }
 {}
 
-/// A key that is there, or one of a load that isn't above all others, is told before a file that is full.
+/// A record that can't be put for two causes is refused for its key, where another record has it or a load's key isn't above all
+/// others, and not for a file that is full.
 pub fn a_duplicate_is_told_before_a_full_file()
     ensures duplicate { added (two_keys 2) (letter 0xc1) b_and_a ≡ Err DuplicateKey }
     ensures full { added (two_keys 2) (letter 0xc3) b_and_a ≡ Err FileFull }
@@ -41,7 +42,8 @@ pub fn a_duplicate_is_told_before_a_full_file()
     ensures second { answer_behind (Append (named 0xe3) (letter 0xc1) ∷ []) (Append (named 0xe3) (letter 0xc1)) ≡ Some Done }
 {}
 
-/// An update changes what is put and nothing else, and not the key; a current record that isn't there is told first.
+/// An update changes what is put and nothing else, and refuses to change the key; where no current record is there, it is refused
+/// for that and not for its key.
 pub fn an_update_keeps_the_key()
     ensures changed { updated (two_keys 10) fifth_byte (Some 1) b_and_a ≡ Ok (letter 0xc2 ∷ (0xc1 ∷ replicate 3 0x40 ++ 1 ∷ replicate 5 0x40) ∷ []) }
     ensures key { updated (two_keys 10) other_key (Some 1) b_and_a ≡ Err KeyChanged }

@@ -6,10 +6,10 @@ use s3_files::{RecordFile, Sequential};
 use s3_keyed::Keyed;
 use s3_operator::HaltCode;
 
-/// What becomes of a record that is put into a file.
+/// What becomes of a record that is to be put into a file.
 #[derive(Clone, Copy)]
 pub enum Put {
-    /// It is there.
+    /// It is in the file.
     Done,
     /// It isn't taken, for this cause.
     Refused(HaltCode),
@@ -18,14 +18,14 @@ pub enum Put {
 /// The records of an open file.
 #[derive(Drop)]
 pub enum OpenRecords {
-    /// Those of a file without an index, in order.
+    /// The records of a file without an index, in order.
     InOrder(Sequential),
-    /// Those of a file with an index.
+    /// The records of a file with an index by key.
     ByKey(Keyed),
 }
 
 impl OpenRecords {
-    /// How many there are.
+    /// How many records the file has now.
     pub fn len(&self) -> u32
         ensures { result ≡ count_of self.now }
     {

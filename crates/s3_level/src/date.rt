@@ -36,7 +36,7 @@ impl Date {
         }
     }
 
-    /// The date that these digits are.
+    /// The date with these digits, mmddyy in EBCDIC.
     pub fn new(digits: [u8; 6]) -> Date
         requires { IsTrue (list_all is_digit digits) }
         ensures { result ≡ digits }
@@ -44,7 +44,7 @@ impl Date {
         Date { digits }
     }
 
-    /// Its digits.
+    /// Its six digits, mmddyy in EBCDIC.
     #[tactic(auto, using(crate::proofs::Dates::digits_are_date))]
     pub fn digits(&self) -> [u8; 6]
         ensures value { result ≡ self.now }

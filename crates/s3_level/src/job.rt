@@ -39,7 +39,7 @@ pub struct OpenJob {
     pub files: JobFiles,
     /// The place of the next data card in the deck.
     pub next: usize,
-    /// The place after the last one.
+    /// The place behind the last data card in the deck.
     pub end: usize,
 }
 
@@ -241,7 +241,7 @@ impl OpenJob {
         self.cycle.resume(answer);
     }
 
-    /// Goes on past the jump that pends and those behind it, so many at most; how many it was.
+    /// Goes on past the jump that pends and those behind it, so many at most, and answers how many they were.
     pub fn pass_jumps(&mut self, most: u16) -> u16
         requires jump { asked self.old.cycle ≡ asks.Jump }
         requires some { 1 ≤ most }
@@ -255,7 +255,7 @@ impl OpenJob {
         self.cycle.pass_jumps(most)
     }
 
-    /// Closes its files.
+    /// Closes the files of the job: counts are set, and scratch files that it made are dropped.
     ///
     /// After a fault of the sectors no call on the pack is to be made.
     pub fn close<P: Sectors>(self, pack: &mut Pack<P>) -> Result<(), PoolFault>

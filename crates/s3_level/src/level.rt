@@ -15,7 +15,7 @@ use s3_store::{PoolFault, Sectors};
 use std::alloc::Global;
 use std::num::NonZeroU16;
 
-/// One level at work.
+/// One level at work: its deck, its library, the job that is open, its printed lines and its halts.
 #[derive(Drop)]
 pub struct Level {
     pub(crate) alloc: Global,
@@ -74,18 +74,18 @@ impl Level {
         }
     }
 
-    /// Which level it is.
+    /// Which of the two levels it is.
     pub fn id(&self) -> LevelId
         ensures { result ≡ self.now.id }
     {
         self.id
     }
 
-    /// Performs the pending request of the job at work, or begins the next job.
+    /// Performs the pending request of the job at work, or begins the next job (docs/RUNNING.md, "The script").
     ///
-    /// It is idle, takes no memory and changes nothing where a halt waits, where no job is at work and none is left, and
-    /// where the job would print and its quota of lines is queued. After it ran out of memory, or its sectors failed, nothing
-    /// is said of the worlds that are held, and no entry is to be taken.
+    /// It is idle, takes no memory and changes nothing where a halt waits, where no job is at work and none is left, and where
+    /// the job would print and its quota of lines is queued. Where memory runs out, or a transfer of the sectors fails, nothing
+    /// is known of the worlds that the level holds, and no entry may follow.
     pub fn turn<P: Sectors>(
         &mut self,
         pack: &mut Pack<P>,
@@ -107,9 +107,13 @@ impl Level {
         Ok(self.turns(NonZeroU16::MIN, pack, spool)?.did)
     }
 
-    /// Turns, so many at most and one at least, each with this answer: they go on as long as they act.
+    /// Takes turns one behind the other, at most `most` of them and at least one, as long as they act. It answers how many they
+    /// were and what each of them did.
     ///
-    /// What is said of `turn` is said of them.
+    /// Each turn performs the pending request of the job at work, or begins the next job. A first turn is idle, takes no memory
+    /// and changes nothing where a halt waits, where no job is at work and none is left, and where the job would print and its
+    /// quota of lines is queued. Where memory runs out, or a transfer of the sectors fails, nothing is known of the worlds that
+    /// the level holds, and no entry may follow.
     #[inline(never)]
     pub fn turns<P: Sectors>(
         &mut self,
@@ -146,9 +150,10 @@ impl Level {
         })
     }
 
-    /// Answers the halt that waits with a digit, and a job at work goes on with it to its next request: refused with 1 where
-    /// no halt waits, and with 2 where it doesn't allow the digit; then it takes no memory and changes nothing. After it ran
-    /// out of memory, or its sectors failed, nothing is said of the worlds that are held, and no entry is to be taken.
+    /// Answers the halt that waits with a digit, and a job at work goes on with it to its next request (docs/MESSAGES.md,
+    /// "Replies"). It is refused with 1 where no halt waits, and with 2 where the halt doesn't allow the digit; then it takes no
+    /// memory and changes nothing. Where memory runs out, or a transfer of the sectors fails, nothing is known of the worlds that
+    /// the level holds, and no entry may follow.
     #[inline(never)]
     #[tactic(auto, using(crate::proofs::Replies::reply_refused, crate::proofs::Replies::reply_taken))]
     pub fn answer<P: Sectors>(&mut self, digit: u8, pack: &mut Pack<P>) -> Result<Did, PoolFault>
@@ -244,7 +249,7 @@ impl Level {
         Ok(())
     }
 
-    /// The drained lines, in order.
+    /// The lines that were drained from the level's queue, in order.
     pub fn lines(&self) -> &[PrintLine]
         ensures value { result.now ≡ self.now.lines.items }
         ensures world { (beside : Around) (w : World) → Holds self.now beside w → result.now ≡ drained_lines w.lines }
@@ -252,7 +257,7 @@ impl Level {
         &self.lines
     }
 
-    /// The halts that were shown, in order.
+    /// The halts that the level has shown, in order.
     pub fn halts(&self) -> &[Halt]
         ensures value { map halt_of result.now ≡ self.now.halts }
         ensures world { (beside : Around) (w : World) → Holds self.now beside w → map halt_of result.now ≡ w.halts }

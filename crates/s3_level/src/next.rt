@@ -11,13 +11,13 @@ use s3_operator::HaltCode;
 pub enum Next {
     /// The job of this number halts and asks for a reply.
     Halts(u16, HaltCode),
-    /// A reply has ended it.
+    /// A reply has ended the job.
     IsOver,
-    /// It waits for a turn.
+    /// The job goes on, and its request waits for a turn.
     GoesOn,
 }
 
-/// What a request asks a reply for, if it does.
+/// The halt for which a request asks for a reply; none where it asks for something else.
 pub fn code_asked(request: &Request) -> Option<HaltCode>
     ensures { result ≡ code_asked request.now }
 {

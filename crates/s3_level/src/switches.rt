@@ -18,7 +18,7 @@ fn bit_after(switch: Switch, was: u8, bit: u8) -> u8
     if is_on { bit } else { 0 }
 }
 
-/// The switches after what a job does with each.
+/// The switches, U1 the highest bit, after what a job's statements do with each of U1 to U8.
 pub fn switches_after(was: u8, switches: [Switch; 8]) -> u8
     ensures { result ≡ switches_after switches was }
 {

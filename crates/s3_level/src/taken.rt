@@ -16,7 +16,7 @@ pub struct Taken {
 }
 
 impl Taken {
-    /// These entries, or those alone that acted before them, if there are any.
+    /// These entries; or where others acted right before them, `acted` in number, those alone.
     pub fn behind(self, acted: u16) -> Taken
         ensures none { acted ≡ 0 → result ≡ self }
         ensures some { 1 ≤ acted → result ≡ record { did = Acted; times = acted } }
@@ -30,7 +30,7 @@ impl Taken {
         }
     }
 
-    /// One entry with this answer.
+    /// One entry with this answer, or its fault.
     #[inline(always)]
     pub fn once(answer: Result<Did, PoolFault>) -> Result<Taken, PoolFault>
         ensures { result ≡ once_spec answer }

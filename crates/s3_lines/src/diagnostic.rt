@@ -1,10 +1,10 @@
 //! What is wrong with a source, card by card.
 
-/// What is wrong with a card of a source.
+/// One thing that is wrong with a card of a source (docs/LANGUAGE.md, "Diagnostics").
 #[derive(Clone, Copy, Debug, PartialEq, Eq)]
 pub struct Diagnostic {
     /// The number of the card in its deck, from 1.
     pub card: u16,
-    /// What is wrong with it, 1 to 13.
+    /// The number of the diagnostic, 1 to 13.
     pub number: u8,
 }

@@ -1,6 +1,6 @@
 //! Indicators and conditions.
 
-/// An indicator.
+/// An indicator: something that is on or off while a program runs. Each is named by the number or the letter on its card.
 #[derive(Clone, Copy, PartialEq, Eq, Hash)]
 pub enum Indicator {
     /// 01 to 99.
@@ -50,11 +50,11 @@ impl Indicator {
     }
 }
 
-/// What must hold of an indicator.
+/// A condition of a line: an indicator that must be on, or one that must be off.
 #[derive(Clone, Copy)]
 pub struct Condition {
-    /// It must be off, else on.
+    /// Whether the indicator must be off; else it must be on.
     pub negated: bool,
-    /// Which indicator is looked at.
+    /// The indicator that is looked at.
     pub indicator: Indicator,
 }

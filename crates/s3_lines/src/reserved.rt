@@ -9,42 +9,42 @@ use s3_cards::ebcdic::{
     LETTER_N, LETTER_O, LETTER_P, LETTER_R, LETTER_T, LETTER_U, LETTER_Y,
 };
 
-/// UDATE, the date of a job: 6 digits, mmddyy.
+/// UDATE, the field with the date of a job: 6 digits, mmddyy.
 pub const UDATE: Name = Name {
     codes: [
         LETTER_U, LETTER_D, LETTER_A, LETTER_T, LETTER_E, BLANK, BLANK, BLANK,
     ],
 };
 
-/// UMONTH, its month: 2 digits.
+/// UMONTH, the field with the month of a job's date: 2 digits.
 pub const UMONTH: Name = Name {
     codes: [
         LETTER_U, LETTER_M, LETTER_O, LETTER_N, LETTER_T, LETTER_H, BLANK, BLANK,
     ],
 };
 
-/// UDAY, its day: 2 digits.
+/// UDAY, the field with the day of a job's date: 2 digits.
 pub const UDAY: Name = Name {
     codes: [
         LETTER_U, LETTER_D, LETTER_A, LETTER_Y, BLANK, BLANK, BLANK, BLANK,
     ],
 };
 
-/// UYEAR, its year: 2 digits.
+/// UYEAR, the field with the year of a job's date: 2 digits.
 pub const UYEAR: Name = Name {
     codes: [
         LETTER_U, LETTER_Y, LETTER_E, LETTER_A, LETTER_R, BLANK, BLANK, BLANK,
     ],
 };
 
-/// PAGE, which counts by itself: 4 digits.
+/// PAGE, the field that counts pages, by 1 each time that it is put out: 4 digits.
 pub const PAGE: Name = Name {
     codes: [
         LETTER_P, LETTER_A, LETTER_G, LETTER_E, BLANK, BLANK, BLANK, BLANK,
     ],
 };
 
-/// RPGOBJ, the name of a program whose H card bears none.
+/// RPGOBJ, the name of a program whose source has no H card with a name.
 pub const RPGOBJ: Name = Name {
     codes: [
         LETTER_R, LETTER_P, LETTER_G, LETTER_O, LETTER_B, LETTER_J, BLANK, BLANK,
@@ -61,7 +61,7 @@ fn reserved_names() -> &'static [Name]
     &RESERVED_NAMES
 }
 
-/// Whether a name is that of a field that no sheet defines.
+/// Whether a name is that of a field that the language has itself: UDATE, UMONTH, UDAY, UYEAR or PAGE.
 pub fn is_reserved(name: &Name) -> bool
     ensures { result ≡ reserved_spec name.now }
 {

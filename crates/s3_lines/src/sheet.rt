@@ -1,6 +1,7 @@
-//! The typed lines of the sheets. What an entry may be is said here for the whole language.
+//! The typed lines of the sheets (docs/LANGUAGE.md, "Sheets"). What an entry may be is said here for the whole language.
 //!
-//! A line is generic over `N`, by which it names a file, a field, a tag or a subroutine: on a sheet that is the name.
+//! A line is generic over `N`, by which it names a file, a field, a tag or a subroutine: on a sheet that is the name. Positions
+//! are counted from 1, lengths in bytes, and characters are EBCDIC codes.
 
 use crate::indicator::{Condition, Indicator};
 use s3_cards::Name;
@@ -17,18 +18,18 @@ pub enum FileUse {
     Update,
 }
 
-/// How a program gets at a file's records.
+/// How a program gets at the records of a file that it reads (F sheet, column 16).
 #[derive(Clone, Copy)]
 pub enum Designation {
-    /// By the cycle, before the secondary files of the same key.
+    /// P: the cycle reads it, before the secondary files where the keys are the same.
     Primary,
-    /// By the cycle.
+    /// S: the cycle reads it, behind the primary file where the keys are the same.
     Secondary,
-    /// By CHAIN.
+    /// C: CHAIN finds its records, by key or by record number.
     Chained,
 }
 
-/// Where a file is.
+/// The device on which a file is (F sheet, columns 40 to 46).
 #[derive(Clone, Copy)]
 pub enum Device {
     /// MFCU1 or MFCU2.
@@ -39,27 +40,27 @@ pub enum Device {
     Disk,
 }
 
-/// The key of an indexed file.
+/// Where the key of an indexed file lies in each record.
 #[derive(Clone, Copy)]
 pub struct KeyField {
-    /// In bytes, 1 to 29.
+    /// Its length in bytes, 1 to 29.
     pub length: u8,
-    /// Its first position, from 1.
+    /// Its first position in the record, from 1.
     pub start: u16,
 }
 
-/// An F line.
+/// A line of the F sheet: a file, and what the program does with it.
 #[derive(Clone, Copy)]
 pub struct FileLine {
     /// The name that record and line cards use.
     pub name: Name,
     /// What the program does with the file.
     pub usage: FileUse,
-    /// None for files that are only put out in order.
+    /// How the program gets at its records; none for a print file, and for a disk file that is only put out in order.
     pub designation: Option<Designation>,
-    /// The end of this file counts for the end of the job.
+    /// Whether the end of this file counts for the end of the job (E in column 17).
     pub ends_job: bool,
-    /// In bytes: 1 to 96 for cards, 1 to 132 for print, 1 to 1,024 on disk.
+    /// The length of its records in bytes: 1 to 96 for cards, 1 to 132 for print, 1 to 1,024 on disk.
     pub record_length: u16,
     /// R in column 28: its records are got at by CHAIN.
     pub is_random: bool,
@@ -67,15 +68,15 @@ pub struct FileLine {
     pub is_keyed: bool,
     /// I in column 32: it has an index.
     pub is_indexed: bool,
-    /// That of an indexed file.
+    /// Where the key lies in its records; given for a file that is addressed by keys and has an index, and for no other.
     pub key: Option<KeyField>,
-    /// That of a print file.
+    /// The overflow indicator of a print file, OA to OG or OV, where it has one.
     pub overflow: Option<Indicator>,
-    /// Where the file is.
+    /// The device on which it is.
     pub device: Device,
-    /// Records are added to it.
+    /// Whether records are added to it (A in column 66).
     pub has_additions: bool,
-    /// A switch, without which the file isn't used.
+    /// The switch, U1 to U8, that must be on for the file to be used; none where it is always used.
     pub condition: Option<Indicator>,
 }
 
@@ -84,14 +85,14 @@ impl FileLine {
     ghost use Rattle.s3_lines.specs.declared.sheet.Designation.TheVariants.{Primary, Secondary};
     ghost use Rattle.s3_lines.specs.Files.{is_designated};
 
-    /// Whether it is a primary file.
+    /// Whether its designation is primary (P).
     pub fn is_primary(&self) -> bool
         ensures { result ≡ is_designated Primary self.now }
     {
         matches!(self.designation, Some(Designation::Primary))
     }
 
-    /// Whether it is a secondary file.
+    /// Whether its designation is secondary (S).
     pub fn is_secondary(&self) -> bool
         ensures { result ≡ is_designated Secondary self.now }
     {
@@ -110,16 +111,16 @@ pub enum CodePart {
     Digit,
 }
 
-/// A record identification code.
+/// A record identification code: a test of one byte of a record, by which the types of records are told apart.
 #[derive(Clone, Copy)]
 pub struct RecordCode {
-    /// From 1, within the record.
+    /// The position of the byte, from 1, within the record.
     pub position: u16,
-    /// The part must differ.
+    /// Whether the part of the byte must differ from that of the character; else it must be the same.
     pub negated: bool,
-    /// What is compared.
+    /// Which part of the byte is compared.
     pub part: CodePart,
-    /// In EBCDIC.
+    /// The character that it is compared with, in EBCDIC.
     pub character: u8,
 }
 
@@ -128,214 +129,216 @@ pub struct RecordCode {
 pub enum FieldForm {
     /// Characters, a byte each.
     Alphanumeric,
-    /// A digit a byte, with its decimals, 0 to 9.
+    /// A number of one digit a byte, with so many decimals, 0 to 9.
     Zoned(u8),
-    /// Two digits a byte, with its decimals, 0 to 9.
+    /// A number of two digits a byte, with so many decimals, 0 to 9.
     Packed(u8),
     /// P in column 43 without decimals, which no program may have.
     PackedText,
 }
 
-/// A field of a record.
+/// A field line of the I sheet: a field, and where it lies in the records of its types.
 #[derive(Clone, Copy)]
 pub struct FieldLine<N = Name> {
-    /// 1 to 6 characters.
+    /// The field; on a sheet its name has 1 to 6 characters.
     pub name: N,
     /// The first position, from 1.
     pub from: u16,
-    /// The last position, within the record.
+    /// The last position, at or behind the first and within the record.
     pub to: u16,
     /// How it lies in those positions.
     pub form: FieldForm,
-    /// 1 to 9.
+    /// The level of a control field, 1 to 9 for L1 to L9; none for any other field.
     pub control_level: Option<u8>,
-    /// 1 to 9.
+    /// The level of a match field, 1 to 9 for M1 to M9; none for any other field.
     pub match_level: Option<u8>,
     /// The record identifying indicator without which the field isn't taken.
     pub relation: Option<Indicator>,
-    /// For plus, for minus, for zero or blank.
+    /// The indicators that the field turns: on for plus, for minus, and for zero or blank.
     pub indicators: [Option<Indicator>; 3],
 }
 
-/// An I line.
+/// A line of the I sheet.
 #[derive(Clone, Copy)]
 pub enum InputLine<N = Name> {
     /// A type of records: its file, its record identifying indicator, and the codes that its records have.
     Record(N, Indicator, [Option<RecordCode>; 3]),
-    /// Further codes of the type above.
+    /// An AND line: further codes that the type of the line above asks for.
     And([Option<RecordCode>; 3]),
-    /// Another type with the same fields: its indicator and its codes.
+    /// An OR line: another type with the same fields, its record identifying indicator and its codes.
     Or(Indicator, [Option<RecordCode>; 3]),
     /// A field of the types above.
     Field(FieldLine<N>),
 }
 
-/// A literal number.
+/// A number written on a C line.
 #[derive(Clone, Copy)]
 pub struct NumberLiteral {
-    /// In units of its last decimal.
+    /// Its value in units of its last decimal.
     pub value: i64,
-    /// 1 to 10.
+    /// How many digits it has, 1 to 10.
     pub digits: u8,
-    /// 0 to 9, at most its digits.
+    /// How many of them stand behind the point, 0 to 9.
     pub decimals: u8,
 }
 
-/// A literal text.
+/// A text written on a C line, in apostrophes.
 #[derive(Clone, Copy)]
 pub struct TextLiteral {
-    /// In EBCDIC, padded with blanks on the right.
+    /// Its characters in EBCDIC, padded with blanks on the right.
     pub codes: [u8; 8],
     /// How many characters it has, 1 to 8.
     pub length: u8,
 }
 
-/// What a C line works on.
+/// Factor 1 or factor 2 of a C line.
 #[derive(Clone, Copy)]
 pub enum Factor<N = Name> {
-    /// A field, file, tag or subroutine.
+    /// The field, file, tag or subroutine with this name.
     Named(N),
-    /// As many decimals as stand behind its point.
+    /// A literal number.
     Number(NumberLiteral),
-    /// In apostrophes.
+    /// A literal text.
     Text(TextLiteral),
 }
 
-/// What a C line does.
+/// The operation of a C line (docs/LANGUAGE.md, "Operations").
 #[derive(Clone, Copy)]
 pub enum Operation {
-    /// ADD: factor 1 and factor 2.
+    /// ADD: the result is the sum of factor 1 and factor 2.
     Add,
-    /// SUB: factor 1 less factor 2.
+    /// SUB: the result is factor 1 less factor 2.
     Subtract,
-    /// MULT: factor 1 times factor 2.
+    /// MULT: the result is factor 1 times factor 2.
     Multiply,
-    /// DIV: factor 1 by factor 2.
+    /// DIV: the result is factor 1 divided by factor 2.
     Divide,
-    /// Z-ADD: factor 2.
+    /// Z-ADD: the result is factor 2.
     ZeroAdd,
-    /// Z-SUB: the negative of factor 2.
+    /// Z-SUB: the result is the negative of factor 2.
     ZeroSubtract,
-    /// MVR: the remainder of the DIV before.
+    /// MVR: the result is the remainder of the DIV before.
     MoveRemainder,
-    /// COMP: high, low or equal.
+    /// COMP: factor 1 is high, low or equal to factor 2, as the indicators say then.
     Compare,
-    /// MOVE: from the right.
+    /// MOVE: factor 2 goes into the result from the right.
     Move,
-    /// MOVEL: from the left.
+    /// MOVEL: factor 2 goes into the result from the left.
     MoveLeft,
-    /// SETON: its indicators on.
+    /// SETON: its indicators go on.
     SetOn,
-    /// SETOF: its indicators off.
+    /// SETOF: its indicators go off.
     SetOff,
-    /// GOTO: on from a tag.
+    /// GOTO: the calculations go on from the tag in factor 2.
     GoTo,
-    /// TAG: where a GOTO goes on.
+    /// TAG: the place, named in factor 1, where a GOTO goes on.
     Tag,
-    /// EXSR: a subroutine.
+    /// EXSR: the subroutine in factor 2 is done.
     ExecuteSubroutine,
-    /// BEGSR: where a subroutine begins.
+    /// BEGSR: the subroutine in factor 1 begins.
     BeginSubroutine,
-    /// ENDSR: where it ends.
+    /// ENDSR: the subroutine ends.
     EndSubroutine,
-    /// EXCPT: the exception lines.
+    /// EXCPT: the exception lines are put out.
     Except,
-    /// CHAIN: the record of a key or a number.
+    /// CHAIN: the record with the key or the number in factor 1 is read from the file in factor 2.
     Chain,
     /// Any other word, which no program may have.
     Unknown,
 }
 
-/// What columns 7 and 8 of a C line say.
+/// When a C line is done (columns 7 and 8).
 #[derive(Clone, Copy)]
 pub enum CalculationTime {
-    /// Once for each record, with its fields.
+    /// Blank: once for each record, when its fields have been moved.
     Detail,
-    /// L0 to L9 or LR.
+    /// L0 to L9 or LR: with the totals, while this indicator is on.
     Total(Indicator),
-    /// When an EXSR names it.
+    /// SR: as part of a subroutine, when an EXSR names that.
     Subroutine,
-    /// It goes on with the conditions of the line above.
+    /// AN: it adds conditions, all of which must hold, to those of the line above.
     And,
-    /// It has other conditions for the line above.
+    /// OR: it has other conditions, which may hold in place of those of the line above.
     Or,
 }
 
-/// What a field holds.
+/// What kind of value a field holds, and how long it is.
 #[derive(Clone, Copy)]
 pub enum Shape {
-    /// So many characters, 1 to 256.
+    /// A text of so many characters, 1 to 256.
     Alphanumeric(u16),
-    /// So many digits, 1 to 15, with so many decimals, 0 to 9.
+    /// A number of so many digits, 1 to 15, with so many decimals, 0 to 9.
     Numeric(u8, u8),
 }
 
-/// A C line.
+/// A line of the C sheet.
 #[derive(Clone, Copy)]
 pub struct CalculationLine<N = Name> {
     /// When it is done.
     pub time: CalculationTime,
-    /// What must hold for it, none where blank.
+    /// The conditions that must hold for it; none where the columns are blank.
     pub conditions: [Option<Condition>; 3],
+    /// Factor 1, in columns 18 to 27.
     pub factor1: Option<Factor<N>>,
-    /// None on a line whose group goes on.
+    /// What it does; none on a line whose conditions go on with the next line.
     pub operation: Option<Operation>,
+    /// Factor 2, in columns 33 to 42.
     pub factor2: Option<Factor<N>>,
     /// The field that it gives a value.
     pub result: Option<N>,
-    /// The shape that the line gives its result.
+    /// The shape that the line gives its result, where it defines it.
     pub definition: Option<Shape>,
-    /// 5 is added at the first digit dropped.
+    /// Whether the result is half adjusted: 5 is added at the first digit dropped.
     pub half_adjust: bool,
-    /// Columns 54-55, 56-57 and 58-59.
+    /// The resulting indicators of columns 54-55, 56-57 and 58-59.
     pub indicators: [Option<Indicator>; 3],
 }
 
-/// When an output line is put out.
+/// When an output line is put out (O sheet, column 15).
 #[derive(Clone, Copy)]
 pub enum OutputKind {
-    /// At the start of a cycle, as a heading.
+    /// H: at the start of a cycle, as a heading.
     Heading,
-    /// At the start of a cycle.
+    /// D: at the start of a cycle.
     Detail,
-    /// After total calculations.
+    /// T: after the total calculations.
     Total,
-    /// At an EXCPT.
+    /// E: when an EXCPT asks for it.
     Exception,
 }
 
-/// Spaces and skips, none where the entry is blank.
+/// How an output line moves the carriage: spaces and skips, none where the entry is blank.
 #[derive(Clone, Copy)]
 pub struct Spacing {
-    /// 0 to 3.
+    /// By how many lines it moves before the line is printed, 0 to 3.
     pub space_before: Option<u8>,
-    /// 0 to 3.
+    /// By how many lines it moves after the line is printed, 0 to 3.
     pub space_after: Option<u8>,
-    /// To a line, 1 to 66.
+    /// To which line of a page it goes before the line is printed, 1 to 66.
     pub skip_before: Option<u8>,
-    /// To a line, 1 to 66.
+    /// To which line of a page it goes after the line is printed, 1 to 66.
     pub skip_after: Option<u8>,
 }
 
 /// The first card of an output line.
 #[derive(Clone, Copy)]
 pub struct OutputCard<N = Name> {
-    /// Without one it takes that of the line before.
+    /// The file that the line goes to; without a name that is the file of the output line before.
     pub file: Option<N>,
-    /// When it is put out.
+    /// When the line is put out.
     pub kind: OutputKind,
-    /// It adds a record to a disk file.
+    /// Whether it adds a record to a disk file (ADD in columns 16 to 18).
     pub is_addition: bool,
     /// How the carriage moves for it.
     pub spacing: Spacing,
-    /// What must hold for it, none where blank.
+    /// The conditions that must hold for it; none where the columns are blank.
     pub conditions: [Option<Condition>; 3],
 }
 
-/// A constant that is put out.
+/// A constant text of an output line.
 #[derive(Clone, Copy)]
 pub struct Constant {
-    /// In EBCDIC, padded with blanks on the right.
+    /// Its characters in EBCDIC, padded with blanks on the right.
     pub codes: [u8; 24],
     /// How many characters it has, 1 to 24.
     pub length: u8,
@@ -344,62 +347,62 @@ pub struct Constant {
 /// How a field is put out.
 #[derive(Clone, Copy)]
 pub enum OutputForm {
-    /// Its characters or its digits, a byte each.
+    /// Its characters, or its digits, a byte each.
     Plain,
-    /// Two digits a byte.
+    /// A number packed, two digits a byte.
     Packed,
-    /// By an edit code.
+    /// A number edited by an edit code.
     Edited(EditCode),
 }
 
-/// A field that is put out.
+/// A field of an output line, and how it is put out.
 #[derive(Clone, Copy)]
 pub struct FieldOutput<N = Name> {
     /// The field.
     pub name: N,
     /// How it is put out.
     pub form: OutputForm,
-    /// It becomes 0 or blanks afterwards.
+    /// Whether it becomes 0 or blanks afterwards (B in column 39).
     pub blank_after: bool,
 }
 
 /// What a field card puts out.
 #[derive(Clone, Copy)]
 pub enum OutputContent<N = Name> {
-    /// The same text each time.
+    /// A constant text.
     Constant(Constant),
-    /// The value that a field has then.
+    /// The value that a field has at that time.
     Field(FieldOutput<N>),
 }
 
-/// A part of an output line.
+/// A field card of the O sheet: one part of an output line.
 #[derive(Clone, Copy)]
 pub struct OutputField<N = Name> {
-    /// What must hold for it, none where blank.
+    /// The conditions that must hold for it; none where the columns are blank.
     pub conditions: [Option<Condition>; 3],
     /// What is put out.
     pub content: OutputContent<N>,
-    /// Its last position, from 1, within the record.
+    /// The position of its last character in the record, from 1.
     pub end: u16,
 }
 
-/// An O line.
+/// A line of the O sheet.
 #[derive(Clone, Copy)]
 pub enum OutputLine<N = Name> {
     /// The first card of an output line.
     Line(OutputCard<N>),
-    /// Further conditions of the line above.
+    /// An AND card: conditions that must hold beside those of the card above.
     And([Option<Condition>; 3]),
-    /// Other conditions for the line above.
+    /// An OR card: conditions that may hold in place of those of the cards above.
     Or([Option<Condition>; 3]),
-    /// A part of the line above.
+    /// A field card: a part of the line above.
     Field(OutputField<N>),
 }
 
 /// A line of a sheet.
 #[derive(Clone, Copy)]
 pub enum SheetLine {
-    /// With the program's name.
+    /// A card of the H sheet, with the program's name where it has one.
     Header(Option<Name>),
     /// A card of the F sheet.
     File(FileLine),
@@ -411,11 +414,11 @@ pub enum SheetLine {
     Output(OutputLine),
 }
 
-/// A line with the number of its card.
+/// A line of a sheet with the number of its card.
 #[derive(Clone, Copy)]
 pub struct Line {
-    /// From 1 in the deck.
+    /// The number of its card in the deck, from 1.
     pub card: u16,
-    /// What it says.
+    /// What the card says.
     pub sheet: SheetLine,
 }

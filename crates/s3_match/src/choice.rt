@@ -15,14 +15,14 @@ use crate::keys::RecordKey;
 use crate::selection::{has_met_end, is_primary, is_secondary};
 use s3_program::program::Program;
 
-/// The heads that one is chosen from.
+/// The heads, each a record at the head of its file, that the next one is chosen from.
 #[derive(Clone, Copy)]
 pub enum Group {
-    /// That of the primary file.
+    /// The head of the primary file.
     Primary,
-    /// Those of the secondary files.
+    /// The heads of the secondary files.
     Secondary,
-    /// Those with the last primary key.
+    /// The heads whose key is that of the last primary record with match fields.
     Matched,
 }
 
@@ -103,7 +103,7 @@ fn is_keyless(input: &InputFile) -> bool
     input.has_head() && !input.key.is_given
 }
 
-/// Whether there is one file alone, with a head without match fields: mostly it is so.
+/// Whether there is one file alone, and its head has no match fields. Mostly it is so, and then that head is taken at once.
 pub fn is_keyless_alone(files: &[InputFile]) -> bool
     ensures { result ≡ spec.is_keyless_alone files.now }
 {
@@ -146,7 +146,8 @@ fn select_at_end(program: &Program, files: &[InputFile], primary_key: &RecordKey
     least_onto(program, files, Group::Matched, primary_key, None)
 }
 
-/// The file whose head is processed next.
+/// The place of the file whose head is processed next, by the key of the last primary record with match fields; none where the job
+/// ends.
 #[tactic(auto, using(crate::proofs::ChoiceLemmas::selects_at_end, crate::proofs::ChoiceLemmas::selects_keyless, crate::proofs::ChoiceLemmas::selects_by_key))]
 pub fn select(program: &Program, files: &[InputFile], primary_key: &RecordKey) -> Option<usize>
     requires sound { All (IsInput program.now) files.now }

@@ -11,10 +11,10 @@ use s3_lines::sheet::{FieldForm, FieldLine};
 use s3_program::program::Reference;
 use std::cmp::min;
 
-/// The most that the match fields of a record compare: nine fields of 256 characters.
+/// The most bytes that the match fields of a record compare: nine fields of 256 characters.
 pub const KEY_BYTES: usize = 2_304;
 
-/// The bytes of a field.
+/// The bytes of a record that a field lies in.
 pub fn field_bytes<'a>(field: &FieldLine<Reference>, bytes: &'a [u8]) -> &'a [u8]
     ensures { result.now ≡ slice_range bytes.now (field.now.from - 1) field.now.to }
 {
@@ -62,7 +62,7 @@ fn push_characters(compared: &mut ArrayVec<u8, KEY_BYTES>, bytes: &[u8])
     }
 }
 
-/// Puts what a field compares behind the others.
+/// Puts the bytes that a field of this form compares behind those of the other fields.
 pub fn push_compared(compared: &mut ArrayVec<u8, KEY_BYTES>, form: FieldForm, bytes: &[u8])
     requires { array_vec_len compared.old + length (meaning.compared form bytes.now) ≤ KEY_BYTES }
     ensures { compared.new.items ≡ compared.old.items ++ meaning.compared form bytes.now }
@@ -74,7 +74,7 @@ pub fn push_compared(compared: &mut ArrayVec<u8, KEY_BYTES>, form: FieldForm, by
     }
 }
 
-/// Whether these are the digits of a zoned number.
+/// Whether the bytes of a zoned number have these digits.
 pub fn are_zoned_digits(bytes: &[u8], digits: &[u8]) -> bool
     ensures { result ≡ pointwise nat_eq (zoned_digits bytes.now) digits.now }
 {
@@ -89,7 +89,7 @@ pub fn are_zoned_digits(bytes: &[u8], digits: &[u8]) -> bool
     true
 }
 
-/// Whether a key is lower than another.
+/// Whether the bytes of a key are lower than those of another.
 pub fn is_below(left: &[u8], right: &[u8]) -> bool
     ensures { result ≡ meaning.is_below left.now right.now }
 {

@@ -123,7 +123,8 @@ fn hold_line(
     greatest(broken, level, breaks)
 }
 
-/// Holds the control fields of a record of a type; the greatest level where another value was held, 0 if none.
+/// Holds the control fields of a record of a type, and answers the greatest level, 1 to 9, where another value was held; 0 if there
+/// is none.
 #[inline(never)]
 pub fn hold_fields(
     held: &mut [HeldField],

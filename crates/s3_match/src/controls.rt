@@ -78,17 +78,17 @@ pub fn has_levels(program: &Program) -> bool
     some_type_names_level(&program.inputs)
 }
 
-/// The control fields that are held.
+/// The control fields that are held, with which those of the next record are compared.
 #[derive(Drop)]
 pub struct Controls {
-    /// Those of L1 to L9.
+    /// What the control field of each of L1 to L9 compares, L1 first.
     pub held: [HeldField; 9],
-    /// What one of a record compares, while it is read.
+    /// Room for what one control field of a record compares, while it is read.
     pub value: RecordKey,
 }
 
 impl Controls {
-    /// None is held yet.
+    /// The controls as a job begins: no control field is held yet.
     pub fn none() -> Controls
         ensures { (level : ℕ) → spec.held_in result.held level ≡ None }
     {
@@ -108,8 +108,8 @@ impl Controls {
         }
     }
 
-    /// The greatest level that the control fields of a record break, 0 if none. They are held then, of the levels that its type
-    /// names. Where no line of the program has one, none is looked for.
+    /// The greatest level, 1 to 9, that the control fields of a record of a type break; 0 if they break none. After the call they
+    /// are held, for the levels that the type names. Where no line of the program has a control field, none is looked for.
     #[inline(always)]
     pub fn break_and_hold(
         &mut self,

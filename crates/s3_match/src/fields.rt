@@ -12,12 +12,13 @@ use s3_program::mark::Key;
 use s3_program::program::{Program, Reference};
 use s3_program::starts::TypeStart;
 
-/// Whether the lines of a program have match and control fields, told once for all their records.
+/// Whether any line of a program has a match field, and whether any has a control field. It is found out once, and not for each
+/// record.
 #[derive(Clone, Copy)]
 pub struct NamedLevels {
-    /// A line has a match field.
+    /// Whether a line has a match field.
     pub matches: bool,
-    /// A line has a control field.
+    /// Whether a line has a control field.
     pub controls: bool,
 }
 
@@ -69,7 +70,7 @@ fn some_names_level(program: &Program, key: Key) -> bool
     program.inputs.iter().any(|line| names_level(line, key))
 }
 
-/// Whether the lines of a program have match and control fields.
+/// Whether any line of a program has a match field, and whether any has a control field.
 pub fn named_levels(program: &Program) -> NamedLevels
     ensures { result ≡ spec.named_levels program.now }
 {
@@ -154,7 +155,7 @@ pub fn indicator_of(program: &Program, start: TypeStart) -> Indicator
     }
 }
 
-/// The first match or control field of a type at a level; at any, where none is asked for.
+/// The first match field, or the first control field, of a type at a level, 1 to 9; at any level, where none is asked for.
 pub fn field_at(
     program: &Program,
     start: TypeStart,

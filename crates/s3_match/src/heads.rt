@@ -14,7 +14,7 @@ use arrayvec::ArrayVec;
 use s3_program::program::Program;
 use s3_program::starts::TypeStart;
 
-/// The longest record.
+/// The most bytes of a record.
 pub const RECORD_BYTES: usize = 1_024;
 
 /// The most records that a file has: the bytes of the largest pack.
@@ -25,20 +25,20 @@ const MOST_READS: u32 = 16_776_960;
 pub enum Standing {
     /// Nothing yet: the next record is to be read.
     Unread,
-    /// A record of the type that starts there.
+    /// A record of the type that starts at this place.
     Stands(TypeStart),
-    /// Nothing, and nothing comes.
+    /// Nothing, and no record comes any more.
     Ended,
 }
 
-/// A primary or secondary file.
+/// A primary or secondary file, as far as the cycle has read it.
 #[derive(Drop)]
 pub struct InputFile {
-    /// Its slot.
+    /// Its slot among the files of the program.
     pub file: usize,
     /// What stands at its head.
     pub standing: Standing,
-    /// How many records were read, the one at its head the last.
+    /// How many of its records were read; the one at its head is the last of them.
     pub reads: u32,
     /// The bytes of the record at its head, and of the last one once that is taken.
     pub bytes: ArrayVec<u8, RECORD_BYTES>,
@@ -48,7 +48,8 @@ pub struct InputFile {
     pub last_key: RecordKey,
 }
 
-/// Keeps the bytes of a record; mostly one of the same length is there, which they are laid over.
+/// Keeps the bytes of a record in place of those that were kept. Mostly a record of the same length is there, and they are laid over
+/// it.
 pub fn keep_record(kept: &mut ArrayVec<u8, RECORD_BYTES>, bytes: &[u8])
     requires { length bytes.now ≤ RECORD_BYTES }
     ensures { kept.new.items ≡ bytes.now }
@@ -80,7 +81,7 @@ impl InputFile {
         }
     }
 
-    /// Whether the next record is to be read.
+    /// Whether its next record is to be read.
     pub fn is_unread(&self) -> bool
         ensures { result ≡ spec.is_unread self.now }
     {
@@ -100,7 +101,7 @@ impl InputFile {
         }
     }
 
-    /// Nothing comes any more.
+    /// Notes that the file has ended: no record comes any more.
     pub fn end(&mut self)
         ensures input { (program : Program) → spec.input_of program self.new ≡ spec.ended (spec.input_of program self.old) }
         ensures slot { self.new.file ≡ self.old.file }
@@ -109,7 +110,7 @@ impl InputFile {
         self.standing = Standing::Ended;
     }
 
-    /// The record at its head is taken; its bytes stay until the next one is put there.
+    /// Takes the record at its head away; its bytes stay until the next one is put there.
     pub fn vacate(&mut self)
         ensures input { (program : Program) → spec.input_of program self.new ≡ spec.vacated (spec.input_of program self.old) }
         ensures slot { self.new.file ≡ self.old.file }
@@ -119,7 +120,7 @@ impl InputFile {
         self.standing = Standing::Unread;
     }
 
-    /// One record more was read.
+    /// Counts one more record that was read.
     pub fn count_read(&mut self)
         requires { spec.is_unread self.old ≡ true }
         ensures unread { spec.is_unread self.new ≡ true }
@@ -133,7 +134,8 @@ impl InputFile {
         }
     }
 
-    /// Puts a record of a type at the head, if it is in sequence.
+    /// Puts a record of a type at the head and answers true, if it is in sequence: its key isn't below that of the last head with
+    /// match fields. Else nothing stands at the head.
     pub fn put(
         &mut self,
         program: &Program,

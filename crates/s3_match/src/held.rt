@@ -6,10 +6,10 @@ use arrayvec::ArrayVec;
 use s3_lines::sheet::{FieldForm, FieldLine};
 use s3_program::program::Reference;
 
-/// The most that a control field compares.
+/// The most bytes that a control field compares.
 pub const FIELD_BYTES: usize = 256;
 
-/// What the control field of a level compares, if one is held.
+/// The control field of one level as it is held: what it compares, if one is held at all.
 #[derive(Drop)]
 pub struct HeldField {
     /// Whether one is held.
@@ -25,7 +25,7 @@ impl HeldField {
     ghost use Rattle.s3_match.specs.Inner.Keys.{held_key};
     ghost use Rattle.s3_match.specs.Inner.ControlFields.{compared_on};
 
-    /// None is held.
+    /// No control field is held.
     pub fn none() -> HeldField
         ensures { held_key result ≡ None }
     {
@@ -54,8 +54,8 @@ impl HeldField {
         self.is_given && compared == self.bytes.as_slice()
     }
 
-    /// Whether it is what a control field compares. A zoned number and characters are compared where they lie; `value` serves to
-    /// read a packed number.
+    /// Whether what is held is the same as what a control field of a record compares. A zoned number and characters are compared
+    /// where they lie in the record; `value` is the room in which a packed number is read.
     pub fn is_field(
         &self,
         value: &mut RecordKey,

@@ -17,15 +17,15 @@ use s3_program::mark::Key;
 use s3_program::program::{Program, Reference};
 use s3_program::starts::TypeStart;
 
-/// M1 to M9, and L1 to L9.
+/// How many levels there are of match fields, M1 to M9, and of control fields, L1 to L9.
 pub const LEVELS: u8 = 9;
 
-/// What a record's fields compare, if its type has such fields.
+/// The key of a record: what its match fields compare, if its type has any. It serves for single control fields too.
 #[derive(Drop)]
 pub struct RecordKey {
-    /// Whether the type has such fields.
+    /// Whether the type has such fields, so that there is a key.
     pub is_given: bool,
-    /// What they compare, one behind another; the highest level first.
+    /// The bytes that they compare, one field behind another, the highest level first.
     pub bytes: ArrayVec<u8, KEY_BYTES>,
 }
 
@@ -80,7 +80,7 @@ impl RecordKey {
         }
     }
 
-    /// Becomes the key of a record of a type.
+    /// Becomes the key of a record of a type, none where the type has no match fields.
     pub fn read(&mut self, program: &Program, start: TypeStart, levels: NamedLevels, bytes: &[u8])
         requires starts { IsTrue (is_type_start program.now start) }
         requires named { levels ≡ named_levels program.now }
@@ -94,7 +94,7 @@ impl RecordKey {
         push_match_fields(&mut self.bytes, program, start, bytes);
     }
 
-    /// Becomes what a control field compares.
+    /// Becomes what one control field of a record compares.
     pub fn read_field(&mut self, field: &FieldLine<Reference>, bytes: &[u8])
         requires { IsTrue (field_in_range field.now) }
         ensures value { self.new.bytes.items ≡ compared_on bytes.now field.now }
@@ -105,7 +105,7 @@ impl RecordKey {
         push_compared(&mut self.bytes, field.form, field_bytes(field, bytes));
     }
 
-    /// Becomes the same key.
+    /// Becomes the same key as another.
     pub fn copy_from(&mut self, other: &RecordKey)
         ensures { spec.key_in self.new ≡ spec.key_in other.now }
     {
@@ -116,14 +116,14 @@ impl RecordKey {
         }
     }
 
-    /// Whether both are keys, this one the lower.
+    /// Whether both records have a key, and this one is the lower.
     pub fn is_less(&self, other: &RecordKey) -> bool
         ensures { result ≡ meaning.is_less (spec.key_in self.now) (spec.key_in other.now) }
     {
         self.is_given && other.is_given && is_below(&self.bytes, &other.bytes)
     }
 
-    /// Whether both are keys, and the same.
+    /// Whether both records have a key, and the keys are the same.
     pub fn is_same(&self, other: &RecordKey) -> bool
         ensures { result ≡ meaning.same_key (spec.key_in self.now) (spec.key_in other.now) }
     {

@@ -36,20 +36,21 @@ use s3_program::program::{Program, Reference};
 use s3_program::starts::TypeStart;
 use std::alloc::{AllocError, Global};
 
-/// The primary and secondary files of a run, and what their keys are matched with.
+/// The primary and secondary files of a run as far as they are read, and what their keys are matched with. A file is called by its
+/// place among them, from 0.
 #[derive(Drop)]
 pub struct Reading {
-    /// The files, in F order.
+    /// The primary and secondary files, in the order of their F lines.
     pub files: Vec<InputFile>,
     /// The key of the last selected primary record with match fields.
     pub primary_key: RecordKey,
-    /// Whether there are match and control fields at all.
+    /// Whether the program has match fields, and whether it has control fields.
     pub levels: NamedLevels,
-    /// For each file of the program, the type of each of its records if its first type has no codes.
+    /// For each file of the program, by slot, the type of all its records where its first type has no codes; else none.
     pub only_types: Vec<Option<TypeStart>>,
-    /// The numbers of the record identifying indicators.
+    /// The numbers (`Indicator::number`) of all record identifying indicators of the program.
     pub type_numbers: Vec<usize>,
-    /// By lines of the I sheet, the number of each one's record identifying indicator, 0 if it has none.
+    /// For each line of the I sheet, the number of its record identifying indicator, 0 if it has none.
     pub line_numbers: Vec<usize>,
 }
 
@@ -193,7 +194,7 @@ fn keep_primary(primary_key: &mut RecordKey, program: &Program, input: &InputFil
 }
 
 impl Reading {
-    /// The reading as a job with these switches begins; refused only where memory runs out.
+    /// The reading as a job begins with these switches, U1 the highest bit; refused only where memory runs out.
     pub fn first(alloc: Global, program: &Program, switches: u8) -> Result<Reading, AllocError>
         ensures sound { IfOk result (λ reading. IsReading program.now reading) }
         ensures reading { IfOk result (λ reading. (e : Environment) → BeginsWith switches e → reading_in program.now reading ≡ first_reading (source_named program.now) e) }
@@ -212,7 +213,7 @@ impl Reading {
         })
     }
 
-    /// The slot of the file there.
+    /// The slot of the file at a place.
     pub fn slot(&self, place: usize) -> usize
         requires { place < length self.now.files.items }
         ensures within { (program : Program) → IsReading program self.now → result < length program.files.items }
@@ -222,7 +223,7 @@ impl Reading {
         self.files[place].file
     }
 
-    /// The first type of the file there all of whose codes hold of a record.
+    /// The first type of the file at a place all of whose codes hold of a record; none where no type's do.
     pub fn type_of(&self, program: &Program, place: usize, bytes: &[u8]) -> Option<TypeStart>
         requires sound { IsReading program.now self.now }
         requires within { place < length self.now.files.items }
@@ -232,7 +233,7 @@ impl Reading {
         self.type_in(program, self.slot(place), bytes)
     }
 
-    /// The first type of the file of a slot all of whose codes hold of a record.
+    /// The first type of the file of a slot all of whose codes hold of a record; none where no type's do.
     #[inline(always)]
     pub fn type_in(&self, program: &Program, file: usize, bytes: &[u8]) -> Option<TypeStart>
         requires sound { IsReading program.now self.now }
@@ -247,7 +248,7 @@ impl Reading {
         type_of(program, file, bytes)
     }
 
-    /// The number of the record identifying indicator of a type.
+    /// The number (`Indicator::number`) of the record identifying indicator of a type.
     pub fn number_of(&self, program: &Program, start: TypeStart) -> usize
         requires sound { IsReading program.now self.now }
         requires starts { IsTrue (is_type_start program.now start) }
@@ -257,7 +258,7 @@ impl Reading {
         self.line_numbers[start.place]
     }
 
-    /// The type of the record at the head of the file there.
+    /// The type of the record at the head of the file at a place.
     pub fn head(&self, place: usize) -> TypeStart
         requires { IsHeadAt self.now.files.items place }
         ensures selected { (program : Program) (input : InputFile) → input ≡ slice_index_or self.now.files.items place input → selected_at program self.now.files.items place ≡ Some (head_with program input result) }
@@ -269,7 +270,8 @@ impl Reading {
         }
     }
 
-    /// Takes the record at the head of the file there, whose next record is to be read then.
+    /// Takes the record at the head of the file at a place; the next record of that file is to be read then. The key of a primary
+    /// record with match fields is kept.
     pub fn take(&mut self, program: &Program, place: usize)
         requires sound { IsReading program.now self.old }
         requires head { IsHeadAt self.old.files.items place }
@@ -283,7 +285,7 @@ impl Reading {
         self.files[place].vacate();
     }
 
-    /// The place of the first file from there on whose next record is to be read.
+    /// The place of the first file, from a place on, whose next record is to be read; none where there is no such file.
     #[tactic(auto, using(crate::proofs::UnreadLemmas::none_between, crate::proofs::UnreadLemmas::one_more_read, crate::proofs::UnreadLemmas::next_there, crate::proofs::UnreadLemmas::read_past))]
     pub fn first_unread_from(&self, from: usize) -> Option<usize>
         ensures here { IfSome result (IsUnreadAt self.now.files.items) }
@@ -297,7 +299,7 @@ impl Reading {
         None
     }
 
-    /// Nothing comes any more from the file there.
+    /// Notes that the file at a place has ended: no record comes from it any more.
     pub fn end(&mut self, place: usize)
         requires within { place < length self.old.files.items }
         ensures sound { (program : Program) → IsReading program self.old → IsReading program self.new }
@@ -306,7 +308,7 @@ impl Reading {
         self.files[place].end();
     }
 
-    /// One record more was read from the file there.
+    /// Counts one more record that was read from the file at a place.
     pub fn count_read(&mut self, place: usize)
         requires unread { IsUnreadAt self.old.files.items place }
         ensures sound { (program : Program) → IsReading program self.old → IsReading program self.new }
@@ -316,7 +318,8 @@ impl Reading {
         self.files[place].count_read();
     }
 
-    /// Puts a record of a type at the head of the file there, if it is in sequence.
+    /// Puts a record of a type at the head of the file at a place and answers true, if it is in sequence: its key isn't below that of
+    /// the file's last head with match fields. Else it answers false.
     pub fn put(&mut self, program: &Program, place: usize, start: TypeStart, bytes: &[u8]) -> bool
         requires unread { IsUnreadAt self.old.files.items place }
         requires sound { IsReading program.now self.old }

@@ -73,7 +73,8 @@ fn some_secondary_has(program: &Program, files: &[InputFile], key: &RecordKey) -
         .any(|input| is_secondary_with_key(program, input, key))
 }
 
-/// MR for the head of a file, by the heads of the others and the last primary key.
+/// Whether MR is on for the head of a file: a primary head where a secondary one has its key, a secondary head where its key is that
+/// of the last primary record with match fields.
 #[inline(always)]
 pub fn is_matched(
     program: &Program,
@@ -124,7 +125,7 @@ fn some_delays(program: &Program, files: &[InputFile], some_end: bool) -> bool
         .any(|input| delays_end(program, input, some_end))
 }
 
-/// Whether the files with E, or all if none has it, have no head.
+/// Whether the input of the job has ended: no file with E in its F line has a head left, or where none has E no file at all.
 pub fn has_met_end(program: &Program, files: &[InputFile]) -> bool
     ensures { result ≡ meaning.has_met_end (spec.inputs_of program.now files.now) }
 {

@@ -37,7 +37,7 @@ pub fn the_least_key_is_selected()
     ensures { (heads : List Selected) (selected : Selected) → All (λ head. IsSome (key_of head)) heads → least heads ≡ Some selected → All (λ head. is_less (key_of head) (key_of selected) ≡ false) heads }
 {}
 
-/// Cards ABC and DEF are listed, and the job ends.
+/// A worked run of the card lister over cards ABC and DEF: both are listed, and the job ends.
 pub fn cards_are_listed()
     ensures asks { Req (source_of card_lister) 0 no_date [] ≡ Card }
     ensures prints { Req (source_of card_lister) 0 no_date (Found (card (0xc1 ∷ 0xc2 ∷ 0xc3 ∷ [])) ∷ []) ≡ Print 1 1 (print_line (0xc1 ∷ 0xc2 ∷ 0xc3 ∷ [])) }
@@ -47,7 +47,7 @@ pub fn cards_are_listed()
         ≡ End false }
 {}
 
-/// Cards A01, A02 and B05 under a total by their first column: 3 is printed for A, 5 for B, and the job ends.
+/// A worked run over cards A01, A02 and B05 with a total by their first column: 3 is printed for A, 5 for B, and the job ends.
 pub fn totals_are_printed()
     ensures first { Req (source_of level_totals) 0 no_date (Found (card (0xc1 ∷ 0xf0 ∷ 0xf1 ∷ [])) ∷ Found (card (0xc1 ∷ 0xf0 ∷ 0xf2 ∷ [])) ∷ Found (card (0xc2 ∷ 0xf0 ∷ 0xf5 ∷ [])) ∷ [])
         ≡ Print 1 1 (print_line (0x40 ∷ 0x40 ∷ 0x40 ∷ 0xf3 ∷ [])) }
@@ -55,8 +55,9 @@ pub fn totals_are_printed()
         ≡ End false }
 {}
 
-/// Which answers fit, of all kinds: a card of 96 bytes, a record of its file's length, or none; what a file can refuse; the replies
-/// that a halt allows; and none to the end of a job.
+/// For each request, which answers of every kind fit it: to one for a card, 96 bytes or none; to one for a record, so many bytes as
+/// its file's records have, or none; to one that writes into a file, done, or what that file can refuse; to a halt, the replies that
+/// it allows; and none to the end of a job.
 pub fn answers_fit_their_requests()
     ensures cards { filter (fits Card) all_answers ≡ Found (replicate 96 0x40) ∷ Nothing ∷ [] }
     ensures records { filter (fits (Read cards 2)) all_answers ≡ Found (replicate 2 0x40) ∷ Nothing ∷ [] }
@@ -71,42 +72,42 @@ pub fn answers_fit_their_requests()
     ensures ends { map (λ at_once. filter (fits (End at_once)) all_answers) (false ∷ true ∷ []) ≡ [] ∷ [] ∷ [] }
 {}
 
-/// Control levels, the first step, and the end of a job.
+/// Small runs with control levels, with the first step of a cycle and with the end of a job ask what was worked by hand.
 pub fn levels_come_out()
     ensures { ComeOut level_corners }
 {}
 
-/// Replies 0, 2 and 3 to each halt of the cycle and of calculations.
+/// Small runs with replies 0, 2 and 3 to each halt of the cycle and of calculations ask what was worked by hand.
 pub fn replies_come_out()
     ensures { ComeOut reply_corners }
 {}
 
-/// Replies 0, 2 and 3 to each halt at a file.
+/// Small runs with replies 0, 2 and 3 to each halt at a file ask what was worked by hand.
 pub fn replies_at_files_come_out()
     ensures { ComeOut file_reply_corners }
 {}
 
-/// Records and fields that are moved, and what lines put out.
+/// Small runs over records whose fields are moved, and with lines that are put out, ask what was worked by hand.
 pub fn lines_come_out()
     ensures { ComeOut line_corners }
 {}
 
-/// The carriage and overflow.
+/// Small runs that move the carriage and meet overflow ask what was worked by hand.
 pub fn the_carriage_comes_out()
     ensures { ComeOut carriage_corners }
 {}
 
-/// Calculations, their conditions, and where they go on.
+/// Small runs of calculations, with their conditions and jumps, ask what was worked by hand.
 pub fn calculations_come_out()
     ensures { ComeOut calculation_corners }
 {}
 
-/// Records that are chained, updated, added and loaded.
+/// Small runs that chain, update, add and load records ask what was worked by hand.
 pub fn files_come_out()
     ensures { ComeOut file_corners }
 {}
 
-/// Matching records and the end of files.
+/// Small runs with matching records and with ends of files ask what was worked by hand.
 pub fn matching_comes_out()
     ensures { ComeOut matching_corners }
 {}

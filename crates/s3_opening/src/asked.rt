@@ -35,14 +35,15 @@ fn is_switched_on(switches: u8, condition: Option<Indicator>) -> bool
     }
 }
 
-/// Whether a file is on the pack and used.
+/// Whether a file is on the pack and used: its device is DISK, and the switch that its F line names, if any, is on. Of the
+/// switches U1 is the highest bit.
 pub fn is_used(switches: u8, line: &FileLine) -> bool
     ensures { result ≡ is_used_spec switches line.now }
 {
     is_disk(line.device) && is_switched_on(switches, line.condition)
 }
 
-/// Whether a file is made.
+/// Whether the start of the job makes the file of this F line: it is a load.
 pub fn is_new(line: &FileLine) -> bool
     ensures { result ≡ is_new_spec line.now }
 {
@@ -52,7 +53,7 @@ pub fn is_new(line: &FileLine) -> bool
     }
 }
 
-/// Whether nothing is put into a file.
+/// Whether the program only reads the file of this F line, and puts nothing into it.
 pub fn is_only_read(line: &FileLine) -> bool
     ensures { result ≡ is_only_read_spec line.now }
 {
@@ -113,7 +114,7 @@ fn has_organization(line: &FileLine, organization: Organization) -> bool
     }
 }
 
-/// Whether a label has the layout that the line says.
+/// Whether a label has the layout that the F line says: organization, record length, and key.
 #[tactic(auto, unfolding(crate::specs::Asked::is_of_layout))]
 pub fn is_of_layout(line: &FileLine, label: &FileLabel) -> bool
     ensures { result ≡ is_of_layout_spec line.now label.now }
@@ -150,7 +151,7 @@ fn size_of(size: FileSize) -> Size
     }
 }
 
-/// The new file that a line and its statement ask for.
+/// The new file that an F line and its FILE statement ask for, with the job's date, mmddyy in EBCDIC.
 #[tactic(auto, unfolding(crate::specs::Asked::new_file))]
 pub fn new_file(date: [u8; 6], line: &FileLine, statement: &FileStatement) -> NewFile
     requires line { file_in_range line.now ≡ true }
@@ -171,7 +172,7 @@ pub fn new_file(date: [u8; 6], line: &FileLine, statement: &FileStatement) -> Ne
     }
 }
 
-/// The FILE statement of the file by this name.
+/// The FILE statement for the file that the program knows by this name; none where the job has none for it.
 pub fn statement_of(name: Name, statements: &[FileStatement]) -> Option<&FileStatement>
     ensures { option_copied result ≡ statement_of_spec name statements.now }
 {

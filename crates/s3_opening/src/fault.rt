@@ -6,7 +6,7 @@ use std::alloc::{AllocError, AllocFailed};
 /// Why the files of a job aren't opened.
 #[derive(Clone, Copy)]
 pub enum OpeningFault {
-    /// One of them can't be had: the level halts for this.
+    /// One of the files can't be had: the level halts for this.
     Halted(HaltCode),
     /// The sectors failed, or memory ran out.
     Sectors(PoolFault),

@@ -7,8 +7,8 @@ ghost use Rattle.s3_slots.specs.Inner.Samples.{named};
 ghost use Rattle.s3_keyed.specs.Inner.Samples.{b_and_a};
 ghost use Rattle.s3_opening.specs.Inner.Samples.{line, keyed, longer, with_additions, under_switch, direct, labelled, alike, halt_with, halt_by, halt_under, used, records_under};
 
-/// A file without a FILE statement, or with the label of an earlier file, is told before anything else of it; a file whose switch
-/// is off is neither tested nor does its label count.
+/// A file without a FILE statement, or with the label of an earlier file, is refused for that before anything else that is wrong
+/// with it; a file whose switch is off is neither tested nor does its label count.
 pub fn each_file_has_its_own_label()
     ensures no_statement { halt_by (alike (0xc9 ∷ [])) (line 0xc4 Input ∷ []) ≡ Some NoLabel }
     // another layout, and a permanent file
@@ -62,8 +62,8 @@ pub fn an_opened_file_is_refused_in_order()
     ensures added { used (with_additions (line 0xc4 Output) ∷ []) ≡ (named 0xc4, (false, false)) ∷ [] }
 {}
 
-/// The first file in the order of the F lines that is refused is the one told, whether it is made or opened; else the files are in
-/// use in that order.
+/// The job halts for the first file that is refused, in the order of the F lines, whether it is made or opened; where none is
+/// refused, the files are in use in that order.
 pub fn files_are_tested_one_after_another()
     ensures index_first { halt_with 0 (keyed 1 (line 0xe7 Input) ∷ line 0xc5 Output ∷ []) ≡ Some BadIndex }
     ensures make_first { halt_with 0 (line 0xc5 Output ∷ keyed 1 (line 0xe7 Input) ∷ []) ≡ Some NoSpace }

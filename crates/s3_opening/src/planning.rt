@@ -96,7 +96,8 @@ fn first_refusal(
 }
 
 #[tactic(auto, using(crate::proofs::Plans::ready_kept, crate::proofs::Plans::right_kept, crate::proofs::Started::right_none))]
-/// What the files of a job come to at its start, or for which halt it doesn't start, whatever files are held. Nothing is changed.
+/// What the files of a job come to at its start, each opened or to be made; or for which halt the job doesn't start. Nothing is
+/// changed.
 pub fn test_files<P: Sectors>(
     alloc: Global,
     level: LevelId,

@@ -4,10 +4,10 @@ use s3_ocl::FileStatement;
 /// What a job's statements and its level set for its files.
 #[derive(Clone, Copy)]
 pub struct JobSettings<'a> {
-    /// The FILE statements.
+    /// The FILE statements of the job.
     pub statements: &'a [FileStatement],
-    /// U1 to U8, U1 the highest bit.
+    /// The switches U1 to U8 as they are for the job, U1 the highest bit.
     pub switches: u8,
-    /// The date mmddyy, in EBCDIC.
+    /// The date of the job, mmddyy in EBCDIC.
     pub date: [u8; 6],
 }

@@ -171,8 +171,8 @@ fn start_all<P: Sectors>(
     Ok(())
 }
 
-/// Makes and opens the files of a job, in the order of its F lines, or answers for which halt it doesn't start. Nothing is changed
-/// unless all of them pass their tests.
+/// Makes and opens the files of a job, in the order of its F lines, or answers for which halt it doesn't start (docs/OCL.md,
+/// "What is tested at the start"). Nothing is changed unless all of them pass their tests.
 ///
 /// After a fault of the sectors no call on the pack is to be made.
 pub fn open_files<P: Sectors>(

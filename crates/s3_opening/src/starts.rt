@@ -12,14 +12,14 @@ use s3_slots::NewFile;
 /// What a file of a job comes to at its start.
 #[derive(Drop)]
 pub enum Start {
-    /// It is opened.
+    /// It stands on the pack, and is open now.
     Opened(OpenFile),
-    /// It is made, under the name by which the program knows it.
+    /// It is to be made as this new file; the name is the one by which the program knows it.
     ToMake(Name, NewFile),
 }
 
 impl Start {
-    /// The label of the file.
+    /// The name of the file's label on the pack.
     pub fn label(&self) -> Name
         ensures { result ≡ label_of (step_in self.now) }
     {
@@ -29,7 +29,7 @@ impl Start {
         }
     }
 
-    /// The file that is to be made, if it is one.
+    /// The new file that is to be made; none where the file is open already.
     pub fn to_make(&self) -> Option<NewFile>
         ensures { result ≡ new_of (step_in self.now) }
     {

@@ -169,7 +169,8 @@ fn test_line<P: Sectors>(
     }
 }
 
-/// Tests the files of some lines one after another, behind those that passed so far, up to the first that is refused.
+/// Tests the files of some F lines one after another, up to the first that is refused, and puts those that pass behind the ones
+/// that passed before.
 pub fn test_lines<P: Sectors>(
     alloc: Global,
     level: LevelId,

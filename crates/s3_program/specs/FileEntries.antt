@@ -1,4 +1,4 @@
--- A file line under its name.
+-- The entry of a file line in a table of names: its file's name with the line.
 use Rattle.s3_cards.specs.declared.name.Name.{Name}
 use Rattle.s3_lines.specs.declared.sheet.FileLine.{FileLine}
 

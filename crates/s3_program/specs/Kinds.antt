@@ -1,4 +1,4 @@
--- What the factors of an operation name.
+-- Which kind of thing a name in factor 1 and in factor 2 of each operation stands for: a field, a file, a tag or a subroutine.
 use Rattle.std.specs.Prelude.{Option, Some}
 use Rattle.s3_lines.specs.declared.sheet.InputLine.TheVariants.{Field}
 use Rattle.s3_lines.specs.declared.sheet.Operation.{Operation}

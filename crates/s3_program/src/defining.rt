@@ -10,7 +10,8 @@ use s3_cards::Name;
 use s3_lines::sheet::{FileLine, Line, SheetLine};
 use std::alloc::{AllocError, Global};
 
-/// Adds what a name is given to, if the name is new.
+/// Puts an entry for a name behind the others of a table, unless the name is there already. It is refused only where memory runs
+/// out.
 pub fn note<T: Copy>(
     table: &mut IndexMap<Name, T>,
     name: Name,
@@ -35,7 +36,7 @@ fn note_file(table: &mut IndexMap<Name, FileLine>, line: &Line) -> Result<(), Al
     Ok(())
 }
 
-/// The files that lines define, each by its first line.
+/// The files that lines define, each under its name and by the first F line with that name; refused only where memory runs out.
 pub fn files_defined(alloc: Global, lines: &[Line]) -> Result<IndexMap<Name, FileLine>, AllocError>
     ensures { IfOk result (λ table. table.entries ≡ spec.firsts (spec.files_given lines.now)) }
 {

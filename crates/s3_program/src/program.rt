@@ -9,7 +9,7 @@ use s3_cards::Name;
 use s3_lines::sheet::{CalculationLine, FileLine, InputLine, OutputLine, Shape};
 use std::alloc::{AllocError, Global};
 
-/// What a name is given to.
+/// The kinds of things that names are given to.
 #[derive(Clone, Copy)]
 pub enum Kind {
     /// A file.
@@ -22,7 +22,7 @@ pub enum Kind {
     Subroutine,
 }
 
-/// What a line names, by its slot among all of its kind.
+/// What a line of a program names: its kind, and its slot, which is its place among all of that kind, from 0.
 #[derive(Clone, Copy)]
 pub enum Reference {
     /// A file.
@@ -35,43 +35,43 @@ pub enum Reference {
     Subroutine(usize),
 }
 
-/// Where a tag is.
+/// Where a tag stands.
 #[derive(Clone, Copy)]
 pub struct TagPlace {
-    /// The place of its TAG among the calculation lines.
+    /// The place of its TAG among the calculation lines, from 0.
     pub place: usize,
     /// Its section: 0 is detail, 1 total, and a subroutine has 2 more than its slot.
     pub section: usize,
 }
 
-/// Where a subroutine is.
+/// Where a subroutine stands.
 #[derive(Clone, Copy)]
 pub struct SubroutinePlace {
-    /// The place of its BEGSR among the calculation lines.
+    /// The place of its BEGSR among the calculation lines, from 0.
     pub place: usize,
 }
 
-/// What a name is given to, with its name.
+/// Something that has a name, with that name.
 #[derive(Clone, Copy)]
 pub struct Defined<T> {
-    /// No other one of its kind has it.
+    /// Its name, which no other of its kind has.
     pub name: Name,
-    /// What bears it.
+    /// What bears the name.
     pub meaning: T,
 }
 
-/// What is known of a name.
+/// What a name on a line means.
 #[derive(Clone, Copy)]
 pub enum Meaning {
     /// Nothing bears it.
     Undefined,
-    /// It is that of a file.
+    /// It names a file, with this F line.
     File(FileLine),
-    /// It is that of a field, with its name.
+    /// It names a field of this shape, which is given with its name.
     Field(Defined<Shape>),
-    /// It is that of a tag.
+    /// It names a tag at this place.
     Tag(TagPlace),
-    /// It is that of a subroutine.
+    /// It names a subroutine at this place.
     Subroutine(SubroutinePlace),
 }
 
@@ -112,7 +112,7 @@ impl Program {
     ghost use Rattle.std.specs.Prelude.{◌≡◌, IfOk};
     ghost use Rattle.s3_program.specs.Inner.Stands.{parts_of};
 
-    /// The same program; refused only where memory runs out.
+    /// A copy of this program; refused only where memory runs out.
     #[tactic(auto, using(crate::proofs::PartsLemmas::same_parts, crate::proofs::PartsLemmas::still_valid))]
     pub fn copy(&self, alloc: Global) -> Result<Program, AllocError>
         ensures parts { IfOk result (λ copy. parts_of copy ≡ parts_of self.now) }

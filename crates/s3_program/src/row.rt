@@ -1,6 +1,6 @@
 //! What an operation needs.
 
-/// What a factor has to be.
+/// What an operation asks of a factor.
 #[derive(Clone, Copy)]
 pub enum Operand {
     /// There is none.
@@ -19,7 +19,7 @@ pub enum Operand {
     ChainedFile,
 }
 
-/// What a result field has to be.
+/// What an operation asks of the result field.
 #[derive(Clone, Copy)]
 pub enum Target {
     /// There is none.
@@ -32,7 +32,7 @@ pub enum Target {
     Any,
 }
 
-/// Which resulting indicators there are.
+/// Which resulting indicators an operation takes.
 #[derive(Clone, Copy)]
 pub enum Marking {
     /// None.
@@ -41,33 +41,33 @@ pub enum Marking {
     Optional,
     /// One at least.
     Needed,
-    /// That of columns 54-55 alone, or none.
+    /// The one in columns 54-55, or none.
     First,
 }
 
-/// How the two factors belong together.
+/// What an operation asks of its two factors together.
 #[derive(Clone, Copy)]
 pub enum Pairing {
-    /// In no way.
+    /// Nothing.
     Free,
-    /// Both are numeric or both alphanumeric.
+    /// That both are numeric, or both alphanumeric.
     Alike,
-    /// The first is a key of the second.
+    /// That factor 1 is a key, or a record number, of the file in factor 2.
     KeyOfFile,
 }
 
-/// The row of an operation in the table of operations.
+/// The row of an operation in the table of operations (docs/LANGUAGE.md, "Operations").
 #[derive(Clone, Copy)]
 pub struct Row {
-    /// Columns 18 to 27.
+    /// What factor 1 has to be (columns 18 to 27).
     pub factor1: Operand,
-    /// Columns 33 to 42.
+    /// What factor 2 has to be (columns 33 to 42).
     pub factor2: Operand,
-    /// Columns 43 to 48.
+    /// What the result has to be (columns 43 to 48).
     pub result: Target,
     /// Whether H may stand in column 53.
     pub half_adjust: bool,
-    /// Columns 54 to 59.
+    /// Which resulting indicators there are (columns 54 to 59).
     pub indicators: Marking,
     /// What else is asked of the factors.
     pub pairing: Pairing,

@@ -3,21 +3,21 @@
 use crate::program::Meaning;
 use s3_lines::sheet::CalculationTime;
 
-/// Above an F line.
+/// What the F lines above a line of the F sheet make of it.
 #[derive(Clone, Copy)]
 pub struct FileStanding {
-    /// How many F lines there are.
+    /// How many F lines stand above.
     pub place: usize,
-    /// Whether there is a card file.
+    /// Whether a card file stands above.
     pub has_card_file: bool,
-    /// Whether there is a print file.
+    /// Whether a print file stands above.
     pub has_print_file: bool,
 }
 
-/// Above an I line.
+/// What the I lines above a line of the I sheet make of it.
 #[derive(Clone, Copy)]
 pub struct InputStanding {
-    /// How many I lines there are.
+    /// How many I lines stand above.
     pub place: usize,
     /// The place of the last record line, by which its group is known.
     pub group: Option<usize>,
@@ -27,10 +27,10 @@ pub struct InputStanding {
     pub is_open: bool,
 }
 
-/// Above a C line.
+/// What the C lines above a line of the C sheet make of it.
 #[derive(Clone, Copy)]
 pub struct CalculationStanding {
-    /// How many C lines there are.
+    /// How many C lines stand above.
     pub place: usize,
     /// The latest part of the sheet: 0 detail lines, 1 total lines, 2 subroutines.
     pub part: u8,
@@ -45,12 +45,13 @@ pub struct CalculationStanding {
     pub division: Option<usize>,
 }
 
-/// Above an O line.
+/// What the O lines above a line of the O sheet make of it.
 #[derive(Clone, Copy)]
 pub struct OutputStanding {
-    /// The file of the last line card.
+    /// The file of the last line card above; a line card without a file takes that of the one before. None where no line card above
+    /// has named one.
     pub file: Option<Meaning>,
-    /// Whether there is a line card.
+    /// Whether a line card stands above.
     pub has_line: bool,
     /// Whether an AND or OR card may go on with the card before.
     pub is_open: bool,

@@ -273,7 +273,8 @@ fn subroutines(calculations: &[CalculationLine<Reference>]) -> usize
     calculations.len()
 }
 
-/// Where the record types, output lines and sections of these lines start.
+/// Where the record types, output lines and sections of a program with these I, C and O lines start; refused only where memory runs
+/// out.
 pub fn starts_of(
     alloc: Global,
     files: &[FileLine],

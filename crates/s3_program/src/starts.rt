@@ -18,7 +18,7 @@ pub struct TypeStart {
 /// Where an output line stands among the O lines.
 #[derive(Clone, Copy)]
 pub struct OutputStart {
-    /// The slot of its file, which a line without a name has from the line before.
+    /// The slot of its file; a line without a file's name takes that of the line before.
     pub file: usize,
     /// When it is put out.
     pub kind: OutputKind,
@@ -26,20 +26,20 @@ pub struct OutputStart {
     pub place: usize,
 }
 
-/// Output lines that are put out together.
+/// The lists of output lines that are put out together.
 #[derive(Clone, Copy)]
 pub enum Walk {
-    /// Headings and details.
+    /// Headings and details, at the start of a cycle.
     Beginning,
-    /// Totals.
+    /// Totals, after the total calculations.
     Totals,
-    /// What an EXCPT puts out.
+    /// Exception lines, at an EXCPT.
     Exceptions,
     /// Headings, details and totals, at overflow.
     Overflow,
 }
 
-/// Where the sections of the C lines begin: detail lines at 0.
+/// Where the sections of the C lines begin. The detail lines begin at place 0.
 #[derive(Clone, Copy)]
 pub struct Sections {
     /// The place of the first total line, or that of the first subroutine.
@@ -55,11 +55,11 @@ pub struct Starts {
     pub types: Vec<Vec<TypeStart>>,
     /// Headings and details, in order of the O sheet.
     pub beginning: Vec<OutputStart>,
-    /// Totals, in that order.
+    /// Totals, in order of the O sheet.
     pub totals: Vec<OutputStart>,
-    /// What an EXCPT puts out, in that order.
+    /// Exception lines, in order of the O sheet.
     pub exceptions: Vec<OutputStart>,
-    /// Headings, details and totals, in that order.
+    /// Headings, details and totals, which overflow may put out, in order of the O sheet.
     pub overflow: Vec<OutputStart>,
     /// The sections of the C lines.
     pub sections: Sections,
@@ -69,7 +69,7 @@ impl Starts {
     ghost use Rattle.std.specs.Prelude.{IfOk};
     ghost use Rattle.s3_program.specs.Inner.Starts.{SameStarts};
 
-    /// The same starts; refused only where memory runs out.
+    /// A copy of these starts; refused only where memory runs out.
     pub fn copy(&self, alloc: Global) -> Result<Starts, AllocError>
         ensures { IfOk result (λ copy. SameStarts copy self.now) }
     {

@@ -305,7 +305,8 @@ fn outputs(
         .collect(alloc)
 }
 
-/// The program that stands for lines without diagnostics.
+/// The program that stands for these lines, which have no diagnostics; `known` is what they define. It is refused only where memory
+/// runs out.
 pub fn translate(alloc: Global, known: &Definitions, lines: &[Line]) -> Result<Program, AllocError>
     requires accepted { spec.IsAccepted known.now lines.now }
     ensures { IfOk result (λ program. spec.StandsFor program lines.now) }

@@ -9,7 +9,7 @@ ghost use Rattle.s3_sheets.specs.Columns.{columns as columns_spec, digit, number
 use s3_cards::ebcdic::DIGIT_0;
 use s3_cards::{Card, blanks_in_front, is_digit};
 
-/// The columns from one to another, both counted from 1.
+/// The columns of a card from one to another, both counted from 1 and both taken.
 pub fn columns(card: &Card, from: usize, to: usize) -> &[u8]
     requires start { 0 < from }
     requires order { from ≤ to }
@@ -27,7 +27,7 @@ fn are_digits(columns: &[u8]) -> bool
     columns.iter().all(|code| is_digit(*code))
 }
 
-/// The number that digits spell behind another one.
+/// The number that digits spell where they are written behind another number.
 pub fn number_onto(start: u64, digits: &[u8]) -> u64
     requires all { list_all digit_spec digits.now ≡ true }
     requires fits { (start + 1) * 10 ^ length digits.now ≤ 10 ^ 10 }
@@ -41,7 +41,8 @@ pub fn number_onto(start: u64, digits: &[u8]) -> u64
     number
 }
 
-/// The number in at most four columns, with blanks or zeros in front of it.
+/// The number in at most four columns, with blanks or zeros in front of it; none where the columns have something else, are blank,
+/// or are more than four.
 #[tactic(auto, unfolding(crate::specs::Columns::digits_number))]
 pub fn number(columns: &[u8]) -> Option<u16>
     ensures value { result ≡ number_of columns.now }
@@ -57,7 +58,8 @@ pub fn number(columns: &[u8]) -> Option<u16>
     Some(number_onto(0, digits) as u16)
 }
 
-/// The same, if it is in a range.
+/// The number in at most four columns, with blanks or zeros in front of it, where it lies between two others or is one of these;
+/// else none.
 #[tactic(auto, unfolding(crate::specs::Columns::number_between))]
 pub fn number_between(columns: &[u8], low: u16, high: u16) -> Option<u16>
     ensures value { result ≡ number_between_spec low high columns.now }
@@ -69,7 +71,7 @@ pub fn number_between(columns: &[u8], low: u16, high: u16) -> Option<u16>
     }
 }
 
-/// The same for ranges that a byte has.
+/// The number in at most four columns where it lies between two others, each of which a byte has, or is one of these; else none.
 pub fn small_between(columns: &[u8], low: u8, high: u8) -> Option<u8>
     ensures { result ≡ number_between_spec low high columns.now }
 {

@@ -216,7 +216,8 @@ fn has_early_constant(card: &Card) -> bool
     begins_too_early(number(columns(card, 40, 43)), columns(card, 45, 70))
 }
 
-/// What is wrong with columns of a card together.
+/// What columns of a card of this kind show to be wrong where they are read together: a record length and its device, a key and its
+/// record, decimals and digits, a field or a constant.
 pub fn combined_faults(kind: CardKind, card: &Card) -> Faults
     ensures { result ≡ combined_faults_spec kind card.now }
 {

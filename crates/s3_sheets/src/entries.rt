@@ -79,7 +79,8 @@ fn text(codes: &[u8]) -> Option<Constant>
     if ended { Some(text) } else { None }
 }
 
-/// The constant in apostrophes, of at least one character, with blanks behind it.
+/// The constant in these columns: in apostrophes, of 1 to 24 characters, with blanks behind it; none where something else stands
+/// there.
 #[tactic(auto, unfolding(crate::specs::Entries::constant_text))]
 pub fn constant(columns: &[u8]) -> Option<Constant>
     requires { length columns.now ≤ 26 }
@@ -184,7 +185,8 @@ fn name_within(longest: usize, columns: &[u8]) -> Option<Name>
     }
 }
 
-/// The literal in columns, or the name of at most so many characters; none where they are blank.
+/// The factor in these columns: a literal number or text, or a name of at most so many characters; none where they are blank or
+/// have something else.
 #[tactic(auto, unfolding(crate::specs::Entries::factor_of))]
 pub fn factor(longest: usize, columns: &[u8]) -> Option<Factor>
     requires short { longest ≤ 8 }
@@ -201,7 +203,8 @@ pub fn factor(longest: usize, columns: &[u8]) -> Option<Factor>
     Some(Factor::Named(name_within(longest, columns)?))
 }
 
-/// What C, Z or D compares.
+/// The part of a byte that a record code with this letter compares: C the character, Z the zone, D the digit; none for another
+/// letter.
 pub fn part_of(code: u8) -> Option<CodePart>
     ensures { result ≡ part_of_spec code }
 {
@@ -213,7 +216,7 @@ pub fn part_of(code: u8) -> Option<CodePart>
     }
 }
 
-/// The record identification code in seven columns, none where they are blank.
+/// The record identification code in seven columns; none where they are blank or have something else.
 #[tactic(auto, unfolding(crate::specs::Entries::code_of))]
 pub fn record_code(columns: &[u8]) -> Option<RecordCode>
     requires { length columns.now ≡ 7 }
@@ -227,7 +230,7 @@ pub fn record_code(columns: &[u8]) -> Option<RecordCode>
     })
 }
 
-/// When a C line is done, by its columns 7 and 8.
+/// When a C line is done, by its columns 7 and 8; none where they have no entry of the list.
 #[tactic(auto, unfolding(crate::specs::Entries::time_of, s3_cards::specs::Codes::ebcdic, s3_cards::specs::Codes::code_page))]
 pub fn time(columns: &[u8]) -> Option<CalculationTime>
     ensures { result ≡ time_of columns.now }

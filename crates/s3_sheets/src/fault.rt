@@ -10,7 +10,7 @@ pub enum SheetFault {
     /// Memory ran out.
     #[error("out of memory")]
     NoMemory,
-    /// By card and then number; at least one.
+    /// The diagnostics of the cards, by card and then number; at least one.
     #[error("a source with diagnostics")]
     Diagnostics(Vec<Diagnostic>),
 }

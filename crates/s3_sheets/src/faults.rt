@@ -13,37 +13,37 @@ use crate::rules::{Rule, rule_faults};
 use crate::tables::rules_of;
 use s3_cards::Card;
 
-/// What is wrong with an entry.
+/// What is wrong with an entry of a card, by the diagnostic that it gets.
 #[derive(Clone, Copy)]
 pub enum Fault {
-    /// 2: it isn't allowed.
+    /// Diagnostic 2: the entry isn't allowed.
     WrongEntry,
-    /// 3: a name or literal is missing or ill formed.
+    /// Diagnostic 3: a name or literal is missing or ill formed.
     WrongName,
-    /// 4: a number is missing, ill formed or out of its range.
+    /// Diagnostic 4: a number is missing, ill formed or out of its range.
     WrongNumber,
 }
 
 /// Which of the diagnostics 2 to 4 a card's own columns show.
 #[derive(Clone, Copy)]
 pub struct Faults {
-    /// 2: an entry that isn't allowed.
+    /// Whether 2 shows: an entry that isn't allowed.
     pub entry: bool,
-    /// 3: a name or literal that is missing or ill formed.
+    /// Whether 3 shows: a name or literal that is missing or ill formed.
     pub name: bool,
-    /// 4: a number that is missing, ill formed or out of its range.
+    /// Whether 4 shows: a number that is missing, ill formed or out of its range.
     pub number: bool,
 }
 
 impl Faults {
-    /// Nothing is wrong.
+    /// No fault at all.
     pub const NONE: Faults = Faults {
         entry: false,
         name: false,
         number: false,
     };
 
-    /// This alone is wrong.
+    /// This one fault, and no other.
     pub fn of(fault: Fault) -> Faults
         ensures { result ≡ one_fault fault }
     {
@@ -66,7 +66,7 @@ impl Faults {
         }
     }
 
-    /// What is wrong in one way or another.
+    /// The faults that are here, in the other set, or in both.
     fn and(self, other: Faults) -> Faults
         ensures { result ≡ both_faults self other }
     {
@@ -77,7 +77,7 @@ impl Faults {
         }
     }
 
-    /// Whether something is wrong.
+    /// Whether there is any fault.
     pub fn any(self) -> bool
         ensures { result ≡ has_fault_spec self }
     {

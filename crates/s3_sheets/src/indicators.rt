@@ -10,18 +10,18 @@ use s3_cards::ebcdic::{
 use s3_cards::is_digit;
 use s3_lines::indicator::{Condition, Indicator};
 
-/// Which indicators may stand in a column.
+/// The lists of indicators that may stand in columns of the sheets.
 #[derive(Clone, Copy)]
 pub enum IndicatorList {
-    /// 01 to 99, H1 to H9: of a type of records, or of a field.
+    /// 01 to 99 and H1 to H9: indicators of a type of records, or of a field.
     Record,
-    /// OA to OG, OV.
+    /// OA to OG and OV: overflow indicators of a print file.
     Overflow,
-    /// U1 to U8.
+    /// U1 to U8: the switches of a job.
     Switch,
-    /// L0 to L9, LR.
+    /// L0 to L9 and LR: when total lines are done.
     Total,
-    /// 01 to 99, L1 to L9, LR, H1 to H9, OA to OG, OV.
+    /// 01 to 99, L1 to L9, LR, H1 to H9, OA to OG and OV: what a calculation turns on and off.
     Resulting,
 }
 
@@ -135,7 +135,7 @@ fn belongs(list: IndicatorList, indicator: Indicator) -> bool
     }
 }
 
-/// The indicator in two columns, if their list has it.
+/// The indicator in two columns, if it is one of this list; else none.
 #[tactic(auto, unfolding(crate::specs::Indicators::listed))]
 pub fn listed(list: IndicatorList, columns: &[u8]) -> Option<Indicator>
     ensures { result ≡ listed_spec list columns.now }
@@ -148,7 +148,7 @@ pub fn listed(list: IndicatorList, columns: &[u8]) -> Option<Indicator>
     }
 }
 
-/// 1 to 9 behind a letter: L1 to L9, M1 to M9.
+/// The level in two columns, 1 to 9 behind this letter, as in L1 to L9 and M1 to M9; none where something else stands there.
 #[tactic(auto, unfolding(crate::specs::Indicators::level_behind))]
 pub fn level_behind(letter: u8, columns: &[u8]) -> Option<u8>
     ensures { result ≡ level_behind_spec letter columns.now }
@@ -159,7 +159,7 @@ pub fn level_behind(letter: u8, columns: &[u8]) -> Option<u8>
     }
 }
 
-/// The condition in three columns: blank or N, and then an indicator. None where they are blank.
+/// The condition in three columns: a blank or N, and then an indicator. None where they are blank or have something else.
 #[tactic(auto, unfolding(crate::specs::Indicators::condition_of))]
 pub fn condition(columns: &[u8]) -> Option<Condition>
     ensures { result ≡ condition_of columns.now }

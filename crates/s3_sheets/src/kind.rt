@@ -11,9 +11,9 @@ use s3_cards::{Card, are_blank};
 /// What a card of a source is, by its columns 6 to 16.
 #[derive(Clone, Copy)]
 pub enum CardKind {
-    /// `*` in column 7; it isn't read.
+    /// A comment: `*` in column 7. It isn't read.
     Comment,
-    /// Column 6 is no sheet.
+    /// A card of no sheet, by its column 6.
     Unknown,
     /// An H card.
     Header,
@@ -102,7 +102,7 @@ pub fn kind_of(card: &Card) -> CardKind
 }
 
 impl CardKind {
-    /// The sheets in their order from 1; 0 for a card that is of none.
+    /// The number of its sheet: H 1, F 2, I 3, C 4, O 5; 0 for a card that is of none.
     pub fn sheet(self) -> u8
         ensures { result ≡ sheet_of_spec self }
     {

@@ -45,14 +45,15 @@ impl KnownFiles {
         self.lengths.len()
     }
 
-    /// The length of a file's records, where the file is known.
+    /// The length in bytes of the records of the file with this name, where such a file is known.
     pub fn record_length(&self, name: &Name) -> Option<u16>
         ensures { result ≡ record_length_of self.now name.now }
     {
         self.lengths.get(name).copied()
     }
 
-    /// Puts a file last that isn't known yet.
+    /// Puts the file, with the length of its records, behind the others, if there is one and its name isn't known yet. It is
+    /// refused only where memory runs out.
     #[tactic(auto, using(crate::proofs::KnownLemmas::known_file, crate::proofs::KnownLemmas::unknown_file))]
     pub fn add(&mut self, file: Option<(Name, u16)>) -> Result<(), AllocError>
         ensures { OnOk result (self.new ≡ self.old ++ option_to_list (new_file self.old file)) }
@@ -100,7 +101,7 @@ impl KnownFields {
         self.names.len()
     }
 
-    /// Puts a field last, if there is one that isn't known yet.
+    /// Puts the field behind the others, if there is one that isn't known yet. It is refused only where memory runs out.
     pub fn add(&mut self, field: Option<Name>) -> Result<(), AllocError>
         ensures { OnOk result (self.new ≡ self.old ++ option_to_list (new_field self.old field)) }
     {

@@ -1,4 +1,18 @@
 //! The sheets of an RPG II source: typed lines, and the diagnostics of single cards.
+//!
+//! The rules are a table for each kind of card, and conditions on columns together; docs/LANGUAGE.md, "Sheets", has them in words.
+//!
+//! What is proved:
+//! - `read_sheets` gives the typed lines of the cards, in order, or exactly the list of the cards' diagnostics 1 to 4 and 13, by
+//!   card and number; or it says that memory ran out;
+//! - lines that it gives are those of cards without a fault of their own (`are_read` of `s3_lines`): each entry is in its range,
+//!   and each position within its record;
+//! - a constant is read as the text that was written, with its apostrophes twice, and nothing else is a constant
+//!   (`constants_as_written`);
+//! - 361 cards and eight sources, worked by hand, have the numbers that they must have, and a source with every entry has its typed
+//!   lines: the definitions are computed on them (`cards_get_their_numbers`, `sources_get_their_pairs`, `every_entry_is_read`).
+//!
+//! Nothing is left to tests alone.
 
 #![tactic(auto)]
 

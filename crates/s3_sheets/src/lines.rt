@@ -28,7 +28,7 @@ fn number_or_zero(columns: &[u8]) -> u16
     number(columns).unwrap_or(0)
 }
 
-/// The name in at most eight columns, none where they are blank.
+/// The name in at most eight columns; none where they are blank.
 pub fn maybe_name(columns: &[u8]) -> Option<Name>
     requires { length columns.now ≤ 8 }
     ensures { result ≡ maybe_name_spec columns.now }
@@ -88,7 +88,7 @@ fn key_of(card: &Card) -> Option<KeyField>
     }
 }
 
-/// What an F card says.
+/// The line of an F card.
 #[tactic(auto, unfolding(crate::specs::Lines::file_line))]
 pub fn file_line(card: &Card) -> FileLine
     ensures { result ≡ file_line_spec card.now }
@@ -146,7 +146,7 @@ fn form_of(is_packed: bool, decimals: &[u8]) -> FieldForm
     }
 }
 
-/// What a field line of the I sheet says.
+/// The line of an I card that is a field line.
 #[tactic(auto, unfolding(crate::specs::Lines::field_line))]
 pub fn field_line(card: &Card) -> FieldLine
     ensures value { result ≡ field_line_spec card.now }
@@ -168,7 +168,7 @@ pub fn field_line(card: &Card) -> FieldLine
     }
 }
 
-/// How long a name in factor 2 may be: CHAIN has a file there.
+/// How many characters a name in factor 2 of a C card may have: 8 where the operation is CHAIN, which has a file there, else 6.
 #[tactic(auto, unfolding(s3_cards::specs::Codes::ebcdic, s3_cards::specs::Codes::code_page))]
 pub fn longest_name(card: &Card) -> usize
     ensures value { result ≡ longest_name_spec card.now }
@@ -181,7 +181,8 @@ pub fn longest_name(card: &Card) -> usize
     }
 }
 
-/// The shape that a length and decimals give, none where both are blank; a length without decimals is one of characters.
+/// The shape that the columns of a length and of decimals give a field: a text where the decimals are blank, else a number; none
+/// where both are blank.
 pub fn definition(length: &[u8], decimals: &[u8]) -> Option<Shape>
     ensures { result ≡ definition_of_spec length.now decimals.now }
 {
@@ -244,7 +245,7 @@ fn output_kind_of(code: u8) -> OutputKind
     }
 }
 
-/// Whether a line card adds a record.
+/// Whether a line card of the O sheet adds a record: it has ADD in columns 16 to 18.
 #[tactic(auto, unfolding(crate::specs::Lines::is_addition, s3_cards::specs::Codes::ebcdic, s3_cards::specs::Codes::code_page))]
 pub fn is_addition(card: &Card) -> bool
     ensures { result ≡ is_addition_spec card.now }
@@ -357,7 +358,7 @@ fn sheet_line(kind: CardKind, card: &Card) -> Option<SheetLine>
     Some(line)
 }
 
-/// The line of the card with this number.
+/// The typed line of a card, with this number of the card in its deck; none for a comment and a card of no sheet.
 #[tactic(auto, unfolding(crate::specs::Lines::line_of))]
 pub fn line_of(number: u16, card: &Card) -> Option<Line>
     ensures { result ≡ line_of_spec number card.now }

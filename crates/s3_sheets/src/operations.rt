@@ -120,7 +120,7 @@ fn operation_in(rows: &[Row], word: &[u8]) -> Operation
     Operation::Unknown
 }
 
-/// The operation in five columns, none where they are blank.
+/// The operation in five columns, `Unknown` for a word that isn't one; none where they are blank.
 pub fn operation(columns: &[u8]) -> Option<Operation>
     ensures { result ≡ operation_of columns.now }
 {

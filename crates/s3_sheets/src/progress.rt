@@ -20,22 +20,22 @@ const MOST_FILES: usize = 20;
 /// The most fields of a program.
 const MOST_FIELDS: usize = 999;
 
-/// What its columns and the cards before it say of a card.
+/// What is wrong with a card, by its own columns and by the cards before it.
 #[derive(Clone, Copy)]
 pub struct Standing {
-    /// What its own columns show.
+    /// What its own columns show: diagnostics 2 to 4.
     pub faults: Faults,
-    /// Its sheet is none, or out of order.
+    /// Whether it is of no sheet, or out of the order of the sheets: diagnostic 1.
     pub is_misplaced: bool,
-    /// It is an output line without a file, and none stands before it.
+    /// Whether it is an output line without a file, with no output line before it: diagnostic 3.
     pub lacks_file: bool,
-    /// A position on it lies outside its record.
+    /// Whether a position on it lies outside its record: diagnostic 4.
     pub is_outside: bool,
-    /// It defines a file or a field more than a program may have.
+    /// Whether it defines a file past the twentieth or a field past the 999th: diagnostic 13.
     pub is_too_many: bool,
 }
 
-/// What is kept of the cards before.
+/// What is kept of the cards that were read so far, so that each is looked at once.
 #[derive(Drop)]
 pub struct Progress {
     latest_sheet: u8,
@@ -66,7 +66,7 @@ impl Model for Progress {
 impl Progress {
     ghost use Rattle.s3_sheets.specs.Inner.Progress.{nothing_kept, standing_behind, kept_behind};
 
-    /// Before the first card.
+    /// What is kept before the first card: nothing.
     pub fn new(alloc: Global) -> Progress
         ensures { result ≡ nothing_kept }
     {
@@ -80,7 +80,8 @@ impl Progress {
         }
     }
 
-    /// Takes one more card, and answers what its columns and the cards before say of it.
+    /// Takes one more card, and answers what is wrong with it by its columns and the cards before. It is refused only where memory
+    /// runs out.
     #[tactic(auto, unfolding(crate::specs::Inner::Progress::standing_behind, crate::specs::Inner::Progress::kept_behind, crate::specs::Inner::Progress::is_at_fault_behind, crate::specs::Inner::Progress::files_with, crate::specs::Inner::Progress::fields_with))]
     pub fn enter(&mut self, card: &Card) -> Result<Standing, AllocError>
         ensures standing { IfOk result (λ standing. standing ≡ standing_behind self.old card.now) }

@@ -16,7 +16,7 @@ use s3_cards::ebcdic::{BLANK, LETTER_N};
 use s3_cards::{Card, are_blank, is_letter, is_name};
 use s3_edit::EditCode;
 
-/// What may stand in some columns.
+/// What may stand in the columns of a rule.
 #[derive(Clone, Copy)]
 pub enum Entry {
     /// Nothing.
@@ -33,7 +33,7 @@ pub enum Entry {
     MaybeLevel(u8),
     /// Blank or N and then an indicator, or all blank.
     MaybeCondition,
-    /// When a C line is done.
+    /// A level entry of the C sheet: blank, L0 to L9, LR, SR, AN or OR.
     Time,
     /// A code of seven columns, in which blank or N and then C, Z or D stand behind the position, or blank.
     CodeTest,
@@ -154,7 +154,7 @@ impl Entry {
     }
 }
 
-/// What is wrong with a card by one rule.
+/// What is wrong with a card by one rule: nothing where its columns have what the rule allows.
 #[tactic(auto, unfolding(crate::specs::Rules::rule_faults))]
 pub fn rule_faults(rule: &Rule, card: &Card) -> Faults
     requires { is_on_card (rule_view rule.now) ≡ true }

@@ -156,7 +156,7 @@ static OUTPUT_FIELD_RULES: [Rule; 11] = [
     columns!(71 to 74: Entry::Blank),
 ];
 
-/// The rules of a kind of card.
+/// The rules of a kind of card, each for some of its columns alone; a comment and a card of no sheet have none.
 #[tactic(auto, unfolding(crate::specs::Tables::header_rules, crate::specs::Tables::file_rules, crate::specs::Tables::record_rules, crate::specs::Tables::record_and_rules, crate::specs::Tables::record_or_rules, crate::specs::Tables::field_rules, crate::specs::Tables::calculation_rules, crate::specs::Tables::output_line_rules, crate::specs::Tables::output_group_rules, crate::specs::Tables::output_field_rules, s3_cards::specs::Codes::ebcdic, s3_cards::specs::Codes::code_page))]
 pub fn rules_of(kind: CardKind) -> &'static [Rule]
     ensures list { map rule_view result.now ≡ rules_of_spec kind }

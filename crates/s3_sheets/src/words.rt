@@ -2,28 +2,28 @@
 
 use s3_cards::punched;
 
-/// The first card reader.
+/// The device of the first card reader.
 pub const MFCU1: [u8; 7] = punched!(7, b"MFCU1  ");
-/// The second card reader.
+/// The device of the second card reader.
 pub const MFCU2: [u8; 7] = punched!(7, b"MFCU2  ");
-/// The printer.
+/// The device of the printer.
 pub const PRINTER: [u8; 7] = punched!(7, b"PRINTER");
-/// The pack.
+/// The device of files on the pack.
 pub const DISK: [u8; 7] = punched!(7, b"DISK   ");
 
-/// On a line that goes on with the codes or conditions above.
+/// The word of an AND line of the I or O sheet, which goes on with the codes or conditions above.
 pub const AND: [u8; 3] = punched!(3, b"AND");
-/// On a line with other codes or conditions.
+/// The word of an OR line of the I or O sheet, which has codes or conditions in place of those above.
 pub const OR: [u8; 3] = punched!(3, b"OR ");
-/// On an output line that adds a record.
+/// The word of an output line that adds a record.
 pub const ADD: [u8; 3] = punched!(3, b"ADD");
 
-/// A C line of a subroutine.
+/// The level entry of a C line of a subroutine.
 pub const SR: [u8; 2] = punched!(2, b"SR");
-/// A C line that goes on with the conditions above.
+/// The level entry of a C line that goes on with the conditions above.
 pub const AN: [u8; 2] = punched!(2, b"AN");
-/// A C line with other conditions.
+/// The level entry of a C line with conditions in place of those above.
 pub const OR_IN_LEVEL: [u8; 2] = punched!(2, b"OR");
 
-/// The operation whose factor 2 is a file.
+/// CHAIN, the operation whose factor 2 is a file.
 pub const CHAIN: [u8; 5] = punched!(5, b"CHAIN");

@@ -1,4 +1,4 @@
--- Words of proofs and of other calls beside Script.
+-- What the reading of a script answers: commands with its entries, or the number of its first ill-formed line.
 use Rattle.std.specs.Prelude.{◌≡◌, ℕ, List, Result, Ok, Err, Vec}
 use Rattle.std.specs.List.{flat_map}
 use Rattle.s3_bureau.specs.declared.entry.Entry.{Entry}

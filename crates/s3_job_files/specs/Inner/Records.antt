@@ -1,4 +1,4 @@
--- Words of proofs and of other calls beside Records.
+-- The codes of a record that an update puts: a code at each position, or none where the position stays as it was.
 use Rattle.std.specs.Prelude.{ℕ, Bool, map, zip, List, Option, Some, None, if◌then◌else◌}
 
 -- the codes of a record, where they are put

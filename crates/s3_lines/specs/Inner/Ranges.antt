@@ -1,4 +1,4 @@
--- Words of proofs and of other calls beside Ranges.
+-- Lines of cards without a fault of their own: each entry in its range, the order of the sheets, and positions within their records.
 use Rattle.std.specs.Prelude.{ℕ, ◌+◌, ◌-◌, ◌^◌, ◌==◌, nat_lt, nat_le, unsigned_abs, Bool, true, not, ◌&&◌, ◌||◌, List, [], ◌∷◌, Option, Some, None, is_some, is_none, if◌then◌else◌}
 use Rattle.std.specs.List.{list_all}
 use Rattle.std.specs.Option.{option_or}

@@ -1,4 +1,4 @@
--- Words of proofs and of other calls beside Requests.
+-- Which answers fit which request: records of their length, what a file can refuse, and the replies that a halt allows.
 use Rattle.std.specs.Prelude.{ℕ, ◌==◌, Bool, true, false, length}
 use Rattle.s3_operator.specs.declared.halt_code.HaltCode.{HaltCode}
 use Rattle.s3_operator.specs.declared.halt_code.HaltCode.TheVariants.{DuplicateKey, KeyChanged, NothingToUpdate, FileFull, KeyNotAscending}

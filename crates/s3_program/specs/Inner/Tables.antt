@@ -1,4 +1,4 @@
--- Words of proofs and of other calls beside Tables.
+-- Tables of names read both ways: the slot of a name, and the name and the meaning at a slot.
 use Rattle.std.specs.Prelude.{ℕ, List, Option, length, slice_get, option_map, unwrap_or}
 use Rattle.std.specs.List.{position}
 use Rattle.std.specs.Map.{keys_of}

@@ -1,4 +1,4 @@
--- Words of proofs and of other calls beside Uses.
+-- Whether a program has exactly one primary file.
 use Rattle.std.specs.Prelude.{Bool, List, ◌==◌}
 use Rattle.std.specs.List.{count_by}
 use Rattle.s3_lines.specs.declared.sheet.Designation.TheVariants.{Primary}

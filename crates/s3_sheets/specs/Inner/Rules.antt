@@ -1,4 +1,4 @@
--- Words of proofs and of other calls beside Rules.
+-- How many columns each kind of entry can have, and which rules name columns that a card has.
 use Rattle.std.specs.Prelude.{ℕ, ◌+◌, ◌-◌, Bool, true, ◌==◌, ◌&&◌, nat_le, nat_lt}
 use Rattle.s3_sheets.specs.Rules.{Entry, Rule, CodePosition, CodeTest, MaybeConstant, MaybeEditCode, MaybeFactor}
 

@@ -1,4 +1,4 @@
--- Words of proofs and of other calls beside Sheets.
+-- The diagnostics of one card, and what a reading of cards answers: their lines, or the list of their diagnostics.
 use Rattle.std.specs.Prelude.{◌≡◌, ◌≢◌, ℕ, List, [], true, Result, Ok, Err, map, filter, Vec}
 use Rattle.std.specs.declared.alloc.Global.{Global}
 use Rattle.s3_sheets.specs.Lines.{lines_of}

@@ -1,4 +1,4 @@
--- Words of proofs and of other calls beside Lines.
+-- The printed lines of a level that were drained from its queue.
 use Rattle.std.specs.Prelude.{List, take}
 use Rattle.s3_cards.specs.Printed.{Printed}
 use Rattle.s3_solo.specs.Lines.{Lines}

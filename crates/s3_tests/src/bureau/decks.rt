@@ -62,7 +62,7 @@ EEL
 /&
 ";
 
-/// The same with three records: twice 10 turns.
+/// Makes DATA of three records of 1,024 bytes, then lists the end of each: twice 10 turns.
 pub const THREE_RECORDS: &[u8] = b"\
 // LOAD $RPG,F1
 // RUN

@@ -1,5 +1,5 @@
-//! The same sessions, where memory may be refused: `tools/refuse-memory` refuses each request of these tests in turn. That all
-//! of them end whole with ample memory is seen with the fuses.
+//! The three sessions of the fuse rows, where memory may be refused: `tools/refuse-memory` refuses each request of these tests in
+//! turn. That all of them end whole with ample memory is seen in the fuse rows.
 
 use crate::bureau::packs::{are_spared, marked_pack};
 use crate::bureau::plays::{CARD_LISTER, DATA_IN_BOTH_LEVELS, KEYS_ADDED_AND_CHANGED};

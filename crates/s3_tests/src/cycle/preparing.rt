@@ -62,7 +62,7 @@ fn name_of_sum(operation: Operation) -> &'static str {
     }
 }
 
-/// The same of one whose result cuts decimals.
+/// The name of a sum or product whose result cuts decimals.
 fn name_of_cut(operation: Operation) -> &'static str {
     match operation {
         Operation::Add => "add and cut",

@@ -146,7 +146,7 @@ fn a_file_in_order_is_written_changed_and_read(rt: HostRuntime) -> Result<(), Fa
     Ok(())
 }
 
-/// A load takes ascending keys; a key that isn't above the last is told before a full file.
+/// A load takes ascending keys; where a key isn't above the last and the file is full too, the refusal is for the key.
 #[test]
 fn a_file_by_key_is_loaded(rt: HostRuntime) -> Result<(), Fail> {
     let loads = [
@@ -168,7 +168,8 @@ fn a_file_by_key_is_loaded(rt: HostRuntime) -> Result<(), Fail> {
     Ok(())
 }
 
-/// Added records are found but not read; a duplicate is told before a full file, and a missing record before a changed key.
+/// Added records are found but not read. A duplicate key is refused for that also where the file is full, and an update without a
+/// record for that also where the key would change.
 #[test]
 fn a_file_by_key_is_added_to_changed_and_read(rt: HostRuntime) -> Result<(), Fail> {
     let adds = [

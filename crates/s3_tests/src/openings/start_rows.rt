@@ -215,7 +215,7 @@ fn halts<P: Sectors>(
     }
 }
 
-/// The first refusal is told, and nothing is made.
+/// The job halts for the first file that is refused, and nothing is made.
 #[tactic(auto, unfolding(s3_cards::specs::Names::is_word))]
 fn refuse<P: Sectors>(alloc: Global, pack: &mut Pack<P>) -> Result<(), Fault>
     requires { IsPackReady pack.old.areas (P.state pack.old.pool).contents }
