@@ -1,5 +1,5 @@
 -- What the calls of a level come to, with what is beside it.
-use Rattle.std.proofs.Common.{◌≡◌, ℕ, ◌≤◌, ◌+◌, Result, Ok, Err, refl, sym, ap, ◌∙◌, replicate, arith}
+use Rattle.std.proofs.Common.{◌≡◌, ℕ, ◌≤◌, ◌+◌, Result, Ok, Err, refl, arith}
 use Rattle.std.specs.Prelude.{IfErr, IfOk, OnOk, OnErr, ◌≢◌}
 use Rattle.s3_store.specs.Inner.Failures.{failed_transfers}
 use Rattle.s3_store.specs.Inner.State.{PoolState}
@@ -11,11 +11,10 @@ use Rattle.s3_labels.specs.Inner.Labelled.{KeepsSaid}
 use Rattle.s3_level.proofs.Said.{said_same}
 use Rattle.s3_spool.specs.Inner.Queues.{Blocks}
 use Rattle.s3_job_files.specs.Inner.Holds.{seen}
-use Rattle.s3_solo.specs.declared.action.Action.{Action}
 use Rattle.s3_solo.specs.declared.action.Action.TheVariants.{Turn, Reply, Drain}
 use Rattle.s3_solo.specs.declared.action.Did.{Did}
 use Rattle.s3_solo.specs.World.{World}
-use Rattle.s3_solo.specs.Solo.{solo, step_of}
+use Rattle.s3_solo.specs.Solo.{step_of}
 use Rattle.s3_level.specs.declared.level.Level.{Level}
 use Rattle.s3_level.specs.declared.taken.Taken.{Taken}
 use Rattle.s3_level.specs.Inner.Holds.{AreAll, Around, Holds, IsQuiet, IsReady, IsUntouched, IsUpTo, KeepsOthers, Repeats, Spares, Stays, Steps, around, once}
@@ -23,7 +22,7 @@ use Rattle.s3_level.proofs.Beside.{spares_files}
 use Rattle.s3_level.proofs.Turns.{steps_once}
 use Rattle.s3_bureau.specs.Inner.Calls.{Acts}
 use Rattle.s3_bureau.proofs.Memory.{reply_acts, drain_acts}
-use Rattle.s3_solo.specs.declared.action.Did.TheVariants.{Acted, Idle, Refused}
+use Rattle.s3_solo.specs.declared.action.Did.TheVariants.{Acted, Refused}
 
 -- an untouched pack with the same queues
 beside_same : (before after : Around) → IsUntouched before.areas after.areas before.state after.state → after.blocks ≡ before.blocks → after ≡ before

@@ -1,5 +1,5 @@
 -- An entry in one of the two levels, and what a step says of it.
-use Rattle.std.proofs.Common.{◌≡◌, ◌≢◌, ◌+◌, ℕ, true, false, true≢false, Result, Ok, Err, refl, sym, ap, subst, ◌∙◌, replicate, arith}
+use Rattle.std.proofs.Common.{◌≡◌, ◌≢◌, ◌+◌, ℕ, true, false, true≢false, Result, Ok, Err, refl, sym, ap, subst, ◌∙◌}
 use Rattle.s3_cards.specs.Inner.Levels.{other}
 use Rattle.s3_cards.specs.declared.levels.LevelId.{LevelId}
 use Rattle.s3_cards.specs.declared.levels.LevelId.TheVariants.{One, Two}
@@ -9,10 +9,10 @@ use Rattle.s3_store.specs.declared.pool_fault.PoolFault.TheVariants.{Device, NoM
 use Rattle.s3_labels.specs.Inner.Labelled.{KeepsSaid}
 use Rattle.s3_job_files.specs.Inner.Holds.{seen}
 use Rattle.s3_solo.specs.declared.action.Action.{Action}
-use Rattle.s3_solo.specs.Solo.{closed, solo}
+use Rattle.s3_solo.specs.Solo.{closed}
 use Rattle.s3_solo.specs.World.{World}
 use Rattle.s3_level.specs.declared.level.Level.{Level}
-use Rattle.s3_level.specs.Inner.Holds.{Around, Becomes, Holds, IsReady, Repeats, Spares, Steps}
+use Rattle.s3_level.specs.Inner.Holds.{Around, Becomes, Holds, IsReady, Repeats, Spares}
 use Rattle.s3_level.specs.declared.taken.Taken.{Taken}
 use Rattle.s3_bureau.specs.declared.bureau.Phase.{Phase}
 use Rattle.s3_bureau.specs.declared.bureau.Phase.TheVariants.{Open, Finished, Stopped}

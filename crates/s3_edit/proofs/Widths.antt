@@ -1,10 +1,10 @@
 -- What a width that fits says of a number's form, and of the room for it.
-use Rattle.std.proofs.Common.{◌≡◌, ℕ, ◌+◌, ◌<◌, ◌≤◌, Bool, true, false, Option, Some, None, IsSomeAnd, if◌then◌else◌, ◌==◌, ◌&&◌, List, get_or, arith, ap, ◌∙◌, refl, subst}
+use Rattle.std.proofs.Common.{◌≡◌, ℕ, ◌+◌, ◌<◌, ◌≤◌, Bool, true, false, Some, None, IsSomeAnd, if◌then◌else◌, ◌==◌, ◌&&◌, List, get_or, arith, ◌∙◌, refl, subst}
 use Rattle.std.proofs.lemmas.Bool.Decides.{nat_tests}
 use Rattle.s3_edit.specs.declared.code.Amount.{Amount}
 use Rattle.s3_edit.specs.declared.code.EditCode.{EditCode}
-use Rattle.s3_edit.specs.declared.code.EditCode.TheVariants.{Edited, Zoned, Date, Suppressed}
-use Rattle.s3_edit.specs.Picture.{body_width, code_width, is_form, sign_width, width_of}
+use Rattle.s3_edit.specs.declared.code.EditCode.TheVariants.{Date}
+use Rattle.s3_edit.specs.Picture.{body_width, code_width, is_form, width_of}
 
 -- the form of a number, and the width of its code
 pub record Fitting (code : EditCode) (digits decimals room : ℕ) : Type 0 where

@@ -1,5 +1,5 @@
 -- Jumps that are passed many at once: as many turns of the solo run.
-use Rattle.std.proofs.Common.{◌≡◌, ◌≤◌, ◌<◌, ℕ, zero, suc, List, [], ◌∷◌, ◌++◌, refl, sym, ◌∙◌, ap, subst, replicate, append-nil, append_assoc, Bool, true, false, if◌then◌else◌, Option, Some, None, Result, Ok, Err, map, slice_range, arith}
+use Rattle.std.proofs.Common.{◌≡◌, ◌≤◌, ◌<◌, ℕ, zero, suc, List, [], ◌∷◌, ◌++◌, refl, sym, ◌∙◌, ap, subst, replicate, append-nil, append_assoc, Bool, false, if◌then◌else◌, Option, Some, None, Result, Ok, Err, map, slice_range, arith}
 use Rattle.std.specs.Prelude.{IfOk}
 use Rattle.std.proofs.lemmas.Option.{none-some}
 use Rattle.s3_meaning.specs.Requests.{Answer, Request, Jump, Done}

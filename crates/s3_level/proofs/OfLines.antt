@@ -40,7 +40,7 @@ use Rattle.s3_cycle.specs.Inner.Requests.{FitsFile, IsDiskFile, IsReadInOrder, I
 use Rattle.s3_cycle.proofs.FollowLemmas.{file_filled, files_stay, slot_named}
 use Rattle.s3_level.specs.declared.job.OpenJob.{OpenJob}
 use Rattle.s3_level.specs.Inner.Holds.{IsJobReady}
-use Rattle.s3_level.specs.Inner.Turning.{IsForFile, IsForRecord, IsPut, SuitsRequest, SuitsSought}
+use Rattle.s3_level.specs.Inner.Turning.{IsForFile, IsForRecord, SuitsRequest, SuitsSought}
 
 -- ---- lists
 some_same : {X : Type 0} (x y : X) → Some x ≡ Some y → x ≡ y

@@ -2,7 +2,6 @@
 use Rattle.std.proofs.Common.{◌≡◌, ◌≢◌, ◌⊎◌, inl, inr, ℕ, zero, suc, ◌<◌, ◌≤◌, ◌+◌, ◌-◌, List, [], ◌∷◌, Bool, true, false, if◌then◌else◌, Option, Some, None, Result, Ok, Err, replicate, refl, sym, ap, subst, ◌∙◌, arith}
 use Rattle.std.specs.Prelude.{OnErr}
 use Rattle.s3_cards.specs.declared.levels.LevelId.{LevelId}
-use Rattle.s3_store.specs.Inner.State.{PoolState}
 use Rattle.s3_store.proofs.Frames.{keeps_refl}
 use Rattle.s3_labels.specs.Inner.Labelled.{KeepsSaid}
 use Rattle.s3_meaning.specs.Requests.{Request}
@@ -19,7 +18,7 @@ use Rattle.s3_solo.specs.declared.action.Did.{Did}
 use Rattle.s3_solo.specs.declared.action.Did.TheVariants.{Acted}
 use Rattle.s3_solo.specs.World.{World, JobAtWork}
 use Rattle.s3_solo.specs.Lines.{has_room}
-use Rattle.s3_solo.specs.Serving.{Outcome, acted, answered, begun, file_served, idle, in_use, line_printed, line_put, pending, served}
+use Rattle.s3_solo.specs.Serving.{Outcome, acted, answered, begun, file_served, idle, in_use, line_put, pending, served}
 use Rattle.s3_solo.specs.Solo.{gone_on, solo, step_of}
 use Rattle.s3_level.specs.declared.level.Level.{Level}
 use Rattle.s3_level.specs.declared.taken.Taken.{Taken}

@@ -9,7 +9,6 @@ use Rattle.std.proofs.lemmas.List.Elements.{All-set}
 use Rattle.std.proofs.lemmas.Option.{slice_get-get_or}
 use Rattle.s3_lines.specs.declared.sheet.FileLine.{FileLine}
 use Rattle.s3_meaning.specs.Selection as meaning
-use Rattle.s3_meaning.specs.Selection.{Selected, key_of}
 use Rattle.s3_program.specs.declared.program.Program.{Program}
 use Rattle.s3_program.specs.Inner.Tables.{name_in}
 use Rattle.s3_program.specs.FileEntries.{file_entry}

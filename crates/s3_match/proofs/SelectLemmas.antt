@@ -8,7 +8,7 @@ use Rattle.s3_lines.specs.declared.sheet.Designation.TheVariants.{Primary, Secon
 use Rattle.s3_lines.specs.declared.sheet.FileLine.{FileLine}
 use Rattle.s3_meaning.specs.Source.{is_designated}
 use Rattle.s3_meaning.specs.Selection as meaning
-use Rattle.s3_meaning.specs.Selection.{Reading, Selected, selectable, key_of, head_of, same_key, is_matched, has_met_end}
+use Rattle.s3_meaning.specs.Selection.{Selected, selectable, key_of, head_of, same_key, is_matched, has_met_end}
 use Rattle.s3_program.specs.declared.program.Program.{Program}
 use Rattle.s3_match.specs.declared.heads.InputFile.{InputFile}
 use Rattle.s3_match.specs.declared.heads.Standing.{Standing}

@@ -1,5 +1,5 @@
 -- What may stand in the columns of a card, and what is wrong where something else does.
-use Rattle.std.specs.Prelude.{ℕ, ◌-◌, List, Bool, true, false, ◌==◌, ◌&&◌, ◌||◌, Option, is_some, take, slice_index, if◌then◌else◌}
+use Rattle.std.specs.Prelude.{ℕ, List, Bool, true, false, ◌==◌, ◌&&◌, ◌||◌, Option, is_some, take, slice_index, if◌then◌else◌}
 use Rattle.std.specs.List.{list_all, list_any}
 use Rattle.s3_cards.specs.declared.ebcdic.TheConstants.{BLANK, LETTER_N}
 use Rattle.s3_cards.specs.Names.{is_letter, is_name}

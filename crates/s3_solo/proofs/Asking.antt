@@ -11,7 +11,6 @@ use Rattle.s3_meaning.specs.Requests.{Request, Card, Read, Chain, Append, Add, U
 use Rattle.s3_ocl.specs.declared.faults.FaultyJob.{FaultyJob}
 use Rattle.s3_ocl.specs.Jobs.{Job, is_compile}
 use Rattle.s3_operator.specs.declared.halt_code.HaltCode.{HaltCode}
-use Rattle.s3_operator.specs.declared.halt_code.HaltCode.TheVariants.{FaultySource}
 use Rattle.s3_operator.specs.declared.reply_fault.ReplyFault.TheVariants.{NotAllowed}
 use Rattle.s3_operator.specs.Replies.{is_allowed}
 use Rattle.s3_operator.specs.Halts.{ShownHalt, answer_to, is_waiting, last_halt, unanswered, waiting, with_halt, with_reply}
@@ -24,7 +23,7 @@ use Rattle.s3_opening.specs.Opening.{opened}
 use Rattle.s3_ocl.specs.declared.contents.FileStatement.{FileStatement}
 use Rattle.s3_solo.specs.Lines.{has_room, is_queued, with_drained}
 use Rattle.s3_solo.specs.World.{World, JobAtWork}
-use Rattle.s3_solo.specs.Serving.{Outcome, acted, answered, at_work, begun, card_answer, compiled, compiled_data, data_of, diagnostics_of, file_served, idle, in_use, job_over, line_put, over, pending, performed, run, run_card_of, run_over, served, settings, standing_at, started, stocked, with_answer, with_card_read, with_jobs, with_settings}
+use Rattle.s3_solo.specs.Serving.{acted, answered, at_work, begun, card_answer, compiled, compiled_data, data_of, diagnostics_of, file_served, idle, in_use, job_over, line_put, over, pending, performed, run, run_card_of, run_over, served, settings, standing_at, started, stocked, with_answer, with_card_read, with_jobs, with_settings}
 use Rattle.s3_solo.specs.Solo.{closed, drained, gone_on, refused, replied, reply_given, resumed, step_of, turned}
 use Rattle.s3_solo.specs.Inner.Asked.{IsAsked, halt_asked}
 

@@ -11,7 +11,7 @@ use Rattle.s3_meaning.specs.Requests.{Request, Card, Read, Chain, Append, Add, U
 use Rattle.s3_meaning.specs.Environment.{switch_on}
 use Rattle.s3_meaning.specs.Cycle.{Req}
 use Rattle.s3_job_files.specs.Closing.{files_closed}
-use Rattle.s3_job_files.specs.Files.{FilesInUse, JobFile}
+use Rattle.s3_job_files.specs.Files.{FilesInUse}
 use Rattle.s3_job_files.specs.Requests as files
 use Rattle.s3_job_files.specs.Requests.{Served}
 use Rattle.s3_opening.specs.Opening.{Settings, opened}

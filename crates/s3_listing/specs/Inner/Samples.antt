@@ -1,5 +1,5 @@
 -- Labels for worked lines.
-use Rattle.std.specs.Prelude.{ℕ, List, [], ◌∷◌, replicate}
+use Rattle.std.specs.Prelude.{ℕ, [], ◌∷◌, replicate}
 use Rattle.s3_cards.specs.Names.{name_of}
 use Rattle.s3_cards.specs.declared.retention.Retention.{Retention}
 use Rattle.s3_slots.specs.declared.label.FileLabel.{FileLabel}

@@ -1,4 +1,3 @@
-use Rattle.std.proofs.Common.{◌≡◌}
 use Rattle.s3_files.specs.Inner.Files.{AreStored}
 use Rattle.s3_keyed.specs.Inner.Keyed.{shown, HasKeyOrder}
 use Rattle.s3_bench_files.proofs.keyed_walks.cold_find.Given as goal

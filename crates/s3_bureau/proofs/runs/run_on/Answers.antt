@@ -1,4 +1,4 @@
-use Rattle.std.proofs.Common.{ℕ, List, Ok, ap, sym, ◌∙◌}
+use Rattle.std.proofs.Common.{List, Ok, ap, sym, ◌∙◌}
 use Rattle.std.specs.List.{flat_map}
 use Rattle.s3_bureau.specs.declared.script.Command.{Command}
 use Rattle.s3_bureau.specs.Script.{entries_by}

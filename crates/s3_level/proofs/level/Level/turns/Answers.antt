@@ -1,4 +1,4 @@
-use Rattle.std.proofs.Common.{ℕ, Ok, ◌+◌, ◌-◌, ◌≡◌, ap, subst, ◌∙◌, arith}
+use Rattle.std.proofs.Common.{ℕ, Ok, ◌-◌, ◌≡◌, ap, subst, ◌∙◌, arith}
 use Rattle.s3_store.specs.declared.pool_fault.PoolFault.{PoolFault}
 use Rattle.s3_solo.specs.declared.action.Action.TheVariants.{Turn}
 use Rattle.s3_solo.specs.declared.action.Did.TheVariants.{Acted}

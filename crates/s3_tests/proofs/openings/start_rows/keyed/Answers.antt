@@ -1,5 +1,5 @@
-use Rattle.std.proofs.Common.{◌≡◌, Bool, true, ◌&&◌, Some, refl, ap, ◌∙◌}
-use Rattle.s3_lines.specs.Inner.Ranges.{file_in_range, is_named}
+use Rattle.std.proofs.Common.{Bool, true, ◌&&◌, Some, ap, ◌∙◌}
+use Rattle.s3_lines.specs.Inner.Ranges.{file_in_range}
 use Rattle.s3_lines.specs.declared.sheet.FileLine.{FileLine}
 use Rattle.s3_tests.proofs.openings.start_rows.keyed.Goals as goal
 

@@ -1,5 +1,5 @@
-use Rattle.std.proofs.Common.{◌≡◌, Bool, true, ◌&&◌, Some, refl, ap, ◌∙◌}
-use Rattle.s3_lines.specs.Inner.Ranges.{file_in_range, is_named}
+use Rattle.std.proofs.Common.{Bool, true, ◌&&◌, ap, ◌∙◌}
+use Rattle.s3_lines.specs.Inner.Ranges.{is_named}
 use Rattle.s3_lines.specs.declared.sheet.FileLine.{FileLine}
 use Rattle.s3_opening.specs.Inner.Samples.{line as sample_line}
 use Rattle.s3_cards.specs.declared.name.Name.{Name}

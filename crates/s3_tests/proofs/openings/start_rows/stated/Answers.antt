@@ -1,4 +1,4 @@
-use Rattle.std.proofs.Common.{◌≡◌, Bool, true, ◌&&◌, ap, ap₂, ◌∙◌}
+use Rattle.std.proofs.Common.{Bool, true, ◌&&◌, ap₂, ◌∙◌}
 use Rattle.s3_cards.specs.Names.{is_name}
 use Rattle.s3_cards.specs.declared.name.Name.{Name}
 use Rattle.s3_tests.proofs.openings.start_rows.stated.Goals as goal
