@@ -1,6 +1,5 @@
 //! Records in order and by number.
-ghost use Rattle.std.specs.Prelude.{◌≡◌, ◌≤◌, length};
-ghost use Rattle.s3_files.specs.Inner.Files.{AreStored};
+ghost use Rattle.std.specs.Prelude.{◌≤◌, length};
 
 use crate::label::{LENGTH, label_of};
 use byteorder::{BigEndian, ByteOrder};

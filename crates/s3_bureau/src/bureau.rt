@@ -128,7 +128,7 @@ fn store_of<S: PackStore>(pack: Pack<Pool<S>>) -> S
 
 impl<S: PackStore> Bureau<S> {
     ghost use Rattle.std.specs.Int.NonZero.{non_zero_u16_get};
-    ghost use Rattle.std.specs.Prelude.{◌≡◌, ◌≢◌, ◌≤◌, ◌+◌, ℕ, true, false, Ok, Err, map, IfOk, IfErr, OnOk, OnErr};
+    ghost use Rattle.std.specs.Prelude.{◌≡◌, ◌≢◌, ◌+◌, true, false, Ok, Err, map, IfOk, IfErr, OnOk, OnErr};
     ghost use Rattle.s3_cards.specs.Inner.Levels.{other};
     ghost use Rattle.s3_cards.specs.declared.levels.LevelId.{LevelId};
     ghost use Rattle.s3_store.specs.Inner.State.{KeepsInStep};
@@ -143,7 +143,7 @@ impl<S: PackStore> Bureau<S> {
     ghost use Rattle.s3_solo.specs.Inner.Lines.{drained_lines};
     ghost use Rattle.s3_solo.specs.World.{World, at_start};
     ghost use Rattle.s3_solo.specs.Solo.{step_of, closed};
-    ghost use Rattle.s3_level.specs.Inner.Holds.{Holds, IsUpTo, Repeats, Spares, Steps};
+    ghost use Rattle.s3_level.specs.Inner.Holds.{IsUpTo, Repeats, Spares, Steps};
     ghost use Rattle.s3_bureau.specs.Inner.Stops.{failed_stop};
     ghost use Rattle.s3_bureau.specs.Inner.Calls.{Closes, Enters};
     ghost use Rattle.s3_bureau.specs.Inner.Held.{HasNoWork, HoldsFor, IsForeign, IsSaid, halts_at, header_of, is_open, has_worlds, level_of, lines_at, rests};

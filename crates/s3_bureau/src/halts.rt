@@ -1,6 +1,5 @@
 //! A level's halt text: its halts, with what was wrong at each.
 ghost use Rattle.std.specs.Prelude.{◌≡◌, ◌++◌, map, OnOk, IfOk};
-ghost use Rattle.std.specs.List.{flat_map};
 ghost use Rattle.s3_operator.specs.Inner.Halts.{halt_of};
 ghost use Rattle.s3_operator.specs.declared.halt_code.HaltCode.TheVariants.{HaltIndicator};
 ghost use Rattle.s3_bureau.specs.Texts.{letters_of, reply_text, detail_line, halt_line, halt_lines, refusal_line, halt_text_of};

@@ -1,5 +1,5 @@
 //! A level's report: its printed lines as a text.
-ghost use Rattle.std.specs.Prelude.{◌≡◌, ◌++◌, ◌∷◌, [], ◌≤◌, ◌<◌, ◌+◌, length, map, take, OnOk, IfOk};
+ghost use Rattle.std.specs.Prelude.{◌≡◌, ◌++◌, ◌∷◌, [], ◌≤◌, ◌<◌, ◌+◌, length, map, take, IfOk};
 ghost use Rattle.s3_bureau.specs.Texts.{in_digits, shown_byte, trimmed, report_line, report_of};
 ghost use Rattle.s3_bureau.specs.Inner.Underway.{AreTables, HasOnes, HasTens, IsLaid, ShowsCodes, ShowsPairs, ShowsPairsWith};
 

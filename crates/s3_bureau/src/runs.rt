@@ -1,5 +1,5 @@
 //! A run: a pack, two decks and a script, from bytes to texts and the pack.
-ghost use Rattle.std.specs.Prelude.{◌≡◌, ◌≢◌, ◌+◌, Ok, Err, IfOk, IfErr, OnOk, replicate, true};
+ghost use Rattle.std.specs.Prelude.{◌≡◌, ◌≢◌, ◌+◌, Ok, Err, IfOk, OnOk, replicate, true};
 ghost use Rattle.std.specs.List.{flat_map};
 ghost use Rattle.s3_bureau.specs.Inner.Faults.{TellsRefusal, fault_of_stop};
 ghost use Rattle.s3_bureau.specs.Script.{entries_by};

@@ -1,6 +1,6 @@
 //! The files of a pack, listed.
 
-ghost use Rattle.std.specs.Prelude.{◌≡◌, OnOk, IfErr};
+ghost use Rattle.std.specs.Prelude.{OnOk, IfErr};
 ghost use Rattle.s3_listing.specs.Inner.Listing.{listing, WritesText};
 ghost use Rattle.s3_cli.specs.Inner.Packs.{IsListRefusal};
 

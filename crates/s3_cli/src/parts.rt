@@ -1,6 +1,6 @@
 //! The parts of a session's input: two decks and a script, between markers.
 
-ghost use Rattle.std.specs.Prelude.{◌≡◌, ◌<◌, ◌≤◌, ◌+◌, ◌-◌, ◌∷◌, ◌++◌, [], ◌^◌, ℕ, Some, None, length, slice_index, take, drop, MatchOption, IfSome, option_map, is_some};
+ghost use Rattle.std.specs.Prelude.{◌≡◌, ◌<◌, ◌≤◌, ◌+◌, ◌-◌, ◌∷◌, Some, None, length, slice_index, take, drop, IfSome, option_map, is_some};
 ghost use Rattle.s3_cli.specs.Inner.PartsView.{parts_view};
 ghost use Rattle.s3_cli.specs.Parts.{whole_lines, text_of, content_of, is_marker, has_marker, before_marker, after_marker, parts_of};
 

@@ -1,6 +1,6 @@
 //! The places of files among the F lines.
 
-ghost use Rattle.std.specs.Prelude.{◌≡◌, ◌<◌, ◌+◌, ◌^◌, IfOk, OnOk, filter_map, [], ◌∷◌};
+ghost use Rattle.std.specs.Prelude.{◌≡◌, ◌<◌, ◌+◌, ◌^◌, IfOk, OnOk, filter_map};
 ghost use Rattle.s3_cards.specs.Names.{same_name};
 ghost use Rattle.s3_meaning.specs.Source.{file_line};
 ghost use Rattle.s3_program.specs.Conditions.{file_places as file_places_spec};

@@ -7,7 +7,7 @@ ghost use Rattle.indexmap.specs.IndexSet.{contains};
 ghost use Rattle.s3_program.specs.Matching as spec;
 ghost use Rattle.s3_program.specs.Standings.{first_input as first_input_spec};
 ghost use Rattle.s3_compile.specs.Inner.Noted.{Finds, FindsMore, Has, HasMore, all_on, some_on, in_type_on};
-ghost use Rattle.s3_diagnose.specs.Inner.Ranged.{is_ranged_field, is_ranged_input};
+ghost use Rattle.s3_diagnose.specs.Inner.Ranged.{is_ranged_input};
 ghost use Rattle.s3_diagnose.specs.Inner.Shown.{marks_shown};
 
 use crate::noting::note;

@@ -1,6 +1,6 @@
 //! What lines define the names as.
 
-ghost use Rattle.std.specs.Prelude.{◌≡◌, ◌++◌, IfOk, OnOk, IsTrue, filter_map};
+ghost use Rattle.std.specs.Prelude.{◌≡◌, IfOk, OnOk, IsTrue, filter_map};
 ghost use Rattle.std.specs.Option.{option_to_list};
 ghost use Rattle.s3_meaning.specs.Source.{input_line, calculation_line};
 ghost use Rattle.s3_program.specs.Inner.Given.{all_noted, firsts};

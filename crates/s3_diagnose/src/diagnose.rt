@@ -1,11 +1,9 @@
 //! The diagnostics of lines.
 
-ghost use Rattle.std.specs.Prelude.{◌≡◌, ◌++◌, filter, filter_map, IfOk, OnOk, IsTrue};
-ghost use Rattle.s3_meaning.specs.Source.{file_line};
-ghost use Rattle.s3_program.specs.Inner.Uses.{has_one_primary as has_one_primary_spec};
+ghost use Rattle.std.specs.Prelude.{◌≡◌, ◌++◌, filter, IfOk, OnOk, IsTrue};
 ghost use Rattle.s3_diagnose.specs.Diagnostics as spec;
 ghost use Rattle.s3_diagnose.specs.Inner.Early.{IsEarlyLine};
-ghost use Rattle.s3_diagnose.specs.Known.{meant_line as meant_line_spec, first_standing as first_standing_spec};
+ghost use Rattle.s3_diagnose.specs.Known.{first_standing as first_standing_spec};
 ghost use Rattle.s3_diagnose.specs.Lookups.{known_of};
 ghost use Rattle.s3_diagnose.specs.Inner.Ranged.{is_ranged_meant, are_ranged};
 ghost use Rattle.s3_diagnose.specs.Inner.Shown.{known_shown};

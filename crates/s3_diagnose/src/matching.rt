@@ -1,7 +1,6 @@
 //! 11: match and control fields.
 
-ghost use Rattle.std.specs.Prelude.{◌≡◌, IsTrue, map};
-ghost use Rattle.std.specs.List.{list_any};
+ghost use Rattle.std.specs.Prelude.{◌≡◌, IsTrue};
 ghost use Rattle.s3_program.specs.Indications.{input_misindicated as input_misindicated_spec, is_unrelated as is_unrelated_spec};
 ghost use Rattle.s3_program.specs.Matching as spec;
 ghost use Rattle.s3_diagnose.specs.Inner.Ranged.{is_ranged_field, is_ranged_input};

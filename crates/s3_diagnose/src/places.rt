@@ -1,6 +1,6 @@
 //! 9: lines that stand where they may not.
 
-ghost use Rattle.std.specs.Prelude.{◌≡◌, map};
+ghost use Rattle.std.specs.Prelude.{◌≡◌};
 ghost use Rattle.s3_program.specs.Places as spec;
 ghost use Rattle.s3_diagnose.specs.Inner.Early.{IsEarly};
 ghost use Rattle.s3_diagnose.specs.Diagnostics.{verbs};

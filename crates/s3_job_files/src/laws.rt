@@ -1,6 +1,6 @@
 //! What the definitions say of themselves: worked rows.
 
-ghost use Rattle.std.specs.Prelude.{◌≡◌, ℤ, pos, negsuc, [], ◌∷◌, ◌++◌, Some, None, Ok, Err, replicate};
+ghost use Rattle.std.specs.Prelude.{◌≡◌, pos, negsuc, [], ◌∷◌, ◌++◌, Some, None, Ok, Err, replicate};
 ghost use Rattle.s3_operator.specs.declared.halt_code.HaltCode.TheVariants.{DuplicateKey, FileFull, KeyChanged, KeyNotAscending, NothingToUpdate};
 ghost use Rattle.s3_slots.specs.Inner.Samples.{named};
 ghost use Rattle.s3_keyed.specs.Inner.Samples.{b_and_a, letter};

@@ -19,13 +19,12 @@ impl Level {
     ghost use Rattle.s3_store.specs.Inner.Failures.{failed_transfers};
     ghost use Rattle.s3_labels.specs.Inner.Labelled.{KeepsSaid};
     ghost use Rattle.s3_store.specs.Inner.State.{KeepsContents};
-    ghost use Rattle.s3_meaning.specs.Requests as Meant;
     ghost use Rattle.s3_cycle.specs.declared.request.Request.TheVariants as asks;
     ghost use Rattle.s3_cycle.specs.Inner.Requests.{answer_of};
     ghost use Rattle.s3_job_files.specs.Inner.Holds.{Seen, seen};
     ghost use Rattle.s3_solo.specs.declared.action.Did.TheVariants.{Acted};
     ghost use Rattle.s3_solo.specs.World.{World, JobAtWork};
-    ghost use Rattle.s3_solo.specs.Serving.{answered, at_work, halting, job_ended, served, with_answer};
+    ghost use Rattle.s3_solo.specs.Serving.{answered, at_work, halting, job_ended, with_answer};
     ghost use Rattle.s3_level.specs.Inner.Holds.{Shown, AreAll, around, shown, with_seen, HoldsParts, IsQuiet, IsReady, IsUpTo, Becomes, Stays, Spares, KeepsOthers};
     ghost use Rattle.s3_level.specs.Inner.Turning.{Pends, request_by, waits_by, FitsJob, Comes, AtWorkBecomes, JumpsBecome, TakesTurns};
 

@@ -1,5 +1,5 @@
 //! The job at work.
-ghost use Rattle.std.specs.Prelude.{◌≡◌, true, false, ◌+◌, ◌<◌, ◌≤◌, [], ◌∷◌, length, map, drop, slice_get, slice_range, option_map, replicate, Some, IfOk, IfSome, IsTrue, OnOk, OnErr, MatchOption, ⊤, ◌≢◌, IfErr};
+ghost use Rattle.std.specs.Prelude.{◌≡◌, true, false, ◌+◌, ◌<◌, ◌≤◌, [], ◌∷◌, length, map, drop, slice_range, option_map, Some, IfOk, IfSome, IsTrue, OnOk, OnErr, MatchOption, ⊤, ◌≢◌, IfErr};
 ghost use Rattle.s3_store.specs.Inner.State.{KeepsContents, KeepsInStep};
 ghost use Rattle.s3_store.specs.Inner.Failures.{failed_transfers};
 ghost use Rattle.s3_labels.specs.Inner.Labelled.{KeepsSaid};

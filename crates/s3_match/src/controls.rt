@@ -1,10 +1,8 @@
 //! Control breaks: the control field that is held for each level.
 
-ghost use Rattle.std.specs.Prelude.{◌≡◌, ◌≤◌, ◌==◌, ℕ, IsTrue, IfSome, None, length, option_map, if◌then◌else◌};
+ghost use Rattle.std.specs.Prelude.{◌≡◌, ℕ, IsTrue, None};
 ghost use Rattle.std.specs.Option.{option_or};
 ghost use Rattle.std.specs.List.{list_any};
-ghost use Rattle.s3_lines.specs.Inner.Ranges.{field_in_range};
-ghost use Rattle.s3_meaning.specs.RecordTypes.{RecordType};
 ghost use Rattle.s3_meaning.specs.Selection.{control_value};
 ghost use Rattle.s3_meaning.specs.Source.{has_control_fields as has_control_fields_spec, has_levels as has_levels_spec};
 ghost use Rattle.s3_program.specs.Inner.Stands.{source_named};

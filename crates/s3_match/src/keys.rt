@@ -1,6 +1,6 @@
 //! Keys: what the match fields of a record compare, and the control field of a level.
 
-ghost use Rattle.std.specs.Prelude.{◌≡◌, ◌+◌, ◌≤◌, ◌++◌, [], None, IsTrue, IfSome, is_some, length, option_map, unwrap_or};
+ghost use Rattle.std.specs.Prelude.{◌≡◌, ◌+◌, ◌≤◌, ◌++◌, [], None, IsTrue, is_some, length, unwrap_or};
 ghost use Rattle.arrayvec.specs.ArrayVec.{array_vec_len};
 ghost use Rattle.s3_lines.specs.Inner.Ranges.{field_in_range};
 ghost use Rattle.s3_meaning.specs.Selection as meaning;

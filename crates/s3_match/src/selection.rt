@@ -1,6 +1,6 @@
 //! Which record is processed next, and whether it is matched.
 
-ghost use Rattle.std.specs.Prelude.{◌≡◌, ◌&&◌, ◌<◌, Some, length, slice_index_or};
+ghost use Rattle.std.specs.Prelude.{◌≡◌, ◌<◌, Some, length};
 ghost use Rattle.std.specs.List.{All, list_any};
 ghost use Rattle.s3_lines.specs.declared.sheet.Designation.TheVariants.{Primary, Secondary};
 ghost use Rattle.s3_meaning.specs.Source.{is_designated};

@@ -1,6 +1,6 @@
 //! What the definitions say of themselves: laws, and worked rows.
 
-ghost use Rattle.std.specs.Prelude.{◌≡◌, ◌+◌, ◌*◌, ◌<◌, ◌≤◌, ◌↔◌, ℕ, pos, List, [], ◌∷◌, map, true, false, All, IsTrue, IsSome, Some, None, filter, replicate};
+ghost use Rattle.std.specs.Prelude.{◌≡◌, ◌+◌, ◌*◌, ◌<◌, ◌≤◌, ℕ, pos, List, [], ◌∷◌, map, true, false, All, IsSome, Some, None, filter, replicate};
 ghost use Rattle.s3_meaning.specs.Carriage.{Carriage, spaced, skipped};
 ghost use Rattle.s3_meaning.specs.Selection.{Selected, key_of, is_less, least};
 ghost use Rattle.s3_meaning.specs.Source.{Source, source_of};

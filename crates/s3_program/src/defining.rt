@@ -2,7 +2,6 @@
 
 ghost use Rattle.std.specs.Prelude.{◌≡◌, IfOk, OnOk};
 ghost use Rattle.std.specs.Option.{option_to_list};
-ghost use Rattle.s3_meaning.specs.Source.{field_shape, width};
 ghost use Rattle.s3_program.specs.Inner.Given as spec;
 
 use indexmap::IndexMap;

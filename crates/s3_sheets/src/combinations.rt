@@ -1,7 +1,7 @@
 //! What several columns of a card show together.
 
-ghost use Rattle.std.specs.Prelude.{◌≡◌, ◌≤◌, ◌<◌, ◌+◌, ◌^◌, length, IfSome};
-ghost use Rattle.s3_lines.specs.Ranges.{longest_record as longest_record_spec, is_printer as printer_spec, is_selected as selected_spec, is_between, if_given, shape_in_range, shape_of_positions};
+ghost use Rattle.std.specs.Prelude.{◌≡◌, ◌≤◌, ◌<◌, ◌+◌, ◌^◌, length};
+ghost use Rattle.s3_lines.specs.Ranges.{longest_record as longest_record_spec, is_printer as printer_spec, is_selected as selected_spec, shape_in_range, shape_of_positions};
 ghost use Rattle.s3_sheets.specs.Combinations.{are_filled as are_filled_spec, is_with_index as with_index_spec, has_stray_entry as stray_spec, is_key_within as key_within_spec, has_bad_extent as bad_extent_spec, has_bad_positions as bad_positions_spec, has_bad_factor as bad_factor_spec, has_bad_definition as bad_definition_spec, has_bad_addition as bad_addition_spec, has_bad_space as bad_space_spec, is_of_date as of_date_spec, has_bad_content as bad_content_spec, has_no_content as no_content_spec, begins_too_early as too_early_spec, has_early_constant as early_constant_spec, combined_faults as combined_faults_spec};
 ghost use Rattle.s3_sheets.specs.Entries.{constant_text};
 

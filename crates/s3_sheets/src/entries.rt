@@ -1,11 +1,10 @@
 //! What the entries of the sheets spell.
 
-ghost use Rattle.std.specs.Prelude.{◌≡◌, ◌≤◌, ◌<◌, ◌+◌, ◌*◌, ◌^◌, length, map, option_map, ◌↔◌, List, ℕ, Some, IfSome, false, if◌then◌else◌};
+ghost use Rattle.std.specs.Prelude.{◌≡◌, ◌≤◌, ◌<◌, ◌+◌, ◌*◌, ◌^◌, length, option_map, ◌↔◌, List, ℕ, Some, false, if◌then◌else◌};
 ghost use Rattle.std.specs.List.{prefix_len};
-ghost use Rattle.std.specs.Int.Digits.{number_from_digits_after};
 ghost use Rattle.s3_cards.specs.Names.{is_digit as digit_spec};
 ghost use Rattle.s3_sheets.specs.Inner.Literals.{with_code, with_next_code, is_behind_end, IsConstant};
-ghost use Rattle.s3_sheets.specs.Columns.{are_blank as are_blank_spec, digit};
+ghost use Rattle.s3_sheets.specs.Columns.{are_blank as are_blank_spec};
 ghost use Rattle.s3_sheets.specs.Entries.{constant_text, constant as constant_spec, text_of, without_sign as without_sign_spec, is_negative as negative_spec, without_point as without_point_spec, signed as signed_spec, number_literal_of, text_literal as text_literal_spec, name_within as name_within_spec, factor_of, part_of as part_of_spec, code_of, time_of};
 
 use crate::columns::{number_between, number_onto};

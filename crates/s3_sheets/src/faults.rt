@@ -3,7 +3,7 @@
 ghost use Rattle.std.specs.Prelude.{◌≡◌, map, true};
 ghost use Rattle.std.specs.List.{list_all};
 ghost use Rattle.s3_sheets.specs.Inner.Rules.{is_on_card};
-ghost use Rattle.s3_sheets.specs.Rules.{broken_by, no_faults, one_fault, both_faults};
+ghost use Rattle.s3_sheets.specs.Rules.{broken_by, one_fault, both_faults};
 ghost use Rattle.s3_sheets.specs.Inner.RuleViews.{rule_view};
 ghost use Rattle.s3_sheets.specs.Sheets.{has_fault as has_fault_spec, faults_of as faults_of_spec};
 

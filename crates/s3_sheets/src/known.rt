@@ -1,11 +1,7 @@
 //! The files and the fields that the cards so far define, by their names. Whether one is known costs the same however many
 //! there are.
-ghost use Rattle.std.specs.Prelude.{◌≡◌, ◌++◌, ◌∷◌, [], None, Some, length, OnOk, is_some};
-ghost use Rattle.std.specs.List.{list_any};
-ghost use Rattle.std.specs.Map.{lookup};
+ghost use Rattle.std.specs.Prelude.{◌≡◌, ◌++◌, [], None, Some, length, OnOk, is_some};
 ghost use Rattle.std.specs.Option.{option_to_list};
-ghost use Rattle.indexmap.specs.IndexMap.{insert_entry};
-ghost use Rattle.s3_cards.specs.Names.{same_name};
 ghost use Rattle.s3_sheets.specs.Sheets.{record_length_of, new_file, new_field};
 
 use indexmap::{IndexMap, IndexSet};

@@ -1,6 +1,6 @@
 //! The typed line of a card. It is made of every card; of a card without a fault it is what the card says.
 
-ghost use Rattle.std.specs.Prelude.{◌≡◌, ◌≤◌, ◌<◌, ◌^◌, length};
+ghost use Rattle.std.specs.Prelude.{◌≡◌, ◌≤◌, ◌<◌, length};
 ghost use Rattle.s3_sheets.specs.Lines.{number_or_zero as number_or_zero_spec, maybe_name as maybe_name_spec, use_of as use_of_spec, designation_of as designation_of_spec, device_of as device_of_spec, key_of as key_of_spec, file_line as file_line_spec, record_indicator as record_indicator_spec, three_codes as three_codes_spec, form_of as form_of_spec, field_line as field_line_spec, longest_name as longest_name_spec, definition_of as definition_of_spec, calculation_line as calculation_line_spec, three_conditions as three_conditions_spec, output_kind_of as output_kind_of_spec, is_addition as is_addition_spec, space_of as space_of_spec, spacing_of as spacing_of_spec, output_card as output_card_spec, output_form as output_form_spec, content_of as content_of_spec, output_field as output_field_spec, sheet_line as sheet_line_spec, line_of as line_of_spec};
 
 use crate::columns::{columns, number, number_between, small_between};

@@ -1,6 +1,6 @@
 //! Reading card by card: what is kept of the cards before, and what it says of the next one.
 
-ghost use Rattle.std.specs.Prelude.{◌≡◌, ◌<◌, ◌^◌, nat_lt, ◌&&◌, ◌||◌, ◌==◌, length, OnOk, IfOk};
+ghost use Rattle.std.specs.Prelude.{◌≡◌, ◌<◌, ◌^◌, ◌&&◌, ◌||◌, ◌==◌, length, OnOk, IfOk};
 ghost use Rattle.s3_sheets.specs.Columns.{columns as columns_spec, are_blank as are_blank_spec};
 ghost use Rattle.s3_sheets.specs.Sheets.{file_of as file_of_spec, field_of as field_of_spec, result_defined as result_defined_spec, exceeds as exceeds_spec, length_behind as length_behind_spec, line_length as line_length_spec, has_code_past as has_code_past_spec, names_position_past as position_past_spec};
 ghost use Rattle.s3_sheets.specs.Inner.Progress.{is_misplaced_behind, lacks_its_file, is_outside_behind, length_named, passes_limit as passes_limit_spec, files_with, fields_with};

@@ -3,7 +3,7 @@
 ghost use Rattle.std.specs.Prelude.{◌≡◌, ◌≤◌, ◌<◌, ◌+◌, ◌++◌, length, OnOk, slice_range};
 ghost use Rattle.std.specs.Option.{option_to_list};
 ghost use Rattle.s3_sheets.specs.Lines.{line_of as line_of_spec};
-ghost use Rattle.s3_sheets.specs.Sheets.{card_holds, numbers as numbers_spec};
+ghost use Rattle.s3_sheets.specs.Sheets.{card_holds};
 ghost use Rattle.s3_sheets.specs.Inner.Sheets.{card_diagnostics, Reads};
 
 use crate::fault::SheetFault;

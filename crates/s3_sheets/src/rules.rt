@@ -1,6 +1,6 @@
 //! What may stand in the columns of a card, and what is wrong where something else does.
 
-ghost use Rattle.std.specs.Prelude.{◌≡◌, ◌≤◌, map, length, true};
+ghost use Rattle.std.specs.Prelude.{◌≡◌, map, length, true};
 ghost use Rattle.std.specs.List.{list_all, list_any};
 ghost use Rattle.s3_cards.specs.Names.{is_letter as letter_spec};
 ghost use Rattle.s3_sheets.specs.Columns.{same_codes};

@@ -1,5 +1,4 @@
 //! A run that makes, loads, adds and closes, over a store that fails at each of its calls in turn.
-ghost use Rattle.std.specs.Prelude.{◌≡◌};
 ghost use Rattle.s3_slots.specs.Inner.Making.{IsNewFile};
 ghost use Rattle.s3_labels.specs.Inner.Areas.{IsReady};
 

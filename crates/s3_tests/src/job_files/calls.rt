@@ -1,5 +1,5 @@
 //! Calls on the files of a job, with what they require tested.
-ghost use Rattle.std.specs.Prelude.{◌≡◌, [], OnOk};
+ghost use Rattle.std.specs.Prelude.{OnOk};
 ghost use Rattle.s3_labels.specs.Inner.Areas.{IsReady as IsPackReady};
 ghost use Rattle.s3_job_files.specs.Inner.Holds.{seen, IsReady};
 

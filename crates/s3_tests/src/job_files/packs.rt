@@ -1,5 +1,5 @@
 //! Packs in memory, and the files that are made on them.
-ghost use Rattle.std.specs.Prelude.{◌≡◌, ◌≤◌, true};
+ghost use Rattle.std.specs.Prelude.{◌≡◌, true};
 ghost use Rattle.s3_cards.specs.Names.{is_name};
 ghost use Rattle.s3_slots.specs.Inner.Making.{IsNewFile, IsSize};
 ghost use Rattle.s3_slots.specs.Slots.{is_key_of};
