@@ -1,4 +1,4 @@
--- A level's own entries.
+-- A level's own entries: those of a script that name it, in their order.
 use Rattle.std.specs.Prelude.{List, [], ◌∷◌}
 use Rattle.s3_cards.specs.declared.levels.LevelId.{LevelId}
 use Rattle.s3_cards.specs.declared.levels.LevelId.TheVariants.{One, Two}

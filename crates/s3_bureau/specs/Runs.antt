@@ -1,4 +1,4 @@
--- What a run makes of a pack, two decks and a script.
+-- What a run makes of a pack, two decks and a script: the texts of both levels and what it leaves of the pack, or its refusal.
 use Rattle.std.specs.Prelude.{◌≡◌, ℕ, List, [], length, slice_get, Option, None, Result, Ok, Err}
 use Rattle.std.specs.List.{concat}
 use Rattle.s3_cards.specs.declared.levels.LevelId.{LevelId}

@@ -1,4 +1,4 @@
--- Reports and halt texts as bytes.
+-- The report of printed lines and the text of halts, as bytes.
 use Rattle.std.specs.Prelude.{ℕ, ◌-◌, ◌==◌, List, [], ◌∷◌, ◌++◌, Option, Some, None, codes, length, map, replicate, unwrap_or, if◌then◌else◌}
 use Rattle.std.specs.List.{flat_map}
 use Rattle.std.specs.Fmt.{decimal}

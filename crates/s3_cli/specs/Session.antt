@@ -1,4 +1,4 @@
--- What a session writes, and when it refuses.
+-- What a session writes, which pack it hands out, and when it refuses.
 use Rattle.std.specs.Prelude.{◌≡◌, ◌⊎◌, ℕ, ◌<◌, ◌≤◌, List, [], ◌∷◌, ◌++◌, length, Option, Some, None, Result, Ok, Err, codes}
 use Rattle.std.specs.Io.KnownBytes.{Appends}
 use Rattle.s3_bureau.specs.declared.run_fault.RunFault.{RunFault}

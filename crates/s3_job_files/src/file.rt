@@ -23,7 +23,8 @@ use std::alloc::Global;
 /// The most bytes of a record.
 const LONGEST_RECORD: usize = 1024;
 
-/// The most bytes of a record that goes by way of a room of no more: a room for the longest takes longer to make ready.
+/// The most bytes of a record that is changed by way of short rooms on the stack. A longer one goes by way of rooms for the
+/// longest record, which take longer to make ready.
 const SHORT_RECORD: usize = 128;
 
 /// A file of the job at work.

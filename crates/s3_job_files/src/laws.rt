@@ -19,7 +19,7 @@ pub fn added_records_are_found_but_not_read()
     ensures no_number { place_sought (two_keys 10) b_a_and_c (RecordNumber (pos 0)) ≡ None }
     ensures below { place_sought (two_keys 10) b_a_and_c (RecordNumber (negsuc 0)) ≡ None }
     ensures above { place_sought (two_keys 10) b_a_and_c (RecordNumber (pos 4)) ≡ None }
-    // of requests: the records come by key, then none more, and the added one is chained
+    // requests for records: they come by key, then none more, and the added one is chained
     ensures read { answer_behind [] (Read (named 0xc9) 10) ≡ Some (Found (letter 0xc1)) }
     ensures ended { answer_behind (Add (named 0xc9) (letter 0xc3) ∷ Read (named 0xc9) 10 ∷ Read (named 0xc9) 10 ∷ []) (Read (named 0xc9) 10) ≡ Some Nothing }
     ensures chained { answer_behind (Add (named 0xc9) (letter 0xc3) ∷ []) (Chain (named 0xc9) 10 (Key (0xc3 ∷ []))) ≡ Some (Found (letter 0xc3)) }

@@ -28,11 +28,11 @@ impl Level {
     ghost use Rattle.s3_level.specs.Inner.Holds.{Shown, AreAll, around, shown, with_seen, HoldsParts, IsQuiet, IsReady, IsUpTo, Becomes, Stays, Spares, KeepsOthers};
     ghost use Rattle.s3_level.specs.Inner.Turning.{Pends, request_by, waits_by, FitsJob, Comes, AtWorkBecomes, JumpsBecome, TakesTurns};
 
-    /// Turns, so many at most and one at least: each performs the pending request of the job at work, or begins the next job. They are
-    /// several only where they pass jumps.
+    /// Takes turns, at most `most` of them and at least one: each performs the pending request of the job at work, or begins the
+    /// next job. They are several only where they pass jumps.
     ///
-    /// It is a few tests on the way to what is asked for: they are inlined where turns are repeated, and what is large or rare is
-    /// not.
+    /// The function is a few tests on the way to what is asked for, which are inlined where turns are repeated; what is large or
+    /// rare is called, and not inlined.
     #[inline(always)]
     #[tactic(auto, using(crate::proofs::Turns::none_open, crate::proofs::Turns::once_up_to, crate::proofs::Turns::once_on_ok, crate::proofs::Turns::once_if_ok, crate::proofs::Turns::once_if_err, crate::proofs::Turns::once_fails))]
     pub(crate) fn step<P: Sectors>(
@@ -70,7 +70,7 @@ impl Level {
             Request::Jump => self.pass_jumps(most.get(), pack),
             Request::End { .. } => Taken::once(self.end(pack)),
             Request::Ask(_) => Taken::once(Ok(Did::Idle)),
-            // those to files
+            // requests to files
             _ => Taken::once(self.serve_file(pack)),
         }
     }

@@ -25,7 +25,8 @@ use s3_labels::Pack;
 use s3_output::composition::{Composition, LONGEST_RECORD};
 use s3_store::{PoolFault, Sectors};
 
-/// The most bytes of a record that goes by way of a room of no more: a room for the longest takes longer to make ready.
+/// The most bytes of a record that is read into a short room on the stack. A longer one is read into a room for the longest
+/// record, which takes longer to make ready.
 const SHORT_RECORD: u16 = 128;
 
 /// A job at work: its number, its program's cycle, its files, and the places of its data cards that are not yet read.

@@ -1,5 +1,5 @@
--- What the entries of a line may be, each by itself, and what lines are those of cards without a fault on the cards alone: in the
--- order of the sheets, each entry in its range, each position within its record.
+-- The ranges that entries of the sheets share: of numbers, of indicators by their use, of record lengths, and of the shapes of
+-- fields.
 use Rattle.std.specs.Prelude.{ℕ, ◌-◌, ◌*◌, nat_le, Bool, true, false, ◌&&◌, Option, Some, None}
 use Rattle.s3_lines.specs.declared.indicator.Indicator.{Indicator}
 use Rattle.s3_lines.specs.declared.indicator.Indicator.TheVariants.{General, Level, LastRecord, Halt, Overflow, Switch}

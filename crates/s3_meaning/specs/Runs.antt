@@ -1,5 +1,5 @@
--- Runs: what a job asks for, given the answers so far. Nothing here suspends: a run takes all its answers,
--- and gives the request that stands when they are used up.
+-- Runs: a run takes all answers that a job got so far, and gives the request that stands when they are used up.
+-- Nothing here suspends.
 use Rattle.std.specs.Prelude.{ℕ, ◌==◌, Bool, true, false, List, [], ◌∷◌, if◌then◌else◌}
 use Rattle.s3_lines.specs.declared.indicator.Indicator.TheVariants.{LastRecord, FirstPage}
 use Rattle.s3_operator.specs.declared.halt_code.HaltCode.{HaltCode}

@@ -1,4 +1,4 @@
--- 7: an indicator that may not stand where it does, or a relation that isn't of its group.
+-- Diagnostic 7: an indicator that may not stand where it does, or a relation that isn't of its group.
 use Rattle.std.specs.Prelude.{ℕ, Bool, true, false, not, ◌&&◌, ◌||◌, List, Option, Some, None, slice_get}
 use Rattle.std.specs.List.{list_any}
 use Rattle.s3_lines.specs.declared.indicator.Indicator.{Indicator}

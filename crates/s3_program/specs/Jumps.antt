@@ -1,4 +1,4 @@
--- 10: a GOTO out of its section, subroutines called in a circle or more than 8 deep.
+-- Diagnostic 10: a GOTO out of its section, subroutines called in a circle or more than 8 deep.
 use Rattle.std.specs.Prelude.{ℕ, zero, suc, ◌-◌, ◌==◌, nat_eq, nat_lt, Bool, true, false, not, ◌&&◌, ◌||◌, List, [], ◌∷◌, Option, Some, None, length, if◌then◌else◌}
 use Rattle.std.specs.List.{list_any}
 use Rattle.std.specs.Option.{option_eq}

@@ -1,4 +1,4 @@
--- 11: match or control fields that disagree or stand on a chained file, or an Mn or Ln given twice in one type.
+-- Diagnostic 11: match or control fields that disagree or stand on a chained file, or an Mn or Ln given twice in one type.
 use Rattle.std.specs.Prelude.{ℕ, ◌==◌, nat_lt, Bool, true, false, not, ◌&&◌, ◌||◌, List, [], ◌∷◌, ◌++◌, Option, Some, None, is_some, map, if◌then◌else◌, option_map}
 use Rattle.std.specs.List.{list_any}
 use Rattle.std.specs.Option.{option_to_list}

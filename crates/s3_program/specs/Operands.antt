@@ -1,6 +1,6 @@
--- 8: an operation that isn't known; a factor, result, H or resulting indicator that is missing, surplus or of the wrong kind; an edit
--- code that doesn't fit its field, a packed alphanumeric field, a field that would begin before position 1. What isn't defined is of
--- any kind: it has 5 alone.
+-- Diagnostic 8: an operation that isn't known; a factor, result, H or resulting indicator that is missing, surplus or of the
+-- wrong kind; an edit code that doesn't fit its field, a packed alphanumeric field, a field that would begin before position 1.
+-- What isn't defined is of any kind: it has 5 alone.
 use Rattle.std.specs.Prelude.{ℕ, ◌+◌, ◌/◌, ◌==◌, nat_le, Bool, true, false, not, ◌&&◌, ◌||◌, List, [], ◌∷◌, Option, Some, None, is_some, is_none}
 use Rattle.std.specs.List.{list_any}
 use Rattle.s3_lines.specs.declared.indicator.Indicator.{Indicator}

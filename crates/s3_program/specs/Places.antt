@@ -1,5 +1,6 @@
--- 9: AND, OR, AN or OR without a line before it, a field card without a record line or line card, C lines out of order, an MVR not
--- next after a DIV without H in the same section, BEGSR and ENDSR that don't pair, a group left open at the end of the sheet.
+-- Diagnostic 9: AND, OR, AN or OR without a line before it, a field card without a record line or line card, C lines out of
+-- order, an MVR not next after a DIV without H in the same section, BEGSR and ENDSR that don't pair, a group left open at the end
+-- of the sheet.
 use Rattle.std.specs.Prelude.{ℕ, ◌==◌, nat_lt, Bool, true, false, not, ◌&&◌, ◌||◌, List, [], ◌∷◌, Option, Some, None, is_none, if◌then◌else◌}
 use Rattle.s3_lines.specs.declared.sheet.InputLine.{InputLine}
 use Rattle.s3_lines.specs.declared.sheet.InputLine.TheVariants.{Record, And as AndCodes, Or as OrCodes, Field as FieldOfRecord}

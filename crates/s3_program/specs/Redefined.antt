@@ -1,5 +1,6 @@
--- 6: a file, tag or subroutine defined twice, a field with two kinds, lengths or decimals, a reserved field defined or changed. PAGE
--- may be changed, with 4 digits and 0 decimals: that is its first definition.
+-- Diagnostic 6: a file, tag or subroutine defined twice, a field with two kinds, lengths or decimals, a reserved field defined or
+-- changed.
+-- PAGE may be changed, with 4 digits and 0 decimals: that is its first definition.
 use Rattle.std.specs.Prelude.{ℕ, ◌+◌, ◌-◌, ◌==◌, Bool, false, not, ◌&&◌, ◌||◌, Option, Some, None}
 use Rattle.s3_cards.specs.declared.name.Name.{Name}
 use Rattle.s3_cards.specs.Names.{same_name}

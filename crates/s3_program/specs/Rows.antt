@@ -1,4 +1,4 @@
--- The table of operations: what each needs.
+-- The table of operations: which factors, result, half adjust and resulting indicators each needs.
 use Rattle.std.specs.Prelude.{Bool, true, false}
 use Rattle.s3_lines.specs.declared.sheet.Operation.{Operation}
 use Rattle.s3_lines.specs.declared.sheet.Operation.TheVariants as op

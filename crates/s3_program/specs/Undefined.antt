@@ -1,4 +1,5 @@
--- 5: a file, field, tag or subroutine that isn't defined, on each card that uses it. What an operation has no use for isn't looked up.
+-- Diagnostic 5: a file, field, tag or subroutine that isn't defined, on each card that uses it.
+-- What an operation has no use for isn't looked up.
 use Rattle.std.specs.Prelude.{Bool, true, false, ◌&&◌, ◌||◌, Option, Some, None}
 use Rattle.std.specs.Option.{option_or}
 use Rattle.s3_lines.specs.declared.sheet.InputLine.{InputLine}

@@ -1,5 +1,6 @@
--- 12: a combination that isn't in the table of files, a second card file or print file, a record line for an output file that isn't a
--- direct load, an output line that its file doesn't allow, packed data, spaces or skips on a file that can't have them.
+-- Diagnostic 12: a combination that isn't in the table of files, a second card file or print file, a record line for an output
+-- file that isn't a direct load, an output line that its file doesn't allow, packed data, spaces or skips on a file that can't
+-- have them.
 use Rattle.std.specs.Prelude.{Bool, true, false, not, ◌&&◌, ◌||◌, Option, Some, None}
 use Rattle.std.specs.Option.{option_or}
 use Rattle.s3_lines.specs.declared.sheet.FileLine.{FileLine}

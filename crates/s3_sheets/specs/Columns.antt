@@ -1,4 +1,4 @@
--- What columns of a card spell.
+-- What columns of a card spell: their codes, whether they are blank, and the number in them.
 use Rattle.std.specs.Prelude.{ℕ, ◌-◌, List, Bool, ◌==◌, Option, Some, None, length, drop, map, nat_eq, nat_lt, slice_range, slice_index, if◌then◌else◌}
 use Rattle.std.specs.List.{list_all, prefix_len}
 use Rattle.std.specs.Cmp.Lexicographic.{pointwise}

@@ -1,4 +1,4 @@
--- What the entries of the sheets spell.
+-- What the entries of the sheets spell: constants, literals, factors, names, record codes, operations, and when a C line is done.
 use Rattle.std.specs.Prelude.{ℕ, ℤ, pos, neg_ℤ, ◌+◌, ◌-◌, nat_lt, List, [], ◌∷◌, ◌++◌, Bool, true, false, ◌==◌, ◌&&◌, ◌||◌, Option, Some, None, option_map, length, take, drop, map, replicate, slice_index, if◌then◌else◌, codes}
 use Rattle.std.specs.List.{prefix_len}
 use Rattle.std.specs.Option.{option_or, option_and_then}

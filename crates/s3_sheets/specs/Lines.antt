@@ -1,4 +1,4 @@
--- The typed line of a card. It is defined for every card; of a card without a fault it is what the card says.
+-- The typed line of each card: of a card without a fault it is what the card says.
 use Rattle.std.specs.Prelude.{ℕ, Bool, true, false, ◌+◌, List, [], ◌∷◌, ◌++◌, ◌==◌, ◌&&◌, zero, suc, Option, Some, None, unwrap_or, length, slice_index_or, if◌then◌else◌, codes}
 use Rattle.std.specs.Option.{option_to_list}
 use Rattle.s3_cards.specs.declared.ebcdic.TheConstants.{LETTER_A, LETTER_B, LETTER_C, LETTER_E, LETTER_H, LETTER_I, LETTER_L, LETTER_M, LETTER_O, LETTER_P, LETTER_R, LETTER_S, LETTER_T, LETTER_U}

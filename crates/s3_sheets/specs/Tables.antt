@@ -1,5 +1,6 @@
--- The rules of each kind of card, each for some columns alone. Columns that stand in no rule are read together with others, in
--- Combinations: 24 to 27 of an F card, 33 to 42 and 49 to 51 of a C card, 16 to 18 of an output line.
+-- The rules of each kind of card, each for some of its columns alone.
+-- Columns that stand in no rule are read together with others, in Combinations: 24 to 27 of an F card, 33 to 42 and 49 to 51 of a
+-- C card, 16 to 18 of an output line.
 use Rattle.std.specs.Prelude.{ℕ, List, [], ◌∷◌, codes}
 use Rattle.s3_cards.specs.declared.ebcdic.TheConstants.{LETTER_L, LETTER_M}
 use Rattle.s3_cards.specs.Codes.{ebcdic}

@@ -1,4 +1,4 @@
--- The printed lines of a level.
+-- The printed lines of a level: those that were drained, those that are queued, and its quota.
 use Rattle.std.specs.Prelude.{ℕ, ◌+◌, ◌-◌, nat_lt, Bool, List, [], ◌∷◌, ◌++◌, length}
 use Rattle.s3_cards.specs.Printed.{Printed}
 

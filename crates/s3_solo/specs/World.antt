@@ -1,4 +1,5 @@
--- The world of one level. It knows no slot of a program, and nothing of the other level.
+-- The world of one level: its deck and the jobs left, library, switches and date, its files and the masters', the job at work
+-- with its answers so far, printed lines, and halts. It knows no slot of a program, and nothing of the other level.
 use Rattle.std.specs.Prelude.{ℕ, ◌+◌, ◌==◌, List, [], replicate, Option, None, Result, if◌then◌else◌}
 use Rattle.s3_cards.specs.declared.levels.LevelId.{LevelId}
 use Rattle.s3_cards.specs.declared.name.Name.{Name}

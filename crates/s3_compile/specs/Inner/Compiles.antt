@@ -1,4 +1,4 @@
--- What compiling answers.
+-- What compiling answers: a program that stands for the lines, or their diagnostics.
 use Rattle.std.specs.Prelude.{◌≡◌, ◌≢◌, ℕ, List, [], Result, Ok, Err}
 use Rattle.s3_lines.specs.declared.sheet.Line.{Line}
 use Rattle.s3_program.specs.declared.program.Program.{Program}

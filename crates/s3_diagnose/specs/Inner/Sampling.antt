@@ -1,4 +1,4 @@
--- What the samples show.
+-- Small sources have exactly the diagnostics that stand beside them.
 use Rattle.std.specs.Prelude.{◌≡◌, List, map}
 use Rattle.s3_diagnose.specs.Diagnostics.{compile_diagnostics}
 use Rattle.s3_diagnose.specs.Inner.Samples.{Sample, cards_from}

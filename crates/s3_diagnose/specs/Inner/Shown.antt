@@ -1,4 +1,4 @@
--- What the compiler's tables say.
+-- What the compiler's tables say of the lines, as look-ups.
 use Rattle.indexmap.specs.IndexMap.{get}
 use Rattle.indexmap.specs.IndexSet.{contains}
 use Rattle.s3_cards.specs.Names.{same_name}

@@ -1,4 +1,4 @@
--- What calls on files and labels are refused for, passed on; and a file that has grown.
+-- What a refused call on files or labels answers a job, and a file that has grown.
 use Rattle.std.specs.Prelude.{◌≡◌, ◌≤◌, Result, Ok, Err}
 use Rattle.s3_store.specs.declared.pool_fault.PoolFault.{PoolFault}
 use Rattle.s3_labels.specs.declared.fault.ChangeFault.{ChangeFault}

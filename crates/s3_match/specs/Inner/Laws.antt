@@ -1,4 +1,4 @@
--- What the laws of selection say.
+-- What the laws of selection speak of: heads that may be selected, the first of the least ones, and heads with or without a key.
 use Rattle.std.specs.Prelude.{ℕ, ◌≡◌, Bool, true, false, not, is_some, List, ◌∷◌, ◌++◌, Option, Some, filter_map, slice_get}
 use Rattle.std.specs.Option.{option_and_then}
 use Rattle.std.specs.List.{All, Any}
