@@ -29,7 +29,7 @@ use s3_program::call::Call;
 use s3_program::program::Meaning;
 use s3_program::standing::{CalculationStanding, FileStanding, InputStanding, OutputStanding};
 
-/// Whether 6 holds of an F line: the first F line with its name is another one.
+/// Whether diagnostic 6 holds of an F line: the first F line with its name is another one.
 fn file_redefined(places: &IndexMap<Name, usize>, at: &FileStanding, file: &FileLine) -> bool
     ensures { result ≡ file_redefined_spec (get same_name places.now) at.now file.now }
 {

@@ -1,4 +1,4 @@
-//! 7: an indicator that may not stand where it does, or a relation that isn't of its group.
+//! Diagnostic 7: an indicator that may not stand where it does, or a relation that isn't of its group.
 
 ghost use Rattle.std.specs.Prelude.{◌≡◌};
 ghost use Rattle.s3_program.specs.Indications as spec;
@@ -21,7 +21,7 @@ fn may_set_overflow(operation: Option<Operation>) -> bool
     )
 }
 
-/// Whether 7 holds of a C line: it has an overflow indicator as a resulting one, and its operation may not set it.
+/// Whether diagnostic 7 holds of a C line: it has an overflow indicator as a resulting one, and its operation may not set it.
 pub fn calculation_misindicated<N>(line: &CalculationLine<N>) -> bool
     ensures { result ≡ spec.calculation_misindicated line.now }
 {

@@ -1,4 +1,4 @@
-//! 10: a GOTO out of its section, and calls that are forbidden.
+//! Diagnostic 10: a GOTO out of its section, and calls that are forbidden.
 
 ghost use Rattle.std.specs.Prelude.{◌≡◌};
 ghost use Rattle.indexmap.specs.IndexSet.{contains};
@@ -13,8 +13,8 @@ use s3_program::call::Call;
 use s3_program::program::Meaning;
 use s3_program::standing::CalculationStanding;
 
-/// The section of a C line where it stands: 0 detail, 1 total, 2 outside of every subroutine, and 3 more than the place of its BEGSR
-/// in a subroutine.
+/// The section of a C line where it stands: 0 detail, 1 total, 2 outside of every subroutine, and 3 more than the place of its
+/// BEGSR in a subroutine.
 pub fn section_of(at: &CalculationStanding, line: &CalculationLine<Meaning>) -> usize
     requires { IsEarly at.now }
     ensures { result ≡ spec.section_of at.now line.now }
@@ -86,7 +86,7 @@ fn calls_badly(forbidden: &IndexSet<Call>, caller: Option<usize>, callee: Option
     }
 }
 
-/// Whether 10 holds of a C line: it is a GOTO to a tag of another section, or a call that is forbidden.
+/// Whether diagnostic 10 holds of a C line: it is a GOTO to a tag of another section, or a call that is forbidden.
 pub fn calculation_strays(
     forbidden: &IndexSet<Call>,
     at: &CalculationStanding,

@@ -1,4 +1,4 @@
-//! 11: match and control fields.
+//! Diagnostic 11: match and control fields.
 
 ghost use Rattle.std.specs.Prelude.{◌≡◌, IsTrue};
 ghost use Rattle.s3_program.specs.Indications.{input_misindicated as input_misindicated_spec, is_unrelated as is_unrelated_spec};
@@ -34,7 +34,7 @@ fn is_unrelated(tables: &MarkTables, group: Option<usize>, relation: Option<Indi
     }
 }
 
-/// Whether 7 holds of an I line: an indicator of a text for plus or minus, or a relation that isn't of its group.
+/// Whether diagnostic 7 holds of an I line: an indicator of a text for plus or minus, or a relation that isn't of its group.
 pub fn input_misindicated(
     tables: &MarkTables,
     at: &InputStanding,
@@ -239,7 +239,8 @@ fn type_unlike(tables: &MarkTables, kind: Option<TypeKey>) -> bool
     }
 }
 
-/// Whether 11 holds of an I line: match or control fields disagree, stand on a chained file, or are given twice in one type.
+/// Whether diagnostic 11 holds of an I line: match or control fields disagree, stand on a chained file, or are given twice in one
+/// type.
 pub fn input_mismatched(tables: &MarkTables, at: &InputStanding, line: &InputLine<Meaning>) -> bool
     requires { IsTrue (is_ranged_input line.now) }
     ensures { result ≡ spec.input_mismatched (marks_shown tables.now) at.now line.now }

@@ -1,4 +1,4 @@
-//! 8: what an operation needs, and what a field that is put out needs.
+//! Diagnostic 8: what an operation needs, and what a field that is put out needs.
 
 ghost use Rattle.std.specs.Prelude.{◌≡◌};
 ghost use Rattle.s3_program.specs.Operands as spec;
@@ -250,8 +250,8 @@ fn is_bare(line: &CalculationLine<Meaning>) -> bool
         && are_blank(&line.indicators)
 }
 
-/// Whether 8 holds of a C line: it isn't what its operation needs. `is_cut` says that another C line follows which doesn't go on
-/// with it by AN or OR.
+/// Whether diagnostic 8 holds of a C line: it isn't what its operation needs. `is_cut` says that another C line follows which
+/// doesn't go on with it by AN or OR.
 pub fn calculation_unfit(is_cut: bool, line: &CalculationLine<Meaning>) -> bool
     ensures { result ≡ spec.calculation_unfit is_cut line.now }
 {
@@ -268,7 +268,7 @@ fn is_packed_text(form: FieldForm) -> bool
     matches!(form, FieldForm::PackedText)
 }
 
-/// Whether 8 holds of an I line: its field is packed and alphanumeric.
+/// Whether diagnostic 8 holds of an I line: its field is packed and alphanumeric.
 pub fn input_unfit(line: &InputLine<Meaning>) -> bool
     ensures { result ≡ spec.input_unfit line.now }
 {
@@ -333,7 +333,8 @@ fn content_fits(content: &OutputContent<Meaning>, end: u16) -> bool
     }
 }
 
-/// Whether 8 holds of an O line: its edit code or its packing doesn't fit its field, or the field would begin before position 1.
+/// Whether diagnostic 8 holds of an O line: its edit code or its packing doesn't fit its field, or the field would begin before
+/// position 1.
 pub fn output_unfit(line: &OutputLine<Meaning>) -> bool
     ensures { result ≡ spec.output_unfit line.now }
 {

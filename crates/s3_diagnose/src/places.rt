@@ -1,4 +1,4 @@
-//! 9: lines that stand where they may not.
+//! Diagnostic 9: lines that stand where they may not.
 
 ghost use Rattle.std.specs.Prelude.{◌≡◌};
 ghost use Rattle.s3_program.specs.Places as spec;
@@ -14,7 +14,7 @@ use s3_lines::sheet::{
 };
 use s3_program::standing::{CalculationStanding, InputStanding, OutputStanding};
 
-/// Whether 9 holds of an I line: it goes on with nothing, or it is a field line without a record line before it.
+/// Whether diagnostic 9 holds of an I line: it goes on with nothing, or it is a field line without a record line before it.
 pub fn input_misplaced<N>(at: &InputStanding, line: &InputLine<N>) -> bool
     ensures { result ≡ spec.input_misplaced at.now line.now }
 {
@@ -25,7 +25,7 @@ pub fn input_misplaced<N>(at: &InputStanding, line: &InputLine<N>) -> bool
     }
 }
 
-/// Whether 9 holds of an O line: it goes on with nothing, or it is a field card without a line card before it.
+/// Whether diagnostic 9 holds of an O line: it goes on with nothing, or it is a field card without a line card before it.
 pub fn output_misplaced<N>(at: &OutputStanding, line: &OutputLine<N>) -> bool
     ensures { result ≡ spec.output_misplaced at.now line.now }
 {
@@ -179,8 +179,8 @@ fn is_unknown(operation: Option<Operation>) -> bool
     matches!(operation, Some(Operation::Unknown))
 }
 
-/// Whether 9 holds of a C line where it stands, above these lines: it is out of order, goes on with nothing or leaves its group open,
-/// is an MVR without its DIV, or a BEGSR or ENDSR that doesn't pair.
+/// Whether diagnostic 9 holds of a C line where it stands, above these lines: it is out of order, goes on with nothing or leaves
+/// its group open, is an MVR without its DIV, or a BEGSR or ENDSR that doesn't pair.
 pub fn calculation_misplaced<N>(
     at: &CalculationStanding,
     later: &[Line],

@@ -1,4 +1,4 @@
-//! 6: a name defined twice or otherwise, or a reserved field defined or changed.
+//! Diagnostic 6: a name defined twice or otherwise, or a reserved field defined or changed.
 
 ghost use Rattle.std.specs.Prelude.{◌≡◌, IsTrue};
 ghost use Rattle.s3_program.specs.Redefined as spec;
@@ -39,7 +39,8 @@ fn is_reshaped(shape: Shape, meaning: &Meaning) -> bool
     }
 }
 
-/// Whether 6 holds of an I line: its field has another shape where it is first defined, or it is a field of the job's date.
+/// Whether diagnostic 6 holds of an I line: its field has another shape where it is first defined, or it is a field of the job's
+/// date.
 pub fn input_redefined(line: &InputLine<Meaning>) -> bool
     requires { IsTrue (is_ranged_input line.now) }
     ensures { result ≡ spec.input_redefined line.now }
@@ -106,8 +107,8 @@ fn label_redefined(place: usize, operation: Operation, factor: Option<Factor<Mea
     }
 }
 
-/// Whether 6 holds of a C line: its tag or subroutine is defined twice, its result has another shape where it is first defined, or a
-/// reserved field is defined or changed.
+/// Whether diagnostic 6 holds of a C line: its tag or subroutine is defined twice, its result has another shape where it is first
+/// defined, or a reserved field is defined or changed.
 pub fn calculation_redefined(at: &CalculationStanding, line: &CalculationLine<Meaning>) -> bool
     ensures { result ≡ spec.calculation_redefined at.now line.now }
 {

@@ -1,4 +1,4 @@
-//! 5: a file, field, tag or subroutine that isn't defined.
+//! Diagnostic 5: a file, field, tag or subroutine that isn't defined.
 
 ghost use Rattle.std.specs.Prelude.{◌≡◌};
 ghost use Rattle.s3_program.specs.Undefined as spec;
@@ -55,7 +55,7 @@ fn row_has_undefined(row: &Row, line: &CalculationLine<Meaning>) -> bool
         || (is_target(row.result) && is_undefined_entry(line.result))
 }
 
-/// Whether 5 holds of a C line: something that its operation uses isn't defined.
+/// Whether diagnostic 5 holds of a C line: something that its operation uses isn't defined.
 pub fn calculation_undefined(line: &CalculationLine<Meaning>) -> bool
     ensures { result ≡ spec.calculation_undefined line.now }
 {
@@ -65,7 +65,7 @@ pub fn calculation_undefined(line: &CalculationLine<Meaning>) -> bool
     }
 }
 
-/// Whether 5 holds of an I line: the file of a record line isn't defined.
+/// Whether diagnostic 5 holds of an I line: the file of a record line isn't defined.
 pub fn input_undefined(line: &InputLine<Meaning>) -> bool
     ensures { result ≡ spec.input_undefined line.now }
 {
@@ -84,7 +84,7 @@ fn content_undefined(content: &OutputContent<Meaning>) -> bool
     }
 }
 
-/// Whether 5 holds of an O line where it stands: its file or its field isn't defined.
+/// Whether diagnostic 5 holds of an O line where it stands: its file or its field isn't defined.
 pub fn output_undefined(at: &OutputStanding, line: &OutputLine<Meaning>) -> bool
     ensures { result ≡ spec.output_undefined at.now line.now }
 {

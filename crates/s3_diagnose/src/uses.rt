@@ -1,4 +1,4 @@
-//! 12: what a file doesn't allow.
+//! Diagnostic 12: what a file doesn't allow.
 
 ghost use Rattle.std.specs.Prelude.{◌≡◌};
 ghost use Rattle.s3_program.specs.Uses as spec;
@@ -13,7 +13,8 @@ use s3_lines::sheet::{
 use s3_program::program::Meaning;
 use s3_program::standing::{FileStanding, InputStanding, OutputStanding};
 
-/// Whether 12 holds of an F line where it stands: it isn't in the table of files, or is a second card file or print file.
+/// Whether diagnostic 12 holds of an F line where it stands: it isn't in the table of files, or is a second card file or print
+/// file.
 pub fn file_misused(at: &FileStanding, file: &FileLine) -> bool
     ensures { result ≡ spec.file_misused at.now file.now }
 {
@@ -46,8 +47,8 @@ fn is_packed(form: FieldForm) -> bool
     matches!(form, FieldForm::Packed(_) | FieldForm::PackedText)
 }
 
-/// Whether 12 holds of an I line where it stands: a record line for a file that may have none, or packed data that its file can't
-/// have.
+/// Whether diagnostic 12 holds of an I line where it stands: a record line for a file that may have none, or packed data that its
+/// file can't have.
 pub fn input_misused(at: &InputStanding, line: &InputLine<Meaning>) -> bool
     ensures { result ≡ spec.input_misused at.now line.now }
 {
@@ -101,8 +102,8 @@ fn is_entry_off_disk(entry: Option<Meaning>) -> bool
     }
 }
 
-/// Whether 12 holds of an O line where it stands: a line that its file doesn't allow, or spaces, skips or packed data that its file
-/// can't have.
+/// Whether diagnostic 12 holds of an O line where it stands: a line that its file doesn't allow, or spaces, skips or packed data
+/// that its file can't have.
 pub fn output_misused(at: &OutputStanding, line: &OutputLine<Meaning>) -> bool
     ensures { result ≡ spec.output_misused at.now line.now }
 {

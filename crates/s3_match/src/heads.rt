@@ -48,8 +48,8 @@ pub struct InputFile {
     pub last_key: RecordKey,
 }
 
-/// Keeps the bytes of a record in place of those that were kept. Mostly a record of the same length is there, and they are laid over
-/// it.
+/// Keeps the bytes of a record in place of those that were kept. Mostly a record of the same length is there, and they are laid
+/// over it.
 pub fn keep_record(kept: &mut ArrayVec<u8, RECORD_BYTES>, bytes: &[u8])
     requires { length bytes.now ≤ RECORD_BYTES }
     ensures { kept.new.items ≡ bytes.now }

@@ -318,8 +318,8 @@ impl Reading {
         self.files[place].count_read();
     }
 
-    /// Puts a record of a type at the head of the file at a place and answers true, if it is in sequence: its key isn't below that of
-    /// the file's last head with match fields. Else it answers false.
+    /// Puts a record of a type at the head of the file at a place and answers true, if it is in sequence: its key isn't below
+    /// that of the file's last head with match fields. Else it answers false.
     pub fn put(&mut self, program: &Program, place: usize, start: TypeStart, bytes: &[u8]) -> bool
         requires unread { IsUnreadAt self.old.files.items place }
         requires sound { IsReading program.now self.old }

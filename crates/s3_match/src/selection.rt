@@ -73,8 +73,8 @@ fn some_secondary_has(program: &Program, files: &[InputFile], key: &RecordKey) -
         .any(|input| is_secondary_with_key(program, input, key))
 }
 
-/// Whether MR is on for the head of a file: a primary head where a secondary one has its key, a secondary head where its key is that
-/// of the last primary record with match fields.
+/// Whether MR is on for the head of a file: a primary head where a secondary one has its key, a secondary head where its key is
+/// that of the last primary record with match fields.
 #[inline(always)]
 pub fn is_matched(
     program: &Program,

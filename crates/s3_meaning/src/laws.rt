@@ -55,9 +55,9 @@ pub fn totals_are_printed()
         ≡ End false }
 {}
 
-/// For each request, which answers of every kind fit it: to one for a card, 96 bytes or none; to one for a record, so many bytes as
-/// its file's records have, or none; to one that writes into a file, done, or what that file can refuse; to a halt, the replies that
-/// it allows; and none to the end of a job.
+/// For each request, which answers of every kind fit it: to one for a card, 96 bytes or none; to one for a record, so many bytes
+/// as its file's records have, or none; to one that writes into a file, done, or what that file can refuse; to a halt, the
+/// replies that it allows; and none to the end of a job.
 pub fn answers_fit_their_requests()
     ensures cards { filter (fits Card) all_answers ≡ Found (replicate 96 0x40) ∷ Nothing ∷ [] }
     ensures records { filter (fits (Read cards 2)) all_answers ≡ Found (replicate 2 0x40) ∷ Nothing ∷ [] }

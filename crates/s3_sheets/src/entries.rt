@@ -247,7 +247,8 @@ pub fn time(columns: &[u8]) -> Option<CalculationTime>
     }
 }
 
-/// A constant is read as the text that was written, with its apostrophes twice and blanks behind it, and nothing else is a constant.
+/// A constant is read as the text that was written, with its apostrophes twice and blanks behind it, and nothing else is a
+/// constant.
 pub fn constants_as_written()
     ensures { (columns text : List ℕ) → (constant_text columns ≡ Some text) ↔ IsConstant columns text }
 {}

@@ -27,11 +27,11 @@ pub enum Fault {
 /// Which of the diagnostics 2 to 4 a card's own columns show.
 #[derive(Clone, Copy)]
 pub struct Faults {
-    /// Whether 2 shows: an entry that isn't allowed.
+    /// Whether diagnostic 2 shows: an entry that isn't allowed.
     pub entry: bool,
-    /// Whether 3 shows: a name or literal that is missing or ill formed.
+    /// Whether diagnostic 3 shows: a name or literal that is missing or ill formed.
     pub name: bool,
-    /// Whether 4 shows: a number that is missing, ill formed or out of its range.
+    /// Whether diagnostic 4 shows: a number that is missing, ill formed or out of its range.
     pub number: bool,
 }
 

@@ -80,8 +80,8 @@ fn read_cards(alloc: Global, cards: &[Card], from: usize) -> Result<Vec<Line>, S
 /// The typed lines of the cards of a deck from place `from` up to but without place `to`, or their diagnostics.
 ///
 /// A diagnostic names its card by its number in the deck, from 1. They are those that show on single cards: 1 no sheet, or out of
-/// order; 2 an entry that isn't allowed; 3 a name or literal that is missing or ill formed; 4 a number that is missing, ill formed or
-/// out of its range, or a position outside its record; 13 more than 20 files or 999 fields.
+/// order; 2 an entry that isn't allowed; 3 a name or literal that is missing or ill formed; 4 a number that is missing, ill
+/// formed or out of its range, or a position outside its record; 13 more than 20 files or 999 fields.
 ///
 /// The lines are in the order of the sheets and of their cards, each entry is in its range, and each position within its record.
 pub fn read_sheets(
