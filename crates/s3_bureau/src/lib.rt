@@ -31,8 +31,9 @@
 //! texts, unless a halt `NS` is shown over the old one (`a_migrated_pack_gives_the_same_texts`). Worked scripts and texts are
 //! computed (`scripts_are_read`, `reports_are_written`, `halt_texts_are_written`).
 //!
-//! Only tested, by rows: what a saved pack has when it is mounted anew where a slot was entangled. Nobody says what a stop leaves
-//! of the labels and the region of the level that stopped.
+//! Only tested, by rows: what a saved pack has when it is mounted anew where a slot was entangled; that memory is said to run
+//! out only where a growth was refused, which no contract can say; and the texts of faults. Nobody says what a stop leaves of
+//! the labels and the region of the level that stopped.
 #![tactic(auto)]
 
 mod bureau;

@@ -7,7 +7,7 @@
 //! with a slot for each name, where the source has no diagnostic; else exactly the list of its diagnostics, by card and then number
 //! (`diagnostics_are_in_order`); or that memory ran out.
 //!
-//! Nothing is left to tests alone.
+//! Only tested: that memory is said to run out only where a growth was refused, which no contract can say; and the texts of faults.
 
 #![tactic(auto)]
 

@@ -10,7 +10,7 @@
 //! - some hundred sources, with their lists worked by hand from the rules, have these lists: the definitions are computed on them
 //!   (`samples_have_their_diagnostics`).
 //!
-//! Nothing is left to tests alone.
+//! Only tested: that memory is said to run out only where a growth was refused, which no contract can say.
 
 #![tactic(auto)]
 

@@ -12,8 +12,10 @@
 //!   slots still say them; and no call names a sector that isn't there.
 //!
 //! Worked rows are computed: `added_records_are_found_but_not_read`, `a_duplicate_is_told_before_a_full_file`,
-//! `an_update_keeps_the_key`, `the_end_of_a_job_sets_counts`. Nothing is left to tests alone; of a pack whose sectors have failed
-//! nothing more is said.
+//! `an_update_keeps_the_key`, `the_end_of_a_job_sets_counts`.
+//!
+//! Only tested: that memory is said to run out only where a growth was refused, which no contract can say. What a pack has
+//! after its sectors have failed nobody says.
 
 #![tactic(auto)]
 

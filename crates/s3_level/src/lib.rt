@@ -18,7 +18,8 @@
 //!   answer (`says`); transfers that failed are counted (`failures`), and no call names a sector that isn't there (`fault`);
 //! - `lines` and `halts` are the drained lines and the halts.
 //!
-//! Nothing is left to tests alone. What a level holds after a fault nobody says: no entry may follow one.
+//! Only tested: that memory is said to run out only where a growth was refused, which no contract can say.
+//! What a level holds after a fault nobody says: no entry may follow one.
 
 #![tactic(auto)]
 

@@ -15,8 +15,9 @@
 //! - only `Reading::first` takes memory.
 //!
 //! Laws of these: `files_are_read_in_turn`, `an_answer_stands_at_its_file`, `ties_go_to_the_first`,
-//! `a_head_without_match_fields_goes_first`, `the_last_key_is_still_matched_at_the_end`, `records_match_by_keys`. Nothing is left
-//! to tests alone.
+//! `a_head_without_match_fields_goes_first`, `the_last_key_is_still_matched_at_the_end`, `records_match_by_keys`.
+//!
+//! Only tested: that memory is said to run out only where a growth was refused, which no contract can say.
 #![tactic(auto)]
 
 pub mod choice;

@@ -11,7 +11,9 @@
 //!   files; and no call names a sector that isn't there.
 //!
 //! The table is computed over worked rows: `each_file_has_its_own_label`, `a_made_file_is_refused_in_order`,
-//! `an_opened_file_is_refused_in_order`, `files_are_tested_one_after_another`. Nothing is left to tests alone.
+//! `an_opened_file_is_refused_in_order`, `files_are_tested_one_after_another`.
+//!
+//! Only tested: that memory is said to run out only where a growth was refused, which no contract can say.
 
 #![tactic(auto)]
 

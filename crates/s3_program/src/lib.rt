@@ -13,7 +13,7 @@
 //! - of many entries the first of each name counts (`first_entries_count`), and each file has a name (`files_have_names`);
 //! - worked programs, right ones and wrong ones, are judged as they must be (`worked_programs`).
 //!
-//! Nothing is left to tests alone.
+//! Only tested: that memory is said to run out only where a growth was refused, which no contract can say.
 #![tactic(auto)]
 
 pub mod call;

@@ -12,7 +12,7 @@
 //! - 361 cards and eight sources, worked by hand, have the numbers that they must have, and a source with every entry has its typed
 //!   lines: the definitions are computed on them (`cards_get_their_numbers`, `sources_get_their_pairs`, `every_entry_is_read`).
 //!
-//! Nothing is left to tests alone.
+//! Only tested: that memory is said to run out only where a growth was refused, which no contract can say; and the texts of faults.
 
 #![tactic(auto)]
 
