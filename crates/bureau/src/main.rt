@@ -11,6 +11,7 @@
 
 mod command;
 mod files;
+mod version;
 mod words;
 
 use std::process::ExitCode;
