@@ -2,6 +2,7 @@
 ghost use Rattle.std.specs.Prelude.{◌≤◌, ◌≡◌};
 
 use crate::files::{read_pack, save_pack};
+use crate::version::write_version;
 use crate::words::command;
 use clap::error::ErrorKind;
 use clap::{ArgMatches, Error};
@@ -64,7 +65,7 @@ fn refuse(rt: &HostRuntime, fault: &CliFault) -> u8
     tell(&mut rt.stderr(), fault)
 }
 
-/// Prints why the words can't be read, or the help that they ask for.
+/// Prints why the words can't be read, or the help or the version that they ask for.
 fn explain(rt: &HostRuntime, error: &Error) -> u8
     ensures { result ≤ 3 }
 {
@@ -72,13 +73,17 @@ fn explain(rt: &HostRuntime, error: &Error) -> u8
     if error.kind() == ErrorKind::OutOfMemory {
         return refuse(rt, &OUT_OF_MEMORY);
     }
-    let shown = error.print(rt);
+    let shown = if error.kind() == ErrorKind::DisplayVersion {
+        write_version(rt)
+    } else {
+        error.print(rt)
+    };
     if error.use_stderr() {
         return USAGE;
     }
     match shown {
         Ok(()) => 0,
-        Err(_) => refuse(rt, &FILE),
+        Err(error) => refuse(rt, &fault_of(&error)),
     }
 }
 

@@ -3,14 +3,15 @@
 //! What is proved: each call is safe and returns, and the exit status is at most 3 (`execute`). Sessions, lists, new packs and
 //! migrated ones are made by `s3_cli`, and what they write and hand out is proved there.
 //!
-//! Only tested, by rows: the command line and its help, which status stands for what, which pack is read and where it is saved,
-//! and that a pack is saved whole or not at all. What files, standard input and output give is not claimed: they are used as the
-//! toolchain offers them.
+//! Only tested, by rows: the command line with its help and its version, which status stands for what, which pack is read and
+//! where it is saved, and that a pack is saved whole or not at all. What files, standard input and output give is not claimed:
+//! they are used as the toolchain offers them.
 
 #![tactic(auto)]
 
 mod command;
 mod files;
+mod version;
 mod words;
 
 use std::process::ExitCode;

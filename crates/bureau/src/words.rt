@@ -14,6 +14,8 @@ const QUOTA: &str = "64";
 pub fn command<'a>(alloc: Global) -> Result<Command<'a>, AllocError> {
     Command::new(alloc, "bureau")
         .about("A dual-program RPG II job shop")
+        // what `--version` prints is asked of the executable, and not of the parser
+        .version("")
         .subcommand_required(true)
         .subcommand(run_command(alloc)?)?
         .subcommand(init_command(alloc)?)?
