@@ -1,4 +1,4 @@
--- The three areas of a pack as a mount has judged them and calls have changed them, and what calls may do to them.
+-- Which area of a pack is a level's own, and which sectors hold the labels of an area.
 use Rattle.std.specs.Prelude.{◌<◌, ◌≤◌, ◌+◌, ℕ}
 use Rattle.s3_cards.specs.declared.levels.LevelId.{LevelId}
 use Rattle.s3_cards.specs.declared.levels.LevelId.TheVariants.{One, Two}

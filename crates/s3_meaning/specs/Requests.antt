@@ -1,4 +1,4 @@
--- What a run asks for, what it is answered, and which answers fit.
+-- What a run asks for, and what it is answered.
 use Rattle.std.specs.Prelude.{ℕ, ℤ, Bool, List, Option}
 use Rattle.s3_cards.specs.declared.name.Name.{Name}
 use Rattle.s3_operator.specs.declared.halt_code.HaltCode.{HaltCode}

@@ -1,4 +1,4 @@
--- The condition of each of the numbers 5 to 12, on a line where it stands; and the lines of a program without any of them.
+-- The condition of each of the diagnostics 5 to 12, on a line where it stands.
 use Rattle.std.specs.Prelude.{ℕ, ◌+◌, ◌==◌, Bool, false, List, [], ◌∷◌, Option, if◌then◌else◌}
 use Rattle.std.specs.Map.{lookup}
 use Rattle.s3_cards.specs.declared.name.Name.{Name}
