@@ -13,3 +13,4 @@ pub mod Running
 pub mod Scripts
 pub mod Trimming
 pub mod MigratedTexts
+pub mod Queued

@@ -3,6 +3,7 @@ pub mod Agreement
 pub mod Calls
 pub mod Faults
 pub mod Held
+pub mod Queries
 pub mod Samples
 pub mod Script
 pub mod Stops

@@ -128,7 +128,7 @@ fn store_of<S: PackStore>(pack: Pack<Pool<S>>) -> S
 
 impl<S: PackStore> Bureau<S> {
     ghost use Rattle.std.specs.Int.NonZero.{non_zero_u16_get};
-    ghost use Rattle.std.specs.Prelude.{◌≡◌, ◌≢◌, ◌+◌, true, false, Ok, Err, map, IfOk, IfErr, OnOk, OnErr};
+    ghost use Rattle.std.specs.Prelude.{◌≡◌, ◌≢◌, ◌+◌, length, true, false, Ok, Err, map, IfOk, IfErr, OnOk, OnErr};
     ghost use Rattle.s3_cards.specs.Inner.Levels.{other};
     ghost use Rattle.s3_cards.specs.declared.levels.LevelId.{LevelId};
     ghost use Rattle.s3_store.specs.Inner.State.{KeepsInStep};
@@ -137,6 +137,7 @@ impl<S: PackStore> Bureau<S> {
     ghost use Rattle.s3_labels.specs.Inner.Areas.{IsReady as IsPackReady, IsRefusal, areas_on, failed_by};
     ghost use Rattle.s3_labels.specs.Areas.{area_of};
     ghost use Rattle.s3_labels.specs.Untangled.{IsUntangled};
+    ghost use Rattle.s3_spool.specs.Inner.Queues.{blocks_of};
     ghost use Rattle.s3_operator.specs.Inner.Halts.{halt_of};
     ghost use Rattle.s3_solo.specs.declared.action.Did.{Did};
     ghost use Rattle.s3_solo.specs.declared.action.Did.TheVariants.{Acted};
@@ -146,6 +147,7 @@ impl<S: PackStore> Bureau<S> {
     ghost use Rattle.s3_level.specs.Inner.Holds.{IsUpTo, Repeats, Spares, Steps};
     ghost use Rattle.s3_bureau.specs.Inner.Stops.{failed_stop};
     ghost use Rattle.s3_bureau.specs.Inner.Calls.{Closes, Enters};
+    ghost use Rattle.s3_bureau.specs.Inner.Queries.{queued};
     ghost use Rattle.s3_bureau.specs.Inner.Held.{HasNoWork, HoldsFor, IsForeign, IsSaid, halts_at, header_of, is_open, has_worlds, level_of, lines_at, rests};
     ghost use Rattle.s3_bureau.specs.Sharing.{IsCommon, IsOwn};
 
@@ -406,14 +408,24 @@ impl<S: PackStore> Bureau<S> {
         self.level(level).halts()
     }
 
-    /// One of the two levels.
-    fn level(&self, level: LevelId) -> &Level
-        ensures { result.now ≡ level_of level self.now }
+    /// One of the two levels, for what is asked of it: each world that the bureau holds for it, it holds with the pack and the queues.
+    pub fn level(&self, level: LevelId) -> &Level
+        ensures value { result.now ≡ level_of level self.now }
+        ensures world { (w : World) → HoldsFor level self.now w → Holds result.now self.now.beside w }
     {
         match level {
             LevelId::One => &self.one,
             LevelId::Two => &self.two,
         }
+    }
+
+    /// How many printed lines of a level are queued.
+    #[tactic(auto, using(crate::proofs::Queued::queued_held, crate::proofs::Queued::queued_for))]
+    pub fn queued(&self, level: LevelId) -> usize
+        ensures value { is_open self.now ≡ true → result ≡ length (blocks_of level self.now.beside.blocks) }
+        ensures world { (w : World) → HoldsFor level self.now w → result ≡ queued w.lines }
+    {
+        self.spool.queued(self.level(level).id())
     }
 
     /// The store as it stands: what the pool alone holds is lost, which after `finish` is nothing.

@@ -20,6 +20,8 @@
 //!   of it judges the slots as the worlds have them (`mounts`); whatever it answers, the sectors of the header, of the masters
 //!   and those that nobody uses stay, and those of a level without a job at work (`unchanged`, `rest`); memory runs out only
 //!   where a job is at work or a line is queued (`memory`);
+//! - `level` lends a level, which holds what the bureau holds for it, for what is asked of it; `queued` is how many of its printed
+//!   lines are queued (`world`);
 //! - after a stop or `finish` every call answers `Stopped` and changes nothing (`stopped`); `into_store` gives the store;
 //! - two bureaus that agree for a level agree after any entries with the same own ones (`other_entries_make_no_difference`).
 //!

@@ -18,3 +18,4 @@ pub mod OfLines
 pub mod Requests
 pub mod Files
 pub mod Repeating
+pub mod Asking

@@ -62,7 +62,7 @@ impl Level {
 
     /// Whether a job is left.
     #[tactic(auto, using(crate::proofs::Starting::no_job_left, crate::proofs::Starting::some_job_left))]
-    fn has_job(&self) -> bool
+    pub(crate) fn has_job(&self) -> bool
         ensures next { result ≡ nat_lt (next_job self.now.deck self.now.next) (length self.now.deck) }
         ensures none { result ≡ false → jobs_from self.now.deck self.now.next ≡ [] }
         ensures some { result ≡ true → jobs_from self.now.deck self.now.next ≢ [] }

@@ -16,7 +16,9 @@
 //! - whatever a call answers, the masters, the other level's slots, label sectors, region and queue stay, and all sectors but the
 //!   spool blocks and the level's own, in the store too (`spares`, `others`); labels that say the level's slots still do after an
 //!   answer (`says`); transfers that failed are counted (`failures`), and no call names a sector that isn't there (`fault`);
-//! - `lines` and `halts` are the drained lines and the halts.
+//! - `lines` and `halts` are the drained lines and the halts;
+//! - what is asked of a level (`waits`, `has_work`, `place`, `job_number`, `unread`, `files`, `cycle` and others) is so in each world
+//!   that is held.
 //!
 //! Only tested: that memory is said to run out only where a growth was refused, which no contract can say.
 //! What a level holds after a fault nobody says: no entry may follow one.
@@ -31,6 +33,7 @@ mod job_number;
 mod jobs;
 mod level;
 mod next;
+mod queries;
 mod replying;
 mod requesting;
 mod sources;
@@ -38,6 +41,7 @@ mod switches;
 mod taken;
 
 pub use level::Level;
+pub use queries::DataCards;
 pub use s3_operator::{Halt, HaltCode};
 pub use s3_solo::{Action, Did};
 pub use taken::Taken;
