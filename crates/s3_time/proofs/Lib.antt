@@ -1,0 +1,10 @@
+pub mod Elements
+pub mod Switches
+pub mod Requested
+pub mod Accepted
+pub mod JobFiles
+pub mod Reached
+pub mod Entries
+pub mod Courses
+pub mod Resting
+pub mod RestsSo
