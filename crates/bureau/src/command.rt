@@ -1,7 +1,7 @@
 //! The command's words, and what they ask for.
 ghost use Rattle.std.specs.Prelude.{◌≤◌, ◌≡◌};
 
-use crate::files::{read_pack, save_pack};
+use crate::files::{FileFault, LockedPack, read_pack, read_to_save, save_pack};
 use crate::version::write_version;
 use crate::words::command;
 use clap::error::ErrorKind;
@@ -107,29 +107,39 @@ fn perform(rt: &HostRuntime, matches: &ArgMatches<'_>) -> u8
 
 /// `bureau run`.
 fn run(rt: &HostRuntime, matches: &ArgMatches<'_>) -> Result<(), CliFault> {
-    let pack = pack_to_run(rt, matches)?;
+    let (pack, locked) = pack_to_run(rt, matches)?;
     let saved = session_on(rt.alloc(), pack, &mut rt.stdin(), &mut rt.stdout()).map_err(
         CliFault::Session,
     )?;
     match matches.get_str("save") {
-        Some(path) => save_to(rt, path, &saved),
+        Some(path) => save_to(rt, path, locked, &saved),
         None => Ok(()),
     }
 }
 
 /// The pack that a run is given, or a new one.
-fn pack_to_run(rt: &HostRuntime, matches: &ArgMatches<'_>) -> Result<Vec<u8>, CliFault> {
-    match matches.get_str("pack") {
-        Some(path) => read(rt, path),
-        None => image(rt.alloc(), None, TRACKS, TRACKS, TRACKS).map_err(CliFault::Image),
+fn pack_to_run(
+    rt: &HostRuntime,
+    matches: &ArgMatches<'_>,
+) -> Result<(Vec<u8>, Option<LockedPack>), CliFault> {
+    match (matches.get_str("pack"), matches.get_str("save")) {
+        (Some(path), Some(save)) => read_locked(rt, path, save),
+        (Some(path), None) => Ok((read(rt, path)?, None)),
+        (None, _) => {
+            let pack = image(rt.alloc(), None, TRACKS, TRACKS, TRACKS).map_err(CliFault::Image)?;
+            Ok((pack, None))
+        }
     }
 }
 
 /// `bureau init`.
 fn init(rt: &HostRuntime, matches: &ArgMatches<'_>) -> Result<(), CliFault> {
-    let old = match matches.get_str("from") {
-        Some(path) => Some(read(rt, path)?),
-        None => None,
+    let (old, locked) = match matches.get_str("from") {
+        Some(path) => {
+            let (old, locked) = read_locked(rt, path, file(matches, "save"))?;
+            (Some(old), locked)
+        }
+        None => (None, None),
     };
     let pack = image_with(
         rt.alloc(),
@@ -141,7 +151,7 @@ fn init(rt: &HostRuntime, matches: &ArgMatches<'_>) -> Result<(), CliFault> {
         quota(matches, "quota2"),
     )
     .map_err(CliFault::Image)?;
-    save(rt, matches, &pack)
+    save_to(rt, file(matches, "save"), locked, &pack)
 }
 
 /// `bureau list`.
@@ -157,9 +167,10 @@ fn list_files(rt: &HostRuntime, matches: &ArgMatches<'_>) -> Result<(), CliFault
 
 /// `bureau migrate`.
 fn migrate_pack(rt: &HostRuntime, matches: &ArgMatches<'_>) -> Result<(), CliFault> {
-    let old = read(rt, file(matches, "pack"))?;
+    let save = file(matches, "save");
+    let (old, locked) = read_locked(rt, file(matches, "pack"), save)?;
     let pack = migrate(rt.alloc(), &old).map_err(CliFault::Migrate)?;
-    save(rt, matches, &pack)
+    save_to(rt, save, locked, &pack)
 }
 
 /// The path that a needed word gives.
@@ -181,12 +192,30 @@ fn read(rt: &HostRuntime, path: &str) -> Result<Vec<u8>, CliFault> {
     read_pack(rt, path).map_err(|error| fault_of(&error))
 }
 
-fn save(rt: &HostRuntime, matches: &ArgMatches<'_>, pack: &[u8]) -> Result<(), CliFault> {
-    save_to(rt, file(matches, "save"), pack)
+/// The pack at a path for a command that saves to another or the same, with the lock on its file in the second case.
+fn read_locked(
+    rt: &HostRuntime,
+    path: &str,
+    save: &str,
+) -> Result<(Vec<u8>, Option<LockedPack>), CliFault> {
+    read_to_save(rt, path, save).map_err(|fault| told(&fault))
 }
 
-fn save_to(rt: &HostRuntime, path: &str, pack: &[u8]) -> Result<(), CliFault> {
-    save_pack(rt, path, pack).map_err(|error| fault_of(&error))
+fn save_to(
+    rt: &HostRuntime,
+    path: &str,
+    locked: Option<LockedPack>,
+    pack: &[u8],
+) -> Result<(), CliFault> {
+    save_pack(rt, path, locked, pack).map_err(|fault| told(&fault))
+}
+
+/// What these commands say of a pack's file: one that is in use is a file that can't be read or written.
+fn told(fault: &FileFault) -> CliFault {
+    match fault {
+        FileFault::InUse => FILE,
+        FileFault::Call(error) => fault_of(error),
+    }
 }
 
 /// What a failed call on a file is to a command.

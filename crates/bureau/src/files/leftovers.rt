@@ -1,0 +1,69 @@
+//! The new files that killed saves left beside a pack.
+
+use super::locking::lock;
+use super::places::{folder_of, leads_to};
+use std::alloc::AllocError;
+use std::fs::{File, OpenOptions};
+use std::io::Read;
+use std::path::Path;
+use std::{fs, io};
+
+/// What stands between the name of a pack's file and the number of a new one.
+const INFIX: &str = ".new-";
+
+/// How a pack begins, of the first format and of the second.
+const BEGINNINGS: [&[u8; 8]; 2] = [b"S3PACK01", b"S3PACK02"];
+
+/// The path of a new file beside another.
+pub fn beside(rt: &HostRuntime, place: Path<'_>, number: u32) -> Result<String, AllocError> {
+    format!(in rt.alloc(); "{}{INFIX}{number}", place.as_str())
+}
+
+/// Removes what killed saves to a path left beside it. What can't be removed stays: it hinders no save.
+pub fn remove_leftovers(rt: &HostRuntime, place: Path<'_>) {
+    if let Ok(found) = numbered(rt, place) {
+        for path in &found {
+            let _ = remove_if_left(rt, path.as_str());
+        }
+    }
+}
+
+/// The paths in the folder of a file that have its name, the infix and digits.
+fn numbered(rt: &HostRuntime, place: Path<'_>) -> io::Result<Vec<String>> {
+    let alloc = rt.alloc();
+    let mut found = Vec::new(alloc);
+    let name = place.file_name().unwrap_or("");
+    for entry in fs::read_dir(rt, folder_of(place))? {
+        if let Ok(entry) = entry
+            && let Some(number) = number_behind(name, entry.file_name())
+        {
+            found.push(format!(in alloc; "{}{INFIX}{number}", place.as_str())?)?;
+        }
+    }
+    Ok(found)
+}
+
+/// The digits behind a name and the infix, if there is nothing else.
+fn number_behind<'a>(name: &str, entry: &'a str) -> Option<&'a str> {
+    let number = entry.strip_prefix(name)?.strip_prefix(INFIX)?;
+    let is_number = !number.is_empty() && number.bytes().all(|byte| byte.is_ascii_digit());
+    is_number.then_some(number)
+}
+
+/// Removes a file that no save holds, if it is a regular one that is empty or begins as a pack does.
+fn remove_if_left(rt: &HostRuntime, path: &str) -> io::Result<()> {
+    if !fs::symlink_metadata(rt, path)?.is_file() {
+        return Ok(());
+    }
+    let mut file = OpenOptions::new().read(true).write(true).open(rt, path)?;
+    if lock(&file)? && leads_to(rt, Path::new(path), &file)? && is_begun_pack(&mut file)? {
+        fs::remove_file(rt, path)?;
+    }
+    Ok(())
+}
+
+fn is_begun_pack(file: &mut File) -> io::Result<bool> {
+    let mut beginning = [0u8; 8];
+    let count = file.read(&mut beginning)?;
+    Ok(count == 0 || BEGINNINGS.iter().any(|pack| beginning == **pack))
+}

@@ -1,0 +1,163 @@
+//! A new file that takes the place of an old one.
+
+use super::fault::FileFault;
+use super::leftovers::{beside, remove_leftovers};
+use super::locking::{LockedPack, lock};
+use super::places::{are_same, existing, leads_to};
+use super::syncing::sync_folder;
+use std::fs::{File, Metadata, OpenOptions, Permissions};
+use std::io::{ErrorKind, Write};
+use std::os::unix::fs::{MetadataExt, OpenOptionsExt, PermissionsExt, fchown};
+use std::path::Path;
+use std::{fs, io};
+
+/// The mode of a file that only its owner may read, as a new pack is until it is whole.
+const PRIVATE: u32 = 0o600;
+
+/// The mode that is asked for a file of no secrets. The system takes from it what the user's umask names.
+const USUAL: u32 = 0o666;
+
+/// A new file beside the one whose name it will take. It is locked as long as this lives, so that no other save takes it
+/// for one that was left over.
+#[derive(Drop)]
+struct NewFile {
+    path: String,
+    file: File,
+}
+
+/// Replaces the file of a pack, unless it may not be written. `InUse` where something else has its name by now, from one
+/// who doesn't ask for the lock.
+pub fn replace(rt: &HostRuntime, locked: &LockedPack, bytes: &[u8]) -> Result<(), FileFault> {
+    let old = locked.metadata()?;
+    match existing(rt, locked.place())? {
+        Some(found) if are_same(&found, &old) => permit(rt, locked.place(), &old)?,
+        Some(_) => return Err(FileFault::InUse),
+        // it was removed or has another name now
+        None => {}
+    }
+    Ok(replace_old(rt, locked.place(), &old, bytes)?)
+}
+
+/// Refuses a file that nobody may write, or that this user may not: its folder may let it be replaced all the same.
+fn permit(rt: &HostRuntime, place: Path<'_>, old: &Metadata) -> io::Result<()> {
+    if old.permissions().readonly() {
+        return Err(io::Error::from(ErrorKind::PermissionDenied));
+    }
+    let _writable = OpenOptions::new().write(true).open(rt, place)?;
+    Ok(())
+}
+
+fn replace_old(rt: &HostRuntime, place: Path<'_>, old: &Metadata, bytes: &[u8]) -> io::Result<()> {
+    remove_leftovers(rt, place);
+    let mut new = NewFile::beside(rt, place, PRIVATE)?;
+    let filled = new.fill(bytes).and_then(|()| new.take_after(old));
+    finish(rt, new, filled, place)
+}
+
+/// Saves a pack where no file stands yet. It gets the mode of a file that is made plainly.
+pub fn save_first(rt: &HostRuntime, place: Path<'_>, bytes: &[u8]) -> io::Result<()> {
+    remove_leftovers(rt, place);
+    let usual = usual_mode(rt, place)?;
+    let mut new = NewFile::beside(rt, place, PRIVATE)?;
+    let filled = new
+        .fill(bytes)
+        .and_then(|()| new.file.set_permissions(usual));
+    finish(rt, new, filled, place)
+}
+
+/// The mode that the system gives a new file in the folder of another: that of an empty one, which goes again.
+fn usual_mode(rt: &HostRuntime, place: Path<'_>) -> io::Result<Permissions> {
+    let empty = NewFile::beside(rt, place, USUAL)?;
+    let found = empty.file.metadata();
+    fs::remove_file(rt, empty.path.as_str())?;
+    Ok(found?.permissions())
+}
+
+/// Gives a new file that was filled the name that it is for, for good. It goes where anything failed before it has the
+/// name.
+fn finish(
+    rt: &HostRuntime,
+    new: NewFile,
+    filled: io::Result<()>,
+    place: Path<'_>,
+) -> io::Result<()> {
+    let named = match filled {
+        Ok(()) => new.take_name(rt, place),
+        Err(error) => Err(error),
+    };
+    if named.is_err() {
+        let _ = fs::remove_file(rt, new.path.as_str());
+        return named;
+    }
+    sync_folder(rt, place)
+}
+
+impl NewFile {
+    /// Makes one of the first name that is free.
+    fn beside(rt: &HostRuntime, place: Path<'_>, mode: u32) -> io::Result<NewFile> {
+        for number in 0..u32::MAX {
+            let path = beside(rt, place, number)?;
+            if let Some(file) = claimed(rt, path.as_str(), mode)? {
+                return Ok(NewFile { path, file });
+            }
+        }
+        Err(io::Error::from(ErrorKind::AlreadyExists))
+    }
+
+    fn fill(&mut self, bytes: &[u8]) -> io::Result<()> {
+        self.file.write_all(bytes)
+    }
+
+    /// Gives the file the owner, the group and the mode of an old one, as far as the user may.
+    fn take_after(&self, old: &Metadata) -> io::Result<()> {
+        let group = Some(old.gid());
+        let keeps_group = fchown(&self.file, Some(old.uid()), group).is_ok()
+            || fchown(&self.file, None, group).is_ok();
+        let mode = if keeps_group {
+            old.mode()
+        } else {
+            without_group(old.mode())
+        };
+        self.file.set_permissions(Permissions::from_mode(mode))
+    }
+
+    /// Brings the file to the disk and gives it a name.
+    fn take_name(&self, rt: &HostRuntime, place: Path<'_>) -> io::Result<()> {
+        self.file.sync_all()?;
+        fs::rename(rt, self.path.as_str(), place)
+    }
+}
+
+/// A mode for a file that came into another group: no one may more than in the old one, be they in either group or none.
+fn without_group(mode: u32) -> u32 {
+    let all = mode & (mode >> 3) & 0o007;
+    (mode & !0o077) | (all << 3) | all
+}
+
+/// A new file, created and locked; none where something else has the name, or another save took it for a leftover.
+fn claimed(rt: &HostRuntime, path: &str, mode: u32) -> io::Result<Option<File>> {
+    let mut options = OpenOptions::new();
+    options.read(true).write(true).create_new(true).mode(mode);
+    match options.open(rt, path) {
+        Ok(file) => keep(rt, path, file),
+        Err(error) if error.kind() == ErrorKind::AlreadyExists => Ok(None),
+        Err(error) => Err(error),
+    }
+}
+
+/// Locks a file that was created. It goes where that can't be done at all.
+fn keep(rt: &HostRuntime, path: &str, file: File) -> io::Result<Option<File>> {
+    match is_ours(rt, path, &file) {
+        Ok(true) => Ok(Some(file)),
+        Ok(false) => Ok(None),
+        Err(error) => {
+            let _ = fs::remove_file(rt, path);
+            Err(error)
+        }
+    }
+}
+
+/// Locks a file that was created, unless another save, which took it for a leftover, has locked it or removed it.
+fn is_ours(rt: &HostRuntime, path: &str, file: &File) -> io::Result<bool> {
+    Ok(lock(file)? && leads_to(rt, Path::new(path), file)?)
+}
