@@ -144,7 +144,7 @@ impl<S: PackStore> Bureau<S> {
     ghost use Rattle.s3_solo.specs.Inner.Lines.{drained_lines};
     ghost use Rattle.s3_solo.specs.World.{World, at_start};
     ghost use Rattle.s3_solo.specs.Solo.{step_of, closed};
-    ghost use Rattle.s3_level.specs.Inner.Holds.{IsUpTo, Repeats, Spares, Steps};
+    ghost use Rattle.s3_level.specs.Inner.Holds.{Holds, IsUpTo, Repeats, Spares, Steps};
     ghost use Rattle.s3_bureau.specs.Inner.Stops.{failed_stop};
     ghost use Rattle.s3_bureau.specs.Inner.Calls.{Closes, Enters};
     ghost use Rattle.s3_bureau.specs.Inner.Queries.{queued};
