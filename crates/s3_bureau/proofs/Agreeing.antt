@@ -6,17 +6,13 @@ use Rattle.s3_cards.specs.declared.levels.LevelId.TheVariants.{One, Two}
 use Rattle.s3_solo.specs.declared.action.Action.{Action}
 use Rattle.s3_solo.specs.declared.action.Did.{Did}
 use Rattle.s3_solo.specs.World.{World}
+use Rattle.s3_solo.specs.Inner.Formats.{answers as solo_answers}
 use Rattle.s3_solo.specs.Solo.{solo, step_of}
 use Rattle.s3_level.specs.Inner.Holds.{Steps}
 use Rattle.s3_bureau.specs.declared.entry.Entry.{Entry}
 use Rattle.s3_bureau.specs.Inner.Agreement.{AgreesAfter, ArePerformed, own_answers, with_answer}
 use Rattle.s3_bureau.specs.Entries.{own, with_action}
 use Rattle.s3_bureau.specs.Inner.Held.{HoldsFor, State}
-
--- what the solo run answers
-abbrev solo_answers : World → List Action → List Did
-solo_answers w [] = []
-solo_answers w (action ∷ actions) = (step_of w action).did ∷ solo_answers (step_of w action).world actions
 
 one_more : (level from : LevelId) (action : Action) (did : Did) (old middle new : State) (w : World) (actions : List Action) (answers : List Did)
     → Steps action did (HoldsFor from old) (HoldsFor from middle)
@@ -31,7 +27,7 @@ one_more Two Two action did old middle new w actions answers mine his rest held 
 one_more One Two action did old middle new w actions answers mine his rest held = rest w (his w held)
 one_more Two One action did old middle new w actions answers mine his rest held = rest w (his w held)
 
-all_taken : (level : LevelId) (entries : List Entry) (answers : List Did) (old new : State) (w : World) → ArePerformed entries answers old new → HoldsFor level old w
+pub all_taken : (level : LevelId) (entries : List Entry) (answers : List Did) (old new : State) (w : World) → ArePerformed entries answers old new → HoldsFor level old w
     → HoldsFor level new (solo w (own level entries)) × (own_answers level entries answers ≡ solo_answers w (own level entries))
 all_taken level [] [] old new w are held = (subst (λ (b : State). HoldsFor level b w) (sym are) held, refl)
 all_taken level [] (did ∷ answers) old new w are held = absurd are

@@ -14,3 +14,4 @@ pub mod Scripts
 pub mod Trimming
 pub mod MigratedTexts
 pub mod Queued
+pub mod Stepping

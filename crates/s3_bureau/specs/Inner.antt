@@ -6,5 +6,6 @@ pub mod Held
 pub mod Queries
 pub mod Samples
 pub mod Script
+pub mod Steps
 pub mod Stops
 pub mod Underway

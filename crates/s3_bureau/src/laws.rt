@@ -1,5 +1,5 @@
-//! What the definitions say of themselves: worked scripts and texts, and that a level's own entries alone say what it does.
-ghost use Rattle.std.specs.Prelude.{◌≡◌, ℕ, false, List, [], ◌∷◌, codes, Ok, Err, Some, None};
+//! What the definitions say of themselves: worked scripts and texts; that a level's own entries alone say what it does.
+ghost use Rattle.std.specs.Prelude.{◌≡◌, ℕ, false, List, [], ◌∷◌, codes, Ok, Err, Some, None, IfOk};
 ghost use Rattle.s3_cards.specs.Deck.{deck_of};
 ghost use Rattle.s3_cards.specs.declared.levels.LevelId.{LevelId};
 ghost use Rattle.s3_cards.specs.declared.levels.LevelId.TheVariants.{One, Two};
@@ -17,6 +17,13 @@ ghost use Rattle.s3_bureau.specs.Script.{entries_of};
 ghost use Rattle.s3_bureau.specs.Texts.{report_of, halt_text_of};
 ghost use Rattle.s3_bureau.specs.Inner.Agreement.{AgreesAfter};
 ghost use Rattle.s3_bureau.specs.Inner.Samples.{turn, drain, reply, printed, shown};
+ghost use Rattle.s3_bureau.specs.Inner.Steps.{EachTakesItsOwn, Stepped};
+
+use crate::bureau::Bureau;
+use crate::entry::Entry;
+use crate::stop::Stop;
+use s3_level::Did;
+use s3_store::PackStore;
 
 /// Worked scripts are read: turns, drains and replies, with an empty line between them; and of lines that aren't well formed the
 /// first is named.
@@ -47,6 +54,20 @@ pub fn halt_texts_are_written()
 pub fn other_entries_make_no_difference()
     ensures { AgreesAfter }
 {}
+
+/// After any steps that answered `Ok`, in whatever order the entries of the two levels came, each world that was held for a level has
+/// taken that level's own entries, and these got the answers of the solo run. A level without an entry among them holds the worlds that
+/// it held, and stays with its sectors; so do the header and the masters.
+pub fn each_level_takes_its_own_entries()
+    ensures { EachTakesItsOwn }
+{}
+
+/// What the law on any steps asks of each is what `Bureau::step` gives: it performs the entry.
+pub fn a_step_is_one_of_any<S: PackStore>(bureau: &mut Bureau<S>, entry: Entry) -> Result<Did, Stop>
+    ensures { IfOk result (λ did. Stepped entry did bureau.old bureau.new) }
+{
+    bureau.step(entry)
+}
 
 /// A run over a migrated pack leaves each level's world as the same run over the old one does, but for the format, and gives the
 /// same texts, where no halt NS (no space) is shown.

@@ -23,15 +23,19 @@
 //! - `level` lends a level, which holds what the bureau holds for it, for what is asked of it; `queued` is how many of its printed
 //!   lines are queued (`world`);
 //! - after a stop or `finish` every call answers `Stopped` and changes nothing (`stopped`); `into_store` gives the store;
+//! - after any steps that answered `Ok`, in whatever order, each world that was held for a level has taken that level's own entries,
+//!   with the answers of the solo run (`each_level_takes_its_own_entries`; each call of `step` is one of these, by
+//!   `a_step_is_one_of_any`);
 //! - two bureaus that agree for a level agree after any entries with the same own ones (`other_entries_make_no_difference`).
 //!
 //! Proved of `run` and `run_on`: the texts are those of each level's closed solo run, or exactly the first bad line, else the
 //! header's fault, and never `Device`. The pack that they leave has as many sectors and nothing behind the last one, with header,
 //! masters, the sectors that nobody uses and all of a level without an entry as they were; a mount of it has the same header and
 //! masters, judges each slot of a level as its world has it where none was entangled before, and finds the records of each file
-//! of each level's world under the label that the world has for it (specs/Runs.antt). A run over a migrated pack gives the same
-//! texts, unless a halt `NS` is shown over the old one (`a_migrated_pack_gives_the_same_texts`). Worked scripts and texts are
-//! computed (`scripts_are_read`, `reports_are_written`, `halt_texts_are_written`).
+//! of each level's world under the label that the world has for it (specs/Runs.antt). A run
+//! over a migrated pack gives the same texts, unless a halt `NS` is shown over the old one
+//! (`a_migrated_pack_gives_the_same_texts`). Worked scripts and texts are computed
+//! (`scripts_are_read`, `reports_are_written`, `halt_texts_are_written`).
 //!
 //! Only tested, by rows: what a saved pack has when it is mounted anew where a slot was entangled; that memory is said to run
 //! out only where a growth was refused, which no contract can say; and the texts of faults. Nobody says what a stop leaves of
@@ -53,8 +57,9 @@ mod stop;
 pub use bureau::Bureau;
 pub use entry::Entry;
 pub use laws::{
-    a_migrated_pack_gives_the_same_texts, halt_texts_are_written, other_entries_make_no_difference,
-    reports_are_written, scripts_are_read,
+    a_migrated_pack_gives_the_same_texts, a_step_is_one_of_any, each_level_takes_its_own_entries,
+    halt_texts_are_written, other_entries_make_no_difference, reports_are_written,
+    scripts_are_read,
 };
 pub use outcome::{LevelTexts, Outcome};
 pub use run_fault::{RunFault, mount_number};

@@ -1,5 +1,5 @@
--- What is known in the middle of a run. These words serve the contracts of private functions alone: what a run gives is
--- said in Runs.
+-- What is known in the middle of a run. These words serve the contracts of private functions and the law on lists of steps: what a run
+-- gives is said in Runs.
 use Rattle.std.specs.Prelude.{◌≡◌, ◌+◌, ◌/◌, ◌%◌, ◌<◌, ◌++◌, ℕ, List, [], ◌∷◌, Option, Result, Ok, Err, length, slice_index, take, ⊤}
 use Rattle.std.specs.Int.{from_le_bytes, to_le_bytes, w16}
 use Rattle.std.specs.List.{concat}
