@@ -1,5 +1,6 @@
 pub mod Acting
 pub mod Agreeing
+pub mod Alike
 pub mod Closing
 pub mod Counts
 pub mod Digits

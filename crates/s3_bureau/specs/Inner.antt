@@ -1,6 +1,8 @@
 -- What the contracts of a run and of a session don't reach: words of inner functions, of proofs and of other calls.
 pub mod Agreement
 pub mod Calls
+pub mod CompletedRuns
+pub mod Confidentiality
 pub mod Faults
 pub mod Held
 pub mod Queries

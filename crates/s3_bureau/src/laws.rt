@@ -1,4 +1,5 @@
-//! What the definitions say of themselves: worked scripts and texts; that a level's own entries alone say what it does.
+//! What the definitions say of themselves: worked scripts and texts; that a level's own entries alone say what it does, and what it can
+//! read of a pack what it gets.
 ghost use Rattle.std.specs.Prelude.{◌≡◌, ℕ, false, List, [], ◌∷◌, codes, Ok, Err, Some, None, IfOk};
 ghost use Rattle.s3_cards.specs.Deck.{deck_of};
 ghost use Rattle.s3_cards.specs.declared.levels.LevelId.{LevelId};
@@ -16,6 +17,7 @@ ghost use Rattle.s3_bureau.specs.Runs.{cards_of, level_texts, run_alone, run_tex
 ghost use Rattle.s3_bureau.specs.Script.{entries_of};
 ghost use Rattle.s3_bureau.specs.Texts.{report_of, halt_text_of};
 ghost use Rattle.s3_bureau.specs.Inner.Agreement.{AgreesAfter};
+ghost use Rattle.s3_bureau.specs.Inner.Confidentiality.{AlikeMeansSame, NoLevelLearns};
 ghost use Rattle.s3_bureau.specs.Inner.Samples.{turn, drain, reply, printed, shown};
 ghost use Rattle.s3_bureau.specs.Inner.Steps.{EachTakesItsOwn, Stepped};
 
@@ -68,6 +70,14 @@ pub fn a_step_is_one_of_any<S: PackStore>(bureau: &mut Bureau<S>, entry: Entry) 
 {
     bureau.step(entry)
 }
+
+/// No level learns of the other. Two packs that are alike in what a level can read give it the same world and the same texts, with one
+/// deck and the same entries of its own. So two runs over them give it the same texts and the same files, whatever else the packs have,
+/// and whatever the other level's deck and entries are.
+pub fn no_level_learns_of_the_other()
+    ensures meaning { AlikeMeansSame }
+    ensures runs { NoLevelLearns }
+{}
 
 /// A run over a migrated pack leaves each level's world as the same run over the old one does, but for the format, and gives the
 /// same texts, where no halt NS (no space) is shown.

@@ -1,0 +1,60 @@
+-- No level learns of the other: runs over two packs that are alike in what a level can read give it the same texts and files, with
+-- whatever else on the packs, and whatever the other level's deck and entries.
+use Rattle.std.specs.Prelude.{◌≡◌, ◌⊎◌, ℕ, List, slice_get}
+use Rattle.s3_cards.specs.declared.levels.LevelId.{LevelId}
+use Rattle.s3_slots.specs.Header.{quota_of, region_of}
+use Rattle.s3_slots.specs.Slots.{standing}
+use Rattle.s3_slots.specs.Stretches.{IsIn}
+use Rattle.s3_slots.specs.declared.header.Header.{Header}
+use Rattle.s3_slots.specs.declared.label.FileLabel.{FileLabel}
+use Rattle.s3_slots.specs.declared.slot.Standing.TheVariants.{Present}
+use Rattle.s3_labels.specs.Areas.{IsLabelSector}
+use Rattle.s3_job_files.specs.Kept.{kept_on}
+use Rattle.s3_solo.specs.declared.action.Action.{Action}
+use Rattle.s3_solo.specs.World.{at_start}
+use Rattle.s3_bureau.specs.Entries.{own}
+use Rattle.s3_bureau.specs.Runs.{level_texts, outcome_texts, run_alone}
+use Rattle.s3_bureau.specs.Sharing.{IsOwn}
+use Rattle.s3_bureau.specs.Inner.CompletedRuns.{CompletedRun, WasUntangled, area_left, contents_after, contents_before, deck_at, masters_left, texts_at, world_at}
+
+-- a sector that a level can read: one of its own labels or of its own region, or of the masters' labels or of their region
+abbrev pub IsReadable : LevelId → Header → ℕ → Type 0
+IsReadable level header n = IsOwn level header n ⊎ (IsLabelSector 0 n ⊎ IsIn header.masters n)
+
+-- Two packs are alike for a level: of their headers the format, its own region, its own quota and the masters' region, and each sector
+-- that it can read. All else may differ: the other level's region, quota, labels and files, the spool blocks, the sectors that nobody
+-- uses, the rest of the header, and how many sectors there are.
+pub record AreAlike (level : LevelId) (header other_header : Header) (contents other_contents : List (List ℕ)) : Type 0 where
+  pub format : other_header.format ≡ header.format
+  pub region : region_of level other_header ≡ region_of level header
+  pub quota : quota_of level other_header ≡ quota_of level header
+  pub masters : other_header.masters ≡ header.masters
+  pub sectors : (n : ℕ) → IsReadable level header n → slice_get other_contents n ≡ slice_get contents n
+
+-- its world at the start, its world at the end and its texts are the same over both, with one deck and the same entries of its own
+pub record MeansSame (level : LevelId) (header other_header : Header) (contents other_contents : List (List ℕ)) : Type 0 where
+  pub start : (cards : List (List ℕ)) → at_start level other_header other_contents cards ≡ at_start level header contents cards
+  pub world : (cards : List (List ℕ)) (actions : List Action) → run_alone level other_header other_contents cards actions ≡ run_alone level header contents cards actions
+  pub texts : (deck : List ℕ) (actions : List Action) → level_texts level other_header other_contents deck actions ≡ level_texts level header contents deck actions
+
+abbrev pub AlikeMeansSame : Type 0
+AlikeMeansSame =
+    (level : LevelId) (header other_header : Header) (contents other_contents : List (List ℕ))
+    → AreAlike level header other_header contents other_contents → MeansSame level header other_header contents other_contents
+
+-- of two runs, what a level brings is the same: what it can read of the pack, its deck, and its own entries
+pub record BringsSame (level : LevelId) (run other_run : CompletedRun) : Type 0 where
+  pub pack : AreAlike level run.header other_run.header (contents_before run) (contents_before other_run)
+  pub deck : deck_at level other_run ≡ deck_at level run
+  pub entries : own level other_run.entries ≡ own level run.entries
+
+-- What it gets of them is the same: its texts; under each label of its own files at the end the records and whether the index is good;
+-- the masters; and, where none of its slots was entangled, all that a mount finds in its own area.
+pub record GetsSame (level : LevelId) (run other_run : CompletedRun) : Type 0 where
+  pub texts : texts_at level (outcome_texts other_run.outcome) ≡ texts_at level (outcome_texts run.outcome)
+  pub files : (label : FileLabel) → standing label.name (world_at level run).pack.own.slots ≡ Present label → kept_on label (contents_after other_run) ≡ kept_on label (contents_after run)
+  pub masters : masters_left other_run ≡ masters_left run
+  pub own_area : WasUntangled level run → area_left level other_run ≡ area_left level run
+
+abbrev pub NoLevelLearns : Type 0
+NoLevelLearns = (level : LevelId) (run other_run : CompletedRun) → BringsSame level run other_run → GetsSame level run other_run
