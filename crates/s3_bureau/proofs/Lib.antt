@@ -15,4 +15,5 @@ pub mod Scripts
 pub mod Trimming
 pub mod MigratedTexts
 pub mod Queued
+pub mod MigratedRecords
 pub mod Stepping

@@ -5,6 +5,7 @@ pub mod CompletedRuns
 pub mod Confidentiality
 pub mod Faults
 pub mod Held
+pub mod MigratedRuns
 pub mod Queries
 pub mod Samples
 pub mod Script

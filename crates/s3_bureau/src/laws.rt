@@ -1,5 +1,5 @@
 //! What the definitions say of themselves: worked scripts and texts; that a level's own entries alone say what it does, and what it can
-//! read of a pack what it gets.
+//! read of a pack what it gets; and what a migrated pack keeps.
 ghost use Rattle.std.specs.Prelude.{◌≡◌, ℕ, false, List, [], ◌∷◌, codes, Ok, Err, Some, None, IfOk};
 ghost use Rattle.s3_cards.specs.Deck.{deck_of};
 ghost use Rattle.s3_cards.specs.declared.levels.LevelId.{LevelId};
@@ -18,6 +18,7 @@ ghost use Rattle.s3_bureau.specs.Script.{entries_of};
 ghost use Rattle.s3_bureau.specs.Texts.{report_of, halt_text_of};
 ghost use Rattle.s3_bureau.specs.Inner.Agreement.{AgreesAfter};
 ghost use Rattle.s3_bureau.specs.Inner.Confidentiality.{AlikeMeansSame, NoLevelLearns};
+ghost use Rattle.s3_bureau.specs.Inner.MigratedRuns.{MigratedIsUntangled, MigratedRunsKeepRecords};
 ghost use Rattle.s3_bureau.specs.Inner.Samples.{turn, drain, reply, printed, shown};
 ghost use Rattle.s3_bureau.specs.Inner.Steps.{EachTakesItsOwn, Stepped};
 
@@ -85,4 +86,12 @@ pub fn a_migrated_pack_gives_the_same_texts()
     ensures worlds { (old new : List ℕ) (header : Header) (level : LevelId) (deck : List (List ℕ)) (actions : List Action) → mounted (contents_of old) ≡ Ok header → migrated old ≡ Ok new → shows_no_space (run_alone level header (contents_of old) deck actions).halts ≡ false → run_alone level (in_second header) (contents_of new) deck actions ≡ over_second (run_alone level header (contents_of old) deck actions) }
     ensures level { (old new : List ℕ) (header : Header) (level : LevelId) (deck : List ℕ) (actions : List Action) → mounted (contents_of old) ≡ Ok header → migrated old ≡ Ok new → shows_no_space (run_alone level header (contents_of old) (cards_of (deck_of deck)) actions).halts ≡ false → level_texts level (in_second header) (contents_of new) deck actions ≡ level_texts level header (contents_of old) deck actions }
     ensures run { (old new deck1 deck2 script : List ℕ) (header : Header) (entries : List Entry) → mounted (contents_of old) ≡ Ok header → migrated old ≡ Ok new → entries_of script ≡ Ok entries → shows_no_space (run_alone One header (contents_of old) (cards_of (deck_of deck1)) (own One entries)).halts ≡ false → shows_no_space (run_alone Two header (contents_of old) (cards_of (deck_of deck2)) (own Two entries)).halts ≡ false → run_texts new deck1 deck2 script ≡ run_texts old deck1 deck2 script }
+{}
+
+/// A run over a migrated pack leaves the records of the masters, and of a level, as the same run over the old one does: of a level
+/// without an entry; and of one to which no halt NS (no space) was shown over the old pack, with its labels where no slot of it was
+/// entangled. A slot that wasn't entangled isn't so on the migrated pack.
+pub fn a_migrated_pack_keeps_the_records()
+    ensures untangled { MigratedIsUntangled }
+    ensures runs { MigratedRunsKeepRecords }
 {}

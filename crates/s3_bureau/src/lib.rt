@@ -34,8 +34,8 @@
 //! masters, judges each slot of a level as its world has it where none was entangled before, and finds the records of each file
 //! of each level's world under the label that the world has for it (specs/Runs.antt). Two packs that are alike in what a level can read
 //! give it the same texts and files, whatever else they have and whatever the other level does (`no_level_learns_of_the_other`). A run
-//! over a migrated pack gives the same texts, unless a halt `NS` is shown over the old one
-//! (`a_migrated_pack_gives_the_same_texts`). Worked scripts and texts are computed
+//! over a migrated pack gives the same texts and leaves the same records, unless a halt `NS` is shown over the old one
+//! (`a_migrated_pack_gives_the_same_texts`, `a_migrated_pack_keeps_the_records`). Worked scripts and texts are computed
 //! (`scripts_are_read`, `reports_are_written`, `halt_texts_are_written`).
 //!
 //! Only tested, by rows: what a saved pack has when it is mounted anew where a slot was entangled; that memory is said to run
@@ -58,9 +58,9 @@ mod stop;
 pub use bureau::Bureau;
 pub use entry::Entry;
 pub use laws::{
-    a_migrated_pack_gives_the_same_texts, a_step_is_one_of_any, each_level_takes_its_own_entries,
-    halt_texts_are_written, no_level_learns_of_the_other, other_entries_make_no_difference,
-    reports_are_written, scripts_are_read,
+    a_migrated_pack_gives_the_same_texts, a_migrated_pack_keeps_the_records, a_step_is_one_of_any,
+    each_level_takes_its_own_entries, halt_texts_are_written, no_level_learns_of_the_other,
+    other_entries_make_no_difference, reports_are_written, scripts_are_read,
 };
 pub use outcome::{LevelTexts, Outcome};
 pub use run_fault::{RunFault, mount_number};
