@@ -11,7 +11,7 @@ sys.path.insert(0, os.path.join(TOP, "samples"))
 import printing  # noqa: E402
 
 CHARACTERS = b" .<(+|&!$*);-/,%_>?:#@'=\"{ABCDEFGHI}JKLMNOPQRSTUVWXYZ0123456789"
-COLUMNS, MOST_CARDS, PRINT_POSITIONS, PAGE_LINES = 96, 9999, 132, 66
+FEW_CARDS, COLUMNS, MOST_CARDS, PRINT_POSITIONS, PAGE_LINES = 1500, 96, 9999, 132, 66
 INPUT_LIMIT, PACK_LIMIT = 4_194_304, 16_776_960
 FIRST_SECTOR, TRACK = 168, 24
 
@@ -205,8 +205,8 @@ def wrong_in_halts(lines, cards, turns, replies):
         if reply == b"-" and place + 1 < len(halts):
             yield "a halt stands behind one that waits"
         yield from wrong_in_details(letters, details, cards)
-        if before:
-            # job 0 comes behind job 999
+        if before and cards < FEW_CARDS:
+            # job 0 comes behind job 999; a job that doesn't halt has three cards or more
             ahead = (job - before[0]) % 1000
             over = letters in STARTING or before[1] in STARTING or before[2] == b"3"
             if ahead > 500 or (over and ahead == 0):
