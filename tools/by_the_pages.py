@@ -1,6 +1,7 @@
 """What the pages say that a session prints and keeps, for tools that judge runs: its refusal, the form of its output, and its
 saved pack. Nothing here comes from the program; docs/RUNNING.md, docs/MESSAGES.md, docs/PACK.md and docs/LANGUAGE.md have it."""
 
+import io
 import os
 import re
 import sys
@@ -30,7 +31,7 @@ LABEL = re.compile(r"[A-Z$#@][A-Z0-9$#@]* *")
 
 def lines_of(text):
     """The lines of a text as they stand, each with what ends it."""
-    return [line for line in re.split(rb"(?<=\n)", text) if line]
+    return io.BytesIO(text).readlines()
 
 
 def content(line):
