@@ -1,5 +1,6 @@
-"""What the tools share that run sessions: the decks of two levels with files of every organization and a pack for them, the
-parts of a pack, entries of scripts and their mixtures, and the sessions of the worked rows."""
+"""What the tools share that run sessions: the decks of two levels with files of every organization and a pack for them, cards for
+the programs of samples/two-departments, the parts of a pack, entries of scripts and their mixtures, and the sessions of the worked
+rows."""
 
 import importlib.machinery
 import importlib.util
@@ -15,6 +16,8 @@ import cards  # noqa: E402
 SECTOR = 256
 SLOTS, SLOT = 32, 64
 PROGRAM = os.path.join(TOP, "crates", "bureau", "out", "bureau")
+DEPARTMENTS = os.path.join(TOP, "samples", "two-departments")
+MINUS = "}JKLMNOPQR"             # last digits of numbers below zero
 
 PRICES = """
 6:H 75:PRICES
@@ -165,6 +168,38 @@ def works(level):
     return (compiled(MOVES) + job("MOVES", moves, "DATE 0615%02d" % (75 + level), "SWITCH 1XXXXXX0", *files) + compiled(LISTS) + job("LISTS", [], "FILE NAME-STOCK")
             + compiled(LOGS) + job("LOGS", matched, *logs) + compiled(LOADS) + job("LOADS", [], "FILE NAME-STOCK", "FILE NAME-LOG", "FILE NAME-BINS")
             + job("LISTS", [], "FILE NAME-STOCK,LABEL-PRICES") + job("NONE") + ["// LODE LIST,F1", "/&"] + job("LISTS", [], "FILE NAME-STOCK"))
+
+
+def jobs_of(name):
+    """The jobs of a deck of samples/two-departments, each a list of cards."""
+    with open(os.path.join(DEPARTMENTS, name)) as deck:
+        jobs = deck.read().split("/&\n")[:-1]
+    return [job.splitlines() + ["/&"] for job in jobs]
+
+
+def with_data(job, data):
+    """A job with other data cards."""
+    return job[:job.index("// RUN") + 1] + data + job[job.index("/*"):]
+
+
+def bills(draw):
+    """Cards of billing."""
+    cards = []
+    for customer in range(1, draw.randrange(2, 12)):
+        cards.append("C%05dCUSTOMER %d" % (customer, customer))
+        for item in range(draw.randrange(9)):
+            last = draw.choice(MINUS) if draw.random() < 0.1 else str(draw.randrange(10))
+            cards.append("I%05dIT%04dITEM %-15d%04d%s%06d" % (customer, item, item, draw.randrange(2000), last, draw.randrange(100_000)))
+    return cards
+
+
+def employees(draw):
+    """Cards of payroll; the net pay of some is below zero."""
+    cards = []
+    for number in range(draw.randrange(1, 30)):
+        deductions = draw.randrange(20_000) if draw.random() < 0.9 else 900_000
+        cards.append("T%s1%05dEMPLOYEE %-11d%04d%05d%03d%06d" % ("ABC"[number // 10], number, number, draw.randrange(6000), draw.randrange(9000), draw.randrange(300), deductions))
+    return cards
 
 
 def text_of(lines):

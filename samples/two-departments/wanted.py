@@ -14,7 +14,12 @@ from decimal import Decimal  # noqa: E402
 
 from billing import billed  # noqa: E402
 from payroll import paid  # noqa: E402
-from printing import Printer, decks, edited, jobs, list_line, punched, show_both  # noqa: E402
+from printing import Printer, edited, jobs, list_line, punched, show_both  # noqa: E402
+
+
+def cards_of(deck):
+    with open(os.path.join(HERE, deck)) as text:
+        return text.read().splitlines()
 
 
 def due_accounts(dues, date):
@@ -41,8 +46,7 @@ def main():
     parser = argparse.ArgumentParser(description="The outputs wanted of this sample, from its cards alone.")
     parser.add_argument("output", choices=("departments", "list"))
     output = parser.parse_args().output
-    with open(os.path.join(HERE, "departments.txt")) as text:
-        bills, pay = [jobs(deck) for deck in decks(text.read())]
+    bills, pay = [jobs(cards_of(deck)) for deck in ("billing.deck", "payroll.deck")]
     billing, payroll = billed(bills[0][1], bills[0][0]), paid(pay[0][1], pay[0][0])
     if output == "departments":
         show_both((billing.printer.report + due_accounts(billing.dues, bills[1][0]), []), (payroll.printer.report + check_register(payroll.checks, pay[1][0]), payroll.halts))

@@ -2,12 +2,13 @@
 ghost use Rattle.std.specs.Prelude.{◌≤◌, ◌≡◌};
 
 use crate::files::{FileFault, LockedPack, read_pack, read_to_save, save_pack};
+use crate::operate::operate;
 use crate::version::write_version;
 use crate::words::command;
 use clap::error::ErrorKind;
 use clap::{ArgMatches, Error};
 use s3_cli::{
-    CliFault, RunFault, SessionFault, image, image_with, list, migrate, session_on, tell,
+    CliFault, RunFault, SessionFault, Watched, image, image_with, list, migrate, session_on, tell,
     write_table,
 };
 use std::io::Write;
@@ -26,7 +27,7 @@ const TRACKS: u16 = 10;
 /// Does what the words of the command line ask, and gives the exit status: 0 where it is done, 2 where the words can't be read,
 /// else the status of the refusal, whose line it wrote on standard error (docs/RUNNING.md, "Refusals").
 pub fn execute(rt: &HostRuntime) -> u8
-    ensures { result ≤ 3 }
+    ensures { result ≤ 5 }
 {
     let alloc = rt.alloc();
     let given = match env::args(rt) {
@@ -46,7 +47,7 @@ pub fn execute(rt: &HostRuntime) -> u8
         Err(_) => return refuse(rt, &OUT_OF_MEMORY),
     };
     match command.try_get_matches_from(words.as_slice()) {
-        Ok(matches) => perform(rt, &matches),
+        Ok(matches) => perform(rt, &matches, &words),
         Err(error) => explain(rt, &error),
     }
 }
@@ -60,14 +61,14 @@ fn misuse(rt: &HostRuntime, reason: &str) -> u8
 }
 
 fn refuse(rt: &HostRuntime, fault: &CliFault) -> u8
-    ensures { result ≤ 3 }
+    ensures { result ≤ 5 }
 {
     tell(&mut rt.stderr(), fault)
 }
 
 /// Prints why the words can't be read, or the help or the version that they ask for.
 fn explain(rt: &HostRuntime, error: &Error) -> u8
-    ensures { result ≤ 3 }
+    ensures { result ≤ 5 }
 {
     // clap has a status of its own for want of memory
     if error.kind() == ErrorKind::OutOfMemory {
@@ -88,10 +89,11 @@ fn explain(rt: &HostRuntime, error: &Error) -> u8
 }
 
 /// Does what the command asks, and gives the exit status.
-fn perform(rt: &HostRuntime, matches: &ArgMatches<'_>) -> u8
-    ensures { result ≤ 3 }
+fn perform<'a>(rt: &'a HostRuntime, matches: &ArgMatches<'a>, words: &[String]) -> u8
+    ensures { result ≤ 5 }
 {
     let done = match matches.subcommand() {
+        Some(("operate", matches)) => return operate(rt, matches, words.get(2..).unwrap_or(&[])),
         Some(("run", matches)) => run(rt, matches),
         Some(("init", matches)) => init(rt, matches),
         Some(("list", matches)) => list_files(rt, matches),
@@ -108,9 +110,13 @@ fn perform(rt: &HostRuntime, matches: &ArgMatches<'_>) -> u8
 /// `bureau run`.
 fn run(rt: &HostRuntime, matches: &ArgMatches<'_>) -> Result<(), CliFault> {
     let (pack, locked) = pack_to_run(rt, matches)?;
-    let saved = session_on(rt.alloc(), pack, &mut rt.stdin(), &mut rt.stdout()).map_err(
-        CliFault::Session,
-    )?;
+    let saved = session_on(
+        rt.alloc(),
+        pack,
+        &mut Watched::new(rt.stdin()),
+        &mut Watched::new(rt.stdout()),
+    )
+    .map_err(CliFault::Session)?;
     match matches.get_str("save") {
         Some(path) => save_to(rt, path, locked, &saved),
         None => Ok(()),

@@ -9,11 +9,12 @@ mod syncing;
 
 pub use fault::FileFault;
 pub use locking::LockedPack;
+pub use places::Target;
 use places::{existing, followed};
-use replacing::{replace, save_first};
+use replacing::{replace, save_first, test_place, test_replacing};
 use std::fs::{File, OpenOptions};
 use std::io;
-use std::io::{Read, Write};
+use std::io::{ErrorKind, Read, Write};
 use std::path::Path;
 use syncing::sync_if_kept;
 
@@ -69,6 +70,51 @@ pub fn save_pack(
         }
         Some(_) => Ok(write_in_place(rt, place.as_path(), bytes)?),
     }
+}
+
+/// Tries whether a pack can be saved to a path later, and keeps the file for that: the lock is the one that the pack was read
+/// under, or is taken here where another regular file stands at the path; `InUse` where another command has it. Nothing is
+/// changed.
+pub fn prepare_save(
+    rt: &HostRuntime,
+    path: &str,
+    locked: Option<LockedPack>,
+) -> Result<Option<LockedPack>, FileFault> {
+    if let Some(locked) = locked {
+        test_replacing(rt, &locked)?;
+        return Ok(Some(locked));
+    }
+    let place = followed(rt, path)?;
+    match existing(rt, place.as_path())? {
+        None => {
+            test_place(rt, place.as_path())?;
+            Ok(None)
+        }
+        Some(old) if old.is_file() => {
+            let locked = LockedPack::replaced(rt, place)?;
+            test_replacing(rt, &locked)?;
+            Ok(Some(locked))
+        }
+        Some(_) => Ok(None),
+    }
+}
+
+/// All bytes of the file at a path, if they are no more than a limit; `FileTooLarge` where they are more.
+pub fn read_within(rt: &HostRuntime, path: &str, limit: usize) -> io::Result<Vec<u8>> {
+    let mut file = File::open(rt, path)?;
+    let mut bytes = Vec::new(rt.alloc());
+    let mut chunk = [0u8; CHUNK];
+    for _turn in 0..=limit {
+        let count = file.read(&mut chunk)?;
+        if count == 0 {
+            return Ok(bytes);
+        }
+        bytes.extend_from_slice(&chunk[..count])?;
+        if bytes.len() > limit {
+            break;
+        }
+    }
+    Err(io::Error::from(ErrorKind::FileTooLarge))
 }
 
 fn read_from(rt: &HostRuntime, file: &mut File) -> io::Result<Vec<u8>> {

@@ -1,6 +1,6 @@
 //! The program `bureau`: its command line, over standard input and output and files.
 //!
-//! What is proved: each call is safe and returns, and the exit status is at most 3 (`execute`). Sessions, lists, new packs and
+//! What is proved: each call is safe and returns, and the exit status is at most 5 (`execute`). Sessions, lists, new packs and
 //! migrated ones are made by `s3_cli`, and what they write and hand out is proved there.
 //!
 //! Only tested, by rows: the command line with its help and its version, which status stands for what, which pack is read and
@@ -11,6 +11,7 @@
 
 mod command;
 mod files;
+mod operate;
 mod version;
 mod words;
 

@@ -9,7 +9,7 @@ const TRACKS: &str = "10";
 /// The levels of a new pack may have so many lines queued where the words don't say it.
 const QUOTA: &str = "64";
 
-/// The command line of the program: its commands `run`, `init`, `list` and `migrate`, and their words. It is refused only where
+/// The command line of the program: its commands `run`, `operate`, `init`, `list` and `migrate`, and their words. It is refused only where
 /// memory runs out.
 pub fn command<'a>(alloc: Global) -> Result<Command<'a>, AllocError> {
     Command::new(alloc, "bureau")
@@ -18,6 +18,7 @@ pub fn command<'a>(alloc: Global) -> Result<Command<'a>, AllocError> {
         .version("")
         .subcommand_required(true)
         .subcommand(run_command(alloc)?)?
+        .subcommand(operate_command(alloc)?)?
         .subcommand(init_command(alloc)?)?
         .subcommand(list_command(alloc)?)?
         .subcommand(migrate_command(alloc)?)
@@ -30,6 +31,57 @@ fn run_command<'a>(alloc: Global) -> Result<Command<'a>, AllocError> {
             "The pack; a new one with 10 tracks a region if none is given",
         ))?
         .arg(file_word(alloc, "save").help("Where the pack is written as the run leaves it"))
+}
+
+fn operate_command<'a>(alloc: Global) -> Result<Command<'a>, AllocError> {
+    let command = Command::new(alloc, "operate")
+        .about(
+            "Runs the decks of both levels until they are done, and asks for replies as halts come",
+        )
+        .arg(file_word(alloc, "pack").help(
+            "The pack; a new one with 10 tracks a region if none is given",
+        ))?
+        .arg(file_word(alloc, "save").help("Where the pack is written once both levels are done"))?
+        .arg(files_word(alloc, "deck1").help("The deck of level 1; several files are one deck"))?
+        .arg(files_word(alloc, "deck2").help("The deck of level 2"))?
+        .arg(files_word(alloc, "replies").help(
+            "Rules that answer halts, a line each: LEVEL LETTERS DIGIT [PROGRAM]; with - the replies come from standard input",
+        ))?
+        .arg(bound_word(alloc, "turns").help(
+            "The most turns that a level takes, if not 1000000000",
+        ))?
+        .arg(bound_word(alloc, "lines").help(
+            "The most lines that a level prints, if not 1000000",
+        ))?;
+    operate_outputs(alloc, command)
+}
+
+/// The words of `operate` for what is written beside the reports, and for what is done with a day.
+fn operate_outputs<'a>(alloc: Global, command: Command<'a>) -> Result<Command<'a>, AllocError> {
+    command
+        .arg(file_word(alloc, "script").help("Where the script that was performed is written"))?
+        .arg(file_word(alloc, "log").help("Where the log of the day is written"))?
+        .arg(
+            file_word(alloc, "redo")
+                .value_name("LOG")
+                .help("Does the day of a log again"),
+        )?
+        .arg(line_word(alloc, "from1").help("Takes level 1 up again at this line"))?
+        .arg(line_word(alloc, "from2").help("Takes level 2 up again at this line"))?
+        .arg(file_word(alloc, "deck-out1").help(
+            "Where the deck of level 1 is written as it is run",
+        ))?
+        .arg(file_word(alloc, "deck-out2").help(
+            "Where the deck of level 2 is written as it is run",
+        ))?
+        .arg(flag(alloc, "jobs").help("Lists the jobs of the decks, and runs none"))?
+        .arg(flag(alloc, "save-unfinished").help("Saves the pack also where a level isn't done"))?
+        .arg(flag(alloc, "overwrite").help(
+            "Writes over a script, a log, a deck or a pack that is there",
+        ))?
+        .arg(flag(alloc, "quiet").help(
+            "Tells neither how far the work has come nor what rules answered",
+        ))
 }
 
 fn init_command<'a>(alloc: Global) -> Result<Command<'a>, AllocError> {
@@ -52,12 +104,9 @@ fn list_command<'a>(alloc: Global) -> Result<Command<'a>, AllocError> {
     Command::new(alloc, "list")
         .about("Prints a line for each used label slot of a pack")
         .arg(pack_word(alloc))?
-        .arg(
-            Arg::new(alloc, "table")
-                .long("table")
-                .action(ArgAction::SetTrue)
-                .help("A table instead, with regions, free room, extents and dates"),
-        )
+        .arg(flag(alloc, "table").help(
+            "A table instead, with regions, free room, extents and dates",
+        ))
 }
 
 fn migrate_command<'a>(alloc: Global) -> Result<Command<'a>, AllocError> {
@@ -70,6 +119,29 @@ fn migrate_command<'a>(alloc: Global) -> Result<Command<'a>, AllocError> {
 /// A word that names a file.
 fn file_word<'a>(alloc: Global, name: &'a str) -> Arg<'a> {
     Arg::new(alloc, name).long(name).value_name("FILE")
+}
+
+/// A word that names a file, and may be given several times.
+fn files_word<'a>(alloc: Global, name: &'a str) -> Arg<'a> {
+    file_word(alloc, name).action(ArgAction::Append)
+}
+
+/// A word that names a line of a deck.
+fn line_word<'a>(alloc: Global, name: &'a str) -> Arg<'a> {
+    Arg::new(alloc, name).long(name).value_name("[FILE:]LINE")
+}
+
+/// A word that gives how far a level goes at most, 0 to 4294967295.
+fn bound_word<'a>(alloc: Global, name: &'a str) -> Arg<'a> {
+    Arg::new(alloc, name)
+        .long(name)
+        .value_name("N")
+        .value_parser(value_parser!(u32))
+}
+
+/// A word that stands alone.
+fn flag<'a>(alloc: Global, name: &'a str) -> Arg<'a> {
+    Arg::new(alloc, name).long(name).action(ArgAction::SetTrue)
 }
 
 fn save_word<'a>(alloc: Global) -> Arg<'a> {

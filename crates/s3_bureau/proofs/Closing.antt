@@ -26,6 +26,7 @@ use Rattle.s3_level.proofs.Said.{said_same}
 use Rattle.s3_bureau.specs.Sharing.{IsCommon, IsOwn}
 use Rattle.s3_bureau.specs.Inner.Held.{IsDone, IsReadyFor}
 use Rattle.s3_bureau.specs.Inner.Calls.{BothTo, ClosesBoth, ClosesLevel, ClosesTo, MountsAs}
+use Rattle.s3_bureau.proofs.Untangled.{untangled_as_said}
 use Rattle.s3_bureau.proofs.OtherLevel.{common_spared, header_spared, other_said, other_spared, ready_stays, worlds_stay}
 
 -- ---- one level
@@ -195,11 +196,14 @@ flush_holds level areas s t blocks w keeps held = record {
   asked = held.asked;
 }
 
--- a mount judges the slots of a level as a world has them that the level holds
+-- a mount judges no slot of a level entangled, and them as a world has them that the level holds
 mounts_as : (level : LevelId) (his : Level) (before after : Around) → his.id ≡ level → IsPackReady after.areas after.state.contents
     → KeepsSaid level before.areas before.state.contents after.areas after.state.contents → MountsAs level before his after
-mounts_as level his before after id pack keeps = λ said w held.
-    judged_as_said level after.areas after.state.contents (pack.own level) (keeps said) ∙ ap (λ (l : LevelId). slots_at l after.areas) (sym id) ∙ sym held.parts.pack.own.slots_of_area
+mounts_as level his before after id pack keeps = λ said. (
+  untangled_as_said level after.areas after.state.contents (pack.own level) (keeps said),
+  λ w held.
+      judged_as_said level after.areas after.state.contents (pack.own level) (keeps said) ∙ ap (λ (l : LevelId). slots_at l after.areas) (sym id) ∙ sym held.parts.pack.own.slots_of_area,
+)
 
 -- both levels were closed, and the pool flushed, or it stopped at that
 pub both_closed : (result : Result (Unit {0}) PoolFault) (one two new_one new_two : Level) (before middle : Around) (areas : Areas) (s t : PoolState) (blocks : Blocks) → IsReadyFor one two before

@@ -5,6 +5,7 @@ pub mod Closing
 pub mod Counts
 pub mod Digits
 pub mod Entering
+pub mod Fetching
 pub mod Laying
 pub mod Memory
 pub mod Opening
@@ -16,4 +17,5 @@ pub mod Trimming
 pub mod MigratedTexts
 pub mod Queued
 pub mod MigratedRecords
+pub mod Untangled
 pub mod Stepping

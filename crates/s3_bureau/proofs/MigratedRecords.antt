@@ -1,22 +1,17 @@
 -- What runs over an old pack and over the migrated one leave.
-use Rattle.std.proofs.Common.{◌≡◌, ℕ, ◌+◌, ◌*◌, ◌/◌, ◌<◌, ◌≤◌, ◌==◌, ◌&&◌, Bool, true, false, not, List, [], ◌∷◌, ◌++◌, length, take, slice_index, Option, Some, None, Ok, if◌then◌else◌, refl, sym, ap, ap₂, subst, ◌∙◌, arith}
-use Rattle.std.specs.List.{list_all}
-use Rattle.std.proofs.lemmas.Bool.{and_from, eqb-true}
+use Rattle.std.proofs.Common.{◌≡◌, ℕ, ◌+◌, ◌*◌, ◌/◌, ◌<◌, ◌≤◌, ◌&&◌, false, not, List, [], ◌∷◌, ◌++◌, length, take, Ok, refl, sym, ap, ap₂, subst, ◌∙◌, arith}
 use Rattle.s3_cards.specs.declared.levels.LevelId.{LevelId}
 use Rattle.s3_cards.specs.declared.levels.LevelId.TheVariants.{One, Two}
-use Rattle.s3_cards.specs.declared.name.Name.{Name}
 use Rattle.s3_cards.specs.Deck.{deck_of}
 use Rattle.s3_store.specs.Bytes.{part}
 use Rattle.s3_store.specs.declared.stretch.Stretch.{Stretch}
 use Rattle.s3_slots.specs.Header.{mounted, region_of}
-use Rattle.s3_slots.specs.Labels.{label_in, name_in}
-use Rattle.s3_slots.specs.Slots.{is_clear, is_disentangled, is_entangled, is_entangled_label, is_well_formed, judged, judged_label, slot_bytes, slots_of, standing}
+use Rattle.s3_slots.specs.Slots.{is_entangled, judged, slot_bytes, slots_of, standing}
 use Rattle.s3_slots.specs.declared.header.Format.{Format}
 use Rattle.s3_slots.specs.declared.header.Format.TheVariants.{First, Second}
 use Rattle.s3_slots.specs.declared.header.Header.{Header}
 use Rattle.s3_slots.specs.declared.label.FileLabel.{FileLabel}
 use Rattle.s3_slots.specs.declared.slot.Slot.{Slot}
-use Rattle.s3_slots.specs.declared.slot.Slot.TheVariants.{Damaged, Free, Sound}
 use Rattle.s3_slots.specs.declared.slot.Standing.TheVariants.{Present}
 use Rattle.s3_labels.specs.Areas.{area_of}
 use Rattle.s3_labels.specs.Contents.{contents_of}
@@ -39,50 +34,7 @@ use Rattle.s3_bureau.specs.Inner.CompletedRuns.{CompletedRun, WasUntangled, area
 use Rattle.s3_bureau.specs.Inner.MigratedRuns.{HasSpace, IsMigratedRun, KeepsRecords, MigratedIsUntangled, MigratedRunsKeepRecords}
 use Rattle.s3_bureau.proofs.Alike.{has_files, has_slots, idle_stays, masters_stay, same_left}
 use Rattle.s3_bureau.proofs.MigratedTexts.{run_kept}
-
--- ---- entangled slots
-abbrev is_sound_slot : Slot → Bool
-is_sound_slot (Sound label) = true
-is_sound_slot _ = false
-
-none_clear : (extents : List Stretch) → list_all (is_clear []) extents ≡ true
-none_clear [] = refl
-none_clear (extent ∷ extents) = none_clear extents
-
-alone_apart : (label : FileLabel) → is_disentangled [] label ≡ true
-alone_apart label = and_from (list_all (is_clear []) label.extents) true (none_clear label.extents) refl
-
-by_tests : (formed apart : Bool) (name : Option Name) (label : FileLabel)
-    → formed && not apart ≡ is_sound_slot (if formed && true then Sound label else Damaged name) && not (is_sound_slot (if formed && apart then Sound label else Damaged name))
-by_tests true true name label = refl
-by_tests true false name label = refl
-by_tests false true name label = refl
-by_tests false false name label = refl
-
-by_label : (region : Stretch) (earlier : List Slot) (name : Option Name) (found : Option FileLabel)
-    → is_entangled_label region earlier found ≡ is_sound_slot (judged_label region [] name found) && not (is_sound_slot (judged_label region earlier name found))
-by_label region earlier name None = refl
-by_label region earlier name (Some label) =
-    by_tests (is_well_formed region label) (is_disentangled earlier label) name label
-    ∙ ap (λ b. is_sound_slot (if is_well_formed region label && b then Sound label else Damaged name) && not (is_sound_slot (judged_label region earlier name (Some label)))) (sym (alone_apart label))
-
-abbrev by_mark : Bool → Bool → Option Name → Slot → Slot
-by_mark free used name slot = if free then Free else (if used then slot else Damaged name)
-
-by_marks : (region : Stretch) (earlier : List Slot) (free used : Bool) (name : Option Name) (found : Option FileLabel) → (free ≡ true → used ≡ false)
-    → used && is_entangled_label region earlier found
-    ≡ is_sound_slot (by_mark free used name (judged_label region [] name found)) && not (is_sound_slot (by_mark free used name (judged_label region earlier name found)))
-by_marks region earlier true used name found one = rw (one refl) refl
-by_marks region earlier false true name found one = by_label region earlier name found
-by_marks region earlier false false name found one = refl
-
-not_both : (mark : ℕ) → (mark == 0) ≡ true → (mark == 1) ≡ false
-not_both mark is = let e : mark ≡ 0 = eqb-true mark 0 is in rw e refl
-
--- it is entangled where it is sound alone, and not behind the slots before it
-entangled_is : (format : Format) (region : Stretch) (earlier : List Slot) (bytes : List ℕ)
-    → is_entangled format region earlier bytes ≡ is_sound_slot (judged format region [] bytes) && not (is_sound_slot (judged format region earlier bytes))
-entangled_is format region earlier bytes = by_marks region earlier (slice_index bytes 0 == 0) (slice_index bytes 0 == 1) (name_in bytes) (label_in format bytes) (not_both (slice_index bytes 0))
+use Rattle.s3_bureau.proofs.Untangled.{entangled_is, is_sound_slot}
 
 -- ---- slots of a migrated pack
 like_one : (new old a b : List ℕ) → new ≡ a → old ≡ b → IsOfOne a b → IsOfOne new old

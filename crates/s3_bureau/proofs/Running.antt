@@ -1,5 +1,5 @@
 -- The texts of a run, and what it leaves of its pack.
-use Rattle.std.proofs.Common.{◌≡◌, inl, inr, ℕ, ◌≤◌, false, nat_lt, if◌then◌else◌, List, [], Option, Some, None, Result, Ok, Err, refl, sym, ap, subst, ◌∙◌, arith, length, slice_get}
+use Rattle.std.proofs.Common.{◌≡◌, inl, inr, ℕ, ◌≤◌, false, nat_lt, if◌then◌else◌, List, [], Option, Some, None, Result, Ok, Err, IfOk, OnOk, refl, sym, ap, subst, ◌∙◌, arith, length, slice_get}
 use Rattle.std.proofs.lemmas.List.{take_all, length-take}
 use Rattle.std.specs.List.{concat}
 use Rattle.s3_cards.specs.declared.levels.LevelId.{LevelId}
@@ -27,6 +27,7 @@ use Rattle.s3_level.specs.declared.level.Level.{Level}
 use Rattle.s3_level.specs.Inner.Holds.{Around, Holds, HoldsAtWork, open_files}
 use Rattle.s3_solo.specs.Solo.{solo, closed}
 use Rattle.s3_bureau.specs.declared.entry.Entry.{Entry}
+use Rattle.s3_bureau.specs.declared.outcome.LevelTexts.{LevelTexts}
 use Rattle.s3_bureau.specs.declared.outcome.Outcome.{Outcome}
 use Rattle.s3_bureau.specs.declared.run_fault.RunFault.{RunFault}
 use Rattle.s3_bureau.specs.declared.run_fault.RunFault.TheVariants.{Script, Mount, Device as DeviceFault, NoMemory}
@@ -34,7 +35,7 @@ use Rattle.s3_bureau.specs.Entries.{own}
 use Rattle.s3_bureau.specs.Inner.Held.{HoldsFor, IsSaid, State, header_of, held_by, level_of, rests}
 use Rattle.s3_bureau.specs.Sharing.{IsCommon, IsOwn}
 use Rattle.s3_bureau.specs.Script.{entries_of}
-use Rattle.s3_bureau.specs.Runs.{AreSectors, HasFiles, HasSlots, LeavesSo, RunTexts, Runs, outcome_texts, cards_of, texts_of, run_alone, run_texts, level_texts, entries_texts, texts_after, texts_over}
+use Rattle.s3_bureau.specs.Runs.{AreSectors, HasFiles, HasSlots, LeavesSo, RunTexts, Runs, outcome_texts, cards_of, texts_of, run_alone, run_texts, level_texts, entries_texts, texts_after, texts_in, texts_over}
 use Rattle.s3_bureau.specs.Inner.Underway.{HaveFiles, HaveSlots, KeepSaying, LeavesSectors, ReadsDeck, Performs, RunsOver, HasTexts, drained_texts}
 
 -- all lines of a closed world were drained
@@ -100,11 +101,42 @@ pub slots_stand : (entries : List Entry) (first middle last : State) → Perform
     → ((level : LevelId) (w : World) → HoldsFor level middle w → HoldsFor level last (closed w))
     → ((level : LevelId) (w : World) → IsSaid level middle → HoldsFor level last w
     → slots_of (header_of last).format (region_of level (header_of last)) (area_of level) last.beside.state.contents ≡ w.pack.own.slots)
+    → ((level : LevelId) → IsSaid level middle → IsUntangled (header_of last).format (region_of level (header_of last)) (area_of level) last.beside.state.contents)
     → header_of last ≡ header_of first
     → HaveSlots entries first last.beside.state.contents
-slots_stand entries first middle last performs says closes mounts same level w held said =
-    ap (λ (h : Header). slots_of h.format (region_of level h) (area_of level) last.beside.state.contents) (sym same)
-    ∙ mounts level (closed (solo w (own level entries))) (says level said) (closes level (solo w (own level entries)) (performs level w held))
+slots_stand entries first middle last performs says closes mounts untangled same level said = (
+  subst (λ (h : Header). IsUntangled h.format (region_of level h) (area_of level) last.beside.state.contents) same (untangled level (says level said)),
+  λ w held.
+      ap (λ (h : Header). slots_of h.format (region_of level h) (area_of level) last.beside.state.contents) (sym same)
+      ∙ mounts level (closed (solo w (own level entries))) (says level said) (closes level (solo w (own level entries)) (performs level w held)),
+)
+
+-- ---- where a call finishes a bureau and gives its texts, or stops
+pub texts_served : {E : Type 0} (refusal1 refusal2 : Option (ℕ × ℕ)) (entries : List Entry) (opened performed finished : LevelId → World → Type 0) (result : Result (LevelTexts × LevelTexts) E)
+    → Performs entries opened performed
+    → OnOk result ((level : LevelId) (w : World) → performed level w → finished level (closed w))
+    → IfOk result (λ texts. (w : World) → finished One w → texts_in texts.0 ≡ drained_texts refusal1 w)
+    → IfOk result (λ texts. (w : World) → finished Two w → texts_in texts.1 ≡ drained_texts refusal2 w)
+    → IfOk result (λ texts. HasTexts refusal1 refusal2 entries opened (record { one = texts_in texts.0; two = texts_in texts.1 }))
+texts_served refusal1 refusal2 entries opened performed finished (Ok texts) performs closes one two =
+    texts_shown refusal1 refusal2 entries opened performed finished (record { one = texts_in texts.0; two = texts_in texts.1 }) performs closes one two
+texts_served refusal1 refusal2 entries opened performed finished (Err stop) performs closes one two = tt
+
+pub files_served : {V : Type 0} {E : Type 0} (entries : List Entry) (first middle last : State) (result : Result V E) → Performs entries (held_by first) (held_by middle)
+    → OnOk result ((level : LevelId) (w : World) → HoldsFor level middle w → HoldsFor level last (closed w))
+    → OnOk result (HaveFiles entries (held_by first) last.beside.state.contents)
+files_served entries first middle last (Ok value) performs closes = files_stand entries first middle last performs closes
+files_served entries first middle last (Err stop) performs closes = tt
+
+pub slots_served : {V : Type 0} {E : Type 0} (entries : List Entry) (first middle last : State) (result : Result V E) → Performs entries (held_by first) (held_by middle) → KeepSaying first middle
+    → OnOk result ((level : LevelId) (w : World) → HoldsFor level middle w → HoldsFor level last (closed w))
+    → OnOk result ((level : LevelId) (w : World) → IsSaid level middle → HoldsFor level last w
+    → slots_of (header_of last).format (region_of level (header_of last)) (area_of level) last.beside.state.contents ≡ w.pack.own.slots)
+    → OnOk result ((level : LevelId) → IsSaid level middle → IsUntangled (header_of last).format (region_of level (header_of last)) (area_of level) last.beside.state.contents)
+    → header_of last ≡ header_of first
+    → OnOk result (HaveSlots entries first last.beside.state.contents)
+slots_served entries first middle last (Ok value) performs says closes mounts untangled same = slots_stand entries first middle last performs says closes mounts untangled same
+slots_served entries first middle last (Err stop) performs says closes mounts untangled same = tt
 
 -- the same header is mounted
 mounted_again : (old new : List (List ℕ)) → length new ≡ length old → slice_get new 0 ≡ slice_get old 0 → mounted new ≡ mounted old
@@ -130,6 +162,9 @@ left_so header deck1 deck2 cards1 cards2 refusal1 refusal2 entries first last co
   masters = slots_kept header.format header.masters 0 contents saved (λ n is. common n (inr (inl is)));
   one_slots = slots_for One deck1 cards1 reads1.read held1;
   two_slots = slots_for Two deck2 cards2 reads2.read held2;
+  untangled = λ level. subst (λ (c : List (List ℕ)). IsUntangled header.format (region_of level header) (area_of level) contents → IsUntangled header.format (region_of level header) (area_of level) c) (sym same)
+      (subst (λ (h : Header). IsUntangled h.format (region_of level h) (area_of level) contents → IsUntangled h.format (region_of level h) (area_of level) last.beside.state.contents) header_is
+      (λ untangled. (slots level (said level untangled)).0));
   idle = λ level none n is. ap (λ (c : List (List ℕ)). slice_get c n) same
       ∙ (leaves.idle level none (rest level)).contents n (subst (λ (h : Header). IsOwn level h n) (sym header_is) is) ∙ ap (λ (c : List (List ℕ)). slice_get c n) contents_are;
   one = subst (λ (c : List (List ℕ)). HasFiles c (run_alone One header contents (cards_of (deck_of deck1)) (own One entries))) (sym same)
@@ -153,7 +188,7 @@ left_so header deck1 deck2 cards1 cards2 refusal1 refusal2 entries first last co
         subst (λ (c : List (List ℕ)). HasSlots level header contents saved (run_alone level header contents c (own level entries))) read
         (subst (λ (c : List (List ℕ)). HasSlots level header contents c (run_alone level header contents cards (own level entries))) (sym same)
         (subst (λ (h : Header). HasSlots level h contents last.beside.state.contents (run_alone level header contents cards (own level entries))) header_is
-        (λ untangled. slots level (at_start level header contents cards) held (said level untangled))))
+        (λ untangled. (slots level (said level untangled)).1 (at_start level header contents cards) held)))
 
 -- the run over a store in memory is the run over the pack's bytes
 pub runs_by : (pack deck1 deck2 script : List ℕ) (entries : List Entry) (contents : List (List ℕ)) (result : Result Outcome RunFault) → contents ≡ contents_of pack → entries_of script ≡ Ok entries

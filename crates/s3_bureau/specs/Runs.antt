@@ -95,7 +95,8 @@ HasSlots level header old new w =
     IsUntangled header.format (region_of level header) (area_of level) old → slots_of header.format (region_of level header) (area_of level) new ≡ w.pack.own.slots
 
 -- What a run makes of a mounted pack: it has as many sectors, those of its header and its masters, those that nobody uses and all of a
--- level without an entry are as they were, and it has the slots and the files of each level's world. So a mount of it gives the same header and the same masters.
+-- level without an entry are as they were, and it has the slots and the files of each level's world. So a mount of it gives the same
+-- header and the same masters, and no slot of a level is entangled where none was.
 pub record LeavesSo (header : Header) (deck1 deck2 : List ℕ) (entries : List Entry) (old new : List (List ℕ)) : Type 0 where
   pub count : length new ≡ length old
   pub common : (n : ℕ) → IsCommon header n → slice_get new n ≡ slice_get old n
@@ -104,6 +105,7 @@ pub record LeavesSo (header : Header) (deck1 deck2 : List ℕ) (entries : List E
   pub masters : slots_of header.format header.masters 0 new ≡ slots_of header.format header.masters 0 old
   pub one_slots : HasSlots One header old new (run_alone One header old (cards_of (deck_of deck1)) (own One entries))
   pub two_slots : HasSlots Two header old new (run_alone Two header old (cards_of (deck_of deck2)) (own Two entries))
+  pub untangled : (level : LevelId) → IsUntangled header.format (region_of level header) (area_of level) old → IsUntangled header.format (region_of level header) (area_of level) new
   pub one : HasFiles new (run_alone One header old (cards_of (deck_of deck1)) (own One entries))
   pub two : HasFiles new (run_alone Two header old (cards_of (deck_of deck2)) (own Two entries))
 

@@ -4,9 +4,8 @@ use Rattle.std.specs.List.{flat_map}
 use Rattle.std.specs.Fmt.{decimal}
 use Rattle.s3_cards.specs.Codes.{host_of}
 use Rattle.s3_cards.specs.Printed.{Printed}
-use Rattle.s3_operator.specs.declared.halt_code.HaltCode.{HaltCode}
-use Rattle.s3_operator.specs.declared.halt_code.HaltCode.TheVariants.{HaltIndicator, UnidentifiedRecord, ZeroDivisor, BadDigit, NoRecordFound, DuplicateKey, OutOfSequence, KeyChanged, NothingToUpdate, FileFull, KeyNotAscending, FaultyJob, NoProgram, FaultySource, NoLabel, DamagedLabel, MasterForUpdate, NoSpace, RetainedFile, DuplicateLabel, LabelMismatch, BadIndex}
 use Rattle.s3_operator.specs.Halts.{ShownHalt}
+use Rattle.s3_operator.specs.Letters.{letters_of}
 
 -- a number in at least so many decimal digits
 abbrev pub in_digits : ℕ → ℕ → List ℕ
@@ -33,31 +32,6 @@ report_line p = in_digits 4 p.page ++ 32 ∷ [] ++ in_digits 2 p.line ++ 32 ∷ 
 -- the report of printed lines
 abbrev pub report_of : List Printed → List ℕ
 report_of = flat_map report_line
-
--- the letters of what a level halts for
-abbrev pub letters_of : HaltCode → List ℕ
-letters_of (HaltIndicator n) = codes "H" ++ in_digits 1 n
-letters_of UnidentifiedRecord = codes "UR"
-letters_of ZeroDivisor = codes "DZ"
-letters_of BadDigit = codes "DE"
-letters_of NoRecordFound = codes "NF"
-letters_of DuplicateKey = codes "DK"
-letters_of OutOfSequence = codes "SQ"
-letters_of KeyChanged = codes "KC"
-letters_of NothingToUpdate = codes "NU"
-letters_of FileFull = codes "EX"
-letters_of KeyNotAscending = codes "KA"
-letters_of FaultyJob = codes "OC"
-letters_of NoProgram = codes "PG"
-letters_of FaultySource = codes "CE"
-letters_of NoLabel = codes "LB"
-letters_of DamagedLabel = codes "LD"
-letters_of MasterForUpdate = codes "MU"
-letters_of NoSpace = codes "NS"
-letters_of RetainedFile = codes "RT"
-letters_of DuplicateLabel = codes "DU"
-letters_of LabelMismatch = codes "LN"
-letters_of BadIndex = codes "IX"
 
 -- a reply, or `-` for none
 abbrev pub reply_text : Option ℕ → List ℕ

@@ -10,11 +10,11 @@ ghost use Rattle.s3_bureau.specs.Inner.Calls.{Acts, ClosesLevel, ClosesBoth};
 use crate::entry::Entry;
 use crate::stop::Stop;
 use s3_cards::{Deck, LevelId, PrintLine};
-use s3_labels::{Pack, Refusal, RefusedStore};
+use s3_labels::{AreaSlots, Pack, Refusal, RefusedStore};
 use s3_level::{Action, Did, Halt, Level, Taken};
 use s3_pool::Pool;
 use s3_spool::Spool;
-use s3_store::{PackStore, PoolFault};
+use s3_store::{PackStore, PoolFault, Sectors};
 use std::alloc::{AllocError, Global};
 use std::marker::Model;
 use std::num::NonZeroU16;
@@ -128,10 +128,10 @@ fn store_of<S: PackStore>(pack: Pack<Pool<S>>) -> S
 
 impl<S: PackStore> Bureau<S> {
     ghost use Rattle.std.specs.Int.NonZero.{non_zero_u16_get};
-    ghost use Rattle.std.specs.Prelude.{◌≡◌, ◌≢◌, ◌+◌, length, true, false, Ok, Err, map, IfOk, IfErr, OnOk, OnErr};
+    ghost use Rattle.std.specs.Prelude.{◌≡◌, ◌≢◌, ◌+◌, length, slice_get, true, false, Ok, Err, map, IfOk, IfErr, OnOk, OnErr};
     ghost use Rattle.s3_cards.specs.Inner.Levels.{other};
     ghost use Rattle.s3_cards.specs.declared.levels.LevelId.{LevelId};
-    ghost use Rattle.s3_store.specs.Inner.State.{KeepsInStep};
+    ghost use Rattle.s3_store.specs.Inner.State.{KeepsContents, KeepsInStep};
     ghost use Rattle.s3_slots.specs.Header.{mounted, region_of};
     ghost use Rattle.s3_slots.specs.Slots.{slots_of};
     ghost use Rattle.s3_labels.specs.Inner.Areas.{IsReady as IsPackReady, IsRefusal, areas_on, failed_by};
@@ -147,7 +147,7 @@ impl<S: PackStore> Bureau<S> {
     ghost use Rattle.s3_level.specs.Inner.Holds.{Holds, IsUpTo, Repeats, Spares, Steps};
     ghost use Rattle.s3_bureau.specs.Inner.Stops.{failed_stop};
     ghost use Rattle.s3_bureau.specs.Inner.Calls.{Closes, Enters};
-    ghost use Rattle.s3_bureau.specs.Inner.Queries.{queued};
+    ghost use Rattle.s3_bureau.specs.Inner.Queries.{Fetches, IsFound, queued};
     ghost use Rattle.s3_bureau.specs.Inner.Held.{HasNoWork, HoldsFor, IsForeign, IsSaid, halts_at, header_of, is_open, has_worlds, level_of, lines_at, rests};
     ghost use Rattle.s3_bureau.specs.Sharing.{IsCommon, IsOwn};
 
@@ -343,8 +343,9 @@ impl<S: PackStore> Bureau<S> {
         ensures closes { OnOk result ((level : LevelId) (w : World) → HoldsFor level self.old w → HoldsFor level self.new (closed w)) }
         ensures flushed { OnOk result (self.new.beside.state.stored ≡ self.new.beside.state.contents) }
 
-        // Where the labels of a level said its slots, a mount of the store judges them as its world has them.
+        // Where the labels of a level said its slots, a mount of the store judges them as its world has them, and none of them entangled.
         ensures mounts { OnOk result ((level : LevelId) (w : World) → IsSaid level self.old → HoldsFor level self.new w → slots_of (header_of self.new).format (region_of level (header_of self.new)) (area_of level) self.new.beside.state.contents ≡ w.pack.own.slots) }
+        ensures untangled { OnOk result ((level : LevelId) → IsSaid level self.old → IsUntangled (header_of self.new).format (region_of level (header_of self.new)) (area_of level) self.new.beside.state.contents) }
 
         // Whatever the answer is, the sectors of the header, of the masters and those that nobody uses stay, and those of a level with
         // no job at work, in the store too.
@@ -426,6 +427,63 @@ impl<S: PackStore> Bureau<S> {
         ensures world { (w : World) → HoldsFor level self.now w → result ≡ queued w.lines }
     {
         self.spool.queued(self.level(level).id())
+    }
+
+    /// The header of the pack and the slots of its areas, as they were judged when it was opened and have been changed since.
+    pub fn areas(&self) -> &AreaSlots
+        ensures { result.now ≡ self.now.beside.areas }
+    {
+        &self.pack.areas
+    }
+
+    /// Reads a sector of the pack as it now stands, and answers whether there is one of this number. No sector changes, and no
+    /// world that is held.
+    ///
+    /// Where memory runs out it answers `Stop::NoMemory`, and where a transfer of the store fails `Stop::Device`. Nothing more is
+    /// done then, as after a stop of `step`.
+    pub fn read_sector(&mut self, n: u16, bytes: &mut [u8; 256]) -> Result<bool, Stop>
+        ensures found { IfOk result (λ found. IsFound found (slice_get self.old.beside.state.contents n) bytes.new) }
+
+        // All stays as it is; only what the pool alone had may now be in the store too.
+        ensures held { OnOk result ((level : LevelId) (w : World) → HoldsFor level self.old w → HoldsFor level self.new w) }
+        ensures held_before { OnOk result ((level : LevelId) (w : World) → HoldsFor level self.new w → HoldsFor level self.old w) }
+        ensures levels { (level : LevelId) → level_of level self.new ≡ level_of level self.old }
+        ensures areas { self.new.beside.areas ≡ self.old.beside.areas }
+        ensures blocks { self.new.beside.blocks ≡ self.old.beside.blocks }
+        ensures keeps { KeepsContents self.old.beside.state self.new.beside.state }
+        ensures goes_on { OnOk result (self.new.phase ≡ self.old.phase) }
+
+        // Only a bureau that is finished or was stopped answers that it is stopped, and it stays as it is.
+        ensures stopped { is_open self.old ≡ false → (result ≡ Err Stop.Stopped) × (self.new ≡ self.old) }
+        ensures not_before { is_open self.old ≡ true → result ≢ Err Stop.Stopped }
+        ensures stops { OnErr result (is_open self.new ≡ false) }
+        ensures holds_none { OnErr result (is_open self.old ≡ true → has_worlds self.new.phase ≡ false) }
+        ensures failures { self.new.beside.state.failures ≡ self.old.beside.state.failures + failed_stop result }
+    {
+        if self.phase != Phase::Open {
+            return Err(Stop::Stopped);
+        }
+        match self.fetch(n, bytes) {
+            Ok(found) => Ok(found),
+            Err(fault) => Err(stop_of(fault)),
+        }
+    }
+
+    /// Reads a sector, if there is one of this number, or stops.
+    fn fetch(&mut self, n: u16, bytes: &mut [u8; 256]) -> Result<bool, PoolFault>
+        requires { is_open self.old ≡ true }
+        ensures { Fetches n result bytes.new self.old self.new }
+    {
+        if n >= self.pack.pool.sector_count() {
+            return Ok(false);
+        }
+        match self.pack.pool.read_sector(n, bytes) {
+            Ok(()) => Ok(true),
+            Err(fault) => {
+                self.phase = Phase::Stopped;
+                Err(fault)
+            }
+        }
     }
 
     /// The store as it stands: what the pool alone holds is lost, which after `finish` is nothing.

@@ -1,11 +1,10 @@
 //! A level's halt text: its halts, with what was wrong at each.
 ghost use Rattle.std.specs.Prelude.{◌≡◌, ◌++◌, map, OnOk, IfOk};
 ghost use Rattle.s3_operator.specs.Inner.Halts.{halt_of};
-ghost use Rattle.s3_operator.specs.declared.halt_code.HaltCode.TheVariants.{HaltIndicator};
-ghost use Rattle.s3_bureau.specs.Texts.{letters_of, reply_text, detail_line, halt_line, halt_lines, refusal_line, halt_text_of};
+ghost use Rattle.s3_bureau.specs.Texts.{reply_text, detail_line, halt_line, halt_lines, refusal_line, halt_text_of};
 
 use super::number::push_number;
-use s3_operator::{Halt, HaltCode};
+use s3_operator::{Halt, letters};
 use std::alloc::{AllocError, Global};
 
 /// The text of a level's halts (docs/RUNNING.md, "The output"). Where its deck was refused, the number of the card at fault and
@@ -52,7 +51,7 @@ fn push_halt_line(text: &mut Vec<u8>, halt: &Halt) -> Result<(), AllocError>
 {
     push_number(text, halt.job, 3)?;
     text.push(b' ')?;
-    push_letters(text, halt.code)?;
+    text.extend_from_slice(&letters(halt.code))?;
     text.push(b' ')?;
     push_reply(text, halt.reply)?;
     text.push(b'\n')?;
@@ -79,40 +78,4 @@ fn push_reply(text: &mut Vec<u8>, reply: Option<u8>) -> Result<(), AllocError>
         Some(digit) => push_number(text, u16::from(digit), 1),
         None => text.extend_from_slice(b"-"),
     }
-}
-
-fn push_letters(text: &mut Vec<u8>, code: HaltCode) -> Result<(), AllocError>
-    ensures { OnOk result (text.new.items ≡ text.old.items ++ letters_of code) }
-{
-    match code {
-        HaltCode::HaltIndicator(number) => push_indicator(text, number),
-        HaltCode::UnidentifiedRecord => text.extend_from_slice(b"UR"),
-        HaltCode::ZeroDivisor => text.extend_from_slice(b"DZ"),
-        HaltCode::BadDigit => text.extend_from_slice(b"DE"),
-        HaltCode::NoRecordFound => text.extend_from_slice(b"NF"),
-        HaltCode::DuplicateKey => text.extend_from_slice(b"DK"),
-        HaltCode::OutOfSequence => text.extend_from_slice(b"SQ"),
-        HaltCode::KeyChanged => text.extend_from_slice(b"KC"),
-        HaltCode::NothingToUpdate => text.extend_from_slice(b"NU"),
-        HaltCode::FileFull => text.extend_from_slice(b"EX"),
-        HaltCode::KeyNotAscending => text.extend_from_slice(b"KA"),
-        HaltCode::FaultyJob => text.extend_from_slice(b"OC"),
-        HaltCode::NoProgram => text.extend_from_slice(b"PG"),
-        HaltCode::FaultySource => text.extend_from_slice(b"CE"),
-        HaltCode::NoLabel => text.extend_from_slice(b"LB"),
-        HaltCode::DamagedLabel => text.extend_from_slice(b"LD"),
-        HaltCode::MasterForUpdate => text.extend_from_slice(b"MU"),
-        HaltCode::NoSpace => text.extend_from_slice(b"NS"),
-        HaltCode::RetainedFile => text.extend_from_slice(b"RT"),
-        HaltCode::DuplicateLabel => text.extend_from_slice(b"DU"),
-        HaltCode::LabelMismatch => text.extend_from_slice(b"LN"),
-        HaltCode::BadIndex => text.extend_from_slice(b"IX"),
-    }
-}
-
-fn push_indicator(text: &mut Vec<u8>, number: u8) -> Result<(), AllocError>
-    ensures { OnOk result (text.new.items ≡ text.old.items ++ letters_of (HaltIndicator number)) }
-{
-    text.push(b'H')?;
-    push_number(text, u16::from(number), 1)
 }

@@ -17,11 +17,13 @@
 //! - `repeat`: an entry so many times, at least once and no more often than asked, each time with that answer (`own`, `times`),
 //!   and all else as for `step`;
 //! - `finish`: where it answers `Ok`, each world is closed (`closes`), the store has what the pool has (`flushed`), and a mount
-//!   of it judges the slots as the worlds have them (`mounts`); whatever it answers, the sectors of the header, of the masters
-//!   and those that nobody uses stay, and those of a level without a job at work (`unchanged`, `rest`); memory runs out only
-//!   where a job is at work or a line is queued (`memory`);
+//!   of it judges the slots as the worlds have them (`mounts`), and none of them entangled (`untangled`), where the labels said them;
+//!   whatever it answers, the sectors of the header, of the masters and those that nobody uses stay, and those of a level without a
+//!   job at work (`unchanged`, `rest`); memory runs out only where a job is at work or a line is queued (`memory`);
 //! - `level` lends a level, which holds what the bureau holds for it, for what is asked of it; `queued` is how many of its printed
-//!   lines are queued (`world`);
+//!   lines are queued (`world`); `areas` are the judged slots; `read_sector` gives the bytes of a sector as the pack now has them, and
+//!   keeps each world that is held;
+//! - `finish_texts` finishes a bureau and gives the texts of both levels: those of each closed world, and all else as for `finish`;
 //! - after a stop or `finish` every call answers `Stopped` and changes nothing (`stopped`); `into_store` gives the store;
 //! - after any steps that answered `Ok`, in whatever order, each world that was held for a level has taken that level's own entries,
 //!   with the answers of the solo run (`each_level_takes_its_own_entries`; each call of `step` is one of these, by
@@ -31,7 +33,7 @@
 //! Proved of `run` and `run_on`: the texts are those of each level's closed solo run, or exactly the first bad line, else the
 //! header's fault, and never `Device`. The pack that they leave has as many sectors and nothing behind the last one, with header,
 //! masters, the sectors that nobody uses and all of a level without an entry as they were; a mount of it has the same header and
-//! masters, judges each slot of a level as its world has it where none was entangled before, and finds the records of each file
+//! masters, judges each slot of a level as its world has it, and none entangled, where none was before, and finds the records of each file
 //! of each level's world under the label that the world has for it (specs/Runs.antt). Two packs that are alike in what a level can read
 //! give it the same texts and files, whatever else they have and whatever the other level does (`no_level_learns_of_the_other`). A run
 //! over a migrated pack gives the same texts and leaves the same records, unless a halt `NS` is shown over the old one
@@ -64,7 +66,7 @@ pub use laws::{
 };
 pub use outcome::{LevelTexts, Outcome};
 pub use run_fault::{RunFault, mount_number};
-pub use runs::{run, run_on};
+pub use runs::{fault_of, fault_of_refusal, finish_texts, read_deck, run, run_on};
 pub use s3_labels::{Refusal, RefusedStore};
 pub use s3_level::{Action, Did, Halt, HaltCode, Taken};
 pub use stop::Stop;

@@ -5,9 +5,17 @@ ghost use Rattle.s3_bureau.specs.Inner.Faults.{TellsRefusal, fault_of_stop};
 ghost use Rattle.s3_bureau.specs.Script.{entries_by};
 ghost use Rattle.s3_bureau.specs.declared.stop.Stop.TheVariants.{Stopped};
 ghost use Rattle.s3_bureau.specs.Inner.Stops.{failed_stop};
-ghost use Rattle.s3_bureau.specs.Inner.Held.{HoldsFor, held_by, is_open};
+ghost use Rattle.s3_bureau.specs.Inner.Held.{HoldsFor, IsSaid, header_of, held_by, is_open, rests};
 ghost use Rattle.s3_bureau.specs.Runs.{Runs, texts_in};
+ghost use Rattle.s3_bureau.specs.Sharing.{IsCommon, IsOwn};
 ghost use Rattle.s3_bureau.specs.Inner.Underway.{HasTexts, HaveFiles, HaveSlots, KeepSaying, Leaves, LeavesSectors, Performs, ReadsDeck, RunsOver, drained_texts};
+ghost use Rattle.s3_cards.specs.declared.levels.LevelId.{LevelId};
+ghost use Rattle.s3_store.specs.Inner.State.{KeepsInStep};
+ghost use Rattle.s3_slots.specs.Header.{region_of};
+ghost use Rattle.s3_slots.specs.Slots.{slots_of};
+ghost use Rattle.s3_labels.specs.Areas.{area_of};
+ghost use Rattle.s3_labels.specs.Untangled.{IsUntangled};
+ghost use Rattle.s3_solo.specs.Solo.{closed};
 ghost use Rattle.s3_solo.specs.World.{World};
 
 use crate::bureau::Bureau;
@@ -83,8 +91,8 @@ fn outcome(
     }
 }
 
-/// What the refusal of a pack is to a run.
-fn fault_of_refusal(refusal: Refusal) -> RunFault
+/// What the refusal of a pack is to a run. No refusal names a sector that isn't there.
+pub fn fault_of_refusal(refusal: Refusal) -> RunFault
     requires { refusal ≢ Refusal.Sectors PoolFault.NoSector }
     ensures { TellsRefusal refusal result }
 {
@@ -97,7 +105,7 @@ fn fault_of_refusal(refusal: Refusal) -> RunFault
 }
 
 /// What a stop of a bureau that was open is to a run.
-fn fault_of(stop: Stop) -> RunFault
+pub fn fault_of(stop: Stop) -> RunFault
     requires { stop ≢ Stopped }
     ensures { result ≡ fault_of_stop stop }
 {
@@ -126,6 +134,31 @@ fn served<S: PackStore>(
     ensures not_stopped { result ≢ Err Stopped }
 {
     perform(bureau, commands)?;
+    finish_texts(alloc, bureau, refusal1, refusal2)
+}
+
+/// Finishes a bureau, and gives the texts of both levels, where each level's deck was refused or not.
+pub fn finish_texts<S: PackStore>(
+    alloc: Global,
+    bureau: &mut Bureau<S>,
+    refusal1: Option<(u16, u8)>,
+    refusal2: Option<(u16, u8)>,
+) -> Result<(LevelTexts, LevelTexts), Stop>
+    // Each world is closed, and the texts are those of it.
+    ensures closes { OnOk result ((level : LevelId) (w : World) → HoldsFor level bureau.old w → HoldsFor level bureau.new (closed w)) }
+    ensures one { IfOk result (λ texts. (w : World) → HoldsFor LevelId.One bureau.new w → texts_in texts.0 ≡ drained_texts refusal1 w) }
+    ensures two { IfOk result (λ texts. (w : World) → HoldsFor LevelId.Two bureau.new w → texts_in texts.1 ≡ drained_texts refusal2 w) }
+
+    // What is in the store, and how it is refused, is as `Bureau::finish` says.
+    ensures flushed { OnOk result (bureau.new.beside.state.stored ≡ bureau.new.beside.state.contents) }
+    ensures mounts { OnOk result ((level : LevelId) (w : World) → IsSaid level bureau.old → HoldsFor level bureau.new w → slots_of (header_of bureau.new).format (region_of level (header_of bureau.new)) (area_of level) bureau.new.beside.state.contents ≡ w.pack.own.slots) }
+    ensures untangled { OnOk result ((level : LevelId) → IsSaid level bureau.old → IsUntangled (header_of bureau.new).format (region_of level (header_of bureau.new)) (area_of level) bureau.new.beside.state.contents) }
+    ensures unchanged { KeepsInStep (IsCommon (header_of bureau.old)) bureau.old.beside.state bureau.new.beside.state }
+    ensures rest { (level : LevelId) → rests level bureau.old → KeepsInStep (IsOwn level (header_of bureau.old)) bureau.old.beside.state bureau.new.beside.state }
+    ensures header { header_of bureau.new ≡ header_of bureau.old }
+    ensures failures { bureau.new.beside.state.failures ≡ bureau.old.beside.state.failures + failed_stop result }
+    ensures not_stopped { is_open bureau.old ≡ true → result ≢ Err Stopped }
+{
     bureau.finish()?;
     let one = level_texts(alloc, bureau, LevelId::One, refusal1)?;
     let two = level_texts(alloc, bureau, LevelId::Two, refusal2)?;
@@ -133,7 +166,7 @@ fn served<S: PackStore>(
 }
 
 /// The cards of a deck, and the number of the card at fault and of its fault where the deck is refused and counts as empty.
-fn read_deck(alloc: Global, text: &[u8]) -> Result<(Deck, Option<(u16, u8)>), AllocError>
+pub fn read_deck(alloc: Global, text: &[u8]) -> Result<(Deck, Option<(u16, u8)>), AllocError>
     ensures { IfOk result (λ read. ReadsDeck text.now read.0 read.1) }
 {
     match Deck::read(alloc, text) {

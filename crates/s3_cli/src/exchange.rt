@@ -1,6 +1,6 @@
 //! One session: bytes in, bytes out.
 
-ghost use Rattle.std.specs.Prelude.{◌≡◌, ◌≢◌, ℕ, List, Ok, Err, IfOk, IfErr, IfSome};
+ghost use Rattle.std.specs.Prelude.{◌≡◌, ◌≢◌, ◌⊎◌, ℕ, List, Ok, Err, IfOk, IfErr, IfSome, IsErrOf, true};
 ghost use Rattle.s3_cli.specs.Session.{Answers, Refuses};
 ghost use Rattle.s3_cli.specs.declared.fault.SessionFault.TheVariants.{File};
 
@@ -8,9 +8,9 @@ use crate::fault::SessionFault;
 use crate::input::{ReadFault, read_within};
 use crate::output::write_output;
 use crate::parts::split_parts;
+use crate::watched::{Sink, Source};
 use s3_bureau::{RunFault, run_on};
 use std::alloc::Global;
-use std::io::{Read, Write};
 
 /// The most bytes that the input of a session may have.
 pub const INPUT_LIMIT: u32 = 4_194_304;
@@ -19,8 +19,8 @@ pub const INPUT_LIMIT: u32 = 4_194_304;
 /// the pack as the run leaves it.
 ///
 /// Nothing is written where it refuses, but for a write that failed: `Input` where a marker is missing or out of order or
-/// there are over 4,194,304 bytes, `File` where a read or the write failed, and else as the run does.
-pub fn session<R: Read, W: Write>(
+/// there are over 4,194,304 bytes, `File` where a read or the write failed and nowhere else, and else as the run does.
+pub fn session<R: Source, W: Sink>(
     alloc: Global,
     pack: &[u8],
     reader: &mut R,
@@ -30,6 +30,8 @@ pub fn session<R: Read, W: Write>(
         × Answers pack.now input saved.items (W.contents writer.old) (W.contents writer.new))) }
     ensures refused { IfErr result (λ fault. IfSome (R.remaining reader.old) (λ input. Refuses pack.now fault input)) }
     ensures wrote_nothing { IfErr result (λ fault. fault ≢ File → W.contents writer.new ≡ W.contents writer.old) }
+    ensures failed { IsErrOf result File → (R.has_failed reader.new ≡ true) ⊎ (W.has_failed writer.new ≡ true) }
+    ensures works { ¬ IsErrOf result File → (R.has_failed reader.new ≡ R.has_failed reader.old) × (W.has_failed writer.new ≡ W.has_failed writer.old) }
 {
     session_on(alloc, Vec::from_slice(alloc, pack)?, reader, writer)
 }
@@ -38,8 +40,8 @@ pub fn session<R: Read, W: Write>(
 /// the pack as the run leaves it. The pack is handed over, and so isn't copied.
 ///
 /// Nothing is written where it refuses, but for a write that failed: `Input` where a marker is missing or out of order or
-/// there are over 4,194,304 bytes, `File` where a read or the write failed, and else as the run does.
-pub fn session_on<R: Read, W: Write>(
+/// there are over 4,194,304 bytes, `File` where a read or the write failed and nowhere else, and else as the run does.
+pub fn session_on<R: Source, W: Sink>(
     alloc: Global,
     pack: Vec<u8>,
     reader: &mut R,
@@ -49,6 +51,8 @@ pub fn session_on<R: Read, W: Write>(
         × Answers pack.items input saved.items (W.contents writer.old) (W.contents writer.new))) }
     ensures refused { IfErr result (λ fault. IfSome (R.remaining reader.old) (λ input. Refuses pack.items fault input)) }
     ensures wrote_nothing { IfErr result (λ fault. fault ≢ File → W.contents writer.new ≡ W.contents writer.old) }
+    ensures failed { IsErrOf result File → (R.has_failed reader.new ≡ true) ⊎ (W.has_failed writer.new ≡ true) }
+    ensures works { ¬ IsErrOf result File → (R.has_failed reader.new ≡ R.has_failed reader.old) × (W.has_failed writer.new ≡ W.has_failed writer.old) }
 {
     let input = match read_within(alloc, reader, INPUT_LIMIT) {
         Ok(input) => input,

@@ -1,10 +1,10 @@
 //! Bounded reading.
 
-ghost use Rattle.std.specs.Prelude.{◌≡◌, ◌<◌, ◌≤◌, ◌+◌, ◌^◌, IfOk, IfErr, IfSome, length, vec_len};
+ghost use Rattle.std.specs.Prelude.{◌≡◌, ◌<◌, ◌≤◌, ◌+◌, ◌^◌, IfOk, IfErr, IfSome, IsErrOf, length, vec_len, true};
 ghost use Rattle.s3_cli.specs.declared.input.ReadFault.TheVariants.{TooLong, NoMemory};
 
+use crate::watched::Source;
 use std::alloc::{AllocError, Global};
-use std::io::Read;
 use thiserror::Error;
 
 /// The most bytes that are asked of a reader at once.
@@ -32,13 +32,20 @@ impl From<AllocError> for ReadFault {
     }
 }
 
-/// Reads all that a reader gives, if that is at most `limit` bytes. No failed read is tried again.
-pub fn read_within<R: Read>(alloc: Global, reader: &mut R, limit: u32) -> Result<Vec<u8>, ReadFault>
+/// Reads all that a reader gives, if that is at most `limit` bytes. `Failed` is answered where a read failed, and nowhere else;
+/// no failed read is tried again.
+pub fn read_within<R: Source>(
+    alloc: Global,
+    reader: &mut R,
+    limit: u32,
+) -> Result<Vec<u8>, ReadFault>
     requires { limit + 1 < 2 ^ 32 }
     ensures all { IfOk result (λ bytes. IfSome (R.remaining reader.old) (λ given. bytes.items ≡ given)) }
     ensures short { IfOk result (λ bytes. vec_len bytes ≤ limit) }
     ensures long { IfErr result (λ fault. fault ≡ ReadFault.TooLong →
         IfSome (R.remaining reader.old) (λ given. limit < length given)) }
+    ensures failed { IsErrOf result ReadFault.Failed → R.has_failed reader.new ≡ true }
+    ensures works { ¬ IsErrOf result ReadFault.Failed → R.has_failed reader.new ≡ R.has_failed reader.old }
 {
     let mut bytes = Vec::new(alloc);
     let mut chunk = [0u8; CHUNK];

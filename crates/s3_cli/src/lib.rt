@@ -10,7 +10,10 @@
 //! - `list` writes exactly the list of a pack's files that `s3_listing` defines, and refuses the pack by its header alone;
 //! - `tell` gives the exit status that stands for each refusal.
 //!
-//! Only tested: the words of refusals. Nobody says when a reader or a writer fails.
+//! - they answer `File` where a call on their reader or writer failed, and nowhere else (`failed`, `works`).
+//!
+//! Only tested: the words of refusals. That a reader of the library is told to have failed exactly where it did is to be read in
+//! `Watched`, since the library has no word for it.
 
 #![tactic(auto)]
 
@@ -20,11 +23,14 @@ mod input;
 mod output;
 mod packs;
 mod parts;
+mod watched;
 
 pub use exchange::{INPUT_LIMIT, session, session_on};
 pub use fault::{CliFault, SessionFault, tell};
 pub use input::{ReadFault, read_within};
+pub use output::write_output;
 pub use packs::{list, write_table};
 pub use parts::{Parts, split_parts};
 pub use s3_bureau::RunFault;
 pub use s3_labels::{ImageFault, MigrateFault, image, image_with, migrate};
+pub use watched::{Sink, Source, Watched};

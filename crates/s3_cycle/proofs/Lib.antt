@@ -32,3 +32,4 @@ pub mod ForgetLemmas
 pub mod ChainingLemmas
 pub mod FoundLemmas
 pub mod ChainedLemmas
+pub mod StandingLemmas

@@ -15,4 +15,5 @@ pub mod Printing
 pub mod Requests
 pub mod Rest
 pub mod Selecting
+pub mod Standing
 pub mod Starting

@@ -1,7 +1,9 @@
 //! The cycle of a job.
 
-use crate::request::{Answer, Request};
+use crate::request::{Answer, Request, Sought};
+use crate::stand::Stand;
 use crate::stepper::Stepper;
+use s3_cards::Name;
 use s3_lines::sheet::FileLine;
 use s3_output::composition::Composition;
 use s3_program::program::Program;
@@ -27,8 +29,8 @@ impl Model for Cycle {
 }
 
 impl Cycle {
-    ghost use Rattle.std.specs.Prelude.{◌≡◌, ◌≤◌, ◌<◌, ℕ, IfOk, IsTrue, List, [], ◌∷◌, ◌++◌, Some, slice_get, replicate};
-    ghost use Rattle.std.specs.Option.{option_copied};
+    ghost use Rattle.std.specs.Prelude.{◌≡◌, ◌≤◌, ◌<◌, ℕ, IfOk, IsTrue, List, [], ◌∷◌, ◌++◌, Some, option_map, slice_get, replicate};
+    ghost use Rattle.std.specs.Option.{option_and_then, option_copied};
     ghost use Rattle.s3_lines.specs.declared.sheet.FileLine.{FileLine};
     ghost use Rattle.s3_meaning.specs.Source.{Source};
     ghost use Rattle.s3_meaning.specs.Requests.{Answer as MeantAnswer, Done, Jump as MeantJump};
@@ -38,9 +40,10 @@ impl Cycle {
     ghost use Rattle.s3_program.specs.Inner.Stands.{Stands};
     ghost use Rattle.s3_match.specs.Inner.Types.{name_of_file};
     ghost use Rattle.s3_operations.specs.Inner.Beginning.{IsDate};
-    ghost use Rattle.s3_cycle.specs.Inner.Requests.{FitsFile, IsLine, answer_of};
+    ghost use Rattle.s3_cycle.specs.Inner.Requests.{FitsFile, IsLine, answer_of, sought_of};
     ghost use Rattle.s3_cycle.specs.Inner.Following.{StandsFor, asked, files, is_fit, put, waits};
     ghost use Rattle.s3_cycle.specs.Inner.Rest.{rest};
+    ghost use Rattle.s3_cycle.specs.Inner.Standing.{chain_of, file_of, record_at, sought_by, stand_of};
 
     /// A job at its first request, with its switches, U1 the highest bit, and its date, six EBCDIC digits. All memory of the
     /// run is taken here.
@@ -89,6 +92,41 @@ impl Cycle {
         ensures { result.now ≡ put self.now }
     {
         &self.stepper.composition
+    }
+
+    /// The name under which the program is in the library.
+    pub fn program_name(&self) -> Name
+        ensures { result ≡ self.now.program.name }
+    {
+        self.stepper.program.name
+    }
+
+    /// Where a run that halts stands in its source.
+    pub fn stand(&self) -> Stand
+        ensures { result ≡ stand_of self.now }
+    {
+        self.stepper.stand()
+    }
+
+    /// The bytes of the record whose field the run stands at, or that it puts out; none where it stands at neither.
+    pub fn record_there(&self) -> &[u8]
+        ensures { result.now ≡ record_at self.now (stand_of self.now) }
+    {
+        self.stepper.record_there()
+    }
+
+    /// What the CHAIN that the run stands at seeks with the values that it holds, if it stands at one.
+    pub fn sought_there(&self) -> Option<Sought>
+        ensures { option_map sought_of result ≡ option_and_then (sought_by self.now) (chain_of self.now.program (stand_of self.now)) }
+    {
+        self.stepper.sought_there()
+    }
+
+    /// The slot of the file that the run stands at: that of a record, of a CHAIN or of an output line.
+    pub fn file_there(&self) -> Option<usize>
+        ensures { result ≡ file_of self.now.program (stand_of self.now) }
+    {
+        self.stepper.file_there()
     }
 
     /// Goes on with the answer, up to the next request. It takes no memory.

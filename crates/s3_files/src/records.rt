@@ -18,13 +18,15 @@ pub trait RecordFile {
     fn len(&self) -> u32
         ensures { result ≡ (file self.now).count };
 
-    /// Reads the record at place `i`, from 0. Refused with `NoRecord` exactly where there is none, and with `Pool`. No
-    /// sector changes.
+    /// Reads the record at place `i`, from 0. Refused with `NoRecord` exactly where there is none, where nothing changes, the
+    /// buffer neither, and with `Pool`. No sector changes.
     fn get<P: Sectors>(&self, pool: &mut P, i: u32, bytes: &mut [u8]) -> Result<(), FileFault>
         requires stored { AreStored (file self.now).sectors (P.state pool.old).contents }
         requires long { length bytes.old ≡ (file self.now).record_length }
         ensures ok { OnOk result (slice_get (records (file self.now) (P.state pool.old).contents) i ≡ Some bytes.new) }
         ensures no_record { (IsErrOf result FileFault.NoRecord) ↔ ((file self.now).count ≤ i) }
+        ensures refused { IsErrOf result FileFault.NoRecord → P.state pool.new ≡ P.state pool.old }
+        ensures unchanged { IsErrOf result FileFault.NoRecord → bytes.new ≡ bytes.old }
         ensures not_full { ¬ IsErrOf result FileFault.Full }
         ensures keeps { KeepsContents (P.state pool.old) (P.state pool.new) }
         ensures failures { (P.state pool.new).failures ≡ (P.state pool.old).failures + failed_file_transfers result }

@@ -105,15 +105,17 @@ impl Keyed {
         self.count == 0
     }
 
-    /// Reads the record at a place, from 0. Refused with `NoKey` where there is none.
+    /// Reads the record at a place, from 0. Refused with `NoKey` where there is none; then nothing changes, the buffer neither.
     pub fn get<P: Sectors>(&self, pool: &mut P, i: u32, bytes: &mut [u8]) -> Result<(), KeyedFault>
         requires stored { AreStored (shown self.now).sectors (P.state pool.old).contents }
         requires long { length bytes.old ≡ (shown self.now).layout.record_length }
         ensures got { Leaves (keyed_result (record_at i (records_now (shown self.now) (P.state pool.old).contents))) result bytes.new }
+        ensures refused { OnRefusal result (P.state pool.new ≡ P.state pool.old) }
+        ensures unchanged { OnRefusal result (bytes.new ≡ bytes.old) }
         ensures keeps { KeepsContents (P.state pool.old) (P.state pool.new) }
         ensures failures { (P.state pool.new).failures ≡ (P.state pool.old).failures + failed_keyed_transfers result }
     {
-        if i >= self.count {
+        if self.count <= i {
             return Err(KeyedFault::NoKey);
         }
         read_record(&self.file, pool, i, bytes)?;

@@ -1,5 +1,6 @@
 -- What a call of one level leaves of the pack and the queues beside it.
-use Rattle.std.proofs.Common.{◌≡◌, ◌⊎◌, inl, inr, ℕ, ◌<◌, ◌≤◌, List, length, slice_get, Some, Result, Ok, refl, sym, ap, subst, ◌∙◌, arith}
+use Rattle.std.proofs.Common.{◌≡◌, ◌⊎◌, inl, inr, ℕ, ◌<◌, ◌≤◌, List, length, slice_get, Some, Result, Ok, refl, sym, ap, subst, ◌∙◌, leb, true, false, arith}
+use Rattle.std.proofs.lemmas.Bool.Decides.{leb_tells}
 use Rattle.s3_cards.specs.Inner.Levels.{other}
 use Rattle.s3_cards.specs.Printed.{Printed}
 use Rattle.s3_cards.specs.declared.levels.LevelId.{LevelId}
@@ -14,12 +15,12 @@ use Rattle.s3_labels.proofs.Changes.{header_with}
 use Rattle.s3_labels.proofs.Regions.{accepted_placed, ready_region}
 use Rattle.s3_job_files.specs.Inner.Holds.{IsOutOfReach, seen}
 use Rattle.s3_job_files.proofs.Staying.{SeesSame, ready_over as files_ready_over}
-use Rattle.s3_spool.specs.Inner.Queues.{Blocks, IsFreeSector, block_sector, blocks_of, lines_in, queue_of, quota_of}
+use Rattle.s3_spool.specs.Inner.Queues.{Blocks, IsFreeSector, block_sector, blocks_of, lines_in, queue_of, quota_of, times}
 use Rattle.s3_spool.proofs.QueueLemmas.{SameBlocks, same_queue}
 use Rattle.s3_solo.specs.World.{World}
 use Rattle.s3_level.specs.declared.level.Level.{Level}
 use Rattle.s3_level.specs.declared.taken.Taken.{Taken}
-use Rattle.s3_level.specs.Inner.Holds.{AreAll, Around, HoldsParts, IsBeyond, IsReady, KeepsOthers, Shown, Spares, around, open_files, shown, with_seen}
+use Rattle.s3_level.specs.Inner.Holds.{AreAll, Around, HoldsParts, IsBeyond, IsQueuedSector, IsReady, KeepsOthers, Shown, Spares, around, open_files, shown, with_seen}
 use Rattle.s3_level.specs.Inner.Turning.{TakesTurns}
 
 -- ---- sectors
@@ -88,6 +89,34 @@ pub queues_stay : (level one_or_two : LevelId) (areas : Areas) (blocks : Blocks)
     → queue_of one_or_two blocks t.contents ≡ queue_of one_or_two blocks s.contents
 queues_stay level one_or_two areas blocks s t pack are keeps = same_queue one_or_two blocks s.contents t.contents are (same_blocks level areas s t pack keeps)
 
+-- a queued block is one of the 128
+queued_few : (level : LevelId) (blocks : Blocks) (block : ℕ) → AreAll blocks → 0 < times block (blocks_of level blocks) → block < 128
+queued_few level blocks block are queued = by_cases (leb_tells 128 block)
+  where
+    not_high : (l : LevelId) → 128 ≤ block → 0 < times block (blocks_of l blocks) → ⊥
+    not_high One high some = omega (arith, are.no_other block high, some)
+    not_high Two high some = omega (arith, are.no_other block high, some)
+
+    by_cases : ((leb 128 block ≡ true) × (128 ≤ block)) ⊎ ((leb 128 block ≡ false) × (block < 128)) → block < 128
+    by_cases (inl past) = absurd (not_high level past.1 queued)
+    by_cases (inr below) = below.1
+
+-- the files of a level are kept apart from it
+queued_out : (level one_or_two : LevelId) (areas : Areas) (contents : List (List ℕ)) (blocks : Blocks) (n : ℕ) → IsPackReady areas contents → AreAll blocks → IsQueuedSector one_or_two blocks n → IsOutOfReach level areas.header n
+queued_out level one_or_two areas contents blocks n pack are is =
+    block_out level areas contents n pack (omega (arith, is.place)) (omega (arith, is.place, queued_few one_or_two blocks is.block are is.queued))
+
+-- a queued block holds a line
+queued_not_free : (level : LevelId) (blocks : Blocks) (n : ℕ) → IsQueuedSector level blocks n → ¬ IsFreeSector blocks n
+queued_not_free One blocks n is free =
+    let same : is.block ≡ free.block = omega (arith, is.place, free.place) in
+    let queued : 0 < times free.block blocks.one = subst (λ (block : ℕ). 0 < times block blocks.one) same is.queued in
+    omega (arith, free.free, queued)
+queued_not_free Two blocks n is free =
+    let same : is.block ≡ free.block = omega (arith, is.place, free.place) in
+    let queued : 0 < times free.block blocks.two = subst (λ (block : ℕ). 0 < times block blocks.two) same is.queued in
+    omega (arith, free.free, queued)
+
 -- so what the level is shown afterwards differs by the pack alone
 pub shown_after : (level : LevelId) (old new : Areas) (blocks : Blocks) (s t : PoolState) → IsPackReady old s.contents → AreAll blocks → KeepsOthers level old new s t
     → shown level (around new t blocks) ≡ with_seen (seen new t.contents) (shown level (around old s blocks))
@@ -119,6 +148,12 @@ spares_files level old new blocks s t pack are keeps = record {
     stored = λ n beyond. keeps.sectors.stored n beyond.files;
   };
   queue = queues_stay level (other level) old blocks s t pack are keeps.sectors;
+  queue_blocks = refl;
+  queue_sectors = record {
+    count = keeps.sectors.count;
+    contents = λ n is. keeps.sectors.contents n (queued_out level (other level) old s.contents blocks n pack are is);
+    stored = λ n is. keeps.sectors.stored n (queued_out level (other level) old s.contents blocks n pack are is);
+  };
   quotas = λ one_or_two. refl;
   blocks = are;
 }
@@ -129,6 +164,8 @@ spares_none level beside pack are = record {
   areas = same_slots level;
   sectors = record { count = refl; contents = λ n beyond. refl; stored = λ n beyond in_step. in_step };
   queue = refl;
+  queue_blocks = refl;
+  queue_sectors = record { count = refl; contents = λ n is. refl; stored = λ n is in_step. in_step };
   quotas = λ one_or_two. refl;
   blocks = are;
 }
@@ -147,6 +184,12 @@ spares_then level old middle new first second = record {
     stored = λ n beyond in_step. second.sectors.stored n (along n beyond) (first.sectors.stored n beyond in_step);
   };
   queue = second.queue ∙ first.queue;
+  queue_blocks = second.queue_blocks ∙ first.queue_blocks;
+  queue_sectors = record {
+    count = second.queue_sectors.count ∙ first.queue_sectors.count;
+    contents = λ n is. second.queue_sectors.contents n (still n is) ∙ first.queue_sectors.contents n is;
+    stored = λ n is in_step. second.queue_sectors.stored n (still n is) (first.queue_sectors.stored n is in_step);
+  };
   quotas = λ one_or_two. second.quotas one_or_two ∙ first.quotas one_or_two;
   blocks = second.blocks;
 }
@@ -158,6 +201,9 @@ spares_then level old middle new first second = record {
     header : middle.areas.header ≡ old.areas.header
     header = ap (λ (a : Areas). a.header) first.areas ∙ header_with level (slots_at level middle.areas) old.areas
 
+    still : (n : ℕ) → IsQueuedSector (other level) old.blocks n → IsQueuedSector (other level) middle.blocks n
+    still n is = record { block = is.block; place = is.place; queued = subst (λ (queue : List ℕ). 0 < times is.block queue) (sym first.queue_blocks) is.queued }
+
     along : (n : ℕ) → IsBeyond level old.areas.header n → IsBeyond level middle.areas.header n
     along n beyond = subst (λ (h : Header). IsBeyond level h n) (sym header) beyond
 
@@ -165,10 +211,11 @@ spares_then level old middle new first second = record {
 pub spares_put : (level : LevelId) (areas : Areas) (blocks after : Blocks) (s t : PoolState) → IsPackReady areas s.contents
     → ChangesWithin (IsFreeSector blocks) s t
     → queue_of (other level) after t.contents ≡ queue_of (other level) blocks s.contents
+    → blocks_of (other level) after ≡ blocks_of (other level) blocks
     → ((one_or_two : LevelId) → quota_of one_or_two after ≡ quota_of one_or_two blocks)
     → AreAll after
     → Spares level (around areas s blocks) (around areas t after)
-spares_put level areas blocks after s t pack within queue quotas are = record {
+spares_put level areas blocks after s t pack within queue same quotas are = record {
   pack = ready_as_long areas s.contents t.contents within.count pack;
   areas = same_slots level;
   sectors = record {
@@ -177,6 +224,12 @@ spares_put level areas blocks after s t pack within queue quotas are = record {
     stored = λ n beyond in_step. stays n (apart n beyond) in_step (within.stored n (apart n beyond));
   };
   queue = queue;
+  queue_blocks = same;
+  queue_sectors = record {
+    count = within.count;
+    contents = λ n is. within.contents n (queued_not_free (other level) blocks n is);
+    stored = λ n is in_step. stays n (queued_not_free (other level) blocks n is) in_step (within.stored n (queued_not_free (other level) blocks n is));
+  };
   quotas = quotas;
   blocks = are;
 }
@@ -208,6 +261,12 @@ spares_taken level areas blocks after s t pack keeps same quotas are = record {
     stored = λ n beyond in_step. stays n in_step (keeps.stored.each n);
   };
   queue = ap (λ own. lines_in own t.contents) same ∙ ap (lines_in (blocks_of (other level) blocks)) keeps.contents;
+  queue_blocks = same;
+  queue_sectors = record {
+    count = ap length keeps.contents;
+    contents = λ n is. ap (λ (c : List (List ℕ)). slice_get c n) keeps.contents;
+    stored = λ n is in_step. stays n in_step (keeps.stored.each n);
+  };
   quotas = quotas;
   blocks = are;
 }

@@ -155,7 +155,7 @@ impl Level {
     }
 
     /// Puts the line of the job at work last in the queue, which has room for it.
-    #[tactic(auto, using(crate::proofs::Printing::line_last))]
+    #[tactic(auto, using(crate::proofs::Printing::line_last, crate::proofs::Beside::spares_none))]
     fn put_line<P: Sectors>(
         &self,
         page: u16,

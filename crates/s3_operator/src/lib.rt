@@ -4,20 +4,25 @@
 //! What is proved: `allowed` is the table of replies, for every halt and every digit (`replies_are_by_table`).
 //! `HaltLog::show` puts one halt behind the others, and changes nothing where memory is refused. `reply` fills in the halt
 //! that waits, or refuses exactly where none waits or the halt doesn't allow the digit, and then changes nothing; it takes
-//! no memory (`a_reply_is_kept_once` has worked rows). The words of the refusals are only tested.
+//! no memory (`a_reply_is_kept_once` has worked rows). `letters` gives the two letters of each halt, and `code_of` a halt only
+//! for its own letters. The words of halts, replies and refusals are only tested.
 
 #![tactic(auto)]
 
 mod halt;
 mod halt_code;
+mod halt_letters;
 mod halt_log;
 mod laws;
 mod replies;
 mod reply_fault;
+mod words;
 
 pub use halt::Halt;
 pub use halt_code::HaltCode;
+pub use halt_letters::{code_of, letters};
 pub use halt_log::HaltLog;
 pub use laws::{a_reply_is_kept_once, replies_are_by_table};
 pub use replies::allowed;
 pub use reply_fault::ReplyFault;
+pub use words::{choices, effect, is_at_start, meaning};

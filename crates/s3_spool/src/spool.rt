@@ -189,7 +189,8 @@ impl Spool {
     /// Puts a line behind the last one of a level's queue.
     ///
     /// Refused `QuotaFull` exactly where the level has as many lines queued as its quota, and by the sectors' faults;
-    /// refused, the queues stay. `sectors` are those of a pack: the spool's blocks are sectors 25 to 152.
+    /// refused, the queues stay, and at `QuotaFull` the sectors are left alone. `sectors` are those of a pack: the spool's
+    /// blocks are sectors 25 to 152.
     pub fn put<P: Sectors>(
         &mut self,
         level: LevelId,
@@ -199,8 +200,10 @@ impl Spool {
         requires { 153 ≤ length (P.state sectors.old).contents }
         ensures queued { OnOk result (queue_of level self.new (P.state sectors.new).contents ≡ queue_of level self.old (P.state sectors.old).contents ++ line.now ∷ []) }
         ensures other { queue_of (other level) self.new (P.state sectors.new).contents ≡ queue_of (other level) self.old (P.state sectors.old).contents }
+        ensures other_blocks { blocks_of (other level) self.new ≡ blocks_of (other level) self.old }
         ensures quotas { (one_or_two : LevelId) → quota_of one_or_two self.new ≡ quota_of one_or_two self.old }
         ensures full { (result ≡ Err SpoolFault.QuotaFull) ↔ (length (blocks_of level self.old) ≡ quota_of level self.old) }
+        ensures untouched { result ≡ Err SpoolFault.QuotaFull → sectors.new ≡ sectors.old }
         ensures not_empty { result ≢ Err SpoolFault.Empty }
         ensures err { OnErr result (self.new ≡ self.old) }
         ensures blocks { AreBlocks self.new.free self.new.one self.new.two }
@@ -214,7 +217,8 @@ impl Spool {
     /// Puts a line whose text stands elsewhere behind the last one of a level's queue.
     ///
     /// Refused `QuotaFull` exactly where the level has as many lines queued as its quota, and by the sectors' faults;
-    /// refused, the queues stay. `sectors` are those of a pack: the spool's blocks are sectors 25 to 152.
+    /// refused, the queues stay, and at `QuotaFull` the sectors are left alone. `sectors` are those of a pack: the spool's
+    /// blocks are sectors 25 to 152.
     #[inline(always)]
     #[tactic(auto)]
     pub fn put_composed<P: Sectors>(
@@ -226,8 +230,10 @@ impl Spool {
         requires { 153 ≤ length (P.state sectors.old).contents }
         ensures queued { OnOk result (queue_of level self.new (P.state sectors.new).contents ≡ queue_of level self.old (P.state sectors.old).contents ++ line.now ∷ []) }
         ensures other { queue_of (other level) self.new (P.state sectors.new).contents ≡ queue_of (other level) self.old (P.state sectors.old).contents }
+        ensures other_blocks { blocks_of (other level) self.new ≡ blocks_of (other level) self.old }
         ensures quotas { (one_or_two : LevelId) → quota_of one_or_two self.new ≡ quota_of one_or_two self.old }
         ensures full { (result ≡ Err SpoolFault.QuotaFull) ↔ (length (blocks_of level self.old) ≡ quota_of level self.old) }
+        ensures untouched { result ≡ Err SpoolFault.QuotaFull → sectors.new ≡ sectors.old }
         ensures not_empty { result ≢ Err SpoolFault.Empty }
         ensures err { OnErr result (self.new ≡ self.old) }
         ensures blocks { AreBlocks self.new.free self.new.one self.new.two }

@@ -25,7 +25,7 @@ impl<S: PackStore> Model for FuseStore<S> {
 }
 
 impl<S: PackStore> FuseStore<S> {
-    /// Fails at read or write `k`, counted from 1, and at no other. It never fails for 0.
+    /// Fails at read or write `k`, counted from 1, and at no other, and passes each other one on once. It never fails for 0.
     pub fn new(inner: S, k: u64) -> Self
         ensures inner { result.inner ≡ inner }
         ensures calls_left { result.calls_left ≡ k }
@@ -70,6 +70,9 @@ impl<S: PackStore> PackStore for FuseStore<S> {
 
     ghost failures = { λ f. fuse_failures (S.failures f.inner) f.has_failed };
 
+    // A call is passed on once, or not at all.
+    ghost steps_to = { λ old new. (old.calls_left ≡ 1 → new.inner ≡ old.inner) × (old.calls_left ≢ 1 → S.steps_to old.inner new.inner) };
+
     fn sectors(&self) -> u16 {
         self.inner.sectors()
     }
@@ -85,6 +88,7 @@ impl<S: PackStore> PackStore for FuseStore<S> {
         ensures burns { self.old.calls_left ≡ 1 → IsErr result }
         ensures untouched { self.old.calls_left ≡ 1 → self.new.inner ≡ self.old.inner }
         ensures passes { self.old.calls_left ≢ 1 → S.failures self.new.inner ≡ S.failures self.old.inner + failed_calls result }
+        ensures once { self.old.calls_left ≢ 1 → S.steps_to self.old.inner self.new.inner }
     {
         if burns(&mut self.calls_left, &mut self.has_failed) {
             return Err(StoreFault);
@@ -103,6 +107,7 @@ impl<S: PackStore> PackStore for FuseStore<S> {
         ensures burns { self.old.calls_left ≡ 1 → IsErr result }
         ensures untouched { self.old.calls_left ≡ 1 → self.new.inner ≡ self.old.inner }
         ensures passes { self.old.calls_left ≢ 1 → S.failures self.new.inner ≡ S.failures self.old.inner + failed_calls result }
+        ensures once { self.old.calls_left ≢ 1 → S.steps_to self.old.inner self.new.inner }
     {
         if burns(&mut self.calls_left, &mut self.has_failed) {
             return Err(StoreFault);

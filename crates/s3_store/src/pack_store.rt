@@ -19,6 +19,9 @@ pub trait PackStore {
     /// How many calls have failed.
     ghost failures: { Self → ℕ };
 
+    /// What one read or write may make of the store: anything, where a store doesn't say more.
+    ghost steps_to: { Self → Self → Type 0 } = { λ _ _. Unit {0} };
+
     /// How many sectors there are, which never changes.
     fn sectors(&self) -> u16
         ensures { result ≡ length (contents self.now) };
@@ -28,12 +31,14 @@ pub trait PackStore {
         requires { n < length (contents self.old) }
         ensures ok { OnOk result (slice_get (contents self.old) n ≡ Some bytes.new) }
         ensures contents { contents self.new ≡ contents self.old }
-        ensures failures { failures self.new ≡ failures self.old + failed_calls result };
+        ensures failures { failures self.new ≡ failures self.old + failed_calls result }
+        ensures step { steps_to self.old self.new };
 
     /// Sets sector `n`, which must be there, to these bytes. Refused where the transfer fails, no sector changes.
     fn write(&mut self, n: u16, bytes: &[u8; 256]) -> Result<(), StoreFault>
         requires { n < length (contents self.old) }
         ensures ok { OnOk result (contents self.new ≡ slice_set (contents self.old) n bytes.now) }
         ensures err { OnErr result (contents self.new ≡ contents self.old) }
-        ensures failures { failures self.new ≡ failures self.old + failed_calls result };
+        ensures failures { failures self.new ≡ failures self.old + failed_calls result }
+        ensures step { steps_to self.old self.new };
 }

@@ -72,3 +72,46 @@ pub fn leads_to(rt: &HostRuntime, place: Path<'_>, file: &File) -> io::Result<bo
 pub fn are_same(one: &Metadata, other: &Metadata) -> bool {
     one.dev() == other.dev() && one.ino() == other.ino()
 }
+
+/// Where a path leads: the file there, or the folder and the name of one that isn't there yet.
+#[derive(Drop)]
+pub struct Target {
+    found: Option<Metadata>,
+    folder: Metadata,
+    place: PathBuf,
+}
+
+impl Target {
+    /// Follows a path. It fails where its folder can't be found.
+    pub fn find(rt: &HostRuntime, path: &str) -> io::Result<Target> {
+        let place = followed(rt, path)?;
+        let found = existing(rt, place.as_path())?;
+        let folder = fs::metadata(rt, folder_of(place.as_path()))?;
+        Ok(Target {
+            found,
+            folder,
+            place,
+        })
+    }
+
+    /// Whether a regular file stands there.
+    pub fn is_there(&self) -> bool {
+        match &self.found {
+            Some(found) => found.is_file(),
+            None => false,
+        }
+    }
+
+    /// Whether another path leads to the same regular file, be it there already or not.
+    pub fn is_same(&self, other: &Target) -> bool {
+        match (&self.found, &other.found) {
+            (Some(one), Some(other)) => one.is_file() && are_same(one, other),
+            (None, None) => are_same(&self.folder, &other.folder) && self.has_name_of(other),
+            _ => false,
+        }
+    }
+
+    fn has_name_of(&self, other: &Target) -> bool {
+        self.place.as_path().file_name() == other.place.as_path().file_name()
+    }
+}

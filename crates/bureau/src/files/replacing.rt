@@ -38,6 +38,18 @@ pub fn replace(rt: &HostRuntime, locked: &LockedPack, bytes: &[u8]) -> Result<()
     Ok(replace_old(rt, locked.place(), &old, bytes)?)
 }
 
+/// Tries whether the file of a pack could be replaced now. Nothing is changed.
+pub fn test_replacing(rt: &HostRuntime, locked: &LockedPack) -> io::Result<()> {
+    permit(rt, locked.place(), &locked.metadata()?)?;
+    test_place(rt, locked.place())
+}
+
+/// Tries whether a new file can be made beside a place.
+pub fn test_place(rt: &HostRuntime, place: Path<'_>) -> io::Result<()> {
+    let empty = NewFile::beside(rt, place, PRIVATE)?;
+    fs::remove_file(rt, empty.path.as_str())
+}
+
 /// Refuses a file that nobody may write, or that this user may not: its folder may let it be replaced all the same.
 fn permit(rt: &HostRuntime, place: Path<'_>, old: &Metadata) -> io::Result<()> {
     if old.permissions().readonly() {

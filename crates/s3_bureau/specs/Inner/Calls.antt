@@ -11,6 +11,7 @@ use Rattle.s3_slots.specs.Header.{region_of}
 use Rattle.s3_slots.specs.Slots.{slots_of}
 use Rattle.s3_labels.specs.Areas.{area_of}
 use Rattle.s3_labels.specs.Inner.Labelled.{KeepsSaid, SaysSlots}
+use Rattle.s3_labels.specs.Untangled.{IsUntangled}
 use Rattle.s3_job_files.specs.Inner.Holds.{seen}
 use Rattle.s3_solo.specs.declared.action.Action.{Action}
 use Rattle.s3_solo.specs.declared.action.Did.TheVariants.{Acted}
@@ -54,12 +55,14 @@ pub record ClosesLevel (result : Result (Unit {0}) PoolFault) (old new : Level) 
   pub failures : after.state.failures ≡ before.state.failures + failed_transfers result
   pub comes : ClosesTo result old new before after
 
--- Where the labels of a level said its slots before, a mount of these sectors judges them as each world has them that the level now
--- holds.
+-- Where the labels of a level said its slots before, a mount of these sectors judges none of them entangled, and them as each world has
+-- them that the level now holds.
 abbrev pub MountsAs : LevelId → (before : Around) → (new : Level) → (after : Around) → Type 0
 MountsAs level before new after =
-    SaysSlots level before.areas before.state.contents → (w : World) → Holds new after w
-    → slots_of after.areas.header.format (region_of level after.areas.header) (area_of level) after.state.contents ≡ w.pack.own.slots
+    SaysSlots level before.areas before.state.contents
+    → IsUntangled after.areas.header.format (region_of level after.areas.header) (area_of level) after.state.contents
+    × ((w : World) → Holds new after w
+    → slots_of after.areas.header.format (region_of level after.areas.header) (area_of level) after.state.contents ≡ w.pack.own.slots)
 
 -- ---- both levels
 -- both were closed and the store has what is beside them, or they stopped

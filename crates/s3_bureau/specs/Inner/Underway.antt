@@ -11,6 +11,7 @@ use Rattle.s3_store.specs.Inner.State.{KeepsInStep}
 use Rattle.s3_slots.specs.Header.{mounted, region_of}
 use Rattle.s3_slots.specs.Slots.{slots_of}
 use Rattle.s3_labels.specs.Areas.{area_of}
+use Rattle.s3_labels.specs.Untangled.{IsUntangled}
 use Rattle.s3_slots.specs.declared.header.Header.{Header}
 use Rattle.s3_solo.specs.Inner.Lines.{drained_lines}
 use Rattle.s3_solo.specs.World.{World}
@@ -56,12 +57,14 @@ HaveFiles entries held contents = (level : LevelId) (w : World) → held level w
 abbrev pub KeepSaying : (old new : State) → Type 0
 KeepSaying old new = (level : LevelId) → IsSaid level old → IsSaid level new
 
--- Where the labels of a level said its slots, a mount of these sectors judges them as the worlds have them that were held for it, after
--- its own entries and once it is closed.
+-- Where the labels of a level said its slots, a mount of these sectors judges none of them entangled, and them as the worlds have them
+-- that were held for it, after its own entries and once it is closed.
 abbrev pub HaveSlots : List Entry → State → (contents : List (List ℕ)) → Type 0
 HaveSlots entries old contents =
-    (level : LevelId) (w : World) → HoldsFor level old w → IsSaid level old
-    → slots_of (header_of old).format (region_of level (header_of old)) (area_of level) contents ≡ (closed (solo w (own level entries))).pack.own.slots
+    (level : LevelId) → IsSaid level old
+    → IsUntangled (header_of old).format (region_of level (header_of old)) (area_of level) contents
+    × ((w : World) → HoldsFor level old w
+    → slots_of (header_of old).format (region_of level (header_of old)) (area_of level) contents ≡ (closed (solo w (own level entries))).pack.own.slots)
 
 -- the texts of a world's drained lines and its halts
 abbrev pub drained_texts : Option (ℕ × ℕ) → World → Texts

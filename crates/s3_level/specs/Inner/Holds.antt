@@ -11,7 +11,7 @@ use Rattle.s3_store.specs.declared.pool_fault.PoolFault.{PoolFault}
 use Rattle.s3_slots.specs.declared.header.Header.{Header}
 use Rattle.s3_slots.specs.Header.{quota_of as header_quota}
 use Rattle.s3_labels.specs.Inner.Areas.{Areas, areas_on, slots_at, with_slots, IsReady as IsPackReady}
-use Rattle.s3_spool.specs.Inner.Queues.{Blocks, AreBlocks, blocks_of, queue_of, quota_of}
+use Rattle.s3_spool.specs.Inner.Queues.{Blocks, AreBlocks, block_sector, blocks_of, queue_of, quota_of, times}
 use Rattle.s3_job_files.specs.declared.file.OpenFile.{OpenFile}
 use Rattle.s3_job_files.specs.Inner.Holds.{Seen, seen, HoldsFiles, IsOutOfReach, job_file_of, IsReady as AreFilesReady}
 use Rattle.s3_meaning.specs.Source.{Source}
@@ -188,12 +188,20 @@ pub record IsBeyond (level : LevelId) (header : Header) (n : ℕ) : Type 0 where
   pub files : IsOutOfReach level header n
   pub block : 25 ≤ n → n < 153 → ⊥
 
+-- a sector of a block in which a line of the level's queue stands
+pub record IsQueuedSector (level : LevelId) (blocks : Blocks) (n : ℕ) : Type 0 where
+  pub block : ℕ
+  pub place : n ≡ block_sector block
+  pub queued : 0 < times block (blocks_of level blocks)
+
 -- What a call of one level leaves as it was, refused or not: the slots of the masters and of the other level, all sectors beyond it,
--- and the other level's queue.
+-- and the other level's queue, with its blocks byte for byte.
 pub record Spares (level : LevelId) (old new : Around) : Type 0 where
   pub pack : IsPackReady new.areas new.state.contents
   pub areas : new.areas ≡ with_slots level (slots_at level new.areas) old.areas
   pub sectors : KeepsInStep (IsBeyond level old.areas.header) old.state new.state
   pub queue : queue_of (other level) new.blocks new.state.contents ≡ queue_of (other level) old.blocks old.state.contents
+  pub queue_blocks : blocks_of (other level) new.blocks ≡ blocks_of (other level) old.blocks
+  pub queue_sectors : KeepsInStep (IsQueuedSector (other level) old.blocks) old.state new.state
   pub quotas : (one_or_two : LevelId) → quota_of one_or_two new.blocks ≡ quota_of one_or_two old.blocks
   pub blocks : AreAll new.blocks

@@ -1,6 +1,6 @@
 //! One session of the card lister, over readers and writers that fail or are slow.
 
-use s3_cli::{SessionFault, session};
+use s3_cli::{SessionFault, Watched, session};
 use s3_labels::{ImageFault, image};
 use std::alloc::Global;
 use std::io;
@@ -80,14 +80,14 @@ impl Write for Channel {
     }
 }
 
-fn open_channel(bytes: Vec<u8>, step: usize, fuse: u32) -> Channel {
-    Channel {
+fn open_channel(bytes: Vec<u8>, step: usize, fuse: u32) -> Watched<Channel> {
+    Watched::new(Channel {
         bytes,
         given: 0,
         step,
         calls: 0,
         fuse,
-    }
+    })
 }
 
 fn new_pack(alloc: Global) -> Result<Vec<u8>, ImageFault> {
@@ -101,9 +101,9 @@ fn a_byte_a_call(rt: HostRuntime) -> Result<(), Fail> {
     let mut reader = open_channel(Vec::from_slice(rt.alloc(), INPUT)?, 1, 0);
     let mut writer = open_channel(Vec::new(rt.alloc()), 1, 0);
     assert!(rt; session(rt.alloc(), &pack, &mut reader, &mut writer).is_ok());
-    assert_eq!(rt; writer.bytes.as_slice(), OUTPUT);
+    assert_eq!(rt; writer.channel.bytes.as_slice(), OUTPUT);
     // each byte, and the end
-    assert_eq!(rt; reader.calls as usize, INPUT.len() + 1);
+    assert_eq!(rt; reader.channel.calls as usize, INPUT.len() + 1);
     Ok(())
 }
 
@@ -117,12 +117,13 @@ fn a_reader_that_fails_at_each_call(rt: HostRuntime) -> Result<(), Fail> {
         match session(rt.alloc(), &pack, &mut reader, &mut writer) {
             Ok(_) => {
                 assert!(rt; fuse > 2, "the input was read in fewer than {fuse} calls");
-                assert_eq!(rt; writer.bytes.as_slice(), OUTPUT);
+                assert_eq!(rt; writer.channel.bytes.as_slice(), OUTPUT);
                 return Ok(());
             }
             Err(fault) => {
                 assert!(rt; matches!(fault, SessionFault::File), "fuse at call {fuse}");
-                assert!(rt; writer.bytes.is_empty(), "fuse at call {fuse}");
+                assert!(rt; reader.has_failed, "fuse at call {fuse}");
+                assert!(rt; writer.channel.bytes.is_empty(), "fuse at call {fuse}");
             }
         }
     }
@@ -138,16 +139,19 @@ fn a_writer_that_fails_at_each_call(rt: HostRuntime) -> Result<(), Fail> {
         let mut writer = open_channel(Vec::new(rt.alloc()), 7, fuse);
         let ended = session(rt.alloc(), &pack, &mut reader, &mut writer);
         assert!(rt;
-            OUTPUT.starts_with(writer.bytes.as_slice()),
+            OUTPUT.starts_with(writer.channel.bytes.as_slice()),
             "fuse at call {fuse}"
         );
         match ended {
             Ok(_) => {
                 assert!(rt; fuse > 2, "the text was written in fewer than {fuse} calls");
-                assert_eq!(rt; writer.bytes.as_slice(), OUTPUT);
+                assert_eq!(rt; writer.channel.bytes.as_slice(), OUTPUT);
                 return Ok(());
             }
-            Err(fault) => assert!(rt; matches!(fault, SessionFault::File), "fuse at call {fuse}"),
+            Err(fault) => {
+                assert!(rt; matches!(fault, SessionFault::File), "fuse at call {fuse}");
+                assert!(rt; writer.has_failed, "fuse at call {fuse}");
+            }
         }
     }
     panic!(rt; "the session never ends without a failure");

@@ -6,13 +6,13 @@ use Rattle.s3_keyed.specs.Inner.Shape.{bytes_in}
 use Rattle.s3_keyed.proofs.CallLemmas.{no_record}
 use Rattle.s3_keyed.proofs.keyed.Keyed.get.Goals as goal
 
-pub returns-then-i-self-clause-got : goal.returns-then-i-self-clause-got
-returns-then-i-self-clause-got g c =
+pub returns-then-self-i-clause-got : goal.returns-then-self-i-clause-got
+returns-then-self-i-clause-got g c =
     let self = c.args.self.now in
-    ap (λ o. keyed_result (got o)) (no_record self.file.file.record_length self.count c.args.i (bytes_in self.file (g.P.Sectors.state c.args.pool.now).contents) c.if-i-self.true)
+    ap (λ o. keyed_result (got o)) (no_record self.file.file.record_length self.count c.args.i (bytes_in self.file (g.P.Sectors.state c.args.pool.now).contents) c.if-self-i.true)
 
 pub returns-clause-got : goal.returns-clause-got
 returns-clause-got g c =
     let self = c.args.self.now in
-    ap (λ o. keyed_result (got o)) (get_record self.file.file.record_length self.count c.args.i (bytes_in self.file (g.P.Sectors.state c.args.pool.now).contents) c.if-i-self.false)
+    ap (λ o. keyed_result (got o)) (get_record self.file.file.record_length self.count c.args.i (bytes_in self.file (g.P.Sectors.state c.args.pool.now).contents) c.if-self-i.false)
     ∙ ap Ok (sym c.in_ok-read_record.ensures.ok)

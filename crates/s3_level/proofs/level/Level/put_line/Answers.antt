@@ -1,5 +1,5 @@
 use Rattle.std.proofs.Common.{Ok}
-use Rattle.s3_level.proofs.Beside.{ready_put, spool_room}
+use Rattle.s3_level.proofs.Beside.{ready_put, spares_put, spool_room}
 use Rattle.s3_level.proofs.Printing.{line_last}
 use Rattle.s3_level.proofs.Said.{said_put}
 use Rattle.s3_level.proofs.level.Level.put_line.Goals as goal
@@ -17,3 +17,13 @@ returns-in-Ok-clause-ready g c = ready_put c.args.self.now c.args.pack.now.areas
 
 pub returns-in-Ok-clause-says : goal.returns-in-Ok-clause-says
 returns-in-Ok-clause-says g c = said_put c.args.self.now.id c.args.pack.now.areas c.args.spool.now (g.P.Sectors.state c.args.pack.now.pool) (g.P.Sectors.state c.put_composed.new.sectors) c.put_composed.ensures.within
+
+pub returns-in-Ok-clause-spares : goal.returns-in-Ok-clause-spares
+returns-in-Ok-clause-spares g c =
+    spares_put c.args.self.now.id c.args.pack.now.areas c.args.spool.now c.put_composed.new.self (g.P.Sectors.state c.args.pack.now.pool) (g.P.Sectors.state c.put_composed.new.sectors)
+    c.requires.ready.files.pack c.put_composed.ensures.within c.put_composed.ensures.other c.put_composed.ensures.other_blocks c.put_composed.ensures.quotas c.put_composed.ensures.blocks
+
+pub returns-in-Err-Sectors-clause-spares : goal.returns-in-Err-Sectors-clause-spares
+returns-in-Err-Sectors-clause-spares g c =
+    spares_put c.args.self.now.id c.args.pack.now.areas c.args.spool.now c.put_composed.new.self (g.P.Sectors.state c.args.pack.now.pool) (g.P.Sectors.state c.put_composed.new.sectors)
+    c.requires.ready.files.pack c.put_composed.ensures.within c.put_composed.ensures.other c.put_composed.ensures.other_blocks c.put_composed.ensures.quotas c.put_composed.ensures.blocks

@@ -1,0 +1,175 @@
+//! `bureau operate`: the desk, over real files, the terminal and the clock.
+ghost use Rattle.std.specs.Prelude.{◌≤◌};
+
+mod begun;
+mod day;
+mod fault;
+mod inherited_words;
+mod inputs;
+mod order;
+mod outputs;
+mod taking_up;
+mod watch;
+
+use crate::words::command;
+use begun::{day_begun, test_same};
+use clap::ArgMatches;
+use day::{Prepared, operate_prepared};
+use fault::{DayFault, OUT_OF_MEMORY};
+use inherited_words::words_again;
+use inputs::{read_day_pack, read_deck, read_log, read_rules};
+use order::Order;
+use outputs::{Outputs, guard};
+use s3_cards::LevelId;
+use s3_cli::{CliFault, SessionFault, list};
+use s3_day_log::DayLog;
+use s3_operating::Seat;
+use std::alloc::Global;
+use std::io;
+use std::io::Write;
+use taking_up::{list_jobs, taken_up};
+
+/// Standard output failed.
+const FILE: CliFault = CliFault::Session(SessionFault::File);
+
+/// The highest status: that of a day on which both levels are done, and a job was passed over or ended by a reply.
+const PASSED: u8 = 5;
+
+/// A log whose day is done again.
+#[derive(Clone, Copy)]
+struct Again<'a> {
+    /// Its name.
+    path: &'a str,
+    log: &'a DayLog,
+}
+
+/// Does what the words of `bureau operate` ask, and gives the exit status. The words as they were given, behind `operate`, are
+/// for the log.
+pub fn operate<'a>(rt: &'a HostRuntime, matches: &ArgMatches<'a>, words: &[String]) -> u8
+    ensures { result ≤ 5 }
+{
+    match matches.get_str("redo") {
+        Some(path) => operate_again(rt, matches, words, path),
+        None => status_of(rt, operate_with(rt, matches, words, None)),
+    }
+}
+
+/// The exit status of a day; why it was refused is told.
+fn status_of(rt: &HostRuntime, done: Result<u8, DayFault<'_>>) -> u8
+    ensures { result ≤ 5 }
+{
+    match done {
+        Ok(status) => status.min(PASSED),
+        Err(fault) => fault.tell(&mut rt.stderr()),
+    }
+}
+
+/// Does the day of a log again.
+fn operate_again(rt: &HostRuntime, matches: &ArgMatches<'_>, words: &[String], path: &str) -> u8
+    ensures { result ≤ 5 }
+{
+    let log = match read_log(rt, path) {
+        Ok(log) => log,
+        Err(fault) => return status_of(rt, Err(fault)),
+    };
+    let whole = match words_again(rt.alloc(), words, matches, &log) {
+        Ok(Some(whole)) => whole,
+        Ok(None) => return refuse_log(rt, path),
+        Err(_) => return refuse_for_memory(rt),
+    };
+    let Ok(parser) = command(rt.alloc()) else {
+        return refuse_for_memory(rt);
+    };
+    match parser.try_get_matches_from(whole.as_slice()) {
+        Ok(parsed) => operate_parsed(rt, &parsed, &whole, path, &log),
+        Err(_) => refuse_log(rt, path),
+    }
+}
+
+/// Does the day of a log again, by all its words.
+fn operate_parsed<'a>(
+    rt: &'a HostRuntime,
+    parsed: &ArgMatches<'a>,
+    whole: &[String],
+    path: &'a str,
+    log: &'a DayLog,
+) -> u8
+    ensures { result ≤ 5 }
+{
+    match parsed.subcommand() {
+        Some(("operate", matches)) => {
+            let words = whole.get(2..).unwrap_or(&[]);
+            status_of(
+                rt,
+                operate_with(rt, matches, words, Some(Again { path, log })),
+            )
+        }
+        _ => refuse_log(rt, path),
+    }
+}
+
+fn refuse_for_memory(rt: &HostRuntime) -> u8
+    ensures { result ≤ 5 }
+{
+    status_of(rt, Err(DayFault::Cli(OUT_OF_MEMORY)))
+}
+
+/// Refuses a log whose words can't be read.
+fn refuse_log(rt: &HostRuntime, path: &str) -> u8
+    ensures { result ≤ 5 }
+{
+    let _ = writeln!(rt.stderr(), "{path}: line 1 has words that can't be read");
+    status_of(rt, Err(DayFault::Redo))
+}
+
+/// Does a day, or lists its jobs. It is refused before the first turn, or not at all but for want of memory or a file that fails.
+fn operate_with<'a>(
+    rt: &'a HostRuntime,
+    matches: &ArgMatches<'a>,
+    words: &[String],
+    again: Option<Again<'a>>,
+) -> Result<u8, DayFault<'a>> {
+    let alloc = rt.alloc();
+    let order = Order::read(rt, matches)?;
+    let is_logged = order.log.is_some() || again.is_some();
+    let (text1, read1) = read_deck(rt, &order.deck1, is_logged)?;
+    let (text2, read2) = read_deck(rt, &order.deck2, is_logged)?;
+    if matches.get_flag("jobs") {
+        list_jobs(rt, &text1, &text2)?;
+        return Ok(0);
+    }
+    let rules = read_rules(rt, order.rules)?;
+    guard(rt, &order, matches.get_str("redo"))?;
+    let (pack, checksum, locked) = read_day_pack(rt, &order, is_logged)?;
+    let begun = day_begun(alloc, &order, words, checksum, &read1, &read2)?;
+    if let Some(again) = again {
+        test_same(rt, again.path, again.log, &begun)?;
+    }
+    let text1 = taken_up(rt, LevelId::One, text1, order.from1)?;
+    let text2 = taken_up(rt, LevelId::Two, text2, order.from2)?;
+    let one = Seat::new(alloc, LevelId::One, &text1);
+    let two = Seat::new(alloc, LevelId::Two, &text2);
+    test_pack(alloc, &pack)?;
+    let outputs = Outputs::open(rt, &order, locked)?;
+    operate_prepared(
+        rt,
+        &order,
+        Prepared {
+            pack,
+            begun,
+            one,
+            two,
+            rules: &rules,
+            logged: again.map(|again| again.log),
+        },
+        outputs,
+    )
+}
+
+/// Refuses a pack that can't be used, before any output is emptied.
+fn test_pack<'a>(alloc: Global, pack: &[u8]) -> Result<(), DayFault<'a>> {
+    match list(alloc, pack, &mut io::sink()) {
+        Ok(()) => Ok(()),
+        Err(fault) => Err(DayFault::Cli(CliFault::Session(fault))),
+    }
+}

@@ -1,0 +1,77 @@
+//! Why a day isn't operated, or not to its end.
+ghost use Rattle.std.specs.Prelude.{◌≤◌};
+
+use s3_cards::LevelId;
+use s3_cli::{CliFault, RunFault, SessionFault, tell};
+use std::alloc::{AllocError, AllocFailed};
+use std::io;
+use std::io::Write;
+
+/// No memory is left.
+pub const OUT_OF_MEMORY: CliFault = CliFault::Session(SessionFault::Run(RunFault::NoMemory));
+
+/// Why a day isn't operated, or not to its end.
+#[derive(Drop)]
+pub enum DayFault<'a> {
+    /// As `run` is refused.
+    Cli(CliFault),
+    /// The words say no day; this is why.
+    Usage(&'static str),
+    /// This file can't be read, or not be written.
+    File(&'a str),
+    /// Another command has this pack.
+    InUse(&'a str),
+    /// The number of the first line of the rules that is none.
+    Replies(usize),
+    /// The deck of this level can't be read.
+    Deck(LevelId),
+    /// This output would be written over what is there.
+    Exists(&'a str),
+    /// The day can't be taken up so.
+    From,
+    /// The day isn't that of the log.
+    Redo,
+}
+
+impl<'a> From<AllocError> for DayFault<'a> {
+    fn from(_error: AllocError) -> DayFault<'a> {
+        DayFault::Cli(OUT_OF_MEMORY)
+    }
+}
+
+impl<'a, T: Drop> From<AllocFailed<T>> for DayFault<'a> {
+    fn from(_error: AllocFailed<T>) -> DayFault<'a> {
+        DayFault::Cli(OUT_OF_MEMORY)
+    }
+}
+
+impl<'a> DayFault<'a> {
+    /// What a failed call on a file is.
+    pub fn of(error: &io::Error, name: &'a str) -> DayFault<'a> {
+        if error.kind() == io::ErrorKind::OutOfMemory {
+            DayFault::Cli(OUT_OF_MEMORY)
+        } else {
+            DayFault::File(name)
+        }
+    }
+
+    /// Writes the line of a refusal, and gives its exit status.
+    pub fn tell<W: Write>(&self, writer: &mut W) -> u8
+        ensures { result ≤ 3 }
+    {
+        let (written, status) = match self {
+            DayFault::Cli(fault) => return tell(writer, fault),
+            DayFault::Usage(reason) => (writeln!(writer, "error: {reason}"), 2),
+            DayFault::File(name) => (writeln!(writer, "bureau: file {name}"), 3),
+            DayFault::InUse(name) => (writeln!(writer, "bureau: in use {name}"), 1),
+            DayFault::Replies(line) => (writeln!(writer, "bureau: replies {line}"), 1),
+            DayFault::Deck(LevelId::One) => (writeln!(writer, "bureau: deck1"), 1),
+            DayFault::Deck(LevelId::Two) => (writeln!(writer, "bureau: deck2"), 1),
+            DayFault::Exists(name) => (writeln!(writer, "bureau: exists {name}"), 1),
+            DayFault::From => (writeln!(writer, "bureau: from"), 1),
+            DayFault::Redo => (writeln!(writer, "bureau: redo"), 1),
+        };
+        let _ = written;
+        status
+    }
+}

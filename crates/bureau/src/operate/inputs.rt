@@ -1,0 +1,149 @@
+//! What a day reads: its pack, its decks, its rules and a log.
+
+use super::fault::DayFault;
+use super::order::Order;
+use crate::files::{FileFault, LockedPack, read_pack, read_to_save, read_within};
+use s3_cli::{CliFault, image};
+use s3_day_log::{DayLog, LogFault, NamedFile, checksum};
+use s3_operating::{DayDeck, JoinedFiles};
+use s3_replies::{Rules, RulesFault};
+use std::alloc::{AllocError, Global};
+use std::io::Write;
+
+/// A day without a pack has a new one, each of whose regions has so many tracks.
+const TRACKS: u16 = 10;
+
+/// The most bytes of a file of a deck, of the rules and of a log that is read.
+const TEXT_LIMIT: usize = 4_194_304;
+
+/// The most bytes of a log that is read.
+const LOG_LIMIT: usize = 268_435_456;
+
+/// The pack that a day is given, or a new one; the digest of its bytes, if that is asked for and a file was read; and the lock
+/// on its file where it is saved there.
+pub fn read_day_pack<'a>(
+    rt: &HostRuntime,
+    order: &Order<'a>,
+    is_logged: bool,
+) -> Result<(Vec<u8>, Option<String>, Option<LockedPack>), DayFault<'a>> {
+    let Some(path) = order.pack else {
+        return match image(rt.alloc(), None, TRACKS, TRACKS, TRACKS) {
+            Ok(bytes) => Ok((bytes, None, None)),
+            Err(fault) => Err(DayFault::Cli(CliFault::Image(fault))),
+        };
+    };
+    let (bytes, locked) = read_pack_of(rt, path, order.save)?;
+    let sum = if is_logged {
+        Some(checksum(rt.alloc(), &bytes)?)
+    } else {
+        None
+    };
+    Ok((bytes, sum, locked))
+}
+
+/// A pack, and the lock on its file where it is saved there.
+fn read_pack_of<'a>(
+    rt: &HostRuntime,
+    path: &'a str,
+    save: Option<&'a str>,
+) -> Result<(Vec<u8>, Option<LockedPack>), DayFault<'a>> {
+    let read = match save {
+        Some(save) => read_to_save(rt, path, save),
+        None => match read_pack(rt, path) {
+            Ok(bytes) => Ok((bytes, None)),
+            Err(error) => Err(FileFault::Call(error)),
+        },
+    };
+    match read {
+        Ok(read) => Ok(read),
+        Err(FileFault::InUse) => Err(DayFault::InUse(path)),
+        Err(FileFault::Call(error)) => Err(DayFault::of(&error, path)),
+    }
+}
+
+/// The names of a deck's files, and the digest of each as it was read.
+#[derive(Drop)]
+pub struct Checked<'a> {
+    names: Vec<&'a str>,
+    checksums: Vec<String>,
+}
+
+impl<'a> Checked<'a> {
+    /// The files as a log has them; none where no digests were asked for.
+    pub fn files(&self, alloc: Global) -> Result<Vec<NamedFile>, AllocError> {
+        let mut files = Vec::new(alloc);
+        for (name, sum) in self.names.iter().zip(self.checksums.iter()) {
+            files.push(NamedFile {
+                name: String::from_str(alloc, name)?,
+                sha256: String::from_str(alloc, sum.as_str())?,
+            })?;
+        }
+        Ok(files)
+    }
+}
+
+/// The deck of these files, and their digests, if they are asked for.
+pub fn read_deck<'a>(
+    rt: &HostRuntime,
+    paths: &[&'a str],
+    is_logged: bool,
+) -> Result<(DayDeck<'a>, Checked<'a>), DayFault<'a>> {
+    let alloc = rt.alloc();
+    let mut joined = JoinedFiles::new(alloc);
+    let mut names = Vec::new(alloc);
+    let mut checksums = Vec::new(alloc);
+    for path in paths {
+        let name: &'a str = *path;
+        let bytes = read_text(rt, name, TEXT_LIMIT)?;
+        if is_logged {
+            checksums.push(checksum(alloc, &bytes)?)?;
+        }
+        names.push(name)?;
+        joined.add(name, bytes)?;
+    }
+    Ok((DayDeck::Whole(joined), Checked { names, checksums }))
+}
+
+fn read_text<'a>(rt: &HostRuntime, path: &'a str, limit: usize) -> Result<Vec<u8>, DayFault<'a>> {
+    match read_within(rt, path, limit) {
+        Ok(bytes) => Ok(bytes),
+        Err(error) => Err(DayFault::of(&error, path)),
+    }
+}
+
+/// The rules of a file, or none where no file is named. Each line that is no rule is told.
+pub fn read_rules<'a>(rt: &HostRuntime, path: Option<&'a str>) -> Result<Rules, DayFault<'a>> {
+    let Some(path) = path else {
+        return Ok(Rules::none(rt.alloc()));
+    };
+    let text = read_text(rt, path, TEXT_LIMIT)?;
+    let lines = match Rules::read(rt.alloc(), &text) {
+        Ok(rules) => return Ok(rules),
+        Err(RulesFault::NoMemory) => return Err(DayFault::from(AllocError)),
+        Err(RulesFault::IllFormed(lines)) => lines,
+    };
+    for line in &lines {
+        let _ = writeln!(rt.stderr(), "{path}, {line}");
+    }
+    match lines.first() {
+        Some(first) => Err(DayFault::Replies(first.number)),
+        None => Err(DayFault::Replies(0)),
+    }
+}
+
+/// The log of a day that is done again.
+pub fn read_log<'a>(rt: &HostRuntime, path: &'a str) -> Result<DayLog, DayFault<'a>> {
+    let bytes = read_text(rt, path, LOG_LIMIT)?;
+    let Ok(text) = str::from_utf8(&bytes) else {
+        let _ = writeln!(rt.stderr(), "{path} is no log");
+        return Err(DayFault::Redo);
+    };
+    match DayLog::read(rt.alloc(), text) {
+        Ok(log) => Ok(log),
+        Err(LogFault::NoMemory) => Err(DayFault::from(AllocError)),
+        Err(LogFault::Line(line)) => {
+            let _ = writeln!(rt.stderr(), "{path}: line {line} is no line of a log");
+            Err(DayFault::Redo)
+        }
+    }
+}

@@ -1,0 +1,122 @@
+-- Where a run that halts stands in its source, and what it holds there.
+use Rattle.std.specs.Prelude.{ℕ, ◌-◌, Bool, true, false, List, [], slice_get, Option, Some, None, option_map, if◌then◌else◌}
+use Rattle.std.specs.Option.{option_and_then}
+use Rattle.s3_lines.specs.declared.sheet.CalculationLine.{CalculationLine}
+use Rattle.s3_lines.specs.declared.sheet.Factor.{Factor}
+use Rattle.s3_lines.specs.declared.sheet.Factor.TheVariants.{Named}
+use Rattle.s3_lines.specs.declared.sheet.Operation.{Operation}
+use Rattle.s3_lines.specs.declared.sheet.Operation.TheVariants as op
+use Rattle.s3_meaning.specs.Calculating.{sought_in}
+use Rattle.s3_meaning.specs.Output.{filled}
+use Rattle.s3_meaning.specs.Requests as Meant
+use Rattle.s3_program.specs.declared.program.Program.{Program}
+use Rattle.s3_program.specs.declared.program.Reference.{Reference}
+use Rattle.s3_program.specs.declared.program.Reference.TheVariants.{File}
+use Rattle.s3_program.specs.declared.starts.OutputStart.{OutputStart}
+use Rattle.s3_program.specs.declared.starts.Walk.{Walk}
+use Rattle.s3_operations.specs.Inner.Chaining.{file_sought}
+use Rattle.s3_operations.specs.Inner.Fits.{named_line}
+use Rattle.s3_match.specs.declared.heads.InputFile.{InputFile}
+use Rattle.s3_cycle.specs.declared.progress.Progress.{Progress}
+use Rattle.s3_cycle.specs.declared.progress.Time.{Time}
+use Rattle.s3_cycle.specs.declared.progress.Time.TheVariants as time
+use Rattle.s3_cycle.specs.declared.progress.Moves.TheVariants as moves
+use Rattle.s3_cycle.specs.declared.progress.Continuation.{Continuation}
+use Rattle.s3_cycle.specs.declared.progress.Continuation.TheVariants as after
+use Rattle.s3_cycle.specs.declared.progress.Point.{Point}
+use Rattle.s3_cycle.specs.declared.progress.Point.TheVariants as at
+use Rattle.s3_cycle.specs.declared.stand.Stand.{Stand}
+use Rattle.s3_cycle.specs.declared.stand.Stand.TheVariants.{Nowhere, Head, Field, ChainedField, Calculation, Output}
+use Rattle.s3_cycle.specs.declared.stepper.Stepper.{Stepper}
+use Rattle.s3_cycle.specs.Inner.Going.{own, held_by}
+use Rattle.s3_cycle.specs.Inner.Rest.{moved_bytes, selected_input, starts_of}
+
+-- ---- where it stands
+-- the output line before the next one of those that are put out together
+abbrev pub output_before : Program → Walk → ℕ → Stand
+output_before program w next = on (slice_get (starts_of program.starts w) (next - 1))
+  where
+    on : Option OutputStart → Stand
+    on None = Nowhere
+    on (Some start) = Output start.file start.place
+
+-- the record that was read last of the file at a place among those that are read
+abbrev pub head_at : Progress → ℕ → Stand
+head_at progress place = on (slice_get progress.reading.files.items place)
+  where
+    on : Option InputFile → Stand
+    on None = Nowhere
+    on (Some input) = Head input.file input.reads
+
+-- a field of the record that is processed
+abbrev pub field_at : Progress → ℕ → Stand
+field_at progress place = by progress.time
+  where
+    on : (number : ℕ) → Option InputFile → Stand
+    on number None = Nowhere
+    on number (Some input) = Field place input.file number
+
+    by : Time → Stand
+    by (time.Details selection) = on selection.number (selected_input progress selection)
+    by (time.Totals selection) = Nowhere
+    by time.Last = Nowhere
+
+-- what reply 0 goes on from
+abbrev pub stand_before : Program → Progress → Continuation → Stand
+stand_before program progress (after.Halts number) = Nowhere
+stand_before program progress (after.Lines w next) = output_before program w next
+stand_before program progress (after.Head place) = head_at progress place
+stand_before program progress (after.Field moves.Selected place) = field_at progress place
+stand_before program progress (after.Field moves.Chained place) = ChainedField place
+stand_before program progress (after.Division place) = Calculation place
+stand_before program progress after.Calculations = Calculation (progress.course.here.place - 1)
+
+abbrev pub stand_of : Stepper → Stand
+stand_of c = on c.point
+  where
+    on : Point → Stand
+    on (at.Reply next) = stand_before c.program c.progress next
+    on point = Nowhere
+
+-- ---- the record that it stands at
+-- the one whose field it is, or the one that is put out
+abbrev pub record_at : Stepper → Stand → List ℕ
+record_at c (Field place file number) = moved_bytes c.progress moves.Selected
+record_at c (ChainedField place) = moved_bytes c.progress moves.Chained
+record_at c (Output file place) = filled c.composition
+record_at c stand = []
+
+-- ---- the CHAIN that it stands at
+abbrev pub is_chain : Option Operation → Bool
+is_chain (Some op.Chain) = true
+is_chain operation = false
+
+-- the line at a place, where it is a CHAIN
+abbrev pub chain_at : Program → ℕ → Option (CalculationLine Reference)
+chain_at program place = on (slice_get program.calculations.items place)
+  where
+    on : Option (CalculationLine Reference) → Option (CalculationLine Reference)
+    on None = None
+    on (Some line) = if is_chain line.operation then Some line else None
+
+-- the one that it stands at
+abbrev pub chain_of : Program → Stand → Option (CalculationLine Reference)
+chain_of program (Calculation place) = chain_at program place
+chain_of program stand = None
+
+-- what a line seeks with the values that the run holds
+unfoldable pub sought_by : Stepper → CalculationLine Reference → Option Meant.Sought
+sought_by c line = option_map (sought_in (own c) (held_by c) (named_line c.program line)) (file_sought c.program line)
+
+-- ---- the file that it stands at
+abbrev pub slot_named : Option (Factor Reference) → Option ℕ
+slot_named (Some (Named (File slot))) = Some slot
+slot_named factor = None
+
+-- the slot of the file of a record, of a CHAIN or of an output line
+abbrev pub file_of : Program → Stand → Option ℕ
+file_of program (Head file number) = Some file
+file_of program (Field place file number) = Some file
+file_of program (Output file place) = Some file
+file_of program (Calculation place) = option_and_then (λ (line : CalculationLine Reference). slot_named line.factor2) (chain_at program place)
+file_of program stand = None

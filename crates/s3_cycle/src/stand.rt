@@ -1,0 +1,230 @@
+//! Where a run that halts stands in its source, and what it holds there.
+ghost use Rattle.std.specs.Prelude.{◌≡◌, IfSome, option_map};
+ghost use Rattle.std.specs.Option.{option_copied, option_and_then};
+ghost use Rattle.s3_lines.specs.declared.sheet.Operation.TheVariants as op;
+ghost use Rattle.s3_operations.specs.Inner.Fits.{IsLineOf};
+ghost use Rattle.s3_cycle.specs.Inner.Requests.{sought_of};
+ghost use Rattle.s3_cycle.specs.Inner.Going.{IsRunning};
+ghost use Rattle.s3_cycle.specs.Inner.Rest.{moved_bytes};
+ghost use Rattle.s3_cycle.specs.declared.progress.Moves.TheVariants as moves;
+ghost use Rattle.s3_cycle.specs.Inner.Standing.{chain_at, chain_of, field_at, file_of, head_at, output_before, record_at, sought_by, stand_before, stand_of};
+
+use crate::progress::{Continuation, Moves, Point, Time};
+use crate::request::Sought;
+use crate::stepper::Stepper;
+use s3_lines::sheet::{CalculationLine, Operation};
+use s3_operations::chaining::chained_file;
+use s3_program::program::Reference;
+use s3_program::starts::Walk;
+
+/// Where a run that halts stands in its source: a line by its place among those of its sheet, from 0, a file by its slot, in the
+/// order of the F sheet.
+#[derive(Clone, Copy)]
+pub enum Stand {
+    /// At no line: a halt indicator is on, or the run doesn't halt.
+    Nowhere,
+    /// Before the record that was read last of a file.
+    Head {
+        /// The slot of the file.
+        file: usize,
+        /// Its number among the records that were read, from 1.
+        number: u32,
+    },
+    /// At a field of the record that is processed.
+    Field {
+        /// The place of the field on the I sheet.
+        place: usize,
+        /// The slot of the file of the record.
+        file: usize,
+        /// Its number among the records of that file that were read, from 1.
+        number: u32,
+    },
+    /// At a field of the record that CHAIN found.
+    ChainedField {
+        /// The place of the field on the I sheet.
+        place: usize,
+    },
+    /// At a calculation.
+    Calculation {
+        /// The place of its line on the C sheet.
+        place: usize,
+    },
+    /// At an output line.
+    Output {
+        /// The slot of its file.
+        file: usize,
+        /// The place of its first card on the O sheet.
+        place: usize,
+    },
+}
+
+impl Stepper {
+    /// The output line before the next one of those that are put out together.
+    fn output_before(&self, walk: Walk, next: usize) -> Stand
+        ensures { result ≡ output_before self.now.program walk next }
+    {
+        match self.starts(walk).get(next.saturating_sub(1)) {
+            Some(start) => Stand::Output {
+                file: start.file,
+                place: start.place,
+            },
+            None => Stand::Nowhere,
+        }
+    }
+
+    /// The record that was read last of the file at a place among those that are read.
+    fn head_at(&self, place: usize) -> Stand
+        ensures { result ≡ head_at self.now.progress place }
+    {
+        match self.progress.reading.files.get(place) {
+            Some(input) => Stand::Head {
+                file: input.file,
+                number: input.reads,
+            },
+            None => Stand::Nowhere,
+        }
+    }
+
+    /// A field of the record that is processed.
+    fn field_at(&self, place: usize) -> Stand
+        ensures { result ≡ field_at self.now.progress place }
+    {
+        let Time::Details(selection) = self.progress.time else {
+            return Stand::Nowhere;
+        };
+        match self.progress.reading.files.get(selection.place) {
+            Some(input) => Stand::Field {
+                place,
+                file: input.file,
+                number: selection.number,
+            },
+            None => Stand::Nowhere,
+        }
+    }
+
+    /// What reply 0 goes on from.
+    fn stand_before(&self, then: Continuation) -> Stand
+        ensures { result ≡ stand_before self.now.program self.now.progress then }
+    {
+        match then {
+            Continuation::Halts { .. } => Stand::Nowhere,
+            Continuation::Lines { walk, next } => self.output_before(walk, next),
+            Continuation::Head { place } => self.head_at(place),
+            Continuation::Field {
+                moves: Moves::Selected,
+                place,
+            } => self.field_at(place),
+            Continuation::Field {
+                moves: Moves::Chained,
+                place,
+            } => Stand::ChainedField { place },
+            Continuation::Division { place } => Stand::Calculation { place },
+            Continuation::Calculations => Stand::Calculation {
+                place: self.progress.course.here.place.saturating_sub(1),
+            },
+        }
+    }
+
+    /// Where a run that halts stands.
+    pub fn stand(&self) -> Stand
+        ensures { result ≡ stand_of self.now }
+    {
+        match self.point {
+            Point::Reply(then) => self.stand_before(then),
+            _ => Stand::Nowhere,
+        }
+    }
+
+    /// The bytes of the record that is processed; none at other times.
+    fn processed(&self) -> &[u8]
+        ensures { result.now ≡ moved_bytes self.now.progress moves.Selected }
+    {
+        let Time::Details(selection) = self.progress.time else {
+            return &[];
+        };
+        match self.progress.reading.files.get(selection.place) {
+            Some(input) => &input.bytes,
+            None => &[],
+        }
+    }
+
+    /// The bytes of the record whose field a run stands at, or that it puts out; none where it stands at neither.
+    pub fn record_there(&self) -> &[u8]
+        ensures { result.now ≡ record_at self.now (stand_of self.now) }
+    {
+        match self.stand() {
+            Stand::Field { .. } => self.processed(),
+            Stand::ChainedField { .. } => &self.progress.record,
+            Stand::Output { .. } => self.composition.codes(),
+            Stand::Nowhere | Stand::Head { .. } | Stand::Calculation { .. } => &[],
+        }
+    }
+
+    /// The C line at a place, if it is a CHAIN.
+    fn chain_at(&self, place: usize) -> Option<&CalculationLine<Reference>>
+        ensures line { option_copied result ≡ chain_at self.now.program place }
+        ensures chain { IfSome result (λ line. IsLineOf self.now.program line.now op.Chain) }
+    {
+        let line = self.program.calculations.get(place)?;
+        match line.operation {
+            Some(Operation::Chain) => Some(line),
+            _ => None,
+        }
+    }
+
+    /// The CHAIN that a run stands at.
+    fn chain_there(&self) -> Option<&CalculationLine<Reference>>
+        ensures line { option_copied result ≡ chain_of self.now.program (stand_of self.now) }
+        ensures chain { IfSome result (λ line. IsLineOf self.now.program line.now op.Chain) }
+    {
+        match self.stand() {
+            Stand::Calculation { place } => self.chain_at(place),
+            _ => None,
+        }
+    }
+
+    /// What a CHAIN seeks with the values that the run holds.
+    #[tactic(auto, using(crate::proofs::StandingLemmas::seeks_by_key, crate::proofs::StandingLemmas::seeks_by_number))]
+    fn sought_by(&self, line: &CalculationLine<Reference>) -> Option<Sought>
+        requires running { IsRunning self.now }
+        requires chain { IsLineOf self.now.program line.now op.Chain }
+        ensures { option_map sought_of result ≡ sought_by self.now line.now }
+    {
+        let program = &self.program;
+        let values = &self.state.values;
+        match program.files.get(chained_file(program, line))?.key {
+            Some(_) => Some(Sought::Key(values.key(program, line))),
+            None => Some(Sought::RecordNumber(values.record_number(program, line))),
+        }
+    }
+
+    /// What the CHAIN that a run stands at seeks, if it stands at one.
+    pub fn sought_there(&self) -> Option<Sought>
+        requires { IsRunning self.now }
+        ensures { option_map sought_of result ≡ option_and_then (sought_by self.now) (chain_of self.now.program (stand_of self.now)) }
+    {
+        let line = self.chain_there()?;
+        self.sought_by(line)
+    }
+
+    /// The slot of the file that a CHAIN at a place names, if one is there.
+    fn file_chained(&self, place: usize) -> Option<usize>
+        ensures { result ≡ file_of self.now.program (Stand.Calculation place) }
+    {
+        let line = self.chain_at(place)?;
+        Some(chained_file(&self.program, line))
+    }
+
+    /// The slot of the file that a run stands at: that of a record, of a CHAIN or of an output line.
+    pub fn file_there(&self) -> Option<usize>
+        ensures { result ≡ file_of self.now.program (stand_of self.now) }
+    {
+        match self.stand() {
+            Stand::Head { file, .. } => Some(file),
+            Stand::Field { file, .. } => Some(file),
+            Stand::Output { file, .. } => Some(file),
+            Stand::Calculation { place } => self.file_chained(place),
+            Stand::Nowhere | Stand::ChainedField { .. } => None,
+        }
+    }
+}

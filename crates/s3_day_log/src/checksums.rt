@@ -1,0 +1,15 @@
+//! Checksums of packs and decks.
+ghost use Rattle.std.specs.Prelude.{◌≡◌, IfOk};
+ghost use Rattle.std.specs.String.{string_bytes};
+ghost use Rattle.hex.specs.Hex.{encode_lower};
+ghost use Rattle.sha2.specs.Sha256.{sha256};
+
+use sha2::{Digest, Sha256};
+use std::alloc::{AllocError, Global};
+
+/// The SHA-256 digest of a file's bytes, in 64 hexadecimal digits.
+pub fn checksum(alloc: Global, bytes: &[u8]) -> Result<String, AllocError>
+    ensures { IfOk result (λ text. string_bytes text ≡ encode_lower (sha256 bytes.now)) }
+{
+    hex::encode(alloc, Sha256::digest(bytes))
+}

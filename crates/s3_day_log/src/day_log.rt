@@ -1,0 +1,206 @@
+//! A log that is read, so that its day can be done again.
+
+use crate::event::{Begun, Event, NamedFile, Record};
+use jiff::Timestamp;
+use s3_cards::LevelId;
+use s3_operator::{HaltCode, allowed};
+use std::alloc::{AllocError, AllocFailed, Global};
+use thiserror::Error;
+
+/// The length of a checksum.
+const CHECKSUM: usize = 64;
+
+/// Why a text is no log.
+#[derive(Clone, Copy, Debug, PartialEq, Eq, Error)]
+pub enum LogFault {
+    /// There is no memory for it.
+    #[error("out of memory")]
+    NoMemory,
+    /// This line, from 1, isn't what a log has there: an event with its time, of which the first one alone begins the day, and
+    /// the last one alone may end it.
+    #[error("line {0} is no line of a log")]
+    Line(usize),
+}
+
+impl From<AllocError> for LogFault {
+    fn from(_: AllocError) -> LogFault {
+        LogFault::NoMemory
+    }
+}
+
+impl From<AllocFailed<LoggedReply>> for LogFault {
+    fn from(_: AllocFailed<LoggedReply>) -> LogFault {
+        LogFault::NoMemory
+    }
+}
+
+impl From<AllocFailed<LevelId>> for LogFault {
+    fn from(_: AllocFailed<LevelId>) -> LogFault {
+        LogFault::NoMemory
+    }
+}
+
+/// A reply that was given.
+#[derive(Clone, Copy)]
+pub struct LoggedReply {
+    /// The level.
+    pub level: LevelId,
+    /// What it halted for.
+    pub code: HaltCode,
+    /// The digit, one that the halt allows.
+    pub digit: u8,
+}
+
+/// What differs between a logged day and the files that are given for it.
+#[derive(Clone, Copy, Debug, PartialEq, Eq, Error)]
+pub enum Refused {
+    /// The pack is another one.
+    #[error("the pack isn't that of the log")]
+    Pack,
+    /// The deck of this level has another file, at this place from 1, or more or fewer of them.
+    #[error("file {1} of --deck{0} isn't that of the log")]
+    Deck(u8, usize),
+}
+
+/// The log of a day.
+#[derive(Drop)]
+pub struct DayLog {
+    /// With what the day was begun.
+    pub begun: Begun,
+    /// The replies, in the order in which they were given.
+    pub replies: Vec<LoggedReply>,
+    /// The levels that were cut, in the order in which they were.
+    pub cut: Vec<LevelId>,
+    /// Whether the operator ended the day.
+    pub is_stopped: bool,
+    /// The exit status; none where the desk was killed.
+    pub status: Option<u8>,
+}
+
+impl DayLog {
+    /// The log of a text. A last line without its end is that of a desk that was killed, and isn't looked at.
+    pub fn read(alloc: Global, text: &str) -> Result<DayLog, LogFault> {
+        let Some((first, rest)) = text.split_once('\n') else {
+            return Err(LogFault::Line(1));
+        };
+        let Event::Begin { day } = event_of(alloc, first, 1)? else {
+            return Err(LogFault::Line(1));
+        };
+        if !is_sound(&day) {
+            return Err(LogFault::Line(1));
+        }
+        let mut log = DayLog {
+            begun: day,
+            replies: Vec::new(alloc),
+            cut: Vec::new(alloc),
+            is_stopped: false,
+            status: None,
+        };
+        log.read_rest(alloc, rest)?;
+        Ok(log)
+    }
+
+    /// Reads the lines behind the first one.
+    fn read_rest(&mut self, alloc: Global, text: &str) -> Result<(), LogFault> {
+        let mut rest = text;
+        let mut number: usize = 1;
+        while let Some((line, after)) = rest.split_once('\n') {
+            number = number.saturating_add(1);
+            if self.status.is_some() {
+                return Err(LogFault::Line(number));
+            }
+            self.take(event_of(alloc, line, number)?, number)?;
+            rest = after;
+        }
+        Ok(())
+    }
+
+    /// Takes an event of the log, with the number of its line.
+    fn take(&mut self, event: Event, number: usize) -> Result<(), LogFault> {
+        match event {
+            Event::Begin { .. } => return Err(LogFault::Line(number)),
+            Event::JobBegins { .. } | Event::JobEnds { .. } | Event::Halt { .. } => {}
+            Event::Reply {
+                level,
+                code,
+                digit,
+                by: _,
+            } => {
+                if !allowed(code, digit) {
+                    return Err(LogFault::Line(number));
+                }
+                self.replies.push(LoggedReply { level, code, digit })?;
+            }
+            Event::Cut { level } => self.cut.push(level)?,
+            Event::Stop => self.is_stopped = true,
+            Event::End { status, saved: _ } => self.status = Some(status),
+        }
+        Ok(())
+    }
+
+    /// The reply of a level behind so many that it was given before.
+    pub fn reply(&self, level: LevelId, given: usize) -> Option<&LoggedReply> {
+        self.replies
+            .iter()
+            .filter(|reply| reply.level == level)
+            .nth(given)
+    }
+
+    /// Whether a pack and the files of both decks are those of the log, by their checksums, in their order; or what differs
+    /// first. Names don't count: a file may have another one now. No checksum of a pack stands for a new pack.
+    pub fn test(
+        &self,
+        pack: Option<&str>,
+        deck1: &[String],
+        deck2: &[String],
+    ) -> Result<(), Refused> {
+        let logged = self.begun.pack.as_ref().map(|file| file.sha256.as_str());
+        if logged != pack {
+            return Err(Refused::Pack);
+        }
+        test_deck(&self.begun.deck1, deck1, 1)?;
+        test_deck(&self.begun.deck2, deck2, 2)
+    }
+}
+
+/// Whether the files of a level's deck are those of the log, or which isn't.
+fn test_deck(logged: &[NamedFile], given: &[String], level: u8) -> Result<(), Refused> {
+    for (place, file) in logged.iter().enumerate() {
+        match given.get(place) {
+            Some(checksum) if *checksum == file.sha256 => {}
+            _ => return Err(Refused::Deck(level, place + 1)),
+        }
+    }
+    if given.len() > logged.len() {
+        return Err(Refused::Deck(level, logged.len() + 1));
+    }
+    Ok(())
+}
+
+/// The event of a line; refused where it is none, or has no time.
+fn event_of(alloc: Global, line: &str, number: usize) -> Result<Event, LogFault> {
+    match serde_json::from_str::<Record>(alloc, line) {
+        Ok(record) if record.at.as_str().parse::<Timestamp>().is_ok() => Ok(record.event),
+        Err(fault) if fault.is_memory() => Err(LogFault::NoMemory),
+        _ => Err(LogFault::Line(number)),
+    }
+}
+
+/// Whether the checksums of a day's files are such.
+fn is_sound(day: &Begun) -> bool {
+    let pack_is_sound = match &day.pack {
+        Some(pack) => is_checksum(pack),
+        None => true,
+    };
+    pack_is_sound && day.deck1.iter().all(is_checksum) && day.deck2.iter().all(is_checksum)
+}
+
+/// Whether a file has a checksum: 64 hexadecimal digits, with small letters.
+fn is_checksum(file: &NamedFile) -> bool {
+    file.sha256.len() == CHECKSUM
+        && file
+            .sha256
+            .as_bytes()
+            .iter()
+            .all(|byte| matches!(*byte, b'0'..=b'9' | b'a'..=b'f'))
+}

@@ -1,0 +1,132 @@
+-- A day over a pack: what comes of a bureau that was opened, operated and finished.
+use Rattle.std.proofs.Common.{◌≡◌, ℕ, List, [], ◌∷◌, true, Option, Some, None, Result, Ok, refl, sym, subst}
+use Rattle.std.specs.List.{AllByRecursion as Each}
+use Rattle.s3_cards.specs.declared.levels.LevelId.{LevelId}
+use Rattle.s3_cards.specs.declared.levels.LevelId.TheVariants.{One, Two}
+use Rattle.s3_operator.specs.Halts.{ShownHalt}
+use Rattle.s3_store.specs.Inner.State.{KeepsInStep}
+use Rattle.s3_store.proofs.Frames.{step_refl, step_trans}
+use Rattle.s3_slots.specs.Header.{mounted}
+use Rattle.s3_slots.specs.declared.header.Header.{Header}
+use Rattle.s3_slots.specs.declared.header.MountFault.{MountFault}
+use Rattle.s3_solo.specs.Solo.{solo}
+use Rattle.s3_solo.specs.World.{JobAtWork, World, at_start}
+use Rattle.s3_level.specs.declared.job.OpenJob.{OpenJob}
+use Rattle.s3_level.specs.Inner.Holds.{HoldsAtWork}
+use Rattle.s3_bureau.specs.declared.entry.Entry.{Entry}
+use Rattle.s3_bureau.specs.Entries.{own}
+use Rattle.s3_bureau.specs.Sharing.{IsCommon, IsOwn}
+use Rattle.s3_bureau.specs.Inner.Held.{HoldsFor, State, header_of, held_by, is_open, level_of, rests}
+use Rattle.s3_bureau.specs.Inner.Underway.{LeavesSectors, Performs, ReadsDeck}
+use Rattle.s3_desk.specs.declared.ends.Ends.{Ends}
+use Rattle.s3_desk.specs.Inner.Days.{EndSo, HasWaitedIn, IsAnswered, WaitedIn, starts_in}
+use Rattle.s3_desk.specs.Inner.Desk.{AreAmong, Asks, EndsAs, HasWaited, Waited, answers_in, replies_in}
+use Rattle.s3_desk.specs.Inner.Events.{Asked, Event, Followed, Shown}
+use Rattle.s3_desk.specs.Inner.Operated.{IsAfter, KeepsCommon}
+
+-- ---- before the first entry
+pub after_none : (first : State) → is_open first ≡ true → IsAfter first [] first
+after_none first is_so = record {
+  takes_more = is_so;
+  header = refl;
+  performs = λ level w held. held;
+  says = λ level said. said;
+  idle = λ level none. step_refl (IsOwn level (header_of first)) first.beside.state;
+}
+
+pub after_given : (first : State) (entries : List Entry) → entries ≡ [] → is_open first ≡ true → IsAfter first entries first
+after_given first entries none is_so = subst (λ (es : List Entry). IsAfter first es first) (sym none) (after_none first is_so)
+
+pub performs_given : (first : State) (entries : List Entry) → entries ≡ [] → Performs entries (held_by first) (held_by first)
+performs_given first entries none = subst (λ (es : List Entry). Performs es (held_by first) (held_by first)) (sym none) (λ level w held. held)
+
+pub common_none : (first : State) → KeepsCommon first first
+common_none first = record { header = refl; common = step_refl (IsCommon (header_of first)) first.beside.state }
+
+-- ---- a level without an entry
+-- one that holds a world without a job at work has none
+rests_by : (deck : List (List ℕ)) (job : Option OpenJob) (w : World) (meant : Option JobAtWork) → meant ≡ None → HoldsAtWork deck job w meant → job ≡ None
+rests_by deck None w meant is held = refl
+rests_by deck (Some job) w None is held = absurd held
+rests_by deck (Some job) w (Some meant) is held = absurd cc
+
+pub still_rests : (level : LevelId) (now : State) (w : World) → HoldsFor level now w → w.job ≡ None → rests level now
+still_rests level now w held none = rests_by (level_of level now).deck (level_of level now).job w w.job none held.world.parts.job
+
+pub idle_left : (first middle last : State) (entries : List Entry) (level : LevelId) (w : World) → IsAfter first entries middle
+    → ((level : LevelId) → rests level middle → KeepsInStep (IsOwn level (header_of middle)) middle.beside.state last.beside.state)
+    → own level entries ≡ [] → HoldsFor level first w → w.job ≡ None → KeepsInStep (IsOwn level (header_of first)) first.beside.state last.beside.state
+idle_left first middle last entries level w after closed none held rest =
+    step_trans (IsOwn level (header_of first)) first.beside.state middle.beside.state last.beside.state (after.idle level none)
+    (subst (λ (h : Header). KeepsInStep (IsOwn level h) middle.beside.state last.beside.state) after.header
+    (closed level (still_rests level middle w (subst (λ actions. HoldsFor level middle (solo w actions)) none (after.performs level w held)) rest)))
+
+pub common_left : (first middle last : State) → KeepsCommon first middle → KeepsInStep (IsCommon (header_of middle)) middle.beside.state last.beside.state → KeepsInStep (IsCommon (header_of first)) first.beside.state last.beside.state
+common_left first middle last kept closed =
+    step_trans (IsCommon (header_of first)) first.beside.state middle.beside.state last.beside.state kept.common
+    (subst (λ (h : Header). KeepsInStep (IsCommon h) middle.beside.state last.beside.state) kept.header closed)
+
+-- ---- both levels from their start
+pub starts_held : (level : LevelId) (bureau : State) (contents : List (List ℕ)) (deck1 deck2 : List ℕ) (cards1 cards2 : List (List ℕ)) (refusal1 refusal2 : Option (ℕ × ℕ))
+    → ReadsDeck deck1 cards1 refusal1 → ReadsDeck deck2 cards2 refusal2
+    → HoldsFor One bureau (at_start One (header_of bureau) contents cards1) → HoldsFor Two bureau (at_start Two (header_of bureau) contents cards2)
+    → HoldsFor level bureau (starts_in (header_of bureau) contents deck1 deck2 level)
+starts_held One bureau contents deck1 deck2 cards1 cards2 refusal1 refusal2 reads1 reads2 one two = subst (λ cards. HoldsFor One bureau (at_start One (header_of bureau) contents cards)) reads1.read one
+starts_held Two bureau contents deck1 deck2 cards1 cards2 refusal1 refusal2 reads1 reads2 one two = subst (λ cards. HoldsFor Two bureau (at_start Two (header_of bureau) contents cards)) reads2.read two
+
+same_header : (one two : Header) (mount : Result Header MountFault) → mount ≡ Ok one → mount ≡ Ok two → one ≡ two
+same_header one two mount first second = cc
+
+abbrev pub HoldsStarts : State → Header → (contents : List (List ℕ)) → (deck1 deck2 : List ℕ) → Type 0
+HoldsStarts bureau header contents deck1 deck2 = (level : LevelId) → HoldsFor level bureau (starts_in header contents deck1 deck2 level)
+
+pub starts_of : (bureau : State) (header : Header) (contents : List (List ℕ)) (deck1 deck2 : List ℕ) → mounted contents ≡ Ok (header_of bureau) → mounted contents ≡ Ok header
+    → HoldsStarts bureau (header_of bureau) contents deck1 deck2 → HoldsStarts bureau header contents deck1 deck2
+starts_of bureau header contents deck1 deck2 mount is held = subst (λ (h : Header). HoldsStarts bureau h contents deck1 deck2) (same_header (header_of bureau) header (mounted contents) mount is) held
+
+waited_in : (starts : LevelId → World) (entries : List Entry) (bureau : State) → ((level : LevelId) → HoldsFor level bureau (starts level)) → (level : LevelId) (halt : ShownHalt)
+    → Waited (λ (b : State) (level : LevelId) (w : World). HoldsFor level b w) [] entries bureau level halt → WaitedIn starts entries level halt
+waited_in starts entries bureau held level halt waited = record {
+  front = waited.front;
+  behind = waited.behind;
+  whole = waited.whole;
+  unanswered = waited.unanswered;
+  waits = waited.waits bureau (λ level w is. is) (starts level) (held level);
+}
+
+has_waited_in : (starts : LevelId → World) (entries : List Entry) (bureau : State) → ((level : LevelId) → HoldsFor level bureau (starts level)) → (event : Event)
+    → HasWaited (λ (b : State) (level : LevelId) (w : World). HoldsFor level b w) [] entries bureau event → HasWaitedIn starts entries event
+has_waited_in starts entries bureau held (Followed level) waited = tt
+has_waited_in starts entries bureau held (Shown level halt) waited = waited_in starts entries bureau held level halt waited
+has_waited_in starts entries bureau held (Asked level halt reply) waited = waited_in starts entries bureau held level halt waited
+
+all_waited_in : (starts : LevelId → World) (entries : List Entry) (bureau : State) → ((level : LevelId) → HoldsFor level bureau (starts level)) → (events : List Event)
+    → Each (HasWaited (λ (b : State) (level : LevelId) (w : World). HoldsFor level b w) [] entries bureau) events → Each (HasWaitedIn starts entries) events
+all_waited_in starts entries bureau held [] each = tt
+all_waited_in starts entries bureau held (event ∷ events) each = (has_waited_in starts entries bureau held event each.0, all_waited_in starts entries bureau held events each.1)
+
+pub answered_in : {O : Type 0} (meets : O → Event → O → Type 0) (starts : LevelId → World) (entries : List Entry) (bureau : State) (from to : O) → ((level : LevelId) → HoldsFor level bureau (starts level))
+    → Asks (λ (b : State) (level : LevelId) (w : World). HoldsFor level b w) meets [] entries bureau from to → IsAnswered meets starts entries from to
+answered_in meets starts entries bureau from to held asks = record {
+  events = asks.events;
+  met = asks.met;
+  waited = all_waited_in starts entries bureau held asks.events asks.waited;
+  given = subst (λ (es : List Entry). AreAmong (replies_in es) (answers_in asks.events)) (sym asks.whole) asks.given;
+}
+
+starts_rest : (level : LevelId) (header : Header) (contents : List (List ℕ)) (deck1 deck2 : List ℕ) → (starts_in header contents deck1 deck2 level).job ≡ None
+starts_rest One header contents deck1 deck2 = refl
+starts_rest Two header contents deck1 deck2 = refl
+
+pub sectors_of_day : (first last : State) (entries : List Entry) (header : Header) (contents : List (List ℕ)) (deck1 deck2 : List ℕ) → HoldsStarts first header contents deck1 deck2
+    → KeepsInStep (IsCommon (header_of first)) first.beside.state last.beside.state
+    → ((level : LevelId) (w : World) → own level entries ≡ [] → HoldsFor level first w → w.job ≡ None → KeepsInStep (IsOwn level (header_of first)) first.beside.state last.beside.state)
+    → LeavesSectors entries first last
+sectors_of_day first last entries header contents deck1 deck2 held common idle = record {
+  common = common;
+  idle = λ level none rests. idle level (starts_in header contents deck1 deck2 level) none (held level) (starts_rest level header contents deck1 deck2);
+}
+
+pub ends_of_day : (first : State) (entries : List Entry) (ends : Ends) (starts : LevelId → World) → ((level : LevelId) → HoldsFor level first (starts level))
+    → ((w : World) → HoldsFor One first w → EndsAs ends.one (solo w (own One entries))) → ((w : World) → HoldsFor Two first w → EndsAs ends.two (solo w (own Two entries))) → EndSo starts entries ends
+ends_of_day first entries ends starts held one two = record { one = one (starts One) (held One); two = two (starts Two) (held Two) }

@@ -1,0 +1,20 @@
+use Rattle.std.proofs.Common.{ℕ, List, IfOk, Ok, OnOk, ◌≡◌, subst}
+use Rattle.s3_slots.specs.Header.{mounted}
+use Rattle.s3_slots.specs.declared.header.Header.{Header}
+use Rattle.s3_bureau.proofs.Running.{runs_by}
+use Rattle.s3_desk.specs.Inner.Days.{EndSo, IsAnswered, outcome_of, starts_in}
+use Rattle.s3_desk.proofs.day.operate_day.Goals as goal
+
+pub returns-clause-runs : goal.returns-clause-runs
+returns-clause-runs g c =
+    λ script reads. runs_by c.args.pack.items c.args.deck1.now c.args.deck2.now script c.day_over.new.performed c.from_bytes-store.result (outcome_of c.day_over.result) c.from_bytes-store.ensures reads c.day_over.ensures.runs
+
+pub returns-clause-ends : goal.returns-clause-ends
+returns-clause-ends g c =
+    subst (λ (contents : List (List ℕ)). IfOk c.day_over.result (λ day. (header : Header) → mounted contents ≡ Ok header → EndSo (starts_in header contents c.args.deck1.now c.args.deck2.now) c.day_over.new.performed day.ends))
+    c.from_bytes-store.ensures c.day_over.ensures.ends
+
+pub returns-clause-answered : goal.returns-clause-answered
+returns-clause-answered g c =
+    subst (λ (contents : List (List ℕ)). OnOk c.day_over.result ((header : Header) → mounted contents ≡ Ok header → IsAnswered g.O.Operator.meets (starts_in header contents c.args.deck1.now c.args.deck2.now) c.day_over.new.performed c.args.operator.now c.day_over.new.operator))
+    c.from_bytes-store.ensures c.day_over.ensures.answered

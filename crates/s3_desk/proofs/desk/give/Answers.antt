@@ -1,0 +1,42 @@
+use Rattle.std.proofs.Common.{ℕ, refl, arith}
+use Rattle.s3_cards.specs.declared.levels.LevelId.{LevelId}
+use Rattle.s3_solo.specs.declared.action.Action.TheVariants.{Reply}
+use Rattle.s3_bureau.specs.declared.entry.Entry.{Entry}
+use Rattle.s3_desk.proofs.Sittings.{acts, after_acts, does_nothing, idle_not, once, refused_not, reply_taken}
+use Rattle.s3_desk.proofs.desk.give.Goals as goal
+
+abbrev reply : LevelId → ℕ → Entry
+reply level digit = record { level = level; action = Reply digit }
+
+pub returns-in_ok-note-in-Acted-clause-goes : goal.returns-in_ok-note-in-Acted-clause-goes
+returns-in_ok-note-in-Acted-clause-goes g c =
+    acts g.M.Machine.holds (reply c.args.level c.args.digit) 1 1 c.in_ok-step.field-0 c.args.performed.now c.note.new.self c.args.bureau.now c.step.new.self
+    (once (Reply c.args.digit) c.in_ok-step.field-0 (g.M.Machine.holds c.args.bureau.now c.args.level) (g.M.Machine.holds c.step.new.self c.args.level) c.in_ok-step.ensures.own)
+    c.in_ok-step.ensures.other refl c.in_ok-note-in-Acted.ensures.noted
+
+pub returns-in-Idle-clause-goes : goal.returns-in-Idle-clause-goes
+returns-in-Idle-clause-goes g c =
+    (does_nothing g.M.Machine.holds (reply c.args.level c.args.digit) 1 c.in_ok-step.field-0 c.args.performed.now c.args.bureau.now c.step.new.self (omega arith)
+    (idle_not c.in_ok-step.field-0 c.in-Idle.is)
+    (once (Reply c.args.digit) c.in_ok-step.field-0 (g.M.Machine.holds c.args.bureau.now c.args.level) (g.M.Machine.holds c.step.new.self c.args.level) c.in_ok-step.ensures.own)
+    c.in_ok-step.ensures.other).quiet
+
+pub returns-in-Refused-clause-goes : goal.returns-in-Refused-clause-goes
+returns-in-Refused-clause-goes g c =
+    (does_nothing g.M.Machine.holds (reply c.args.level c.args.digit) 1 c.in_ok-step.field-0 c.args.performed.now c.args.bureau.now c.step.new.self (omega arith)
+    (refused_not c.in_ok-step.field-0 _ c.in-Refused.is)
+    (once (Reply c.args.digit) c.in_ok-step.field-0 (g.M.Machine.holds c.args.bureau.now c.args.level) (g.M.Machine.holds c.step.new.self c.args.level) c.in_ok-step.ensures.own)
+    c.in_ok-step.ensures.other).quiet
+
+pub returns-in_ok-note-in-Acted-clause-spends : goal.returns-in_ok-note-in-Acted-clause-spends
+returns-in_ok-note-in-Acted-clause-spends g c = λ left. reply_taken c.args.level c.args.digit c.args.performed.now c.note.new.self left c.in_ok-note-in-Acted.ensures.noted
+
+pub returns-in_ok-note-in-Acted-clause-after : goal.returns-in_ok-note-in-Acted-clause-after
+returns-in_ok-note-in-Acted-clause-after g c =
+    after_acts g.M.Machine.after (reply c.args.level c.args.digit) 1 1 c.args.performed.now c.note.new.self c.args.bureau.now c.step.new.self (c.in_ok-step.ensures.acted c.in-Acted.is) refl c.in_ok-note-in-Acted.ensures.noted
+
+pub returns-in-Idle-clause-after : goal.returns-in-Idle-clause-after
+returns-in-Idle-clause-after g c = c.in_ok-step.ensures.quiet (idle_not c.in_ok-step.field-0 c.in-Idle.is) c.args.performed.now
+
+pub returns-in-Refused-clause-after : goal.returns-in-Refused-clause-after
+returns-in-Refused-clause-after g c = c.in_ok-step.ensures.quiet (refused_not c.in_ok-step.field-0 _ c.in-Refused.is) c.args.performed.now

@@ -1,0 +1,80 @@
+use Rattle.std.proofs.Common.{IfSome, Ok, Option, refl, sym, subst, arith, ◌≡◌}
+use Rattle.s3_cards.specs.declared.levels.LevelId.TheVariants.{One, Two}
+use Rattle.s3_desk.specs.declared.ends.End.TheVariants.{Cut as CutOff}
+use Rattle.s3_desk.specs.declared.ends.Ends.{Ends}
+use Rattle.s3_desk.specs.Inner.Desk.{GoesOn, IsSpent, RoundEnds, Spends}
+use Rattle.s3_desk.proofs.Sittings.{asks_nothing, asks_then, both_then, has_reached, none_taken, spends_then}
+use Rattle.s3_desk.proofs.desk.operate.Goals as goal
+
+pub loop-ends-init : goal.loop-ends-init
+loop-ends-init g c = (
+  λ first before. before,
+  (
+    asks_nothing g.M.Machine.holds g.O.Operator.meets c.args.performed.now c.args.bureau.now c.args.operator.now,
+    (
+      subst (Spends One c.args.performed.now c.args.performed.now c.args.bounds) (sym c.new-seat_one.ensures) (none_taken One c.args.performed.now c.args.performed.now c.args.bounds refl),
+      (
+        subst (Spends Two c.args.performed.now c.args.performed.now c.args.bounds) (sym c.new-seat_two.ensures) (none_taken Two c.args.performed.now c.args.performed.now c.args.bounds refl),
+        (λ first before. before, (λ first kept. kept, refl)),
+      ),
+    ),
+  ),
+)
+
+pub returns-in_err-ends-clause-kept : goal.returns-in_err-ends-clause-kept
+returns-in_err-ends-clause-kept g c = λ first kept. c.in_err-ends.ensures.kept first (c.loop-ends.invariant.1.1.1.1.1.0 first kept)
+
+pub returns-in-Some-clause-ends : goal.returns-in-Some-clause-ends
+returns-in-Some-clause-ends g c =
+    both_then g.M.Machine.holds c.args.performed.now c.loop-ends.performed c.round.new.performed c.args.bureau.now c.loop-ends.bureau c.round.new.bureau c.in-Some.ends c.loop-ends.invariant.0
+    (subst (λ (o : Option Ends). RoundEnds g.M.Machine.holds c.loop-ends.performed c.round.new.performed c.loop-ends.bureau c.round.new.bureau (Ok o)) c.in-Some.is c.in_ok-ends.ensures.ends)
+
+pub returns-in-Some-clause-asks : goal.returns-in-Some-clause-asks
+returns-in-Some-clause-asks g c =
+    asks_then g.M.Machine.holds g.O.Operator.meets c.args.performed.now c.loop-ends.performed c.round.new.performed c.args.bureau.now c.loop-ends.bureau c.args.operator.now c.loop-ends.operator
+    c.round.new.operator c.loop-ends.invariant.0 c.loop-ends.invariant.1.0 c.in_ok-ends.ensures.asks
+
+pub returns-in-Some-clause-one_cut : goal.returns-in-Some-clause-one_cut
+returns-in-Some-clause-one_cut g c = λ cut.
+    has_reached One c.args.performed.now c.round.new.performed c.args.bounds c.round.new.seat_one.left
+    (spends_then One c.args.performed.now c.loop-ends.performed c.round.new.performed c.args.bounds c.loop-ends.seat_one.left c.round.new.seat_one.left c.loop-ends.invariant.1.1.0 c.in_ok-ends.ensures.one_spends)
+    (subst (λ (o : Option Ends). IfSome o (λ ends. ends.one ≡ CutOff → IsSpent c.round.new.seat_one.left)) c.in-Some.is c.in_ok-ends.ensures.one_cut cut)
+
+pub returns-in-Some-clause-two_cut : goal.returns-in-Some-clause-two_cut
+returns-in-Some-clause-two_cut g c = λ cut.
+    has_reached Two c.args.performed.now c.round.new.performed c.args.bounds c.round.new.seat_two.left
+    (spends_then Two c.args.performed.now c.loop-ends.performed c.round.new.performed c.args.bounds c.loop-ends.seat_two.left c.round.new.seat_two.left c.loop-ends.invariant.1.1.1.0 c.in_ok-ends.ensures.two_spends)
+    (subst (λ (o : Option Ends). IfSome o (λ ends. ends.two ≡ CutOff → IsSpent c.round.new.seat_two.left)) c.in-Some.is c.in_ok-ends.ensures.two_cut cut)
+
+pub returns-in-Some-clause-after : goal.returns-in-Some-clause-after
+returns-in-Some-clause-after g c = λ first before. c.in_ok-ends.ensures.after first (c.loop-ends.invariant.1.1.1.1.0 first before)
+
+pub returns-in-Some-clause-kept : goal.returns-in-Some-clause-kept
+returns-in-Some-clause-kept g c = λ first kept. c.in_ok-ends.ensures.kept first (c.loop-ends.invariant.1.1.1.1.1.0 first kept)
+
+pub returns-in-Some-clause-failed : goal.returns-in-Some-clause-failed
+returns-in-Some-clause-failed g c = omega (arith, c.in_ok-ends.ensures.failed, c.loop-ends.invariant.1.1.1.1.1.1)
+
+pub loop-ends-smaller : goal.loop-ends-smaller
+loop-ends-smaller g c = c.in_ok-ends.ensures.less_work c.in_default.is
+
+pub loop-ends-preserved : goal.loop-ends-preserved
+loop-ends-preserved g c =
+    let goes : GoesOn g.M.Machine.holds c.loop-ends.performed c.round.new.performed c.loop-ends.bureau c.round.new.bureau =
+    subst (λ (o : Option Ends). RoundEnds g.M.Machine.holds c.loop-ends.performed c.round.new.performed c.loop-ends.bureau c.round.new.bureau (Ok o)) c.in_default.is c.in_ok-ends.ensures.ends in (
+      λ first before. goes first (c.loop-ends.invariant.0 first before),
+      (
+        asks_then g.M.Machine.holds g.O.Operator.meets c.args.performed.now c.loop-ends.performed c.round.new.performed c.args.bureau.now c.loop-ends.bureau c.args.operator.now c.loop-ends.operator
+            c.round.new.operator c.loop-ends.invariant.0 c.loop-ends.invariant.1.0 c.in_ok-ends.ensures.asks,
+        (
+          spends_then One c.args.performed.now c.loop-ends.performed c.round.new.performed c.args.bounds c.loop-ends.seat_one.left c.round.new.seat_one.left c.loop-ends.invariant.1.1.0 c.in_ok-ends.ensures.one_spends,
+          (
+            spends_then Two c.args.performed.now c.loop-ends.performed c.round.new.performed c.args.bounds c.loop-ends.seat_two.left c.round.new.seat_two.left c.loop-ends.invariant.1.1.1.0 c.in_ok-ends.ensures.two_spends,
+            (
+              λ first before. c.in_ok-ends.ensures.after first (c.loop-ends.invariant.1.1.1.1.0 first before),
+              (λ first kept. c.in_ok-ends.ensures.kept first (c.loop-ends.invariant.1.1.1.1.1.0 first kept), omega (arith, c.in_ok-ends.ensures.failed, c.loop-ends.invariant.1.1.1.1.1.1)),
+            ),
+          ),
+        ),
+      ),
+    )

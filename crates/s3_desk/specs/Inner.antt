@@ -1,0 +1,6 @@
+-- What the contracts of a run and of a session don't reach: words of inner functions, of proofs and of other calls.
+pub mod Calls
+pub mod Days
+pub mod Desk
+pub mod Events
+pub mod Operated

@@ -1,0 +1,242 @@
+-- What is done at a desk.
+use Rattle.std.specs.Prelude.{◌≡◌, ◌≢◌, ◌⊎◌, ◌+◌, ◌*◌, ◌≤◌, ◌<◌, ℕ, Bool, true, false, List, [], ◌∷◌, ◌++◌, length, filter, filter_map, Option, Some, None, option_map, Result, Ok, Err, if◌then◌else◌}
+use Rattle.std.specs.List.{AllByRecursion}
+use Rattle.s3_cards.specs.Inner.Levels.{other}
+use Rattle.s3_cards.specs.declared.levels.LevelId.{LevelId}
+use Rattle.s3_cards.specs.declared.levels.LevelId.TheVariants.{One, Two}
+use Rattle.s3_operator.specs.Halts.{ShownHalt, is_waiting, last_halt}
+use Rattle.s3_solo.specs.declared.action.Action.{Action}
+use Rattle.s3_solo.specs.declared.action.Action.TheVariants.{Turn, Reply, Drain}
+use Rattle.s3_solo.specs.declared.action.Did.TheVariants.{Acted}
+use Rattle.s3_solo.specs.Lines.{is_queued}
+use Rattle.s3_solo.specs.Solo.{solo, step_of}
+use Rattle.s3_solo.specs.World.{World}
+use Rattle.s3_time.specs.Inner.Moves.{IsAtRest}
+use Rattle.s3_bureau.specs.declared.entry.Entry.{Entry}
+use Rattle.s3_bureau.specs.declared.stop.Stop.{Stop}
+use Rattle.s3_bureau.specs.Entries.{own}
+use Rattle.s3_bureau.specs.Inner.Underway.{Performs}
+use Rattle.s3_desk.specs.declared.ends.Bounds.{Bounds}
+use Rattle.s3_desk.specs.declared.ends.End.{End}
+use Rattle.s3_desk.specs.declared.ends.End.TheVariants.{Done, Halted, Cut as CutOff}
+use Rattle.s3_desk.specs.declared.ends.Ends.{Ends}
+use Rattle.s3_desk.specs.declared.desk.Seat.{Seat}
+use Rattle.s3_desk.specs.declared.desk.Went.{Went}
+use Rattle.s3_desk.specs.declared.desk.Went.TheVariants.{On, Rests, Cut}
+use Rattle.s3_desk.specs.Inner.Events.{Asked, Event, Followed, Shown}
+
+-- ---- replies
+abbrev pub is_reply : Action → Bool
+is_reply (Reply digit) = true
+is_reply _ = false
+
+-- the replies among entries
+abbrev pub replies_in : List Entry → List Entry
+replies_in entries = filter (λ entry. is_reply entry.action) entries
+
+-- the reply that an operator gave, if one was
+abbrev pub answer_in : Event → Option Entry
+answer_in (Followed level) = None
+answer_in (Shown level halt) = None
+answer_in (Asked level halt reply) = option_map (λ digit. record { level = level; action = Reply digit }) reply
+
+-- the replies that an operator gave
+abbrev pub answers_in : List Event → List Entry
+answers_in events = filter_map answer_in events
+
+-- these entries stand among others, in the same order
+abbrev pub AreAmong : List Entry → List Entry → Type 0
+AreAmong [] others = Unit {0}
+AreAmong (entry ∷ entries) [] = ⊥
+AreAmong (entry ∷ entries) (other ∷ others) = ((entry ≡ other) × AreAmong entries others) ⊎ AreAmong (entry ∷ entries) others
+
+-- these events were met, one after the other, by which an operator came from one state to another
+abbrev pub AreMet : {O : Type 0} → (O → Event → O → Type 0) → O → List Event → O → Type 0
+AreMet meets old [] new = new ≡ old
+AreMet {O} meets old (event ∷ events) new = (middle : O) × (meets old event middle × AreMet meets middle events new)
+
+-- it may have followed a level that has gone on
+abbrev pub MayFollow : {O : Type 0} → (O → Event → O → Type 0) → LevelId → O → O → Type 0
+MayFollow meets level old new = (new ≡ old) ⊎ meets old (Followed level) new
+
+-- ---- what a level takes of what is left to it
+abbrev pub is_turn : Action → Bool
+is_turn Turn = true
+is_turn _ = false
+
+abbrev pub is_drain : Action → Bool
+is_drain Drain = true
+is_drain _ = false
+
+-- how many turns a level takes by entries
+abbrev pub turns_in : LevelId → List Entry → ℕ
+turns_in level entries = length (filter is_turn (own level entries))
+
+-- how many lines are drained in a level by entries
+abbrev pub lines_in : LevelId → List Entry → ℕ
+lines_in level entries = length (filter is_drain (own level entries))
+
+-- a level has no turn left, or no line
+abbrev pub IsSpent : Bounds → Type 0
+IsSpent left = (left.turns ≡ 0) ⊎ (left.lines ≡ 0)
+
+-- how many turns and lines are left
+abbrev pub room : Bounds → ℕ
+room left = left.turns + left.lines
+
+-- what was taken of a level's turns and lines is no more left to it
+pub record Spends (level : LevelId) (was is : List Entry) (old new : Bounds) : Type 0 where
+  pub turns : turns_in level is + new.turns ≡ turns_in level was + old.turns
+  pub lines : lines_in level is + new.lines ≡ lines_in level was + old.lines
+  pub less : room new ≤ room old
+
+-- and something was where it has gone on; nothing more is left where it is cut
+pub record Uses (level : LevelId) (was is : List Entry) (old new : Bounds) (went : Went) : Type 0 where
+  pub spends : Spends level was is old new
+  pub some : went ≡ On → room new < room old
+  pub all : went ≡ Cut → IsSpent new
+
+-- a level has taken as many turns as it may, or as many lines were drained
+abbrev pub HasReached : LevelId → (was is : List Entry) → Bounds → Type 0
+HasReached level was is bounds = (turns_in level is ≡ turns_in level was + bounds.turns) ⊎ (lines_in level is ≡ lines_in level was + bounds.lines)
+
+-- a reply may still be taken before the level goes on
+abbrev pub replies_left : Seat → ℕ
+replies_left seat = if seat.is_answered then 0 else 1
+
+-- what is left to do at a desk grows less by each round
+abbrev pub work_left : Seat → Seat → ℕ
+work_left one two = 3 * (room one.left + room two.left) + (replies_left one + replies_left two)
+
+-- ---- where a level is left
+-- a world at rest, with no line queued
+pub record IsLeft (w : World) : Type 0 where
+  pub rests : IsAtRest w
+  pub empty : is_queued w.lines ≡ false
+
+-- where a level was left: at rest, where no halt waits, or one does
+abbrev pub EndsAs : End → World → Type 0
+EndsAs Done w = IsLeft w × (is_waiting w.halts ≡ false)
+EndsAs Halted w = IsLeft w × (is_waiting w.halts ≡ true)
+EndsAs CutOff w = Unit {0}
+
+-- ---- a level that goes on, over what holds worlds
+module _ {M : Type 0} (holds : M → LevelId → World → Type 0) where
+  -- whatever was performed before, these entries have been performed now
+  abbrev pub GoesOn : (was is : List Entry) → (old new : M) → Type 0
+  GoesOn was is old new = (first : M) → Performs was (holds first) (holds old) → Performs is (holds first) (holds new)
+
+  -- a level has gone on, with these replies, and the other level has no entry more
+  pub record LevelGoes (level : LevelId) (replies was is : List Entry) (old new : M) : Type 0 where
+    pub goes : GoesOn was is old new
+    pub alone : own (other level) is ≡ own (other level) was
+    pub more : List Entry
+    pub whole : is ≡ was ++ more
+    pub are : replies_in more ≡ replies
+
+  -- what was held still is
+  abbrev pub Keeps : (old new : M) → Type 0
+  Keeps old new = (level : LevelId) (w : World) → holds old level w → holds new level w
+
+  -- nothing was performed, and what was held still is
+  pub record IsQuiet (was is : List Entry) (old new : M) : Type 0 where
+    pub same : is ≡ was
+    pub keeps : Keeps old new
+
+  -- an entry did nothing in the worlds that were held
+  pub record DidNothing (level : LevelId) (action : Action) (was is : List Entry) (old new : M) : Type 0 where
+    pub quiet : IsQuiet was is old new
+    pub nothing : (w : World) → holds old level w → (step_of w action).did ≢ Acted
+
+  -- turns were taken; or the first of them did nothing; or no more may be
+  abbrev pub TakesTurns : LevelId → (was is : List Entry) → (old new : M) → Result Went Stop → Type 0
+  TakesTurns level was is old new (Ok On) = LevelGoes level [] was is old new
+  TakesTurns level was is old new (Ok Rests) = DidNothing level Turn was is old new
+  TakesTurns level was is old new (Ok Cut) = IsQuiet was is old new
+  TakesTurns level was is old new (Err stop) = Unit {0}
+
+  -- lines were drained so far, or none was
+  abbrev pub DrainsSoFar : LevelId → (was is : List Entry) → (old new : M) → Went → Type 0
+  DrainsSoFar level was is old new On = LevelGoes level [] was is old new
+  DrainsSoFar level was is old new Rests = IsQuiet was is old new
+  DrainsSoFar level was is old new Cut = LevelGoes level [] was is old new
+
+  -- all queued lines were drained; or none was queued; or no more may be
+  abbrev pub DrainsQueue : LevelId → (was is : List Entry) → (old new : M) → Result Went Stop → Type 0
+  DrainsQueue level was is old new (Ok On) = LevelGoes level [] was is old new
+  DrainsQueue level was is old new (Ok Rests) = DidNothing level Drain was is old new
+  DrainsQueue level was is old new (Ok Cut) = LevelGoes level [] was is old new
+  DrainsQueue level was is old new (Err stop) = Unit {0}
+
+  -- the level was left at rest, with no line queued
+  pub record IsLeftAt (level : LevelId) (was is : List Entry) (old new : M) : Type 0 where
+    pub quiet : IsQuiet was is old new
+    pub left : (w : World) → holds old level w → IsLeft w
+
+  -- a level has gone on; or it is left at rest; or no more turns or lines may be
+  abbrev pub LevelGoesOn : LevelId → (was is : List Entry) → (old new : M) → Result Went Stop → Type 0
+  LevelGoesOn level was is old new (Ok On) = LevelGoes level [] was is old new
+  LevelGoesOn level was is old new (Ok Rests) = IsLeftAt level was is old new
+  LevelGoesOn level was is old new (Ok Cut) = LevelGoes level [] was is old new
+  LevelGoesOn level was is old new (Err stop) = Unit {0}
+
+  -- a reply was taken; or none was
+  abbrev pub AsksLevel : LevelId → (was is : List Entry) → (old new : M) → Result Bool Stop → Type 0
+  AsksLevel level was is old new (Ok true) = (replies : List Entry) × LevelGoes level replies was is old new
+  AsksLevel level was is old new (Ok false) = IsQuiet was is old new
+  AsksLevel level was is old new (Err stop) = Unit {0}
+
+  -- a reply was given, and taken or not
+  abbrev pub GivesReply : LevelId → (digit : ℕ) → (was is : List Entry) → (old new : M) → Result Bool Stop → Type 0
+  GivesReply level digit was is old new (Ok true) = LevelGoes level (record { level = level; action = Reply digit } ∷ []) was is old new
+  GivesReply level digit was is old new (Ok false) = IsQuiet was is old new
+  GivesReply level digit was is old new (Err stop) = Unit {0}
+
+  -- ---- what the operator met
+  -- behind the first of these entries the halt waited in each world of the level, without a reply
+  pub record Waited (was is : List Entry) (old : M) (level : LevelId) (halt : ShownHalt) : Type 0 where
+    pub front : List Entry
+    pub behind : List Entry
+    pub whole : is ≡ front ++ behind
+    pub unanswered : halt.reply ≡ None
+    pub waits : (first : M) → Performs was (holds first) (holds old) → (w : World) → holds first level w → last_halt (solo w (own level front)).halts ≡ Some halt
+
+  -- a halt that was shown, or asked, waited
+  abbrev pub HasWaited : (was is : List Entry) → (old : M) → Event → Type 0
+  HasWaited was is old (Followed level) = Unit {0}
+  HasWaited was is old (Shown level halt) = Waited was is old level halt
+  HasWaited was is old (Asked level halt reply) = Waited was is old level halt
+
+  -- The operator was shown and asked for halts that waited, one after the other; and the replies that were performed are among those
+  -- that it gave, in their order.
+  pub record Asks {O : Type 0} (meets : O → Event → O → Type 0) (was is : List Entry) (old : M) (from to : O) : Type 0 where
+    pub events : List Event
+    pub met : AreMet meets from events to
+    pub waited : AllByRecursion (HasWaited was is old) events
+    pub more : List Entry
+    pub whole : is ≡ was ++ more
+    pub given : AreAmong (replies_in more) (answers_in events)
+
+  -- ---- a day
+  -- each world that was held at first has come to its end by the level's own entries
+  abbrev pub EndedAt : End → LevelId → List Entry → M → Type 0
+  EndedAt end level entries first = (w : World) → holds first level w → EndsAs end (solo w (own level entries))
+
+  -- a level is at rest by its own entries
+  abbrev pub RestsAt : LevelId → List Entry → M → Type 0
+  RestsAt level entries first = (w : World) → holds first level w → IsLeft (solo w (own level entries))
+
+  -- both levels have come to their ends
+  pub record BothEnd (was is : List Entry) (old new : M) (ends : Ends) : Type 0 where
+    pub goes : GoesOn was is old new
+    pub one : (first : M) → Performs was (holds first) (holds old) → EndedAt ends.one One is first
+    pub two : (first : M) → Performs was (holds first) (holds old) → EndedAt ends.two Two is first
+
+  abbrev pub RoundEnds : (was is : List Entry) → (old new : M) → Result (Option Ends) Stop → Type 0
+  RoundEnds was is old new (Ok None) = GoesOn was is old new
+  RoundEnds was is old new (Ok (Some ends)) = BothEnd was is old new ends
+  RoundEnds was is old new (Err stop) = Unit {0}
+
+  abbrev pub DayEnds : (was is : List Entry) → (old new : M) → Result Ends Stop → Type 0
+  DayEnds was is old new (Ok ends) = BothEnd was is old new ends
+  DayEnds was is old new (Err stop) = Unit {0}

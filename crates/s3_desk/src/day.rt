@@ -1,0 +1,145 @@
+//! A day, from a pack and two decks to the texts of both levels and the pack.
+ghost use Rattle.std.specs.Prelude.{◌≡◌, ◌≢◌, ◌+◌, ℕ, [], List, true, None, Ok, Err, IfOk, OnOk};
+ghost use Rattle.s3_cards.specs.declared.levels.LevelId.{LevelId};
+ghost use Rattle.s3_store.specs.Inner.State.{KeepsInStep};
+ghost use Rattle.s3_slots.specs.Header.{mounted};
+ghost use Rattle.s3_slots.specs.declared.header.Header.{Header};
+ghost use Rattle.s3_labels.specs.Contents.{contents_of};
+ghost use Rattle.s3_solo.specs.Solo.{solo};
+ghost use Rattle.s3_solo.specs.World.{World};
+ghost use Rattle.s3_bureau.specs.declared.stop.Stop.TheVariants.{Stopped};
+ghost use Rattle.s3_bureau.specs.Entries.{own};
+ghost use Rattle.s3_bureau.specs.Runs.{Runs, texts_in};
+ghost use Rattle.s3_bureau.specs.Script.{entries_of};
+ghost use Rattle.s3_bureau.specs.Sharing.{IsCommon, IsOwn};
+ghost use Rattle.s3_bureau.specs.Inner.Held.{HoldsFor, State, header_of, held_by, is_open};
+ghost use Rattle.s3_bureau.specs.Inner.Stops.{failed_stop};
+ghost use Rattle.s3_bureau.specs.Inner.Underway.{HasTexts, HaveFiles, HaveSlots, RunsOver};
+ghost use Rattle.s3_desk.specs.declared.ends.End.TheVariants.{Cut};
+ghost use Rattle.s3_desk.specs.Inner.Days.{EndSo, IsAnswered, outcome_of, starts_in};
+ghost use Rattle.s3_desk.specs.Inner.Desk.{Asks, EndsAs, HasReached};
+
+use crate::desk::operate;
+use crate::ends::{Bounds, Ends};
+use crate::operator::Operator;
+use s3_bureau::{
+    Bureau, LevelTexts, Outcome, RunFault, Stop, fault_of, fault_of_refusal, finish_texts,
+    read_deck,
+};
+use s3_cards::LevelId;
+use s3_labels::RefusedStore;
+use s3_replay::Performed;
+use s3_store::{MemoryStore, PackStore};
+use std::alloc::Global;
+
+/// What came of a day.
+#[derive(Drop)]
+pub struct Day {
+    /// The texts of both levels, and the pack that they leave.
+    pub outcome: Outcome,
+    /// Where both levels were left.
+    pub ends: Ends,
+}
+
+/// A day at the desk over a pack, each level over its own deck: the run of a script of the entries that were performed. What was
+/// performed before is forgotten.
+///
+/// A pack that isn't mounted is refused. A deck that can't be read counts as empty, and its level's halt text begins with its fault, as
+/// of job 000. Where memory runs out, the pack is lost.
+pub fn operate_day<O: Operator<Bureau<MemoryStore>>>(
+    alloc: Global,
+    pack: Vec<u8>,
+    deck1: &[u8],
+    deck2: &[u8],
+    operator: &mut O,
+    bounds: Bounds,
+    performed: &mut Performed,
+) -> Result<Day, RunFault>
+    // It is the run of each script that asks for what was performed.
+    ensures runs { (script : List ℕ) → entries_of script ≡ Ok performed.new → Runs pack.items deck1.now deck2.now script (outcome_of result) }
+
+    // Each level was left so; one that was cut has taken as many turns as it may, or as many lines were drained.
+    ensures ends { IfOk result (λ day. (header : Header) → mounted (contents_of pack.items) ≡ Ok header → EndSo (starts_in header (contents_of pack.items) deck1.now deck2.now) performed.new day.ends) }
+    ensures one_cut { IfOk result (λ day. day.ends.one ≡ Cut → HasReached LevelId.One [] performed.new bounds) }
+    ensures two_cut { IfOk result (λ day. day.ends.two ≡ Cut → HasReached LevelId.Two [] performed.new bounds) }
+
+    // The operator was shown and asked for halts that waited, and the replies are its own.
+    ensures answered { OnOk result ((header : Header) → mounted (contents_of pack.items) ≡ Ok header → IsAnswered O.meets (starts_in header (contents_of pack.items) deck1.now deck2.now) performed.new operator.old operator.new) }
+{
+    let store = MemoryStore::from_bytes(pack);
+    *performed = Performed::new(alloc);
+    day_over(alloc, store, deck1, deck2, operator, bounds, performed)
+}
+
+/// A day over a store in memory.
+fn day_over<O: Operator<Bureau<MemoryStore>>>(
+    alloc: Global,
+    store: MemoryStore,
+    deck1: &[u8],
+    deck2: &[u8],
+    operator: &mut O,
+    bounds: Bounds,
+    performed: &mut Performed,
+) -> Result<Day, RunFault>
+    requires { performed.old ≡ [] }
+    ensures runs { RunsOver store deck1.now deck2.now performed.new (outcome_of result) }
+    ensures ends { IfOk result (λ day. (header : Header) → mounted store ≡ Ok header → EndSo (starts_in header store deck1.now deck2.now) performed.new day.ends) }
+    ensures one_cut { IfOk result (λ day. day.ends.one ≡ Cut → HasReached LevelId.One [] performed.new bounds) }
+    ensures two_cut { IfOk result (λ day. day.ends.two ≡ Cut → HasReached LevelId.Two [] performed.new bounds) }
+    ensures answered { OnOk result ((header : Header) → mounted store ≡ Ok header → IsAnswered O.meets (starts_in header store deck1.now deck2.now) performed.new operator.old operator.new) }
+{
+    let (cards1, refusal1) = read_deck(alloc, deck1)?;
+    let (cards2, refusal2) = read_deck(alloc, deck2)?;
+    let mut bureau = match Bureau::open(alloc, store, cards1, cards2) {
+        Ok(bureau) => bureau,
+        Err(RefusedStore { store: _, fault }) => return Err(fault_of_refusal(fault)),
+    };
+    let day = operate_to_end(
+        alloc,
+        &mut bureau,
+        operator,
+        bounds,
+        performed,
+        refusal1,
+        refusal2,
+    );
+    let pack = bureau.into_store().into_bytes();
+    match day {
+        Ok((ends, (one, two))) => Ok(Day {
+            outcome: Outcome { one, two, pack },
+            ends,
+        }),
+        Err(stop) => Err(fault_of(stop)),
+    }
+}
+
+/// Where both levels were left, and their texts, where each level's deck was refused or not.
+fn operate_to_end<S: PackStore, O: Operator<Bureau<S>>>(
+    alloc: Global,
+    bureau: &mut Bureau<S>,
+    operator: &mut O,
+    bounds: Bounds,
+    performed: &mut Performed,
+    refusal1: Option<(u16, u8)>,
+    refusal2: Option<(u16, u8)>,
+) -> Result<(Ends, (LevelTexts, LevelTexts)), Stop>
+    requires takes_more { is_open bureau.old ≡ true }
+    requires none { performed.old ≡ [] }
+    ensures texts { IfOk result (λ day. HasTexts refusal1 refusal2 performed.new (held_by bureau.old) (record { one = texts_in day.1.0; two = texts_in day.1.1 })) }
+    ensures files { OnOk result (HaveFiles performed.new (held_by bureau.old) bureau.new.beside.state.contents) }
+    ensures slots { OnOk result (HaveSlots performed.new bureau.old bureau.new.beside.state.contents) }
+    ensures flushed { OnOk result (bureau.new.beside.state.stored ≡ bureau.new.beside.state.contents) }
+    ensures common { KeepsInStep (IsCommon (header_of bureau.old)) bureau.old.beside.state bureau.new.beside.state }
+    ensures idle { OnOk result ((level : LevelId) (w : World) → own level performed.new ≡ [] → HoldsFor level bureau.old w → w.job ≡ None → KeepsInStep (IsOwn level (header_of bureau.old)) bureau.old.beside.state bureau.new.beside.state) }
+    ensures one { IfOk result (λ day. (w : World) → HoldsFor LevelId.One bureau.old w → EndsAs day.0.one (solo w (own LevelId.One performed.new))) }
+    ensures two { IfOk result (λ day. (w : World) → HoldsFor LevelId.Two bureau.old w → EndsAs day.0.two (solo w (own LevelId.Two performed.new))) }
+    ensures one_cut { IfOk result (λ day. day.0.one ≡ Cut → HasReached LevelId.One [] performed.new bounds) }
+    ensures two_cut { IfOk result (λ day. day.0.two ≡ Cut → HasReached LevelId.Two [] performed.new bounds) }
+    ensures asks { OnOk result (Asks (λ (b : State) (level : LevelId) (w : World). HoldsFor level b w) O.meets [] performed.new bureau.old operator.old operator.new) }
+    ensures failures { bureau.new.beside.state.failures ≡ bureau.old.beside.state.failures + failed_stop result }
+    ensures not_stopped { result ≢ Err Stopped }
+{
+    let ends = operate(alloc, bureau, operator, bounds, performed)?;
+    let texts = finish_texts(alloc, bureau, refusal1, refusal2)?;
+    Ok((ends, texts))
+}

@@ -1,0 +1,441 @@
+//! A day at the desk, over two levels that take turns.
+ghost use Rattle.std.specs.Prelude.{◌≡◌, ◌≢◌, ◌⊎◌, ◌+◌, ◌<◌, List, None, Some, Err, true, false, is_some, IfOk, IfSome, OnOk};
+ghost use Rattle.s3_operator.specs.Inner.Halts.{halt_of};
+ghost use Rattle.s3_operator.specs.Halts.{is_waiting, last_halt};
+ghost use Rattle.s3_solo.specs.World.{World};
+ghost use Rattle.s3_bureau.specs.declared.entry.Entry.{Entry};
+ghost use Rattle.s3_bureau.specs.declared.stop.Stop.TheVariants.{Stopped};
+ghost use Rattle.s3_bureau.specs.Inner.Stops.{failed_stop};
+ghost use Rattle.s3_cards.specs.declared.levels.LevelId.{LevelId};
+ghost use Rattle.s3_desk.specs.declared.desk.Went.TheVariants.{On, Rests};
+ghost use Rattle.s3_desk.specs.declared.ends.Bounds.{Bounds};
+ghost use Rattle.s3_desk.specs.declared.ends.End.TheVariants.{Cut as CutOff};
+ghost use Rattle.s3_desk.specs.Inner.Calls.{GoesAfter, KeepsFrom, NeverStopped};
+ghost use Rattle.s3_desk.specs.Inner.Desk.{Asks, AsksLevel, DayEnds, DrainsQueue, EndsAs, GivesReply, HasReached, IsLeft, IsSpent, Keeps, LevelGoesOn, MayFollow, RoundEnds, Spends, TakesTurns, Uses, replies_left, work_left};
+
+use crate::ends::{Bounds, End, Ends};
+use crate::machine::Machine;
+use crate::operator::Operator;
+use s3_bureau::{Action, Did, Entry, Halt, Stop};
+use s3_cards::LevelId;
+use s3_replay::Performed;
+use std::alloc::Global;
+use std::num::NonZeroU16;
+
+/// What came of a level's going on.
+#[derive(Clone, Copy, Debug, PartialEq, Eq)]
+enum Went {
+    /// It has gone on.
+    On,
+    /// It is at rest.
+    Rests,
+    /// It may take no more turns, or print no more lines.
+    Cut,
+}
+
+/// A level at the desk.
+#[derive(Clone, Copy, Debug)]
+struct Seat {
+    /// How far it may still go.
+    left: Bounds,
+    /// The halt that waits was shown.
+    is_shown: bool,
+    /// A reply was taken, and the level hasn't gone on since. So two replies never come one behind the other, whatever the machine
+    /// does, and a day ends.
+    is_answered: bool,
+}
+
+impl Seat {
+    ghost use Rattle.std.specs.Prelude.{◌≡◌};
+
+    /// A level before its first turn.
+    fn new(bounds: Bounds) -> Seat
+        ensures { result.left ≡ bounds }
+    {
+        Seat {
+            left: bounds,
+            is_shown: false,
+            is_answered: false,
+        }
+    }
+}
+
+/// Takes turns, as many as act, up to a stride of them.
+fn take_turns<M: Machine>(
+    bureau: &mut M,
+    level: LevelId,
+    stride: NonZeroU16,
+    left: &mut Bounds,
+    performed: &mut Performed,
+) -> Result<Went, Stop>
+    ensures goes { TakesTurns M.holds level performed.old performed.new bureau.old bureau.new result }
+    ensures uses { IfOk result (λ went. Uses level performed.old performed.new left.old left.new went) }
+    ensures after { OnOk result (GoesAfter M.after performed.old performed.new bureau.old bureau.new) }
+    ensures kept { KeepsFrom M.keeps bureau.old bureau.new }
+    ensures failed { M.failures bureau.new ≡ M.failures bureau.old + failed_stop result }
+    ensures not_stopped { NeverStopped M.after performed.old bureau.old result }
+{
+    let Some(most) = NonZeroU16::new(left.turns.min(u32::from(stride.get())) as u16) else {
+        return Ok(Went::Cut);
+    };
+    let entry = Entry {
+        level,
+        action: Action::Turn,
+    };
+    let taken = bureau.repeat(entry, most)?;
+    match taken.did {
+        Did::Acted => {
+            let times = u32::from(taken.times);
+            performed.note(entry, times)?;
+            left.turns -= times;
+            Ok(Went::On)
+        }
+        Did::Idle => Ok(Went::Rests),
+        Did::Refused(_number) => Ok(Went::Rests),
+    }
+}
+
+/// Drains the queue of a level to its end.
+fn drain_queue<M: Machine>(
+    bureau: &mut M,
+    level: LevelId,
+    left: &mut Bounds,
+    performed: &mut Performed,
+) -> Result<Went, Stop>
+    ensures goes { DrainsQueue M.holds level performed.old performed.new bureau.old bureau.new result }
+    ensures uses { IfOk result (λ went. Uses level performed.old performed.new left.old left.new went) }
+    ensures after { OnOk result (GoesAfter M.after performed.old performed.new bureau.old bureau.new) }
+    ensures kept { KeepsFrom M.keeps bureau.old bureau.new }
+    ensures failed { M.failures bureau.new ≡ M.failures bureau.old + failed_stop result }
+    ensures not_stopped { NeverStopped M.after performed.old bureau.old result }
+{
+    let entry = Entry {
+        level,
+        action: Action::Drain,
+    };
+    let mut went = Went::Rests;
+    while left.lines > 0 {
+        match bureau.step(entry)? {
+            Did::Acted => {
+                performed.note(entry, 1)?;
+                left.lines -= 1;
+                went = Went::On;
+            }
+            Did::Idle => return Ok(went),
+            Did::Refused(_number) => return Ok(went),
+        }
+    }
+    Ok(Went::Cut)
+}
+
+/// A level goes on by turns; where none acts, its queue is drained.
+fn go_on<M: Machine>(
+    bureau: &mut M,
+    level: LevelId,
+    stride: NonZeroU16,
+    left: &mut Bounds,
+    performed: &mut Performed,
+) -> Result<Went, Stop>
+    ensures goes { LevelGoesOn M.holds level performed.old performed.new bureau.old bureau.new result }
+    ensures uses { IfOk result (λ went. Uses level performed.old performed.new left.old left.new went) }
+    ensures after { OnOk result (GoesAfter M.after performed.old performed.new bureau.old bureau.new) }
+    ensures kept { KeepsFrom M.keeps bureau.old bureau.new }
+    ensures failed { M.failures bureau.new ≡ M.failures bureau.old + failed_stop result }
+    ensures not_stopped { NeverStopped M.after performed.old bureau.old result }
+{
+    if left.lines == 0 {
+        return Ok(Went::Cut);
+    }
+    match take_turns(bureau, level, stride, left, performed)? {
+        Went::On => Ok(Went::On),
+        Went::Cut => Ok(Went::Cut),
+        Went::Rests => drain_queue(bureau, level, left, performed),
+    }
+}
+
+/// The halt that waits in a level, if one waits.
+fn waiting<M: Machine>(bureau: &M, level: LevelId) -> Option<&Halt>
+    ensures some { (w : World) → M.holds bureau.now level w → is_waiting w.halts ≡ is_some result }
+    ensures unanswered { IfSome result (λ halt. (halt_of halt.now).reply ≡ None) }
+    ensures last { IfSome result (λ halt. (w : World) → M.holds bureau.now level w → last_halt w.halts ≡ Some (halt_of halt.now)) }
+{
+    let halt = bureau.halts(level).last()?;
+    match halt.reply {
+        None => Some(halt),
+        Some(_digit) => None,
+    }
+}
+
+/// Shows the halt that waits in a level, if one waits that wasn't shown.
+fn show<M: Machine, O: Operator<M>>(
+    alloc: Global,
+    bureau: &mut M,
+    level: LevelId,
+    seat: &mut Seat,
+    operator: &mut O,
+) -> Result<(), Stop>
+    ensures held { OnOk result (Keeps M.holds bureau.old bureau.new) }
+    ensures asks { OnOk result ((was : List Entry) → Asks M.holds O.meets was was bureau.old operator.old operator.new) }
+    ensures same_left { seat.new.left ≡ seat.old.left }
+    ensures same_answer { seat.new.is_answered ≡ seat.old.is_answered }
+    ensures after { OnOk result ((was : List Entry) → GoesAfter M.after was was bureau.old bureau.new) }
+    ensures kept { KeepsFrom M.keeps bureau.old bureau.new }
+    ensures failed { M.failures bureau.new ≡ M.failures bureau.old + failed_stop result }
+    ensures not_stopped { (was : List Entry) → NeverStopped M.after was bureau.old result }
+{
+    if seat.is_shown || waiting(bureau, level).is_none() {
+        return Ok(());
+    }
+    let evidence = bureau.look(alloc, level)?;
+    seat.is_shown = true;
+    let Some(halt) = waiting(bureau, level) else {
+        return Ok(());
+    };
+    operator.show(bureau, level, halt, &evidence)?;
+    Ok(())
+}
+
+/// Has the operator follow a level, unless that rests.
+fn follow<M: Machine, O: Operator<M>>(
+    bureau: &M,
+    level: LevelId,
+    went: Went,
+    seat: &mut Seat,
+    operator: &mut O,
+    performed: &Performed,
+) -> Result<(), Stop>
+    ensures met { OnOk result (MayFollow O.meets level operator.old operator.new) }
+    ensures same_left { seat.new.left ≡ seat.old.left }
+    ensures answers { went ≢ On → replies_left seat.new ≡ replies_left seat.old }
+    ensures no_device { failed_stop result ≡ 0 }
+    ensures not_stopped { result ≢ Err Stopped }
+{
+    match went {
+        Went::On => {
+            seat.is_answered = false;
+            operator.follow(bureau, level, performed)?;
+            Ok(())
+        }
+        Went::Cut => {
+            operator.follow(bureau, level, performed)?;
+            Ok(())
+        }
+        Went::Rests => Ok(()),
+    }
+}
+
+/// A level goes on, the operator follows it, and a halt that has come is shown.
+fn serve<M: Machine, O: Operator<M>>(
+    alloc: Global,
+    bureau: &mut M,
+    level: LevelId,
+    seat: &mut Seat,
+    operator: &mut O,
+    performed: &mut Performed,
+) -> Result<Went, Stop>
+    ensures goes { LevelGoesOn M.holds level performed.old performed.new bureau.old bureau.new result }
+    ensures asks { OnOk result (Asks M.holds O.meets performed.old performed.new bureau.old operator.old operator.new) }
+    ensures uses { IfOk result (λ went. Uses level performed.old performed.new seat.old.left seat.new.left went) }
+    ensures answers { IfOk result (λ went. went ≢ On → replies_left seat.new ≡ replies_left seat.old) }
+    ensures after { OnOk result (GoesAfter M.after performed.old performed.new bureau.old bureau.new) }
+    ensures kept { KeepsFrom M.keeps bureau.old bureau.new }
+    ensures failed { M.failures bureau.new ≡ M.failures bureau.old + failed_stop result }
+    ensures not_stopped { NeverStopped M.after performed.old bureau.old result }
+{
+    let stride = operator.stride(bureau, level);
+    let went = go_on(bureau, level, stride, &mut seat.left, performed)?;
+    follow(bureau, level, went, seat, operator, performed)?;
+    show(alloc, bureau, level, seat, operator)?;
+    Ok(went)
+}
+
+/// Gives a reply. One of two digits is one that no halt allows, and no script has. Whether it was taken.
+fn give<M: Machine>(
+    bureau: &mut M,
+    level: LevelId,
+    digit: u8,
+    performed: &mut Performed,
+) -> Result<bool, Stop>
+    ensures goes { GivesReply M.holds level digit performed.old performed.new bureau.old bureau.new result }
+    ensures spends { OnOk result ((left : Bounds) → Spends level performed.old performed.new left left) }
+    ensures after { OnOk result (GoesAfter M.after performed.old performed.new bureau.old bureau.new) }
+    ensures kept { KeepsFrom M.keeps bureau.old bureau.new }
+    ensures failed { M.failures bureau.new ≡ M.failures bureau.old + failed_stop result }
+    ensures not_stopped { NeverStopped M.after performed.old bureau.old result }
+{
+    if digit > 9 {
+        return Ok(false);
+    }
+    let entry = Entry {
+        level,
+        action: Action::Reply(digit),
+    };
+    match bureau.step(entry)? {
+        Did::Acted => {
+            performed.note(entry, 1)?;
+            Ok(true)
+        }
+        Did::Idle => Ok(false),
+        Did::Refused(_number) => Ok(false),
+    }
+}
+
+/// Asks the operator for the reply to a level's halt, if one waits, and gives it. Whether it was taken.
+fn ask<M: Machine, O: Operator<M>>(
+    bureau: &mut M,
+    level: LevelId,
+    operator: &mut O,
+    performed: &mut Performed,
+) -> Result<bool, Stop>
+    ensures goes { AsksLevel M.holds level performed.old performed.new bureau.old bureau.new result }
+    ensures asks { OnOk result (Asks M.holds O.meets performed.old performed.new bureau.old operator.old operator.new) }
+    ensures spends { OnOk result ((left : Bounds) → Spends level performed.old performed.new left left) }
+    ensures after { OnOk result (GoesAfter M.after performed.old performed.new bureau.old bureau.new) }
+    ensures kept { KeepsFrom M.keeps bureau.old bureau.new }
+    ensures failed { M.failures bureau.new ≡ M.failures bureau.old + failed_stop result }
+    ensures not_stopped { NeverStopped M.after performed.old bureau.old result }
+{
+    let Some(halt) = waiting(bureau, level) else {
+        return Ok(false);
+    };
+    let Some(digit) = operator.reply(bureau, level, halt) else {
+        return Ok(false);
+    };
+    give(bureau, level, digit, performed)
+}
+
+/// Asks for a level that is at rest. Whether a reply was taken.
+fn ask_at_rest<M: Machine, O: Operator<M>>(
+    bureau: &mut M,
+    level: LevelId,
+    went: Went,
+    seat: &mut Seat,
+    operator: &mut O,
+    performed: &mut Performed,
+) -> Result<bool, Stop>
+    ensures goes { AsksLevel M.holds level performed.old performed.new bureau.old bureau.new result }
+    ensures asks { OnOk result (Asks M.holds O.meets performed.old performed.new bureau.old operator.old operator.new) }
+    ensures spends { OnOk result (Spends level performed.old performed.new seat.old.left seat.new.left) }
+    ensures same_left { seat.new.left ≡ seat.old.left }
+    ensures taken { IfOk result (λ is_taken. is_taken ≡ true → replies_left seat.new < replies_left seat.old) }
+    ensures not_taken { IfOk result (λ is_taken. is_taken ≡ false → replies_left seat.new ≡ replies_left seat.old) }
+    ensures after { OnOk result (GoesAfter M.after performed.old performed.new bureau.old bureau.new) }
+    ensures kept { KeepsFrom M.keeps bureau.old bureau.new }
+    ensures failed { M.failures bureau.new ≡ M.failures bureau.old + failed_stop result }
+    ensures not_stopped { NeverStopped M.after performed.old bureau.old result }
+{
+    if went != Went::Rests || seat.is_answered {
+        return Ok(false);
+    }
+    let is_taken = ask(bureau, level, operator, performed)?;
+    if !is_taken {
+        return Ok(false);
+    }
+    seat.is_answered = true;
+    seat.is_shown = false;
+    Ok(true)
+}
+
+/// Where a level was left.
+fn end_of<M: Machine>(bureau: &M, level: LevelId, went: Went) -> End
+    ensures ends { (w : World) → M.holds bureau.now level w → (went ≡ Rests → IsLeft w) → EndsAs result w }
+    ensures cut { result ≡ CutOff → went ≢ Rests }
+{
+    match went {
+        Went::On => End::Cut,
+        Went::Cut => End::Cut,
+        Went::Rests => match waiting(bureau, level) {
+            Some(_halt) => End::Halted,
+            None => End::Done,
+        },
+    }
+}
+
+/// Whether one of two levels has gone on.
+fn has_gone_on(one: Went, two: Went) -> bool
+    ensures yes { result ≡ true → (one ≡ On) ⊎ (two ≡ On) }
+    ensures no { result ≡ false → (one ≢ On) × (two ≢ On) }
+{
+    match (one, two) {
+        (Went::On, _) => true,
+        (_, Went::On) => true,
+        _ => false,
+    }
+}
+
+/// Each level goes on; where neither can, the operator is asked. Where both were left, if no reply was taken.
+fn round<M: Machine, O: Operator<M>>(
+    alloc: Global,
+    bureau: &mut M,
+    operator: &mut O,
+    seat_one: &mut Seat,
+    seat_two: &mut Seat,
+    performed: &mut Performed,
+) -> Result<Option<Ends>, Stop>
+    ensures ends { RoundEnds M.holds performed.old performed.new bureau.old bureau.new result }
+    ensures asks { OnOk result (Asks M.holds O.meets performed.old performed.new bureau.old operator.old operator.new) }
+    ensures one_spends { OnOk result (Spends LevelId.One performed.old performed.new seat_one.old.left seat_one.new.left) }
+    ensures two_spends { OnOk result (Spends LevelId.Two performed.old performed.new seat_two.old.left seat_two.new.left) }
+    ensures one_cut { IfOk result (λ ends. IfSome ends (λ ends. ends.one ≡ CutOff → IsSpent seat_one.new.left)) }
+    ensures two_cut { IfOk result (λ ends. IfSome ends (λ ends. ends.two ≡ CutOff → IsSpent seat_two.new.left)) }
+    ensures less_work { IfOk result (λ ends. ends ≡ None → work_left seat_one.new seat_two.new < work_left seat_one.old seat_two.old) }
+    ensures after { OnOk result (GoesAfter M.after performed.old performed.new bureau.old bureau.new) }
+    ensures kept { KeepsFrom M.keeps bureau.old bureau.new }
+    ensures failed { M.failures bureau.new ≡ M.failures bureau.old + failed_stop result }
+    ensures not_stopped { NeverStopped M.after performed.old bureau.old result }
+{
+    let one = serve(alloc, bureau, LevelId::One, seat_one, operator, performed)?;
+    let two = serve(alloc, bureau, LevelId::Two, seat_two, operator, performed)?;
+    if has_gone_on(one, two) {
+        return Ok(None);
+    }
+    let first = ask_at_rest(bureau, LevelId::One, one, seat_one, operator, performed)?;
+    if first {
+        return Ok(None);
+    }
+    let second = ask_at_rest(bureau, LevelId::Two, two, seat_two, operator, performed)?;
+    if second {
+        return Ok(None);
+    }
+    Ok(Some(Ends {
+        one: end_of(bureau, LevelId::One, one),
+        two: end_of(bureau, LevelId::Two, two),
+    }))
+}
+
+/// Both levels go on until neither can; then the operator is asked, and so on, until no reply is taken.
+pub fn operate<M: Machine, O: Operator<M>>(
+    alloc: Global,
+    bureau: &mut M,
+    operator: &mut O,
+    bounds: Bounds,
+    performed: &mut Performed,
+) -> Result<Ends, Stop>
+    // Each world has taken what was performed of its level, and each level was left so.
+    ensures ends { DayEnds M.holds performed.old performed.new bureau.old bureau.new result }
+    // The operator was shown and asked for halts that waited, and the replies are its own.
+    ensures asks { OnOk result (Asks M.holds O.meets performed.old performed.new bureau.old operator.old operator.new) }
+    // One that was cut has taken as many turns as it may, or as many lines were drained.
+    ensures one_cut { IfOk result (λ ends. ends.one ≡ CutOff → HasReached LevelId.One performed.old performed.new bounds) }
+    ensures two_cut { IfOk result (λ ends. ends.two ≡ CutOff → HasReached LevelId.Two performed.old performed.new bounds) }
+    // What the machine's own relations say.
+    ensures after { OnOk result (GoesAfter M.after performed.old performed.new bureau.old bureau.new) }
+    ensures kept { KeepsFrom M.keeps bureau.old bureau.new }
+    ensures failed { M.failures bureau.new ≡ M.failures bureau.old + failed_stop result }
+    ensures not_stopped { NeverStopped M.after performed.old bureau.old result }
+{
+    let mut seat_one = Seat::new(bounds);
+    let mut seat_two = Seat::new(bounds);
+    loop {
+        if let Some(ends) = round(
+            alloc,
+            bureau,
+            operator,
+            &mut seat_one,
+            &mut seat_two,
+            performed,
+        )? {
+            return Ok(ends);
+        }
+    }
+}

@@ -1,0 +1,44 @@
+//! Who sits at the desk.
+ghost use Rattle.s3_operator.specs.Inner.Halts.{halt_of};
+ghost use Rattle.s3_desk.specs.Inner.Events.{Asked, Event, Followed, Shown};
+
+use crate::machine::Machine;
+use s3_bureau::Halt;
+use s3_cards::LevelId;
+use s3_replay::Performed;
+use std::alloc::AllocError;
+use std::num::NonZeroU16;
+
+/// Who sits at the desk. No call changes what is operated.
+pub trait Operator<M: Machine> {
+    /// By this it may come from one state to the other.
+    ghost meets: { Self → Event → Self → Type 0 };
+
+    /// How many turns a level takes at most before the other one has its own, and before it is followed again.
+    fn stride(&self, machine: &M, level: LevelId) -> NonZeroU16;
+
+    /// A level has gone on, by a stride of turns at most or by drained lines: for what is told of the work, and for what is written
+    /// of it as it goes.
+    fn follow(
+        &mut self,
+        machine: &M,
+        level: LevelId,
+        performed: &Performed,
+    ) -> Result<(), AllocError>
+        ensures { meets self.old (Followed level) self.new };
+
+    /// A halt now waits in a level: it is shown once, as it comes.
+    fn show(
+        &mut self,
+        machine: &M,
+        level: LevelId,
+        halt: &Halt,
+        evidence: &M::Evidence,
+    ) -> Result<(), AllocError>
+        ensures { meets self.old (Shown level (halt_of halt.now)) self.new };
+
+    /// The reply to a halt that waits in a level; with none it is left waiting. It is asked for only where neither level can go on.
+    /// A reply that the halt doesn't allow counts as none.
+    fn reply(&mut self, machine: &M, level: LevelId, halt: &Halt) -> Option<u8>
+        ensures { meets self.old (Asked level (halt_of halt.now) result) self.new };
+}

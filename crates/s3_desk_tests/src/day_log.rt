@@ -1,0 +1,242 @@
+//! A log with each event, written and read.
+
+use s3_cards::LevelId;
+use s3_day_log::{
+    Begun, DayLog, Event, JobEnd, LogFault, NamedFile, Refused, Replier, checksum, line_of,
+    utc_text,
+};
+use s3_operator::HaltCode;
+use std::test::Fail;
+
+/// Two checksums.
+const ONE: &str = "ba7816bf8f01cfea414140de5dae2223b00361a396177a9cb410ff61f20015ad";
+
+const OTHER: &str = "e3b0c44298fc1c149afbf4c8996fb92427ae41e4649b934ca495991b7852b855";
+
+/// The first line of a day without a pack and without decks.
+const BEGIN: &str =
+    "{\"at\":\"2026-01-31T08:00:00Z\",\"event\":\"begin\",\"day\":{\"words\":[],\"deck1\":[],\"deck2\":[]}}\n";
+
+fn text_of(rt: &HostRuntime, text: &str) -> Result<String, Fail> {
+    Ok(String::from_str(rt.alloc(), text)?)
+}
+
+fn file(rt: &HostRuntime, name: &str, sha256: &str) -> Result<NamedFile, Fail> {
+    Ok(NamedFile {
+        name: text_of(rt, name)?,
+        sha256: text_of(rt, sha256)?,
+    })
+}
+
+/// A day with a pack, a deck and two words.
+fn begin(rt: &HostRuntime) -> Result<Event, Fail> {
+    let mut words = Vec::new(rt.alloc());
+    words.push(text_of(rt, "--deck1")?)?;
+    words.push(text_of(rt, "day \"1\".job")?)?;
+    let mut deck1 = Vec::new(rt.alloc());
+    deck1.push(file(rt, "day \"1\".job", OTHER)?)?;
+    Ok(Event::Begin {
+        day: Begun {
+            words,
+            pack: Some(file(rt, "shop.pack", ONE)?),
+            deck1,
+            deck2: Vec::new(rt.alloc()),
+        },
+    })
+}
+
+/// The text of a day with each event.
+fn whole_day(rt: &HostRuntime) -> Result<String, Fail> {
+    let mut text = String::new(rt.alloc());
+    let events = [
+        begin(rt)?,
+        Event::JobBegins {
+            level: LevelId::One,
+            job: 5,
+            program: Some(text_of(rt, "CUSLD")?),
+            card: 178,
+        },
+        Event::Halt {
+            level: LevelId::One,
+            job: 5,
+            code: HaltCode::RetainedFile,
+            card: None,
+        },
+        Event::Reply {
+            level: LevelId::One,
+            code: HaltCode::RetainedFile,
+            digit: 3,
+            by: Replier::Operator,
+        },
+        Event::JobEnds {
+            level: LevelId::One,
+            job: 5,
+            lines: 0,
+            end: JobEnd::PassedOver,
+        },
+        Event::Reply {
+            level: LevelId::Two,
+            code: HaltCode::HaltIndicator(1),
+            digit: 0,
+            by: Replier::Rule,
+        },
+        Event::Reply {
+            level: LevelId::One,
+            code: HaltCode::HaltIndicator(9),
+            digit: 2,
+            by: Replier::Line,
+        },
+        Event::Cut {
+            level: LevelId::Two,
+        },
+        Event::Stop,
+        Event::End {
+            status: 4,
+            saved: Some(file(rt, "shop.pack", ONE)?),
+        },
+    ];
+    for event in events {
+        let line = line_of(rt.alloc(), text_of(rt, "2026-01-31T08:00:41Z")?, event)?;
+        text.push_str(line.as_str())?;
+    }
+    Ok(text)
+}
+
+/// The digest of `abc` is that of the standard, and a time is told in UTC.
+#[test]
+fn checksums_and_times(rt: HostRuntime) -> Result<(), Fail> {
+    assert_eq!(rt; checksum(rt.alloc(), b"abc")?.as_str(), ONE);
+    assert_eq!(rt; checksum(rt.alloc(), b"")?.as_str(), OTHER);
+    assert_eq!(rt;
+        utc_text(rt.alloc(), 1_769_846_400)?.as_str(),
+        "2026-01-31T08:00:00Z"
+    );
+    Ok(())
+}
+
+/// Each event is written as docs/OPERATING.md has it.
+#[test]
+fn lines_are_written(rt: HostRuntime) -> Result<(), Fail> {
+    let text = whole_day(&rt)?;
+    let want = [
+        "{\"at\":\"2026-01-31T08:00:41Z\",\"event\":\"begin\",\"day\":{\"words\":[\"--deck1\",\"day \\\"1\\\".job\"],\"pack\":{\"name\":\"shop.pack\",\"sha256\":\"ba7816bf8f01cfea414140de5dae2223b00361a396177a9cb410ff61f20015ad\"},\"deck1\":[{\"name\":\"day \\\"1\\\".job\",\"sha256\":\"e3b0c44298fc1c149afbf4c8996fb92427ae41e4649b934ca495991b7852b855\"}],\"deck2\":[]}}",
+        "{\"at\":\"2026-01-31T08:00:41Z\",\"event\":\"job_begins\",\"level\":1,\"job\":5,\"program\":\"CUSLD\",\"card\":178}",
+        "{\"at\":\"2026-01-31T08:00:41Z\",\"event\":\"halt\",\"level\":1,\"job\":5,\"code\":\"RT\",\"card\":null}",
+        "{\"at\":\"2026-01-31T08:00:41Z\",\"event\":\"reply\",\"level\":1,\"code\":\"RT\",\"digit\":3,\"by\":\"operator\"}",
+        "{\"at\":\"2026-01-31T08:00:41Z\",\"event\":\"job_ends\",\"level\":1,\"job\":5,\"lines\":0,\"end\":\"passed_over\"}",
+        "{\"at\":\"2026-01-31T08:00:41Z\",\"event\":\"reply\",\"level\":2,\"code\":\"H1\",\"digit\":0,\"by\":\"rule\"}",
+        "{\"at\":\"2026-01-31T08:00:41Z\",\"event\":\"reply\",\"level\":1,\"code\":\"H9\",\"digit\":2,\"by\":\"line\"}",
+        "{\"at\":\"2026-01-31T08:00:41Z\",\"event\":\"cut\",\"level\":2}",
+        "{\"at\":\"2026-01-31T08:00:41Z\",\"event\":\"stop\"}",
+        "{\"at\":\"2026-01-31T08:00:41Z\",\"event\":\"end\",\"status\":4,\"saved\":{\"name\":\"shop.pack\",\"sha256\":\"ba7816bf8f01cfea414140de5dae2223b00361a396177a9cb410ff61f20015ad\"}}",
+    ];
+    let mut rest = text.as_str();
+    for line in want {
+        match rest.split_once('\n') {
+            Some((first, after)) => {
+                assert_eq!(rt; first, line);
+                rest = after;
+            }
+            None => panic!(rt; "a line is missing"),
+        }
+    }
+    assert_eq!(rt; rest, "");
+    Ok(())
+}
+
+/// What is written of a day is read.
+#[test]
+fn a_log_is_read(rt: HostRuntime) -> Result<(), Fail> {
+    let text = whole_day(&rt)?;
+    let log = match DayLog::read(rt.alloc(), text.as_str()) {
+        Ok(log) => log,
+        Err(_fault) => panic!(rt; "the log isn't read"),
+    };
+    assert_eq!(rt; log.begun.words.len(), 2);
+    assert_eq!(rt; log.begun.words[1].as_str(), "day \"1\".job");
+    assert_eq!(rt; log.cut.len(), 1);
+    assert_eq!(rt; log.cut[0], LevelId::Two);
+    assert!(rt; log.is_stopped);
+    assert_eq!(rt; log.status, Some(4));
+    let rows = [
+        (LevelId::One, 0, Some(3)),
+        (LevelId::One, 1, Some(2)),
+        (LevelId::One, 2, None),
+        (LevelId::Two, 0, Some(0)),
+        (LevelId::Two, 1, None),
+    ];
+    for (level, given, want) in rows {
+        let digit = match log.reply(level, given) {
+            Some(reply) => Some(reply.digit),
+            None => None,
+        };
+        assert_eq!(rt; digit, want);
+    }
+    let mut given = Vec::new(rt.alloc());
+    assert_eq!(rt; log.test(Some(ONE), &given, &[]), Err(Refused::Deck(1, 1)));
+    given.push(text_of(&rt, OTHER)?)?;
+    assert_eq!(rt; log.test(Some(ONE), &given, &[]), Ok(()));
+    assert_eq!(rt; log.test(Some(OTHER), &given, &[]), Err(Refused::Pack));
+    assert_eq!(rt; log.test(None, &given, &[]), Err(Refused::Pack));
+    assert_eq!(rt;
+        log.test(Some(ONE), &given, &given),
+        Err(Refused::Deck(2, 1))
+    );
+    Ok(())
+}
+
+/// A log whose desk was killed has no status, and a piece of a last line is passed over.
+#[test]
+fn a_day_that_was_cut_off(rt: HostRuntime) -> Result<(), Fail> {
+    let mut text = text_of(&rt, BEGIN)?;
+    text.push_str(
+        "{\"at\":\"2026-01-31T08:00:41Z\",\"event\":\"cut\",\"level\":1}\n{\"at\":\"2026",
+    )?;
+    match DayLog::read(rt.alloc(), text.as_str()) {
+        Ok(log) => {
+            assert_eq!(rt; log.status, None);
+            assert_eq!(rt; log.cut.len(), 1);
+        }
+        Err(_fault) => panic!(rt; "the log isn't read"),
+    }
+    Ok(())
+}
+
+/// A line that isn't what a log has there is refused by its number.
+#[test]
+fn no_log(rt: HostRuntime) -> Result<(), Fail> {
+    for text in [
+        "",
+        "{}\n",
+        "{\"at\":\"2026-01-31T08:00:00Z\",\"event\":\"stop\"}\n",
+        "{\"at\":\"noon\",\"event\":\"begin\",\"day\":{\"words\":[],\"deck1\":[],\"deck2\":[]}}\n",
+        "{\"at\":\"2026-01-31T08:00:00Z\",\"event\":\"begin\",\"day\":{\"words\":[],\"deck1\":[{\"name\":\"a\",\"sha256\":\"1f\"}],\"deck2\":[]}}\n",
+    ] {
+        match DayLog::read(rt.alloc(), text) {
+            Err(LogFault::Line(number)) => assert_eq!(rt; number, 1),
+            Ok(_) | Err(LogFault::NoMemory) => panic!(rt; "it is taken: {text}"),
+        }
+    }
+    for line in [
+        "",
+        "x",
+        "{\"at\":\"2026-01-31T08:00:41Z\",\"event\":\"tea\"}",
+        "{\"event\":\"stop\"}",
+        "{\"at\":\"2026-01-31T08:00:41Z\",\"event\":\"cut\",\"level\":3}",
+        "{\"at\":\"2026-01-31T08:00:41Z\",\"event\":\"reply\",\"level\":1,\"code\":\"XX\",\"digit\":0,\"by\":\"rule\"}",
+        "{\"at\":\"2026-01-31T08:00:41Z\",\"event\":\"reply\",\"level\":1,\"code\":\"RT\",\"digit\":0,\"by\":\"rule\"}",
+        "{\"at\":\"2026-01-31T08:00:41Z\",\"event\":\"reply\",\"level\":1,\"code\":\"H1\",\"digit\":0,\"by\":\"cat\"}",
+        "{\"at\":\"2026-01-31T08:00:41Z\",\"event\":\"begin\",\"day\":{\"words\":[],\"deck1\":[],\"deck2\":[]}}",
+        "{\"at\":\"2026-01-31T08:00:41Z\",\"event\":\"end\",\"status\":0,\"saved\":null}\n{\"at\":\"2026-01-31T08:00:41Z\",\"event\":\"stop\"}",
+    ] {
+        let mut text = text_of(&rt, BEGIN)?;
+        text.push_str(line)?;
+        text.push('\n')?;
+        let want = if line.contains('\n') { 3 } else { 2 };
+        match DayLog::read(rt.alloc(), text.as_str()) {
+            Err(LogFault::Line(number)) => assert_eq!(rt; number, want),
+            Ok(_) | Err(LogFault::NoMemory) => panic!(rt; "it is taken: {line}"),
+        }
+    }
+    Ok(())
+}

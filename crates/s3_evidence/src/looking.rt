@@ -1,0 +1,185 @@
+//! The look at the pack.
+ghost use Rattle.std.specs.Prelude.{◌≡◌, ◌≢◌, ◌+◌, true, false, Err, OnOk};
+ghost use Rattle.s3_cards.specs.declared.levels.LevelId.{LevelId};
+ghost use Rattle.s3_store.specs.Inner.State.{KeepsContents};
+ghost use Rattle.s3_solo.specs.World.{World};
+ghost use Rattle.s3_bureau.specs.Inner.Held.{HoldsFor, is_open, level_of};
+ghost use Rattle.s3_bureau.specs.Inner.Stops.{failed_stop};
+ghost use Rattle.s3_evidence.specs.Inner.Looks.{Looks, stop_in};
+
+use crate::evidence::{Evidence, IndexFlaw};
+use crate::index::{entry_place, flaw_of, number_behind};
+use crate::reading::{Sectors, read_bytes, read_sectors};
+use crate::wanted::{RecordPlace, Wanted, find_wanted};
+use s3_bureau::{Bureau, Stop};
+use s3_cards::LevelId;
+use s3_labels::FileLabel;
+use s3_store::{PackStore, Stretch};
+use std::alloc::Global;
+
+/// The sectors of an area's labels.
+const AREA_SECTORS: u16 = 8;
+
+/// The slots of a sector.
+const SLOTS: u16 = 4;
+
+/// The bytes of a slot.
+const SLOT_BYTES: u16 = 64;
+
+/// What the pack has about the halt that waits in a level. No sector changes, and no world that is held.
+///
+/// Where memory runs out it answers `Stop::NoMemory`, and where a transfer of the store fails `Stop::Device`. After either the bureau
+/// may have stopped.
+#[tactic(auto, using(crate::proofs::Looks::looks_held, crate::proofs::Looks::looks_back, crate::proofs::Looks::count_of, crate::proofs::Looks::not_stopped))]
+pub fn look<S: PackStore>(
+    alloc: Global,
+    bureau: &mut Bureau<S>,
+    level: LevelId,
+) -> Result<Evidence, Stop>
+    ensures held { OnOk result ((one_or_two : LevelId) (w : World) → HoldsFor one_or_two bureau.old w → HoldsFor one_or_two bureau.new w) }
+    ensures held_before { (one_or_two : LevelId) (w : World) → HoldsFor one_or_two bureau.new w → HoldsFor one_or_two bureau.old w }
+
+    // All stays as it is; only what the pool alone had may now be in the store too.
+    ensures levels { (one_or_two : LevelId) → level_of one_or_two bureau.new ≡ level_of one_or_two bureau.old }
+    ensures areas { bureau.new.beside.areas ≡ bureau.old.beside.areas }
+    ensures blocks { bureau.new.beside.blocks ≡ bureau.old.beside.blocks }
+    ensures keeps { KeepsContents bureau.old.beside.state bureau.new.beside.state }
+    ensures goes_on { OnOk result (bureau.new.phase ≡ bureau.old.phase) }
+
+    ensures closed { is_open bureau.old ≡ false → bureau.new ≡ bureau.old }
+    ensures not_before { is_open bureau.old ≡ true → result ≢ Err Stop.Stopped }
+    ensures failures { bureau.new.beside.state.failures ≡ bureau.old.beside.state.failures + failed_stop result }
+{
+    read_evidence(alloc, bureau, level)
+}
+
+/// Reads what the pack has about the halt that waits in a level.
+#[tactic(auto, using(crate::proofs::Looks::looks_none, crate::proofs::Looks::looks_refused, crate::proofs::Looks::looks_then))]
+fn read_evidence<S: PackStore>(
+    alloc: Global,
+    bureau: &mut Bureau<S>,
+    level: LevelId,
+) -> Result<Evidence, Stop>
+    ensures { Looks (stop_in result) bureau.old bureau.new }
+{
+    match find_wanted(alloc, bureau, level)? {
+        Wanted::Nothing => Ok(Evidence::Nothing),
+        Wanted::Records {
+            label,
+            last,
+            before,
+        } => {
+            let last = read_record(alloc, bureau, &label, last)?;
+            let before = read_record(alloc, bureau, &label, before)?;
+            Ok(Evidence::Records { last, before })
+        }
+        Wanted::Slot { area, slot } => read_slot(alloc, bureau, area, slot),
+        Wanted::Index(label) => Ok(Evidence::Index(find_flaw(alloc, bureau, &label)?)),
+    }
+}
+
+/// A record of a file; none where no place is named, or the pack doesn't have it.
+#[tactic(auto, using(crate::proofs::Looks::looks_none, crate::proofs::Looks::looks_refused, crate::proofs::Looks::looks_then))]
+fn read_record<S: PackStore>(
+    alloc: Global,
+    bureau: &mut Bureau<S>,
+    label: &FileLabel,
+    place: Option<RecordPlace>,
+) -> Result<Option<Vec<u8>>, Stop>
+    ensures { Looks (stop_in result) bureau.old bureau.new }
+{
+    let Some(place) = place else {
+        return Ok(None);
+    };
+    let Some(i) = place_in_order(alloc, bureau, label, place)? else {
+        return Ok(None);
+    };
+    let at = u64::from(i).saturating_mul(u64::from(label.record_length));
+    read_bytes(
+        alloc,
+        bureau,
+        label.extents.as_slice(),
+        at,
+        label.record_length,
+    )
+}
+
+/// The place of a record in the order in which the records were written.
+#[tactic(auto, using(crate::proofs::Looks::looks_none, crate::proofs::Looks::looks_refused, crate::proofs::Looks::looks_then))]
+fn place_in_order<S: PackStore>(
+    alloc: Global,
+    bureau: &mut Bureau<S>,
+    label: &FileLabel,
+    place: RecordPlace,
+) -> Result<Option<u32>, Stop>
+    ensures { Looks (stop_in result) bureau.old bureau.new }
+{
+    match place {
+        RecordPlace::InOrder(i) => Ok(Some(i)),
+        RecordPlace::ByKey(n) => {
+            let entry = read_bytes(
+                alloc,
+                bureau,
+                label.extents.as_slice(),
+                entry_place(label, n),
+                u16::from(label.key_length) + 4,
+            )?;
+            Ok(place_behind(entry))
+        }
+    }
+}
+
+/// The place of the record that an entry of an index names.
+fn place_behind(entry: Option<Vec<u8>>) -> Option<u32> {
+    number_behind(&entry?)?.checked_sub(1)
+}
+
+/// A slot of an area, 0 to 2, by its number there, 0 to 31.
+#[tactic(auto, using(crate::proofs::Looks::looks_none, crate::proofs::Looks::looks_refused, crate::proofs::Looks::looks_then))]
+fn read_slot<S: PackStore>(
+    alloc: Global,
+    bureau: &mut Bureau<S>,
+    area: u16,
+    slot: usize,
+) -> Result<Evidence, Stop>
+    ensures { Looks (stop_in result) bureau.old bureau.new }
+{
+    let runs = [Stretch {
+        start: 1,
+        sectors: 3 * AREA_SECTORS,
+    }];
+    let before = u64::from(area).saturating_mul(u64::from(AREA_SECTORS * SLOTS));
+    let place = before.saturating_add(slot as u64);
+    let at = place.saturating_mul(u64::from(SLOT_BYTES));
+    match read_bytes(alloc, bureau, &runs, at, SLOT_BYTES)? {
+        Some(bytes) => Ok(Evidence::Slot { area, slot, bytes }),
+        None => Ok(Evidence::Nothing),
+    }
+}
+
+/// The first flaw of the index of a file.
+#[tactic(auto, using(crate::proofs::Looks::looks_none, crate::proofs::Looks::looks_refused, crate::proofs::Looks::looks_then))]
+fn find_flaw<S: PackStore>(
+    alloc: Global,
+    bureau: &mut Bureau<S>,
+    label: &FileLabel,
+) -> Result<Option<IndexFlaw>, Stop>
+    ensures { Looks (stop_in result) bureau.old bureau.new }
+{
+    let runs = label.extents.as_slice();
+    let sectors = Sectors {
+        from: 0,
+        count: count_sectors(runs),
+    };
+    let bytes = read_sectors(alloc, bureau, runs, sectors)?;
+    Ok(flaw_of(alloc, label, &bytes)?)
+}
+
+/// How many sectors some runs have.
+fn count_sectors(runs: &[Stretch]) -> u64 {
+    let mut count: u64 = 0;
+    for run in runs {
+        count = count.saturating_add(u64::from(run.sectors));
+    }
+    count
+}

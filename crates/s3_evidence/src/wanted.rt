@@ -1,0 +1,302 @@
+//! What is to be read of the pack for a halt.
+
+use crate::at_fault::{Asked, Found, JobFile, area_of, is_made};
+use crate::begun::{Begun, Source};
+use s3_bureau::Bureau;
+use s3_cards::{LevelId, Name};
+use s3_cycle::{Cycle, Stand};
+use s3_job_files::OpenFile;
+use s3_labels::{FileLabel, Organization, Slot};
+use s3_level::Level;
+use s3_lines::sheet::{
+    CalculationTime, Designation, FileLine, Line, Operation, OutputKind, OutputLine, SheetLine,
+};
+use s3_operator::HaltCode;
+use s3_store::PackStore;
+use std::alloc::{AllocError, Global};
+
+/// A record of a file, by its place from 0.
+#[derive(Clone, Copy)]
+pub(crate) enum RecordPlace {
+    /// In the order in which the records were written.
+    InOrder(u32),
+    /// In the order of the keys of its index on the pack.
+    ByKey(u32),
+}
+
+/// What is to be read.
+#[derive(Drop)]
+pub(crate) enum Wanted {
+    /// Nothing.
+    Nothing,
+    /// Records of a file.
+    Records {
+        /// Its label.
+        label: FileLabel,
+        /// The record that was read last.
+        last: Option<RecordPlace>,
+        /// The one before it.
+        before: Option<RecordPlace>,
+    },
+    /// A slot of an area.
+    Slot {
+        /// The area, 0 to 2.
+        area: u16,
+        /// The number of the slot, 0 to 31.
+        slot: usize,
+    },
+    /// The index of a file.
+    Index(FileLabel),
+}
+
+/// What is to be read of the pack for the halt that waits in a level.
+pub(crate) fn find_wanted<S: PackStore>(
+    alloc: Global,
+    bureau: &Bureau<S>,
+    level: LevelId,
+) -> Result<Wanted, AllocError> {
+    let held = bureau.level(level);
+    let Some(code) = held.waits() else {
+        return Ok(Wanted::Nothing);
+    };
+    match code {
+        HaltCode::UnidentifiedRecord
+        | HaltCode::OutOfSequence
+        | HaltCode::KeyNotAscending
+        | HaltCode::KeyChanged => wanted_at_work(alloc, held, code),
+        HaltCode::DamagedLabel | HaltCode::BadIndex => {
+            wanted_at_start(alloc, bureau, held, level, code)
+        }
+        _ => Ok(Wanted::Nothing),
+    }
+}
+
+// ---- a program at work
+
+/// What is to be read where a program at work halts.
+fn wanted_at_work(alloc: Global, held: &Level, code: HaltCode) -> Result<Wanted, AllocError> {
+    let Some(cycle) = held.cycle() else {
+        return Ok(Wanted::Nothing);
+    };
+    let begun = Begun::of(alloc, held)?;
+    let Some(source) = begun.source_of(alloc, held, cycle.program_name())? else {
+        return Ok(Wanted::Nothing);
+    };
+    Ok(records_wanted(held, cycle, &source, code).unwrap_or(Wanted::Nothing))
+}
+
+/// The records that are to be read where a program at work halts.
+fn records_wanted(held: &Level, cycle: &Cycle, source: &Source, code: HaltCode) -> Option<Wanted> {
+    let line = source.file_at(cycle.file_there()?)?;
+    let file = open_file(held, line.name)?;
+    let (last, before) = places_wanted(cycle.stand(), file, line, source, code);
+    Some(Wanted::Records {
+        label: file.label.copied(),
+        last,
+        before,
+    })
+}
+
+/// The file of a job that its program knows by this name.
+fn open_file(held: &Level, name: Name) -> Option<&OpenFile> {
+    held.files().iter().find(|file| file.name == name)
+}
+
+/// The places of the record that was read last and of the one before it.
+fn places_wanted(
+    stand: Stand,
+    file: &OpenFile,
+    line: &FileLine,
+    source: &Source,
+    code: HaltCode,
+) -> (Option<RecordPlace>, Option<RecordPlace>) {
+    match stand {
+        Stand::Head { number, .. } => (
+            nth_read(file, number),
+            nth_read(file, number.saturating_sub(1)),
+        ),
+        Stand::Calculation { .. } => (file.chained.map(RecordPlace::InOrder), None),
+        Stand::Output { place, .. } => match code {
+            HaltCode::KeyNotAscending => (None, last_of(file)),
+            _ => (None, current_of(file, line, source, place)),
+        },
+        Stand::Nowhere | Stand::Field { .. } | Stand::ChainedField { .. } => (None, None),
+    }
+}
+
+/// The record of a file that was read as the n-th, from 1.
+fn nth_read(file: &OpenFile, n: u32) -> Option<RecordPlace> {
+    let place = n.checked_sub(1)?;
+    Some(match file.label.organization {
+        Organization::Indexed => RecordPlace::ByKey(place),
+        Organization::Sequential | Organization::Direct => RecordPlace::InOrder(place),
+    })
+}
+
+/// The last record of a file that is loaded.
+fn last_of(file: &OpenFile) -> Option<RecordPlace> {
+    Some(RecordPlace::InOrder(file.records.len().checked_sub(1)?))
+}
+
+/// The record that the output line at a place updates, where the reads alone say which it is: the last one that was chained; of the
+/// only file that the cycle reads, at detail time, the last one that was read.
+fn current_of(
+    file: &OpenFile,
+    line: &FileLine,
+    source: &Source,
+    place: usize,
+) -> Option<RecordPlace> {
+    if matches!(line.designation, Some(Designation::Chained)) {
+        return file.chained.map(RecordPlace::InOrder);
+    }
+    if !source.reads_one_file() || !source.is_at_detail_time(place) {
+        return None;
+    }
+    nth_read(file, file.read)
+}
+
+impl Source {
+    /// The F line of a slot.
+    pub fn file_at(&self, slot: usize) -> Option<&FileLine> {
+        let mut left = slot;
+        for line in &self.lines {
+            if let SheetLine::File(file) = &line.sheet {
+                match left.checked_sub(1) {
+                    Some(less) => left = less,
+                    None => return Some(file),
+                }
+            }
+        }
+        None
+    }
+
+    /// The line at a place among those of the O sheet.
+    pub fn output_at(&self, place: usize) -> Option<&Line> {
+        self.lines
+            .iter()
+            .filter(|line| matches!(line.sheet, SheetLine::Output(_)))
+            .nth(place)
+    }
+
+    /// The line at a place among those of the I sheet.
+    pub fn input_at(&self, place: usize) -> Option<&Line> {
+        self.lines
+            .iter()
+            .filter(|line| matches!(line.sheet, SheetLine::Input(_)))
+            .nth(place)
+    }
+
+    /// The line at a place among those of the C sheet.
+    pub fn calculation_at(&self, place: usize) -> Option<&Line> {
+        self.lines
+            .iter()
+            .filter(|line| matches!(line.sheet, SheetLine::Calculation(_)))
+            .nth(place)
+    }
+
+    /// Whether one file alone is primary or secondary.
+    fn reads_one_file(&self) -> bool {
+        let mut count: u32 = 0;
+        for line in &self.lines {
+            if is_read_by_cycle(&line.sheet) {
+                count = count.saturating_add(1);
+            }
+        }
+        count == 1
+    }
+
+    /// Whether the output line at a place is put out before the next record is read.
+    fn is_at_detail_time(&self, place: usize) -> bool {
+        match self.output_at(place) {
+            Some(
+                Line {
+                    card: _,
+                    sheet: SheetLine::Output(OutputLine::Line(card)),
+                },
+            ) => match card.kind {
+                OutputKind::Heading | OutputKind::Detail => true,
+                OutputKind::Exception => !self.has_total_exceptions(),
+                OutputKind::Total => false,
+            },
+            _ => false,
+        }
+    }
+
+    /// Whether an EXCPT may stand at total time.
+    fn has_total_exceptions(&self) -> bool {
+        self.lines.iter().any(|line| match &line.sheet {
+            SheetLine::Calculation(calculation) => {
+                matches!(calculation.operation, Some(Operation::Except))
+                    && !matches!(calculation.time, CalculationTime::Detail)
+            }
+            _ => false,
+        })
+    }
+}
+
+fn is_read_by_cycle(sheet: &SheetLine) -> bool {
+    match sheet {
+        SheetLine::File(file) => file.is_primary() || file.is_secondary(),
+        _ => false,
+    }
+}
+
+// ---- a job that doesn't start
+
+/// What is to be read where a job doesn't start.
+fn wanted_at_start<S: PackStore>(
+    alloc: Global,
+    bureau: &Bureau<S>,
+    held: &Level,
+    level: LevelId,
+    code: HaltCode,
+) -> Result<Wanted, AllocError> {
+    let begun = Begun::of(alloc, held)?;
+    let Some(job) = begun.statements() else {
+        return Ok(Wanted::Nothing);
+    };
+    let Some(source) = begun.source_of(alloc, held, job.program())? else {
+        return Ok(Wanted::Nothing);
+    };
+    let asked = Asked {
+        level,
+        areas: bureau.areas(),
+        statements: job.files(),
+        switches: begun.switches(),
+    };
+    let files = asked.files(alloc, &source.lines)?;
+    match asked.at_fault(code, &files) {
+        Some(place) => Ok(file_wanted(&asked, &files, place).unwrap_or(Wanted::Nothing)),
+        None => Ok(Wanted::Nothing),
+    }
+}
+
+/// What is to be read of the file for which a job doesn't start.
+fn file_wanted(asked: &Asked<'_>, files: &[JobFile], place: usize) -> Option<Wanted> {
+    let file = files.get(place)?;
+    let label = file.statement?.label;
+    if is_made(&file.line) {
+        return slot_wanted(asked, label, area_of(asked.level));
+    }
+    match asked.found(label) {
+        Found::Damage(area) => slot_wanted(asked, label, area),
+        Found::File(label, _) => Some(Wanted::Index(label)),
+        Found::Nothing => None,
+    }
+}
+
+/// The first damaged slot of an area that has a label.
+fn slot_wanted(asked: &Asked<'_>, label: Name, area: u16) -> Option<Wanted> {
+    let slot = asked
+        .slots(area)
+        .iter()
+        .position(|slot| is_damaged_under(label, slot))?;
+    Some(Wanted::Slot { area, slot })
+}
+
+fn is_damaged_under(label: Name, slot: &Slot) -> bool {
+    match slot {
+        Slot::Damaged(Some(name)) => *name == label,
+        Slot::Damaged(None) | Slot::Free | Slot::Sound(_) => false,
+    }
+}

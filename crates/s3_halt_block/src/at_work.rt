@@ -1,0 +1,97 @@
+//! Where a program at work halts.
+
+use crate::cards::DeckCards;
+use crate::files::push_file;
+use crate::stand::{Shown, push_stand};
+use s3_cycle::Cycle;
+use s3_evidence::{Begun, Evidence, Source};
+use s3_level::Level;
+use s3_lines::sheet::{Device, FileLine};
+use s3_operator::HaltCode;
+use std::alloc::{AllocError, Global};
+
+/// A program that halts.
+#[derive(Clone, Copy)]
+pub(crate) struct AtWork<'a> {
+    /// The deck of its level.
+    pub(crate) cards: DeckCards<'a>,
+    /// Its level.
+    pub(crate) held: &'a Level,
+    /// The jobs that were begun; the last one is its own.
+    pub(crate) begun: &'a Begun,
+    /// The program at work.
+    pub(crate) cycle: &'a Cycle,
+    /// Its source.
+    pub(crate) source: &'a Source,
+    /// For what it halts.
+    pub(crate) code: HaltCode,
+    /// What the pack has about the halt.
+    pub(crate) evidence: &'a Evidence,
+}
+
+impl<'a> AtWork<'a> {
+    /// The F line of a slot.
+    pub(crate) fn file(&self, slot: usize) -> Option<&'a FileLine> {
+        self.source.file_at(slot)
+    }
+
+    /// The number of the last data card that was read, from 1.
+    pub(crate) fn last_card(&self) -> Option<usize> {
+        let unread = self.held.unread()?;
+        let job = self.begun.statements()?;
+        (unread.next > job.data_from()).then_some(unread.next)
+    }
+
+    /// The number of the data card before that one.
+    pub(crate) fn card_before(&self) -> Option<usize> {
+        let before = self.last_card()?.checked_sub(1)?;
+        let job = self.begun.statements()?;
+        (before > job.data_from()).then_some(before)
+    }
+
+    /// Whether the last data card that was read begins with these bytes.
+    pub(crate) fn is_last_card(&self, record: &[u8]) -> bool {
+        let Some(number) = self.last_card() else {
+            return false;
+        };
+        match self.cards.card(number) {
+            Some(card) => card.starts_with(record),
+            None => false,
+        }
+    }
+}
+
+/// Whether the records of a file are cards.
+pub(crate) fn is_on_cards(line: &FileLine) -> bool {
+    matches!(line.device, Device::CardReader)
+}
+
+/// Appends where a program stands and what it holds there, the last data card, and its files.
+pub(crate) fn push_at_work(
+    text: &mut String,
+    alloc: Global,
+    at: AtWork<'_>,
+) -> Result<(), AllocError> {
+    let shown = push_stand(text, alloc, at)?;
+    push_last_card(text, at, &shown)?;
+    for file in at.held.files() {
+        push_file(text, file)?;
+    }
+    Ok(())
+}
+
+/// Appends the last data card, with what is marked on it, and the one before it where that is shown too.
+fn push_last_card(text: &mut String, at: AtWork<'_>, shown: &Shown) -> Result<(), AllocError> {
+    let Some(number) = at.last_card() else {
+        return Ok(());
+    };
+    at.cards
+        .push_named_card(text, "the last data card:", number, &shown.marked)?;
+    match at.card_before() {
+        Some(before) if shown.is_before_shown => {
+            at.cards
+                .push_named_card(text, "the card before it:", before, &shown.marked)
+        }
+        _ => Ok(()),
+    }
+}

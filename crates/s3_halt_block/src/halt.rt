@@ -1,0 +1,119 @@
+//! The block.
+
+use crate::at_start::{AtStart, push_at_start};
+use crate::at_work::{AtWork, push_at_work};
+use crate::cards::DeckCards;
+use crate::details::push_details;
+use crate::replies::{push_meaning, push_replies};
+use s3_bureau::Bureau;
+use s3_cards::{LevelId, Name};
+use s3_deck_files::DeckText;
+use s3_deck_jobs::{JobEntry, Statements};
+use s3_evidence::{Begun, Evidence, Source};
+use s3_level::Level;
+use s3_operator::Halt;
+use s3_ruled::push_name;
+use s3_store::PackStore;
+use std::alloc::{AllocError, Global};
+
+/// Appends the block of the halt that waits in a level: what it means, where it stands and what it is about, which replies it
+/// allows and what each of them does. The deck's text is the one that the level's cards were read from, and the evidence what `look`
+/// gave for this halt.
+pub fn push_halt<S: PackStore>(
+    text: &mut String,
+    alloc: Global,
+    bureau: &Bureau<S>,
+    deck: &DeckText<'_>,
+    level: LevelId,
+    halt: &Halt,
+    evidence: &Evidence,
+) -> Result<(), AllocError> {
+    let held = bureau.level(level);
+    let begun = Begun::of(alloc, held)?;
+    let cards = DeckCards {
+        text: deck,
+        deck: held.deck(),
+    };
+    push_meaning(text, level, halt.code)?;
+    push_beginning(text, cards, &begun, halt)?;
+    push_details(text, cards, &begun, halt)?;
+    match held.cycle() {
+        Some(cycle) => {
+            let source = source_of(alloc, &begun, held, cycle.program_name())?;
+            push_at_work(
+                text,
+                alloc,
+                AtWork {
+                    cards,
+                    held,
+                    begun: &begun,
+                    cycle,
+                    source: &source,
+                    code: halt.code,
+                    evidence,
+                },
+            )?;
+        }
+        None => push_at_start(
+            text,
+            alloc,
+            AtStart {
+                cards,
+                held,
+                begun: &begun,
+                areas: bureau.areas(),
+                level,
+                code: halt.code,
+                evidence,
+            },
+        )?,
+    }
+    push_replies(text, halt.code)
+}
+
+/// Appends a job by its number and what it does: `job 5, CUSLD`.
+pub fn push_job(text: &mut String, number: u16, job: Option<&JobEntry>) -> Result<(), AllocError> {
+    write!(text, "job {number}")?;
+    match job {
+        Some(job) => push_program(text, &job.statements),
+        None => Ok(()),
+    }
+}
+
+fn push_program(text: &mut String, statements: &Statements) -> Result<(), AllocError> {
+    match statements {
+        Statements::Sound(job) if job.is_compile() => text.push_str(", a compile job"),
+        Statements::Sound(job) => {
+            text.push_str(", ")?;
+            push_name(text, job.program())
+        }
+        Statements::Faulty(_) => text.push_str(", whose statements are faulty"),
+    }
+}
+
+/// Appends the job of a halt, and the card at which it begins.
+fn push_beginning(
+    text: &mut String,
+    cards: DeckCards<'_>,
+    begun: &Begun,
+    halt: &Halt,
+) -> Result<(), AllocError> {
+    text.push_str("  ")?;
+    push_job(text, halt.job, begun.last())?;
+    if let Some(job) = begun.last() {
+        text.push_str(", that begins at ")?;
+        cards.push_place(text, job.cards.from.saturating_add(1))?;
+    }
+    text.push('\n')
+}
+
+/// The source of a program, without lines where the deck doesn't have it.
+fn source_of(alloc: Global, begun: &Begun, held: &Level, name: Name) -> Result<Source, AllocError> {
+    match begun.source_of(alloc, held, name)? {
+        Some(source) => Ok(source),
+        None => Ok(Source {
+            name,
+            lines: Vec::new(alloc),
+        }),
+    }
+}

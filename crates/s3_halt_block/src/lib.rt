@@ -1,0 +1,24 @@
+//! The block in which a halt is shown to an operator, in words. docs/OPERATING.md says what it has.
+//!
+//! What is proved: each call is safe and returns, and puts its text behind the one that it is given. What is shown is tested.
+
+#![tactic(auto)]
+
+mod at_start;
+mod at_work;
+mod bad_digits;
+mod cards;
+mod causes;
+mod details;
+mod diagnostics;
+mod files;
+mod halt;
+mod layout;
+mod match_fields;
+mod replies;
+mod room;
+mod slot_words;
+mod stand;
+
+pub use halt::{push_halt, push_job};
+pub use replies::{push_letters, push_prompt, push_replies, push_reply};

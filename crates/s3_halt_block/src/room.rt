@@ -1,0 +1,165 @@
+//! What room the files of a job ask for, and what is free.
+
+use crate::at_start::push_file_name;
+use crate::replies::number_of;
+use s3_cards::Name;
+use s3_evidence::{Asked, JobFile, is_made, key_of};
+use s3_labels::Slot;
+use s3_lines::sheet::FileLine;
+use s3_ocl::{FileSize, FileStatement};
+use s3_store::Stretch;
+use std::alloc::AllocError;
+
+/// The sectors of a track.
+const TRACK: u16 = 24;
+
+/// The bytes of a sector.
+const SECTOR: u64 = 256;
+
+/// How many bytes of an entry of an index aren't its key.
+const RECORD_NUMBER: u64 = 4;
+
+/// Appends for each file that a job makes how many tracks it asks for, and then what is free.
+pub(crate) fn push_room(
+    text: &mut String,
+    asked: &Asked<'_>,
+    files: &[JobFile],
+) -> Result<(), AllocError> {
+    for file in files {
+        if let Some(statement) = &file.statement {
+            if is_made(&file.line) {
+                push_asked(text, asked, file, statement)?;
+            }
+        }
+    }
+    push_free(text, asked)
+}
+
+fn push_asked(
+    text: &mut String,
+    asked: &Asked<'_>,
+    file: &JobFile,
+    statement: &FileStatement,
+) -> Result<(), AllocError> {
+    push_file_name(text, file)?;
+    let tracks = tracks_asked(&file.line, statement.size);
+    write!(text, ": {tracks} tracks asked for")?;
+    match tracks_of_old(asked, statement.label) {
+        Some(old) => writeln!(text, ", and the {old} of its old file come free"),
+        None => text.push('\n'),
+    }
+}
+
+/// Appends what a level's region has free.
+fn push_free(text: &mut String, asked: &Asked<'_>) -> Result<(), AllocError> {
+    let number = number_of(asked.level);
+    let slots = asked.areas.slots(asked.level);
+    let region = asked.areas.region(asked.level);
+    let tracks = region.sectors / TRACK;
+    let free = free_tracks(region, slots);
+    let in_all = free.in_all;
+    let in_a_row = free.in_a_row;
+    let free_slots = count_free(slots);
+    writeln!(
+        text,
+        "  level {number} has {tracks} tracks: {in_all} free, {in_a_row} of them in a row; {free_slots} of 32 slots free"
+    )
+}
+
+/// How many tracks are free.
+#[derive(Clone, Copy)]
+struct FreeTracks {
+    in_all: u32,
+    /// the most that lie one behind the other
+    in_a_row: u32,
+}
+
+fn free_tracks(region: Stretch, slots: &[Slot]) -> FreeTracks {
+    let mut free = FreeTracks {
+        in_all: 0,
+        in_a_row: 0,
+    };
+    let mut row: u32 = 0;
+    for track in 0..region.sectors / TRACK {
+        if is_free(
+            u32::from(region.start) + u32::from(track) * u32::from(TRACK),
+            slots,
+        ) {
+            free.in_all = free.in_all.saturating_add(1);
+            row = row.saturating_add(1);
+            free.in_a_row = free.in_a_row.max(row);
+        } else {
+            row = 0;
+        }
+    }
+    free
+}
+
+/// Whether no file of these slots has the track that begins at a sector.
+fn is_free(sector: u32, slots: &[Slot]) -> bool {
+    !slots.iter().any(|slot| match slot {
+        Slot::Sound(label) => label
+            .extents
+            .as_slice()
+            .iter()
+            .any(|run| has_sector(*run, sector)),
+        Slot::Free | Slot::Damaged(_) => false,
+    })
+}
+
+fn has_sector(run: Stretch, sector: u32) -> bool {
+    let start = u32::from(run.start);
+    start <= sector && sector < start + u32::from(run.sectors)
+}
+
+fn count_free(slots: &[Slot]) -> usize {
+    slots
+        .iter()
+        .filter(|slot| matches!(slot, Slot::Free))
+        .count()
+}
+
+/// The tracks of the file of a label that one of this label replaces.
+fn tracks_of_old(asked: &Asked<'_>, name: Name) -> Option<u32> {
+    for slot in asked.areas.slots(asked.level) {
+        if let Slot::Sound(label) = slot {
+            if label.name == name {
+                return Some(count_sectors(label.extents.as_slice()) / u32::from(TRACK));
+            }
+        }
+    }
+    None
+}
+
+fn count_sectors(runs: &[Stretch]) -> u32 {
+    let mut count: u32 = 0;
+    for run in runs {
+        count = count.saturating_add(u32::from(run.sectors));
+    }
+    count
+}
+
+/// How many tracks a new file takes.
+fn tracks_asked(line: &FileLine, size: FileSize) -> u64 {
+    match size {
+        FileSize::Tracks(tracks) => u64::from(tracks),
+        FileSize::Records(records) => sectors_of(line, u64::from(records)).div_ceil(u64::from(
+            TRACK,
+        )),
+    }
+}
+
+/// How many sectors so many records take, those of their index among them.
+fn sectors_of(line: &FileLine, records: u64) -> u64 {
+    let bytes = records.saturating_mul(u64::from(line.record_length));
+    let (key_length, _) = key_of(line);
+    let sectors = bytes.div_ceil(SECTOR);
+    if key_length == 0 {
+        return sectors;
+    }
+    let per_sector = SECTOR / (u64::from(key_length) + RECORD_NUMBER);
+    if per_sector == 0 {
+        return sectors;
+    }
+    sectors.saturating_add(records.div_ceil(per_sector))
+}

@@ -1,0 +1,320 @@
+//! Where a program stands in its source, and what it holds there.
+
+use crate::at_work::{AtWork, is_on_cards};
+use crate::bad_digits::bad_digits;
+use crate::causes::push_causes;
+use crate::match_fields::match_fields;
+use s3_cards::Name;
+use s3_cycle::{Sought, Stand};
+use s3_evidence::Evidence;
+use s3_lines::sheet::{FieldLine, FileLine, InputLine, Line, SheetLine};
+use s3_operator::HaltCode;
+use s3_ruled::{Columns, push_characters, push_name, push_ruled};
+use std::alloc::{AllocError, Global};
+
+/// What of the stand is shown with the last data card.
+#[derive(Drop)]
+pub(crate) struct Shown {
+    /// The columns that are marked on it.
+    pub(crate) marked: Vec<Columns>,
+    /// Whether the card before it is shown too.
+    pub(crate) is_before_shown: bool,
+}
+
+impl Shown {
+    /// Nothing.
+    fn nothing(alloc: Global) -> Shown {
+        Shown {
+            marked: Vec::new(alloc),
+            is_before_shown: false,
+        }
+    }
+}
+
+/// Appends where a program stands. What belongs on the last data card is handed on.
+pub(crate) fn push_stand(
+    text: &mut String,
+    alloc: Global,
+    at: AtWork<'_>,
+) -> Result<Shown, AllocError> {
+    match at.cycle.stand() {
+        Stand::Nowhere => {
+            if let HaltCode::HaltIndicator(number) = at.code {
+                push_causes(text, at, number)?;
+            }
+            Ok(Shown::nothing(alloc))
+        }
+        Stand::Head { file, number } => push_head(text, alloc, at, file, number),
+        Stand::Field {
+            place,
+            file,
+            number,
+        } => {
+            let line = at.source.input_at(place);
+            push_source_card(text, at, line)?;
+            push_field(text, line)?;
+            push_record_number(text, at.file(file), number)?;
+            text.push('\n')?;
+            push_field_record(text, alloc, at, field_of(line))
+        }
+        Stand::ChainedField { place } => {
+            let line = at.source.input_at(place);
+            push_source_card(text, at, line)?;
+            push_field(text, line)?;
+            text.push_str("the record that was chained\n")?;
+            push_field_record(text, alloc, at, field_of(line))
+        }
+        Stand::Calculation { place } => {
+            push_source_card(text, at, at.source.calculation_at(place))?;
+            push_sought(text, at)?;
+            push_found(text, at)?;
+            Ok(Shown::nothing(alloc))
+        }
+        Stand::Output { file, place } => {
+            push_source_card(text, at, at.source.output_at(place))?;
+            push_put(text, at, at.file(file))?;
+            Ok(Shown::nothing(alloc))
+        }
+    }
+}
+
+/// Appends the source card of a line.
+fn push_source_card(
+    text: &mut String,
+    at: AtWork<'_>,
+    line: Option<&Line>,
+) -> Result<(), AllocError> {
+    match line {
+        Some(line) => at
+            .cards
+            .push_named_card(text, "at source", usize::from(line.card), &[]),
+        None => Ok(()),
+    }
+}
+
+/// Appends `record 8 of ORDERS`.
+fn push_record_number(
+    text: &mut String,
+    file: Option<&FileLine>,
+    number: u32,
+) -> Result<(), AllocError> {
+    write!(text, "record {number} of ")?;
+    push_file_name(text, file)
+}
+
+fn push_file_name(text: &mut String, file: Option<&FileLine>) -> Result<(), AllocError> {
+    match file {
+        Some(line) => push_name(text, line.name),
+        None => text.push_str("a file"),
+    }
+}
+
+// ---- a record that was read
+
+/// Appends the record that was read last of a file, and where it is one out of sequence the one before it.
+fn push_head(
+    text: &mut String,
+    alloc: Global,
+    at: AtWork<'_>,
+    slot: usize,
+    number: u32,
+) -> Result<Shown, AllocError> {
+    let file = at.file(slot);
+    text.push_str("  at ")?;
+    push_record_number(text, file, number)?;
+    text.push('\n')?;
+    let Some(line) = file else {
+        return Ok(Shown::nothing(alloc));
+    };
+    let shown = Shown {
+        marked: marks_of_head(alloc, at, line.name)?,
+        is_before_shown: is_out_of_sequence(at.code),
+    };
+    if is_on_cards(line) {
+        return Ok(shown);
+    }
+    push_records_read(text, at, &shown)?;
+    Ok(Shown::nothing(alloc))
+}
+
+fn is_out_of_sequence(code: HaltCode) -> bool {
+    matches!(code, HaltCode::OutOfSequence)
+}
+
+/// What is marked on a record that was read last.
+fn marks_of_head(alloc: Global, at: AtWork<'_>, file: Name) -> Result<Vec<Columns>, AllocError> {
+    if is_out_of_sequence(at.code) {
+        match_fields(alloc, &at.source.lines, file)
+    } else {
+        Ok(Vec::new(alloc))
+    }
+}
+
+/// Appends records of a file on the pack.
+fn push_records_read(text: &mut String, at: AtWork<'_>, shown: &Shown) -> Result<(), AllocError> {
+    let Evidence::Records { last, before } = at.evidence else {
+        return Ok(());
+    };
+    if let Some(record) = last {
+        push_ruled(text, record, &shown.marked)?;
+    }
+    match before {
+        Some(record) if shown.is_before_shown => {
+            push_named_record(text, "the record before it:", record, &shown.marked)
+        }
+        _ => Ok(()),
+    }
+}
+
+/// Appends a line of some words, and a record.
+fn push_named_record(
+    text: &mut String,
+    words: &str,
+    record: &[u8],
+    marked: &[Columns],
+) -> Result<(), AllocError> {
+    writeln!(text, "  {words}")?;
+    push_ruled(text, record, marked)
+}
+
+// ---- a field
+
+/// The field of a line, if it has one.
+fn field_of(line: Option<&Line>) -> Option<FieldLine> {
+    match line?.sheet {
+        SheetLine::Input(InputLine::Field(field)) => Some(field),
+        _ => None,
+    }
+}
+
+/// Appends `field HOURS, positions 31 to 34 of `.
+fn push_field(text: &mut String, line: Option<&Line>) -> Result<(), AllocError> {
+    let Some(field) = field_of(line) else {
+        return text.push_str("  a field of ");
+    };
+    text.push_str("  field ")?;
+    push_name(text, field.name)?;
+    let from = field.from;
+    let to = field.to;
+    if from == to {
+        write!(text, ", position {from} of ")
+    } else {
+        write!(text, ", positions {from} to {to} of ")
+    }
+}
+
+/// Appends the record of a field with its bad digits marked, unless it is the last data card.
+fn push_field_record(
+    text: &mut String,
+    alloc: Global,
+    at: AtWork<'_>,
+    field: Option<FieldLine>,
+) -> Result<Shown, AllocError> {
+    let record = at.cycle.record_there();
+    let marked = match field {
+        Some(field) => bad_digits(alloc, &field, record)?,
+        None => Vec::new(alloc),
+    };
+    if at.is_last_card(record) {
+        return Ok(Shown {
+            marked,
+            is_before_shown: false,
+        });
+    }
+    push_ruled(text, record, &marked)?;
+    Ok(Shown::nothing(alloc))
+}
+
+// ---- a record that is sought
+
+/// Appends what a CHAIN seeks.
+fn push_sought(text: &mut String, at: AtWork<'_>) -> Result<(), AllocError> {
+    let Some(sought) = at.cycle.sought_there() else {
+        return Ok(());
+    };
+    match &sought {
+        Sought::Key(key) => {
+            text.push_str("  the key '")?;
+            push_characters(text, key)?;
+            text.push('\'')?;
+        }
+        Sought::RecordNumber(number) => write!(text, "  record number {number}")?,
+    }
+    text.push_str(" was sought in ")?;
+    push_file_name(text, file_there(at))?;
+    text.push('\n')
+}
+
+/// The file at which a program stands.
+fn file_there(at: AtWork<'_>) -> Option<&FileLine> {
+    at.file(at.cycle.file_there()?)
+}
+
+/// Appends the record that a CHAIN found, where it is of no type.
+fn push_found(text: &mut String, at: AtWork<'_>) -> Result<(), AllocError> {
+    match at.evidence {
+        Evidence::Records {
+            last: Some(record),
+            before: _,
+        } => push_named_record(text, "the record that was found:", record, &[]),
+        _ => Ok(()),
+    }
+}
+
+// ---- a record that is put out
+
+/// Appends the record that is put out with its key marked, and the one with which it is compared.
+fn push_put(text: &mut String, at: AtWork<'_>, file: Option<&FileLine>) -> Result<(), AllocError> {
+    let mark = key_columns(file);
+    let record = at.cycle.record_there();
+    if matches!(at.code, HaltCode::NothingToUpdate) || record.is_empty() {
+        return Ok(());
+    }
+    push_keyed_record(text, words_of_put(at.code), record, mark)?;
+    match at.evidence {
+        Evidence::Records {
+            last: _,
+            before: Some(record),
+        } => push_keyed_record(text, words_of_before(at.code), record, mark),
+        _ => Ok(()),
+    }
+}
+
+/// Appends a line of some words, and a record with its key marked, where it has one.
+fn push_keyed_record(
+    text: &mut String,
+    words: &str,
+    record: &[u8],
+    key: Option<Columns>,
+) -> Result<(), AllocError> {
+    match key {
+        Some(columns) => push_named_record(text, words, record, &[columns]),
+        None => push_named_record(text, words, record, &[]),
+    }
+}
+
+/// Where the key of a file lies in its records.
+fn key_columns(file: Option<&FileLine>) -> Option<Columns> {
+    let key = file?.key?;
+    let from = usize::from(key.start);
+    Some(Columns {
+        from,
+        to: (from + usize::from(key.length)).saturating_sub(1),
+    })
+}
+
+fn words_of_put(code: HaltCode) -> &'static str {
+    if matches!(code, HaltCode::KeyChanged) {
+        "what was to be put into it:"
+    } else {
+        "the record that was to be put out:"
+    }
+}
+
+fn words_of_before(code: HaltCode) -> &'static str {
+    if matches!(code, HaltCode::KeyChanged) {
+        "the record as the file has it:"
+    } else {
+        "the last record of the file:"
+    }
+}

@@ -1,0 +1,79 @@
+//! What is said to who is asked.
+
+use crate::levels::number_of;
+use s3_cards::{LevelId, PrintLine};
+use s3_halt_block::{push_letters, push_replies};
+use s3_operator::{HaltCode, allowed, choices, meaning};
+use s3_ruled::{push_characters, without_blanks_behind};
+use std::alloc::AllocError;
+
+/// What else may be typed.
+const WORDS: &'static str =
+    "  show   the halt once more\n  lines  the last printed lines, as lines 2 30 for thirty of level 2\n  stop   ends the day here\n";
+
+/// Appends what a level's halt may be answered with: `level 2, H1: 0, 2 or 3`.
+pub(crate) fn push_choice(
+    text: &mut String,
+    level: LevelId,
+    code: HaltCode,
+) -> Result<(), AllocError> {
+    let number = number_of(level);
+    let choices = choices(code);
+    write!(text, "level {number}, ")?;
+    push_letters(text, code)?;
+    write!(text, ": {choices}")
+}
+
+/// Appends what the replies to a level's halt do, under what it means.
+pub(crate) fn push_help(
+    text: &mut String,
+    level: LevelId,
+    code: HaltCode,
+) -> Result<(), AllocError> {
+    let number = number_of(level);
+    let meaning = meaning(code);
+    write!(text, "level {number}, ")?;
+    push_letters(text, code)?;
+    writeln!(text, ", {meaning}:")?;
+    push_replies(text, code)
+}
+
+/// Appends what else may be typed.
+pub(crate) fn push_words(text: &mut String) -> Result<(), AllocError> {
+    text.push_str(WORDS)
+}
+
+/// Appends the last lines of a level, so many at most, and how many it has printed.
+pub(crate) fn push_last_lines(
+    text: &mut String,
+    level: LevelId,
+    lines: &[PrintLine],
+    most: usize,
+) -> Result<(), AllocError> {
+    let number = number_of(level);
+    let count = lines.len();
+    let plural = if count == 1 { "" } else { "s" };
+    writeln!(text, "level {number} has printed {count} line{plural}")?;
+    let from = count.saturating_sub(most);
+    for line in lines.get(from..).unwrap_or(&[]) {
+        push_line(text, line)?;
+    }
+    Ok(())
+}
+
+/// Appends a printed line as a report has it, two columns in.
+fn push_line(text: &mut String, line: &PrintLine) -> Result<(), AllocError> {
+    let page = line.page();
+    let number = line.line();
+    write!(text, "  {page:04} {number:02} ")?;
+    push_characters(text, without_blanks_behind(line.text()))?;
+    text.push('\n')
+}
+
+/// Whether a level's halt, if one waits there, allows a digit.
+pub(crate) fn is_allowed(waits: Option<HaltCode>, digit: u8) -> bool {
+    match waits {
+        Some(code) => allowed(code, digit),
+        None => false,
+    }
+}

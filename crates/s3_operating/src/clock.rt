@@ -1,0 +1,10 @@
+//! What the desk knows of time.
+
+/// A clock. It is asked for what is told and logged, and for whether a line was typed before its halt was shown.
+pub trait Clock {
+    /// Milliseconds since some moment, the same one at each call.
+    fn milliseconds(&mut self) -> u64;
+
+    /// Seconds since the beginning of 1970, in UTC.
+    fn seconds(&mut self) -> u64;
+}

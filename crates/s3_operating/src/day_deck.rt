@@ -1,0 +1,90 @@
+//! The deck of a level on a day.
+
+use s3_deck_files::DeckText;
+use std::alloc::{AllocError, Global};
+
+/// A file of a deck.
+#[derive(Clone, Copy)]
+struct DeckFile<'a> {
+    /// Its name, as it was given.
+    name: &'a str,
+    /// Where its text ends in that of the deck.
+    end: usize,
+}
+
+/// Files, one behind the other, each with its last line ended.
+#[derive(Drop)]
+pub struct JoinedFiles<'a> {
+    text: Vec<u8>,
+    files: Vec<DeckFile<'a>>,
+}
+
+impl<'a> JoinedFiles<'a> {
+    /// No files.
+    pub fn new(alloc: Global) -> JoinedFiles<'a> {
+        JoinedFiles {
+            text: Vec::new(alloc),
+            files: Vec::new(alloc),
+        }
+    }
+
+    /// Puts a file's lines behind those of the files before, which are whole. A last line without its end gets one.
+    pub fn add(&mut self, name: &'a str, bytes: Vec<u8>) -> Result<(), AllocError> {
+        if self.text.is_empty() {
+            // a deck of one file isn't copied
+            self.text = bytes;
+        } else {
+            self.text.extend_from_slice(&bytes)?;
+        }
+        if self.text.last().is_some_and(|last| *last != b'\n') {
+            self.text.push(b'\n')?;
+        }
+        let end = self.text.len();
+        self.files.push(DeckFile { name, end })?;
+        Ok(())
+    }
+}
+
+/// The deck of a level on a day. Which line of which file a card is, is only found where it is asked: most days need it of
+/// none.
+#[derive(Drop)]
+pub enum DayDeck<'a> {
+    /// All cards of its files.
+    Whole(JoinedFiles<'a>),
+    /// What is left of a deck that is taken up at a line.
+    TakenUp(DeckText<'a>),
+}
+
+impl<'a> DayDeck<'a> {
+    /// The text, as `Deck::read` takes it.
+    pub fn text(&self) -> &[u8] {
+        match self {
+            DayDeck::Whole(joined) => &joined.text,
+            DayDeck::TakenUp(deck) => deck.text(),
+        }
+    }
+
+    /// The deck with the line of a file for each card.
+    pub fn with_places(&self, alloc: Global) -> Result<DeckText<'a>, AllocError> {
+        match self {
+            DayDeck::Whole(joined) => with_places(alloc, &joined.text, &joined.files),
+            DayDeck::TakenUp(deck) => deck.without(alloc, &[]),
+        }
+    }
+}
+
+/// The deck of files whose text is given.
+fn with_places<'a>(
+    alloc: Global,
+    text: &[u8],
+    files: &[DeckFile<'a>],
+) -> Result<DeckText<'a>, AllocError> {
+    let mut deck = DeckText::new(alloc);
+    let mut from = 0;
+    for file in files {
+        let lines = text.get(from..file.end).unwrap_or(&[]);
+        deck.add(file.name, Vec::from_slice(alloc, lines)?)?;
+        from = file.end;
+    }
+    Ok(deck)
+}

@@ -1,0 +1,62 @@
+-- The script of entries that were performed.
+use Rattle.std.specs.Prelude.{◌≡◌, ℕ, ◌+◌, ◌==◌, nat_lt, Bool, true, List, [], ◌∷◌, ◌++◌, replicate, decimal, if◌then◌else◌, Result, Ok, Err}
+use Rattle.std.specs.List.{flat_map}
+use Rattle.std.specs.Str.Lines.{lines}
+use Rattle.s3_cards.specs.declared.levels.LevelId.{LevelId}
+use Rattle.s3_cards.specs.declared.levels.LevelId.TheVariants.{One, Two}
+use Rattle.s3_solo.specs.declared.action.Action.{Action}
+use Rattle.s3_solo.specs.declared.action.Action.TheVariants.{Turn, Reply, Drain}
+use Rattle.s3_bureau.specs.declared.entry.Entry.{Entry}
+use Rattle.s3_bureau.specs.Script.{entries_from}
+use Rattle.s3_replay.specs.declared.performed.Repeated.{Repeated}
+
+-- ---- entries that were performed
+-- all of them, in their order
+abbrev pub entries_in : List Repeated → List Entry
+entries_in parts = flat_map (λ part. replicate part.times part.entry) parts
+
+-- a script can ask for it: a reply is one digit
+abbrev pub is_writable : Action → Bool
+is_writable (Reply digit) = nat_lt digit 10
+is_writable _ = true
+
+abbrev pub is_part_writable : Repeated → Bool
+is_part_writable part = is_writable part.entry.action
+
+-- ---- the line that asks for an entry so many times
+abbrev pub letter_of : Action → ℕ
+letter_of Turn = 84
+letter_of (Reply digit) = 82
+letter_of Drain = 68
+
+abbrev pub level_digit : LevelId → ℕ
+level_digit One = 49
+level_digit Two = 50
+
+-- once is not written
+abbrev pub count_behind : ℕ → List ℕ
+count_behind n = if n == 1 then [] else 32 ∷ decimal n
+
+abbrev pub behind : Action → ℕ → List ℕ
+behind Turn n = count_behind n
+behind (Reply digit) n = 32 ∷ (48 + digit) ∷ []
+behind Drain n = count_behind n
+
+abbrev pub line_of : Entry → ℕ → List ℕ
+line_of entry n = letter_of entry.action ∷ level_digit entry.level ∷ behind entry.action n
+
+-- how many times a line can ask for it at most
+abbrev pub most_in_line : Action → ℕ
+most_in_line (Reply digit) = 1
+most_in_line _ = 9999
+
+-- ---- what a text says, whatever comes behind it
+-- entries before those of the lines that are left
+abbrev pub before_those : List Entry → Result (List Entry) ℕ → Result (List Entry) ℕ
+before_those entries (Ok more) = Ok (entries ++ more)
+before_those entries (Err line) = Err line
+
+-- so many whole lines, which ask for these entries
+pub record Says (text : List ℕ) (entries : List Entry) : Type 0 where
+  pub count : ℕ
+  pub said : (n : ℕ) (later : List ℕ) → entries_from n (lines (text ++ later)) ≡ before_those entries (entries_from (n + count) (lines later))

@@ -1,0 +1,106 @@
+//! A list of rules.
+ghost use Rattle.std.specs.Prelude.{◌≡◌, []};
+ghost use Rattle.std.specs.Option.{option_copied};
+ghost use Rattle.s3_replies.specs.Inner.Rules.{reply_for as reply_for_spec};
+
+use crate::line_fault::IllFormedLine;
+use crate::rule::{Rule, read_rule};
+use s3_cards::{LevelId, Name, first_line};
+use s3_operator::HaltCode;
+use std::alloc::{AllocError, AllocFailed, Global};
+use std::marker::Model;
+use thiserror::Error;
+
+/// Why there are no rules.
+#[derive(Debug, Drop, Error)]
+pub enum RulesFault {
+    /// There is no memory for the rules.
+    #[error("out of memory")]
+    NoMemory,
+    /// The lines that are ill formed, one at least, in their order.
+    #[error("ill formed lines")]
+    IllFormed(Vec<IllFormedLine>),
+}
+
+impl From<AllocFailed<Rule>> for RulesFault {
+    fn from(_: AllocFailed<Rule>) -> RulesFault {
+        RulesFault::NoMemory
+    }
+}
+
+impl From<AllocFailed<IllFormedLine>> for RulesFault {
+    fn from(_: AllocFailed<IllFormedLine>) -> RulesFault {
+        RulesFault::NoMemory
+    }
+}
+
+impl From<AllocError> for RulesFault {
+    fn from(_: AllocError) -> RulesFault {
+        RulesFault::NoMemory
+    }
+}
+
+/// Rules, in their order.
+#[derive(Drop)]
+pub struct Rules {
+    rules: Vec<Rule>,
+}
+
+impl Model for Rules {
+    ghost use Rattle.std.specs.Prelude.{List};
+    ghost use Rattle.s3_replies.specs.declared.rule.Rule.{Rule};
+
+    ghost Value = { List Rule };
+
+    ghost view = { λ rules. rules.rules.items };
+}
+
+impl Rules {
+    /// No rules.
+    pub fn none(alloc: Global) -> Rules
+        ensures { result ≡ [] }
+    {
+        Rules {
+            rules: Vec::new(alloc),
+        }
+    }
+
+    /// The rules of a text, or all its ill formed lines. Lines end with a line feed, and a carriage return before it is
+    /// dropped.
+    pub fn read(alloc: Global, text: &[u8]) -> Result<Rules, RulesFault> {
+        let mut rules = Vec::new(alloc);
+        let mut ill_formed = Vec::new(alloc);
+        let mut number: usize = 0;
+        let mut rest = text;
+        while let Some((line, after)) = first_line(rest) {
+            number = number.saturating_add(1);
+            match read_rule(line, number) {
+                Ok(Some(rule)) => rules.push(rule)?,
+                Ok(None) => {}
+                Err(fault) => ill_formed.push(IllFormedLine { number, fault })?,
+            }
+            rest = after;
+        }
+        if ill_formed.is_empty() {
+            Ok(Rules { rules })
+        } else {
+            Err(RulesFault::IllFormed(ill_formed))
+        }
+    }
+
+    /// The first rule that answers a halt of a level, in a job of that program, if it is known.
+    pub fn reply_for(&self, level: LevelId, code: HaltCode, program: Option<Name>) -> Option<&Rule>
+        ensures { option_copied result ≡ reply_for_spec level code program self.now }
+    {
+        self.rules
+            .iter()
+            .find(|rule| rule.fits(level, code, program))
+    }
+
+    /// The rules, in their order.
+    pub fn rules(&self) -> &[Rule]
+        ensures { result.now ≡ self.now }
+    {
+        &self.rules
+    }
+}

@@ -1,0 +1,70 @@
+//! Cards under a ruler.
+
+use crate::characters::{push_characters, without_blanks_behind};
+use std::alloc::AllocError;
+
+/// What stands in front of each line.
+const MARGIN: &'static str = "    ";
+
+/// Columns that are marked, from 1.
+#[derive(Clone, Copy, Debug, PartialEq, Eq)]
+pub struct Columns {
+    /// The first one.
+    pub from: usize,
+    /// The last one, no less than the first.
+    pub to: usize,
+}
+
+/// Appends EBCDIC codes under a ruler of columns, without the blanks behind them, and a line that marks some columns, where
+/// any are to be marked.
+pub fn push_ruled(text: &mut String, codes: &[u8], marked: &[Columns]) -> Result<(), AllocError> {
+    let shown = without_blanks_behind(codes);
+    let last = last_marked(marked);
+    push_ruler(text, shown.len().max(last))?;
+    text.push_str(MARGIN)?;
+    push_characters(text, shown)?;
+    text.push('\n')?;
+    if last == 0 {
+        return Ok(());
+    }
+    push_marks(text, marked, last)
+}
+
+/// The last column that is marked; 0 where none is.
+fn last_marked(marked: &[Columns]) -> usize {
+    let mut last = 0;
+    for columns in marked {
+        last = columns.to.max(last);
+    }
+    last
+}
+
+/// Appends `....5...10` and so on, over all columns.
+fn push_ruler(text: &mut String, columns: usize) -> Result<(), AllocError> {
+    text.push_str(MARGIN)?;
+    for fifth in 0..columns.div_ceil(5) {
+        let column = fifth.saturating_add(1).saturating_mul(5);
+        if column < 10 {
+            write!(text, "....{column}")?;
+        } else if column < 100 {
+            write!(text, "...{column}")?;
+        } else {
+            write!(text, "..{column}")?;
+        }
+    }
+    text.push('\n')
+}
+
+/// Appends a line with `^` under each column that is marked.
+fn push_marks(text: &mut String, marked: &[Columns], last: usize) -> Result<(), AllocError> {
+    text.push_str(MARGIN)?;
+    for place in 0..last {
+        text.push(if is_marked(marked, place) { '^' } else { ' ' })?;
+    }
+    text.push('\n')
+}
+
+/// Whether the column at a place, from 0, is marked.
+fn is_marked(marked: &[Columns], place: usize) -> bool {
+    marked.iter().any(|columns| columns.from <= place.saturating_add(1) && place < columns.to)
+}
