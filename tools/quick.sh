@@ -28,7 +28,7 @@ compile() {
     when_stopped="the compilation was stopped"
     tests=
     if [ $kind = plain ]; then
-        say "compiling the program without its proof: some two minutes on one processor"
+        say "compiling the program without its proof: some 90 seconds on two processors"
     else
         tests=--tested
         say "compiling the program without its proof, with run-time tests: some 100 seconds on one processor"
