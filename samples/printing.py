@@ -45,6 +45,27 @@ class Printer:
         self.space(after)
 
 
+class Headed(Printer):
+    """A printer with headings, the page in the first one: at the start, and before the record that follows an overflow."""
+
+    def __init__(self, headings, page_end):
+        super().__init__()
+        self.headings, self.page_end, self.pages = headings, page_end, 0
+        self.put_headings()
+
+    def put_headings(self):
+        self.pages += 1
+        first, *others = self.headings
+        self.put(*first, (edited(Decimal(self.pages), 4, 0, "Z"), self.page_end), skip=1, after=2)
+        for pieces in others:
+            self.put(*pieces, after=2)
+        self.overflow = False
+
+    def begin_record(self):
+        if self.overflow:
+            self.put_headings()
+
+
 def grouped(whole):
     """Digits with a comma before each three from the right."""
     return whole if len(whole) <= 3 else grouped(whole[:-3]) + "," + whole[-3:]
@@ -68,6 +89,11 @@ def edited(number, digits, decimals, code):
     elif units == 0 and decimals == 0:
         text = text[:-1] + "0"
     return text + (sign if units < 0 else " " * len(sign))
+
+
+def edited_units(units, digits, decimals, code):
+    """The same of a whole number of units of the last decimal."""
+    return edited(Decimal(units).scaleb(-decimals), digits, decimals, code)
 
 
 def punched(columns, decimals):

@@ -47,16 +47,16 @@
            05  CUSTOMER-STATE       PIC X VALUE "N".
                88  HAS-CUSTOMER     VALUE "Y".
        01  SUMS.
-           05  PAGES                PIC S9(5) COMP-3 VALUE 0.
+           05  PAGES                PIC S9(5) COMP-5 VALUE 0.
            05  CUSTOMER             PIC 9(5).
-           05  AMOUNT               PIC S9(7)V99 COMP-3.
-           05  TOTAL                PIC S9(9)V99 COMP-3 VALUE 0.
-           05  ITEMS                PIC S9(5) COMP-3 VALUE 0.
-           05  DISCOUNT             PIC S9(9)V99 COMP-3.
-           05  DUE                  PIC S9(9)V99 COMP-3.
-           05  ALL-DUE              PIC S9(11)V99 COMP-3 VALUE 0.
-           05  ALL-ITEMS            PIC S9(7) COMP-3 VALUE 0.
-           05  CUSTOMERS            PIC S9(5) COMP-3 VALUE 0.
+           05  AMOUNT               PIC S9(7)V99 COMP-5.
+           05  TOTAL                PIC S9(9)V99 COMP-5 VALUE 0.
+           05  ITEMS                PIC S9(5) COMP-5 VALUE 0.
+           05  DISCOUNT             PIC S9(9)V99 COMP-5.
+           05  DUE                  PIC S9(9)V99 COMP-5.
+           05  ALL-DUE              PIC S9(11)V99 COMP-5 VALUE 0.
+           05  ALL-ITEMS            PIC S9(7) COMP-5 VALUE 0.
+           05  CUSTOMERS            PIC S9(5) COMP-5 VALUE 0.
        01  FIRST-HEADING.
            05  FILLER               PIC X(32)
                VALUE "BILLING REGISTER".
@@ -220,28 +220,4 @@
            MOVE SECOND-HEADING TO REPORT-TEXT
            PERFORM PRINT-LINE
            MOVE "N" TO OVERFLOW-STATE.
-       PRINT-LINE.
-           IF PLACE = 60
-               SET OVERFLOWS TO TRUE
-           END-IF
-           MOVE PAGE-NUMBER TO REPORT-PAGE
-           MOVE PLACE TO REPORT-PLACE
-           WRITE REPORT-LINE
-           MOVE SPACES-AFTER TO SPACES-DUE
-           PERFORM SPACE-LINES.
-       SPACE-LINES.
-           MOVE PLACE TO PLACE-BEFORE
-           ADD SPACES-DUE TO PLACE
-           IF PLACE > 66
-               SUBTRACT 66 FROM PLACE
-               PERFORM NEXT-PAGE
-           ELSE
-               IF PLACE-BEFORE <= 60 AND PLACE > 60
-                   SET OVERFLOWS TO TRUE
-               END-IF
-           END-IF.
-       NEXT-PAGE.
-           ADD 1 TO PAGE-NUMBER
-           IF PAGE-NUMBER > 9999
-               MOVE 0 TO PAGE-NUMBER
-           END-IF.
+           COPY "printer.cpy".

@@ -15,7 +15,8 @@ const POWERS: [i64; 16] = {
     powers
 };
 
-/// The low digits of a number.
+/// The low digits of a number. Cut are the sums of amounts, and the results that the numbers of one card can overfill; a count
+/// of cards is not, since a deck has at most 9,999 of them.
 fn cut(number: i64, digits: usize) -> i64 {
     number % POWERS[digits]
 }
@@ -112,17 +113,17 @@ impl Work {
     }
 
     fn arithmetic(&mut self) {
-        self.sum = cut(self.a * 10 + self.b, 9);
+        self.sum = self.a * 10 + self.b;
         self.sum_sign = Some(self.sum.cmp(&0));
-        self.dif = cut(self.a * 10 - self.b, 9);
+        self.dif = self.a * 10 - self.b;
         self.dif_sign = Some(self.dif.cmp(&0));
-        self.prd = cut(half_adjusted(self.a * self.b, 3), 11);
+        self.prd = half_adjusted(self.a * self.b, 3);
         self.totp = cut(self.totp + self.prd, 15);
         self.no_divisor = self.q == 0;
         if !self.no_divisor {
             let quotient = self.a * 10 / self.q;
-            self.quo = cut(quotient, 9);
-            self.rem = cut((self.a * 10 - quotient * self.q) * 100, 9);
+            self.quo = quotient;
+            self.rem = (self.a * 10 - quotient * self.q) * 100;
             // One digit more than is kept, to adjust.
             self.sev = cut(half_adjusted(self.prd * 1000 / 7, 1), 9);
         } else {
@@ -157,12 +158,12 @@ impl Work {
         }
         if self.texts != Some(Ordering::Less) {
             if self.on_31 && self.against_sum == Some(Ordering::Greater) {
-                self.cnta = cut(self.cnta + 1, 7);
+                self.cnta += 1;
             }
             if self.on_32 && self.texts != Some(Ordering::Equal) {
-                self.cntb = cut(self.cntb + 1, 7);
+                self.cntb += 1;
             }
-            self.prd = cut(self.prd - 125, 11);
+            self.prd -= 125;
         }
     }
 
@@ -175,7 +176,7 @@ impl Work {
     }
 
     fn inner(&mut self) {
-        self.cnti = cut(self.cnti + 1, 7);
+        self.cnti += 1;
     }
 
     /// Whether this is a tenth card, which is shown.
@@ -186,13 +187,13 @@ impl Work {
         self.left = self.k;
         loop {
             self.step();
-            self.left = cut(self.left - 1, 1);
+            self.left -= 1;
             if self.left <= 0 {
                 break;
             }
         }
-        self.cnt = cut(self.cnt + 1, 7);
-        self.ten = cut(self.ten + 1, 2);
+        self.cnt += 1;
+        self.ten += 1;
         let is_tenth = self.ten == 10;
         if is_tenth {
             self.ten = 0;
@@ -285,7 +286,7 @@ impl Printer {
     }
 
     fn totals(&mut self, work: &Work) {
-        let half = cut(half_adjusted(work.totp * 5, 1), 15);
+        let half = half_adjusted(work.totp * 5, 1);
         self.number(work.totp, 2, true, true, 21);
         self.number(half, 2, true, true, 43);
         self.number(work.suma, 5, false, true, 61);

@@ -12,7 +12,7 @@ HERE = os.path.dirname(os.path.abspath(__file__))
 sys.path.insert(0, os.path.dirname(HERE))
 from decimal import Decimal  # noqa: E402
 
-from printing import Printer, decks, edited, half_adjusted, in_key_order, jobs, list_line, punched, show_both  # noqa: E402
+from printing import Headed, decks, edited, half_adjusted, in_key_order, jobs, list_line, punched, show_both  # noqa: E402
 
 PRICES, STOCKS = 120, (100, 60)       # records that the files have room for
 NAMES = ("SHOP", "YARD")
@@ -22,27 +22,6 @@ def read(name):
     """The run jobs of both levels of an input: each its date and its data."""
     with open(os.path.join(HERE, name)) as text:
         return [jobs(deck) for deck in decks(text.read())]
-
-
-class Headed(Printer):
-    """A printer with headings, the page in the first one: at the start, and before the record that follows an overflow."""
-
-    def __init__(self, headings, page_end):
-        super().__init__()
-        self.headings, self.page_end, self.pages = headings, page_end, 0
-        self.put_headings()
-
-    def put_headings(self):
-        self.pages += 1
-        first, *others = self.headings
-        self.put(*first, (edited(Decimal(self.pages), 4, 0, "Z"), self.page_end), skip=1, after=2)
-        for pieces in others:
-            self.put(*pieces, after=2)
-        self.overflow = False
-
-    def begin_record(self):
-        if self.overflow:
-            self.put_headings()
 
 
 class Prices:

@@ -1,0 +1,176 @@
+//! The printer and the numbers of the benchmarks' plain Rust: lines made in one room, digits written by hand.
+
+const PAGE_LINES: usize = 66;
+const OVERFLOW_LINE: usize = 60;
+
+#[derive(Clone, Copy)]
+pub enum Sign {
+    Never,
+    Minus,
+    Credit,
+}
+
+/// The line that is being made, and where the printer stands.
+pub struct Printer {
+    page: usize,
+    line: usize,
+    overflow: bool,
+    text: [u8; 132],
+    report: Vec<u8>,
+}
+
+impl Printer {
+    pub fn new(report: Vec<u8>) -> Self {
+        Printer { page: 1, line: 1, overflow: false, text: [b' '; 132], report }
+    }
+
+    /// Whether headings are due.
+    pub fn is_full(&self) -> bool {
+        self.overflow
+    }
+
+    pub fn text(&mut self, text: &[u8], end: usize) {
+        self.text[end - text.len()..end].copy_from_slice(text);
+    }
+
+    /// The characters of codes that a table translates.
+    pub fn coded(&mut self, codes: &[u8], table: &[u8; 256], end: usize) {
+        let begin = end - codes.len();
+        for (place, &code) in self.text[begin..end].iter_mut().zip(codes) {
+            *place = table[usize::from(code)];
+        }
+    }
+
+    /// Digits without leading zeros; a zero is blank unless it is to be shown.
+    pub fn whole(&mut self, number: i64, shows_zero: bool, end: usize) {
+        let (mut rest, mut place) = (number, end);
+        if rest == 0 && shows_zero {
+            self.text[place - 1] = b'0';
+        }
+        while rest > 0 {
+            place -= 1;
+            self.text[place] = b'0' + (rest % 10) as u8;
+            rest /= 10;
+        }
+    }
+
+    /// With commas and so many decimals; the sign stands in the last columns.
+    pub fn amount(&mut self, number: i64, decimals: usize, sign: Sign, end: usize) {
+        let mut place = self.sign(number < 0, sign, end);
+        let mut rest = number.unsigned_abs();
+        for _ in 0..decimals {
+            place -= 1;
+            self.text[place] = b'0' + (rest % 10) as u8;
+            rest /= 10;
+        }
+        if decimals > 0 {
+            place -= 1;
+            self.text[place] = b'.';
+        } else if rest == 0 {
+            self.text[place - 1] = b'0';
+        }
+        let mut shown = 0;
+        while rest > 0 {
+            if shown > 0 && shown % 3 == 0 {
+                place -= 1;
+                self.text[place] = b',';
+            }
+            place -= 1;
+            self.text[place] = b'0' + (rest % 10) as u8;
+            rest /= 10;
+            shown += 1;
+        }
+    }
+
+    /// Where the digits end.
+    fn sign(&mut self, is_minus: bool, sign: Sign, end: usize) -> usize {
+        match sign {
+            Sign::Never => end,
+            Sign::Minus => {
+                if is_minus {
+                    self.text[end - 1] = b'-';
+                }
+                end - 1
+            }
+            Sign::Credit => {
+                if is_minus {
+                    self.text[end - 2..end].copy_from_slice(b"CR");
+                }
+                end - 2
+            }
+        }
+    }
+
+    pub fn date(&mut self, date: i64, end: usize) {
+        let mut rest = date;
+        for place in (end - 8..end).rev() {
+            if end - place == 3 || end - place == 6 {
+                self.text[place] = b'/';
+                continue;
+            }
+            self.text[place] = b'0' + (rest % 10) as u8;
+            rest /= 10;
+        }
+        if self.text[end - 8] == b'0' {
+            self.text[end - 8] = b' ';
+        }
+    }
+
+    pub fn space(&mut self, lines: usize) {
+        let from = self.line;
+        self.line += lines;
+        if self.line > PAGE_LINES {
+            self.line -= PAGE_LINES;
+            self.page = (self.page + 1) % 10_000;
+        } else if from <= OVERFLOW_LINE && self.line > OVERFLOW_LINE {
+            self.overflow = true;
+        }
+    }
+
+    /// Goes to the first line of a page, for the first of the headings.
+    pub fn first_line(&mut self) {
+        if self.line > 1 {
+            self.page = (self.page + 1) % 10_000;
+            self.line = 1;
+        }
+    }
+
+    pub fn headings_are_done(&mut self) {
+        self.overflow = false;
+    }
+
+    /// Prints the line that was made, and begins the next.
+    pub fn print(&mut self, after: usize) {
+        if self.line == OVERFLOW_LINE {
+            self.overflow = true;
+        }
+        let mut head = *b"0000 00 ";
+        let mut rest = self.page;
+        for place in (0..4).rev() {
+            head[place] = b'0' + (rest % 10) as u8;
+            rest /= 10;
+        }
+        head[5] = b'0' + (self.line / 10) as u8;
+        head[6] = b'0' + (self.line % 10) as u8;
+        self.report.extend_from_slice(&head);
+        let shown = self.text.iter().rposition(|&byte| byte != b' ').map_or(0, |last| last + 1);
+        self.report.extend_from_slice(&self.text[..shown]);
+        self.report.push(b'\n');
+        self.text = [b' '; 132];
+        self.space(after);
+    }
+
+    pub fn report(self) -> Vec<u8> {
+        self.report
+    }
+}
+
+/// Digits on a card or in a record, without a sign.
+pub fn zoned(bytes: &[u8]) -> i64 {
+    bytes.iter().fold(0, |number, &byte| number * 10 + i64::from(byte & 15))
+}
+
+/// Divided by a power of ten, half adjusted.
+pub fn half_adjusted(number: i64, divisor: i64) -> i64 {
+    (number + number.signum() * divisor / 2) / divisor
+}
