@@ -1,7 +1,6 @@
 //! The command's words, and what they ask for.
 ghost use Rattle.std.specs.Prelude.{◌≤◌, ◌≡◌};
 
-use crate::files::{FileFault, LockedPack, read_pack, read_to_save, save_pack};
 use crate::operate::operate;
 use crate::version::write_version;
 use crate::words::command;
@@ -11,11 +10,18 @@ use s3_cli::{
     CliFault, RunFault, SessionFault, Watched, image, image_with, list, migrate, session_on, tell,
     write_table,
 };
+use s3_data_commands::check_pack::check;
+use s3_data_commands::delete::delete;
+use s3_host_files::{FileFault, LockedPack, read_pack, read_to_save, save_pack};
+use s3_paper_commands::punch_files;
 use std::io::Write;
-use std::{env, io};
+use std::{env, fs, io};
 
 /// The exit status of words that can't be read.
 const USAGE: u8 = 2;
+
+/// The exit status where a new file isn't written over what stands there.
+const OCCUPIED: u8 = 1;
 
 const OUT_OF_MEMORY: CliFault = CliFault::Session(SessionFault::Run(RunFault::NoMemory));
 
@@ -94,7 +100,11 @@ fn perform<'a>(rt: &'a HostRuntime, matches: &ArgMatches<'a>, words: &[String]) 
 {
     let done = match matches.subcommand() {
         Some(("operate", matches)) => return operate(rt, matches, words.get(2..).unwrap_or(&[])),
+        Some(("punch", matches)) => return punch_files(rt, matches),
+        Some(("check", matches)) => return check(rt, matches),
+        Some(("delete", matches)) => return delete(rt, matches),
         Some(("run", matches)) => run(rt, matches),
+        Some(("init", matches)) if is_occupied(rt, matches) => return refuse_occupied(rt, matches),
         Some(("init", matches)) => init(rt, matches),
         Some(("list", matches)) => list_files(rt, matches),
         Some(("migrate", matches)) => migrate_pack(rt, matches),
@@ -136,6 +146,23 @@ fn pack_to_run(
             Ok((pack, None))
         }
     }
+}
+
+/// Whether `bureau init` is to write a new file, and something stands there.
+fn is_occupied(rt: &HostRuntime, matches: &ArgMatches<'_>) -> bool {
+    matches.get_flag("new") && fs::symlink_metadata(rt, file(matches, "save")).is_ok()
+}
+
+/// Says that a new pack would be written over what stands there.
+fn refuse_occupied(rt: &HostRuntime, matches: &ArgMatches<'_>) -> u8
+    ensures { result ≡ 1 }
+{
+    let path = file(matches, "save");
+    let _ = writeln!(
+        rt.stderr(),
+        "bureau: {path} is there already; give another name, or leave --new out to write over it"
+    );
+    OCCUPIED
 }
 
 /// `bureau init`.

@@ -10,7 +10,6 @@
 #![tactic(auto)]
 
 mod command;
-mod files;
 mod operate;
 mod version;
 mod words;

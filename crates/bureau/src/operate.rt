@@ -8,6 +8,7 @@ mod inherited_words;
 mod inputs;
 mod order;
 mod outputs;
+mod paper;
 mod taking_up;
 mod watch;
 
@@ -21,11 +22,12 @@ use inputs::{read_day_pack, read_deck, read_log, read_rules};
 use order::Order;
 use outputs::{Outputs, guard};
 use s3_cards::LevelId;
-use s3_cli::{CliFault, SessionFault, list};
+use s3_cli::{CliFault, RunFault, SessionFault};
 use s3_day_log::DayLog;
+use s3_labels::{Pack, Refusal, Refused};
 use s3_operating::Seat;
+use s3_store::MemoryStore;
 use std::alloc::Global;
-use std::io;
 use std::io::Write;
 use taking_up::{list_jobs, taken_up};
 
@@ -132,8 +134,8 @@ fn operate_with<'a>(
     let alloc = rt.alloc();
     let order = Order::read(rt, matches)?;
     let is_logged = order.log.is_some() || again.is_some();
-    let (text1, read1) = read_deck(rt, &order.deck1, is_logged)?;
-    let (text2, read2) = read_deck(rt, &order.deck2, is_logged)?;
+    let (text1, read1) = read_deck(rt, LevelId::One, &order.deck1, is_logged)?;
+    let (text2, read2) = read_deck(rt, LevelId::Two, &order.deck2, is_logged)?;
     if matches.get_flag("jobs") {
         list_jobs(rt, &text1, &text2)?;
         return Ok(0);
@@ -149,7 +151,7 @@ fn operate_with<'a>(
     let text2 = taken_up(rt, LevelId::Two, text2, order.from2)?;
     let one = Seat::new(alloc, LevelId::One, &text1);
     let two = Seat::new(alloc, LevelId::Two, &text2);
-    test_pack(alloc, &pack)?;
+    let pack = mountable(alloc, pack)?;
     let outputs = Outputs::open(rt, &order, locked)?;
     operate_prepared(
         rt,
@@ -166,10 +168,18 @@ fn operate_with<'a>(
     )
 }
 
-/// Refuses a pack that can't be used, before any output is emptied.
-fn test_pack<'a>(alloc: Global, pack: &[u8]) -> Result<(), DayFault<'a>> {
-    match list(alloc, pack, &mut io::sink()) {
-        Ok(()) => Ok(()),
-        Err(fault) => Err(DayFault::Cli(CliFault::Session(fault))),
+/// A pack that can be mounted, as it was given; any other is refused, before an output is emptied.
+fn mountable<'a>(alloc: Global, pack: Vec<u8>) -> Result<Vec<u8>, DayFault<'a>> {
+    match Pack::over(alloc, MemoryStore::from_bytes(pack)) {
+        Ok(Pack { pool, areas: _ }) => Ok(pool.into_bytes()),
+        Err(Refused { pool: _, fault }) => Err(DayFault::Cli(refused(fault))),
+    }
+}
+
+/// What the refusal of a pack in memory is to the command: its sectors can always be read.
+fn refused(refusal: Refusal) -> CliFault {
+    match refusal {
+        Refusal::BadPack(fault) => CliFault::Session(SessionFault::Run(RunFault::Mount(fault))),
+        Refusal::Sectors(_) => OUT_OF_MEMORY,
     }
 }

@@ -1,6 +1,9 @@
 //! The words that the program takes.
 
 use clap::{Arg, ArgAction, Command, value_parser};
+use s3_data_commands::check_pack::check_command;
+use s3_data_commands::delete::delete_command;
+use s3_paper_commands::punch_command;
 use std::alloc::{AllocError, Global};
 
 /// The regions of a new pack have so many tracks where the words don't say it.
@@ -9,16 +12,24 @@ const TRACKS: &str = "10";
 /// The levels of a new pack may have so many lines queued where the words don't say it.
 const QUOTA: &str = "64";
 
-/// The command line of the program: its commands `run`, `operate`, `init`, `list` and `migrate`, and their words. It is refused only where
-/// memory runs out.
+/// The command line of the program: its commands and their words. It is refused only where memory runs out.
 pub fn command<'a>(alloc: Global) -> Result<Command<'a>, AllocError> {
-    Command::new(alloc, "bureau")
+    let command = Command::new(alloc, "bureau")
         .about("A dual-program RPG II job shop")
         // what `--version` prints is asked of the executable, and not of the parser
         .version("")
         .subcommand_required(true)
         .subcommand(run_command(alloc)?)?
         .subcommand(operate_command(alloc)?)?
+        .subcommand(punch_command(alloc)?)?;
+    pack_commands(alloc, command)
+}
+
+/// The commands over a pack without a day.
+fn pack_commands<'a>(alloc: Global, command: Command<'a>) -> Result<Command<'a>, AllocError> {
+    command
+        .subcommand(check_command(alloc)?)?
+        .subcommand(delete_command(alloc)?)?
         .subcommand(init_command(alloc)?)?
         .subcommand(list_command(alloc)?)?
         .subcommand(migrate_command(alloc)?)
@@ -58,7 +69,7 @@ fn operate_command<'a>(alloc: Global) -> Result<Command<'a>, AllocError> {
 
 /// The words of `operate` for what is written beside the reports, and for what is done with a day.
 fn operate_outputs<'a>(alloc: Global, command: Command<'a>) -> Result<Command<'a>, AllocError> {
-    command
+    let command = command
         .arg(file_word(alloc, "script").help("Where the script that was performed is written"))?
         .arg(file_word(alloc, "log").help("Where the log of the day is written"))?
         .arg(
@@ -73,7 +84,13 @@ fn operate_outputs<'a>(alloc: Global, command: Command<'a>) -> Result<Command<'a
         ))?
         .arg(file_word(alloc, "deck-out2").help(
             "Where the deck of level 2 is written as it is run",
-        ))?
+        ))?;
+    operate_flags(alloc, operate_paper(alloc, command)?)
+}
+
+/// The words of `operate` that stand alone.
+fn operate_flags<'a>(alloc: Global, command: Command<'a>) -> Result<Command<'a>, AllocError> {
+    command
         .arg(flag(alloc, "jobs").help("Lists the jobs of the decks, and runs none"))?
         .arg(flag(alloc, "save-unfinished").help("Saves the pack also where a level isn't done"))?
         .arg(flag(alloc, "overwrite").help(
@@ -84,10 +101,27 @@ fn operate_outputs<'a>(alloc: Global, command: Command<'a>) -> Result<Command<'a
         ))
 }
 
+/// The words of `operate` for printed pages.
+fn operate_paper<'a>(alloc: Global, command: Command<'a>) -> Result<Command<'a>, AllocError> {
+    command
+        .arg(
+            file_word(alloc, "paper").value_name("DIR").help(
+                "Where each job's printed lines are written, as pages, into a file of their own",
+            ),
+        )?
+        .arg(
+            file_word(alloc, "form").value_name("FORM").help(
+                "How pages are written: text or pdf; text if none is given",
+            ),
+        )?
+        .arg(flag(alloc, "plain").help("Leaves out the bars of forms in pdf"))
+}
+
 fn init_command<'a>(alloc: Global) -> Result<Command<'a>, AllocError> {
     Command::new(alloc, "init")
         .about("Writes a new pack with free labels")
         .arg(save_word(alloc))?
+        .arg(flag(alloc, "new").help("Writes over nothing that is there"))?
         .arg(file_word(alloc, "from").help(
             "An old pack: the sound files of its level 1 become the masters",
         ))?

@@ -3,7 +3,7 @@ ghost use Rattle.std.specs.Prelude.{◌≡◌, ◌<◌, ◌++◌, [], ◌∷◌,
 ghost use Rattle.std.specs.List.{position_from};
 ghost use Rattle.std.specs.Option.{option_map};
 ghost use Rattle.std.specs.Str.Lines.{lines};
-ghost use Rattle.s3_deck_files.specs.Inner.Decks.{card_of, ended, first_lines, is_left_out as is_left_out_spec, is_line as is_line_spec, joined, kept, line_of, line_seen, with_file, without};
+ghost use Rattle.s3_deck_files.specs.Inner.Decks.{card_of, ended, first_lines, is_left_out as is_left_out_spec, is_line as is_line_spec, joined, kept, line_of, line_seen, lines_of, with_cards, with_file, without};
 
 use crate::place::{CardPlace, FilePlace};
 use crate::position::Position;
@@ -53,6 +53,21 @@ impl<'a> DeckText<'a> {
         ensures { OnOk result (self.new ≡ with_file file.now bytes.items self.old) }
     {
         push_places(&mut self.places, file, &bytes)?;
+        push_ended(&mut self.text, bytes)
+    }
+
+    /// Puts cards that were punched of a file behind those of the files before, with the line of the file that each is of, from
+    /// 1, in their order. A last card without its end gets one. On a refusal for memory the deck may have a part of the file, and
+    /// isn't to be used.
+    pub fn add_punched(
+        &mut self,
+        file: &'a str,
+        bytes: Vec<u8>,
+        origins: &[usize],
+    ) -> Result<(), AllocError>
+        ensures { OnOk result (self.new ≡ with_cards file.now bytes.items origins.now self.old) }
+    {
+        push_lines(&mut self.places, file, origins)?;
         push_ended(&mut self.text, bytes)
     }
 
@@ -135,6 +150,20 @@ fn push_places<'a>(
         line += 1;
         places.push(FilePlace { file, line })?;
         rest = after;
+    }
+    Ok(())
+}
+
+/// Appends the places of some lines of a file.
+fn push_lines<'a>(
+    places: &mut Vec<FilePlace<'a>>,
+    file: &'a str,
+    lines: &[usize],
+) -> Result<(), AllocError>
+    ensures { OnOk result (map line_seen places.new.items ≡ map line_seen places.old.items ++ lines_of file.now lines.now) }
+{
+    for line in lines {
+        places.push(FilePlace { file, line: *line })?;
     }
     Ok(())
 }

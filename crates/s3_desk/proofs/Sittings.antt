@@ -302,18 +302,14 @@ spent_cut level was is old new Rests uses not_on not_rests = absurd (not_rests r
 spent_cut level was is old new Cut uses not_on not_rests = uses.all refl
 
 -- ---- what is left to do
-pub few_replies : (seat : Seat) → replies_left seat ≤ 1
-few_replies seat = by seat.is_answered
-  where
-    by : (b : Bool) → (if b then 0 else 1) ≤ 1
-    by true = omega arith
-    by false = omega arith
+pub few_replies : (seat : Seat) → replies_left seat ≤ 65535
+few_replies seat = omega arith
 
-pub less_room : (a b c d r s t u : ℕ) → c ≤ a → d ≤ b → (c < a) ⊎ (d < b) → t ≤ 1 → u ≤ 1 → 3 * (c + d) + (t + u) < 3 * (a + b) + (r + s)
+pub less_room : (a b c d r s t u : ℕ) → c ≤ a → d ≤ b → (c < a) ⊎ (d < b) → t ≤ 65535 → u ≤ 65535 → 131071 * (c + d) + (t + u) < 131071 * (a + b) + (r + s)
 less_room a b c d r s t u first second (inl less) few_t few_u = omega (arith, first, second, less, few_t, few_u)
 less_room a b c d r s t u first second (inr less) few_t few_u = omega (arith, first, second, less, few_t, few_u)
 
-pub less_replies : (a b c d r s t u : ℕ) → c ≤ a → d ≤ b → t + u < r + s → 3 * (c + d) + (t + u) < 3 * (a + b) + (r + s)
+pub less_replies : (a b c d r s t u : ℕ) → c ≤ a → d ≤ b → t + u < r + s → 131071 * (c + d) + (t + u) < 131071 * (a + b) + (r + s)
 less_replies a b c d r s t u first second less = omega (arith, first, second, less)
 
 -- a level that has gone on has less room

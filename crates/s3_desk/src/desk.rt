@@ -40,9 +40,9 @@ struct Seat {
     left: Bounds,
     /// The halt that waits was shown.
     is_shown: bool,
-    /// A reply was taken, and the level hasn't gone on since. So two replies never come one behind the other, whatever the machine
-    /// does, and a day ends.
-    is_answered: bool,
+    /// How many replies were taken since the level went on last: one can lead to the next halt at once. There is a most of them,
+    /// so that a day ends whatever the machine does.
+    answers: u16,
 }
 
 impl Seat {
@@ -55,7 +55,7 @@ impl Seat {
         Seat {
             left: bounds,
             is_shown: false,
-            is_answered: false,
+            answers: 0,
         }
     }
 }
@@ -177,7 +177,7 @@ fn show<M: Machine, O: Operator<M>>(
     ensures held { OnOk result (Keeps M.holds bureau.old bureau.new) }
     ensures asks { OnOk result ((was : List Entry) → Asks M.holds O.meets was was bureau.old operator.old operator.new) }
     ensures same_left { seat.new.left ≡ seat.old.left }
-    ensures same_answer { seat.new.is_answered ≡ seat.old.is_answered }
+    ensures same_answers { seat.new.answers ≡ seat.old.answers }
     ensures after { OnOk result ((was : List Entry) → GoesAfter M.after was was bureau.old bureau.new) }
     ensures kept { KeepsFrom M.keeps bureau.old bureau.new }
     ensures failed { M.failures bureau.new ≡ M.failures bureau.old + failed_stop result }
@@ -212,7 +212,7 @@ fn follow<M: Machine, O: Operator<M>>(
 {
     match went {
         Went::On => {
-            seat.is_answered = false;
+            seat.answers = 0;
             operator.follow(bureau, level, performed)?;
             Ok(())
         }
@@ -324,14 +324,14 @@ fn ask_at_rest<M: Machine, O: Operator<M>>(
     ensures failed { M.failures bureau.new ≡ M.failures bureau.old + failed_stop result }
     ensures not_stopped { NeverStopped M.after performed.old bureau.old result }
 {
-    if went != Went::Rests || seat.is_answered {
+    if went != Went::Rests || seat.answers == u16::MAX {
         return Ok(false);
     }
     let is_taken = ask(bureau, level, operator, performed)?;
     if !is_taken {
         return Ok(false);
     }
-    seat.is_answered = true;
+    seat.answers += 1;
     seat.is_shown = false;
     Ok(true)
 }

@@ -1,32 +1,43 @@
 //! The details of faulty statements and of sources with diagnostics.
 
 use crate::cards::DeckCards;
-use crate::diagnostics::diagnostic_words;
+use s3_blame::{FaultyEntry, columns_of, diagnostic_words, entries_of, push_marks};
 use s3_deck_jobs::Statements;
 use s3_evidence::Begun;
+use s3_lines::Diagnostic;
 use s3_operator::{Halt, HaltCode};
-use s3_ruled::Columns;
-use std::alloc::AllocError;
+use s3_ruled::{Columns, without_blanks_behind};
+use std::alloc::{AllocError, Global};
 
 /// The most details that are shown.
 const MOST: usize = 20;
 
-/// Appends each detail of a halt, by cards: the card, and below it what is wrong there. At most twenty are shown, and how many more
-/// there are is told.
+/// The word RUN on the card of that statement.
+const RUN: Columns = Columns { from: 4, to: 6 };
+
+/// Appends each detail of a halt, by cards: the card, and below it what is wrong there, with marks under the columns to blame. At most
+/// twenty are shown, and how many more there are is told.
 pub(crate) fn push_details(
     text: &mut String,
+    alloc: Global,
     cards: DeckCards<'_>,
     begun: &Begun,
     halt: &Halt,
 ) -> Result<(), AllocError> {
+    let entries = entries_at_fault(alloc, cards, begun, halt)?;
     let mut before = 0;
     for (card, number) in halt.details.iter().take(MOST) {
         let place = usize::from(*card);
         if place != before {
-            // diagnostics don't name their columns yet
-            push_card_at_fault(text, cards, place, &[])?;
+            push_card_at_fault(text, cards, place)?;
         }
         before = place;
+        let diagnostic = Diagnostic {
+            card: *card,
+            number: *number,
+        };
+        let marked = marked_for(alloc, cards, begun, halt.code, &entries, &diagnostic)?;
+        push_marked(text, &marked)?;
         push_detail(text, begun, halt.code, *number)?;
     }
     let more = halt.details.len().saturating_sub(MOST);
@@ -36,17 +47,77 @@ pub(crate) fn push_details(
     Ok(())
 }
 
-/// Appends a card that has details, with the columns that they are about.
+/// The entries to blame for the diagnostics of a halt; none where it has no diagnostics.
+fn entries_at_fault(
+    alloc: Global,
+    cards: DeckCards<'_>,
+    begun: &Begun,
+    halt: &Halt,
+) -> Result<Vec<FaultyEntry>, AllocError> {
+    let mut told = Vec::new(alloc);
+    for (card, number) in halt.details.iter() {
+        told.push(Diagnostic {
+            card: *card,
+            number: *number,
+        })?;
+    }
+    let Some(job) = begun.statements() else {
+        return Ok(Vec::new(alloc));
+    };
+    let from = job.data_from();
+    let to = job.data_to();
+    if told.is_empty() || to > cards.deck.len() {
+        return Ok(Vec::new(alloc));
+    }
+    entries_of(alloc, cards.deck, from, to, &told)
+}
+
+/// The columns to mark for a detail: of a faulty statement all that it has, of the RUN card its word, else those to blame.
+fn marked_for(
+    alloc: Global,
+    cards: DeckCards<'_>,
+    begun: &Begun,
+    code: HaltCode,
+    entries: &[FaultyEntry],
+    diagnostic: &Diagnostic,
+) -> Result<Vec<Columns>, AllocError> {
+    let mut marked = Vec::new(alloc);
+    if matches!(code, HaltCode::FaultyJob) {
+        if let Some(card) = cards.card(usize::from(diagnostic.card)) {
+            let to = without_blanks_behind(card).len();
+            marked.push(Columns { from: 1, to })?;
+        }
+    } else if begun
+        .statements()
+        .is_some_and(|job| job.run_card() == diagnostic.card)
+    {
+        marked.push(RUN)?;
+    } else {
+        return columns_of(alloc, entries, diagnostic);
+    }
+    Ok(marked)
+}
+
+/// Appends a line with marks, where columns are marked.
+fn push_marked(text: &mut String, marked: &[Columns]) -> Result<(), AllocError> {
+    if marked.is_empty() {
+        return Ok(());
+    }
+    text.push_str("    ")?;
+    push_marks(text, marked)?;
+    text.push('\n')
+}
+
+/// Appends a card that has details.
 fn push_card_at_fault(
     text: &mut String,
     cards: DeckCards<'_>,
     number: usize,
-    marked: &[Columns],
 ) -> Result<(), AllocError> {
     text.push_str("  ")?;
     cards.push_place(text, number)?;
     text.push('\n')?;
-    cards.push_card(text, number, marked)
+    cards.push_card(text, number, &[])
 }
 
 /// Appends what a detail means.

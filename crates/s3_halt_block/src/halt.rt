@@ -36,7 +36,7 @@ pub fn push_halt<S: PackStore>(
     };
     push_meaning(text, level, halt.code)?;
     push_beginning(text, cards, &begun, halt)?;
-    push_details(text, cards, &begun, halt)?;
+    push_details(text, alloc, cards, &begun, halt)?;
     match held.cycle() {
         Some(cycle) => {
             let source = source_of(alloc, &begun, held, cycle.program_name())?;

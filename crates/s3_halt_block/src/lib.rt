@@ -10,7 +10,6 @@ mod bad_digits;
 mod cards;
 mod causes;
 mod details;
-mod diagnostics;
 mod files;
 mod halt;
 mod layout;

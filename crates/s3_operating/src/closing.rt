@@ -1,4 +1,6 @@
 //! How a day ended.
+ghost use Rattle.std.specs.Prelude.{◌≡◌};
+ghost use Rattle.s3_operating.specs.Inner.Endings.{is_done, verdict_of};
 
 use crate::clock::Clock;
 use crate::desk::Desk;
@@ -71,7 +73,7 @@ impl<'a, R: Read + Drop, W: Write + Drop, F: Write + Drop, C: Clock + Drop> Desk
         push_summary(&mut summary, &self.one, one, lines1)?;
         push_summary(&mut summary, &self.two, two, lines2)?;
         Ok(Closing {
-            verdict: self.verdict(one, two),
+            verdict: became(one, two, &self.one.ledger, &self.two.ledger),
             summary,
         })
     }
@@ -127,22 +129,26 @@ impl<'a, R: Read + Drop, W: Write + Drop, F: Write + Drop, C: Clock + Drop> Desk
     fn has_all_turns(&self, level: LevelId) -> bool {
         self.tally.of(level).turns >= u64::from(self.settings.bounds.turns)
     }
+}
 
-    fn verdict(&self, one: LevelEnd, two: LevelEnd) -> Verdict {
-        if one != LevelEnd::Done || two != LevelEnd::Done {
-            return Verdict::Unfinished;
-        }
-        if has_passed(&self.one) || has_passed(&self.two) {
-            Verdict::Passed
-        } else {
-            Verdict::Clean
-        }
+/// What became of a day whose levels ended so, over the jobs that they began.
+fn became(one: LevelEnd, two: LevelEnd, jobs1: &Ledger, jobs2: &Ledger) -> Verdict
+    ensures { result ≡ verdict_of one two jobs1.now.begun.items jobs2.now.begun.items }
+{
+    if !is_done(one) || !is_done(two) {
+        return Verdict::Unfinished;
+    }
+    if jobs1.has_passed() || jobs2.has_passed() {
+        Verdict::Passed
+    } else {
+        Verdict::Clean
     }
 }
 
-/// Whether a job was passed over, or ended by a reply.
-fn has_passed(seat: &Seat<'_>) -> bool {
-    seat.ledger.begun().iter().any(|job| job.ending.is_some())
+fn is_done(end: LevelEnd) -> bool
+    ensures { result ≡ is_done end }
+{
+    matches!(end, LevelEnd::Done)
 }
 
 /// Appends how a level ended, and its jobs.
@@ -282,12 +288,13 @@ fn push_how(text: &mut String, job: &BegunJob, end: LevelEnd) -> Result<(), Allo
             push_letters(text, code)?;
             write!(text, ", {meaning}")
         }
-        Some((code, digit)) => {
+        Some((code, digit)) if job.is_over => {
             write!(text, "ended by reply {digit} at ")?;
             push_letters(text, code)
         }
         None if job.is_over => text.push_str("came to its end"),
-        None => text.push_str(match end {
+        // a reply that ends a job leads to its totals, where it can halt again
+        Some(_) | None => text.push_str(match end {
             LevelEnd::Halted => "halted",
             LevelEnd::Stopped => "stopped",
             _ => "cut",

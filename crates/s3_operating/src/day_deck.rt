@@ -4,12 +4,14 @@ use s3_deck_files::DeckText;
 use std::alloc::{AllocError, Global};
 
 /// A file of a deck.
-#[derive(Clone, Copy)]
+#[derive(Drop)]
 struct DeckFile<'a> {
     /// Its name, as it was given.
     name: &'a str,
     /// Where its text ends in that of the deck.
     end: usize,
+    /// The line of the file that each card is of, where its text was punched.
+    origins: Option<Vec<usize>>,
 }
 
 /// Files, one behind the other, each with its last line ended.
@@ -30,6 +32,25 @@ impl<'a> JoinedFiles<'a> {
 
     /// Puts a file's lines behind those of the files before, which are whole. A last line without its end gets one.
     pub fn add(&mut self, name: &'a str, bytes: Vec<u8>) -> Result<(), AllocError> {
+        self.add_file(name, bytes, None)
+    }
+
+    /// Likewise the cards that were punched of a file, with the line of the file that each is of, from 1.
+    pub fn add_punched(
+        &mut self,
+        name: &'a str,
+        bytes: Vec<u8>,
+        origins: Vec<usize>,
+    ) -> Result<(), AllocError> {
+        self.add_file(name, bytes, Some(origins))
+    }
+
+    fn add_file(
+        &mut self,
+        name: &'a str,
+        bytes: Vec<u8>,
+        origins: Option<Vec<usize>>,
+    ) -> Result<(), AllocError> {
         if self.text.is_empty() {
             // a deck of one file isn't copied
             self.text = bytes;
@@ -40,7 +61,7 @@ impl<'a> JoinedFiles<'a> {
             self.text.push(b'\n')?;
         }
         let end = self.text.len();
-        self.files.push(DeckFile { name, end })?;
+        self.files.push(DeckFile { name, end, origins })?;
         Ok(())
     }
 }
@@ -83,7 +104,11 @@ fn with_places<'a>(
     let mut from = 0;
     for file in files {
         let lines = text.get(from..file.end).unwrap_or(&[]);
-        deck.add(file.name, Vec::from_slice(alloc, lines)?)?;
+        let lines = Vec::from_slice(alloc, lines)?;
+        match &file.origins {
+            Some(origins) => deck.add_punched(file.name, lines, origins)?,
+            None => deck.add(file.name, lines)?,
+        }
         from = file.end;
     }
     Ok(deck)

@@ -205,10 +205,11 @@ impl<'a, R: Read + Drop, W: Write + Drop, F: Write + Drop, C: Clock + Drop> Desk
         level: LevelId,
     ) -> Result<(), AllocError> {
         let queued = machine.queued(level);
+        let lines = machine.lines(level).len().saturating_add(queued);
+        let may_print_all = lines as u64 <= u64::from(self.settings.bounds.lines);
         let turns = self.tally.of(level).turns;
         let seat = self.seat_mut(level);
-        seat.is_idle = queued == 0 && is_idle(machine.level(level));
-        let lines = machine.lines(level).len().saturating_add(queued);
+        seat.is_idle = may_print_all && is_idle(machine.level(level));
         seat.ledger.follow(machine.level(level), lines, turns)?;
         self.log_level(level)
     }

@@ -1,4 +1,6 @@
 //! What is logged of a day.
+ghost use Rattle.std.specs.Prelude.{◌≡◌};
+ghost use Rattle.s3_operating.specs.Inner.Endings.{end_of};
 
 use crate::answers::Answer;
 use crate::clock::Clock;
@@ -156,7 +158,9 @@ fn program_of(alloc: Global, job: &BegunJob) -> Result<Option<String>, AllocErro
 }
 
 /// How a job that is over ended.
-fn end_of(job: &BegunJob) -> JobEnd {
+fn end_of(job: &BegunJob) -> JobEnd
+    ensures { result ≡ end_of job.now.ending }
+{
     match job.ending {
         None => JobEnd::Ended,
         Some((code, _digit)) if is_at_start(code) => JobEnd::PassedOver,

@@ -1,4 +1,6 @@
 //! The jobs of a level's deck, as they begin and end.
+ghost use Rattle.std.specs.Prelude.{◌≡◌};
+ghost use Rattle.s3_operating.specs.Inner.Endings.{behind_reply, has_passed};
 
 use crate::programs::{ReadThrough, Source};
 use s3_cards::{Deck, Name};
@@ -93,6 +95,14 @@ impl Ledger {
     /// The number of the first card, from 1, of the job at a place among all jobs.
     pub(crate) fn first_card(&self, place: usize) -> Option<usize> {
         Some(self.jobs.get(place)?.first_card())
+    }
+
+    /// The date that the job at a place among all jobs sets, if its statements are sound and have one.
+    pub(crate) fn date_given(&self, place: usize) -> Option<[u8; 6]> {
+        match &self.jobs.get(place)?.statements {
+            Statements::Sound(job) => job.date(),
+            Statements::Faulty(_) => None,
+        }
     }
 
     /// The number of the last data card, from 1, that the job at work has read; `None` where there is none.
@@ -248,17 +258,28 @@ impl Ledger {
     }
 
     /// Takes note of a reply to the halt of the last job that was begun.
-    pub(crate) fn reply(&mut self, code: HaltCode, digit: u8) {
+    pub(crate) fn reply(&mut self, code: HaltCode, digit: u8)
+        ensures { self.new.begun.items ≡ behind_reply code digit self.old.begun.items }
+    {
         if digit == 0 {
             return;
         }
         self.reads_through = None;
+        let is_at_start = is_at_start(code);
+        if is_at_start {
+            self.is_open = false;
+        }
         if let Some(job) = self.begun.last_mut() {
             job.ending = Some((code, digit));
+            job.is_over = job.is_over || is_at_start;
         }
-        if is_at_start(code) {
-            self.close_last();
-        }
+    }
+
+    /// Whether a job was passed over, or ended by a reply.
+    pub(crate) fn has_passed(&self) -> bool
+        ensures { result ≡ has_passed self.now.begun.items }
+    {
+        self.begun.iter().any(|job| job.ending.is_some())
     }
 
     /// The last job that was begun is over.

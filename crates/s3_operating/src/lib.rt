@@ -2,7 +2,9 @@
 //! person at a terminal; what is told meanwhile; the script and the log as they are written; the ledger of the jobs; and how a
 //! day ended. docs/OPERATING.md has all of it.
 //!
-//! No contract says what is told or written: that is tested. What a day gives is proved of `s3_desk`, for this operator as for any.
+//! What is proved: how a job that is over ended, what a reply changes in the ledger, and what became of a day by how its levels
+//! ended. No contract says what is told or written: that is tested. What a day gives is proved of `s3_desk`, for this operator as
+//! for any.
 
 #![tactic(auto)]
 
@@ -16,6 +18,7 @@ mod events;
 mod journal;
 mod ledger;
 mod levels;
+mod printed;
 mod programs;
 mod progress;
 mod reading;
@@ -29,6 +32,7 @@ pub use closing::{Closing, LevelEnd, Verdict};
 pub use day_deck::{DayDeck, JoinedFiles};
 pub use desk::{Desk, Questioned, Settings};
 pub use journal::Journal;
+pub use printed::PrintedJob;
 pub use seat::Seat;
 pub use tape::Tape;
 pub use unread::push_unread;

@@ -25,7 +25,7 @@ pub struct Seat<'a> {
     pub(crate) shown: Option<String>,
     /// How many replies were given.
     pub(crate) replies: usize,
-    /// Whether nothing was left to do when the level was seen last.
+    /// Whether nothing was left to do when the level was seen last, but to print queued lines, which it may.
     pub(crate) is_idle: bool,
     /// A halt that isn't in the log yet, and the card that it is logged with.
     pub(crate) unlogged: Option<(HaltCode, Option<u16>)>,

@@ -1,4 +1,6 @@
-//! What halts and replies mean, in words. No contract speaks of them.
+//! What halts and replies mean, in words, and which halts are of a job that couldn't be started. No contract speaks of the words.
+ghost use Rattle.std.specs.Prelude.{◌≡◌};
+ghost use Rattle.s3_operator.specs.Inner.Starts.{is_at_start};
 
 use crate::halt_code::HaltCode;
 use crate::replies::allowed;
@@ -34,7 +36,9 @@ pub fn meaning(code: HaltCode) -> &'static str {
 }
 
 /// Whether a halt is of a job that couldn't be started: replies 2 and 3 pass the job over.
-pub fn is_at_start(code: HaltCode) -> bool {
+pub fn is_at_start(code: HaltCode) -> bool
+    ensures { result ≡ is_at_start code }
+{
     match code {
         HaltCode::FaultyJob
         | HaltCode::NoProgram

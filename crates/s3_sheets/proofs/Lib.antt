@@ -8,6 +8,7 @@ pub mod KnownLemmas
 pub mod LineLemmas
 pub mod NumberLemmas
 pub mod OperationLemmas
+pub mod PartLemmas
 pub mod PositionLemmas
 pub mod ProgressLemmas
 pub mod RangeLemmas

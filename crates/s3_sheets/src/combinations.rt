@@ -1,9 +1,11 @@
 //! What several columns of a card show together.
 
-ghost use Rattle.std.specs.Prelude.{◌≡◌, ◌≤◌, ◌<◌, ◌+◌, ◌^◌, length};
+ghost use Rattle.std.specs.Prelude.{◌≡◌, ◌≤◌, ◌<◌, ◌+◌, ◌^◌, length, not};
 ghost use Rattle.s3_lines.specs.Ranges.{longest_record as longest_record_spec, is_printer as printer_spec, is_selected as selected_spec, shape_in_range, shape_of_positions};
 ghost use Rattle.s3_sheets.specs.Combinations.{are_filled as are_filled_spec, is_with_index as with_index_spec, has_stray_entry as stray_spec, is_key_within as key_within_spec, has_bad_extent as bad_extent_spec, has_bad_positions as bad_positions_spec, has_bad_factor as bad_factor_spec, has_bad_definition as bad_definition_spec, has_bad_addition as bad_addition_spec, has_bad_space as bad_space_spec, is_of_date as of_date_spec, has_bad_content as bad_content_spec, has_no_content as no_content_spec, begins_too_early as too_early_spec, has_early_constant as early_constant_spec, combined_faults as combined_faults_spec};
+ghost use Rattle.s3_sheets.specs.Columns.{number_between};
 ghost use Rattle.s3_sheets.specs.Entries.{constant_text};
+ghost use Rattle.s3_sheets.specs.Rules.{is_blank_or};
 
 use crate::columns::{columns, number, small_between};
 use crate::entries::{constant, factor};
@@ -16,7 +18,7 @@ use s3_lines::reserved::PAGE;
 use s3_lines::sheet::{Designation, Device, FieldForm, FileLine, KeyField, Shape};
 
 /// Whether some of the columns from one to another are filled.
-fn are_filled(card: &Card, from: usize, to: usize) -> bool
+pub fn are_filled(card: &Card, from: usize, to: usize) -> bool
     requires start { 0 < from }
     requires order { from ≤ to }
     requires end { to ≤ 96 }
@@ -25,14 +27,14 @@ fn are_filled(card: &Card, from: usize, to: usize) -> bool
     !are_blank(columns(card, from, to))
 }
 
-fn is_printer(device: Device) -> bool
+pub fn is_printer(device: Device) -> bool
     ensures { result ≡ printer_spec device }
 {
     matches!(device, Device::Printer)
 }
 
 /// Whether the cycle reads a file.
-fn is_selected(designation: Option<Designation>) -> bool
+pub fn is_selected(designation: Option<Designation>) -> bool
     ensures { result ≡ selected_spec designation }
 {
     matches!(
@@ -41,7 +43,7 @@ fn is_selected(designation: Option<Designation>) -> bool
     )
 }
 
-fn is_with_index(file: &FileLine) -> bool
+pub fn is_with_index(file: &FileLine) -> bool
     ensures { result ≡ with_index_spec file.now }
 {
     file.is_keyed && file.is_indexed
@@ -59,7 +61,7 @@ fn has_stray_entry(card: &Card) -> bool
 }
 
 /// The longest record of a device.
-fn longest_record(device: Device) -> u16
+pub fn longest_record(device: Device) -> u16
     ensures { result ≡ longest_record_spec device }
 {
     match device {
@@ -70,7 +72,7 @@ fn longest_record(device: Device) -> u16
 }
 
 /// Whether there is a key and it lies in a record.
-fn is_key_within(record_length: u16, key: Option<KeyField>) -> bool
+pub fn is_key_within(record_length: u16, key: Option<KeyField>) -> bool
     ensures { result ≡ key_within_spec record_length key }
 {
     match key {
@@ -119,7 +121,7 @@ fn holds_field(form: FieldForm, width: u16) -> bool
 
 /// Whether the positions of a field are out of order, or don't hold such a field.
 #[tactic(auto, unfolding(crate::specs::Combinations::has_bad_positions))]
-fn has_bad_positions(card: &Card) -> bool
+pub fn has_bad_positions(card: &Card) -> bool
     ensures { result ≡ bad_positions_spec card.now }
 {
     let field = field_line(card);
@@ -128,7 +130,7 @@ fn has_bad_positions(card: &Card) -> bool
 
 /// Whether factor 2 of a C card is ill formed.
 #[tactic(auto, unfolding(crate::specs::Combinations::has_bad_factor))]
-fn has_bad_factor(card: &Card) -> bool
+pub fn has_bad_factor(card: &Card) -> bool
     ensures { result ≡ bad_factor_spec card.now }
 {
     let entry = columns(card, 33, 42);
@@ -137,7 +139,7 @@ fn has_bad_factor(card: &Card) -> bool
 
 /// Whether length and decimals of a C card's result are out of their ranges.
 #[tactic(auto, unfolding(crate::specs::Combinations::has_bad_definition))]
-fn has_bad_definition(card: &Card) -> bool
+pub fn has_bad_definition(card: &Card) -> bool
     ensures { result ≡ bad_definition_spec card.now }
 {
     match definition(columns(card, 49, 51), columns(card, 52, 52)) {
@@ -151,10 +153,17 @@ fn has_bad_definition(card: &Card) -> bool
 
 /// Whether column 16 of a line card has something else than the word ADD.
 #[tactic(auto, unfolding(crate::specs::Combinations::has_bad_addition))]
-fn has_bad_addition(card: &Card) -> bool
+pub fn has_bad_addition(card: &Card) -> bool
     ensures { result ≡ bad_addition_spec card.now }
 {
     !is_addition(card) && are_filled(card, 16, 16)
+}
+
+/// Whether the column of a space has something else than a space in its range.
+pub fn is_wrong_space(columns: &[u8]) -> bool
+    ensures { result ≡ not (is_blank_or (number_between 0 3) columns.now) }
+{
+    !(are_blank(columns) || small_between(columns, 0, 3).is_some())
 }
 
 /// Whether a space of a line card is out of its range. With ADD the columns have letters of that word.
@@ -162,15 +171,12 @@ fn has_bad_addition(card: &Card) -> bool
 fn has_bad_space(card: &Card) -> bool
     ensures { result ≡ bad_space_spec card.now }
 {
-    let before = columns(card, 17, 17);
-    let after = columns(card, 18, 18);
     !is_addition(card)
-        && (!(are_blank(before) || small_between(before, 0, 3).is_some())
-            || !(are_blank(after) || small_between(after, 0, 3).is_some()))
+        && (is_wrong_space(columns(card, 17, 17)) || is_wrong_space(columns(card, 18, 18)))
 }
 
 /// Whether a name is UDATE, UMONTH, UDAY or UYEAR.
-fn is_of_date(name: Name) -> bool
+pub fn is_of_date(name: Name) -> bool
     ensures { result ≡ of_date_spec name }
 {
     is_reserved(&name) && name != PAGE
@@ -191,7 +197,7 @@ fn has_bad_content(card: &Card) -> bool
 }
 
 /// Whether a field card has neither a field nor a constant.
-fn has_no_content(card: &Card) -> bool
+pub fn has_no_content(card: &Card) -> bool
     ensures { result ≡ no_content_spec card.now }
 {
     are_blank(columns(card, 32, 37)) && are_blank(columns(card, 45, 70))
@@ -210,7 +216,7 @@ fn begins_too_early(end: Option<u16>, columns: &[u8]) -> bool
 
 /// Whether the constant of a field card would begin before position 1.
 #[tactic(auto, unfolding(crate::specs::Combinations::has_early_constant))]
-fn has_early_constant(card: &Card) -> bool
+pub fn has_early_constant(card: &Card) -> bool
     ensures { result ≡ early_constant_spec card.now }
 {
     begins_too_early(number(columns(card, 40, 43)), columns(card, 45, 70))

@@ -2,7 +2,8 @@
 
 ghost use Rattle.std.specs.Prelude.{◌≡◌, ◌<◌, ◌^◌, ◌&&◌, ◌||◌, ◌==◌, length, OnOk, IfOk};
 ghost use Rattle.s3_sheets.specs.Columns.{columns as columns_spec, are_blank as are_blank_spec};
-ghost use Rattle.s3_sheets.specs.Sheets.{file_of as file_of_spec, field_of as field_of_spec, result_defined as result_defined_spec, exceeds as exceeds_spec, length_behind as length_behind_spec, line_length as line_length_spec, has_code_past as has_code_past_spec, names_position_past as position_past_spec};
+ghost use Rattle.s3_sheets.specs.Kinds.{kind_of as kind_of_spec};
+ghost use Rattle.s3_sheets.specs.Sheets.{length_for, file_of as file_of_spec, field_of as field_of_spec, result_defined as result_defined_spec, exceeds as exceeds_spec, length_behind as length_behind_spec, line_length as line_length_spec, has_code_past as has_code_past_spec, names_position_past as position_past_spec};
 ghost use Rattle.s3_sheets.specs.Inner.Progress.{is_misplaced_behind, lacks_its_file, is_outside_behind, length_named, passes_limit as passes_limit_spec, files_with, fields_with};
 
 use crate::columns::{columns, number};
@@ -136,6 +137,17 @@ impl Progress {
         self.files.record_length(&Name::of(columns(card, 7, 14)))
     }
 
+    /// The record length that the positions on a card go by, where it is known; of a card without such positions any.
+    pub fn position_length(&self, card: &Card) -> Option<u16>
+        ensures { result ≡ length_for (kind_of_spec card.now) (length_named self.now card.now) self.now.input_length self.now.output_length }
+    {
+        match kind_of(card) {
+            CardKind::Record => self.length_named(card),
+            CardKind::RecordAnd | CardKind::RecordOr | CardKind::Field => self.input_length,
+            _ => self.output_length,
+        }
+    }
+
     /// Whether a position on a card lies outside its record; `named` is the record length of the file that the card names.
     #[tactic(auto, unfolding(crate::specs::Inner::Progress::is_outside_behind))]
     fn is_outside(&self, kind: CardKind, card: &Card, named: Option<u16>) -> bool
@@ -162,7 +174,7 @@ fn is_misplaced(kind: CardKind, latest_sheet: u8) -> bool
 }
 
 /// Whether a number is known to be more than another one.
-fn exceeds(number: Option<u16>, most: Option<u16>) -> bool
+pub fn exceeds(number: Option<u16>, most: Option<u16>) -> bool
     ensures { result ≡ exceeds_spec number most }
 {
     match (number, most) {

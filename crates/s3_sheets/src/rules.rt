@@ -100,7 +100,7 @@ fn is_code_position(columns: &[u8]) -> bool
 
 impl Entry {
     /// Whether these columns have such an entry.
-    fn allows(&self, columns: &[u8]) -> bool
+    pub fn allows(&self, columns: &[u8]) -> bool
         requires { fits (entry_view self.now) (length columns.now) ≡ true }
         ensures { result ≡ allows_spec (entry_view self.now) columns.now }
     {
@@ -132,7 +132,7 @@ impl Entry {
     }
 
     /// What is wrong where something else stands.
-    fn fault(&self) -> Fault
+    pub fn fault(&self) -> Fault
         ensures { result ≡ fault_of (entry_view self.now) }
     {
         match self {

@@ -8,13 +8,14 @@ use std::alloc::{AllocError, Global};
 use std::io::Write;
 
 /// The words that name outputs, or the log of another day, which no log has.
-const OUTPUTS: [&str; 6] = [
+const OUTPUTS: [&str; 7] = [
     "--save",
     "--script",
     "--log",
     "--redo",
     "--deck-out1",
     "--deck-out2",
+    "--paper",
 ];
 
 /// With what a day is begun: its words, its pack and its decks.

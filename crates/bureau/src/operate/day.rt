@@ -4,11 +4,12 @@ use super::FILE;
 use super::fault::{DayFault, OUT_OF_MEMORY};
 use super::order::Order;
 use super::outputs::{Output, Outputs, forget, write_deck};
+use super::paper::write_paper;
 use super::watch::Watch;
-use crate::files::{FileFault, LockedPack, save_pack};
 use s3_cli::{CliFault, SessionFault, Watched, write_output};
 use s3_day_log::{Begun, DayLog, Event, NamedFile, checksum};
 use s3_desk::{Day, operate_day};
+use s3_host_files::{FileFault, LockedPack, save_pack};
 use s3_operating::{Closing, Desk, Journal, Seat, Settings, Tape, Verdict};
 use s3_replay::Performed;
 use s3_replies::Rules;
@@ -42,7 +43,7 @@ pub struct Prepared<'a> {
 }
 
 /// The desk of the command.
-type OwnDesk<'a> = Desk<'a, Stdin, Stderr, Output, Watch<'a>>;
+pub type OwnDesk<'a> = Desk<'a, Stdin, Stderr, Output, Watch<'a>>;
 
 /// Operates a day, hands out what it leaves, and gives the exit status.
 pub fn operate_prepared<'n, 'a>(
@@ -142,6 +143,9 @@ fn hand_out<'n>(
     test_written(order, desk)?;
     if written.is_err() {
         return Err(DayFault::Cli(FILE));
+    }
+    if let Some(paper) = order.paper {
+        write_paper(rt, paper, desk, &day.outcome)?;
     }
     let saved = save(rt, order, closing, &day.outcome.pack, locked)?;
     let is_unfinished = closing.verdict == Verdict::Unfinished;

@@ -2,10 +2,13 @@
 
 use super::fault::DayFault;
 use super::order::Order;
-use crate::files::{FileFault, LockedPack, read_pack, read_to_save, read_within};
+use s3_cards::LevelId;
 use s3_cli::{CliFault, image};
 use s3_day_log::{DayLog, LogFault, NamedFile, checksum};
+use s3_host_files::{FileFault, LockedPack, read_pack, read_to_save, read_within};
 use s3_operating::{DayDeck, JoinedFiles};
+use s3_paper_commands::tell_punched;
+use s3_punch::{Begun, Punched, punch};
 use s3_replies::{Rules, RulesFault};
 use std::alloc::{AllocError, Global};
 use std::io::Write;
@@ -82,13 +85,23 @@ impl<'a> Checked<'a> {
     }
 }
 
-/// The deck of these files, and their digests, if they are asked for.
+/// Whether a file has plain text, of which a deck is punched: its name says so.
+fn is_plain_text(path: &str) -> bool {
+    path.ends_with(".rpg") || path.ends_with(".punch")
+}
+
+/// The deck of a level, of these files, and their digests, if they are asked for. A file of plain text is punched; what is wrong with
+/// it is told.
 pub fn read_deck<'a>(
     rt: &HostRuntime,
+    level: LevelId,
     paths: &[&'a str],
     is_logged: bool,
 ) -> Result<(DayDeck<'a>, Checked<'a>), DayFault<'a>> {
     let alloc = rt.alloc();
+    let is_punched = paths.iter().any(|path| is_plain_text(*path));
+    let mut begun = Begun::new(false);
+    let mut is_faulty = false;
     let mut joined = JoinedFiles::new(alloc);
     let mut names = Vec::new(alloc);
     let mut checksums = Vec::new(alloc);
@@ -99,7 +112,27 @@ pub fn read_deck<'a>(
             checksums.push(checksum(alloc, &bytes)?)?;
         }
         names.push(name)?;
-        joined.add(name, bytes)?;
+        if is_plain_text(name) {
+            let punched = punch(alloc, &bytes, &begun)?;
+            is_faulty |= tell_punched(rt, name, &punched);
+            begun = punched.behind(begun);
+            let Punched {
+                text,
+                origins,
+                changes: _changes,
+                faults: _faults,
+                part: _part,
+            } = punched;
+            joined.add_punched(name, text, origins)?;
+        } else {
+            if is_punched {
+                begun = begun.behind_deck(&bytes);
+            }
+            joined.add(name, bytes)?;
+        }
+    }
+    if is_faulty {
+        return Err(DayFault::Deck(level));
     }
     Ok((DayDeck::Whole(joined), Checked { names, checksums }))
 }

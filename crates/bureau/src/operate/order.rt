@@ -1,6 +1,7 @@
 //! What the words of `operate` ask for.
 
 use super::fault::DayFault;
+use super::paper::Paper;
 use clap::ArgMatches;
 use s3_deck_files::Position;
 use s3_desk::Bounds;
@@ -46,6 +47,8 @@ pub struct Order<'a> {
     pub deck_out1: Option<&'a str>,
     /// Where level 2's deck is written.
     pub deck_out2: Option<&'a str>,
+    /// Where each job's pages are written, and how.
+    pub paper: Option<Paper<'a>>,
     /// The pack is saved also where a level isn't done.
     pub saves_unfinished: bool,
     /// What is there is written over.
@@ -75,6 +78,7 @@ impl<'a> Order<'a> {
             from2: position(words, "from2")?,
             deck_out1: words.get_str("deck-out1"),
             deck_out2: words.get_str("deck-out2"),
+            paper: Paper::read(words)?,
             saves_unfinished: words.get_flag("save-unfinished"),
             overwrites: words.get_flag("overwrite"),
             is_quiet: words.get_flag("quiet"),

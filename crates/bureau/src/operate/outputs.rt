@@ -2,7 +2,8 @@
 
 use super::fault::DayFault;
 use super::order::Order;
-use crate::files::{FileFault, LockedPack, Target, prepare_save};
+use super::paper::Paper;
+use s3_host_files::{FileFault, LockedPack, Target, prepare_save};
 use std::alloc::AllocError;
 use std::fs::{File, OpenOptions};
 use std::io::Write;
@@ -53,15 +54,17 @@ pub struct Outputs<'a> {
     pub deck2: Option<(Output, &'a str)>,
     /// The lock on the file that the pack is saved to.
     pub locked: Option<LockedPack>,
-    /// The files that were made by trying.
+    /// The files that were made by trying, and the folder of the pages.
     pub made: Vec<&'a str>,
 }
 
 /// Where something is written or read.
 #[derive(Drop)]
-struct Named<'a> {
-    name: &'a str,
-    target: Target,
+pub struct Named<'a> {
+    /// The name that was given.
+    pub name: &'a str,
+    /// Where it leads.
+    pub target: Target,
 }
 
 fn found<'a>(rt: &HostRuntime, name: &'a str) -> Result<Named<'a>, DayFault<'a>> {
@@ -111,7 +114,10 @@ pub fn guard<'a>(
         }
         written.push(output)?;
     }
-    Ok(())
+    match order.paper {
+        Some(paper) => paper.guard(rt, order.overwrites, &read, &written),
+        None => Ok(()),
+    }
 }
 
 /// Whether the file that the pack is saved to is the one that it is read from.
@@ -175,6 +181,21 @@ impl<'a> Outputs<'a> {
         self.log = self.open_one(rt, order.log)?;
         self.deck1 = self.open_deck(rt, order.deck_out1)?;
         self.deck2 = self.open_deck(rt, order.deck_out2)?;
+        self.open_folder(rt, order.paper)
+    }
+
+    /// Makes the folder of the pages, if they are asked for and it isn't there.
+    fn open_folder(
+        &mut self,
+        rt: &HostRuntime,
+        paper: Option<Paper<'a>>,
+    ) -> Result<(), DayFault<'a>> {
+        let Some(paper) = paper else {
+            return Ok(());
+        };
+        if paper.open(rt)? {
+            self.made.push(paper.folder())?;
+        }
         Ok(())
     }
 
@@ -215,10 +236,12 @@ impl<'a> Outputs<'a> {
     }
 }
 
-/// Removes files that were made by trying.
+/// Removes files that were made by trying, and the folder of the pages.
 pub fn forget(rt: &HostRuntime, made: &[&str]) {
     for name in made {
-        let _ = fs::remove_file(rt, *name);
+        if fs::remove_file(rt, *name).is_err() {
+            let _ = fs::remove_dir(rt, *name);
+        }
     }
 }
 

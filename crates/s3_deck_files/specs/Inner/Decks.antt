@@ -36,6 +36,14 @@ first_lines file count = map (λ number. (file, number)) (range_with_len 1 count
 abbrev pub with_file : List ℕ → List ℕ → Assembled → Assembled
 with_file file text deck = record { text = deck.text ++ ended text; places = deck.places ++ first_lines file (length (lines text)) }
 
+-- some lines of a file, by their numbers
+abbrev pub lines_of : List ℕ → List ℕ → List FileLine
+lines_of file numbers = map (λ number. (file, number)) numbers
+
+-- a deck with cards behind those that it has, each of them of the line of a file that has this number
+abbrev pub with_cards : List ℕ → List ℕ → List ℕ → Assembled → Assembled
+with_cards file text numbers deck = record { text = deck.text ++ ended text; places = deck.places ++ lines_of file numbers }
+
 -- the line that a card is, by its number from 1
 abbrev pub line_of : ℕ → Assembled → Option FileLine
 line_of card deck = if card == 0 then None else slice_get deck.places (card - 1)

@@ -1,5 +1,5 @@
 -- What is done at a desk.
-use Rattle.std.specs.Prelude.{◌≡◌, ◌≢◌, ◌⊎◌, ◌+◌, ◌*◌, ◌≤◌, ◌<◌, ℕ, Bool, true, false, List, [], ◌∷◌, ◌++◌, length, filter, filter_map, Option, Some, None, option_map, Result, Ok, Err, if◌then◌else◌}
+use Rattle.std.specs.Prelude.{◌≡◌, ◌≢◌, ◌⊎◌, ◌+◌, ◌*◌, ◌-◌, ◌≤◌, ◌<◌, ℕ, Bool, true, false, List, [], ◌∷◌, ◌++◌, length, filter, filter_map, Option, Some, None, option_map, Result, Ok, Err, if◌then◌else◌}
 use Rattle.std.specs.List.{AllByRecursion}
 use Rattle.s3_cards.specs.Inner.Levels.{other}
 use Rattle.s3_cards.specs.declared.levels.LevelId.{LevelId}
@@ -100,13 +100,13 @@ pub record Uses (level : LevelId) (was is : List Entry) (old new : Bounds) (went
 abbrev pub HasReached : LevelId → (was is : List Entry) → Bounds → Type 0
 HasReached level was is bounds = (turns_in level is ≡ turns_in level was + bounds.turns) ⊎ (lines_in level is ≡ lines_in level was + bounds.lines)
 
--- a reply may still be taken before the level goes on
+-- how many replies may still be taken before the level goes on
 abbrev pub replies_left : Seat → ℕ
-replies_left seat = if seat.is_answered then 0 else 1
+replies_left seat = 65535 - seat.answers
 
 -- what is left to do at a desk grows less by each round
 abbrev pub work_left : Seat → Seat → ℕ
-work_left one two = 3 * (room one.left + room two.left) + (replies_left one + replies_left two)
+work_left one two = 131071 * (room one.left + room two.left) + (replies_left one + replies_left two)
 
 -- ---- where a level is left
 -- a world at rest, with no line queued

@@ -1,0 +1,51 @@
+//! The entries to blame for the diagnostics of a source.
+ghost use Rattle.std.specs.Prelude.{◌≡◌, ◌≢◌, ◌≤◌, [], length, slice_range, IfOk};
+ghost use Rattle.s3_sheets.specs.Inner.Parts.{faulty_entries as faulty_entries_spec};
+ghost use Rattle.s3_sheets.specs.Sheets.{sheet_diagnostics};
+ghost use Rattle.s3_blame.specs.Inner.Columns.{columns_of as columns_of_spec};
+
+use crate::lines::later_entries;
+use s3_cards::Deck;
+use s3_lines::Diagnostic;
+use s3_ruled::Columns;
+use s3_sheets::{FaultyEntry, SheetFault, faulty_entries, read_sheets};
+use std::alloc::{AllocError, Global};
+
+/// The entries to blame for the diagnostics of the source that stands in a deck from place `from` up to but without place `to`, card by
+/// card: those that `faulty_entries` gives, or of a source without faults on its cards those of its lines (docs/LISTINGS.md). A number on
+/// the RUN card has none. It is refused only where memory runs out.
+pub fn entries_of(
+    alloc: Global,
+    deck: &Deck,
+    from: usize,
+    to: usize,
+    told: &[Diagnostic],
+) -> Result<Vec<FaultyEntry>, AllocError>
+    requires order { from ≤ to }
+    requires within { to ≤ length deck.now }
+    ensures { IfOk result (λ found. sheet_diagnostics from (slice_range deck.now from to) ≢ [] → found.items ≡ faulty_entries_spec from (slice_range deck.now from to)) }
+{
+    match read_sheets(alloc, deck, from, to) {
+        Ok(lines) => later_entries(alloc, &lines, told),
+        Err(SheetFault::NoMemory) => Err(AllocError),
+        Err(SheetFault::Diagnostics(_)) => faulty_entries(alloc, deck, from, to),
+    }
+}
+
+/// The columns of those entries that are to blame for a number of a card.
+pub fn columns_of(
+    alloc: Global,
+    entries: &[FaultyEntry],
+    diagnostic: &Diagnostic,
+) -> Result<Vec<Columns>, AllocError>
+    ensures { IfOk result (λ columns. columns.items ≡ columns_of_spec diagnostic.now entries.now) }
+{
+    entries
+        .iter()
+        .filter(|entry| entry.card == diagnostic.card && entry.number == diagnostic.number)
+        .map(|entry| Columns {
+            from: entry.from,
+            to: entry.to,
+        })
+        .collect(alloc)
+}

@@ -1,0 +1,83 @@
+//! `bureau check`: all that is wrong with a pack.
+ghost use Rattle.std.specs.Prelude.{◌≤◌};
+
+use crate::fault::Fault;
+use crate::pack_words::{label_text, mount_sentence, pack_of, value_of};
+use crate::words::file_word;
+use clap::{ArgMatches, Command};
+use s3_pack_check::{Cause, CheckFault, Wrong, check_pack};
+use std::alloc::{AllocError, Global};
+use std::io::Write;
+
+/// The words of the command.
+pub fn check_command<'a>(alloc: Global) -> Result<Command<'a>, AllocError> {
+    Command::new(alloc, "check")
+        .about(
+            "Tells all that is wrong with a pack: damaged labels and indexes, each with the reason",
+        )
+        .arg(file_word(alloc, "pack").required(true).help("The pack"))
+}
+
+/// Does what the words of `bureau check` ask, and gives the exit status: 0 where nothing is wrong with the pack, 4 where something
+/// is, which standard output tells a line each; else that of the refusal, whose sentence it wrote on standard error.
+pub fn check(rt: &HostRuntime, matches: &ArgMatches<'_>) -> u8
+    ensures { result ≤ 4 }
+{
+    match check_file(rt, value_of(matches, "pack")) {
+        Ok(()) => 0,
+        Err(fault) => fault.tell(&mut rt.stderr()),
+    }
+}
+
+fn check_file(rt: &HostRuntime, path: &str) -> Result<(), Fault> {
+    let pack = pack_of(rt, path)?;
+    let wrongs = match check_pack(rt.alloc(), &pack) {
+        Ok(wrongs) => wrongs,
+        Err(CheckFault::NoMemory) => return Err(Fault::NoMemory),
+        Err(CheckFault::Mount(fault)) => {
+            return Err(Fault::Refused(mount_sentence(rt.alloc(), path, fault)?));
+        }
+    };
+    let text = text_of(rt.alloc(), &wrongs)?;
+    if rt.stdout().write_all(text.as_str().as_bytes()).is_err() {
+        return Err(Fault::File(String::from_str(
+            rt.alloc(),
+            "standard output takes nothing more",
+        )?));
+    }
+    if wrongs.is_empty() {
+        return Ok(());
+    }
+    let count = wrongs.len();
+    Err(Fault::Waits(format!(in rt.alloc();
+        "{count} slots of {path} need a person: put back the bytes of a label that are known, or free its slot by `bureau delete --slot`, and load a file again whose index is wrong"
+    )?))
+}
+
+/// A line for each slot with which something is wrong.
+fn text_of(alloc: Global, wrongs: &[Wrong]) -> Result<String, AllocError> {
+    let mut text = String::new(alloc);
+    for wrong in wrongs {
+        push_line(alloc, &mut text, wrong)?;
+    }
+    Ok(text)
+}
+
+fn push_line(alloc: Global, text: &mut String, wrong: &Wrong) -> Result<(), AllocError> {
+    let area = wrong.area;
+    let slot = wrong.slot;
+    let label = label_text(alloc, wrong.name)?;
+    let label = label.as_str();
+    write!(text, "area {area}, slot {slot}, {label}: ")?;
+    match wrong.cause {
+        Cause::Label(damage) => writeln!(text, "{damage}"),
+        Cause::Index(Some(first)) => {
+            let number = u64::from(first) + 1;
+            writeln!(
+                text,
+                "entry {number} of its index isn't above the one before it, or has another key than its record"
+            )
+        }
+        Cause::Index(None) => writeln!(text, "its index isn't that of its records"),
+    }
+}

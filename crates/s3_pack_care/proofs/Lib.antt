@@ -1,0 +1,3 @@
+pub mod Deletes
+pub mod Judged
+pub mod Relabelled

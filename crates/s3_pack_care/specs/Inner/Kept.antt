@@ -1,0 +1,70 @@
+-- What stays of a pack where a file of it is deleted, or one is added.
+use Rattle.std.specs.Prelude.{◌≡◌, ◌≢◌, ◌<◌, ◌+◌, ◌*◌, ◌/◌, ℕ, Bool, true, false, List, slice_get, Option, Some, None, Ok, Err, ⊤}
+use Rattle.s3_slots.specs.Header.{mounted}
+use Rattle.s3_slots.specs.Labels.{file_bytes}
+use Rattle.s3_slots.specs.Slots.{labels_at, slot_bytes}
+use Rattle.s3_slots.specs.declared.header.Header.{Header}
+use Rattle.s3_slots.specs.declared.label.FileLabel.{FileLabel}
+use Rattle.s3_slots.specs.declared.slot.Slot.{Slot}
+use Rattle.s3_slots.specs.declared.slot.Slot.TheVariants.{Damaged, Free, Sound}
+use Rattle.s3_labels.specs.Inner.Areas.{Areas, areas_on, slots_in}
+use Rattle.s3_labels.specs.declared.fault.Refusal.{Refusal}
+use Rattle.s3_labels.specs.declared.fault.Refusal.TheVariants.{BadPack, Sectors}
+use Rattle.s3_pack_care.specs.declared.fault.CareFault.{CareFault}
+use Rattle.s3_pack_care.specs.declared.fault.CareFault.TheVariants.{Label, Mount, NoFile, NoMemory, Permanent, Uncovers}
+
+-- ---- slots as they are judged
+abbrev pub same_kind : Slot → Slot → Bool
+same_kind Free Free = true
+same_kind (Damaged name) (Damaged other) = true
+same_kind (Sound label) (Sound other) = true
+same_kind _ _ = false
+
+abbrev pub alike : Option Slot → Option Slot → Bool
+alike (Some old) (Some new) = same_kind old new
+alike _ _ = false
+
+-- ---- mounts
+abbrev pub fault_of : Refusal → CareFault
+fault_of (BadPack fault) = Mount fault
+fault_of (Sectors fault) = NoMemory
+
+-- a pack is refused by its header; nothing is said of memory
+abbrev pub IsMountRefusal : List (List ℕ) → CareFault → Type 0
+IsMountRefusal contents (Mount fault) = mounted contents ≡ Err fault
+IsMountRefusal contents _ = ⊤
+
+-- these sectors are mounted as these areas
+pub record IsMounted (areas : Areas) (contents : List (List ℕ)) : Type 0 where
+  pub mounts : mounted contents ≡ Ok areas.header
+  pub judged : areas ≡ areas_on areas.header contents
+
+-- what stands in slot i of an area of a pack with this header
+abbrev pub slot_on : Header → List (List ℕ) → (area i : ℕ) → Option Slot
+slot_on header contents area i = slice_get (slots_in area (areas_on header contents)) i
+
+-- another slot than this one of the three areas
+pub record IsOther (area slot a i : ℕ) : Type 0 where
+  pub area_in : a < 3
+  pub slot_in : i < 32
+  pub other : a ≡ area → i ≡ slot → ⊥
+
+-- ---- what a written slot leaves
+-- one slot has these bytes, each other one is judged as it was, and no other sector has changed
+pub record IsRelabelled (area slot : ℕ) (bytes : List ℕ) (header : Header) (old new : List (List ℕ)) : Type 0 where
+  pub mounts : mounted new ≡ Ok header
+  pub own : slot_bytes area new slot ≡ bytes
+  pub others : (a i : ℕ) → IsOther area slot a i → slot_on header new a i ≡ slot_on header old a i
+  pub sectors : (n : ℕ) → n ≢ labels_at area + slot / 4 → slice_get new n ≡ slice_get old n
+
+-- ---- what a call leaves
+-- a slot is as it was, and its file has the same bytes
+pub record KeepsFile (header : Header) (old new : List (List ℕ)) (a i : ℕ) : Type 0 where
+  pub slot : slot_on header new a i ≡ slot_on header old a i
+  pub bytes : (label : FileLabel) → slot_on header old a i ≡ Some (Sound label) → file_bytes label new ≡ file_bytes label old
+
+-- a slot is free, and all other files are there
+pub record IsWithout (area slot : ℕ) (header : Header) (old new : List (List ℕ)) : Type 0 where
+  pub mounts : mounted new ≡ Ok header
+  pub free : slot_on header new area slot ≡ Some Free
+  pub others : (a i : ℕ) → IsOther area slot a i → KeepsFile header old new a i

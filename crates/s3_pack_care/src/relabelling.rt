@@ -1,0 +1,123 @@
+//! A slot written, and all slots judged anew.
+ghost use Rattle.std.specs.Prelude.{◌≡◌, ◌≢◌, ◌<◌, ◌≤◌, ℕ, true, slice_get, length, Ok, Some, OnOk, IfOk, IfErr, IfNone, IfSome};
+ghost use Rattle.s3_slots.specs.Header.{mounted};
+ghost use Rattle.s3_labels.specs.Inner.Areas.{IsReady, areas_on, slots_in};
+ghost use Rattle.s3_pack_care.specs.Inner.Kept.{IsMounted, IsMountRefusal, IsOther, IsRelabelled, alike, fault_of as fault_of_spec, same_kind};
+
+use crate::fault::CareFault;
+use s3_labels::{AreaSlots, Pack, Refusal, Refused, Slot};
+use s3_store::{MemoryStore, Sectors};
+use std::alloc::Global;
+
+/// A pack in memory, with its header and slots as a mount judges them.
+#[derive(Drop)]
+pub struct MountedPack {
+    /// The sectors of the pack.
+    pub store: MemoryStore,
+    /// The header and the slots.
+    pub areas: AreaSlots,
+}
+
+/// Whether both slots are free, or both damaged, or both have a file.
+fn is_same_kind(old: &Slot, new: &Slot) -> bool
+    ensures { result ≡ same_kind old.now new.now }
+{
+    match (old, new) {
+        (Slot::Free, Slot::Free) => true,
+        (Slot::Damaged(_), Slot::Damaged(_)) => true,
+        (Slot::Sound(_), Slot::Sound(_)) => true,
+        _ => false,
+    }
+}
+
+/// Whether slot `i`, 0 to 31, of an area is of the same kind in two packs.
+fn is_alike(old: &AreaSlots, new: &AreaSlots, area: u16, i: u16) -> bool
+    requires area { area < 3 }
+    requires slot { i < 32 }
+    ensures { result ≡ alike (slice_get (slots_in area old.now) i) (slice_get (slots_in area new.now) i) }
+{
+    is_same_kind(
+        old.slot(area, usize::from(i)),
+        new.slot(area, usize::from(i)),
+    )
+}
+
+/// The first slot of an area, but for the one that was written, that isn't of the kind that it was.
+fn first_other(old: &AreaSlots, new: &AreaSlots, area: u16, written: u16) -> Option<u16>
+    requires { area < 3 }
+    ensures { IfNone result ((i : ℕ) → i < 32 → i ≢ written → alike (slice_get (slots_in area old.now) i) (slice_get (slots_in area new.now) i) ≡ true) }
+{
+    for i in 0..32u16 {
+        if i != written && !is_alike(old, new, area, i) {
+            return Some(i);
+        }
+    }
+    None
+}
+
+/// The first slot of the three areas, but for the one that was written, that isn't of the kind that it was.
+fn first_changed(old: &AreaSlots, new: &AreaSlots, area: u16, slot: u16) -> Option<u16>
+    requires { area < 3 }
+    ensures { IfNone result ((a i : ℕ) → IsOther area slot a i → alike (slice_get (slots_in a old.now) i) (slice_get (slots_in a new.now) i) ≡ true) }
+{
+    for a in 0..3u16 {
+        let written = if a == area { slot } else { 32 };
+        let other = first_other(old, new, a, written);
+        if other.is_some() {
+            return other;
+        }
+    }
+    None
+}
+
+/// Mounts a pack over a store in memory, which never fails.
+pub fn mount(alloc: Global, store: MemoryStore) -> Result<MountedPack, CareFault>
+    ensures ok { IfOk result (λ pack. IsMounted pack.areas store) }
+    ensures same { IfOk result (λ pack. pack.store ≡ store) }
+    ensures ready { IfOk result (λ pack. IsReady pack.areas store) }
+    ensures err { IfErr result (IsMountRefusal store) }
+{
+    match Pack::over(alloc, store) {
+        Ok(Pack { pool, areas }) => Ok(MountedPack { store: pool, areas }),
+        Err(Refused { pool: _, fault }) => Err(fault_of(fault)),
+    }
+}
+
+/// Why a store in memory isn't mounted.
+fn fault_of(refusal: Refusal) -> CareFault
+    ensures { result ≡ fault_of_spec refusal }
+{
+    match refusal {
+        Refusal::BadPack(fault) => CareFault::Mount(fault),
+        Refusal::Sectors(_) => CareFault::NoMemory,
+    }
+}
+
+/// Writes the 64 bytes of slot `slot`, 0 to 31, of an area, and judges all slots anew. Refused with `Uncovers` where another slot
+/// would not be what it was, free, damaged or with its file, and with `NoMemory`.
+pub fn relabelled(
+    alloc: Global,
+    pack: MountedPack,
+    area: u16,
+    slot: u16,
+    bytes: &[u8; 64],
+) -> Result<MountedPack, CareFault>
+    requires area { area < 3 }
+    requires slot { slot < 32 }
+    requires mounted { IsMounted pack.areas pack.store }
+    requires ready { IsReady pack.areas pack.store }
+    ensures ok { IfOk result (λ new. IsRelabelled area slot bytes.now pack.areas.header pack.store new.store) }
+    ensures mounted { IfOk result (λ new. IsMounted new.areas new.store) }
+    ensures ready { IfOk result (λ new. IsReady new.areas new.store) }
+{
+    let MountedPack { mut store, areas } = pack;
+    let sector = 1 + 8 * area + slot / 4;
+    if let Err(_fault) = store.change_sector(sector, usize::from(slot % 4) * 64, bytes) {
+        return Err(CareFault::NoMemory);
+    }
+    let new = mount(alloc, store)?;
+    match first_changed(&areas, &new.areas, area, slot) {
+        Some(other) => Err(CareFault::Uncovers(other)),
+        None => Ok(new),
+    }
+}

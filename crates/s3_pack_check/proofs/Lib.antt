@@ -1,0 +1,4 @@
+pub mod Files
+pub mod Firsts
+pub mod Places
+pub mod Told

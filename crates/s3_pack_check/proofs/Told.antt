@@ -1,0 +1,153 @@
+-- What is told of a pack: of each slot, of an area, and nothing of a pack that is sound.
+use Rattle.std.proofs.Common.{◌≡◌, ℕ, zero, suc, ◌+◌, ◌-◌, ◌<◌, ◌≤◌, Bool, true, false, List, [], ◌∷◌, ◌++◌, slice_get, Option, Some, None, Result, Ok, if◌then◌else◌, refl, sym, ap, ap₂, ◌∙◌, subst, arith, append_assoc}
+use Rattle.std.specs.List.{flat_map, range_with_len}
+use Rattle.s3_cards.specs.declared.name.Name.{Name}
+use Rattle.s3_slots.proofs.Ranges.{range_more}
+use Rattle.s3_slots.specs.Header.{mounted}
+use Rattle.s3_slots.specs.Labels.{is_indexed, sectors_of}
+use Rattle.s3_slots.specs.declared.header.Header.{Header}
+use Rattle.s3_slots.specs.declared.header.MountFault.{MountFault}
+use Rattle.s3_slots.specs.declared.slot.Slot.{Slot}
+use Rattle.s3_slots.specs.declared.slot.Slot.TheVariants.{Damaged, Free, Sound}
+use Rattle.s3_store.specs.Bytes.{bytes_at}
+use Rattle.s3_labels.specs.Contents.{contents_of}
+use Rattle.s3_labels.specs.Inner.Areas.{Areas, IsRefusal, areas_on, slots_in}
+use Rattle.s3_labels.specs.declared.fault.Refusal.{Refusal}
+use Rattle.s3_labels.specs.declared.fault.Refusal.TheVariants.{BadPack, Sectors}
+use Rattle.s3_pack_check.specs.Inner.Entries.{first_fault}
+use Rattle.s3_pack_check.specs.Inner.Wrongs.{IsRefused, IsRight, IsSoundPack, area_wrongs, cause_of, fault_of, is_good, name_at, slot_wrongs, told, told_if, wrong_with, wrongs_on}
+use Rattle.s3_pack_check.specs.declared.checking.Cause.{Cause}
+use Rattle.s3_pack_check.specs.declared.checking.Cause.TheVariants.{Index}
+use Rattle.s3_pack_check.specs.declared.checking.Wrong.{Wrong}
+use Rattle.s3_pack_check.specs.declared.fault.CheckFault.{CheckFault}
+
+-- ---- what is told of the slots of an area, one after another
+pub begun : (areas : Areas) (area : ℕ) (contents : List (List ℕ)) (before : List Wrong) → before ++ flat_map (slot_wrongs areas area contents) (range_with_len 0 (32 - 0)) ≡ before ++ area_wrongs areas area contents
+unfolding area_wrongs
+begun areas area contents before = refl
+
+pub gone_on : (f : ℕ → List Wrong) (all wrongs after : List Wrong) (i : ℕ) → i < 32 → wrongs ++ flat_map f (range_with_len i (32 - i)) ≡ all → after ≡ wrongs ++ f i
+    → after ++ flat_map f (range_with_len (i + 1) (32 - (i + 1))) ≡ all
+gone_on f all wrongs after i few so next =
+    ap (λ l. l ++ flat_map f (range_with_len (i + 1) (32 - (i + 1)))) next
+    ∙ append_assoc wrongs (f i) (flat_map f (range_with_len (i + 1) (32 - (i + 1))))
+    ∙ ap (λ r. wrongs ++ flat_map f r) (sym (range_more i 32 few))
+    ∙ so
+
+append_none : (xs : List Wrong) → xs ++ [] ≡ xs
+append_none [] = refl
+append_none (x ∷ xs) = ap (λ l. x ∷ l) (append_none xs)
+
+pub ended : (f : ℕ → List Wrong) (all wrongs : List Wrong) (i : ℕ) → i ≡ 32 → wrongs ++ flat_map f (range_with_len i (32 - i)) ≡ all → wrongs ≡ all
+ended f all wrongs i e so =
+    sym (append_none wrongs) ∙ sym (ap (λ n. wrongs ++ flat_map f (range_with_len n (32 - n))) e) ∙ so
+
+-- ---- what is told of a pack
+pub told_by : (pack items : List ℕ) (store pool : List (List ℕ)) (areas : Areas) (wrongs : List Wrong) → items ≡ pack → store ≡ contents_of items → mounted store ≡ Ok areas.header
+    → areas ≡ areas_on areas.header store → pool ≡ store → wrongs ≡ wrongs_on areas pool → told pack ≡ Ok wrongs
+told_by pack items store pool areas wrongs same is_store is_mounted on kept is =
+    let here : store ≡ contents_of pack = is_store ∙ ap contents_of same in
+    let found : mounted (contents_of pack) ≡ Ok areas.header = sym (ap mounted here) ∙ is_mounted in
+    let all : wrongs ≡ wrongs_on (areas_on areas.header (contents_of pack)) (contents_of pack) =
+    is ∙ ap₂ wrongs_on (on ∙ ap (areas_on areas.header) here) (kept ∙ here) in
+    ap (told_if (contents_of pack)) found ∙ ap (λ (l : List Wrong). let r : Result (List Wrong) MountFault = Ok l in r) (sym all)
+
+refused_by : (contents : List (List ℕ)) (found : Result Header MountFault) (refusal : Refusal) → IsRefusal found refusal → IsRefused (told_if contents found) (fault_of refusal)
+refused_by contents found (BadPack fault) is_err = ap (told_if contents) is_err
+refused_by contents found (Sectors fault) not_missing = tt
+
+pub refused_told : (pack items : List ℕ) (store : List (List ℕ)) (refusal : Refusal) (fault : CheckFault) → items ≡ pack → store ≡ contents_of items
+    → IsRefusal (mounted store) refusal → fault ≡ fault_of refusal → IsRefused (told pack) fault
+refused_told pack items store refusal fault same is_store refused is_fault =
+    let is_contents : store ≡ contents_of pack = is_store ∙ ap contents_of same in
+    subst (λ (f : CheckFault). IsRefused (told pack) f) (sym is_fault)
+    (refused_by (contents_of pack) (mounted (contents_of pack)) refusal (subst (λ (s : List (List ℕ)). IsRefusal (mounted s) refusal) is_contents refused))
+
+-- ---- packs of which nothing is told
+abbrev file_choice : (indexed good : Bool) → Cause → Option Cause
+file_choice indexed good cause = if indexed then (if good then None else Some cause) else None
+
+nothing_wrong : (indexed good : Bool) (cause : Cause) → (indexed ≡ true → good ≡ true) → file_choice indexed good cause ≡ None
+nothing_wrong true true cause h = refl
+nothing_wrong true false cause h = let e = h refl in absurd cc
+nothing_wrong false good cause h = refl
+
+is_right_then : (indexed good : Bool) (cause : Cause) → file_choice indexed good cause ≡ None → indexed ≡ true → good ≡ true
+is_right_then true true cause h e = refl
+is_right_then true false cause h e = absurd cc
+is_right_then false good cause h e = absurd cc
+
+no_cause : (areas : Areas) (area i : ℕ) (contents : List (List ℕ)) (slot : Option Slot) → IsRight slot contents → cause_of areas area i contents slot ≡ None
+no_cause areas area i contents None right = refl
+no_cause areas area i contents (Some Free) right = refl
+no_cause areas area i contents (Some (Damaged name)) right = absurd right
+no_cause areas area i contents (Some (Sound label)) right =
+    nothing_wrong (is_indexed label.organization) (is_good label contents) (Index (first_fault label (bytes_at (sectors_of label) contents))) right
+
+right_by_none : (areas : Areas) (area i : ℕ) (contents : List (List ℕ)) (slot : Option Slot) → cause_of areas area i contents slot ≡ None → IsRight slot contents
+right_by_none areas area i contents None none = tt
+right_by_none areas area i contents (Some Free) none = tt
+right_by_none areas area i contents (Some (Damaged name)) none = absurd cc
+right_by_none areas area i contents (Some (Sound label)) none = λ indexed.
+    is_right_then (is_indexed label.organization) (is_good label contents) (Index (first_fault label (bytes_at (sectors_of label) contents))) none indexed
+
+none_if_empty : (area i : ℕ) (name : Option Name) (cause : Option Cause) → wrong_with area i name cause ≡ [] → cause ≡ None
+none_if_empty area i name None h = refl
+none_if_empty area i name (Some cause) h = absurd cc
+
+slot_right : (areas : Areas) (area i : ℕ) (contents : List (List ℕ)) → slot_wrongs areas area contents i ≡ [] → IsRight (slice_get (slots_in area areas) i) contents
+unfolding slot_wrongs
+slot_right areas area i contents h =
+    right_by_none areas area i contents (slice_get (slots_in area areas) i)
+    (none_if_empty area i (name_at (slice_get (slots_in area areas) i)) (cause_of areas area i contents (slice_get (slots_in area areas) i)) h)
+
+slot_empty : (areas : Areas) (area i : ℕ) (contents : List (List ℕ)) → IsRight (slice_get (slots_in area areas) i) contents → slot_wrongs areas area contents i ≡ []
+unfolding slot_wrongs
+slot_empty areas area i contents right =
+    ap (wrong_with area i (name_at (slice_get (slots_in area areas) i))) (no_cause areas area i contents (slice_get (slots_in area areas) i) right)
+
+first_empty : (xs ys : List Wrong) → xs ++ ys ≡ [] → xs ≡ []
+first_empty [] ys h = refl
+first_empty (x ∷ xs) ys h = absurd cc
+
+rest_empty : (xs ys : List Wrong) → xs ++ ys ≡ [] → ys ≡ []
+rest_empty [] ys h = h
+rest_empty (x ∷ xs) ys h = absurd cc
+
+all_empty : (f : ℕ → List Wrong) (a n : ℕ) → ((k : ℕ) → a ≤ k → k < a + n → f k ≡ []) → flat_map f (range_with_len a n) ≡ []
+all_empty f a zero each = refl
+all_empty f a (suc n) each =
+    ap₂ (λ xs ys. xs ++ ys) (each a (omega arith) (omega arith)) (all_empty f (a + 1) n (λ k low high. each k (omega (arith, low)) (omega (arith, high))))
+
+each_empty : (f : ℕ → List Wrong) (a n i : ℕ) → i < n → flat_map f (range_with_len a n) ≡ [] → f (a + i) ≡ []
+each_empty f a zero i few h = absurd (omega (arith, few))
+each_empty f a (suc n) zero few h = let e : a + 0 ≡ a = omega arith in rw e (first_empty (f a) (flat_map f (range_with_len (a + 1) n)) h)
+each_empty f a (suc n) (suc i) few h =
+    let e : a + suc i ≡ a + 1 + i = omega arith in
+    rw e (each_empty f (a + 1) n i (omega (arith, few)) (rest_empty (f a) (flat_map f (range_with_len (a + 1) n)) h))
+
+area_empty : (areas : Areas) (area : ℕ) (contents : List (List ℕ)) → area < 3 → IsSoundPack areas contents → area_wrongs areas area contents ≡ []
+unfolding area_wrongs
+area_empty areas area contents few sound = all_empty (slot_wrongs areas area contents) 0 32 (λ i low high. slot_empty areas area i contents (sound area i few high))
+
+pub sound_is_empty : (areas : Areas) (contents : List (List ℕ)) → IsSoundPack areas contents → wrongs_on areas contents ≡ []
+sound_is_empty areas contents sound =
+    ap₂ (λ xs ys. xs ++ ys) (ap₂ (λ xs ys. xs ++ ys) (area_empty areas 0 contents (omega arith) sound) (area_empty areas 1 contents (omega arith) sound)) (area_empty areas 2 contents (omega arith) sound)
+
+area_right : (areas : Areas) (area i : ℕ) (contents : List (List ℕ)) → i < 32 → area_wrongs areas area contents ≡ [] → IsRight (slice_get (slots_in area areas) i) contents
+unfolding area_wrongs
+area_right areas area i contents few h =
+    let e : i ≡ 0 + i = omega arith in
+    slot_right areas area i contents (ap (slot_wrongs areas area contents) e ∙ each_empty (slot_wrongs areas area contents) 0 32 i few h)
+
+pub empty_is_sound : (areas : Areas) (contents : List (List ℕ)) → wrongs_on areas contents ≡ [] → IsSoundPack areas contents
+empty_is_sound areas contents h =
+    let front = first_empty (area_wrongs areas 0 contents ++ area_wrongs areas 1 contents) (area_wrongs areas 2 contents) h in
+    by (first_empty (area_wrongs areas 0 contents) (area_wrongs areas 1 contents) front) (rest_empty (area_wrongs areas 0 contents) (area_wrongs areas 1 contents) front)
+    (rest_empty (area_wrongs areas 0 contents ++ area_wrongs areas 1 contents) (area_wrongs areas 2 contents) h)
+  where
+    by : area_wrongs areas 0 contents ≡ [] → area_wrongs areas 1 contents ≡ [] → area_wrongs areas 2 contents ≡ [] → IsSoundPack areas contents
+    by a b c zero i few small = area_right areas 0 i contents small a
+    by a b c (suc zero) i few small = area_right areas 1 i contents small b
+    by a b c (suc (suc zero)) i few small = area_right areas 2 i contents small c
+    by a b c (suc (suc (suc n))) i few small = absurd (omega (arith, few))

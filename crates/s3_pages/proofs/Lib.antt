@@ -1,0 +1,7 @@
+pub mod AllLines
+pub mod Overprinting
+pub mod PageRuns
+pub mod PartLemmas
+pub mod RowLemmas
+pub mod Trimming
+pub mod WriteLemmas

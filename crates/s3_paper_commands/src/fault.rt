@@ -1,0 +1,53 @@
+//! Why a command doesn't do what it is asked.
+ghost use Rattle.std.specs.Prelude.{◌≤◌};
+
+use std::alloc::{AllocError, AllocFailed};
+use std::io;
+use std::io::Write;
+
+/// Why a command doesn't do what it is asked.
+#[derive(Drop)]
+pub enum CommandFault<'a> {
+    /// Memory ran out.
+    NoMemory,
+    /// This file can't be read.
+    File(&'a str),
+    /// Standard output can't be written.
+    Output,
+}
+
+impl<'a> From<AllocError> for CommandFault<'a> {
+    fn from(_error: AllocError) -> CommandFault<'a> {
+        CommandFault::NoMemory
+    }
+}
+
+impl<'a, T: Drop> From<AllocFailed<T>> for CommandFault<'a> {
+    fn from(_error: AllocFailed<T>) -> CommandFault<'a> {
+        CommandFault::NoMemory
+    }
+}
+
+impl<'a> CommandFault<'a> {
+    /// What a failed call on a file is.
+    pub fn of(error: &io::Error, name: &'a str) -> CommandFault<'a> {
+        if error.kind() == io::ErrorKind::OutOfMemory {
+            CommandFault::NoMemory
+        } else {
+            CommandFault::File(name)
+        }
+    }
+
+    /// Writes the line of a refusal, and gives its exit status, 1 or 3.
+    pub fn tell<W: Write>(&self, writer: &mut W) -> u8
+        ensures { result ≤ 3 }
+    {
+        let (written, status) = match self {
+            CommandFault::NoMemory => (writeln!(writer, "bureau: memory"), 1),
+            CommandFault::File(name) => (writeln!(writer, "bureau: file {name}"), 3),
+            CommandFault::Output => (writeln!(writer, "bureau: file"), 3),
+        };
+        let _ = written;
+        status
+    }
+}

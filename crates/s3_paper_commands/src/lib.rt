@@ -1,0 +1,12 @@
+//! The commands around paper, over real files: `bureau punch`, which makes decks of plain text.
+//!
+//! What is proved: each call is safe and returns, and gives a status in its range. What a text becomes is proved in `s3_punch`. The
+//! words, the lines that are told and the statuses are tested, by rows. What files and standard output give isn't claimed: they are
+//! used as the toolchain offers them.
+
+#![tactic(auto)]
+
+mod fault;
+mod punch;
+
+pub use punch::{punch_command, punch_files, tell_punched};

@@ -1,0 +1,203 @@
+//! `bureau punch`: a deck of plain text, on standard output. docs/PUNCHING.md has its rules.
+ghost use Rattle.std.specs.Prelude.{◌≤◌};
+
+use crate::fault::CommandFault;
+use clap::{Arg, ArgAction, ArgMatches, Command};
+use s3_host_files::read_within;
+use s3_punch::{Begun, Changes, LineChange, PunchFault, Punched, punch};
+use std::alloc::{AllocError, Global};
+use std::io::Write;
+
+/// The most bytes of a file that is read.
+const TEXT_LIMIT: usize = 4_194_304;
+
+/// The exit status where something is wrong with a text.
+const FAULTY: u8 = 1;
+
+/// The words of `bureau punch`. It is refused only where memory runs out.
+pub fn punch_command<'a>(alloc: Global) -> Result<Command<'a>, AllocError> {
+    Command::new(alloc, "punch")
+        .about(
+            "Makes a deck of plain text: capitals, tabs to their columns, no comments; on standard output",
+        )
+        .arg(
+            Arg::new(alloc, "file")
+                .value_name("FILE")
+                .num_args(1..)
+                .action(ArgAction::Append)
+                .required(true)
+                .help("The text; several files are one deck"),
+        )?
+        .arg(
+            Arg::new(alloc, "remarks")
+                .long("remarks")
+                .action(ArgAction::SetTrue)
+                .help("Blanks columns 60 to 74 of C cards"),
+        )?
+        .arg(
+            Arg::new(alloc, "report")
+                .long("report")
+                .action(ArgAction::SetTrue)
+                .help("Lists each line that was changed or left out"),
+        )
+}
+
+/// How many lines were changed, and how many left out.
+#[derive(Clone, Copy)]
+struct Counted {
+    changed: usize,
+    left_out: usize,
+}
+
+/// The deck of all files.
+#[derive(Drop)]
+struct WholeDeck {
+    text: Vec<u8>,
+    counted: Counted,
+    is_faulty: bool,
+}
+
+/// Does what the words of `bureau punch` ask, and gives the exit status: 0 where the deck is written, 1 where something is wrong with
+/// the text or memory ran out, 3 where a file can't be read or standard output not be written.
+pub fn punch_files<'a>(rt: &HostRuntime, matches: &ArgMatches<'a>) -> u8
+    ensures { result ≤ 3 }
+{
+    match write_deck(rt, matches) {
+        Ok(true) => 0,
+        Ok(false) => FAULTY,
+        Err(fault) => fault.tell(&mut rt.stderr()),
+    }
+}
+
+/// Writes the deck of all files, and tells what was done, or tells what is wrong; answers whether the deck was written.
+fn write_deck<'a>(rt: &HostRuntime, matches: &ArgMatches<'a>) -> Result<bool, CommandFault<'a>> {
+    let stacked = stacked(rt, matches)?;
+    if stacked.is_faulty {
+        return Ok(false);
+    }
+    if rt.stdout().write_all(&stacked.text).is_err() {
+        return Err(CommandFault::Output);
+    }
+    tell_count(rt, stacked.counted);
+    Ok(true)
+}
+
+/// Punches all files, one behind the other. What is wrong with them is told, and each change, where that is asked for.
+fn stacked<'a>(rt: &HostRuntime, matches: &ArgMatches<'a>) -> Result<WholeDeck, CommandFault<'a>> {
+    let alloc = rt.alloc();
+    let mut begun = Begun::new(matches.get_flag("remarks"));
+    let mut stacked = WholeDeck {
+        text: Vec::new(alloc),
+        counted: Counted::NONE,
+        is_faulty: false,
+    };
+    for file in matches.get_strs("file").unwrap_or(&[]) {
+        let name: &'a str = *file;
+        let bytes = match read_within(rt, name, TEXT_LIMIT) {
+            Ok(bytes) => bytes,
+            Err(error) => return Err(CommandFault::of(&error, name)),
+        };
+        let punched = punch(alloc, &bytes, &begun)?;
+        tell_faults(rt, name, &punched.faults);
+        if matches.get_flag("report") {
+            tell_changes(rt, name, &punched.changes);
+        }
+        begun = punched.behind(begun);
+        stacked.add(&punched)?;
+    }
+    Ok(stacked)
+}
+
+impl WholeDeck {
+    /// Puts a text behind the others. The last line of one that stands in front of another gets its end.
+    fn add(&mut self, punched: &Punched) -> Result<(), AllocError> {
+        self.is_faulty |= !punched.faults.is_empty();
+        self.counted = self.counted.with(&punched.changes);
+        if punched.text.is_empty() {
+            return Ok(());
+        }
+        if self.text.last().is_some_and(|last| *last != b'\n') {
+            self.text.push(b'\n')?;
+        }
+        self.text.extend_from_slice(&punched.text)
+    }
+}
+
+impl Counted {
+    const NONE: Counted = Counted {
+        changed: 0,
+        left_out: 0,
+    };
+
+    fn is_nothing(self) -> bool {
+        self.changed == 0 && self.left_out == 0
+    }
+
+    /// The counts with some changes more.
+    fn with(self, changes: &[LineChange]) -> Counted {
+        let left_out = changes
+            .iter()
+            .filter(|change| change.changes.is_left_out)
+            .count();
+        Counted {
+            changed: self
+                .changed
+                .saturating_add(changes.len().saturating_sub(left_out)),
+            left_out: self.left_out.saturating_add(left_out),
+        }
+    }
+}
+
+/// Tells all that is wrong with a file.
+fn tell_faults(rt: &HostRuntime, file: &str, faults: &[PunchFault]) {
+    for fault in faults {
+        let line = fault.line;
+        let column = fault.column;
+        let reason = fault.reason;
+        let _ = writeln!(
+            rt.stderr(),
+            "{file}, line {line}, column {column}: {reason}."
+        );
+    }
+}
+
+/// Tells each line of a file that was changed.
+fn tell_changes(rt: &HostRuntime, file: &str, changes: &[LineChange]) {
+    for change in changes {
+        let line = change.line;
+        let changes = change.changes;
+        let _ = writeln!(rt.stderr(), "{file}, line {line}: {changes}");
+    }
+}
+
+/// Tells how many lines were changed and left out, where any were.
+fn tell_count(rt: &HostRuntime, counted: Counted) {
+    if counted.is_nothing() {
+        return;
+    }
+    let changed = counted.changed;
+    let left_out = counted.left_out;
+    let _ = writeln!(
+        rt.stderr(),
+        "lines changed: {changed}; lines left out: {left_out}"
+    );
+}
+
+/// Tells what is wrong with a file that was punched, or else how many of its lines were changed and left out, where any were. Answers
+/// whether anything is wrong.
+pub fn tell_punched(rt: &HostRuntime, file: &str, punched: &Punched) -> bool {
+    if !punched.faults.is_empty() {
+        tell_faults(rt, file, &punched.faults);
+        return true;
+    }
+    let counted = Counted::NONE.with(&punched.changes);
+    if !counted.is_nothing() {
+        let changed = counted.changed;
+        let left_out = counted.left_out;
+        let _ = writeln!(
+            rt.stderr(),
+            "{file} is punched; lines changed: {changed}; lines left out: {left_out}"
+        );
+    }
+    false
+}

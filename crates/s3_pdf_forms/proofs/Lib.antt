@@ -1,0 +1,5 @@
+pub mod Digits
+pub mod PageBodies
+pub mod Pieces
+pub mod Ranges
+pub mod TableLemmas

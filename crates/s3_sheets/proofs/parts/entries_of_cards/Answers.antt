@@ -1,0 +1,11 @@
+use Rattle.std.proofs.Common.{arith}
+use Rattle.s3_sheets.proofs.PartLemmas.{card_found, all_found}
+use Rattle.s3_sheets.proofs.parts.entries_of_cards.Goals as goal
+
+pub loop-place-preserved : goal.loop-place-preserved
+loop-place-preserved c =
+    card_found _ _ _ _ _ _ _ _ _ _ c.loop-place.invariant c.loop-place-test.true c.position_length-length.ensures c.in_ok-standing.ensures.standing
+    c.in_ok-standing.ensures.kept c.in_ok-push_card.ensures
+
+pub returns : goal.returns
+returns c = all_found _ _ _ _ _ c.loop-place.invariant (omega arith)

@@ -1,0 +1,155 @@
+-- The entries that are at fault where a card has one of the numbers of single cards: what each number's condition is made of, entry by
+-- entry.
+use Rattle.std.specs.Prelude.{◌≡◌, ℕ, zero, suc, ◌+◌, ◌==◌, List, [], ◌∷◌, ◌++◌, Bool, not, ◌&&◌, ◌||◌, Option, length, map, filter}
+use Rattle.std.specs.List.{list_any}
+use Rattle.s3_cards.specs.Names.{name_of}
+use Rattle.s3_lines.specs.Ranges.{is_between, longest_record, is_printer, is_selected}
+use Rattle.s3_lines.specs.declared.sheet.FileLine.{FileLine}
+use Rattle.s3_sheets.specs.Columns.{columns, number_of, number_between}
+use Rattle.s3_sheets.specs.Combinations.{are_filled, is_with_index, is_key_within, has_bad_positions, has_bad_factor, has_bad_definition, has_bad_addition, is_of_date, has_no_content, has_early_constant}
+use Rattle.s3_sheets.specs.Lines.{card_at, file_line, is_addition}
+use Rattle.s3_sheets.specs.Rules.{Rule, allows, fault_of, is_blank_or}
+use Rattle.s3_sheets.specs.Sheets.{kind_at, standing_at, exceeds, named_length, input_length, output_length, length_for, holds}
+use Rattle.s3_sheets.specs.Tables.{rules_of}
+use Rattle.s3_sheets.specs.declared.faults.Fault.{Fault}
+use Rattle.s3_sheets.specs.declared.faults.Fault.TheVariants.{WrongEntry, WrongName, WrongNumber}
+use Rattle.s3_sheets.specs.declared.kind.CardKind.{CardKind}
+use Rattle.s3_sheets.specs.declared.kind.CardKind.TheVariants.{File, Record, RecordAnd, RecordOr, Field, Calculation, OutputLine, OutputField}
+use Rattle.s3_sheets.specs.declared.kind.CardKind.TheVariants as kind
+use Rattle.s3_sheets.specs.declared.parts.Part.{Part}
+use Rattle.s3_sheets.specs.declared.parts.FaultyEntry.{FaultyEntry}
+use Rattle.s3_sheets.specs.declared.progress.Standing.{Standing}
+
+-- a part of a number's condition, on the entry in some columns
+abbrev pub part : (number from to : ℕ) → (fails : Bool) → Part
+part number from to fails = record { number = number; from = from; to = to; fails = fails }
+
+-- ---- 2 to 4: the rules, each for an entry
+abbrev pub fault_number : Fault → ℕ
+fault_number WrongEntry = 2
+fault_number WrongName = 3
+fault_number WrongNumber = 4
+
+abbrev pub rule_part : List ℕ → Rule → Part
+rule_part card rule = part (fault_number (fault_of rule.entry)) rule.from rule.to (not (allows rule.entry (columns card rule.from rule.to)))
+
+-- ---- 2 to 4: columns together
+abbrev pub has_key_outside : FileLine → Bool
+has_key_outside file = is_with_index file && not (is_key_within file.record_length file.key)
+
+abbrev pub file_parts : List ℕ → List Part
+file_parts card =
+    part 2 17 17 ((file_line card).ends_job && not (is_selected (file_line card).designation))
+    ∷ part 2 29 30 (not (is_with_index (file_line card)) && are_filled card 29 30)
+    ∷ part 2 35 38 (not (is_with_index (file_line card)) && are_filled card 35 38)
+    ∷ part 2 33 34 (are_filled card 33 34 && not (is_printer (file_line card).device))
+    ∷ part 4 24 27 (not (is_between 1 (longest_record (file_line card).device) (file_line card).record_length))
+    ∷ part 4 29 30 (has_key_outside (file_line card))
+    ∷ part 4 35 38 (has_key_outside (file_line card))
+    ∷ []
+
+abbrev pub line_parts : List ℕ → List Part
+line_parts card =
+    part 2 16 16 (has_bad_addition card)
+    ∷ part 4 17 17 (not (is_addition card) && not (is_blank_or (number_between 0 3) (columns card 17 17)))
+    ∷ part 4 18 18 (not (is_addition card) && not (is_blank_or (number_between 0 3) (columns card 18 18)))
+    ∷ []
+
+-- a field beside a constant is at fault with it, any other entry beside a constant alone; so are an edit code and P together
+abbrev pub has_both : List ℕ → Bool
+has_both card = are_filled card 45 70 && are_filled card 32 37
+
+abbrev pub has_packed_edit : List ℕ → Bool
+has_packed_edit card = are_filled card 32 37 && are_filled card 38 38 && are_filled card 44 44
+
+abbrev pub output_parts : List ℕ → List Part
+output_parts card =
+    part 2 32 37 (has_both card)
+    ∷ part 2 45 70 (has_both card)
+    ∷ part 2 38 38 (are_filled card 45 70 && are_filled card 38 38 || has_packed_edit card)
+    ∷ part 2 39 39 (are_filled card 45 70 && are_filled card 39 39 || are_filled card 39 39 && is_of_date (name_of (columns card 32 37)))
+    ∷ part 2 44 44 (are_filled card 45 70 && are_filled card 44 44 || has_packed_edit card)
+    ∷ part 3 32 37 (has_no_content card)
+    ∷ part 4 40 43 (has_early_constant card)
+    ∷ []
+
+abbrev pub combined_parts : CardKind → List ℕ → List Part
+combined_parts File card = file_parts card
+combined_parts Field card = part 4 44 51 (has_bad_positions card) ∷ []
+combined_parts Calculation card = part 3 33 42 (has_bad_factor card) ∷ part 4 49 52 (has_bad_definition card) ∷ []
+combined_parts OutputLine card = line_parts card
+combined_parts OutputField card = output_parts card
+combined_parts _ card = []
+
+-- ---- 4: positions past a record of a length
+abbrev pub code_parts : List ℕ → Option ℕ → List Part
+code_parts card length =
+    part 4 21 24 (exceeds (number_of (columns card 21 24)) length)
+    ∷ part 4 28 31 (exceeds (number_of (columns card 28 31)) length)
+    ∷ part 4 35 38 (exceeds (number_of (columns card 35 38)) length)
+    ∷ []
+
+abbrev pub position_parts : CardKind → List ℕ → Option ℕ → List Part
+position_parts Record card length = code_parts card length
+position_parts RecordAnd card length = code_parts card length
+position_parts RecordOr card length = code_parts card length
+position_parts Field card length = part 4 48 51 (exceeds (number_of (columns card 48 51)) length) ∷ []
+position_parts OutputField card length = part 4 40 43 (exceeds (number_of (columns card 40 43)) length) ∷ []
+position_parts _ card length = []
+
+-- ---- 1, 3 and 13: by the cards before
+-- where the name stands that a card defines: of a file, of a field of a record, or of a result
+abbrev pub defined_from : CardKind → ℕ
+defined_from File = 7
+defined_from Field = 53
+defined_from _ = 43
+
+abbrev pub defined_to : CardKind → ℕ
+defined_to File = 14
+defined_to Field = 58
+defined_to _ = 48
+
+abbrev pub standing_parts : CardKind → Standing → List Part
+standing_parts kind standing =
+    part 1 6 6 standing.is_misplaced
+    ∷ part 3 7 14 standing.lacks_file
+    ∷ part 13 (defined_from kind) (defined_to kind) standing.is_too_many
+    ∷ []
+
+-- ---- all parts
+abbrev pub parts_with : CardKind → List ℕ → Standing → Option ℕ → List Part
+parts_with kind card standing length =
+    standing_parts kind standing
+    ++ (map (rule_part card) (rules_of kind) ++ (combined_parts kind card ++ position_parts kind card length))
+
+-- the record length that the positions on a card of a source go by
+abbrev pub length_at : List (List ℕ) → ℕ → Option ℕ
+length_at cards i = length_for (kind_at cards i) (named_length cards i) (input_length cards i) (output_length cards i)
+
+abbrev pub parts_at : List (List ℕ) → ℕ → List Part
+parts_at cards i = parts_with (kind_at cards i) (card_at cards i) (standing_at cards i) (length_at cards i)
+
+-- ---- the entries at fault: those of parts that fail
+abbrev pub entry_of : (card : ℕ) → Part → FaultyEntry
+entry_of card p = record { card = card; number = p.number; from = p.from; to = p.to }
+
+abbrev pub fails : Part → Bool
+fails p = p.fails
+
+abbrev pub entries_of : (card : ℕ) → List Part → List FaultyEntry
+entries_of card parts = map (entry_of card) (filter fails parts)
+
+-- those of the first n cards, which stand from a place of their deck on
+abbrev pub entries_below : (from : ℕ) → List (List ℕ) → ℕ → List FaultyEntry
+entries_below from cards zero = []
+entries_below from cards (suc n) = entries_below from cards n ++ entries_of (from + n + 1) (parts_at cards n)
+
+unfoldable pub faulty_entries : (from : ℕ) → List (List ℕ) → List FaultyEntry
+faulty_entries from cards = entries_below from cards (length cards)
+
+-- ---- a card has a number exactly where one of its entries is at fault by it
+abbrev pub has_entry : (number : ℕ) → List FaultyEntry → Bool
+has_entry number entries = list_any (λ (entry : FaultyEntry). entry.number == number) entries
+
+abbrev pub IsToldByEntries : (number : ℕ) → Type 0
+IsToldByEntries number = (card : ℕ) (cards : List (List ℕ)) (i : ℕ) → has_entry number (entries_of card (parts_at cards i)) ≡ holds cards (i, number)

@@ -1,0 +1,355 @@
+//! The entries that are at fault where a card has a diagnostic: what each condition is made of, entry by entry.
+
+ghost use Rattle.std.specs.Prelude.{◌≡◌, ◌≤◌, ◌+◌, ◌++◌, length, map, filter, true, OnOk, IfOk, slice_range};
+ghost use Rattle.std.specs.List.{list_all};
+ghost use Rattle.s3_sheets.specs.Inner.Parts as spec;
+ghost use Rattle.s3_sheets.specs.Inner.Rules.{is_on_card};
+ghost use Rattle.s3_sheets.specs.Inner.RuleViews.{rule_view};
+ghost use Rattle.s3_sheets.specs.Kinds.{kind_of as kind_of_spec};
+
+use crate::columns::{columns, number};
+use crate::combinations::{
+    are_filled, has_bad_addition, has_bad_definition, has_bad_factor, has_bad_positions,
+    has_early_constant, has_no_content, is_key_within, is_of_date, is_printer, is_selected,
+    is_with_index, is_wrong_space, longest_record,
+};
+use crate::faults::Fault;
+use crate::kind::{CardKind, kind_of};
+use crate::lines::{file_line, is_addition};
+use crate::progress::{Progress, Standing, exceeds};
+use crate::rules::Rule;
+use crate::tables::rules_of;
+use s3_cards::{Card, Deck, Name};
+use s3_lines::sheet::FileLine;
+use std::alloc::{AllocError, Global};
+
+/// A part of a diagnostic's condition, on one entry of a card.
+#[derive(Clone, Copy)]
+pub struct Part {
+    /// The number of the diagnostic.
+    pub number: u8,
+    /// The entry's first column, from 1.
+    pub from: usize,
+    /// Its last column.
+    pub to: usize,
+    /// Whether the entry is at fault.
+    pub fails: bool,
+}
+
+/// An entry of a card that is at fault by a diagnostic.
+#[derive(Clone, Copy, Debug, PartialEq, Eq)]
+pub struct FaultyEntry {
+    /// The number of the card in its deck, from 1.
+    pub card: u16,
+    /// The number of the diagnostic: 1 to 4 or 13.
+    pub number: u8,
+    /// The entry's first column, from 1.
+    pub from: usize,
+    /// Its last column.
+    pub to: usize,
+}
+
+fn part_of(number: u8, from: usize, to: usize, fails: bool) -> Part
+    ensures { result ≡ spec.part number from to fails }
+{
+    Part {
+        number,
+        from,
+        to,
+        fails,
+    }
+}
+
+/// Adds the entries of those parts that fail.
+fn push_parts(found: &mut Vec<FaultyEntry>, card: u16, parts: &[Part]) -> Result<(), AllocError>
+    ensures { OnOk result (found.new.items ≡ found.old.items ++ spec.entries_of card parts.now) }
+{
+    for part in parts {
+        if part.fails {
+            found.push(FaultyEntry {
+                card,
+                number: part.number,
+                from: part.from,
+                to: part.to,
+            })?;
+        }
+    }
+    Ok(())
+}
+
+fn fault_number(fault: Fault) -> u8
+    ensures { result ≡ spec.fault_number fault }
+{
+    match fault {
+        Fault::WrongEntry => 2,
+        Fault::WrongName => 3,
+        Fault::WrongNumber => 4,
+    }
+}
+
+/// What a rule says of its entry on a card.
+fn rule_part(rule: &Rule, card: &Card) -> Part
+    requires { is_on_card (rule_view rule.now) ≡ true }
+    ensures { result ≡ spec.rule_part card.now (rule_view rule.now) }
+{
+    part_of(
+        fault_number(rule.entry.fault()),
+        rule.from,
+        rule.to,
+        !rule.entry.allows(columns(card, rule.from, rule.to)),
+    )
+}
+
+/// Adds the entries of a card that break rules.
+fn push_broken(
+    found: &mut Vec<FaultyEntry>,
+    number: u16,
+    rules: &[Rule],
+    card: &Card,
+) -> Result<(), AllocError>
+    requires { list_all is_on_card (map rule_view rules.now) ≡ true }
+    ensures { OnOk result (found.new.items ≡ found.old.items ++ spec.entries_of number (map (spec.rule_part card.now) (map rule_view rules.now))) }
+{
+    for rule in rules {
+        push_parts(found, number, &[rule_part(rule, card)])?;
+    }
+    Ok(())
+}
+
+fn has_key_outside(file: &FileLine) -> bool
+    ensures { result ≡ spec.has_key_outside file.now }
+{
+    is_with_index(file) && !is_key_within(file.record_length, file.key)
+}
+
+fn file_parts(card: &Card) -> [Part; 7]
+    ensures { result ≡ spec.file_parts card.now }
+{
+    let file = file_line(card);
+    let stray = !is_with_index(&file);
+    let length = file.record_length;
+    let outside = has_key_outside(&file);
+    [
+        part_of(2, 17, 17, file.ends_job && !is_selected(file.designation)),
+        part_of(2, 29, 30, stray && are_filled(card, 29, 30)),
+        part_of(2, 35, 38, stray && are_filled(card, 35, 38)),
+        part_of(
+            2,
+            33,
+            34,
+            are_filled(card, 33, 34) && !is_printer(file.device),
+        ),
+        part_of(
+            4,
+            24,
+            27,
+            !(1 <= length && length <= longest_record(file.device)),
+        ),
+        part_of(4, 29, 30, outside),
+        part_of(4, 35, 38, outside),
+    ]
+}
+
+fn line_parts(card: &Card) -> [Part; 3]
+    ensures { result ≡ spec.line_parts card.now }
+{
+    let spaced = !is_addition(card);
+    [
+        part_of(2, 16, 16, has_bad_addition(card)),
+        part_of(4, 17, 17, spaced && is_wrong_space(columns(card, 17, 17))),
+        part_of(4, 18, 18, spaced && is_wrong_space(columns(card, 18, 18))),
+    ]
+}
+
+fn has_both(card: &Card) -> bool
+    ensures { result ≡ spec.has_both card.now }
+{
+    are_filled(card, 45, 70) && are_filled(card, 32, 37)
+}
+
+fn has_packed_edit(card: &Card) -> bool
+    ensures { result ≡ spec.has_packed_edit card.now }
+{
+    are_filled(card, 32, 37) && are_filled(card, 38, 38) && are_filled(card, 44, 44)
+}
+
+fn output_parts(card: &Card) -> [Part; 7]
+    ensures { result ≡ spec.output_parts card.now }
+{
+    let both = has_both(card);
+    let packed = has_packed_edit(card);
+    let constant = are_filled(card, 45, 70);
+    let blanked = are_filled(card, 39, 39);
+    [
+        part_of(2, 32, 37, both),
+        part_of(2, 45, 70, both),
+        part_of(2, 38, 38, constant && are_filled(card, 38, 38) || packed),
+        part_of(
+            2,
+            39,
+            39,
+            constant && blanked || blanked && is_of_date(Name::of(columns(card, 32, 37))),
+        ),
+        part_of(2, 44, 44, constant && are_filled(card, 44, 44) || packed),
+        part_of(3, 32, 37, has_no_content(card)),
+        part_of(4, 40, 43, has_early_constant(card)),
+    ]
+}
+
+/// Adds the entries that are at fault by what columns of a card show together.
+fn push_combined(
+    found: &mut Vec<FaultyEntry>,
+    number: u16,
+    kind: CardKind,
+    card: &Card,
+) -> Result<(), AllocError>
+    ensures { OnOk result (found.new.items ≡ found.old.items ++ spec.entries_of number (spec.combined_parts kind card.now)) }
+{
+    match kind {
+        CardKind::File => push_parts(found, number, &file_parts(card)),
+        CardKind::Field => push_parts(
+            found,
+            number,
+            &[part_of(4, 44, 51, has_bad_positions(card))],
+        ),
+        CardKind::Calculation => {
+            let factor = part_of(3, 33, 42, has_bad_factor(card));
+            push_parts(
+                found,
+                number,
+                &[factor, part_of(4, 49, 52, has_bad_definition(card))],
+            )
+        }
+        CardKind::OutputLine => push_parts(found, number, &line_parts(card)),
+        CardKind::OutputField => push_parts(found, number, &output_parts(card)),
+        CardKind::Comment
+        | CardKind::Unknown
+        | CardKind::Header
+        | CardKind::Record
+        | CardKind::RecordAnd
+        | CardKind::RecordOr
+        | CardKind::OutputAnd
+        | CardKind::OutputOr => Ok(()),
+    }
+}
+
+fn code_parts(card: &Card, length: Option<u16>) -> [Part; 3]
+    ensures { result ≡ spec.code_parts card.now length }
+{
+    [
+        part_of(4, 21, 24, exceeds(number(columns(card, 21, 24)), length)),
+        part_of(4, 28, 31, exceeds(number(columns(card, 28, 31)), length)),
+        part_of(4, 35, 38, exceeds(number(columns(card, 35, 38)), length)),
+    ]
+}
+
+/// Adds the entries whose positions lie past a record of a length.
+fn push_positions(
+    found: &mut Vec<FaultyEntry>,
+    number_of_card: u16,
+    kind: CardKind,
+    card: &Card,
+    length: Option<u16>,
+) -> Result<(), AllocError>
+    ensures { OnOk result (found.new.items ≡ found.old.items ++ spec.entries_of number_of_card (spec.position_parts kind card.now length)) }
+{
+    match kind {
+        CardKind::Record | CardKind::RecordAnd | CardKind::RecordOr => {
+            push_parts(found, number_of_card, &code_parts(card, length))
+        }
+        CardKind::Field => {
+            let is_past = exceeds(number(columns(card, 48, 51)), length);
+            push_parts(found, number_of_card, &[part_of(4, 48, 51, is_past)])
+        }
+        CardKind::OutputField => {
+            let is_past = exceeds(number(columns(card, 40, 43)), length);
+            push_parts(found, number_of_card, &[part_of(4, 40, 43, is_past)])
+        }
+        CardKind::Comment
+        | CardKind::Unknown
+        | CardKind::Header
+        | CardKind::File
+        | CardKind::Calculation
+        | CardKind::OutputLine
+        | CardKind::OutputAnd
+        | CardKind::OutputOr => Ok(()),
+    }
+}
+
+fn standing_parts(kind: CardKind, standing: Standing) -> [Part; 3]
+    ensures { result ≡ spec.standing_parts kind standing }
+{
+    let (from, to) = match kind {
+        CardKind::File => (7, 14),
+        CardKind::Field => (53, 58),
+        _ => (43, 48),
+    };
+    [
+        part_of(1, 6, 6, standing.is_misplaced),
+        part_of(3, 7, 14, standing.lacks_file),
+        part_of(13, from, to, standing.is_too_many),
+    ]
+}
+
+/// Adds the entries of a card that are at fault, where it stands and with the record length that its positions go by.
+#[tactic(auto, using(crate::proofs::PartLemmas::all_parts))]
+fn push_card(
+    found: &mut Vec<FaultyEntry>,
+    number: u16,
+    card: &Card,
+    standing: Standing,
+    length: Option<u16>,
+) -> Result<(), AllocError>
+    ensures { OnOk result (found.new.items ≡ found.old.items ++ spec.entries_of number (spec.parts_with (kind_of_spec card.now) card.now standing length)) }
+{
+    let kind = kind_of(card);
+    push_parts(found, number, &standing_parts(kind, standing))?;
+    push_broken(found, number, rules_of(kind), card)?;
+    push_combined(found, number, kind, card)?;
+    push_positions(found, number, kind, card, length)
+}
+
+/// The entries of cards that are at fault.
+fn entries_of_cards(
+    alloc: Global,
+    cards: &[Card],
+    from: usize,
+) -> Result<Vec<FaultyEntry>, AllocError>
+    requires { from + length cards.now ≤ 9_999 }
+    ensures { IfOk result (λ found. found.items ≡ spec.faulty_entries from cards.now) }
+{
+    let mut found = Vec::new(alloc);
+    let mut progress = Progress::new(alloc);
+    for (place, card) in cards.iter().enumerate() {
+        let number = (from + place + 1) as u16;
+        let length = progress.position_length(card);
+        let standing = progress.enter(card)?;
+        push_card(&mut found, number, card, standing, length)?;
+    }
+    Ok(found)
+}
+
+/// The entries that are at fault by the diagnostics 1 to 4 and 13 on cards of a deck from place `from` up to but without place `to`,
+/// card by card. A card has one of these numbers exactly where an entry of it is at fault by that number
+/// (`numbers_stand_on_entries`). It is refused only where memory runs out.
+pub fn faulty_entries(
+    alloc: Global,
+    deck: &Deck,
+    from: usize,
+    to: usize,
+) -> Result<Vec<FaultyEntry>, AllocError>
+    requires order { from ≤ to }
+    requires within { to ≤ length deck.now }
+    ensures { IfOk result (λ found. found.items ≡ spec.faulty_entries from (slice_range deck.now from to)) }
+{
+    entries_of_cards(alloc, &deck.cards()[from..to], from)
+}
+
+/// A card has each of the numbers 1 to 4 and 13 exactly where an entry of it is at fault by that number.
+pub fn numbers_stand_on_entries()
+    ensures sheet { spec.IsToldByEntries 1 }
+    ensures entry { spec.IsToldByEntries 2 }
+    ensures name { spec.IsToldByEntries 3 }
+    ensures number { spec.IsToldByEntries 4 }
+    ensures many { spec.IsToldByEntries 13 }
+{}
