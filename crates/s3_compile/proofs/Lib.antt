@@ -9,3 +9,6 @@ mod Knowing
 mod Clearing
 mod Defining
 mod Accepting
+pub mod ChainLemmas
+pub mod CircleLemmas
+pub mod ReachLemmas

@@ -2,3 +2,5 @@
 pub mod Compiles
 pub mod Defines
 pub mod Noted
+pub mod Chains
+pub mod Reaching

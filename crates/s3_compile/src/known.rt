@@ -17,10 +17,10 @@ ghost use Rattle.s3_diagnose.specs.Inner.Shown.{known_shown, marks_shown};
 ghost use Rattle.s3_compile.specs.Inner.Defines.{Defines, AreEmpty, inputs_known, calculations_known};
 
 use crate::file_places::file_places;
+use crate::forbidden::forbidden_calls;
 use crate::marking::fill_marks;
 use crate::naming::{note_fields, note_results, subroutines_defined, tags_defined};
 use indexmap::{IndexMap, IndexSet};
-use s3_calls::forbidden_calls;
 use s3_cards::Name;
 use s3_diagnose::behind::{behind_calculation, first_calculation};
 use s3_diagnose::jumps::{callee_of, caller_of};
