@@ -6,6 +6,7 @@ pub mod Counts
 pub mod Digits
 pub mod Entering
 pub mod Fetching
+pub mod Idling
 pub mod Laying
 pub mod Memory
 pub mod Opening

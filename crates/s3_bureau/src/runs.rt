@@ -1,5 +1,5 @@
 //! A run: a pack, two decks and a script, from bytes to texts and the pack.
-ghost use Rattle.std.specs.Prelude.{◌≡◌, ◌≢◌, ◌+◌, Ok, Err, IfOk, OnOk, replicate, true};
+ghost use Rattle.std.specs.Prelude.{◌≡◌, ◌≢◌, ◌≤◌, ◌<◌, ◌+◌, Ok, Err, IfOk, OnOk, replicate, true};
 ghost use Rattle.std.specs.List.{flat_map};
 ghost use Rattle.s3_bureau.specs.Inner.Faults.{TellsRefusal, fault_of_stop};
 ghost use Rattle.s3_bureau.specs.Script.{entries_by};
@@ -8,7 +8,7 @@ ghost use Rattle.s3_bureau.specs.Inner.Stops.{failed_stop};
 ghost use Rattle.s3_bureau.specs.Inner.Held.{HoldsFor, IsSaid, header_of, held_by, is_open, rests};
 ghost use Rattle.s3_bureau.specs.Runs.{Runs, texts_in};
 ghost use Rattle.s3_bureau.specs.Sharing.{IsCommon, IsOwn};
-ghost use Rattle.s3_bureau.specs.Inner.Underway.{HasTexts, HaveFiles, HaveSlots, KeepSaying, Leaves, LeavesSectors, Performs, ReadsDeck, RunsOver, drained_texts};
+ghost use Rattle.s3_bureau.specs.Inner.Underway.{HasTexts, HaveFiles, HaveSlots, KeepSaying, Leaves, LeavesSectors, Performs, ReadsDeck, RunsOver, drained_texts, left_after};
 ghost use Rattle.s3_cards.specs.declared.levels.LevelId.{LevelId};
 ghost use Rattle.s3_store.specs.Inner.State.{KeepsInStep};
 ghost use Rattle.s3_slots.specs.Header.{region_of};
@@ -28,6 +28,7 @@ use crate::script::{Command, read_script};
 use crate::stop::Stop;
 use s3_cards::{Deck, LevelId};
 use s3_labels::{Refusal, RefusedStore};
+use s3_level::{Did, Taken};
 use s3_store::{MemoryStore, PackStore, PoolFault};
 use std::alloc::{AllocError, Global};
 use std::num::NonZeroU16;
@@ -208,9 +209,23 @@ fn repeat<S: PackStore>(bureau: &mut Bureau<S>, entry: Entry, count: u16) -> Res
     while let Some(most) = NonZeroU16::new(left) {
         // What the entries did stands nowhere: a turn, a reply or a drain that was idle or refused leaves no mark in the texts.
         let taken = bureau.repeat(entry, most)?;
-        left -= taken.times;
+        left = left_behind(taken, left);
     }
     Ok(())
+}
+
+/// How many of a command's entries are left to be performed behind these. Where these did nothing it is none: nothing has changed
+/// then, and so the others would do nothing either.
+fn left_behind(taken: Taken, left: u16) -> u16
+    requires some { 1 ≤ taken.times }
+    requires few { taken.times ≤ left }
+    ensures value { result ≡ left_after taken left }
+    ensures fewer { result < left }
+{
+    match taken.did {
+        Did::Acted => left - taken.times,
+        Did::Idle | Did::Refused(_) => 0,
+    }
 }
 
 /// A level's texts.

@@ -13,7 +13,7 @@ use Rattle.s3_keyed.specs.Index.{KeyPlace, Layout, key_of, keys_of, entry_at, in
 use Rattle.s3_keyed.specs.Inner.Index.{keys_at}
 use Rattle.s3_keyed.specs.Calls.{place_of_key, with_added, with_loaded}
 use Rattle.s3_keyed.specs.Inner.Keyed.{IsOrdered}
-use Rattle.s3_keyed.proofs.Order.{by_lt, below, at_most, In, In-insert_cases, In-key_order_back, In-inserts_right, length-insert_entry, key_order-append, inserts-added, insert-last, Lacks, Above, Ascends}
+use Rattle.s3_keyed.proofs.Order.{by_lt, below, at_most, In, In-insert_cases, In-key_order_back, In-inserts_right, In-from_get, length-insert_entry, key_order-append, inserts-added, insert-last, Lacks, Above, Ascends}
 use Rattle.s3_keyed.proofs.CallLemmas.{ordered_same}
 use Rattle.s3_keyed.proofs.Places.{length_keys, entries_stay, index_stays}
 use Rattle.s3_keyed.proofs.Goodness.{to_ascends, from_ascends}
@@ -138,6 +138,10 @@ all_in P (f ∷ fs) e all on = elim on [
 -- no entry of the key order has a key that no record has
 pub order_lacks : (keys : List ℕ) (k : ℕ) → place_of_key k keys ≡ None → (f : Entry) → In f (key_order keys) → k ≡ f.key → ⊥
 order_lacks keys k none f on same = absent_from k 0 keys none (f.number - 1) ((In-key_order_back keys f on).1 ∙ ap Some (sym same))
+
+-- nor has one of those in memory
+pub added_lacks : (start stop limit : ℕ) (first index added : List Entry) (keys : List ℕ) (k : ℕ) → IsOrdered start stop limit first index added keys → place_of_key k keys ≡ None → (i : ℕ) (e : Entry) → slice_get added i ≡ Some e → e.key ≡ k → ⊥
+added_lacks start stop limit first index added keys k o none i e got same = order_lacks keys k none e (subst (In e) o.order (In-inserts_right e index added (In-from_get added i e got))) (sym same)
 
 pub ordered_added : (start stop limit : ℕ) (first index added added' : List Entry) (keys keys' : List ℕ) (k : ℕ) → IsOrdered start stop limit first index added keys → place_of_key k keys ≡ None → k < limit → added' ≡ insert_entry (record { key = k; number = length keys + 1 }) added → keys' ≡ keys ++ k ∷ [] → IsOrdered start stop limit first index added' keys'
 ordered_added start stop limit first index added added' keys keys' k o none short added_is keys_is =

@@ -1,6 +1,7 @@
 -- Whether a key is above all others.
 use Rattle.std.proofs.Common.{◌≡◌, ℕ, zero, suc, ◌+◌, ◌-◌, ◌<◌, ◌≤◌, ◌⊎◌, inl, inr, Bool, true, false, ◌&&◌, nat_lt, List, [], ◌∷◌, length, map, slice_get, Some, Result, Ok, Err, IfOk, refl, sym, ap, subst, ◌∙◌, arith}
 use Rattle.std.proofs.lemmas.Bool.{ltb-true}
+use Rattle.std.proofs.lemmas.Option.{slice_get_within}
 use Rattle.std.specs.List.{list_all, range_with_len}
 use Rattle.s3_store.specs.declared.pool_fault.PoolFault.{PoolFault}
 use Rattle.s3_keyed.specs.KeyOrder.{Entry, key_order, insert_entries, ascends, keys_in}
@@ -72,6 +73,9 @@ module _ (k : ℕ) where
       at_or_before zero (suc n) h = inr (omega arith)
       at_or_before (suc i) zero h = absurd (omega arith)
       at_or_before (suc i) (suc n) h = elim (at_or_before i n (omega arith)) [ inl e ↦ inl (ap suc e) | inr l ↦ inr (omega arith) ]
+
+  pub last_says : (es : List Entry) (top : Entry) → ascends (keys_in es) ≡ true → slice_get es (length es - 1) ≡ Some top → all_below (keys_in es) ≡ nat_lt top.key k
+  last_says es top up got = let within = slice_get_within es (length es - 1) top got in highest_says es (length es - 1) top up (omega arith) got
 
   -- the keys of all records are those on the pack and those in memory
   pub order_above : (index added : List Entry) (keys : List ℕ) (b : Bool) → insert_entries index added ≡ key_order keys → all_below (keys_in added) ≡ true → all_below (keys_in index) ≡ b → all_below keys ≡ b

@@ -12,7 +12,8 @@ use Rattle.std.specs.declared.cmp.Ordering.{Ordering}
 use Rattle.std.specs.declared.cmp.Ordering.TheVariants.{Less, Equal, Greater}
 use Rattle.std.specs.Ordering.{nat_cmp, ordering_then, is_ne}
 use Rattle.std.specs.Cmp.Lexicographic.{slice_cmp}
-use Rattle.byteorder.specs.Endian.{big_from, big_number}
+use Rattle.byteorder.specs.Endian.{big_from, big_number, big_bytes}
+use Rattle.byteorder.specs.Numbers.{big_number-reads_back}
 use Rattle.s3_keyed.specs.KeyOrder.{number_of}
 
 unfoldable pub AreBytes : List ℕ → Type 0
@@ -48,16 +49,16 @@ number_of-fits (x ∷ xs) h =
     let whole : 256 ^ suc (length xs) ≡ p * 256 = simp unary_clauses (omega arith) in
     omega (arith, top, whole, rest)
 
-cmp-less : (a b : ℕ) → a < b → nat_cmp a b ≡ Less
+pub cmp-less : (a b : ℕ) → a < b → nat_cmp a b ≡ Less
 cmp-less a b h = grind (arith, nat_tests)
 
-cmp-greater : (a b : ℕ) → b < a → nat_cmp a b ≡ Greater
+pub cmp-greater : (a b : ℕ) → b < a → nat_cmp a b ≡ Greater
 cmp-greater a b h = grind (arith, nat_tests)
 
-cmp-equal : (a b : ℕ) → a ≡ b → nat_cmp a b ≡ Equal
+pub cmp-equal : (a b : ℕ) → a ≡ b → nat_cmp a b ≡ Equal
 cmp-equal a b h = grind (arith, nat_tests)
 
-split : (a b : ℕ) → (a < b) ⊎ ((a ≡ b) ⊎ (b < a))
+pub split : (a b : ℕ) → (a < b) ⊎ ((a ≡ b) ⊎ (b < a))
 split zero zero = inr (inl refl)
 split zero (suc b) = inl (omega arith)
 split (suc a) zero = inr (inr (omega arith))
@@ -66,7 +67,7 @@ split (suc a) (suc b) = elim (split a b) [ inl l ↦ inl (omega arith) | inr r �
 leads : (x y p u v : ℕ) → x < y → u < p → x * p + u < y * p + v
 leads x y p u v h fits = let up : x + 1 ≤ y = omega arith in omega (arith, mul-le-mul_left p up)
 
-digit_cmp : (x y p u v : ℕ) → u < p → v < p → ordering_then (nat_cmp x y) (nat_cmp u v) ≡ nat_cmp (x * p + u) (y * p + v)
+pub digit_cmp : (x y p u v : ℕ) → u < p → v < p → ordering_then (nat_cmp x y) (nat_cmp u v) ≡ nat_cmp (x * p + u) (y * p + v)
 digit_cmp x y p u v fu fv = elim (split x y) [
   | inl lt ↦ let a = cmp-less x y lt in let b = cmp-less (x * p + u) (y * p + v) (leads x y p u v lt fu) in rw (a, b) refl
   | inr rest ↦ elim rest [
@@ -169,6 +170,12 @@ number_of-append (x ∷ xs) ys =
 pub number_of-split : (n : ℕ) (xs : List ℕ) → number_of xs ≡ number_of (take n xs) * 256 ^ length (drop n xs) + number_of (drop n xs)
 number_of-split n xs = ap number_of (sym (take-append-drop n xs)) ∙ number_of-append (take n xs) (drop n xs)
 
+-- the number in 32 bytes, and in their halves
+pub number_of-halves : (xs : List ℕ) (high low : ℕ) → length xs ≡ 32 → high ≡ number_of (take 16 xs) → low ≡ number_of (drop 16 xs) → high * 256 ^ 16 + low ≡ number_of xs
+number_of-halves xs high low long is_high is_low =
+    let half : length (drop 16 xs) ≡ 16 = omega (arith, length-drop 16 xs) in
+    rw (is_high, is_low) (sym (number_of-split 16 xs ∙ ap (λ n. number_of (take 16 xs) * 256 ^ n + number_of (drop 16 xs)) half))
+
 big_from-number : (i n : ℕ) (xs : List ℕ) → i + n ≤ length xs → big_from i n xs ≡ number_of (take n (drop i xs))
 unfolding number_of
 big_from-number i zero xs fits = refl
@@ -247,3 +254,14 @@ head_tells k entry key x y eight long same h g x_is y_is apart =
     let second : y ≡ number_of (take 8 key) = y_is ∙ big_number-first 8 key (omega (arith, same, eight)) in
     told_apart (nat_cmp x y) (nat_cmp (number_of (drop 8 (take k entry))) (number_of (drop 8 key))) (nat_cmp (number_of (take k entry)) (number_of key))
     (rw (first, second) (headed 8 (take k entry) key front (bytes_taken k entry h) g)) apart
+
+-- ---- a number written in two halves
+
+half_written : (n : ℕ) (xs rest : List ℕ) → xs ≡ big_bytes 16 n ++ rest → length xs ≡ 16 → n < 256 ^ 16 → number_of xs ≡ n
+half_written n xs rest is long small = sym (big_number-all 16 xs long) ∙ ap (big_number 16) is ∙ big_number-reads_back 16 n rest small
+
+pub halves_written : (high low : ℕ) (xs ys rest last : List ℕ) → xs ≡ big_bytes 16 high ++ rest → ys ≡ big_bytes 16 low ++ last → length xs ≡ 16 → length ys ≡ 16 → high < 256 ^ 16 → low < 256 ^ 16 → number_of (xs ++ ys) ≡ high * 256 ^ 16 + low
+halves_written high low xs ys rest last is_high is_low long_high long_low small_high small_low =
+    let a = half_written high xs rest is_high long_high small_high in
+    let b = half_written low ys last is_low long_low small_low in
+    number_of-append xs ys ∙ rw (a, b, long_low) refl

@@ -3,17 +3,14 @@ use Rattle.std.proofs.Common.{◌≡◌, ◌≢◌, ℕ, zero, suc, ◌+◌, ◌
 use Rattle.std.proofs.lemmas.Bool.{eqb-true, eq-eqb}
 use Rattle.std.proofs.lemmas.List.{take_all}
 use Rattle.std.specs.List.{range_with_len, position_from}
-use Rattle.s3_keyed.specs.declared.indexed.IndexEntry.{IndexEntry}
-use Rattle.s3_keyed.specs.KeyOrder.{number_of, Entry, key_order, ascends, keys_in, is_good_index}
+use Rattle.s3_keyed.specs.KeyOrder.{Entry, key_order, ascends, keys_in, is_good_index}
 use Rattle.s3_keyed.specs.Inner.KeyOrder.{IsAscending}
 use Rattle.s3_keyed.specs.Index.{Layout, entry_at, index_in}
 use Rattle.s3_keyed.specs.Calls.{place_of_key, place_in, nth_by_key}
-use Rattle.s3_keyed.specs.Inner.Shape.{entry_of}
 use Rattle.s3_keyed.specs.Inner.Keyed.{IsOrdered}
 use Rattle.s3_keyed.proofs.Order.{In, In-from_get, get_from_In, In-key_order, In-key_order_back, In-inserts_left, In-inserts_right, In-inserts_cases, length-key_order}
 use Rattle.s3_keyed.proofs.Goodness.{to_ascends, from_ascends, ascends_get, one_entry, good_order, good_ascends}
 use Rattle.s3_keyed.proofs.Checked.{get-listed, listed}
-use Rattle.s3_keyed.proofs.InMemory.{get_mapped}
 
 -- ---- as it was checked
 
@@ -53,14 +50,6 @@ in_index layout n bytes e on =
 pub index_ascending : (layout : Layout) (n : ℕ) (bytes : List ℕ) → ascends (keys_in (index_in layout n bytes)) ≡ true → IsAscending (entry_at layout bytes) n
 index_ascending layout n bytes up i j less below =
     ascends_get (index_in layout n bytes) (to_ascends (index_in layout n bytes) up) i j (entry_at layout bytes i) (entry_at layout bytes j) less (get_index layout n i bytes (omega arith)) (get_index layout n j bytes below)
-
-in_mapped : (xs : List IndexEntry) (e : Entry) → In e (map entry_of xs) → (i : ℕ) × (x : IndexEntry) × (slice_get xs i ≡ Some x) × (e ≡ entry_of x)
-unfolding In
-in_mapped [] e on = absurd on
-in_mapped (y ∷ ys) e on = elim on [
-  | inl same ↦ (zero, y, refl, same)
-  | inr later ↦ let rest = in_mapped ys e later in (suc rest.0, rest.1, rest.2, rest.3)
-]
 
 -- ---- a key is found
 
@@ -110,12 +99,6 @@ index_has layout n i bytes e below is = In-from_get (index_in layout n bytes) i 
 pub index_lacks : (layout : Layout) (n : ℕ) (bytes : List ℕ) (key : ℕ) → ((i : ℕ) → i < n → (entry_at layout bytes i).key ≡ key → ⊥) → (e : Entry) → In e (index_in layout n bytes) → e.key ≡ key → ⊥
 index_lacks layout n bytes key none e on same = let at = in_index layout n bytes e on in none at.0 at.1 (ap (λ x. x.key) (sym at.2) ∙ same)
 
-pub added_has : (xs : List IndexEntry) (i : ℕ) (x : IndexEntry) (e : Entry) → slice_get xs i ≡ Some x → entry_of x ≡ e → In e (map entry_of xs)
-added_has xs i x e got is = In-from_get (map entry_of xs) i e (get_mapped xs i x got ∙ ap Some is)
-
-pub added_lacks : (xs : List IndexEntry) (key : ℕ) → ((i : ℕ) (x : IndexEntry) → slice_get xs i ≡ Some x → number_of x.key.bytes ≡ key → ⊥) → (e : Entry) → In e (map entry_of xs) → e.key ≡ key → ⊥
-added_lacks xs key none e on same = let at = in_mapped xs e on in none at.0 at.1 at.2 (ap (λ x. x.key) (sym at.3) ∙ same)
-
 -- ---- the n-th by key
 
 got_within : (es : List Entry) (n : ℕ) → length es ≤ n → slice_get es n ≡ None
@@ -153,20 +136,19 @@ index_miss layout n key bytes None is answer = index_lacks layout n bytes key an
 index_miss layout n key bytes (Some number) is answer = absurd cc
 
 -- the entries in memory
-pub memory_hit : (xs : List IndexEntry) (key : ℕ) (found : Option ℕ) (number : ℕ) → found ≡ Some number
-    → MatchOption found ((i : ℕ) (x : IndexEntry) → slice_get xs i ≡ Some x → number_of x.key.bytes ≢ key) (λ number. (i : ℕ) × (x : IndexEntry) × (slice_get xs i ≡ Some x) × (entry_of x ≡ record { key = key; number = number }))
-    → In (record { key = key; number = number }) (map entry_of xs)
-memory_hit xs key None number is answer = absurd cc
-memory_hit xs key (Some other) number is answer =
+pub memory_hit : (es : List Entry) (key : ℕ) (found : Option ℕ) (number : ℕ) → found ≡ Some number
+    → MatchOption found ((i : ℕ) (e : Entry) → slice_get es i ≡ Some e → e.key ≢ key) (λ number. (i : ℕ) × (slice_get es i ≡ Some (record { key = key; number = number })))
+    → In (record { key = key; number = number }) es
+memory_hit es key None number is answer = absurd cc
+memory_hit es key (Some other) number is answer =
     let same : other ≡ number = cc in
-    let e : Entry = record { key = key; number = other } in
-    subst (λ m. In (record { key = key; number = m }) (map entry_of xs)) same (added_has xs answer.0 answer.1 e answer.2 answer.3)
+    subst (λ m. In (record { key = key; number = m }) es) same (In-from_get es answer.0 (record { key = key; number = other }) answer.1)
 
-pub memory_miss : (xs : List IndexEntry) (key : ℕ) (found : Option ℕ) → found ≡ None
-    → MatchOption found ((i : ℕ) (x : IndexEntry) → slice_get xs i ≡ Some x → number_of x.key.bytes ≢ key) (λ number. (i : ℕ) × (x : IndexEntry) × (slice_get xs i ≡ Some x) × (entry_of x ≡ record { key = key; number = number }))
-    → (e : Entry) → In e (map entry_of xs) → e.key ≡ key → ⊥
-memory_miss xs key None is answer = added_lacks xs key answer
-memory_miss xs key (Some number) is answer = absurd cc
+pub memory_miss : (es : List Entry) (key : ℕ) (found : Option ℕ) → found ≡ None
+    → MatchOption found ((i : ℕ) (e : Entry) → slice_get es i ≡ Some e → e.key ≢ key) (λ number. (i : ℕ) × (slice_get es i ≡ Some (record { key = key; number = number })))
+    → (e : Entry) → In e es → e.key ≡ key → ⊥
+memory_miss es key None is answer e on = let at = get_from_In es e on in answer at.0 e at.1
+memory_miss es key (Some number) is answer e on = absurd cc
 
 pub length_started : (started : ℕ) (keys : List ℕ) (n : ℕ) → started ≤ n → length (take started keys) ≤ n
 length_started started keys n few = let short = shorter started keys in omega arith

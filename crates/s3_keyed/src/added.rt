@@ -1,73 +1,101 @@
 //! Entries that are added, in memory until the file is closed.
-ghost use Rattle.std.specs.Prelude.{◌≡◌, ◌≢◌, ◌≤◌, ◌<◌, ◌+◌, ℕ, Some, true, nat_lt, length, map, slice_get, OnOk, OnErr, IfErr, MatchOption};
+ghost use Rattle.std.specs.Prelude.{◌≡◌, ◌≢◌, ◌-◌, [], Some, ℕ, true, nat_lt, length, slice_get, take, OnOk, OnErr, IfErr, IsTrue, ◌↔◌, MatchOption};
 ghost use Rattle.std.specs.List.{list_all};
-ghost use Rattle.s3_keyed.specs.KeyOrder.{number_of, insert_entry, ascends, keys_in};
+ghost use Rattle.s3_keyed.specs.KeyOrder.{Entry, number_of, insert_entry, ascends, keys_in};
 ghost use Rattle.s3_keyed.specs.Inner.Shape.{entry_of};
 
 use crate::indexed::IndexEntry;
-use crate::keys::Key;
+use crate::keys::{Key, KeyNumber};
 use s3_store::PoolFault;
+use std::alloc::Global;
+use std::collections::BTreeMap;
 
-/// The place of the first of the added entries whose key is above this one, or behind the last. The entries are halved.
-pub fn first_above(added: &[IndexEntry], key: &Key) -> usize
-    requires ascending { ascends (keys_in (map entry_of added.now)) ≡ true }
-    ensures within { result ≤ length added.now }
-    ensures below { (i : ℕ) (entry : IndexEntry) → i < result → slice_get added.now i ≡ Some entry → number_of entry.key.bytes ≤ number_of key.now.bytes }
-    ensures above { (i : ℕ) (entry : IndexEntry) → result ≤ i → slice_get added.now i ≡ Some entry → number_of key.now.bytes < number_of entry.key.bytes }
-{
-    let mut low = 0;
-    let mut high = added.len();
-    'halve: while low < high {
-        let middle = low + (high - low) / 2;
-        let entry = added[middle];
-        if entry.key.is_above(key) {
-            high = middle;
-        } else {
-            low = middle + 1;
+/// Entries that are added, in the order of their keys.
+#[derive(Drop)]
+pub struct AddedEntries {
+    /// The number of each one's record, from 1, under its key.
+    numbers: BTreeMap<KeyNumber, u32>,
+}
+
+impl AddedEntries {
+    ghost use Rattle.s3_keyed.specs.Inner.Added.{entries_of};
+
+    /// No entries.
+    pub fn new(alloc: Global) -> Self
+        ensures { entries_of result ≡ [] }
+    {
+        AddedEntries {
+            numbers: BTreeMap::new(alloc),
         }
     }
-    low
-}
 
-/// The number, from 1, of the added record with this key; `None` where no added one has it.
-pub fn number_among(added: &[IndexEntry], key: &Key) -> Option<u32>
-    requires ascending { ascends (keys_in (map entry_of added.now)) ≡ true }
-    ensures { MatchOption result
-        ((i : ℕ) (entry : IndexEntry) → slice_get added.now i ≡ Some entry → number_of entry.key.bytes ≢ number_of key.now.bytes)
-        (λ number. (i : ℕ) × (entry : IndexEntry) × (slice_get added.now i ≡ Some entry) × (entry_of entry ≡ record { key = number_of key.now.bytes; number = number })) }
-{
-    let above = first_above(added, key);
-    if above == 0 {
-        return None;
+    /// How many entries there are.
+    pub fn len(&self) -> usize
+        ensures { result ≡ length (entries_of self.now) }
+    {
+        self.numbers.len()
     }
-    let entry = added[above - 1];
-    if entry.key.is_same(key) {
-        return Some(entry.number);
-    }
-    None
-}
 
-/// Whether a key is above those of all added entries.
-pub fn is_above_added(added: &[IndexEntry], key: &Key) -> bool
-    requires ascending { ascends (keys_in (map entry_of added.now)) ≡ true }
-    ensures { list_all (λ other. nat_lt other (number_of key.now.bytes)) (keys_in (map entry_of added.now)) ≡ result }
-{
-    let count = added.len();
-    if count == 0 {
-        return true;
+    /// Whether there are no entries.
+    pub fn is_empty(&self) -> bool
+        ensures { IsTrue result ↔ (entries_of self.now ≡ []) }
+    {
+        self.numbers.is_empty()
     }
-    let last = added[count - 1];
-    key.is_above(&last.key)
-}
 
-/// Puts an entry into its place among the added ones, which are in the order of their keys.
-pub fn insert_added(added: &mut Vec<IndexEntry>, entry: IndexEntry) -> Result<(), PoolFault>
-    requires ascending { ascends (keys_in (map entry_of added.old.items)) ≡ true }
-    ensures ok { OnOk result (map entry_of added.new.items ≡ insert_entry (entry_of entry) (map entry_of added.old.items)) }
-    ensures err { OnErr result (added.new.items ≡ added.old.items) }
-    ensures fault { IfErr result (λ fault. fault ≡ PoolFault.NoMemory) }
-{
-    let at = first_above(added, &entry.key);
-    added.insert(at, entry)?;
-    Ok(())
+    /// The number, from 1, of the added record with this key; `None` where no added one has it.
+    pub fn number_of(&self, key: &Key) -> Option<u32>
+        ensures { MatchOption result
+            ((i : ℕ) (entry : Entry) → slice_get (entries_of self.now) i ≡ Some entry → entry.key ≢ number_of key.now.bytes)
+            (λ number. (i : ℕ) × (slice_get (entries_of self.now) i ≡ Some (record { key = number_of key.now.bytes; number = number }))) }
+    {
+        match self.numbers.get(&key.number()) {
+            Some(number) => Some(*number),
+            None => None,
+        }
+    }
+
+    /// The entry with the highest key; `None` where there is none.
+    pub fn last(&self) -> Option<IndexEntry>
+        ensures { MatchOption result
+            (entries_of self.now ≡ [])
+            (λ last. slice_get (entries_of self.now) (length (entries_of self.now) - 1) ≡ Some (entry_of last)) }
+    {
+        match self.numbers.last_key_value() {
+            Some((key, number)) => Some(IndexEntry {
+                key: key.key(),
+                number: *number,
+            }),
+            None => None,
+        }
+    }
+
+    /// Whether a key is above those of all added entries.
+    pub fn are_below(&self, key: &Key) -> bool
+        requires ascending { ascends (keys_in (entries_of self.now)) ≡ true }
+        ensures { list_all (λ other. nat_lt other (number_of key.now.bytes)) (keys_in (entries_of self.now)) ≡ result }
+    {
+        match self.last() {
+            Some(last) => key.is_above(&last.key),
+            None => true,
+        }
+    }
+
+    /// Puts an entry whose key none has into its place.
+    pub fn insert(&mut self, entry: IndexEntry) -> Result<(), PoolFault>
+        requires is_new { (i : ℕ) (other : Entry) → slice_get (entries_of self.old) i ≡ Some other → other.key ≢ number_of entry.key.bytes }
+        ensures ok { OnOk result (entries_of self.new ≡ insert_entry (entry_of entry) (entries_of self.old)) }
+        ensures err { OnErr result (entries_of self.new ≡ entries_of self.old) }
+        ensures fault { IfErr result (λ fault. fault ≡ PoolFault.NoMemory) }
+    {
+        self.numbers.insert(entry.key.number(), entry.number)?;
+        Ok(())
+    }
+
+    /// Takes away the entry with the highest key, if there is one.
+    pub fn remove_last(&mut self)
+        ensures { entries_of self.new ≡ take (length (entries_of self.old) - 1) (entries_of self.old) }
+    {
+        let _ = self.numbers.pop_last();
+    }
 }

@@ -1,5 +1,5 @@
 //! The added entries merged into the index.
-ghost use Rattle.std.specs.Prelude.{◌≡◌, ◌≢◌, ◌≤◌, ◌<◌, ◌+◌, ◌-◌, ◌^◌, ℕ, true, length, map, OnOk, IfOk, IfErr, MatchOption};
+ghost use Rattle.std.specs.Prelude.{◌≡◌, ◌≢◌, ◌≤◌, ◌<◌, ◌+◌, ◌-◌, ◌^◌, ℕ, true, length, OnOk, IfOk, IfErr, MatchOption};
 ghost use Rattle.std.specs.List.{All, Contains};
 ghost use Rattle.s3_store.specs.Inner.State.{KeepsContents, ChangesWithin};
 ghost use Rattle.s3_store.specs.Inner.Failures.{failed_transfers};
@@ -9,7 +9,9 @@ ghost use Rattle.s3_keyed.specs.KeyOrder.{number_of, insert_entries, ascends, ke
 ghost use Rattle.s3_keyed.specs.Inner.KeyOrder.{IsAscending};
 ghost use Rattle.s3_keyed.specs.Index.{entry_at, index_in};
 ghost use Rattle.s3_keyed.specs.Inner.Shape.{layout_in, bytes_in, entry_of};
+ghost use Rattle.s3_keyed.specs.Inner.Added.{entries_of};
 
+use crate::added::AddedEntries;
 use crate::entries::read_entry;
 use crate::indexed::{IndexEntry, IndexedFile};
 use crate::keys::Key;
@@ -48,29 +50,28 @@ pub fn merge<P: Sectors>(
     file: &IndexedFile,
     pool: &mut P,
     indexed: u32,
-    added: &mut Vec<IndexEntry>,
+    added: &mut AddedEntries,
 ) -> Result<(), PoolFault>
     requires stored { AreStored file.now.file.sectors (P.state pool.old).contents }
-    requires room { indexed + length added.old.items ≤ file.now.file.capacity }
+    requires room { indexed + length (entries_of added.old) ≤ file.now.file.capacity }
     requires ascending { IsAscending (entry_at (layout_in file.now) (bytes_in file.now (P.state pool.old).contents)) indexed }
-    requires added_ascends { ascends (keys_in (map entry_of added.old.items)) ≡ true }
-    requires short { All (λ entry. entry.key < 256 ^ file.now.key_length) (map entry_of added.old.items) }
-    ensures merged { OnOk result (index_in (layout_in file.now) (indexed + length added.old.items) (bytes_in file.now (P.state pool.new).contents) ≡ insert_entries (index_in (layout_in file.now) indexed (bytes_in file.now (P.state pool.old).contents)) (map entry_of added.old.items)) }
+    requires added_ascends { ascends (keys_in (entries_of added.old)) ≡ true }
+    requires short { All (λ entry. entry.key < 256 ^ file.now.key_length) (entries_of added.old) }
+    ensures merged { OnOk result (index_in (layout_in file.now) (indexed + length (entries_of added.old)) (bytes_in file.now (P.state pool.new).contents) ≡ insert_entries (index_in (layout_in file.now) indexed (bytes_in file.now (P.state pool.old).contents)) (entries_of added.old)) }
     ensures records { (count : ℕ) → count ≤ file.now.file.capacity → records_in file.now.file.record_length count (bytes_in file.now (P.state pool.new).contents) ≡ records_in file.now.file.record_length count (bytes_in file.now (P.state pool.old).contents) }
     ensures within { ChangesWithin (Contains file.now.file.sectors) (P.state pool.old) (P.state pool.new) }
     ensures failures { (P.state pool.new).failures ≡ (P.state pool.old).failures + failed_transfers result }
     ensures fault { IfErr result (λ fault. fault ≢ PoolFault.NoSector) }
 {
     let mut left = indexed;
-    'highest: while !added.is_empty() {
+    'highest: while let Some(top) = added.last() {
         let above = added.len() - 1;
-        let top = added[above];
         if let Some(last) = last_above(file, pool, left, &top.key)? {
             write_entry(file, pool, left + above as u32, &last)?;
             left -= 1;
         } else {
             write_entry(file, pool, left + above as u32, &top)?;
-            added.truncate(above);
+            added.remove_last();
         }
     }
     Ok(())

@@ -1,5 +1,5 @@
 //! A file with keys that is open.
-ghost use Rattle.std.specs.Prelude.{◌≡◌, ◌≢◌, ◌≤◌, ◌<◌, ◌+◌, ◌-◌, ◌*◌, ◌^◌, ◌/◌, [], ◌∷◌, ◌++◌, ℕ, true, nat_lt, Ok, Err, None, Some, length, slice_get, take, OnOk, OnErr, IfOk, IfErr, IfSome, IsErrOf, IsTrue, ◌↔◌};
+ghost use Rattle.std.specs.Prelude.{◌≡◌, ◌≢◌, ◌≤◌, ◌<◌, ◌+◌, ◌-◌, ◌^◌, ◌/◌, [], ◌∷◌, ◌++◌, true, nat_lt, Ok, Err, None, Some, length, slice_get, take, OnOk, IfOk, IfErr, IfSome, IsTrue, ◌↔◌};
 ghost use Rattle.std.specs.List.{Contains, list_all};
 ghost use Rattle.s3_store.specs.Inner.State.{KeepsContents, ChangesWithin};
 ghost use Rattle.s3_store.specs.Inner.Failures.{failed_transfers};
@@ -11,7 +11,7 @@ ghost use Rattle.s3_keyed.specs.Inner.Shape.{layout_in, bytes_in, keys_on};
 ghost use Rattle.s3_keyed.specs.Calls.{place_of_key, nth_by_key as nth_by_key_spec, with_added, with_loaded, with_updated, keyed_result};
 ghost use Rattle.s3_keyed.specs.Inner.Calls.{IsOfSectors, index_answer, unit_of, Answers, Leaves, OnRefusal, or_no_key, failed_keyed_transfers};
 
-use crate::added::{insert_added, is_above_added, number_among};
+use crate::added::AddedEntries;
 use crate::check::is_good;
 use crate::close::merge;
 use crate::entries::{has_key_of, have_same_key, read_number};
@@ -34,8 +34,8 @@ pub struct Keyed {
     pub(crate) indexed: u32,
     /// How many records there are.
     pub(crate) count: u32,
-    /// The entries of the others, in the order of their keys.
-    pub(crate) added: Vec<IndexEntry>,
+    /// The entries of the others.
+    pub(crate) added: AddedEntries,
     /// Keys of the index as it was checked. A search begins by them, but doesn't rely on them.
     pub(crate) guide: Guide,
     ghost counted: { count ≤ file.file.capacity },
@@ -86,7 +86,7 @@ impl Keyed {
             file,
             indexed: count,
             count,
-            added: Vec::new(alloc),
+            added: AddedEntries::new(alloc),
             guide,
         })
     }
@@ -226,7 +226,7 @@ impl Keyed {
         if let Some(number) = search_index(&self.file, pool, self.indexed, key, guess)? {
             return Ok(Some(number - 1));
         }
-        if let Some(number) = number_among(&self.added, key) {
+        if let Some(number) = self.added.number_of(key) {
             return Ok(Some(number - 1));
         }
         Ok(None)
@@ -408,7 +408,7 @@ impl Keyed {
         ensures failures { (P.state pool.new).failures ≡ (P.state pool.old).failures + failed_transfers result }
         ensures fault { IfErr result (λ fault. fault ≢ PoolFault.NoSector) }
     {
-        if !is_above_added(&self.added, key) {
+        if !self.added.are_below(key) {
             return Ok(false);
         }
         is_above_index(&self.file, pool, self.indexed, key)
@@ -436,7 +436,7 @@ impl Keyed {
         ensures fault { IfErr result (λ fault. fault ≢ PoolFault.NoSector) }
     {
         let number = self.count + 1;
-        insert_added(&mut self.added, IndexEntry { key, number })?;
+        self.added.insert(IndexEntry { key, number })?;
         write_record(&self.file, pool, self.count, bytes)?;
         self.count += 1;
         Ok(())

@@ -15,6 +15,8 @@ pub struct Key {
 }
 
 impl Key {
+    ghost use Rattle.s3_keyed.specs.Inner.Added.{whole_number};
+
     /// The key that these bytes are, at most 29.
     pub fn of(key: &[u8]) -> Self
         requires { length key.now ≤ 29 }
@@ -27,9 +29,10 @@ impl Key {
     }
 
     /// The key as a number.
-    fn number(&self) -> KeyNumber
+    pub fn number(&self) -> KeyNumber
         ensures high { result.high ≡ number_of (take 16 self.now.bytes) }
         ensures low { result.low ≡ number_of (drop 16 self.now.bytes) }
+        ensures whole { whole_number result ≡ number_of self.now.bytes }
     {
         KeyNumber {
             high: BigEndian::read_u128(&self.bytes),
@@ -83,20 +86,42 @@ pub fn short_number_of(key: &[u8]) -> Option<u64>
 }
 
 /// A key as a number.
-#[derive(Clone, Copy)]
-struct KeyNumber {
-    /// The first 16 of its 32 bytes.
+#[derive(Clone, Copy, PartialEq, Eq, PartialOrd, Ord)]
+pub struct KeyNumber {
+    /// The first 16 of the key's 32 bytes.
     high: u128,
     /// The last 16 of the key's 32 bytes.
     low: u128,
+    ghost in_range: { low < 256 ^ 16 },
 }
 
 impl KeyNumber {
+    ghost use Rattle.s3_keyed.specs.Inner.Added.{whole_number};
+
     /// How the number stands to another one.
     fn compare(&self, other: &KeyNumber) -> Ordering
         ensures { result ≡ ordering_then (nat_cmp self.now.high other.now.high) (nat_cmp self.now.low other.now.low) }
     {
         self.high.cmp(&other.high).then(self.low.cmp(&other.low))
+    }
+
+    /// The bytes of the number, the highest first.
+    fn bytes(&self) -> [u8; 32]
+        ensures { number_of result ≡ whole_number self.now }
+    {
+        let mut bytes = [0; 32];
+        let (high, low) = bytes.split_at_mut(16);
+        BigEndian::write_u128(high, self.high);
+        BigEndian::write_u128(low, self.low);
+        bytes
+    }
+
+    /// The key that has this number.
+    pub fn key(&self) -> Key
+        ensures { number_of result.bytes ≡ whole_number self.now }
+    {
+        let bytes = self.bytes();
+        Key { bytes }
     }
 }
 

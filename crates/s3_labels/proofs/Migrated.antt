@@ -1,9 +1,9 @@
 -- The bytes of a migrated pack, and the slots that they hold.
-use Rattle.std.proofs.Common.{◌≡◌, ◌≢◌, ℕ, zero, suc, ◌+◌, ◌*◌, ◌%◌, ◌<◌, ◌≤◌, ◌==◌, ◌&&◌, Bool, true, false, nat_le, List, [], ◌∷◌, ◌++◌, length, take, drop, map, slice_index, Option, Some, None, if◌then◌else◌, refl, sym, ap, ap₂, ◌∙◌, arith}
+use Rattle.std.proofs.Common.{◌≡◌, ◌≢◌, ℕ, zero, suc, ◌+◌, ◌-◌, ◌*◌, ◌%◌, ◌<◌, ◌≤◌, ◌==◌, ◌&&◌, Bool, true, false, nat_le, List, [], ◌∷◌, ◌++◌, length, take, drop, map, slice_index, Option, Some, None, if◌then◌else◌, refl, sym, ap, ap₂, ◌∙◌, arith}
 use Rattle.std.specs.Prelude.{nat_lt}
 use Rattle.std.specs.List.{range_with_len}
 use Rattle.std.proofs.lemmas.Bool.{le-ltb, lt-ltb, le-leb, lt-leb, ne_eqb, and_left, and_right}
-use Rattle.std.proofs.lemmas.List.{get_or-drop}
+use Rattle.std.proofs.lemmas.List.{get_or-drop, length-drop, take-append-drop, take_all}
 use Rattle.byteorder.specs.Endian.{big_number}
 use Rattle.s3_cards.specs.declared.name.Name.{Name}
 use Rattle.s3_cards.specs.declared.retention.Retention.{Retention}
@@ -76,6 +76,14 @@ part_migrated bytes at w =
 kept_bytes : (at : ℕ) (bytes : List ℕ) → ((j byte : ℕ) → at ≤ j → j < at + length bytes → migrated_byte j byte ≡ byte) → migrated_bytes at bytes ≡ bytes
 kept_bytes at [] each = refl
 kept_bytes at (byte ∷ bytes) each = ap₂ (λ x xs. x ∷ xs) (each at byte (omega arith) (omega arith)) (kept_bytes (at + 1) bytes (λ j other low high. each j other (omega (arith, low)) (omega (arith, high))))
+
+-- the bytes behind the slots are the old ones
+pub migrated_past_slots : (bytes : List ℕ) → migrated_bytes 0 (take 6400 bytes) ++ take (length bytes - 6400) (drop 6400 bytes) ≡ migrated_bytes 0 bytes
+migrated_past_slots bytes =
+    let behind : take (length bytes - 6400) (drop 6400 bytes) ≡ drop 6400 bytes = take_all (length bytes - 6400) (drop 6400 bytes) (omega (arith, length-drop 6400 bytes)) in
+    ap₂ (λ front back. front ++ back) (sym (take_migrated 6400 0 bytes))
+    (behind ∙ sym (kept_bytes 6400 (drop 6400 bytes) (λ j byte low high. migrated_behind j byte low)) ∙ sym (drop_migrated 6400 0 bytes))
+    ∙ take-append-drop 6400 (migrated_bytes 0 bytes)
 
 pub kept_part : (bytes : List ℕ) (at w : ℕ) → ((j byte : ℕ) → at ≤ j → j < at + w → migrated_byte j byte ≡ byte) → part (migrated_bytes 0 bytes) at w ≡ part bytes at w
 kept_part bytes at w each =

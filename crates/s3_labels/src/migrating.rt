@@ -8,6 +8,9 @@ use s3_slots::Format;
 use s3_store::MemoryStore;
 use std::alloc::{AllocError, Global};
 
+/// Where the label slots of a pack end. No byte behind them changes.
+const SLOTS_END: usize = 6_400;
+
 /// Whether a place is in the second to fourth extent of a slot.
 fn is_further_extent(at: usize) -> bool
     ensures { result ≡ is_further_spec at }
@@ -30,14 +33,26 @@ fn migrated_byte(at: usize, byte: u8) -> u8
     }
 }
 
-/// The bytes of the new pack.
-fn migrated_bytes(alloc: Global, bytes: &[u8]) -> Result<Vec<u8>, AllocError>
+/// The bytes of the new pack, one by one, in room for so many.
+fn migrated_singly(alloc: Global, bytes: &[u8], room: usize) -> Result<Vec<u8>, AllocError>
     ensures { IfOk result (λ new. new.items ≡ migrated_bytes_spec 0 bytes.now) }
 {
-    let mut new = Vec::with_capacity(alloc, bytes.len())?;
+    let mut new = Vec::with_capacity(alloc, room)?;
     for (at, byte) in bytes.iter().enumerate() {
         new.push(migrated_byte(at, *byte))?;
     }
+    Ok(new)
+}
+
+/// The bytes of the new pack. Those behind the slots are the old ones, and are copied at once.
+fn migrated_bytes(alloc: Global, bytes: &[u8]) -> Result<Vec<u8>, AllocError>
+    ensures { IfOk result (λ new. new.items ≡ migrated_bytes_spec 0 bytes.now) }
+{
+    if bytes.len() <= SLOTS_END {
+        return migrated_singly(alloc, bytes, bytes.len());
+    }
+    let mut new = migrated_singly(alloc, &bytes[..SLOTS_END], bytes.len())?;
+    new.extend_from_slice(&bytes[SLOTS_END..])?;
     Ok(new)
 }
 

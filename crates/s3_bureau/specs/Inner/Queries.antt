@@ -1,5 +1,5 @@
 -- How many printed lines of a level are queued, and what it is to read a sector of the pack.
-use Rattle.std.specs.Prelude.{◌≡◌, ◌≢◌, ◌+◌, ℕ, ◌-◌, Bool, true, false, List, length, slice_get, Option, Some, None, Result, Ok, Err, IfOk, IfErr, OnOk, OnErr}
+use Rattle.std.specs.Prelude.{◌≡◌, ◌≢◌, ◌+◌, ℕ, ◌-◌, Bool, true, false, List, length, slice_get, Option, Some, None, Result, IfOk, IfErr, OnOk, OnErr}
 use Rattle.s3_store.specs.Inner.Failures.{failed_transfers}
 use Rattle.s3_store.specs.Inner.State.{KeepsContents}
 use Rattle.s3_store.specs.declared.pool_fault.PoolFault.{PoolFault}

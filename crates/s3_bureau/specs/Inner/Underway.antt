@@ -1,6 +1,6 @@
 -- What is known in the middle of a run. These words serve the contracts of private functions and the law on lists of steps: what a run
 -- gives is said in Runs.
-use Rattle.std.specs.Prelude.{◌≡◌, ◌+◌, ◌/◌, ◌%◌, ◌<◌, ◌++◌, ℕ, List, [], ◌∷◌, Option, Result, Ok, Err, length, slice_index, take, ⊤}
+use Rattle.std.specs.Prelude.{◌≡◌, ◌+◌, ◌-◌, ◌/◌, ◌%◌, ◌<◌, ◌++◌, ℕ, List, [], ◌∷◌, Option, Result, Ok, Err, length, slice_index, take, ⊤}
 use Rattle.std.specs.Int.{from_le_bytes, to_le_bytes, w16}
 use Rattle.std.specs.List.{concat}
 use Rattle.s3_cards.specs.declared.levels.LevelId.{LevelId}
@@ -14,8 +14,11 @@ use Rattle.s3_labels.specs.Areas.{area_of}
 use Rattle.s3_labels.specs.Untangled.{IsUntangled}
 use Rattle.s3_slots.specs.declared.header.Header.{Header}
 use Rattle.s3_solo.specs.Inner.Lines.{drained_lines}
+use Rattle.s3_solo.specs.declared.action.Did.{Did}
+use Rattle.s3_solo.specs.declared.action.Did.TheVariants.{Acted, Idle, Refused}
 use Rattle.s3_solo.specs.World.{World}
 use Rattle.s3_solo.specs.Solo.{solo, closed}
+use Rattle.s3_level.specs.declared.taken.Taken.{Taken}
 use Rattle.s3_bureau.specs.declared.entry.Entry.{Entry}
 use Rattle.s3_bureau.specs.Entries.{own}
 use Rattle.s3_bureau.specs.Inner.Held.{HoldsFor, IsSaid, State, header_of, level_of, rests}
@@ -35,6 +38,15 @@ pub record ReadsDeck (text : List ℕ) (cards : List (List ℕ)) (refusal : Opti
 -- each world that was held for a level has taken that level's own entries, in their order
 abbrev pub Performs : List Entry → (LevelId → World → Type 0) → (LevelId → World → Type 0) → Type 0
 Performs entries old new = (level : LevelId) (w : World) → old level w → new level (solo w (own level entries))
+
+-- how many of so many entries are left to be performed behind some that did the same: none where those did nothing
+abbrev pub left_by : Did → (times left : ℕ) → ℕ
+left_by Acted times left = left - times
+left_by Idle times left = 0
+left_by (Refused number) times left = 0
+
+abbrev pub left_after : Taken → (left : ℕ) → ℕ
+left_after taken left = left_by taken.did taken.times left
 
 -- what entries leave of a bureau, whether it stopped or not: the sectors of the header and the masters, and a level without an entry
 -- with its sectors, in the store too

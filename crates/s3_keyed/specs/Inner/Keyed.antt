@@ -1,12 +1,13 @@
 -- What a contract sees of a file with keys that is open, and what stays true of it.
-use Rattle.std.specs.Prelude.{◌≡◌, ◌+◌, ◌^◌, ◌<◌, ◌≤◌, ℕ, true, List, [], length, map, take}
+use Rattle.std.specs.Prelude.{◌≡◌, ◌+◌, ◌^◌, ◌<◌, ◌≤◌, ℕ, true, List, [], length, take}
 use Rattle.std.specs.List.{All}
 use Rattle.s3_store.specs.Bytes.{bytes_at}
 use Rattle.s3_store.specs.Inner.State.{PoolState, KeepsContents}
 use Rattle.s3_files.specs.Records.{records_in}
 use Rattle.s3_keyed.specs.KeyOrder.{Entry, key_order, insert_entries, ascends, keys_in}
 use Rattle.s3_keyed.specs.Index.{Layout, keys_of, index_in}
-use Rattle.s3_keyed.specs.Inner.Shape.{layout_in, entry_of}
+use Rattle.s3_keyed.specs.Inner.Added.{entries_of}
+use Rattle.s3_keyed.specs.Inner.Shape.{layout_in}
 use Rattle.s3_keyed.specs.declared.keyed.Keyed.{Keyed}
 
 -- its sectors and their layout; how many records stood at its check, how many have their entry on the pack, how many there are;
@@ -26,7 +27,7 @@ shown keyed = record {
   started = keyed.file.file.count;
   indexed = keyed.indexed;
   count = keyed.count;
-  added = map entry_of keyed.added.items;
+  added = entries_of keyed.added;
 }
 
 -- as it is opened: every record has its entry on the pack

@@ -4,21 +4,22 @@ use Rattle.s3_store.specs.Inner.State.{ChangesWithin}
 use Rattle.s3_files.specs.Records.{records_in}
 use Rattle.s3_keyed.specs.KeyOrder.{ascends, keys_in, insert_entries}
 use Rattle.s3_keyed.specs.Index.{entry_at}
-use Rattle.s3_keyed.specs.Inner.Shape.{layout_in, bytes_in, entry_of}
+use Rattle.s3_keyed.specs.Inner.Added.{entries_of}
+use Rattle.s3_keyed.specs.Inner.Shape.{layout_in, bytes_in}
 use Rattle.s3_keyed.proofs.Merging.{IsMerging}
 use Rattle.s3_keyed.proofs.close.merge.Given as goal
 
 abbrev pub invariant-highest : goal.invariant-highest
 invariant-highest g l = record {
   upto : l.left ≤ l.indexed;
-  merging : IsMerging (entry_at (layout_in l.file) (bytes_in l.file (g.P.Sectors.state l.initial.pool).contents)) (entry_at (layout_in l.file) (bytes_in l.file (g.P.Sectors.state l.pool).contents)) l.left (map entry_of l.added.items)
-      (l.indexed + length l.initial.added.items) (insert_entries (map (entry_at (layout_in l.file) (bytes_in l.file (g.P.Sectors.state l.initial.pool).contents)) (range_with_len 0 l.indexed)) (map entry_of l.initial.added.items));
-  added_ascends : ascends (keys_in (map entry_of l.added.items)) ≡ true;
-  short : All (λ entry. entry.key < 256 ^ l.file.key_length) (map entry_of l.added.items);
+  merging : IsMerging (entry_at (layout_in l.file) (bytes_in l.file (g.P.Sectors.state l.initial.pool).contents)) (entry_at (layout_in l.file) (bytes_in l.file (g.P.Sectors.state l.pool).contents)) l.left (entries_of l.added)
+      (l.indexed + length (entries_of l.initial.added)) (insert_entries (map (entry_at (layout_in l.file) (bytes_in l.file (g.P.Sectors.state l.initial.pool).contents)) (range_with_len 0 l.indexed)) (entries_of l.initial.added));
+  added_ascends : ascends (keys_in (entries_of l.added)) ≡ true;
+  short : All (λ entry. entry.key < 256 ^ l.file.key_length) (entries_of l.added);
   records : (count : ℕ) → count ≤ l.file.file.capacity → records_in l.file.file.record_length count (bytes_in l.file (g.P.Sectors.state l.pool).contents) ≡ records_in l.file.file.record_length count (bytes_in l.file (g.P.Sectors.state l.initial.pool).contents);
   within : ChangesWithin (Contains l.file.file.sectors) (g.P.Sectors.state l.initial.pool) (g.P.Sectors.state l.pool);
   failures : (g.P.Sectors.state l.pool).failures ≡ (g.P.Sectors.state l.initial.pool).failures;
 }
 
 abbrev pub decreases-highest : goal.decreases-highest
-decreases-highest g l = l.left + length l.added.items
+decreases-highest g l = l.left + length (entries_of l.added)

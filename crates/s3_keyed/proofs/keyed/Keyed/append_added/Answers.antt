@@ -1,10 +1,11 @@
-use Rattle.std.proofs.Common.{◌^◌, map, refl}
+use Rattle.std.proofs.Common.{◌^◌, refl}
 use Rattle.std.specs.List.{Contains}
 use Rattle.s3_store.proofs.Frames.{within_refl}
 use Rattle.s3_keyed.specs.KeyOrder.{number_of}
-use Rattle.s3_keyed.specs.Inner.Shape.{layout_in, bytes_in, entry_of}
+use Rattle.s3_keyed.specs.Inner.Added.{entries_of}
+use Rattle.s3_keyed.specs.Inner.Shape.{layout_in, bytes_in}
 use Rattle.s3_files.proofs.RecordLemmas.{records_push}
-use Rattle.s3_keyed.proofs.Appending.{appended_added}
+use Rattle.s3_keyed.proofs.Appending.{appended_added, added_lacks}
 use Rattle.s3_keyed.proofs.MergeSteps.{number_fits}
 use Rattle.s3_keyed.proofs.keyed.Keyed.append_added.Goals as goal
 
@@ -18,8 +19,8 @@ returns-clause-ordered g c =
     let self = c.args.self.now in
     appended_added (layout_in self.file) self.file.file.count self.indexed self.count (256 ^ self.file.key_length) (number_of c.args.key.bytes)
     (bytes_in self.file (g.P.Sectors.state c.args.pool.now).contents) (bytes_in self.file (g.P.Sectors.state c.write_record.new.pool).contents)
-    (map entry_of self.added.items) (map entry_of c.insert_added.new.added.items) c.args.bytes.now
-    c.requires.ordered c.write_record.ensures.outside c.in_ok-write_record.ensures.ok c.write_record.ensures.records c.requires.key c.requires.is_new c.requires.short c.in_ok-insert_added.ensures.ok
+    (entries_of self.added) (entries_of c.insert.new.self) c.args.bytes.now
+    c.requires.ordered c.write_record.ensures.outside c.in_ok-write_record.ensures.ok c.write_record.ensures.records c.requires.key c.requires.is_new c.requires.short c.in_ok-insert.ensures.ok
 
 pub overflow_add-number : goal.overflow_add-number
 overflow_add-number g c = number_fits c.args.self.now.file c.args.self.now.count c.requires.room
@@ -27,14 +28,14 @@ overflow_add-number g c = number_fits c.args.self.now.file c.args.self.now.count
 pub overflow_add-self : goal.overflow_add-self
 overflow_add-self g c = number_fits c.args.self.now.file c.args.self.now.count c.requires.room
 
-pub insert_added-requires : goal.insert_added-requires
-insert_added-requires g c = record { ascending = c.requires.ordered.added_ascends }
+pub insert-requires : goal.insert-requires
+insert-requires g c = record { is_new = added_lacks _ _ _ _ _ _ _ (number_of c.args.key.bytes) c.requires.ordered c.requires.is_new }
 
-pub returns-in_err-insert_added-clause-within : goal.returns-in_err-insert_added-clause-within
-returns-in_err-insert_added-clause-within g c = within_refl (Contains c.args.self.now.file.file.sectors) (g.P.Sectors.state c.args.pool.now)
+pub returns-in_err-insert-clause-within : goal.returns-in_err-insert-clause-within
+returns-in_err-insert-clause-within g c = within_refl (Contains c.args.self.now.file.file.sectors) (g.P.Sectors.state c.args.pool.now)
 
-pub returns-in_err-insert_added-clause-same : goal.returns-in_err-insert_added-clause-same
-returns-in_err-insert_added-clause-same g c = record { sectors = refl; layout = refl; started = refl }
+pub returns-in_err-insert-clause-same : goal.returns-in_err-insert-clause-same
+returns-in_err-insert-clause-same g c = record { sectors = refl; layout = refl; started = refl }
 
 pub returns-in_err-write_record-clause-same : goal.returns-in_err-write_record-clause-same
 returns-in_err-write_record-clause-same g c = record { sectors = refl; layout = refl; started = refl }

@@ -1,11 +1,12 @@
-use Rattle.std.proofs.Common.{◌≡◌, ◌+◌, ◌++◌, ◌∷◌, [], ◌^◌, length, map, ap, subst, ◌∙◌, arith}
+use Rattle.std.proofs.Common.{◌≡◌, ◌+◌, ◌++◌, ◌∷◌, [], ◌^◌, length, ap, subst, ◌∙◌, arith}
 use Rattle.std.specs.List.{Contains}
 use Rattle.s3_store.proofs.Frames.{within_trans}
 use Rattle.s3_keyed.specs.KeyOrder.{number_of}
 use Rattle.s3_keyed.specs.Index.{index_in}
 use Rattle.s3_keyed.specs.Inner.Index.{keys_at}
 use Rattle.s3_keyed.specs.Inner.Keyed.{IsOrdered}
-use Rattle.s3_keyed.specs.Inner.Shape.{layout_in, bytes_in, entry_of}
+use Rattle.s3_keyed.specs.Inner.Added.{entries_of}
+use Rattle.s3_keyed.specs.Inner.Shape.{layout_in, bytes_in}
 use Rattle.s3_files.proofs.RecordLemmas.{records_push}
 use Rattle.s3_keyed.proofs.Places.{length_keys, same_records}
 use Rattle.s3_keyed.proofs.Appending.{appended_indexed}
@@ -38,8 +39,8 @@ returns-clause-ordered g c =
     let counted = c.requires.ordered.counted in
     let none = ap length c.requires.none_added in
     let same : self.indexed ≡ self.count = omega (arith, counted, none, length_keys (layout_in self.file) self.count old) in
-    subst (λ n. IsOrdered self.file.file.count (n + 1) (256 ^ self.file.key_length) (index_in (layout_in self.file) self.file.file.count new) (index_in (layout_in self.file) (n + 1) new) (map entry_of self.added.items) (keys_at (layout_in self.file) (self.count + 1) new)) same
-    (appended_indexed (layout_in self.file) self.file.file.count self.indexed self.count (256 ^ self.file.key_length) (number_of c.args.key.bytes) old middle new (map entry_of self.added.items) c.args.bytes.now
+    subst (λ n. IsOrdered self.file.file.count (n + 1) (256 ^ self.file.key_length) (index_in (layout_in self.file) self.file.file.count new) (index_in (layout_in self.file) (n + 1) new) (entries_of self.added) (keys_at (layout_in self.file) (self.count + 1) new)) same
+    (appended_indexed (layout_in self.file) self.file.file.count self.indexed self.count (256 ^ self.file.key_length) (number_of c.args.key.bytes) old middle new (entries_of self.added) c.args.bytes.now
     c.requires.ordered c.requires.none_added c.requires.above c.in_ok-write_entry.ensures.ok c.write_entry.ensures.others (same_records (layout_in self.file) old middle self.count self.indexed self.counted c.write_entry.ensures.outside)
     c.write_record.ensures.outside c.in_ok-write_record.ensures.ok c.write_record.ensures.records c.requires.key)
 

@@ -9,7 +9,6 @@ use Rattle.s3_keyed.specs.Inner.Shape.{layout_in, bytes_in}
 use Rattle.s3_keyed.specs.Inner.Keyed.{shown, records_now, keys_now}
 use Rattle.s3_keyed.proofs.Appending.{loaded_not_ascending, loaded_full, loaded_made, above_is_new}
 use Rattle.s3_keyed.proofs.CallLemmas.{ordered_keeps, some_room}
-use Rattle.s3_keyed.proofs.MergeSteps.{none_added}
 use Rattle.s3_keyed.proofs.keyed.Keyed.load.Goals as goal
 
 pub returns-then-not-branch-clause-loaded : goal.returns-then-not-branch-clause-loaded
@@ -115,6 +114,3 @@ returns-then-is_empty-clause-ordered g c = c.in_ok-append_indexed.ensures.ordere
 
 pub returns-clause-ordered : goal.returns-clause-ordered
 returns-clause-ordered g c = c.in_ok-append_added.ensures.ordered
-
-pub append_indexed-requires-clause-none_added : goal.append_indexed-requires-clause-none_added
-append_indexed-requires-clause-none_added g c = let added = c.args.self.now.added in none_added added.items _ c.is_empty.result added.ok.0 c.is_empty.ensures c.if-is_empty.true
