@@ -18,7 +18,7 @@ const BAD_DIGIT: &[&str] = &[
     "    1.3$56",
     "     ^",
     "  0  goes on with 0 in place of each bad digit",
-    "  2  goes to the totals of the last record, and then ends the job",
+    "  2  ends the job, after the totals of the last record unless LR is on",
     "  3  ends the job at once; what it has put into files stays",
 ];
 
@@ -36,7 +36,7 @@ const SEQUENCE_BLOCK: &[&str] = &[
     "    ^^",
     "  file DATA: 3 of 10 records, 3 read",
     "  0  passes the record over and reads the next",
-    "  2  goes to the totals of the last record, and then ends the job",
+    "  2  ends the job, after the totals of the last record unless LR is on",
     "  3  ends the job at once; what it has put into files stays",
 ];
 
@@ -60,7 +60,7 @@ const KEY_BLOCK: &[&str] = &[
     "    BBB",
     "  file IX: 2 of 10 records, record 2 chained last",
     "  0  goes on; nothing is updated",
-    "  2  goes to the totals of the last record, and then ends the job",
+    "  2  ends the job, after the totals of the last record unless LR is on",
     "  3  ends the job at once; what it has put into files stays",
 ];
 

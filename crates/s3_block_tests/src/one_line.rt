@@ -38,7 +38,7 @@ fn listed_replies(rt: HostRuntime) -> Result<(), Fail> {
     push_replies(&mut text, HaltCode::NoProgram)?;
     assert_eq!(rt;
         text.as_str(),
-        "  2  goes to the totals of the last record, and then ends the job\n  3  ends the job at once; what it has put into files stays\n  2 or 3  passes the job over; the next one begins\n"
+        "  2  ends the job, after the totals of the last record unless LR is on\n  3  ends the job at once; what it has put into files stays\n  2 or 3  passes the job over; the next one begins\n"
     );
     Ok(())
 }

@@ -53,6 +53,19 @@ pub fn read_to_save(
     }
 }
 
+/// A file that is made anew at a path, to be written. What stood there under that name goes first; of a link that is the link
+/// alone, and what it leads to stays as it is.
+pub fn create_anew(rt: &HostRuntime, path: &str) -> io::Result<File> {
+    match fs::remove_file(rt, path) {
+        Ok(()) => {}
+        Err(error) if error.kind() == ErrorKind::NotFound => {}
+        Err(error) => return Err(error),
+    }
+    let mut options = OpenOptions::new();
+    options.write(true).create_new(true);
+    options.open(rt, path)
+}
+
 /// Saves a pack whole or not at all where the path names a regular file or none: it is written to a new file beside it,
 /// which then takes its name. A link is followed. Anything else, as a device, is written in place. The lock is the one
 /// that the pack was read under; without one an old file is locked here, `InUse` where another command has it. A file

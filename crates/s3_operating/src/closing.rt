@@ -1,10 +1,7 @@
 //! How a day ended.
-ghost use Rattle.std.specs.Prelude.{◌≡◌};
-ghost use Rattle.s3_operating.specs.Inner.Endings.{is_done, verdict_of};
 
 use crate::clock::Clock;
 use crate::desk::Desk;
-use crate::ledger::{BegunJob, Ledger, Purpose};
 use crate::levels::{number_of, push_counted};
 use crate::progress::{push_job_at, push_last_job};
 use crate::seat::Seat;
@@ -13,39 +10,12 @@ use s3_bureau::LevelTexts;
 use s3_cards::LevelId;
 use s3_desk::{Day, End};
 use s3_halt_block::push_letters;
+use s3_ledger::{BegunJob, Ledger, LevelEnd, Purpose, Verdict, became};
 use s3_operator::{is_at_start, meaning};
 use s3_replay::Performed;
 use s3_ruled::push_name;
 use std::alloc::AllocError;
 use std::io::{Read, Write};
-
-/// How a level ended.
-#[derive(Clone, Copy, Debug, PartialEq, Eq)]
-pub enum LevelEnd {
-    /// No job is at work, none is left, and all its lines are printed.
-    Done,
-    /// Its halt wasn't answered.
-    Halted,
-    /// It has taken as many turns as it may.
-    CutByTurns,
-    /// It has printed as many lines as it may.
-    CutByLines,
-    /// The operator ended the day while its halt waited.
-    Stopped,
-    /// Its deck can't be read.
-    Unread,
-}
-
-/// What became of a day.
-#[derive(Clone, Copy, Debug, PartialEq, Eq)]
-pub enum Verdict {
-    /// Both levels are done, and each job came to its end.
-    Clean,
-    /// Both levels are done, and a job was passed over or ended by a reply.
-    Passed,
-    /// A level isn't done.
-    Unfinished,
-}
 
 /// A day that is over.
 #[derive(Drop)]
@@ -129,26 +99,6 @@ impl<'a, R: Read + Drop, W: Write + Drop, F: Write + Drop, C: Clock + Drop> Desk
     fn has_all_turns(&self, level: LevelId) -> bool {
         self.tally.of(level).turns >= u64::from(self.settings.bounds.turns)
     }
-}
-
-/// What became of a day whose levels ended so, over the jobs that they began.
-fn became(one: LevelEnd, two: LevelEnd, jobs1: &Ledger, jobs2: &Ledger) -> Verdict
-    ensures { result ≡ verdict_of one two jobs1.now.begun.items jobs2.now.begun.items }
-{
-    if !is_done(one) || !is_done(two) {
-        return Verdict::Unfinished;
-    }
-    if jobs1.has_passed() || jobs2.has_passed() {
-        Verdict::Passed
-    } else {
-        Verdict::Clean
-    }
-}
-
-fn is_done(end: LevelEnd) -> bool
-    ensures { result ≡ is_done end }
-{
-    matches!(end, LevelEnd::Done)
 }
 
 /// Appends how a level ended, and its jobs.

@@ -177,6 +177,7 @@ impl<'a, R: Read + Drop, W: Write + Drop, F: Write + Drop, C: Clock + Drop> Desk
         let _ = self.told.flush();
     }
 
+    /// A level as the desk sees it.
     pub(crate) fn seat(&self, level: LevelId) -> &Seat<'a> {
         match level {
             LevelId::One => &self.one,
@@ -184,6 +185,7 @@ impl<'a, R: Read + Drop, W: Write + Drop, F: Write + Drop, C: Clock + Drop> Desk
         }
     }
 
+    /// A level as the desk sees it, to be changed.
     pub(crate) fn seat_mut(&mut self, level: LevelId) -> &mut Seat<'a> {
         match level {
             LevelId::One => &mut self.one,
@@ -207,10 +209,9 @@ impl<'a, R: Read + Drop, W: Write + Drop, F: Write + Drop, C: Clock + Drop> Desk
         let queued = machine.queued(level);
         let lines = machine.lines(level).len().saturating_add(queued);
         let may_print_all = lines as u64 <= u64::from(self.settings.bounds.lines);
-        let turns = self.tally.of(level).turns;
         let seat = self.seat_mut(level);
         seat.is_idle = may_print_all && is_idle(machine.level(level));
-        seat.ledger.follow(machine.level(level), lines, turns)?;
+        seat.ledger.follow(machine.level(level), lines)?;
         self.log_level(level)
     }
 
@@ -645,8 +646,7 @@ impl<'a, S: PackStore, R: Read + Drop, W: Write + Drop, F: Write + Drop, C: Cloc
     ghost meets = { λ old event new. ⊤ };
 
     fn stride(&self, machine: &Bureau<S>, level: LevelId) -> NonZeroU16 {
-        let turns = self.tally.of(level).turns;
-        self.seat(level).ledger.stride(machine.level(level), turns)
+        self.seat(level).ledger.stride(machine.level(level))
     }
 
     fn follow(

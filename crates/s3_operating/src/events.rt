@@ -1,15 +1,13 @@
 //! What is logged of a day.
-ghost use Rattle.std.specs.Prelude.{◌≡◌};
-ghost use Rattle.s3_operating.specs.Inner.Endings.{end_of};
 
 use crate::answers::Answer;
 use crate::clock::Clock;
 use crate::desk::Desk;
-use crate::ledger::{BegunJob, Purpose};
 use s3_bureau::{Bureau, Halt};
 use s3_cards::LevelId;
-use s3_day_log::{Event, JobEnd};
-use s3_operator::{HaltCode, is_at_start};
+use s3_day_log::Event;
+use s3_ledger::{BegunJob, Purpose, end_of};
+use s3_operator::HaltCode;
 use s3_ruled::push_name;
 use s3_store::PackStore;
 use std::alloc::{AllocError, Global};
@@ -155,15 +153,4 @@ fn program_of(alloc: Global, job: &BegunJob) -> Result<Option<String>, AllocErro
     let mut text = String::new(alloc);
     push_name(&mut text, name)?;
     Ok(Some(text))
-}
-
-/// How a job that is over ended.
-fn end_of(job: &BegunJob) -> JobEnd
-    ensures { result ≡ end_of job.now.ending }
-{
-    match job.ending {
-        None => JobEnd::Ended,
-        Some((code, _digit)) if is_at_start(code) => JobEnd::PassedOver,
-        Some(_) => JobEnd::Replied,
-    }
 }

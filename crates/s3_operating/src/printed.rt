@@ -2,9 +2,9 @@
 
 use crate::clock::Clock;
 use crate::desk::Desk;
-use crate::ledger::{Ledger, Purpose};
 use s3_cards::ebcdic::DIGIT_0;
 use s3_cards::{LevelId, Name};
+use s3_ledger::{Ledger, Purpose};
 use std::alloc::{AllocError, Global};
 use std::io::{Read, Write};
 

@@ -1,9 +1,9 @@
 //! How far the work has come, and jobs as they are told.
 
-use crate::ledger::{Ledger, Purpose};
 use crate::levels::number_of;
 use crate::seat::Seat;
 use crate::tally::Counts;
+use s3_ledger::{Ledger, Purpose};
 use s3_level::Level;
 use s3_ruled::push_name;
 use std::alloc::AllocError;

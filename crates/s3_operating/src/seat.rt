@@ -1,9 +1,9 @@
 //! A level as the desk sees it.
 
 use crate::day_deck::DayDeck;
-use crate::ledger::Ledger;
 use s3_cards::{Deck, LevelId};
 use s3_deck_files::DeckText;
+use s3_ledger::Ledger;
 use s3_operator::HaltCode;
 use std::alloc::{AllocError, Global};
 

@@ -4,8 +4,8 @@ ghost use Rattle.s3_operator.specs.Replies.{can_go_on, is_allowed};
 
 use crate::halt_code::HaltCode;
 
-/// Whether a halt allows a reply, a digit of 0 to 9: 0 goes on, 2 goes to the totals of the last record, 3 ends the job. A
-/// full file and a load out of order can't go on; of a job that can't be started, 2 and 3 pass it over.
+/// Whether a halt allows a reply, a digit of 0 to 9: 0 goes on, 2 ends the job after the totals of the last record, 3 ends it
+/// at once. A full file and a load out of order can't go on; of a job that can't be started, 2 and 3 pass it over.
 pub fn allowed(code: HaltCode, digit: u8) -> bool
     ensures { result ≡ is_allowed code digit }
 {

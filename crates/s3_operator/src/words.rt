@@ -82,7 +82,7 @@ pub fn effect(code: HaltCode, digit: u8) -> Option<&'static str> {
     Some(match digit {
         0 => going_on(code),
         _ if is_at_start(code) => "passes the job over; the next one begins",
-        2 => "goes to the totals of the last record, and then ends the job",
+        2 => "ends the job, after the totals of the last record unless LR is on",
         _ => "ends the job at once; what it has put into files stays",
     })
 }

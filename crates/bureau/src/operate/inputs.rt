@@ -7,7 +7,7 @@ use s3_cli::{CliFault, image};
 use s3_day_log::{DayLog, LogFault, NamedFile, checksum};
 use s3_host_files::{FileFault, LockedPack, read_pack, read_to_save, read_within};
 use s3_operating::{DayDeck, JoinedFiles};
-use s3_paper_commands::tell_punched;
+use s3_paper_commands::{is_plain_text, tell_punched};
 use s3_punch::{Begun, Punched, punch};
 use s3_replies::{Rules, RulesFault};
 use std::alloc::{AllocError, Global};
@@ -83,11 +83,6 @@ impl<'a> Checked<'a> {
         }
         Ok(files)
     }
-}
-
-/// Whether a file has plain text, of which a deck is punched: its name says so.
-fn is_plain_text(path: &str) -> bool {
-    path.ends_with(".rpg") || path.ends_with(".punch")
 }
 
 /// The deck of a level, of these files, and their digests, if they are asked for. A file of plain text is punched; what is wrong with

@@ -7,14 +7,14 @@ use clap::ArgMatches;
 use s3_bureau::Outcome;
 use s3_cards::ebcdic::DIGIT_0;
 use s3_cards::{LevelId, Name, PrintLine};
-use s3_host_files::{is_empty_folder, test_folder};
+use s3_host_files::{create_anew, is_empty_folder, test_folder};
 use s3_operating::PrintedJob;
 use s3_pages::{PaperFault, parts, write_text};
 use s3_pdf_forms::write_pdf;
 use s3_report_lines::lines_of_report;
 use s3_ruled::{push_characters, push_name};
 use std::alloc::{AllocError, Global};
-use std::fs::{File, Metadata};
+use std::fs::Metadata;
 use std::io::{BufWriter, ErrorKind, Write};
 use std::{fs, io};
 
@@ -120,25 +120,45 @@ fn name_within<'a>(files: &[Named<'a>], folder: &Metadata) -> Option<&'a str> {
     None
 }
 
-/// Writes the pages of all jobs of both levels that printed.
+/// Writes the pages of all jobs of both levels that printed, and tells how many these are.
 pub fn write_paper<'n>(
     rt: &HostRuntime,
     paper: Paper<'n>,
     desk: &mut OwnDesk<'_>,
     outcome: &Outcome,
 ) -> Result<(), DayFault<'n>> {
-    write_level(rt, paper, desk, LevelId::One, &outcome.one.report)?;
-    write_level(rt, paper, desk, LevelId::Two, &outcome.two.report)
+    let one = write_level(rt, paper, desk, LevelId::One, &outcome.one.report)?;
+    let two = write_level(rt, paper, desk, LevelId::Two, &outcome.two.report)?;
+    tell_paper(rt, paper, desk, one.saturating_add(two))?;
+    Ok(())
 }
 
-/// Writes the pages of the jobs of a level, given its report.
+/// Tells of how many jobs the pages were written, and where.
+fn tell_paper(
+    rt: &HostRuntime,
+    paper: Paper<'_>,
+    desk: &mut OwnDesk<'_>,
+    jobs: usize,
+) -> Result<(), AllocError> {
+    let folder = paper.folder;
+    let mut text = String::new(rt.alloc());
+    match jobs {
+        0 => writeln!(text, "no job printed, so {folder} gets no pages")?,
+        1 => writeln!(text, "the pages of 1 job are in {folder}")?,
+        _ => writeln!(text, "the pages of {jobs} jobs are in {folder}")?,
+    }
+    desk.tell(text.as_str());
+    Ok(())
+}
+
+/// Writes the pages of the jobs of a level, given its report. Of how many jobs there are some.
 fn write_level<'n>(
     rt: &HostRuntime,
     paper: Paper<'n>,
     desk: &mut OwnDesk<'_>,
     level: LevelId,
     report: &[u8],
-) -> Result<(), DayFault<'n>> {
+) -> Result<usize, DayFault<'n>> {
     let alloc = rt.alloc();
     let jobs = desk.printed_jobs(level)?;
     let Some(lines) = lines_of_report(alloc, report)? else {
@@ -149,12 +169,14 @@ fn write_level<'n>(
         counts.push(job.lines)?;
     }
     let all = parts(alloc, &lines, &counts)?;
+    let mut written: usize = 0;
     for (job, part) in jobs.iter().zip(all.iter()) {
         if !part.is_empty() {
             write_job(rt, paper, desk, level, job, *part)?;
+            written = written.saturating_add(1);
         }
     }
-    Ok(())
+    Ok(written)
 }
 
 /// Writes the pages of a job.
@@ -189,7 +211,7 @@ fn write_file(
     lines: &[PrintLine],
 ) -> Result<(), PaperFault> {
     let alloc = rt.alloc();
-    let file = File::create(rt, path).map_err(|error| failed(&error))?;
+    let file = create_anew(rt, path).map_err(|error| failed(&error))?;
     let mut writer = BufWriter::new(alloc, file).map_err(|error| failed(&error))?;
     match form {
         Form::Text => write_text(alloc, lines, &mut writer)?,

@@ -18,7 +18,7 @@ const LAST_RECORD: &[u8] = b"LR";
 
 /// The file that a program reads through, from its first record to its last.
 #[derive(Clone, Copy)]
-pub(crate) enum ReadThrough {
+pub enum ReadThrough {
     /// The data cards.
     Cards,
     /// A file of the pack.
@@ -27,17 +27,17 @@ pub(crate) enum ReadThrough {
 
 /// A program that a compile job is to make.
 #[derive(Clone, Copy)]
-pub(crate) struct Source {
+pub struct Source {
     /// Its name.
-    pub(crate) name: Name,
+    pub name: Name,
     /// The file that its job has to read through before it can come to its end: the one that it reads through at all, where no
     /// switch leaves that out, and no calculation sets LR.
-    pub(crate) reads_through: Option<ReadThrough>,
+    pub reads_through: Option<ReadThrough>,
 }
 
 impl Source {
     /// The program of a source's cards.
-    pub(crate) fn of(cards: &[Card]) -> Source {
+    pub fn of(cards: &[Card]) -> Source {
         Source {
             name: cards.iter().find_map(header_name).unwrap_or(RPGOBJ),
             reads_through: read_through(cards),

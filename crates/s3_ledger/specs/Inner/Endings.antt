@@ -3,11 +3,11 @@ use Rattle.std.specs.Prelude.{ℕ, ◌==◌, ◌-◌, Bool, true, false, ◌||�
 use Rattle.std.specs.List.{list_any}
 use Rattle.s3_day_log.specs.declared.event.JobEnd.{JobEnd}
 use Rattle.s3_day_log.specs.declared.event.JobEnd.TheVariants.{Ended, Replied, PassedOver}
-use Rattle.s3_operating.specs.declared.closing.LevelEnd.{LevelEnd}
-use Rattle.s3_operating.specs.declared.closing.LevelEnd.TheVariants.{Done, Halted, CutByTurns, CutByLines, Stopped, Unread}
-use Rattle.s3_operating.specs.declared.closing.Verdict.{Verdict}
-use Rattle.s3_operating.specs.declared.closing.Verdict.TheVariants.{Clean, Passed, Unfinished}
-use Rattle.s3_operating.specs.declared.ledger.BegunJob.{BegunJob}
+use Rattle.s3_ledger.specs.declared.endings.LevelEnd.{LevelEnd}
+use Rattle.s3_ledger.specs.declared.endings.LevelEnd.TheVariants.{Done, Halted, CutByTurns, CutByLines, Stopped, Unread}
+use Rattle.s3_ledger.specs.declared.endings.Verdict.{Verdict}
+use Rattle.s3_ledger.specs.declared.endings.Verdict.TheVariants.{Clean, Passed, Unfinished}
+use Rattle.s3_ledger.specs.declared.ledger.BegunJob.{BegunJob}
 use Rattle.s3_operator.specs.Inner.Starts.{is_at_start}
 use Rattle.s3_operator.specs.declared.halt_code.HaltCode.{HaltCode}
 

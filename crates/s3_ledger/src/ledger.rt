@@ -1,6 +1,6 @@
 //! The jobs of a level's deck, as they begin and end.
 ghost use Rattle.std.specs.Prelude.{◌≡◌};
-ghost use Rattle.s3_operating.specs.Inner.Endings.{behind_reply, has_passed};
+ghost use Rattle.s3_ledger.specs.Inner.Endings.{behind_reply, has_passed};
 
 use crate::programs::{ReadThrough, Source};
 use s3_cards::{Deck, Name};
@@ -13,7 +13,7 @@ use std::num::NonZeroU16;
 
 /// What a job was begun for.
 #[derive(Clone, Copy)]
-pub(crate) enum Purpose {
+pub enum Purpose {
     /// To compile a program.
     Compiles(Source),
     /// To run the program of this name.
@@ -25,25 +25,22 @@ pub(crate) enum Purpose {
 /// The most turns that a level takes before it is looked at again.
 const MOST_TURNS: usize = 1_000;
 
-/// So many turns of a job are more than any but an endless loop takes.
-const GREAT_MANY: u64 = 10_000_000;
-
 /// A job that was begun.
 #[derive(Clone, Copy)]
-pub(crate) struct BegunJob {
-    pub(crate) purpose: Purpose,
+pub struct BegunJob {
+    pub purpose: Purpose,
     /// The number of its first card, from 1.
-    pub(crate) card: usize,
+    pub card: usize,
     /// How many lines it has printed.
-    pub(crate) lines: u64,
+    pub lines: u64,
     /// What it was ended or passed over for, and by which reply.
-    pub(crate) ending: Option<(HaltCode, u8)>,
-    pub(crate) is_over: bool,
+    pub ending: Option<(HaltCode, u8)>,
+    pub is_over: bool,
 }
 
 /// The jobs of a level: those that were begun, and those that are left.
 #[derive(Drop)]
-pub(crate) struct Ledger {
+pub struct Ledger {
     jobs: Vec<JobEntry>,
     begun: Vec<BegunJob>,
     /// The place in the deck behind the last job that was begun.
@@ -54,15 +51,13 @@ pub(crate) struct Ledger {
     reads_through: Option<ReadThrough>,
     /// How many jobs there are up to the last one that runs a program; more than any before the jobs are known.
     last_run: usize,
-    /// How many turns the level had taken when this job was seen first.
-    turns_before: u64,
     /// How many lines are counted for jobs.
     counted: usize,
 }
 
 impl Ledger {
     /// A ledger without jobs.
-    pub(crate) fn new(alloc: Global) -> Ledger {
+    pub fn new(alloc: Global) -> Ledger {
         Ledger {
             jobs: Vec::new(alloc),
             begun: Vec::new(alloc),
@@ -70,35 +65,34 @@ impl Ledger {
             is_open: false,
             reads_through: None,
             last_run: usize::MAX,
-            turns_before: 0,
             counted: 0,
         }
     }
 
     /// Takes the jobs of a deck, before the first one is begun.
-    pub(crate) fn read(&mut self, alloc: Global, deck: &Deck) -> Result<(), AllocError> {
+    pub fn read(&mut self, alloc: Global, deck: &Deck) -> Result<(), AllocError> {
         self.jobs = jobs_of(alloc, deck)?;
         self.last_run = up_to_last_run(&self.jobs);
         Ok(())
     }
 
     /// The jobs that were begun, in order. The first one is job 1.
-    pub(crate) fn begun(&self) -> &[BegunJob] {
+    pub fn begun(&self) -> &[BegunJob] {
         &self.begun
     }
 
     /// How many jobs are left that weren't begun.
-    pub(crate) fn jobs_left(&self) -> usize {
+    pub fn jobs_left(&self) -> usize {
         self.jobs.len().saturating_sub(self.begun.len())
     }
 
     /// The number of the first card, from 1, of the job at a place among all jobs.
-    pub(crate) fn first_card(&self, place: usize) -> Option<usize> {
+    pub fn first_card(&self, place: usize) -> Option<usize> {
         Some(self.jobs.get(place)?.first_card())
     }
 
     /// The date that the job at a place among all jobs sets, if its statements are sound and have one.
-    pub(crate) fn date_given(&self, place: usize) -> Option<[u8; 6]> {
+    pub fn date_given(&self, place: usize) -> Option<[u8; 6]> {
         match &self.jobs.get(place)?.statements {
             Statements::Sound(job) => job.date(),
             Statements::Faulty(_) => None,
@@ -106,7 +100,7 @@ impl Ledger {
     }
 
     /// The number of the last data card, from 1, that the job at work has read; `None` where there is none.
-    pub(crate) fn last_card(&self, level: &Level) -> Option<u16> {
+    pub fn last_card(&self, level: &Level) -> Option<u16> {
         let cards = level.unread()?;
         let entry = self.jobs.get(self.begun.len().checked_sub(1)?)?;
         let Statements::Sound(job) = &entry.statements else {
@@ -120,12 +114,12 @@ impl Ledger {
     }
 
     /// Whether the last job that was begun isn't over.
-    pub(crate) fn is_open(&self) -> bool {
+    pub fn is_open(&self) -> bool {
         self.is_open
     }
 
     /// The program of the last job that was begun, if its statements name one.
-    pub(crate) fn program(&self) -> Option<Name> {
+    pub fn program(&self) -> Option<Name> {
         match self.begun.last()?.purpose {
             Purpose::Runs(name) => Some(name),
             Purpose::Compiles(source) => Some(source.name),
@@ -134,16 +128,14 @@ impl Ledger {
     }
 
     /// How many jobs are over: these, from the first one on.
-    pub(crate) fn jobs_over(&self) -> usize {
+    pub fn jobs_over(&self) -> usize {
         self.begun.len().saturating_sub(usize::from(self.is_open))
     }
 
     /// How many turns the level may take so that a job can end in the last one of them alone: then the lines that were printed by
-    /// that time are told apart from those of the next job. A job behind which none prints may take many, and so does one
-    /// that has taken a great many, as an endless loop.
-    pub(crate) fn stride(&self, level: &Level, turns: u64) -> NonZeroU16 {
-        let has_many = turns.saturating_sub(self.turns_before) >= GREAT_MANY;
-        let most = if self.begun.len() >= self.last_run || has_many {
+    /// that time are told apart from those of the next job. A job behind which none prints may take many.
+    pub fn stride(&self, level: &Level) -> NonZeroU16 {
+        let most = if self.begun.len() >= self.last_run {
             MOST_TURNS
         } else {
             self.unread(level).min(MOST_TURNS)
@@ -168,14 +160,8 @@ impl Ledger {
         }
     }
 
-    /// Looks at a level that has gone on, with how many lines it has printed, those that are queued among them, and how many
-    /// turns it has taken.
-    pub(crate) fn follow(
-        &mut self,
-        level: &Level,
-        lines: usize,
-        turns: u64,
-    ) -> Result<(), AllocError> {
+    /// Looks at a level that has gone on, with how many lines it has printed, those that are queued among them.
+    pub fn follow(&mut self, level: &Level, lines: usize) -> Result<(), AllocError> {
         let is_open = level.is_at_work() || level.waits().is_some();
         if level.place() == self.place && is_open == self.is_open {
             return Ok(());
@@ -185,7 +171,6 @@ impl Ledger {
         }
         self.place = level.place();
         self.is_open = is_open;
-        self.turns_before = turns;
         for _job in 0..self.jobs.len() {
             if !self.begin_next(level.deck())? {
                 break;
@@ -258,7 +243,7 @@ impl Ledger {
     }
 
     /// Takes note of a reply to the halt of the last job that was begun.
-    pub(crate) fn reply(&mut self, code: HaltCode, digit: u8)
+    pub fn reply(&mut self, code: HaltCode, digit: u8)
         ensures { self.new.begun.items ≡ behind_reply code digit self.old.begun.items }
     {
         if digit == 0 {
@@ -276,7 +261,7 @@ impl Ledger {
     }
 
     /// Whether a job was passed over, or ended by a reply.
-    pub(crate) fn has_passed(&self) -> bool
+    pub fn has_passed(&self) -> bool
         ensures { result ≡ has_passed self.now.begun.items }
     {
         self.begun.iter().any(|job| job.ending.is_some())
@@ -291,7 +276,7 @@ impl Ledger {
     }
 
     /// Ends the ledger of a level that has printed so many lines in all, and has no job at work where it is done.
-    pub(crate) fn close(&mut self, lines: usize, is_done: bool) {
+    pub fn close(&mut self, lines: usize, is_done: bool) {
         if self.is_open {
             self.count_lines(lines);
         }
