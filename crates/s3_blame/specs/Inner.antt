@@ -1,4 +1,5 @@
 -- What the contracts of a run and of a session don't reach: the diagnostics of a source, the columns to blame, and words.
 pub mod Columns
 pub mod Sources
+pub mod Tested
 pub mod Words

@@ -1,35 +1,40 @@
 //! C cards: 5 to 10.
 
-ghost use Rattle.std.specs.Prelude.{◌≡◌};
+ghost use Rattle.std.specs.Prelude.{◌≡◌, true, map, IfOk};
 ghost use Rattle.s3_program.specs.Indications.{is_overflow_entry};
 ghost use Rattle.s3_program.specs.Places.{is_late as is_late_spec};
+ghost use Rattle.s3_blame.specs.Inner.Tested.{span, are_of, of_calculation};
 
-use crate::known::{Known, is_date, is_same_shape};
-use crate::marks::Marks;
-use crate::rows::needs_of;
+use crate::known::{Known, differences, is_date};
+use crate::parts::{Part, at_fault, entry};
 use crate::walk::Walk;
 use s3_cards::Name;
+use s3_diagnose::rows::row_of;
 use s3_lines::indicator::Indicator;
 use s3_lines::sheet::{CalculationLine, CalculationTime, Designation, Factor, Operation, Shape};
 use s3_program::row::{Marking, Operand, Pairing, Row, Target};
-use std::alloc::AllocError;
+use s3_sheets::FaultyEntry;
+use std::alloc::{AllocError, Global};
 
-/// Marks what is to blame on a C card.
-pub fn mark_calculation(
-    marks: &mut Marks<'_>,
+/// The entries to blame for a number of a C card. `is_cut` says that a C card follows, and doesn't go on with this one.
+pub fn calculation_entries(
+    alloc: Global,
     known: &Known,
     walk: &Walk,
     card: u16,
     line: &CalculationLine,
+    is_cut: bool,
     number: u8,
-) -> Result<(), AllocError> {
+) -> Result<Vec<FaultyEntry>, AllocError>
+    ensures { IfOk result (λ found. are_of card number (of_calculation number) found.items ≡ true) }
+{
     match number {
-        5 => mark_undefined(marks, known, line),
-        6 => mark_redefined(marks, known, card, line),
-        7 => mark_overflow(marks, line),
-        8 => mark_unfit(marks, known, line),
-        9 => mark_misplaced(marks, walk, line),
-        _ => marks.add(33, 42, true),
+        5 => at_fault(alloc, card, number, &undefined_parts(known, line)),
+        6 => at_fault(alloc, card, number, &redefined_parts(known, card, line)),
+        7 => at_fault(alloc, card, number, &overflow_parts(line)),
+        8 => at_fault(alloc, card, number, &misfits(known, line, is_cut).parts()),
+        9 => at_fault(alloc, card, number, &misplaced_parts(walk, line)),
+        _ => at_fault(alloc, card, number, &[entry(33, 42, true)]),
     }
 }
 
@@ -47,23 +52,32 @@ fn is_unknown(known: &Known, operand: Operand, factor: Option<Factor>) -> bool {
     }
 }
 
-/// 5: each name that nothing defines, where the operation has a use for it.
-fn mark_undefined(
-    marks: &mut Marks<'_>,
-    known: &Known,
-    line: &CalculationLine,
-) -> Result<(), AllocError> {
-    let Some(operation) = line.operation else {
-        return Ok(());
+/// What 5 speaks of: each name that nothing defines, where the operation has a use for it.
+fn undefined_parts(known: &Known, line: &CalculationLine) -> [Part; 3]
+    ensures { map span result ≡ of_calculation 5 }
+{
+    let (is_factor1, is_factor2, is_result) = match line.operation {
+        Some(operation) => undefined(known, &row_of(operation), line),
+        None => (false, false, false),
     };
-    let row = needs_of(operation);
-    marks.add(18, 27, is_unknown(known, row.factor1, line.factor1))?;
-    marks.add(33, 42, is_unknown(known, row.factor2, line.factor2))?;
-    let is_result_unknown = match (row.result, line.result) {
+    [
+        entry(18, 27, is_factor1),
+        entry(33, 42, is_factor2),
+        entry(43, 48, is_result),
+    ]
+}
+
+/// Whether nothing defines the names in factor 1, factor 2 and result that an operation takes.
+fn undefined(known: &Known, row: &Row, line: &CalculationLine) -> (bool, bool, bool) {
+    let is_result = match (row.result, line.result) {
         (Target::Nothing, _) | (_, None) => false,
         (_, Some(name)) => known.field(name).is_none(),
     };
-    marks.add(43, 48, is_result_unknown)
+    (
+        is_unknown(known, row.factor1, line.factor1),
+        is_unknown(known, row.factor2, line.factor2),
+        is_result,
+    )
 }
 
 /// Whether a TAG or a BEGSR has a name that another card before it has.
@@ -80,29 +94,38 @@ fn is_second(known: &Known, card: u16, line: &CalculationLine) -> bool {
     }
 }
 
-/// 6: the name of a second tag or subroutine; a result of another shape than its first one, with length and decimals; a date field that
-/// would be changed.
-fn mark_redefined(
-    marks: &mut Marks<'_>,
-    known: &Known,
-    card: u16,
-    line: &CalculationLine,
-) -> Result<(), AllocError> {
-    marks.add(18, 27, is_second(known, card, line))?;
-    let (Some(operation), Some(name)) = (line.operation, line.result) else {
-        return Ok(());
+/// What 6 speaks of: the name of a second tag or subroutine; a result that was defined otherwise, with the length or the decimals that
+/// differ; a date field that would be changed.
+fn redefined_parts(known: &Known, card: u16, line: &CalculationLine) -> [Part; 4]
+    ensures { map span result ≡ of_calculation 6 }
+{
+    let (is_length, are_decimals) = redefined(known, line);
+    [
+        entry(18, 27, is_second(known, card, line)),
+        entry(43, 48, is_length || are_decimals || changes_date(line)),
+        entry(49, 51, is_length),
+        entry(52, 52, are_decimals),
+    ]
+}
+
+/// Whether the length of a result, and whether its decimals, are otherwise than where it was defined.
+fn redefined(known: &Known, line: &CalculationLine) -> (bool, bool) {
+    let (Some(_), Some(name), Some(shape)) = (line.operation, line.result, line.definition) else {
+        return (false, false);
     };
-    let is_target = !matches!(needs_of(operation).result, Target::Nothing);
-    match line.definition {
-        Some(shape) => {
-            let is_other = known
-                .field(name)
-                .is_some_and(|first| !is_same_shape(first, shape));
-            marks.add(43, 48, is_date(name) || is_other)?;
-            marks.add(49, 52, is_other && !is_date(name))
-        }
-        None => marks.add(43, 48, is_target && is_date(name)),
+    match known.field(name) {
+        Some(first) if !is_date(name) => differences(first, shape),
+        _ => (false, false),
     }
+}
+
+/// Whether a date field would be defined, or changed.
+fn changes_date(line: &CalculationLine) -> bool {
+    let (Some(operation), Some(name)) = (line.operation, line.result) else {
+        return false;
+    };
+    let is_target = !matches!(row_of(operation).result, Target::Nothing);
+    is_date(name) && (line.definition.is_some() || is_target)
 }
 
 fn is_overflow(indicator: Option<Indicator>) -> bool
@@ -111,66 +134,122 @@ fn is_overflow(indicator: Option<Indicator>) -> bool
     matches!(indicator, Some(Indicator::Overflow(_)))
 }
 
-/// 7: each overflow indicator.
-fn mark_overflow(marks: &mut Marks<'_>, line: &CalculationLine) -> Result<(), AllocError> {
+/// What 7 speaks of: each overflow indicator.
+fn overflow_parts(line: &CalculationLine) -> [Part; 3]
+    ensures { map span result ≡ of_calculation 7 }
+{
     let [first, second, third] = line.indicators;
-    marks.add(54, 55, is_overflow(first))?;
-    marks.add(56, 57, is_overflow(second))?;
-    marks.add(58, 59, is_overflow(third))
+    [
+        entry(54, 55, is_overflow(first)),
+        entry(56, 57, is_overflow(second)),
+        entry(58, 59, is_overflow(third)),
+    ]
 }
 
-/// 8: the operation that isn't known; else each entry that is missing, surplus or of the wrong kind; else the operation that is
-/// missing.
-fn mark_unfit(
-    marks: &mut Marks<'_>,
-    known: &Known,
-    line: &CalculationLine,
-) -> Result<(), AllocError> {
-    match line.operation {
-        Some(Operation::Unknown) => marks.add(28, 32, true),
-        Some(operation) => mark_operands(marks, known, &needs_of(operation), line),
-        None => {
-            let is_bare = is_bare(line);
-            marks.add(28, 32, is_bare)?;
-            if is_bare {
-                Ok(())
-            } else {
-                mark_surplus(marks, line)
-            }
+/// What of an operation doesn't fit: each entry that is missing, surplus or of the wrong kind.
+#[derive(Clone, Copy)]
+struct Unfit {
+    factor1: bool,
+    operation: bool,
+    factor2: bool,
+    result: bool,
+    length: bool,
+    decimals: bool,
+    half_adjust: bool,
+    indicators: UnfitIndicators,
+}
+
+/// Which resulting indicators are surplus, or whether one is missing.
+#[derive(Clone, Copy)]
+struct UnfitIndicators {
+    surplus: [bool; 3],
+    is_missing: bool,
+}
+
+impl UnfitIndicators {
+    const NONE: UnfitIndicators = UnfitIndicators {
+        surplus: [false, false, false],
+        is_missing: false,
+    };
+
+    /// All that a card has are surplus.
+    fn given(line: &CalculationLine) -> UnfitIndicators {
+        let [first, second, third] = line.indicators;
+        UnfitIndicators {
+            surplus: [first.is_some(), second.is_some(), third.is_some()],
+            is_missing: false,
         }
     }
 }
 
-/// Whether a card has neither factors, nor a result, H or resulting indicators.
-fn is_bare(line: &CalculationLine) -> bool {
-    line.factor1.is_none()
-        && line.factor2.is_none()
-        && line.result.is_none()
-        && line.definition.is_none()
-        && !line.half_adjust
-        && !has_indicators(line)
+impl Unfit {
+    /// The operation alone.
+    const OPERATION: Unfit = Unfit {
+        factor1: false,
+        operation: true,
+        factor2: false,
+        result: false,
+        length: false,
+        decimals: false,
+        half_adjust: false,
+        indicators: UnfitIndicators::NONE,
+    };
+
+    /// What 8 speaks of.
+    fn parts(self) -> [Part; 11]
+        ensures { map span result ≡ of_calculation 8 }
+    {
+        let [first, second, third] = self.indicators.surplus;
+        [
+            entry(18, 27, self.factor1),
+            entry(28, 32, self.operation),
+            entry(33, 42, self.factor2),
+            entry(43, 48, self.result),
+            entry(49, 51, self.length),
+            entry(52, 52, self.decimals),
+            entry(53, 53, self.half_adjust),
+            entry(54, 55, first),
+            entry(56, 57, second),
+            entry(58, 59, third),
+            entry(54, 59, self.indicators.is_missing),
+        ]
+    }
+}
+
+/// What of a card's operation doesn't fit: the operation that isn't known, or is missing where nothing goes on with the card, and the
+/// other entries.
+fn misfits(known: &Known, line: &CalculationLine, is_cut: bool) -> Unfit {
+    match line.operation {
+        Some(Operation::Unknown) => Unfit::OPERATION,
+        Some(operation) => unfit_operands(known, &row_of(operation), line),
+        None => Unfit {
+            operation: is_cut,
+            ..all_entries(line)
+        },
+    }
+}
+
+/// Whether a card says how many decimals its result has.
+fn has_decimals(line: &CalculationLine) -> bool {
+    matches!(line.definition, Some(Shape::Numeric(..)))
 }
 
 fn has_indicators(line: &CalculationLine) -> bool {
     line.indicators.iter().any(|indicator| indicator.is_some())
 }
 
-/// Marks all entries of a card without operation.
-fn mark_surplus(marks: &mut Marks<'_>, line: &CalculationLine) -> Result<(), AllocError> {
-    marks.add(18, 27, line.factor1.is_some())?;
-    marks.add(33, 42, line.factor2.is_some())?;
-    marks.add(43, 48, line.result.is_some())?;
-    marks.add(49, 52, line.definition.is_some())?;
-    marks.add(53, 53, line.half_adjust)?;
-    mark_given(marks, line)
-}
-
-/// Marks the resulting indicators that are given.
-fn mark_given(marks: &mut Marks<'_>, line: &CalculationLine) -> Result<(), AllocError> {
-    let [first, second, third] = line.indicators;
-    marks.add(54, 55, first.is_some())?;
-    marks.add(56, 57, second.is_some())?;
-    marks.add(58, 59, third.is_some())
+/// All entries of a card without operation.
+fn all_entries(line: &CalculationLine) -> Unfit {
+    Unfit {
+        factor1: line.factor1.is_some(),
+        operation: false,
+        factor2: line.factor2.is_some(),
+        result: line.result.is_some(),
+        length: line.definition.is_some(),
+        decimals: has_decimals(line),
+        half_adjust: line.half_adjust,
+        indicators: UnfitIndicators::given(line),
+    }
 }
 
 /// The shape of what a factor is, if it is a field that is defined or a literal.
@@ -259,39 +338,39 @@ fn pair_fits(known: &Known, pairing: Pairing, line: &CalculationLine) -> bool {
     }
 }
 
-/// Marks each entry that doesn't fit an operation.
-fn mark_operands(
-    marks: &mut Marks<'_>,
-    known: &Known,
-    row: &Row,
-    line: &CalculationLine,
-) -> Result<(), AllocError> {
+/// Each entry that doesn't fit an operation.
+fn unfit_operands(known: &Known, row: &Row, line: &CalculationLine) -> Unfit {
     let is_paired = pair_fits(known, row.pairing, line);
     let is_mixed = !is_paired && matches!(row.pairing, Pairing::Alike);
-    let fits1 = factor_fits(known, row.factor1, line.factor1);
-    marks.add(18, 27, !fits1 || !is_paired)?;
-    let fits2 = factor_fits(known, row.factor2, line.factor2);
-    marks.add(33, 42, !fits2 || is_mixed)?;
-    marks.add(43, 48, !result_fits(known, row.result, line.result))?;
-    marks.add(49, 52, line.definition.is_some() && line.result.is_none())?;
-    marks.add(53, 53, line.half_adjust && !row.half_adjust)?;
-    mark_indicators(marks, row.indicators, line)
+    // a length is surplus without a result, and with one that is surplus itself
+    let is_undefined = line.result.is_none() || matches!(row.result, Target::Nothing);
+    Unfit {
+        factor1: !factor_fits(known, row.factor1, line.factor1) || !is_paired,
+        operation: false,
+        factor2: !factor_fits(known, row.factor2, line.factor2) || is_mixed,
+        result: !result_fits(known, row.result, line.result),
+        length: line.definition.is_some() && is_undefined,
+        decimals: has_decimals(line) && is_undefined,
+        half_adjust: line.half_adjust && !row.half_adjust,
+        indicators: unfit_indicators(row.indicators, line),
+    }
 }
 
-/// Marks resulting indicators that are surplus, or the columns where one is missing.
-fn mark_indicators(
-    marks: &mut Marks<'_>,
-    marking: Marking,
-    line: &CalculationLine,
-) -> Result<(), AllocError> {
-    let [_first, second, third] = line.indicators;
+/// Resulting indicators that are surplus, or that one is missing.
+fn unfit_indicators(marking: Marking, line: &CalculationLine) -> UnfitIndicators {
     match marking {
-        Marking::Never => mark_given(marks, line),
-        Marking::Optional => Ok(()),
-        Marking::Needed => marks.add(54, 59, !has_indicators(line)),
+        Marking::Never => UnfitIndicators::given(line),
+        Marking::Optional => UnfitIndicators::NONE,
+        Marking::Needed => UnfitIndicators {
+            surplus: [false, false, false],
+            is_missing: !has_indicators(line),
+        },
         Marking::First => {
-            marks.add(56, 57, second.is_some())?;
-            marks.add(58, 59, third.is_some())
+            let [_first, second, third] = line.indicators;
+            UnfitIndicators {
+                surplus: [false, second.is_some(), third.is_some()],
+                is_missing: false,
+            }
         }
     }
 }
@@ -307,12 +386,11 @@ fn is_late(part: u8, time: CalculationTime) -> bool
     }
 }
 
-/// 9: the level that is out of order, that goes on with nothing or that stands outside of every subroutine; else the operation.
-fn mark_misplaced(
-    marks: &mut Marks<'_>,
-    walk: &Walk,
-    line: &CalculationLine,
-) -> Result<(), AllocError> {
+/// What 9 speaks of: the level that is out of order, that goes on with nothing or that stands outside of every subroutine; else the
+/// operation.
+fn misplaced_parts(walk: &Walk, line: &CalculationLine) -> [Part; 2]
+    ensures { map span result ≡ of_calculation 9 }
+{
     let time = walk.time_of(line);
     let begins_or_ends = matches!(
         line.operation,
@@ -323,6 +401,8 @@ fn mark_misplaced(
         && !begins_or_ends;
     let is_level = is_late(walk.part, line.time) || time.is_none() || is_outside;
     let is_misnamed = begins_or_ends && !matches!(time, Some(CalculationTime::Subroutine));
-    marks.add(7, 8, is_level)?;
-    marks.add(28, 32, !is_level || is_misnamed)
+    [
+        entry(7, 8, is_level),
+        entry(28, 32, !is_level || is_misnamed),
+    ]
 }

@@ -1,52 +1,47 @@
 //! F cards: 6 and 12.
-ghost use Rattle.std.specs.Prelude.{◌≡◌};
-ghost use Rattle.s3_program.specs.FileTable as table;
+ghost use Rattle.std.specs.Prelude.{◌≡◌, true, map, IfOk};
+ghost use Rattle.s3_blame.specs.Inner.Tested.{span, are_of, of_file};
 
-use crate::marks::Marks;
-use s3_lines::sheet::{Designation, Device, FileLine, FileUse};
-use std::alloc::AllocError;
+use crate::parts::{Part, at_fault, entry};
+use s3_diagnose::files::{is_card_file, is_print_file};
+use s3_lines::sheet::FileLine;
+use s3_sheets::FaultyEntry;
+use std::alloc::{AllocError, Global};
 
-/// Whether a file has nothing in columns 28, 31, 32 and 66.
-fn is_plain(file: &FileLine) -> bool
-    ensures { result ≡ table.is_plain file.now }
+/// What 6 speaks of on an F card: its name.
+fn name_part() -> [Part; 1]
+    ensures { map span result ≡ of_file 6 }
 {
-    !file.is_random && !file.is_keyed && !file.is_indexed && !file.has_additions
+    [entry(7, 14, true)]
 }
 
-/// Whether a file is read from cards as the table of file uses has it.
-pub fn is_card_file(file: &FileLine) -> bool
-    ensures { result ≡ table.is_card_file file.now }
+/// What 12 speaks of on an F card: the device of a second card or print file, else all that the table of file uses looks at.
+fn use_parts(file: &FileLine) -> [Part; 6]
+    ensures { map span result ≡ of_file 12 }
 {
-    matches!(file.device, Device::CardReader)
-        && matches!(file.usage, FileUse::Input)
-        && matches!(
-            file.designation,
-            Some(Designation::Primary) | Some(Designation::Secondary)
-        )
-        && is_plain(file)
-}
-
-/// Whether a file is printed as the table of file uses has it.
-pub fn is_print_file(file: &FileLine) -> bool
-    ensures { result ≡ table.is_print_file file.now }
-{
-    matches!(file.device, Device::Printer)
-        && matches!(file.usage, FileUse::Output)
-        && file.designation.is_none()
-        && is_plain(file)
-}
-
-/// Marks what is to blame on an F card: its name for 6; for 12 the device of a second card or print file, else the entries that the
-/// table of file uses asks for.
-pub fn mark_file(marks: &mut Marks<'_>, file: &FileLine, number: u8) -> Result<(), AllocError> {
-    if number == 6 {
-        return marks.add(7, 14, true);
-    }
     let is_second = is_card_file(file) || is_print_file(file);
-    marks.add(15, 16, !is_second)?;
-    marks.add(28, 28, !is_second && file.is_random)?;
-    marks.add(31, 31, !is_second && file.is_keyed)?;
-    marks.add(32, 32, !is_second && file.is_indexed)?;
-    marks.add(40, 46, true)?;
-    marks.add(66, 66, !is_second && file.has_additions)
+    [
+        entry(15, 16, !is_second),
+        entry(28, 28, !is_second),
+        entry(31, 31, !is_second),
+        entry(32, 32, !is_second),
+        entry(40, 46, true),
+        entry(66, 66, !is_second),
+    ]
+}
+
+/// The entries to blame for a number of an F card.
+pub fn file_entries(
+    alloc: Global,
+    card: u16,
+    file: &FileLine,
+    number: u8,
+) -> Result<Vec<FaultyEntry>, AllocError>
+    ensures { IfOk result (λ found. are_of card number (of_file number) found.items ≡ true) }
+{
+    if number == 6 {
+        at_fault(alloc, card, number, &name_part())
+    } else {
+        at_fault(alloc, card, number, &use_parts(file))
+    }
 }

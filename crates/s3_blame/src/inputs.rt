@@ -1,68 +1,86 @@
 //! I cards: 5 to 9, 11 and 12.
 
-ghost use Rattle.std.specs.Prelude.{◌≡◌};
+ghost use Rattle.std.specs.Prelude.{◌≡◌, ◌==◌, [], ◌∷◌, true, if◌then◌else◌, map, IfOk};
 ghost use Rattle.s3_program.specs.Indications.{is_text_form};
+ghost use Rattle.s3_blame.specs.Inner.Tested.{span, are_of, of_input, of_input_field};
 
-use crate::known::{Known, is_date, is_same_length, is_same_shape, shape_of_field};
-use crate::marks::Marks;
+use crate::known::{Known, differences, is_date, shape_of_field};
+use crate::parts::{Part, at_fault, entry};
 use crate::walk::{Key, Walk};
+use s3_diagnose::shapes::same_kind_and_length;
 use s3_lines::indicator::Indicator;
 use s3_lines::sheet::{Designation, FieldForm, FieldLine, InputLine, Shape};
-use std::alloc::AllocError;
+use s3_sheets::FaultyEntry;
+use std::alloc::{AllocError, Global};
 
-/// Marks what is to blame on an I card.
-pub fn mark_input(
-    marks: &mut Marks<'_>,
+/// The entries to blame for a number of an I card.
+pub fn input_entries(
+    alloc: Global,
     known: &Known,
     walk: &Walk,
+    card: u16,
     line: &InputLine,
     number: u8,
-) -> Result<(), AllocError> {
+) -> Result<Vec<FaultyEntry>, AllocError>
+    ensures { IfOk result (λ found. are_of card number (of_input line.now number) found.items ≡ true) }
+{
     match line {
-        InputLine::Field(field) => mark_field(marks, known, walk, field, number),
-        InputLine::Record(..) if number == 11 => marks.add(19, 20, true),
-        InputLine::Record(..) => marks.add(7, 14, true),
-        InputLine::Or(..) if number == 11 => marks.add(19, 20, true),
-        InputLine::And(_) | InputLine::Or(..) => marks.add(14, 16, true),
+        InputLine::Field(field) => field_entries(alloc, known, walk, card, field, number),
+        InputLine::Record(..) => at_fault(alloc, card, number, &type_part(7, 14, number)),
+        InputLine::Or(..) => at_fault(alloc, card, number, &type_part(14, 16, number)),
+        InputLine::And(_) => at_fault(alloc, card, number, &[entry(14, 16, true)]),
     }
 }
 
-fn mark_field(
-    marks: &mut Marks<'_>,
+/// What a number speaks of on a card of a record type: 11 of its indicator, each other of the entry in these columns.
+fn type_part(from: usize, to: usize, number: u8) -> [Part; 1]
+    ensures { map span result ≡ (if number == 11 then (19, 20) ∷ [] else (from, to) ∷ []) }
+{
+    if number == 11 {
+        [entry(19, 20, true)]
+    } else {
+        [entry(from, to, true)]
+    }
+}
+
+/// The entries to blame for a number of a field's card.
+fn field_entries(
+    alloc: Global,
     known: &Known,
     walk: &Walk,
+    card: u16,
     field: &FieldLine,
     number: u8,
-) -> Result<(), AllocError> {
+) -> Result<Vec<FaultyEntry>, AllocError>
+    ensures { IfOk result (λ found. are_of card number (of_input_field number) found.items ≡ true) }
+{
     match number {
-        6 => mark_shape(marks, known, field),
-        7 => mark_indicators(marks, walk, field),
-        9 => marks.add(7, 14, true),
-        11 => mark_keys(marks, walk, field),
+        6 => at_fault(alloc, card, number, &shape_parts(known, field)),
+        7 => at_fault(alloc, card, number, &indicator_parts(walk, field)),
+        9 => at_fault(alloc, card, number, &[entry(7, 14, true)]),
+        11 => at_fault(alloc, card, number, &level_parts(walk, field)),
         // P: 8 of a text, 12 of a file that isn't on DISK
-        _ => marks.add(43, 43, true),
+        _ => at_fault(alloc, card, number, &[entry(43, 43, true)]),
     }
 }
 
-/// 6: the name, and of a field that was defined before what is otherwise than there: positions and P, or decimals.
-fn mark_shape(marks: &mut Marks<'_>, known: &Known, field: &FieldLine) -> Result<(), AllocError> {
-    marks.add(53, 58, true)?;
-    if is_date(field.name) {
-        return Ok(());
-    }
-    let Some(first) = known.field(field.name) else {
-        return Ok(());
-    };
-    let shape = shape_of_field(field);
-    match (first, shape) {
-        (Shape::Numeric(digits, decimals), Shape::Numeric(other, others)) => {
-            marks.add(44, 51, digits != other)?;
-            marks.add(52, 52, decimals != others)
-        }
-        (Shape::Alphanumeric(_), Shape::Alphanumeric(_)) => {
-            marks.add(44, 51, !is_same_shape(first, shape))
-        }
-        _ => marks.add(52, 52, true),
+/// What 6 speaks of: the name, and of a field that was defined before what is otherwise than there, positions and P, or decimals.
+fn shape_parts(known: &Known, field: &FieldLine) -> [Part; 3]
+    ensures { map span result ≡ of_input_field 6 }
+{
+    let (are_positions, are_decimals) = redefined(known, field);
+    [
+        entry(44, 51, are_positions),
+        entry(52, 52, are_decimals),
+        entry(53, 58, true),
+    ]
+}
+
+/// Whether the positions of a field, and whether its decimals, are otherwise than where it was defined. Of a date field neither counts.
+fn redefined(known: &Known, field: &FieldLine) -> (bool, bool) {
+    match known.field(field.name) {
+        Some(first) if !is_date(field.name) => differences(first, shape_of_field(field)),
+        _ => (false, false),
     }
 }
 
@@ -72,20 +90,16 @@ fn is_text(form: FieldForm) -> bool
     matches!(form, FieldForm::Alphanumeric | FieldForm::PackedText)
 }
 
-/// 7: a relation that isn't of the group; plus and minus of a text.
-fn mark_indicators(
-    marks: &mut Marks<'_>,
-    walk: &Walk,
-    field: &FieldLine,
-) -> Result<(), AllocError> {
-    let is_unrelated = match field.relation {
-        Some(relation) => !walk.types.iter().any(|indicator| *indicator == relation),
-        None => false,
-    };
+/// What 7 speaks of: a relation that isn't of the group; plus and minus of a text.
+fn indicator_parts(walk: &Walk, field: &FieldLine) -> [Part; 3]
+    ensures { map span result ≡ of_input_field 7 }
+{
     let [plus, minus, _zero] = field.indicators;
-    marks.add(63, 64, is_unrelated)?;
-    marks.add(65, 66, is_text(field.form) && plus.is_some())?;
-    marks.add(67, 68, is_text(field.form) && minus.is_some())
+    [
+        entry(63, 64, !walk.counts(field.relation)),
+        entry(65, 66, is_text(field.form) && plus.is_some()),
+        entry(67, 68, is_text(field.form) && minus.is_some()),
+    ]
 }
 
 /// Whether two fields of a group count in one type of it.
@@ -104,21 +118,37 @@ fn is_bad_key(walk: &Walk, field: &FieldLine, key: Key) -> bool {
         None => false,
     };
     let disagrees = match walk.first_shape(key) {
-        Some(first) => !is_same_length(first, shape_of_field(field)),
+        Some(first) => !same_kind_and_length(first, shape_of_field(field)),
         None => false,
     };
-    is_chained
-        || disagrees
-        || walk.keys.iter().any(|given| given.key == key && meet(given.relation, field.relation))
+    is_chained || disagrees || is_given_twice(walk, field, key)
 }
 
-/// 11: each level that is at fault.
-fn mark_keys(marks: &mut Marks<'_>, walk: &Walk, field: &FieldLine) -> Result<(), AllocError> {
-    if let Some(level) = field.control_level {
-        marks.add(59, 60, is_bad_key(walk, field, Key::Control(level)))?;
+/// Whether a field above has a level in a type in which this field counts, too. One whose relation is to no type of the group counts in
+/// none.
+fn is_given_twice(walk: &Walk, field: &FieldLine, key: Key) -> bool {
+    walk.counts(field.relation)
+        && walk.keys.iter().any(|given| {
+            given.key == key && walk.counts(given.relation) && meet(given.relation, field.relation)
+        })
+}
+
+/// What 11 speaks of: each level that is at fault.
+fn level_parts(walk: &Walk, field: &FieldLine) -> [Part; 2]
+    ensures { map span result ≡ of_input_field 11 }
+{
+    let control = field.control_level.map(|level| Key::Control(level));
+    let matching = field.match_level.map(|level| Key::Match(level));
+    [
+        entry(59, 60, has_bad_key(walk, field, control)),
+        entry(61, 62, has_bad_key(walk, field, matching)),
+    ]
+}
+
+/// Whether a field has a level that is at fault.
+fn has_bad_key(walk: &Walk, field: &FieldLine, key: Option<Key>) -> bool {
+    match key {
+        Some(key) => is_bad_key(walk, field, key),
+        None => false,
     }
-    if let Some(level) = field.match_level {
-        marks.add(61, 62, is_bad_key(walk, field, Key::Match(level)))?;
-    }
-    Ok(())
 }

@@ -2,7 +2,6 @@
 
 ghost use Rattle.std.specs.Prelude.{◌≡◌};
 ghost use Rattle.s3_program.specs.Redefined.{is_date as is_date_spec};
-ghost use Rattle.s3_program.specs.Shapes.{same_shape, same_kind_and_length};
 
 use indexmap::IndexMap;
 use s3_cards::Name;
@@ -38,27 +37,21 @@ pub fn shape_of_field(field: &FieldLine) -> Shape {
     }
 }
 
-/// Whether two shapes are the same.
-pub fn is_same_shape(one: Shape, other: Shape) -> bool
-    ensures { result ≡ same_shape one other }
-{
-    match (one, other) {
-        (Shape::Alphanumeric(length), Shape::Alphanumeric(other)) => length == other,
+/// Whether the length, and whether the decimals, of a shape are otherwise than those of the first one. A text has no decimals.
+pub fn differences(first: Shape, shape: Shape) -> (bool, bool) {
+    match (first, shape) {
         (Shape::Numeric(digits, decimals), Shape::Numeric(other, others)) => {
-            digits == other && decimals == others
+            (digits != other, decimals != others)
         }
-        _ => false,
-    }
-}
-
-/// Whether two shapes have the same kind and length.
-pub fn is_same_length(one: Shape, other: Shape) -> bool
-    ensures { result ≡ same_kind_and_length one other }
-{
-    match (one, other) {
-        (Shape::Alphanumeric(length), Shape::Alphanumeric(other)) => length == other,
-        (Shape::Numeric(digits, _), Shape::Numeric(other, _)) => digits == other,
-        _ => false,
+        (Shape::Alphanumeric(length), Shape::Alphanumeric(other)) => (length != other, false),
+        (Shape::Numeric(digits, _), Shape::Alphanumeric(length)) => (
+            u16::from(digits) != length,
+            true,
+        ),
+        (Shape::Alphanumeric(length), Shape::Numeric(digits, _)) => (
+            u16::from(digits) != length,
+            true,
+        ),
     }
 }
 

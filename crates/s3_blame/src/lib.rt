@@ -7,10 +7,10 @@
 //! - where a source has a diagnostic of a single card, `entries_of` gives the entries of `faulty_entries` of `s3_sheets`: a card has a
 //!   number exactly where an entry of it is at fault by that number; `columns_of` gives the columns of those entries;
 //! - what tells the entries for 5 to 12 apart by one line alone is what the language's definitions say: what each operation needs, which
-//!   files are card and print files, which lines a file refuses, which levels come late, equal shapes.
+//!   files are card and print files, which lines a file refuses, which levels come late, equal shapes;
+//! - each entry that is marked for 5 to 12 is one that the number's condition speaks of on a line of its kind (`is_tested`).
 //!
-//! Only tested: which entries are marked for 5 to 12. They are those that the number's condition speaks of, narrowed to those whose own
-//! part of it holds.
+//! Only tested: which of these entries are marked, for 5 to 12. They are those whose own part of the condition holds.
 
 #![tactic(auto)]
 
@@ -20,17 +20,14 @@ mod files;
 mod inputs;
 mod known;
 mod lines;
-mod marked;
-mod marks;
 mod outputs;
-mod rows;
+mod parts;
 mod sources;
 mod walk;
 mod words;
 
 pub use columns::{columns_of, entries_of};
 pub use known::Known;
-pub use marked::push_marks;
 pub use s3_sheets::FaultyEntry;
 pub use sources::told;
 pub use words::diagnostic_words;

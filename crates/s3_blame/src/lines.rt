@@ -1,34 +1,49 @@
 //! The entries to blame for 5 to 12.
+ghost use Rattle.std.specs.Prelude.{◌≡◌, true, IfOk};
+ghost use Rattle.std.specs.List.{list_all};
+ghost use Rattle.s3_blame.specs.Inner.Tested.{are_of, entries_on, are_tested_on, is_tested};
 
-use crate::calculations::mark_calculation;
-use crate::files::mark_file;
-use crate::inputs::mark_input;
+use crate::calculations::calculation_entries;
+use crate::files::file_entries;
+use crate::inputs::input_entries;
 use crate::known::Known;
-use crate::marks::Marks;
-use crate::outputs::mark_output;
+use crate::outputs::output_entries;
 use crate::walk::Walk;
+use s3_diagnose::places::is_cut_by;
 use s3_lines::Diagnostic;
 use s3_lines::sheet::{Line, SheetLine};
 use s3_sheets::FaultyEntry;
 use std::alloc::{AllocError, Global};
 
-/// Marks what is to blame on the card of a line for a number.
-fn mark_line(
-    found: &mut Vec<FaultyEntry>,
+/// The entries to blame for a number of the card of a line, behind which these lines stand.
+fn line_entries(
+    alloc: Global,
     known: &Known,
     walk: &Walk,
     line: &Line,
+    later: &[Line],
     number: u8,
-) -> Result<(), AllocError> {
-    let mut marks = Marks::new(found, line.card, number);
+) -> Result<Vec<FaultyEntry>, AllocError>
+    ensures { IfOk result (λ found. are_of line.now.card number (entries_on line.now.sheet number) found.items ≡ true) }
+{
     match &line.sheet {
-        SheetLine::Header(_) => Ok(()),
-        SheetLine::File(file) => mark_file(&mut marks, file, number),
-        SheetLine::Input(input) => mark_input(&mut marks, known, walk, input, number),
+        SheetLine::Header(_) => Ok(Vec::new(alloc)),
+        SheetLine::File(file) => file_entries(alloc, line.card, file, number),
+        SheetLine::Input(input) => input_entries(alloc, known, walk, line.card, input, number),
         SheetLine::Calculation(calculation) => {
-            mark_calculation(&mut marks, known, walk, line.card, calculation, number)
+            calculation_entries(
+                alloc,
+                known,
+                walk,
+                line.card,
+                calculation,
+                is_cut_by(later),
+                number,
+            )
         }
-        SheetLine::Output(output) => mark_output(&mut marks, known, walk, output, number),
+        SheetLine::Output(output) => {
+            output_entries(alloc, known, walk, line.card, output, number)
+        }
     }
 }
 
@@ -41,24 +56,47 @@ fn from_card(told: &[Diagnostic], card: u16) -> &[Diagnostic] {
     told.get(before..).unwrap_or(&[])
 }
 
+/// The entries to blame for the diagnostics of a line's card, which stand in front of those of the cards behind it.
+#[tactic(auto, using(crate::proofs::PartLemmas::more_on_line))]
+fn entries_of_card(
+    alloc: Global,
+    known: &Known,
+    walk: &Walk,
+    line: &Line,
+    later: &[Line],
+    told: &[Diagnostic],
+) -> Result<Vec<FaultyEntry>, AllocError>
+    ensures { IfOk result (λ found. are_tested_on line.now found.items ≡ true) }
+{
+    let mut found = Vec::new(alloc);
+    for diagnostic in told {
+        if diagnostic.card != line.card {
+            break;
+        }
+        let more = line_entries(alloc, known, walk, line, later, diagnostic.number)?;
+        found.extend_from_slice(&more)?;
+    }
+    Ok(found)
+}
+
 /// The entries to blame for diagnostics 5 to 12 of lines, in the order of the lines. Each line is looked at once.
+#[tactic(auto, using(crate::proofs::PartLemmas::more_on_lines))]
 pub fn later_entries(
     alloc: Global,
     lines: &[Line],
     told: &[Diagnostic],
-) -> Result<Vec<FaultyEntry>, AllocError> {
+) -> Result<Vec<FaultyEntry>, AllocError>
+    ensures { IfOk result (λ found. list_all (is_tested lines.now) found.items ≡ true) }
+{
     let known = Known::of(alloc, lines)?;
     let mut walk = Walk::new(alloc);
     let mut found = Vec::new(alloc);
     let mut rest = told;
-    for line in lines {
+    for (place, line) in lines.iter().enumerate() {
         rest = from_card(rest, line.card);
-        for diagnostic in rest {
-            if diagnostic.card != line.card {
-                break;
-            }
-            mark_line(&mut found, &known, &walk, line, diagnostic.number)?;
-        }
+        let later = lines.get(place + 1..).unwrap_or(&[]);
+        let more = entries_of_card(alloc, &known, &walk, line, later, rest)?;
+        found.extend_from_slice(&more)?;
         walk.pass(alloc, &known, line)?;
     }
     Ok(found)

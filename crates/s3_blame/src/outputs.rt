@@ -1,79 +1,79 @@
 //! O cards: 5, 8, 9 and 12.
 
-ghost use Rattle.std.specs.Prelude.{◌≡◌, not};
-ghost use Rattle.s3_program.specs.FileTable.{has_spacing as has_spacing_spec, is_addition_allowed};
+ghost use Rattle.std.specs.Prelude.{◌≡◌, true, map, IfOk};
+ghost use Rattle.s3_blame.specs.Inner.Tested.{span, are_of, of_output, of_output_line, of_output_field};
 
 use crate::known::Known;
-use crate::marks::Marks;
+use crate::parts::{Part, at_fault, entry};
 use crate::walk::Walk;
+use s3_diagnose::files::{allows_output, has_spacing, is_in_table, is_printer};
 use s3_edit::EditCode;
-use s3_lines::sheet::{
-    Device, FileLine, FileUse, OutputCard, OutputContent, OutputField, OutputForm, OutputLine,
-    Shape, Spacing,
-};
-use std::alloc::AllocError;
+use s3_lines::sheet::{OutputCard, OutputContent, OutputField, OutputForm, OutputLine, Shape};
+use s3_sheets::FaultyEntry;
+use std::alloc::{AllocError, Global};
 
-/// Marks what is to blame on an O card.
-pub fn mark_output(
-    marks: &mut Marks<'_>,
+/// The entries to blame for a number of an O card.
+pub fn output_entries(
+    alloc: Global,
     known: &Known,
     walk: &Walk,
+    card: u16,
     line: &OutputLine,
     number: u8,
-) -> Result<(), AllocError> {
+) -> Result<Vec<FaultyEntry>, AllocError>
+    ensures { IfOk result (λ found. are_of card number (of_output line.now number) found.items ≡ true) }
+{
     match line {
-        OutputLine::Line(card) => mark_line(marks, known, walk, card, number),
-        OutputLine::And(_) | OutputLine::Or(_) => marks.add(14, 16, true),
-        OutputLine::Field(field) => mark_field(marks, known, field, number),
+        OutputLine::Line(first) => line_entries(alloc, known, walk, card, first, number),
+        OutputLine::And(_) => at_fault(alloc, card, number, &[entry(14, 16, true)]),
+        OutputLine::Or(_) => at_fault(alloc, card, number, &[entry(14, 16, true)]),
+        OutputLine::Field(field) => field_entries(alloc, known, card, field, number),
     }
 }
 
-fn has_spacing(spacing: &Spacing) -> bool
-    ensures { result ≡ has_spacing_spec spacing.now }
-{
-    spacing.space_before.is_some()
-        || spacing.space_after.is_some()
-        || spacing.skip_before.is_some()
-        || spacing.skip_after.is_some()
-}
-
-/// Whether a file takes no lines like this one: with ADD or without.
-fn refuses(file: &FileLine, is_addition: bool) -> bool
-    ensures { result ≡ not (is_addition_allowed file.now.usage file.now.has_additions is_addition) }
-{
-    match file.usage {
-        FileUse::Input => !(file.has_additions && is_addition),
-        FileUse::Output if file.has_additions => !is_addition,
-        FileUse::Output => is_addition,
-        FileUse::Update => !(file.has_additions || !is_addition),
-    }
-}
-
-/// 5: the file's name, also where it is that of the line before. 12: the name and 16 to 18 where the file takes no such line, spaces and
-/// skips where they may not stand.
-fn mark_line(
-    marks: &mut Marks<'_>,
+/// The entries to blame for a number of the first card of a line. 5: the file's name, also where it is that of the line before.
+fn line_entries(
+    alloc: Global,
     known: &Known,
     walk: &Walk,
-    card: &OutputCard,
+    card: u16,
+    line: &OutputCard,
     number: u8,
-) -> Result<(), AllocError> {
-    let name = card.file.or(walk.output_file);
-    let Some(file) = name.and_then(|name| known.file(name)) else {
-        return marks.add(7, 14, true);
-    };
-    if number != 12 {
-        return marks.add(7, 14, true);
+) -> Result<Vec<FaultyEntry>, AllocError>
+    ensures { IfOk result (λ found. are_of card number (of_output_line number) found.items ≡ true) }
+{
+    if number == 12 {
+        at_fault(alloc, card, number, &disallowed_parts(known, walk, line))
+    } else {
+        at_fault(alloc, card, number, &[entry(7, 14, true)])
     }
-    let is_refused = refuses(&file, card.is_addition);
-    let is_spaced = has_spacing(&card.spacing) && !matches!(file.device, Device::Printer);
-    marks.add(7, 14, is_refused || !is_spaced)?;
-    marks.add(
-        16,
-        18,
-        is_refused && (card.is_addition || file.has_additions),
-    )?;
-    marks.add(if card.is_addition { 19 } else { 17 }, 22, is_spaced)
+}
+
+/// What 12 speaks of: the file's name, with 16 to 18 where the file takes no such line; spaces and skips where they may not stand.
+fn disallowed_parts(known: &Known, walk: &Walk, line: &OutputCard) -> [Part; 6]
+    ensures { map span result ≡ of_output_line 12 }
+{
+    let file = line
+        .file
+        .or(walk.output_file)
+        .and_then(|name| known.file(name));
+    let (is_refused, is_addition_wrong, is_spaced) = match &file {
+        Some(file) => (
+            !allows_output(file, line.is_addition),
+            is_in_table(file) && (line.is_addition || file.has_additions),
+            has_spacing(&line.spacing) && !is_printer(file.device),
+        ),
+        None => (true, false, false),
+    };
+    let spacing = &line.spacing;
+    [
+        entry(7, 14, is_refused || !is_spaced),
+        entry(16, 18, is_refused && is_addition_wrong),
+        entry(17, 17, is_spaced && spacing.space_before.is_some()),
+        entry(18, 18, is_spaced && spacing.space_after.is_some()),
+        entry(19, 20, is_spaced && spacing.skip_before.is_some()),
+        entry(21, 22, is_spaced && spacing.skip_after.is_some()),
+    ]
 }
 
 /// Whether an edit code can stand for a shape at all.
@@ -87,40 +87,53 @@ fn may_edit(code: EditCode, shape: Shape) -> bool {
     }
 }
 
-/// 5: the field. 8: an edit code or P that can't stand for it, else its end position with the edit code. 9: the file's name that is
-/// missing in front. 12: P.
-fn mark_field(
-    marks: &mut Marks<'_>,
+/// The entries to blame for a number of a field's card. 5: the field. 9: the file's name that is missing in front. 12: P.
+fn field_entries(
+    alloc: Global,
     known: &Known,
+    card: u16,
     field: &OutputField,
     number: u8,
-) -> Result<(), AllocError> {
+) -> Result<Vec<FaultyEntry>, AllocError>
+    ensures { IfOk result (λ found. are_of card number (of_output_field number) found.items ≡ true) }
+{
     match number {
-        5 => marks.add(32, 37, true),
-        9 => marks.add(7, 14, true),
-        12 => marks.add(44, 44, true),
-        _ => match &field.content {
-            OutputContent::Constant(_) => Ok(()),
-            OutputContent::Field(put) => mark_editing(marks, put.form, known.field(put.name)),
-        },
+        5 => at_fault(alloc, card, number, &[entry(32, 37, true)]),
+        9 => at_fault(alloc, card, number, &[entry(7, 14, true)]),
+        12 => at_fault(alloc, card, number, &[entry(44, 44, true)]),
+        _ => at_fault(alloc, card, number, &editing_parts(known, field)),
     }
 }
 
-fn mark_editing(
-    marks: &mut Marks<'_>,
-    form: OutputForm,
-    shape: Option<Shape>,
-) -> Result<(), AllocError> {
+/// What 8 speaks of: an edit code or P that can't stand for the field, else its end position with the edit code.
+fn editing_parts(known: &Known, field: &OutputField) -> [Part; 3]
+    ensures { map span result ≡ of_output_field 8 }
+{
+    let (is_code, is_end, is_packed) = match &field.content {
+        OutputContent::Constant(_) => (false, false, false),
+        OutputContent::Field(put) => wrong_editing(put.form, known.field(put.name)),
+    };
+    [
+        entry(38, 38, is_code),
+        entry(40, 43, is_end),
+        entry(44, 44, is_packed),
+    ]
+}
+
+/// Whether the edit code, the end position, or P of a field of this shape is to blame.
+fn wrong_editing(form: OutputForm, shape: Option<Shape>) -> (bool, bool, bool) {
     let Some(shape) = shape else {
-        return Ok(());
+        return (false, false, false);
     };
-    let is_wrong_form = match form {
-        OutputForm::Plain => false,
-        OutputForm::Packed => matches!(shape, Shape::Alphanumeric(_)),
-        OutputForm::Edited(code) => !may_edit(code, shape),
-    };
-    let is_edited = matches!(form, OutputForm::Edited(_));
-    marks.add(44, 44, is_wrong_form && !is_edited)?;
-    marks.add(38, 38, is_wrong_form && is_edited)?;
-    marks.add(40, 43, !is_wrong_form)
+    match form {
+        OutputForm::Plain => (false, true, false),
+        OutputForm::Packed => {
+            let is_text = matches!(shape, Shape::Alphanumeric(_));
+            (false, !is_text, is_text)
+        }
+        OutputForm::Edited(code) => {
+            let may_edit = may_edit(code, shape);
+            (!may_edit, may_edit, false)
+        }
+    }
 }

@@ -141,6 +141,14 @@ impl Walk {
         None
     }
 
+    /// Whether a field with this relation counts in a type of the group: it has none, or one to an indicator of these types.
+    pub fn counts(&self, relation: Option<Indicator>) -> bool {
+        match relation {
+            Some(relation) => self.types.iter().any(|indicator| *indicator == relation),
+            None => true,
+        }
+    }
+
     /// The level of a C line's group: its own, or that of the group that it goes on with.
     pub fn time_of(&self, line: &CalculationLine) -> Option<CalculationTime> {
         match line.time {

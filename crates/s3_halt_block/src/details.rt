@@ -1,12 +1,12 @@
 //! The details of faulty statements and of sources with diagnostics.
 
 use crate::cards::DeckCards;
-use s3_blame::{FaultyEntry, columns_of, diagnostic_words, entries_of, push_marks};
+use s3_blame::{FaultyEntry, columns_of, diagnostic_words, entries_of};
 use s3_deck_jobs::Statements;
 use s3_evidence::Begun;
 use s3_lines::Diagnostic;
 use s3_operator::{Halt, HaltCode};
-use s3_ruled::{Columns, without_blanks_behind};
+use s3_ruled::{Columns, push_marks, push_under_ruler, without_blanks_behind};
 use std::alloc::{AllocError, Global};
 
 /// The most details that are shown.
@@ -29,7 +29,7 @@ pub(crate) fn push_details(
     for (card, number) in halt.details.iter().take(MOST) {
         let place = usize::from(*card);
         if place != before {
-            push_card_at_fault(text, cards, place)?;
+            push_card_at_fault(text, cards, place, last_column(&entries, *card))?;
         }
         before = place;
         let diagnostic = Diagnostic {
@@ -72,7 +72,8 @@ fn entries_at_fault(
     entries_of(alloc, cards.deck, from, to, &told)
 }
 
-/// The columns to mark for a detail: of a faulty statement all that it has, of the RUN card its word, else those to blame.
+/// The columns to mark for a detail: of a faulty statement all that it has, of a blank one the first, of the RUN card its word, else
+/// those to blame.
 fn marked_for(
     alloc: Global,
     cards: DeckCards<'_>,
@@ -84,7 +85,7 @@ fn marked_for(
     let mut marked = Vec::new(alloc);
     if matches!(code, HaltCode::FaultyJob) {
         if let Some(card) = cards.card(usize::from(diagnostic.card)) {
-            let to = without_blanks_behind(card).len();
+            let to = without_blanks_behind(card).len().max(1);
             marked.push(Columns { from: 1, to })?;
         }
     } else if begun
@@ -108,16 +109,31 @@ fn push_marked(text: &mut String, marked: &[Columns]) -> Result<(), AllocError> 
     text.push('\n')
 }
 
-/// Appends a card that has details.
+/// The last column of a card that is to blame for a diagnostic; 0 where none is.
+fn last_column(entries: &[FaultyEntry], card: u16) -> usize {
+    let mut last = 0;
+    for entry in entries {
+        if entry.card == card {
+            last = entry.to.max(last);
+        }
+    }
+    last
+}
+
+/// Appends a card that has details, under a ruler that has so many columns at least.
 fn push_card_at_fault(
     text: &mut String,
     cards: DeckCards<'_>,
     number: usize,
+    columns: usize,
 ) -> Result<(), AllocError> {
     text.push_str("  ")?;
     cards.push_place(text, number)?;
     text.push('\n')?;
-    cards.push_card(text, number, &[])
+    match cards.card(number) {
+        Some(card) => push_under_ruler(text, card, columns.max(1)),
+        None => Ok(()),
+    }
 }
 
 /// Appends what a detail means.

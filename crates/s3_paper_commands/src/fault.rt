@@ -38,6 +38,15 @@ impl<'a> CommandFault<'a> {
         }
     }
 
+    /// What a failed write of standard output is.
+    pub fn of_output(error: &io::Error) -> CommandFault<'a> {
+        if error.kind() == io::ErrorKind::OutOfMemory {
+            CommandFault::NoMemory
+        } else {
+            CommandFault::Output
+        }
+    }
+
     /// Writes the line of a refusal, and gives its exit status, 1 or 3.
     pub fn tell<W: Write>(&self, writer: &mut W) -> u8
         ensures { result ≤ 3 }

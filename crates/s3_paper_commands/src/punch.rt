@@ -4,7 +4,7 @@ ghost use Rattle.std.specs.Prelude.{◌≤◌};
 use crate::fault::CommandFault;
 use clap::{Arg, ArgAction, ArgMatches, Command};
 use s3_host_files::read_within;
-use s3_punch::{Begun, Changes, LineChange, PunchFault, Punched, punch};
+use s3_punch::{Begun, Changes, LineChange, PunchFault, PunchReason, Punched, punch};
 use std::alloc::{AllocError, Global};
 use std::io::Write;
 
@@ -154,11 +154,31 @@ fn tell_faults(rt: &HostRuntime, file: &str, faults: &[PunchFault]) {
         let line = fault.line;
         let column = fault.column;
         let reason = fault.reason;
-        let _ = writeln!(
-            rt.stderr(),
-            "{file}, line {line}, column {column}: {reason}."
-        );
+        let _ = match unprintable(reason) {
+            Some(code) => writeln!(
+                rt.stderr(),
+                "{file}, line {line}, column {column}: no card has the unprintable character U+{code:04X}; take it out."
+            ),
+            None => writeln!(
+                rt.stderr(),
+                "{file}, line {line}, column {column}: {reason}."
+            ),
+        };
     }
+}
+
+/// The code of the character that a reason is about, where a terminal wouldn't show it, or would obey it: a control character, or one
+/// that only joins, parts or turns the characters beside it.
+fn unprintable(reason: PunchReason) -> Option<u32> {
+    let PunchReason::NoCardHas(character) = reason else {
+        return None;
+    };
+    let code = character as u32;
+    let is_shown = !matches!(
+        code,
+        0..=0x1f | 0x7f..=0x9f | 0xad | 0x200b..=0x200f | 0x2028..=0x202e | 0x2060..=0x206f | 0xfeff
+    );
+    if is_shown { None } else { Some(code) }
 }
 
 /// Tells each line of a file that was changed.

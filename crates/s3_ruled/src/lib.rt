@@ -9,4 +9,4 @@ mod characters;
 mod ruled;
 
 pub use characters::{push_characters, push_name, without_blanks_behind};
-pub use ruled::{Columns, push_ruled};
+pub use ruled::{Columns, push_marks, push_ruled, push_under_ruler};

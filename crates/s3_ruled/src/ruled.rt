@@ -15,19 +15,26 @@ pub struct Columns {
     pub to: usize,
 }
 
+/// Appends EBCDIC codes under a ruler of columns, without the blanks behind them. The ruler has so many columns at least.
+pub fn push_under_ruler(text: &mut String, codes: &[u8], columns: usize) -> Result<(), AllocError> {
+    let shown = without_blanks_behind(codes);
+    push_ruler(text, shown.len().max(columns))?;
+    text.push_str(MARGIN)?;
+    push_characters(text, shown)?;
+    text.push('\n')
+}
+
 /// Appends EBCDIC codes under a ruler of columns, without the blanks behind them, and a line that marks some columns, where
 /// any are to be marked.
 pub fn push_ruled(text: &mut String, codes: &[u8], marked: &[Columns]) -> Result<(), AllocError> {
-    let shown = without_blanks_behind(codes);
     let last = last_marked(marked);
-    push_ruler(text, shown.len().max(last))?;
-    text.push_str(MARGIN)?;
-    push_characters(text, shown)?;
-    text.push('\n')?;
+    push_under_ruler(text, codes, last)?;
     if last == 0 {
         return Ok(());
     }
-    push_marks(text, marked, last)
+    text.push_str(MARGIN)?;
+    push_marks(text, marked)?;
+    text.push('\n')
 }
 
 /// The last column that is marked; 0 where none is.
@@ -55,13 +62,12 @@ fn push_ruler(text: &mut String, columns: usize) -> Result<(), AllocError> {
     text.push('\n')
 }
 
-/// Appends a line with `^` under each column that is marked.
-fn push_marks(text: &mut String, marked: &[Columns], last: usize) -> Result<(), AllocError> {
-    text.push_str(MARGIN)?;
-    for place in 0..last {
+/// Appends `^` under each column that is marked, and blanks under those between them. Nothing is appended where none is marked.
+pub fn push_marks(text: &mut String, marked: &[Columns]) -> Result<(), AllocError> {
+    for place in 0..last_marked(marked) {
         text.push(if is_marked(marked, place) { '^' } else { ' ' })?;
     }
-    text.push('\n')
+    Ok(())
 }
 
 /// Whether the column at a place, from 0, is marked.

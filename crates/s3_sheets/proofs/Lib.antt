@@ -6,6 +6,7 @@ pub mod HeldLemmas
 pub mod InsideLemmas
 pub mod KnownLemmas
 pub mod LineLemmas
+pub mod MarkRows
 pub mod NumberLemmas
 pub mod OperationLemmas
 pub mod PartLemmas

@@ -1,22 +1,28 @@
 -- The entries at fault are those by which a card has its numbers.
-use Rattle.std.proofs.Common.{◌≡◌, ℕ, ◌+◌, ◌<◌, ◌==◌, List, [], ◌∷◌, ◌++◌, Bool, true, false, refl, sym, ◌∙◌, ap, arith, subst, inl, inr, length, take, get_or, add-one, suc}
-use Rattle.std.specs.Prelude.{◌||◌, ◌&&◌, not, map, filter, Option, if◌then◌else◌}
+use Rattle.std.proofs.Common.{◌≡◌, ℕ, ◌+◌, ◌<◌, ◌==◌, List, [], ◌∷◌, ◌++◌, Bool, true, false, refl, sym, ◌∙◌, ap, arith, subst, inl, inr, length, take, get_or, add-one}
+use Rattle.std.specs.Prelude.{◌||◌, ◌&&◌, ◌-◌, not, map, filter, drop, codes, Option, Some, None, is_some, unwrap_or, nat_le, nat_lt, if◌then◌else◌}
 use Rattle.std.specs.List.{list_any}
 use Rattle.std.proofs.lemmas.Bool.{cases_Bool}
+use Rattle.std.proofs.lemmas.Bool.Decides.{nat_tests}
 use Rattle.std.proofs.lemmas.List.{map-append, take_more, take_all, get_or_default}
 use Rattle.std.proofs.lemmas.List.Elements.{filter-append}
 use Rattle.std.proofs.lemmas.List.Folds.{list_any-append}
-use Rattle.s3_sheets.specs.Lines.{card_at, file_line, is_addition}
+use Rattle.s3_sheets.specs.Lines.{card_at, file_line, field_line, form_of, key_field, definition_of, has_index, is_addition}
 use Rattle.s3_sheets.specs.Kinds.{kind_of}
-use Rattle.s3_sheets.specs.Rules.{no_faults, one_fault, rule_faults, allows, fault_of, is_blank_or}
+use Rattle.s3_sheets.specs.Rules.{no_faults, one_fault, rule_faults, allows, fault_of, is_blank_or, Blank, Number}
 use Rattle.s3_sheets.specs.Rules as spec
-use Rattle.s3_sheets.specs.Columns.{columns, number_of, number_between}
+use Rattle.s3_sheets.specs.Columns.{column, columns, only, number_of, number_between}
 use Rattle.s3_sheets.specs.Combinations.{combined_faults, has_stray_entry, has_bad_extent, has_bad_space, has_bad_content, has_bad_positions, has_bad_factor, has_bad_definition, has_bad_addition, has_no_content, has_early_constant, is_with_index, is_key_within, are_filled, is_of_date}
 use Rattle.s3_cards.specs.Names.{name_of}
-use Rattle.s3_lines.specs.Ranges.{is_between, longest_record, is_printer, is_selected}
-use Rattle.s3_sheets.specs.Sheets.{before, lacks_file, exceeds, kind_at, standing_at, card_holds, holds, faults_of, names_position_past, is_outside, length_for}
-use Rattle.s3_sheets.specs.Tables.{rules_of}
-use Rattle.s3_sheets.specs.Inner.Parts.{fault_number, rule_part, combined_parts, position_parts, standing_parts, parts_with, length_at, parts_at, entry_of, fails, entries_of, entries_below, faulty_entries, has_entry, IsToldByEntries}
+use Rattle.s3_cards.specs.declared.ebcdic.TheConstants.{LETTER_P}
+use Rattle.s3_lines.specs.Ranges.{is_between, if_given, is_printer, is_selected, shape_in_range, shape_of_positions}
+use Rattle.s3_lines.specs.declared.sheet.FieldForm.{FieldForm}
+use Rattle.s3_lines.specs.declared.sheet.KeyField.{KeyField}
+use Rattle.s3_lines.specs.declared.sheet.Shape.{Shape}
+use Rattle.s3_lines.specs.declared.sheet.Shape.TheVariants.{Alphanumeric, Numeric}
+use Rattle.s3_sheets.specs.Sheets.{before, lacks_file, exceeds, kind_at, standing_at, card_holds, faults_of, names_position_past, is_outside, length_for}
+use Rattle.s3_sheets.specs.Tables.{rules_of, rule, maybe, field_rules}
+use Rattle.s3_sheets.specs.Inner.Parts.{fault_number, rule_part, combined_parts, position_parts, standing_parts, parts_with, length_at, parts_at, entry_of, fails, entries_of, entries_below, faulty_entries, has_entry, has_record_length, has_surplus_decimals, has_surplus, IsToldByEntries}
 use Rattle.s3_sheets.specs.Inner.RuleViews.{rule_view}
 use Rattle.s3_sheets.specs.Inner.Progress.{Kept, nothing_kept, length_named, kept_behind, standing_behind}
 use Rattle.s3_sheets.proofs.ProgressLemmas.{IsKept, none_kept, kept_next, standing_same}
@@ -290,10 +296,131 @@ stray false true false true o = refl
 stray false true false false o = or_false o
 stray false false k l o = or_false o
 
-extent : (l x : Bool) → (l || (x || (x || false))) ≡ (l || x)
-extent true x = refl
-extent false true = refl
-extent false false = refl
+-- a key as it is read: of an indexed file, where its length and its start are known
+key_read : Bool → Option ℕ → Option ℕ → Option KeyField
+key_read indexed size start = if indexed then key_field size start else None
+
+twice : (x : Bool) → (x || (x || false)) ≡ x
+twice true = refl
+twice false = refl
+
+-- a record length, and a key that is missing or ends past it
+extent : (l w : Bool) (n : ℕ) (size start : Option ℕ)
+    → (not l
+    || (((w && not (is_some size)) || (l && (is_some (key_read w size start) && not (is_key_within n (key_read w size start)))))
+    || (((w && not (is_some start)) || (l && (is_some (key_read w size start) && not (is_key_within n (key_read w size start))))) || false)))
+    ≡ (not l || (w && not (is_key_within n (key_read w size start))))
+unfolding key_read
+extent false w n size start = refl
+extent true false n size start = refl
+extent true true n None start = refl
+extent true true n (Some size) None = refl
+extent true true n (Some size) (Some start) = twice (not (is_key_within n (key_field (Some size) (Some start))))
+
+-- where there are more decimals than digits the shape is out of its range
+surplus_digits : (a b c : Bool) → (not (a && b && c) || (a && not c)) ≡ not (a && b && c)
+surplus_digits true true true = refl
+surplus_digits true true false = refl
+surplus_digits true false c = refl
+surplus_digits false b c = refl
+
+surplus : (shape : Shape) → (not (shape_in_range shape) || has_surplus_decimals shape) ≡ not (shape_in_range shape)
+surplus (Alphanumeric size) = or_false (not (is_between 1 256 size))
+surplus (Numeric digits decimals) = surplus_digits (is_between 1 15 digits) (nat_le decimals 9) (nat_le decimals digits)
+
+defined_surplus : (defined : Option Shape) → (not (if_given shape_in_range defined) || (has_surplus defined || false)) ≡ not (if_given shape_in_range defined)
+defined_surplus None = refl
+defined_surplus (Some shape) = ap (λ b. not (shape_in_range shape) || b) (or_false (has_surplus_decimals shape)) ∙ surplus shape
+
+-- a first position past a record, and one past the last position
+past_ends : (limit first last : ℕ) → (not (nat_le first last) || (nat_lt limit first || nat_lt limit last)) ≡ (not (nat_le first last) || nat_lt limit last)
+past_ends limit first last = grind (arith, nat_tests)
+
+-- the parts of a field whose positions are known: in order or not, in range or not, its decimals over its digits, its positions past
+measured : (o s d a b : Bool) → (not s || d) ≡ not s → (not o || (a || b)) ≡ (not o || b)
+    → ((not (o && s) || ((o && d) || false)) || (a || (b || false))) ≡ (not (o && s) || b)
+measured false s d a b few ends = refl
+measured true false d a b few ends = refl
+measured true true d a b few ends = (λ i. (few i || false) || (a || or_false b i)) ∙ ends
+
+-- the same where the record length isn't known
+measured_alone : (o s d : Bool) → (not s || d) ≡ not s → ((not (o && s) || ((o && d) || false)) || false) ≡ (not (o && s) || false)
+measured_alone o s d few = measured o s d false false few refl
+
+fields_measured : (first last : ℕ) (form : FieldForm) (limit : Option ℕ)
+    → ((not (nat_le first last && shape_in_range (shape_of_positions form (last + 1 - first)))
+    || ((nat_le first last && has_surplus_decimals (shape_of_positions form (last + 1 - first))) || false))
+    || (exceeds (Some first) limit || (exceeds (Some last) limit || false)))
+    ≡ (not (nat_le first last && shape_in_range (shape_of_positions form (last + 1 - first))) || exceeds (Some last) limit)
+fields_measured first last form None =
+    measured_alone (nat_le first last) (shape_in_range (shape_of_positions form (last + 1 - first)))
+    (has_surplus_decimals (shape_of_positions form (last + 1 - first))) (surplus (shape_of_positions form (last + 1 - first)))
+fields_measured first last form (Some limit) =
+    measured (nat_le first last) (shape_in_range (shape_of_positions form (last + 1 - first)))
+    (has_surplus_decimals (shape_of_positions form (last + 1 - first))) (nat_lt limit first) (nat_lt limit last)
+    (surplus (shape_of_positions form (last + 1 - first))) (past_ends limit first last)
+
+-- a position, where it is known
+position : Option ℕ → Option ℕ
+position entry = only (is_between 1 9999) entry
+
+field_known : (first last : Option ℕ) → Bool
+field_known first last = is_some (position first) && is_some (position last)
+
+field_bad : (first last : ℕ) (form : FieldForm) → Bool
+field_bad first last form = not (nat_le first last && shape_in_range (shape_of_positions form (last + 1 - first)))
+
+field_surplus : (first last : ℕ) (form : FieldForm) → Bool
+field_surplus first last form = nat_le first last && has_surplus_decimals (shape_of_positions form (last + 1 - first))
+
+-- with the rules r, one of which says that a position isn't known
+field_told : (r : Bool) (first last : Option ℕ) (form : FieldForm) (limit : Option ℕ)
+    → (is_some (position first) ≡ false → r ≡ true) → (is_some (position last) ≡ false → r ≡ true)
+    → (r || (((field_known first last && field_bad (unwrap_or (position first) 1) (unwrap_or (position last) 1) form)
+    || ((field_known first last && field_surplus (unwrap_or (position first) 1) (unwrap_or (position last) 1) form) || false))
+    || (exceeds first limit || (exceeds last limit || false))))
+    ≡ (r || (field_bad (unwrap_or (position first) 1) (unwrap_or (position last) 1) form || exceeds last limit))
+unfolding position field_known field_bad field_surplus
+field_told r None last form limit no_first no_last = rw (no_first refl) refl
+field_told r (Some first) None form limit no_first no_last = rw (no_last refl) refl
+field_told r (Some first) (Some last) form limit no_first no_last = elim (cases_Bool (is_between 1 9999 first)) [
+  | inl good ↦ elim (cases_Bool (is_between 1 9999 last)) [
+    | inl fine ↦ rw (good, fine) (ap (λ b. r || b) (fields_measured first last form limit))
+    | inr bad ↦ let all : r ≡ true = no_last (ap (λ b. is_some (if b then Some last else None)) bad) in rw all refl
+  ]
+  | inr bad ↦ let all : r ≡ true = no_first (ap (λ b. is_some (if b then Some first else None)) bad) in rw all refl
+]
+
+-- the rules of a field line fail where a position isn't known
+or_third : (a b c d : Bool) → c ≡ true → (a || (b || (c || d))) ≡ true
+or_third true b c d is = refl
+or_third false true c d is = refl
+or_third false false c d is = ap (λ x. x || d) is
+
+or_fourth : (a b c d e : Bool) → d ≡ true → (a || (b || (c || (d || e)))) ≡ true
+or_fourth true b c d e is = refl
+or_fourth false true c d e is = refl
+or_fourth false false true d e is = refl
+or_fourth false false false d e is = ap (λ x. x || e) is
+
+number_at_fault : (allowed : Bool) → allowed ≡ false → (if allowed then no_faults else one_fault WrongNumber).number ≡ true
+number_at_fault allowed bad = ap (λ b. (if b then no_faults else one_fault WrongNumber).number) bad
+
+first_told : (card : List ℕ) → is_some (number_between 1 9999 (columns card 44 47)) ≡ false
+    → list_any (λ rule. (rule_faults card rule).number) field_rules ≡ true
+unfolding field_rules rule_faults
+first_told card unknown =
+    or_third ((rule_faults card (rule 7 42 Blank)).number) ((rule_faults card (rule 43 43 (maybe (codes "P")))).number) ((rule_faults card (rule 44 47 (Number 1 9999))).number)
+    (list_any (λ rule. (rule_faults card rule).number) (drop 3 field_rules))
+    (number_at_fault (is_some (number_between 1 9999 (columns card 44 47))) unknown)
+
+last_told : (card : List ℕ) → is_some (number_between 1 9999 (columns card 48 51)) ≡ false
+    → list_any (λ rule. (rule_faults card rule).number) field_rules ≡ true
+unfolding field_rules rule_faults
+last_told card unknown =
+    or_fourth ((rule_faults card (rule 7 42 Blank)).number) ((rule_faults card (rule 43 43 (maybe (codes "P")))).number) ((rule_faults card (rule 44 47 (Number 1 9999))).number)
+    ((rule_faults card (rule 48 51 (Number 1 9999))).number) (list_any (λ rule. (rule_faults card rule).number) (drop 4 field_rules))
+    (number_at_fault (is_some (number_between 1 9999 (columns card 48 51))) unknown)
 
 spaces : (n x y : Bool) → ((n && x) || ((n && y) || false)) ≡ (n && (x || y))
 spaces true true y = refl
@@ -328,10 +455,10 @@ content false false false true false true = refl
 content false false false true false false = refl
 content false false false false p d = refl
 
-codes : (a b c : Bool) → (a || (b || (c || false))) ≡ (a || b || c)
-codes true b c = refl
-codes false true c = refl
-codes false false c = or_false c
+three_positions : (a b c : Bool) → (a || (b || (c || false))) ≡ (a || b || c)
+three_positions true b c = refl
+three_positions false true c = refl
+three_positions false false c = or_false c
 
 combined_told_2 : (kind : CardKind) (card : List ℕ) → list_any (is_told 2) (combined_parts kind card) ≡ (combined_faults kind card).entry
 unfolding is_told has_stray_entry has_bad_content
@@ -364,22 +491,6 @@ combined_told_3 OutputLine card = refl
 combined_told_3 OutputAnd card = refl
 combined_told_3 OutputOr card = refl
 combined_told_3 OutputField card = or_false (has_no_content card)
-
-combined_told_4 : (kind : CardKind) (card : List ℕ) → list_any (is_told 4) (combined_parts kind card) ≡ (combined_faults kind card).number
-unfolding is_told has_bad_extent has_bad_space
-combined_told_4 Comment card = refl
-combined_told_4 Unknown card = refl
-combined_told_4 Header card = refl
-combined_told_4 File card = extent (not (is_between 1 (longest_record (file_line card).device) (file_line card).record_length)) (is_with_index (file_line card) && not (is_key_within (file_line card).record_length (file_line card).key))
-combined_told_4 Record card = refl
-combined_told_4 RecordAnd card = refl
-combined_told_4 RecordOr card = refl
-combined_told_4 Field card = or_false (has_bad_positions card)
-combined_told_4 Calculation card = or_false (has_bad_definition card)
-combined_told_4 OutputLine card = spaces (not (is_addition card)) (not (is_blank_or (number_between 0 3) (columns card 17 17))) (not (is_blank_or (number_between 0 3) (columns card 18 18)))
-combined_told_4 OutputAnd card = refl
-combined_told_4 OutputOr card = refl
-combined_told_4 OutputField card = or_false (has_early_constant card)
 
 combined_told_1 : (kind : CardKind) (card : List ℕ) → list_any (is_told 1) (combined_parts kind card) ≡ false
 unfolding is_told
@@ -414,21 +525,41 @@ combined_told_13 OutputOr card = refl
 combined_told_13 OutputField card = refl
 
 -- ---- positions
-positions_told_4 : (kind : CardKind) (card : List ℕ) (limit : Option ℕ) → list_any (is_told 4) (position_parts kind card limit) ≡ names_position_past kind card limit
-unfolding is_told
-positions_told_4 Comment card limit = refl
-positions_told_4 Unknown card limit = refl
-positions_told_4 Header card limit = refl
-positions_told_4 File card limit = refl
-positions_told_4 Record card limit = codes (exceeds (number_of (columns card 21 24)) limit) (exceeds (number_of (columns card 28 31)) limit) (exceeds (number_of (columns card 35 38)) limit)
-positions_told_4 RecordAnd card limit = codes (exceeds (number_of (columns card 21 24)) limit) (exceeds (number_of (columns card 28 31)) limit) (exceeds (number_of (columns card 35 38)) limit)
-positions_told_4 RecordOr card limit = codes (exceeds (number_of (columns card 21 24)) limit) (exceeds (number_of (columns card 28 31)) limit) (exceeds (number_of (columns card 35 38)) limit)
-positions_told_4 Field card limit = or_false (exceeds (number_of (columns card 48 51)) limit)
-positions_told_4 Calculation card limit = refl
-positions_told_4 OutputLine card limit = refl
-positions_told_4 OutputAnd card limit = refl
-positions_told_4 OutputOr card limit = refl
-positions_told_4 OutputField card limit = or_false (exceeds (number_of (columns card 40 43)) limit)
+-- by the rules, by columns together and by positions: what is at fault by one of them may be by another
+told_by_all_4 : (kind : CardKind) (card : List ℕ) (limit : Option ℕ)
+    → (list_any (λ rule. (rule_faults card rule).number) (rules_of kind)
+    || (list_any (is_told 4) (combined_parts kind card) || list_any (is_told 4) (position_parts kind card limit)))
+    ≡ (list_any (λ rule. (rule_faults card rule).number) (rules_of kind) || ((combined_faults kind card).number || names_position_past kind card limit))
+unfolding is_told has_bad_extent has_bad_space has_bad_positions has_bad_definition file_line field_line number_between key_read position field_known field_bad field_surplus
+told_by_all_4 Comment card limit = refl
+told_by_all_4 Unknown card limit = refl
+told_by_all_4 Header card limit = refl
+told_by_all_4 File card limit =
+    ap (λ b. list_any (λ rule. (rule_faults card rule).number) (rules_of File) || (b || false))
+    (extent (has_record_length (file_line card)) (has_index card) (file_line card).record_length
+    (number_between 1 29 (columns card 29 30)) (number_between 1 9999 (columns card 35 38)))
+told_by_all_4 Record card limit =
+    ap (λ b. list_any (λ rule. (rule_faults card rule).number) (rules_of Record) || b)
+    (three_positions (exceeds (number_of (columns card 21 24)) limit) (exceeds (number_of (columns card 28 31)) limit) (exceeds (number_of (columns card 35 38)) limit))
+told_by_all_4 RecordAnd card limit =
+    ap (λ b. list_any (λ rule. (rule_faults card rule).number) (rules_of RecordAnd) || b)
+    (three_positions (exceeds (number_of (columns card 21 24)) limit) (exceeds (number_of (columns card 28 31)) limit) (exceeds (number_of (columns card 35 38)) limit))
+told_by_all_4 RecordOr card limit =
+    ap (λ b. list_any (λ rule. (rule_faults card rule).number) (rules_of RecordOr) || b)
+    (three_positions (exceeds (number_of (columns card 21 24)) limit) (exceeds (number_of (columns card 28 31)) limit) (exceeds (number_of (columns card 35 38)) limit))
+told_by_all_4 Field card limit =
+    field_told (list_any (λ rule. (rule_faults card rule).number) (rules_of Field))
+    (number_of (columns card 44 47)) (number_of (columns card 48 51)) (form_of (column card 43 == LETTER_P) (columns card 52 52)) limit
+    (first_told card) (last_told card)
+told_by_all_4 Calculation card limit =
+    ap (λ b. list_any (λ rule. (rule_faults card rule).number) (rules_of Calculation) || (b || false)) (defined_surplus (definition_of (columns card 49 51) (columns card 52 52)))
+told_by_all_4 OutputLine card limit =
+    ap (λ b. list_any (λ rule. (rule_faults card rule).number) (rules_of OutputLine) || (b || false))
+    (spaces (not (is_addition card)) (not (is_blank_or (number_between 0 3) (columns card 17 17))) (not (is_blank_or (number_between 0 3) (columns card 18 18))))
+told_by_all_4 OutputAnd card limit = refl
+told_by_all_4 OutputOr card limit = refl
+told_by_all_4 OutputField card limit =
+    (λ i. list_any (λ rule. (rule_faults card rule).number) (rules_of OutputField) || (or_false (has_early_constant card) i || or_false (exceeds (number_of (columns card 40 43)) limit) i))
 
 positions_told_1 : (kind : CardKind) (card : List ℕ) (limit : Option ℕ) → list_any (is_told 1) (position_parts kind card limit) ≡ false
 unfolding is_told
@@ -550,8 +681,9 @@ unfolding card_holds faults_of is_outside
 told_4 card cards i =
     told_of 4 card (parts_at cards i)
     ∙ (told_together 4 (kind_at cards i) (card_at cards i) (standing_at cards i) (length_at cards i)
-    ∙ ((λ j. standing_told_4 (kind_at cards i) (standing_at cards i) j || (rules_told_4 (card_at cards i) (rules_of (kind_at cards i)) j || (combined_told_4 (kind_at cards i) (card_at cards i) j || positions_told_4 (kind_at cards i) (card_at cards i) (length_at cards i) j)))
-    ∙ sym (or_assoc (list_any (λ rule. (rule_faults (card_at cards i) rule).number) (rules_of (kind_at cards i))) ((combined_faults (kind_at cards i) (card_at cards i)).number) (is_outside cards i))))
+    ∙ ((λ j. standing_told_4 (kind_at cards i) (standing_at cards i) j || (rules_told_4 (card_at cards i) (rules_of (kind_at cards i)) j || (list_any (is_told 4) (combined_parts (kind_at cards i) (card_at cards i)) || list_any (is_told 4) (position_parts (kind_at cards i) (card_at cards i) (length_at cards i)))))
+    ∙ (told_by_all_4 (kind_at cards i) (card_at cards i) (length_at cards i)
+    ∙ sym (or_assoc (list_any (λ rule. (rule_faults (card_at cards i) rule).number) (rules_of (kind_at cards i))) ((combined_faults (kind_at cards i) (card_at cards i)).number) (is_outside cards i)))))
 
 pub told_13 : IsToldByEntries 13
 unfolding card_holds faults_of is_outside

@@ -27,6 +27,7 @@ pub fn are_filled(card: &Card, from: usize, to: usize) -> bool
     !are_blank(columns(card, from, to))
 }
 
+/// Whether a device is a printer.
 pub fn is_printer(device: Device) -> bool
     ensures { result ≡ printer_spec device }
 {
@@ -43,6 +44,7 @@ pub fn is_selected(designation: Option<Designation>) -> bool
     )
 }
 
+/// Whether a file has keys, and an index for them on the pack.
 pub fn is_with_index(file: &FileLine) -> bool
     ensures { result ≡ with_index_spec file.now }
 {

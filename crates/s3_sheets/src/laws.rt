@@ -3,6 +3,7 @@
 ghost use Rattle.std.specs.Prelude.{◌≡◌, ◌∷◌, [], map, codes};
 ghost use Rattle.s3_sheets.specs.Lines.{lines_of};
 ghost use Rattle.s3_sheets.specs.Sheets.{fields};
+ghost use Rattle.s3_sheets.specs.Inner.MarkSamples.{AreMarked, file_marks, field_marks, calculation_marks};
 ghost use Rattle.s3_sheets.specs.Inner.Samples.{AreAsWanted, found_in, sources, pairs_of_sources, many_files, defining_cards, named, whole_source, whole_lines, order_rows, file_rows_1, file_rows_2, file_rows_3, record_rows_1, record_rows_2, field_rows_1, field_rows_2, calculation_rows_1, calculation_rows_2, calculation_rows_3, line_rows_1, line_rows_2, put_rows_1, put_rows_2, put_rows_3};
 
 /// Cards that are wrong in one entry or several get the numbers of their faults, and right ones none.
@@ -23,6 +24,13 @@ pub fn cards_get_their_numbers()
     ensures put_1 { AreAsWanted put_rows_1 }
     ensures put_2 { AreAsWanted put_rows_2 }
     ensures put_3 { AreAsWanted put_rows_3 }
+{}
+
+/// Cards that have number 4 have the entries at fault that they must have: of entries that don't go together those that are wrong.
+pub fn cards_get_their_marks()
+    ensures file { AreMarked file_marks }
+    ensures field { AreMarked field_marks }
+    ensures calculation { AreMarked calculation_marks }
 {}
 
 /// What is wrong with a card decides what is known behind it.

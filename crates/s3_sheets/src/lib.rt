@@ -12,7 +12,8 @@
 //! - a constant is read as the text that was written, with its apostrophes twice, and nothing else is a constant
 //!   (`constants_as_written`);
 //! - 361 cards and eight sources, worked by hand, have the numbers that they must have, and a source with every entry has its typed
-//!   lines: the definitions are computed on them (`cards_get_their_numbers`, `sources_get_their_pairs`, `every_entry_is_read`).
+//!   lines: the definitions are computed on them (`cards_get_their_numbers`, `sources_get_their_pairs`, `every_entry_is_read`);
+//! - of 28 such cards that have 4, the entries at fault by it are those that they must be (`cards_get_their_marks`).
 //!
 //! Only tested: that memory is said to run out only where a growth was refused, which no contract can say; and the texts of faults.
 
@@ -38,7 +39,9 @@ mod words;
 
 pub use entries::constants_as_written;
 pub use fault::SheetFault;
-pub use laws::{cards_get_their_numbers, every_entry_is_read, sources_get_their_pairs};
+pub use laws::{
+    cards_get_their_marks, cards_get_their_numbers, every_entry_is_read, sources_get_their_pairs,
+};
 pub use parts::{FaultyEntry, faulty_entries, numbers_stand_on_entries};
 pub use reading::read_sheets;
 pub use s3_lines::Diagnostic;

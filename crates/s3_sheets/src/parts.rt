@@ -1,13 +1,16 @@
 //! The entries that are at fault where a card has a diagnostic: what each condition is made of, entry by entry.
 
-ghost use Rattle.std.specs.Prelude.{◌≡◌, ◌≤◌, ◌+◌, ◌++◌, length, map, filter, true, OnOk, IfOk, slice_range};
+ghost use Rattle.std.specs.Prelude.{◌≡◌, ◌≤◌, ◌+◌, ◌^◌, ◌++◌, length, map, filter, true, OnOk, IfOk, slice_range};
 ghost use Rattle.std.specs.List.{list_all};
 ghost use Rattle.s3_sheets.specs.Inner.Parts as spec;
+ghost use Rattle.s3_lines.specs.Ranges.{shape_of_positions};
+ghost use Rattle.s3_lines.specs.declared.sheet.Shape.TheVariants.{Numeric};
+ghost use Rattle.s3_sheets.specs.Lines.{file_line as file_line_spec};
 ghost use Rattle.s3_sheets.specs.Inner.Rules.{is_on_card};
 ghost use Rattle.s3_sheets.specs.Inner.RuleViews.{rule_view};
 ghost use Rattle.s3_sheets.specs.Kinds.{kind_of as kind_of_spec};
 
-use crate::columns::{columns, number};
+use crate::columns::{columns, number, number_between};
 use crate::combinations::{
     are_filled, has_bad_addition, has_bad_definition, has_bad_factor, has_bad_positions,
     has_early_constant, has_no_content, is_key_within, is_of_date, is_printer, is_selected,
@@ -15,12 +18,12 @@ use crate::combinations::{
 };
 use crate::faults::Fault;
 use crate::kind::{CardKind, kind_of};
-use crate::lines::{file_line, is_addition};
+use crate::lines::{definition, field_line, file_line, is_addition};
 use crate::progress::{Progress, Standing, exceeds};
 use crate::rules::Rule;
 use crate::tables::rules_of;
 use s3_cards::{Card, Deck, Name};
-use s3_lines::sheet::FileLine;
+use s3_lines::sheet::{FieldForm, FieldLine, FileLine, Shape};
 use std::alloc::{AllocError, Global};
 
 /// A part of a diagnostic's condition, on one entry of a card.
@@ -116,10 +119,32 @@ fn push_broken(
     Ok(())
 }
 
-fn has_key_outside(file: &FileLine) -> bool
-    ensures { result ≡ spec.has_key_outside file.now }
+/// Whether a record length is one that the device can have.
+fn has_record_length(file: &FileLine) -> bool
+    ensures { result ≡ spec.has_record_length file.now }
 {
-    is_with_index(file) && !is_key_within(file.record_length, file.key)
+    1 <= file.record_length && file.record_length <= longest_record(file.device)
+}
+
+fn lacks_key_length(file: &FileLine, card: &Card) -> bool
+    requires { file.now ≡ file_line_spec card.now }
+    ensures { result ≡ spec.lacks_key_length card.now }
+{
+    is_with_index(file) && number_between(columns(card, 29, 30), 1, 29).is_none()
+}
+
+fn lacks_key_start(file: &FileLine, card: &Card) -> bool
+    requires { file.now ≡ file_line_spec card.now }
+    ensures { result ≡ spec.lacks_key_start card.now }
+{
+    is_with_index(file) && number_between(columns(card, 35, 38), 1, 9_999).is_none()
+}
+
+/// Whether a key that is known ends past a record whose length is known.
+fn has_key_past(file: &FileLine) -> bool
+    ensures { result ≡ spec.has_key_past file.now }
+{
+    has_record_length(file) && file.key.is_some() && !is_key_within(file.record_length, file.key)
 }
 
 fn file_parts(card: &Card) -> [Part; 7]
@@ -127,8 +152,7 @@ fn file_parts(card: &Card) -> [Part; 7]
 {
     let file = file_line(card);
     let stray = !is_with_index(&file);
-    let length = file.record_length;
-    let outside = has_key_outside(&file);
+    let past = has_key_past(&file);
     [
         part_of(2, 17, 17, file.ends_job && !is_selected(file.designation)),
         part_of(2, 29, 30, stray && are_filled(card, 29, 30)),
@@ -139,14 +163,74 @@ fn file_parts(card: &Card) -> [Part; 7]
             34,
             are_filled(card, 33, 34) && !is_printer(file.device),
         ),
-        part_of(
-            4,
-            24,
-            27,
-            !(1 <= length && length <= longest_record(file.device)),
-        ),
-        part_of(4, 29, 30, outside),
-        part_of(4, 35, 38, outside),
+        part_of(4, 24, 27, !has_record_length(&file)),
+        part_of(4, 29, 30, lacks_key_length(&file, card) || past),
+        part_of(4, 35, 38, lacks_key_start(&file, card) || past),
+    ]
+}
+
+/// Whether there are more decimals than digits, of which there are as many as there may be.
+fn is_surplus(digits: u16, decimals: u8) -> bool
+    ensures { result ≡ spec.has_surplus_decimals (Numeric digits decimals) }
+{
+    1 <= digits && digits <= 15 && digits < u16::from(decimals)
+}
+
+/// Whether a field of so many positions has more decimals than digits.
+fn has_surplus_within(form: FieldForm, width: u16) -> bool
+    requires { width ≤ 10 ^ 4 }
+    ensures { result ≡ spec.has_surplus_decimals (shape_of_positions form width) }
+{
+    match form {
+        FieldForm::Alphanumeric | FieldForm::PackedText => false,
+        FieldForm::Zoned(decimals) => is_surplus(width, decimals),
+        FieldForm::Packed(decimals) => is_surplus((2 * width).saturating_sub(1), decimals),
+    }
+}
+
+/// Whether both positions of a field are known.
+fn has_positions(card: &Card) -> bool
+    ensures { result ≡ spec.has_positions card.now }
+{
+    number_between(columns(card, 44, 47), 1, 9_999).is_some()
+        && number_between(columns(card, 48, 51), 1, 9_999).is_some()
+}
+
+fn has_surplus_in_field(field: &FieldLine) -> bool
+    requires { field.now.to ≤ 9_999 }
+    ensures { result ≡ spec.has_surplus_in_field field.now }
+{
+    field.from <= field.to && has_surplus_within(field.form, field.to - field.from + 1)
+}
+
+fn field_parts(card: &Card) -> [Part; 2]
+    ensures { result ≡ spec.field_parts card.now }
+{
+    let known = has_positions(card);
+    let surplus = has_surplus_in_field(&field_line(card));
+    [
+        part_of(4, 44, 51, known && has_bad_positions(card)),
+        part_of(4, 52, 52, known && surplus),
+    ]
+}
+
+fn has_surplus(definition: Option<Shape>) -> bool
+    ensures { result ≡ spec.has_surplus definition }
+{
+    match definition {
+        Some(Shape::Numeric(digits, decimals)) => is_surplus(u16::from(digits), decimals),
+        Some(Shape::Alphanumeric(_)) | None => false,
+    }
+}
+
+fn calculation_parts(card: &Card) -> [Part; 3]
+    ensures { result ≡ spec.calculation_parts card.now }
+{
+    let defined = definition(columns(card, 49, 51), columns(card, 52, 52));
+    [
+        part_of(3, 33, 42, has_bad_factor(card)),
+        part_of(4, 49, 51, has_bad_definition(card)),
+        part_of(4, 52, 52, has_surplus(defined)),
     ]
 }
 
@@ -207,19 +291,8 @@ fn push_combined(
 {
     match kind {
         CardKind::File => push_parts(found, number, &file_parts(card)),
-        CardKind::Field => push_parts(
-            found,
-            number,
-            &[part_of(4, 44, 51, has_bad_positions(card))],
-        ),
-        CardKind::Calculation => {
-            let factor = part_of(3, 33, 42, has_bad_factor(card));
-            push_parts(
-                found,
-                number,
-                &[factor, part_of(4, 49, 52, has_bad_definition(card))],
-            )
-        }
+        CardKind::Field => push_parts(found, number, &field_parts(card)),
+        CardKind::Calculation => push_parts(found, number, &calculation_parts(card)),
         CardKind::OutputLine => push_parts(found, number, &line_parts(card)),
         CardKind::OutputField => push_parts(found, number, &output_parts(card)),
         CardKind::Comment
@@ -243,6 +316,16 @@ fn code_parts(card: &Card, length: Option<u16>) -> [Part; 3]
     ]
 }
 
+/// First and last position of a field, each where it lies past its record.
+fn span_parts(card: &Card, length: Option<u16>) -> [Part; 2]
+    ensures { result ≡ spec.span_parts card.now length }
+{
+    [
+        part_of(4, 44, 47, exceeds(number(columns(card, 44, 47)), length)),
+        part_of(4, 48, 51, exceeds(number(columns(card, 48, 51)), length)),
+    ]
+}
+
 /// Adds the entries whose positions lie past a record of a length.
 fn push_positions(
     found: &mut Vec<FaultyEntry>,
@@ -257,10 +340,7 @@ fn push_positions(
         CardKind::Record | CardKind::RecordAnd | CardKind::RecordOr => {
             push_parts(found, number_of_card, &code_parts(card, length))
         }
-        CardKind::Field => {
-            let is_past = exceeds(number(columns(card, 48, 51)), length);
-            push_parts(found, number_of_card, &[part_of(4, 48, 51, is_past)])
-        }
+        CardKind::Field => push_parts(found, number_of_card, &span_parts(card, length)),
         CardKind::OutputField => {
             let is_past = exceeds(number(columns(card, 40, 43)), length);
             push_parts(found, number_of_card, &[part_of(4, 40, 43, is_past)])

@@ -1,13 +1,17 @@
 -- The entries that are at fault where a card has one of the numbers of single cards: what each number's condition is made of, entry by
 -- entry.
-use Rattle.std.specs.Prelude.{◌≡◌, ℕ, zero, suc, ◌+◌, ◌==◌, List, [], ◌∷◌, ◌++◌, Bool, not, ◌&&◌, ◌||◌, Option, length, map, filter}
+use Rattle.std.specs.Prelude.{◌≡◌, ℕ, zero, suc, ◌+◌, ◌-◌, ◌==◌, List, [], ◌∷◌, ◌++◌, Bool, false, not, ◌&&◌, ◌||◌, Option, Some, None, is_some, length, map, filter, nat_le}
 use Rattle.std.specs.List.{list_any}
 use Rattle.s3_cards.specs.Names.{name_of}
-use Rattle.s3_lines.specs.Ranges.{is_between, longest_record, is_printer, is_selected}
+use Rattle.s3_cards.specs.declared.name.Name.{Name}
+use Rattle.s3_lines.specs.Ranges.{is_between, longest_record, is_printer, is_selected, shape_of_positions}
+use Rattle.s3_lines.specs.declared.sheet.FieldLine.{FieldLine}
 use Rattle.s3_lines.specs.declared.sheet.FileLine.{FileLine}
+use Rattle.s3_lines.specs.declared.sheet.Shape.{Shape}
+use Rattle.s3_lines.specs.declared.sheet.Shape.TheVariants.{Alphanumeric, Numeric}
 use Rattle.s3_sheets.specs.Columns.{columns, number_of, number_between}
 use Rattle.s3_sheets.specs.Combinations.{are_filled, is_with_index, is_key_within, has_bad_positions, has_bad_factor, has_bad_definition, has_bad_addition, is_of_date, has_no_content, has_early_constant}
-use Rattle.s3_sheets.specs.Lines.{card_at, file_line, is_addition}
+use Rattle.s3_sheets.specs.Lines.{card_at, file_line, field_line, definition_of, is_addition}
 use Rattle.s3_sheets.specs.Rules.{Rule, allows, fault_of, is_blank_or}
 use Rattle.s3_sheets.specs.Sheets.{kind_at, standing_at, exceeds, named_length, input_length, output_length, length_for, holds}
 use Rattle.s3_sheets.specs.Tables.{rules_of}
@@ -15,7 +19,6 @@ use Rattle.s3_sheets.specs.declared.faults.Fault.{Fault}
 use Rattle.s3_sheets.specs.declared.faults.Fault.TheVariants.{WrongEntry, WrongName, WrongNumber}
 use Rattle.s3_sheets.specs.declared.kind.CardKind.{CardKind}
 use Rattle.s3_sheets.specs.declared.kind.CardKind.TheVariants.{File, Record, RecordAnd, RecordOr, Field, Calculation, OutputLine, OutputField}
-use Rattle.s3_sheets.specs.declared.kind.CardKind.TheVariants as kind
 use Rattle.s3_sheets.specs.declared.parts.Part.{Part}
 use Rattle.s3_sheets.specs.declared.parts.FaultyEntry.{FaultyEntry}
 use Rattle.s3_sheets.specs.declared.progress.Standing.{Standing}
@@ -34,8 +37,19 @@ abbrev pub rule_part : List ℕ → Rule → Part
 rule_part card rule = part (fault_number (fault_of rule.entry)) rule.from rule.to (not (allows rule.entry (columns card rule.from rule.to)))
 
 -- ---- 2 to 4: columns together
-abbrev pub has_key_outside : FileLine → Bool
-has_key_outside file = is_with_index file && not (is_key_within file.record_length file.key)
+abbrev pub has_record_length : FileLine → Bool
+has_record_length file = is_between 1 (longest_record file.device) file.record_length
+
+-- an indexed file has a key length and a key start
+abbrev pub lacks_key_length : List ℕ → Bool
+lacks_key_length card = is_with_index (file_line card) && not (is_some (number_between 1 29 (columns card 29 30)))
+
+abbrev pub lacks_key_start : List ℕ → Bool
+lacks_key_start card = is_with_index (file_line card) && not (is_some (number_between 1 9999 (columns card 35 38)))
+
+-- a key that is known ends past a record whose length is known
+abbrev pub has_key_past : FileLine → Bool
+has_key_past file = has_record_length file && (is_some file.key && not (is_key_within file.record_length file.key))
 
 abbrev pub file_parts : List ℕ → List Part
 file_parts card =
@@ -43,9 +57,39 @@ file_parts card =
     ∷ part 2 29 30 (not (is_with_index (file_line card)) && are_filled card 29 30)
     ∷ part 2 35 38 (not (is_with_index (file_line card)) && are_filled card 35 38)
     ∷ part 2 33 34 (are_filled card 33 34 && not (is_printer (file_line card).device))
-    ∷ part 4 24 27 (not (is_between 1 (longest_record (file_line card).device) (file_line card).record_length))
-    ∷ part 4 29 30 (has_key_outside (file_line card))
-    ∷ part 4 35 38 (has_key_outside (file_line card))
+    ∷ part 4 24 27 (not (has_record_length (file_line card)))
+    ∷ part 4 29 30 (lacks_key_length card || has_key_past (file_line card))
+    ∷ part 4 35 38 (lacks_key_start card || has_key_past (file_line card))
+    ∷ []
+
+-- whether there are more decimals than digits, of which there are as many as there may be
+abbrev pub has_surplus_decimals : Shape → Bool
+has_surplus_decimals (Alphanumeric length) = false
+has_surplus_decimals (Numeric digits decimals) = is_between 1 15 digits && not (nat_le decimals digits)
+
+-- the positions of a field are measured, and its decimals by them, where both are known
+abbrev pub has_positions : List ℕ → Bool
+has_positions card = is_some (number_between 1 9999 (columns card 44 47)) && is_some (number_between 1 9999 (columns card 48 51))
+
+abbrev pub has_surplus_in_field : FieldLine Name → Bool
+has_surplus_in_field field = nat_le field.from field.to && has_surplus_decimals (shape_of_positions field.form (field.to + 1 - field.from))
+
+abbrev pub field_parts : List ℕ → List Part
+field_parts card =
+    part 4 44 51 (has_positions card && has_bad_positions card)
+    ∷ part 4 52 52 (has_positions card && has_surplus_in_field (field_line card))
+    ∷ []
+
+-- decimals over the length concern both, any other fault of a length the length alone
+abbrev pub has_surplus : Option Shape → Bool
+has_surplus None = false
+has_surplus (Some shape) = has_surplus_decimals shape
+
+abbrev pub calculation_parts : List ℕ → List Part
+calculation_parts card =
+    part 3 33 42 (has_bad_factor card)
+    ∷ part 4 49 51 (has_bad_definition card)
+    ∷ part 4 52 52 (has_surplus (definition_of (columns card 49 51) (columns card 52 52)))
     ∷ []
 
 abbrev pub line_parts : List ℕ → List Part
@@ -75,8 +119,8 @@ output_parts card =
 
 abbrev pub combined_parts : CardKind → List ℕ → List Part
 combined_parts File card = file_parts card
-combined_parts Field card = part 4 44 51 (has_bad_positions card) ∷ []
-combined_parts Calculation card = part 3 33 42 (has_bad_factor card) ∷ part 4 49 52 (has_bad_definition card) ∷ []
+combined_parts Field card = field_parts card
+combined_parts Calculation card = calculation_parts card
 combined_parts OutputLine card = line_parts card
 combined_parts OutputField card = output_parts card
 combined_parts _ card = []
@@ -89,11 +133,17 @@ code_parts card length =
     ∷ part 4 35 38 (exceeds (number_of (columns card 35 38)) length)
     ∷ []
 
+abbrev pub span_parts : List ℕ → Option ℕ → List Part
+span_parts card length =
+    part 4 44 47 (exceeds (number_of (columns card 44 47)) length)
+    ∷ part 4 48 51 (exceeds (number_of (columns card 48 51)) length)
+    ∷ []
+
 abbrev pub position_parts : CardKind → List ℕ → Option ℕ → List Part
 position_parts Record card length = code_parts card length
 position_parts RecordAnd card length = code_parts card length
 position_parts RecordOr card length = code_parts card length
-position_parts Field card length = part 4 48 51 (exceeds (number_of (columns card 48 51)) length) ∷ []
+position_parts Field card length = span_parts card length
 position_parts OutputField card length = part 4 40 43 (exceeds (number_of (columns card 40 43)) length) ∷ []
 position_parts _ card length = []
 

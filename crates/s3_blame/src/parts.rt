@@ -1,0 +1,67 @@
+//! What the condition of a number speaks of on a card, entry by entry.
+ghost use Rattle.std.specs.Prelude.{◌≡◌, true, map, filter, IfOk};
+ghost use Rattle.s3_blame.specs.Inner.Tested.{span, fails, entry_of, are_of};
+
+use s3_sheets::FaultyEntry;
+use std::alloc::{AllocError, Global};
+
+/// An entry that a number's condition speaks of, and whether it is at fault.
+#[derive(Clone, Copy)]
+pub struct Part {
+    /// Its first column, from 1.
+    pub from: usize,
+    /// Its last column.
+    pub to: usize,
+    /// It is to blame for the number.
+    pub is_at_fault: bool,
+}
+
+/// An entry that a number's condition speaks of.
+pub fn entry(from: usize, to: usize, is_at_fault: bool) -> Part
+    ensures from { result.from ≡ from }
+    ensures to { result.to ≡ to }
+    ensures at_fault { result.is_at_fault ≡ is_at_fault }
+{
+    Part {
+        from,
+        to,
+        is_at_fault,
+    }
+}
+
+/// Those parts that are at fault, as the entries to blame for a number of a card.
+fn entries_of_parts(
+    alloc: Global,
+    card: u16,
+    number: u8,
+    parts: &[Part],
+) -> Result<Vec<FaultyEntry>, AllocError>
+    ensures { IfOk result (λ found. found.items ≡ map (entry_of card number) (filter fails parts.now)) }
+{
+    parts
+        .iter()
+        .filter(|part| part.is_at_fault)
+        .map(|part| FaultyEntry {
+            card,
+            number,
+            from: part.from,
+            to: part.to,
+        })
+        .collect(alloc)
+}
+
+/// The entries to blame for a number of a card: of what its condition speaks of, those that are at fault. It is refused only where memory
+/// runs out.
+#[tactic(auto, using(crate::proofs::PartLemmas::at_fault_are_parts))]
+pub fn at_fault(
+    alloc: Global,
+    card: u16,
+    number: u8,
+    parts: &[Part],
+) -> Result<Vec<FaultyEntry>, AllocError>
+    ensures value { IfOk result (λ found. found.items ≡ map (entry_of card number) (filter fails parts.now)) }
+    ensures among { IfOk result (λ found. are_of card number (map span parts.now) found.items ≡ true) }
+{
+    let found = entries_of_parts(alloc, card, number, parts)?;
+    Ok(found)
+}

@@ -1,0 +1,118 @@
+//! `bureau compile`: the listing of each source of a deck (docs/LISTINGS.md).
+ghost use Rattle.std.specs.Prelude.{◌≤◌};
+
+use crate::deck::{ReadFiles, read_deck};
+use crate::fault::CommandFault;
+use clap::{Arg, ArgAction, ArgMatches, Command};
+use s3_cards::{CardFault, Deck, DeckFault};
+use s3_deck_files::DeckText;
+use s3_source_listing::{Outcome, write_listing};
+use std::alloc::{AllocError, Global};
+use std::io::Write;
+
+/// The exit status of a deck with diagnostics or faulty statements.
+const DIAGNOSED: u8 = 4;
+
+/// The exit status where the files are no deck.
+const NO_DECK: u8 = 1;
+
+/// The exit status where a file can't be read.
+const UNREAD: u8 = 3;
+
+/// The words of `bureau compile`. It is refused only where memory runs out.
+pub fn compile_command<'a>(alloc: Global) -> Result<Command<'a>, AllocError> {
+    Command::new(alloc, "compile")
+        .about(
+            "Lists the sources of a deck with their diagnostics, and compiles nothing into a library",
+        )
+        .arg(
+            Arg::new(alloc, "file")
+                .value_name("FILE")
+                .action(ArgAction::Append)
+                .required(true)
+                .help("The deck; several files are one deck; one in .rpg or .punch is plain text"),
+        )?
+        .arg(
+            Arg::new(alloc, "cross-reference")
+                .long("cross-reference")
+                .action(ArgAction::SetTrue)
+                .help("Lists each name and each indicator with all cards that name it"),
+        )
+}
+
+/// Does what the words of `bureau compile` ask, and gives the exit status: 0 where every source compiles, 4 where one has diagnostics
+/// or a job has faulty statements, 3 where a file can't be read or the listing can't be written, 1 where the files are no deck or memory
+/// runs out.
+pub fn compile_files<'a>(rt: &'a HostRuntime, matches: &ArgMatches<'a>) -> u8
+    ensures { result ≤ 4 }
+{
+    match list_deck(rt, matches) {
+        Ok(status) => status.min(DIAGNOSED),
+        Err(fault) => fault.tell(&mut rt.stderr()),
+    }
+}
+
+/// Lists a deck on standard output, and gives the exit status.
+fn list_deck<'a>(rt: &'a HostRuntime, matches: &ArgMatches<'a>) -> Result<u8, CommandFault<'a>> {
+    let has_references = matches.get_flag("cross-reference");
+    match read_deck(rt, matches.get_strs("file").unwrap_or(&[]))? {
+        ReadFiles::Deck(text) => list_text(rt, &text, has_references),
+        ReadFiles::Faulty => Ok(NO_DECK),
+        ReadFiles::Unread => Ok(UNREAD),
+    }
+}
+
+/// Lists the deck of a text on standard output, and gives the exit status.
+fn list_text<'a>(
+    rt: &HostRuntime,
+    text: &DeckText<'_>,
+    has_references: bool,
+) -> Result<u8, CommandFault<'a>> {
+    match Deck::read(rt.alloc(), text.text()) {
+        Ok(deck) => write_on_output(rt, text, &deck, has_references),
+        Err(DeckFault::NoMemory) => Err(CommandFault::NoMemory),
+        Err(DeckFault::At(card, fault)) => {
+            tell_unread(rt, text, card, fault);
+            Ok(NO_DECK)
+        }
+    }
+}
+
+/// Writes a listing on standard output, and gives the exit status.
+fn write_on_output<'a>(
+    rt: &HostRuntime,
+    text: &DeckText<'_>,
+    deck: &Deck,
+    has_references: bool,
+) -> Result<u8, CommandFault<'a>> {
+    match write_listing(rt.alloc(), &mut rt.stdout(), text, deck, has_references) {
+        Ok(outcome) => Ok(status_of(rt, outcome)),
+        Err(error) => Err(CommandFault::of_output(&error)),
+    }
+}
+
+/// The exit status of a listing. That a deck has no source is told.
+fn status_of(rt: &HostRuntime, outcome: Outcome) -> u8 {
+    if outcome.faults > 0 {
+        return DIAGNOSED;
+    }
+    if outcome.sources == 0 {
+        let _ = writeln!(
+            rt.stderr(),
+            "The deck has no source: no job of it loads $RPG."
+        );
+    }
+    0
+}
+
+/// Tells why the files are no deck: on which card, and what is to be done.
+fn tell_unread(rt: &HostRuntime, text: &DeckText<'_>, card: u16, fault: CardFault) {
+    let place = text.place_of(usize::from(card));
+    let cure = match fault {
+        CardFault::TooWide => "is over 96 columns; shorten its line",
+        CardFault::BadCharacter =>
+            "has a character that no card can have; docs/LANGUAGE.md lists those that it can",
+        CardFault::TooMany => "is the last that a deck can have; make two decks of it",
+    };
+    let _ = writeln!(rt.stderr(), "{place} {cure}.");
+}

@@ -1,0 +1,119 @@
+//! The deck of some files, of which those of plain text are punched.
+ghost use Rattle.std.specs.Prelude.{◌≤◌, IfOk};
+
+use crate::fault::CommandFault;
+use crate::punch::tell_punched;
+use s3_deck_files::DeckText;
+use s3_host_files::read_within;
+use s3_punch::{Begun, Punched, punch};
+use std::alloc::AllocError;
+use std::io;
+
+/// The most bytes of a file of a deck.
+const TEXT_LIMIT: usize = 4_194_304;
+
+/// What some files are as a deck.
+#[derive(Drop)]
+pub enum ReadFiles<'a> {
+    /// The text of a deck.
+    Deck(DeckText<'a>),
+    /// Something is wrong with one of plain text, which was told.
+    Faulty,
+    /// One can't be read, which was told.
+    Unread,
+}
+
+/// Where a deck stands behind some of its files.
+#[derive(Clone, Copy)]
+struct Standing {
+    begun: Begun,
+    is_faulty: bool,
+}
+
+/// Whether a file has plain text, of which a deck is punched: its name says so.
+pub fn is_plain_text(path: &str) -> bool {
+    path.ends_with(".rpg") || path.ends_with(".punch")
+}
+
+/// The deck of some files, one behind the other. Each file that can't be read is told, and all that is wrong with those of plain text.
+pub fn read_deck<'a>(
+    rt: &'a HostRuntime,
+    paths: &[&'a str],
+) -> Result<ReadFiles<'a>, CommandFault<'a>> {
+    let mut deck = DeckText::new(rt.alloc());
+    let mut standing = Standing {
+        begun: Begun::new(false),
+        is_faulty: false,
+    };
+    let mut is_unread = false;
+    for path in paths {
+        let name: &'a str = *path;
+        match read_within(rt, name, TEXT_LIMIT) {
+            Ok(bytes) => standing = add_file(rt, &mut deck, standing, name, bytes)?,
+            Err(error) if error.kind() == io::ErrorKind::OutOfMemory => {
+                return Err(CommandFault::NoMemory);
+            }
+            Err(_) => {
+                let _ = CommandFault::File(name).tell(&mut rt.stderr());
+                is_unread = true;
+            }
+        }
+    }
+    Ok(if is_unread {
+        ReadFiles::Unread
+    } else if standing.is_faulty {
+        ReadFiles::Faulty
+    } else {
+        ReadFiles::Deck(deck)
+    })
+}
+
+/// Puts a file behind those of a deck.
+fn add_file<'a>(
+    rt: &HostRuntime,
+    deck: &mut DeckText<'a>,
+    standing: Standing,
+    name: &'a str,
+    bytes: Vec<u8>,
+) -> Result<Standing, AllocError>
+    requires { standing.begun.cards ≤ 9999 }
+    ensures { IfOk result (λ behind. behind.begun.cards ≤ 9999) }
+{
+    if is_plain_text(name) {
+        return add_text(rt, deck, standing, name, &bytes);
+    }
+    let begun = standing.begun.behind_deck(&bytes);
+    deck.add(name, bytes)?;
+    Ok(Standing {
+        begun,
+        is_faulty: standing.is_faulty,
+    })
+}
+
+/// Puts the cards that are punched of a file behind those of a deck, and tells what is wrong with the file.
+fn add_text<'a>(
+    rt: &HostRuntime,
+    deck: &mut DeckText<'a>,
+    standing: Standing,
+    name: &'a str,
+    bytes: &[u8],
+) -> Result<Standing, AllocError>
+    requires { standing.begun.cards ≤ 9999 }
+    ensures { IfOk result (λ behind. behind.begun.cards ≤ 9999) }
+{
+    let punched = punch(rt.alloc(), bytes, &standing.begun)?;
+    let is_faulty = tell_punched(rt, name, &punched);
+    let begun = punched.behind(standing.begun);
+    let Punched {
+        text,
+        origins,
+        changes: _changes,
+        faults: _faults,
+        part: _part,
+    } = punched;
+    deck.add_punched(name, text, &origins)?;
+    Ok(Standing {
+        begun,
+        is_faulty: is_faulty || standing.is_faulty,
+    })
+}

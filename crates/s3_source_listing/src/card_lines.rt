@@ -1,0 +1,61 @@
+//! The lines of a card in a listing.
+
+use s3_blame::diagnostic_words;
+use s3_cards::Card;
+use s3_ruled::{Columns, push_characters, push_marks, without_blanks_behind};
+use std::alloc::AllocError;
+
+/// How many columns of a card a listing shows.
+const SHOWN: usize = 80;
+
+/// What stands in front of the ruler and of marks: as much as in front of a card.
+const MARGIN: &'static str = "       ";
+
+/// Appends the ruler that stands over the cards.
+pub fn push_ruler(text: &mut String) -> Result<(), AllocError> {
+    text.push_str(MARGIN)?;
+    text.push_str(
+        "....5...10...15...20...25...30...35...40...45...50...55...60...65...70...75...80\n",
+    )
+}
+
+/// Appends a card, with its number in front.
+pub fn push_card(text: &mut String, number: usize, card: &Card) -> Result<(), AllocError> {
+    write!(text, " {number:04}")?;
+    let shown = without_blanks_behind(&card[..SHOWN]);
+    if !shown.is_empty() {
+        text.push_str("  ")?;
+        push_characters(text, shown)?;
+    }
+    text.push('\n')
+}
+
+/// Appends what is wrong with a card: marks under the columns to blame, and then the number and its words.
+pub fn push_fault(
+    text: &mut String,
+    number: u8,
+    words: &str,
+    marked: &[Columns],
+) -> Result<(), AllocError> {
+    push_marks_line(text, marked)?;
+    writeln!(text, "   {number:02}  {words}")
+}
+
+/// Appends a diagnostic of a card.
+pub fn push_diagnostic(
+    text: &mut String,
+    number: u8,
+    marked: &[Columns],
+) -> Result<(), AllocError> {
+    push_fault(text, number, diagnostic_words(number), marked)
+}
+
+/// Appends a line that marks columns, where any are to be marked.
+fn push_marks_line(text: &mut String, marked: &[Columns]) -> Result<(), AllocError> {
+    if marked.is_empty() {
+        return Ok(());
+    }
+    text.push_str(MARGIN)?;
+    push_marks(text, marked)?;
+    text.push('\n')
+}

@@ -1,0 +1,62 @@
+//! The cards where a name or an indicator stands.
+
+use std::alloc::{AllocError, Global};
+
+/// The cards where a name or an indicator stands, in their order. A card is listed once where it names it again and again.
+#[derive(Drop)]
+pub struct Cards {
+    /// Those that define the name, or set the indicator.
+    pub defining: Vec<u16>,
+    /// Those that use the name, or test the indicator.
+    pub using: Vec<u16>,
+    /// All of them.
+    pub all: Vec<u16>,
+}
+
+impl Cards {
+    /// One card.
+    pub fn of(alloc: Global, card: u16, defines: bool) -> Result<Cards, AllocError> {
+        let mut cards = Cards {
+            defining: Vec::new(alloc),
+            using: Vec::new(alloc),
+            all: Vec::new(alloc),
+        };
+        cards.add(card, defines)?;
+        Ok(cards)
+    }
+
+    /// Adds a card that stands behind those that are there, or is the last of them.
+    pub fn add(&mut self, card: u16, defines: bool) -> Result<(), AllocError> {
+        add_card(&mut self.all, card)?;
+        if defines {
+            add_card(&mut self.defining, card)
+        } else {
+            add_card(&mut self.using, card)
+        }
+    }
+}
+
+/// Adds a card behind others, unless it is the last of them.
+fn add_card(cards: &mut Vec<u16>, card: u16) -> Result<(), AllocError> {
+    if !cards.last().is_some_and(|last| *last == card) {
+        cards.push(card)?;
+    }
+    Ok(())
+}
+
+/// Appends the numbers of cards behind a word; nothing where there is no card.
+pub fn push_cards_behind(text: &mut String, word: &str, cards: &[u16]) -> Result<(), AllocError> {
+    if cards.is_empty() {
+        return Ok(());
+    }
+    text.push_str(word)?;
+    push_numbers(text, cards)
+}
+
+/// Appends the numbers of cards, each behind a blank.
+pub fn push_numbers(text: &mut String, cards: &[u16]) -> Result<(), AllocError> {
+    for card in cards {
+        write!(text, " {card:04}")?;
+    }
+    Ok(())
+}

@@ -1,0 +1,196 @@
+//! The listing of a deck.
+
+use crate::card_lines::{push_card, push_fault, push_ruler};
+use crate::source::{SourceRange, push_program, push_source};
+use s3_cards::{Card, Deck};
+use s3_deck_files::DeckText;
+use s3_deck_jobs::{JobEntry, Statements, jobs_of};
+use s3_ocl::{FaultyJob, JobCards};
+use s3_ruled::{Columns, without_blanks_behind};
+use std::alloc::{AllocError, Global};
+use std::io;
+use std::io::Write;
+
+/// What a deck's listing has.
+#[derive(Clone, Copy, Debug, PartialEq, Eq)]
+pub struct Outcome {
+    /// How many sources it has.
+    pub sources: usize,
+    /// How many diagnostics and faulty statements they have together.
+    pub faults: usize,
+}
+
+impl Outcome {
+    const NONE: Outcome = Outcome {
+        sources: 0,
+        faults: 0,
+    };
+
+    fn with(self, other: Outcome) -> Outcome {
+        Outcome {
+            sources: self.sources.saturating_add(other.sources),
+            faults: self.faults.saturating_add(other.faults),
+        }
+    }
+}
+
+/// The cards of a deck, where they stand in its files, and what is to be listed of them.
+#[derive(Clone, Copy)]
+struct Listed<'a> {
+    files: &'a DeckText<'a>,
+    deck: &'a Deck,
+    has_references: bool,
+}
+
+/// Appends the end of a job's heading: `, job 3, which begins at card 12 (day1.job, line 12)`.
+fn push_place(
+    text: &mut String,
+    files: &DeckText<'_>,
+    number: usize,
+    job: &JobEntry,
+) -> Result<(), AllocError> {
+    let first = files.place_of(job.first_card());
+    writeln!(text, ", job {number}, which begins at {first}")
+}
+
+/// Appends the name of the program of a compile job.
+fn push_heading(text: &mut String, deck: &Deck, job: &JobCards) -> Result<(), AllocError> {
+    match deck.cards().get(job.data_from()..job.data_to()) {
+        Some(source) => push_program(text, source),
+        None => Ok(()),
+    }
+}
+
+/// Appends the source of a compile job, and answers how many diagnostics it has.
+fn push_compiled(
+    text: &mut String,
+    alloc: Global,
+    deck: &Deck,
+    job: &JobCards,
+    has_references: bool,
+) -> Result<usize, AllocError> {
+    let range = SourceRange {
+        from: job.data_from(),
+        to: job.data_to(),
+    };
+    // a job stands within its deck, which the type of a job doesn't say
+    if range.to > deck.len() {
+        return Ok(0);
+    }
+    push_source(text, alloc, deck, range, job.run_card(), has_references)
+}
+
+/// The columns of a statement: all up to its last character.
+fn columns_of_statement(card: &Card) -> Columns {
+    Columns {
+        from: 1,
+        to: without_blanks_behind(card).len().max(1).min(80),
+    }
+}
+
+/// Appends the statement at which a job is faulty, with what is wrong there.
+fn push_faulty(
+    text: &mut String,
+    alloc: Global,
+    deck: &Deck,
+    faulty: &FaultyJob,
+) -> Result<(), AllocError> {
+    let fault = faulty.fault;
+    let mut words = String::new(alloc);
+    write!(words, "{fault}")?;
+    push_ruler(text)?;
+    let number = usize::from(faulty.card);
+    match deck.card(number.saturating_sub(1)) {
+        Some(card) => {
+            push_card(text, number, card)?;
+            push_fault(
+                text,
+                fault.number(),
+                words.as_str(),
+                &[columns_of_statement(card)],
+            )
+        }
+        None => push_fault(text, fault.number(), words.as_str(), &[]),
+    }
+}
+
+/// Appends what a listing has of a job: its source, or what is wrong with its statements. Nothing is appended of any other.
+fn push_job(
+    text: &mut String,
+    alloc: Global,
+    listed: &Listed<'_>,
+    number: usize,
+    job: &JobEntry,
+) -> Result<Outcome, AllocError> {
+    match &job.statements {
+        Statements::Sound(cards) => push_sound(text, alloc, listed, number, job, cards),
+        Statements::Faulty(faulty) => {
+            text.push_str("faulty statements")?;
+            push_place(text, listed.files, number, job)?;
+            push_faulty(text, alloc, listed.deck, faulty)?;
+            Ok(Outcome {
+                sources: 0,
+                faults: 1,
+            })
+        }
+    }
+}
+
+/// Appends what a listing has of a job without faults.
+fn push_sound(
+    text: &mut String,
+    alloc: Global,
+    listed: &Listed<'_>,
+    number: usize,
+    job: &JobEntry,
+    cards: &JobCards,
+) -> Result<Outcome, AllocError> {
+    if !cards.is_compile() {
+        return Ok(Outcome::NONE);
+    }
+    push_heading(text, listed.deck, cards)?;
+    push_place(text, listed.files, number, job)?;
+    let faults = push_compiled(text, alloc, listed.deck, cards, listed.has_references)?;
+    Ok(Outcome { sources: 1, faults })
+}
+
+/// Writes what a listing has of a job, behind an empty line where something stands before it.
+fn write_job<W: Write>(
+    alloc: Global,
+    writer: &mut W,
+    listed: &Listed<'_>,
+    number: usize,
+    job: &JobEntry,
+    is_first: bool,
+) -> io::Result<Outcome> {
+    let mut text = String::new(alloc);
+    let outcome = push_job(&mut text, alloc, listed, number, job)?;
+    if !is_first && !text.is_empty() {
+        writer.write_all(b"\n")?;
+    }
+    writer.write_all(text.as_bytes())?;
+    Ok(outcome)
+}
+
+/// Writes the listing of a deck, job by job, and answers what it has. It is refused where a write fails, or memory runs out.
+pub fn write_listing<W: Write>(
+    alloc: Global,
+    writer: &mut W,
+    files: &DeckText<'_>,
+    deck: &Deck,
+    has_references: bool,
+) -> io::Result<Outcome> {
+    let listed = Listed {
+        files,
+        deck,
+        has_references,
+    };
+    let jobs = jobs_of(alloc, deck)?;
+    let mut outcome = Outcome::NONE;
+    for (place, job) in jobs.iter().enumerate() {
+        let is_first = outcome == Outcome::NONE;
+        let number = place.saturating_add(1);
+        outcome = outcome.with(write_job(alloc, writer, &listed, number, job, is_first)?);
+    }
+    Ok(outcome)
+}

@@ -1,0 +1,211 @@
+//! The listing of one source.
+ghost use Rattle.std.specs.Prelude.{◌≡◌, ◌≢◌, ◌≤◌, [], length, slice_range, IfOk};
+ghost use Rattle.s3_blame.specs.Inner.Sources.{found_from};
+ghost use Rattle.s3_sheets.specs.Inner.Parts.{faulty_entries};
+ghost use Rattle.s3_sheets.specs.Sheets.{sheet_diagnostics};
+
+use crate::card_lines::{push_card, push_diagnostic, push_ruler};
+use crate::notes::notes_under;
+use crate::tables::push_tables;
+use s3_blame::{FaultyEntry, entries_of, told};
+use s3_cards::ebcdic::{ASTERISK, LETTER_H};
+use s3_cards::{Card, Deck, are_blank};
+use s3_lines::Diagnostic;
+use s3_ruled::{Columns, push_characters, without_blanks_behind};
+use s3_sheets::{SheetFault, read_sheets};
+use std::alloc::{AllocError, Global};
+
+/// What is marked for a number of a source's RUN card: the word RUN.
+const RUN: Columns = Columns { from: 4, to: 6 };
+
+/// Where a source stands in its deck, by places from 0.
+#[derive(Clone, Copy)]
+pub struct SourceRange {
+    /// The place of its first card, which is the number of the RUN card.
+    pub from: usize,
+    /// The place behind its last card.
+    pub to: usize,
+}
+
+/// What is wrong with a source.
+#[derive(Drop)]
+struct Faults {
+    diagnostics: Vec<Diagnostic>,
+    entries: Vec<FaultyEntry>,
+}
+
+/// Whether a card is the H card that names its program.
+fn names_program(card: &Card) -> bool {
+    card[5] == LETTER_H && card[6] != ASTERISK && !are_blank(&card[74..80])
+}
+
+/// Appends the program's name: that of the first H card that bears one, or RPGOBJ.
+pub fn push_program(text: &mut String, cards: &[Card]) -> Result<(), AllocError> {
+    for card in cards {
+        if names_program(card) {
+            return push_characters(text, without_blanks_behind(&card[74..80]));
+        }
+    }
+    text.push_str("RPGOBJ")
+}
+
+/// Whether a number is one of those that hide the others.
+fn hides(diagnostic: &Diagnostic) -> bool {
+    diagnostic.number < 5 || diagnostic.number == 13
+}
+
+/// Appends what is wrong with a card, by its number from 1.
+fn push_notes(
+    text: &mut String,
+    alloc: Global,
+    faults: &Faults,
+    card: u16,
+) -> Result<(), AllocError> {
+    let notes = notes_under(alloc, &faults.diagnostics, &faults.entries, card)?;
+    for note in &notes {
+        push_diagnostic(text, note.number, &note.marked)?;
+    }
+    Ok(())
+}
+
+/// Appends a card of a deck, by its number from 1, and what is wrong with it.
+fn push_source_card(
+    text: &mut String,
+    alloc: Global,
+    deck: &Deck,
+    faults: &Faults,
+    number: u16,
+) -> Result<(), AllocError> {
+    let number_in_deck = usize::from(number);
+    let Some(card) = deck.card(number_in_deck.saturating_sub(1)) else {
+        return Ok(());
+    };
+    push_card(text, number_in_deck, card)?;
+    push_notes(text, alloc, faults, number)
+}
+
+/// Appends the cards of a source, each with what is wrong with it.
+fn push_cards(
+    text: &mut String,
+    alloc: Global,
+    deck: &Deck,
+    range: SourceRange,
+    faults: &Faults,
+) -> Result<(), AllocError>
+    requires { range.to ≤ 9_999 }
+{
+    for place in range.from..range.to {
+        push_source_card(text, alloc, deck, faults, place as u16 + 1)?;
+    }
+    Ok(())
+}
+
+/// Appends the RUN card and its numbers, where it has any.
+fn push_run(
+    text: &mut String,
+    alloc: Global,
+    deck: &Deck,
+    faults: &Faults,
+    run_card: u16,
+) -> Result<(), AllocError> {
+    let notes = notes_under(alloc, &faults.diagnostics, &faults.entries, run_card)?;
+    if notes.is_empty() {
+        return Ok(());
+    }
+    let number = usize::from(run_card);
+    if let Some(card) = deck.card(number.saturating_sub(1)) {
+        push_card(text, number, card)?;
+    }
+    for note in &notes {
+        push_diagnostic(text, note.number, &[RUN])?;
+    }
+    Ok(())
+}
+
+/// Appends how many diagnostics there are, and whether others may be hidden.
+fn push_count(text: &mut String, found: &[Diagnostic]) -> Result<(), AllocError> {
+    let count = found.len();
+    match count {
+        0 => text.push_str("\nno diagnostics\n")?,
+        1 => text.push_str("\n1 diagnostic\n")?,
+        _ => writeln!(text, "\n{count} diagnostics")?,
+    }
+    if !found.iter().any(|diagnostic| hides(diagnostic)) {
+        return Ok(());
+    }
+    text.push_str("05 to 12 are hidden: they are looked for once 01 to 04 and 13 are mended\n")
+}
+
+/// Appends the cards of a source under a ruler, each with what is wrong with it, and how many diagnostics there are.
+fn push_all_cards(
+    text: &mut String,
+    alloc: Global,
+    deck: &Deck,
+    range: SourceRange,
+    run_card: u16,
+    faults: &Faults,
+) -> Result<(), AllocError>
+    requires { range.to ≤ 9_999 }
+{
+    push_ruler(text)?;
+    push_run(text, alloc, deck, faults, run_card)?;
+    push_cards(text, alloc, deck, range, faults)?;
+    push_count(text, &faults.diagnostics)
+}
+
+/// Appends what a source has, if its cards have no fault of their own.
+fn push_what_it_has(
+    text: &mut String,
+    alloc: Global,
+    deck: &Deck,
+    range: SourceRange,
+    has_references: bool,
+) -> Result<(), AllocError>
+    requires order { range.from ≤ range.to }
+    requires within { range.to ≤ length deck.now }
+{
+    match read_sheets(alloc, deck, range.from, range.to) {
+        Ok(lines) => push_tables(text, alloc, &lines, has_references),
+        Err(SheetFault::NoMemory) => Err(AllocError),
+        Err(SheetFault::Diagnostics(_)) => Ok(()),
+    }
+}
+
+/// What is wrong with a source: its diagnostics, by card and then number, and where they are of single cards all entries at fault.
+fn faults_of(
+    alloc: Global,
+    deck: &Deck,
+    range: SourceRange,
+    run_card: u16,
+) -> Result<Faults, AllocError>
+    requires order { range.from ≤ range.to }
+    requires within { range.to ≤ length deck.now }
+    ensures diagnostics { IfOk result (λ faults. faults.diagnostics.items ≡ found_from range.from run_card (slice_range deck.now range.from range.to)) }
+    ensures entries { IfOk result (λ faults. sheet_diagnostics range.from (slice_range deck.now range.from range.to) ≢ [] → faults.entries.items ≡ faulty_entries range.from (slice_range deck.now range.from range.to)) }
+{
+    let diagnostics = told(alloc, deck, range.from, range.to, run_card)?;
+    let entries = entries_of(alloc, deck, range.from, range.to, &diagnostics)?;
+    Ok(Faults {
+        diagnostics,
+        entries,
+    })
+}
+
+/// Appends the listing of a source, and answers how many diagnostics it has.
+pub fn push_source(
+    text: &mut String,
+    alloc: Global,
+    deck: &Deck,
+    range: SourceRange,
+    run_card: u16,
+    has_references: bool,
+) -> Result<usize, AllocError>
+    requires order { range.from ≤ range.to }
+    requires within { range.to ≤ length deck.now }
+    requires short { range.to ≤ 9_999 }
+{
+    let faults = faults_of(alloc, deck, range, run_card)?;
+    push_all_cards(text, alloc, deck, range, run_card, &faults)?;
+    push_what_it_has(text, alloc, deck, range, has_references)?;
+    Ok(faults.diagnostics.len())
+}
