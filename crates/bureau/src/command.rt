@@ -11,9 +11,13 @@ use s3_cli::{
     write_table,
 };
 use s3_data_commands::check_pack::check;
+use s3_data_commands::copy::copy;
 use s3_data_commands::delete::delete;
+use s3_data_commands::load::load;
+use s3_data_commands::sort::sort;
+use s3_data_commands::unload::unload;
 use s3_host_files::{FileFault, LockedPack, read_pack, read_to_save, save_pack};
-use s3_paper_commands::punch_files;
+use s3_paper_commands::{compile_files, punch_files};
 use std::io::Write;
 use std::{env, fs, io};
 
@@ -101,8 +105,13 @@ fn perform<'a>(rt: &'a HostRuntime, matches: &ArgMatches<'a>, words: &[String]) 
     let done = match matches.subcommand() {
         Some(("operate", matches)) => return operate(rt, matches, words.get(2..).unwrap_or(&[])),
         Some(("punch", matches)) => return punch_files(rt, matches),
+        Some(("compile", matches)) => return compile_files(rt, matches),
         Some(("check", matches)) => return check(rt, matches),
+        Some(("copy", matches)) => return copy(rt, matches),
         Some(("delete", matches)) => return delete(rt, matches),
+        Some(("sort", matches)) => return sort(rt, matches),
+        Some(("unload", matches)) => return unload(rt, matches),
+        Some(("load", matches)) => return load(rt, matches),
         Some(("run", matches)) => run(rt, matches),
         Some(("init", matches)) if is_occupied(rt, matches) => return refuse_occupied(rt, matches),
         Some(("init", matches)) => init(rt, matches),

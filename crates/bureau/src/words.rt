@@ -2,8 +2,12 @@
 
 use clap::{Arg, ArgAction, Command, value_parser};
 use s3_data_commands::check_pack::check_command;
+use s3_data_commands::copy::copy_command;
 use s3_data_commands::delete::delete_command;
-use s3_paper_commands::punch_command;
+use s3_data_commands::load::load_command;
+use s3_data_commands::sort::sort_command;
+use s3_data_commands::unload::unload_command;
+use s3_paper_commands::{compile_command, punch_command};
 use std::alloc::{AllocError, Global};
 
 /// The regions of a new pack have so many tracks where the words don't say it.
@@ -21,17 +25,22 @@ pub fn command<'a>(alloc: Global) -> Result<Command<'a>, AllocError> {
         .subcommand_required(true)
         .subcommand(run_command(alloc)?)?
         .subcommand(operate_command(alloc)?)?
-        .subcommand(punch_command(alloc)?)?;
+        .subcommand(punch_command(alloc)?)?
+        .subcommand(compile_command(alloc)?)?;
     pack_commands(alloc, command)
 }
 
 /// The commands over a pack without a day.
 fn pack_commands<'a>(alloc: Global, command: Command<'a>) -> Result<Command<'a>, AllocError> {
     command
-        .subcommand(check_command(alloc)?)?
-        .subcommand(delete_command(alloc)?)?
         .subcommand(init_command(alloc)?)?
         .subcommand(list_command(alloc)?)?
+        .subcommand(check_command(alloc)?)?
+        .subcommand(copy_command(alloc)?)?
+        .subcommand(delete_command(alloc)?)?
+        .subcommand(sort_command(alloc)?)?
+        .subcommand(unload_command(alloc)?)?
+        .subcommand(load_command(alloc)?)?
         .subcommand(migrate_command(alloc)?)
 }
 

@@ -5,7 +5,7 @@ use crate::fault::Fault;
 use crate::pack_words::{label_text, mount_sentence, pack_of, value_of};
 use crate::words::file_word;
 use clap::{ArgMatches, Command};
-use s3_pack_check::{Cause, CheckFault, Wrong, check_pack};
+use s3_pack_check::{CheckFault, Wrong, check_pack, push_cause};
 use std::alloc::{AllocError, Global};
 use std::io::Write;
 
@@ -48,9 +48,13 @@ fn check_file(rt: &HostRuntime, path: &str) -> Result<(), Fault> {
     if wrongs.is_empty() {
         return Ok(());
     }
-    let count = wrongs.len();
+    let slots = match wrongs.len() {
+        1 => format!(in rt.alloc(); "1 slot of {path} needs"),
+        count => format!(in rt.alloc(); "{count} slots of {path} need"),
+    }?;
+    let slots = slots.as_str();
     Err(Fault::Waits(format!(in rt.alloc();
-        "{count} slots of {path} need a person: put back the bytes of a label that are known, or free its slot by `bureau delete --slot`, and load a file again whose index is wrong"
+        "{slots} a person: put back the bytes of a label that are known, or free its slot by `bureau delete --slot`, and load a file again whose index is wrong"
     )?))
 }
 
@@ -69,15 +73,6 @@ fn push_line(alloc: Global, text: &mut String, wrong: &Wrong) -> Result<(), Allo
     let label = label_text(alloc, wrong.name)?;
     let label = label.as_str();
     write!(text, "area {area}, slot {slot}, {label}: ")?;
-    match wrong.cause {
-        Cause::Label(damage) => writeln!(text, "{damage}"),
-        Cause::Index(Some(first)) => {
-            let number = u64::from(first) + 1;
-            writeln!(
-                text,
-                "entry {number} of its index isn't above the one before it, or has another key than its record"
-            )
-        }
-        Cause::Index(None) => writeln!(text, "its index isn't that of its records"),
-    }
+    push_cause(text, wrong.cause)?;
+    text.push('\n')
 }

@@ -3,10 +3,10 @@ ghost use Rattle.std.specs.Prelude.{◌≤◌, ◌<◌};
 
 use crate::fault::Fault;
 use crate::pack_words::{
-    area_number, label_of, label_sentence, mount_sentence, pack_to_save, saved, value_of,
+    area_number, care_sentence, label_of, pack_to_change, refused, saved, tell_done, value_of,
     wrong_words,
 };
-use crate::words::{file_word, flag, value_word};
+use crate::words::{file_word, flag, overwrite_word, value_word};
 use clap::{ArgMatches, Command, value_parser};
 use s3_pack_care::{CareFault, Chosen};
 use std::alloc::{AllocError, Global};
@@ -32,7 +32,8 @@ pub fn delete_command<'a>(alloc: Global) -> Result<Command<'a>, AllocError> {
                 .value_parser(value_parser!(u16))
                 .help("The slot, 0 to 31, in place of a label; `list --table` shows the numbers"),
         )?
-        .arg(flag(alloc, "permanent").help("Deletes the file also where it is permanent"))
+        .arg(flag(alloc, "permanent").help("Deletes the file also where it is permanent"))?
+        .arg(overwrite_word(alloc))
 }
 
 /// Does what the words of `bureau delete` ask, and gives the exit status: 0 where it is done, else that of the refusal, whose
@@ -51,12 +52,13 @@ fn delete_file(rt: &HostRuntime, matches: &ArgMatches<'_>) -> Result<(), Fault> 
     let chosen = chosen_file(rt, matches)?;
     let path = value_of(matches, "pack");
     let save = value_of(matches, "save");
-    let (pack, locked) = pack_to_save(rt, path, save)?;
+    let (pack, locked) = pack_to_change(rt, matches, path, save)?;
     let is_permanent_meant = matches.get_flag("permanent");
     match s3_pack_care::delete(rt.alloc(), pack, area, chosen, is_permanent_meant) {
-        Ok(pack) => saved(rt, save, locked, &pack),
-        Err(fault) => Err(refusal(rt.alloc(), matches, area, fault)),
+        Ok(pack) => saved(rt, save, locked, &pack)?,
+        Err(fault) => return Err(refusal(rt.alloc(), matches, area, fault)),
     }
+    Ok(tell_deleted(rt, matches, area, save)?)
 }
 
 /// The file that the words mean.
@@ -73,10 +75,7 @@ fn chosen_file(rt: &HostRuntime, matches: &ArgMatches<'_>) -> Result<Chosen, Fau
 
 /// Why nothing is deleted.
 fn refusal(alloc: Global, matches: &ArgMatches<'_>, area: u16, fault: CareFault) -> Fault {
-    match refusal_sentence(alloc, matches, area, fault) {
-        Ok(sentence) => Fault::Refused(sentence),
-        Err(_) => Fault::NoMemory,
-    }
+    refused(refusal_sentence(alloc, matches, area, fault))
 }
 
 fn refusal_sentence(
@@ -87,21 +86,32 @@ fn refusal_sentence(
 ) -> Result<String, AllocError> {
     let path = value_of(matches, "pack");
     let label = matches.get_str("label").unwrap_or("");
+    let slot = matches.get_one::<u16>("slot").unwrap_or(0);
     match fault {
-        CareFault::Mount(fault) => mount_sentence(alloc, path, fault),
-        CareFault::NoMemory => Err(AllocError),
-        CareFault::Label(fault) => label_sentence(alloc, path, area, label, fault),
-        CareFault::NoFile => {
-            let slot = matches.get_one::<u16>("slot").unwrap_or(0);
-            format!(in alloc;
-                "slot {slot} in area {area} of {path} has no file; `bureau list --pack {path} --table` shows the slots that have one"
-            )
-        }
-        CareFault::Permanent => format!(in alloc;
-            "the file in area {area} of {path} is permanent; say --permanent if it is meant"
+        CareFault::NoFile => format!(in alloc;
+            "slot {slot} in area {area} of {path} has no file; `bureau list --pack {path} --table` shows the slots that have one"
         ),
-        CareFault::Uncovers(slot) => format!(in alloc;
-            "slot {slot} of {path}, which is damaged, would have a file again once this one is gone; free it first by --slot {slot}, or put its label right"
+        CareFault::NoSlot => format!(in alloc;
+            "area {area} of {path} has no slot {slot}; its slots are 0 to 31"
         ),
+        _ => care_sentence(alloc, path, area, label, fault),
     }
+}
+
+/// Tells what was deleted.
+fn tell_deleted(
+    rt: &HostRuntime,
+    matches: &ArgMatches<'_>,
+    area: u16,
+    save: &str,
+) -> Result<(), AllocError> {
+    let sentence = match matches.get_str("label") {
+        Some(label) => { format!(in rt.alloc(); "{label} is deleted from area {area} of {save}")? }
+        None => {
+            let slot = matches.get_one::<u16>("slot").unwrap_or(0);
+            format!(in rt.alloc(); "slot {slot} in area {area} of {save} is freed")?
+        }
+    };
+    tell_done(rt, sentence.as_str());
+    Ok(())
 }

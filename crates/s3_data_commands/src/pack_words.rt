@@ -6,7 +6,10 @@ use clap::ArgMatches;
 use s3_cards::{Name, host_byte, is_name, to_ebcdic};
 use s3_host_files::{LockedPack, read_pack, read_to_save, save_pack};
 use s3_labels::{LabelFault, MountFault};
+use s3_pack_care::CareFault;
 use std::alloc::{AllocError, Global};
+use std::fs;
+use std::io::Write;
 
 /// A needed word's value.
 pub fn value_of<'a>(matches: &ArgMatches<'a>, word: &str) -> &'a str {
@@ -98,6 +101,80 @@ pub fn pack_to_save(
     match read_to_save(rt, path, save) {
         Ok(read) => Ok(read),
         Err(fault) => Err(of_pack(rt, &fault, path)),
+    }
+}
+
+/// The bytes of the pack at a path, as `pack_to_save` gives them, for a command whose words may have `--overwrite`: without it
+/// another file that is there isn't written over.
+pub fn pack_to_change(
+    rt: &HostRuntime,
+    matches: &ArgMatches<'_>,
+    path: &str,
+    save: &str,
+) -> Result<(Vec<u8>, Option<LockedPack>), Fault> {
+    let (pack, locked) = pack_to_save(rt, path, save)?;
+    if locked.is_none() && !matches.get_flag("overwrite") {
+        refuse_file_there(rt, save)?;
+    }
+    Ok((pack, locked))
+}
+
+/// Refuses a path at which a file is there.
+fn refuse_file_there(rt: &HostRuntime, save: &str) -> Result<(), Fault> {
+    match fs::exists(rt, save) {
+        Ok(false) => Ok(()),
+        Ok(true) => Err(Fault::Refused(format!(in rt.alloc(); "exists {save}")?)),
+        Err(error) => Err(of_call(rt, &error, save)),
+    }
+}
+
+/// Tells on standard error what was done; nothing hangs on whether that can be written.
+pub fn tell_done(rt: &HostRuntime, sentence: &str) {
+    let _ = writeln!(rt.stderr(), "bureau: {sentence}");
+}
+
+/// Why nothing is done to the files of a pack, as one sentence.
+pub fn care_sentence(
+    alloc: Global,
+    path: &str,
+    area: u16,
+    label: &str,
+    fault: CareFault,
+) -> Result<String, AllocError> {
+    match fault {
+        CareFault::Mount(fault) | CareFault::SourceMount(fault) => {
+            mount_sentence(alloc, path, fault)
+        }
+        CareFault::NoMemory => Err(AllocError),
+        CareFault::Label(fault) | CareFault::SourceLabel(fault) => label_sentence(
+            alloc, path, area, label, fault,
+        ),
+        CareFault::NoFile => format!(in alloc;
+            "the slot in area {area} of {path} has no file; `bureau list --pack {path} --table` shows the slots that have one"
+        ),
+        CareFault::NoSlot => format!(in alloc;
+            "area {area} of {path} has no such slot; its slots are 0 to 31"
+        ),
+        CareFault::Exists => format!(in alloc;
+            "area {area} of {path} has a file {label} already; delete it first, or give another label by --as"
+        ),
+        CareFault::Unlike => format!(in alloc;
+            "a copy in area {area} of {path} would not be like the file; `bureau check` tells what is wrong with the pack"
+        ),
+        CareFault::Permanent => format!(in alloc;
+            "the file in area {area} of {path} is permanent; say --permanent if it is meant"
+        ),
+        CareFault::Uncovers(slot) => format!(in alloc;
+            "slot {slot} of {path}, which is damaged, would have a file again once this one is gone; free it first by --slot {slot}, or put its label right"
+        ),
+    }
+}
+
+/// A refusal with the sentence that was made for it.
+pub fn refused(sentence: Result<String, AllocError>) -> Fault {
+    match sentence {
+        Ok(sentence) => Fault::Refused(sentence),
+        Err(_) => Fault::NoMemory,
     }
 }
 

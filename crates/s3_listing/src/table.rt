@@ -5,6 +5,7 @@ use crate::lines::{letter_of_organization, letter_of_retention};
 use crate::written::mount_slots;
 use s3_cards::{LevelId, Name, host_byte};
 use s3_labels::{AreaSlots, FileLabel, Format, Organization, Slot};
+use s3_pack_check::{Cause, CheckFault, Wrong, check_pack, push_cause};
 use s3_store::Stretch;
 use std::alloc::{AllocError, Global};
 use std::io::Write;
@@ -14,19 +15,30 @@ const TRACK: u32 = 24;
 
 /// Writes a table of a pack: for the masters and each level the size of the region, how much of it is free, and each used
 /// slot by its number in the area, 0 to 31. Of a file it has the label, organization, retention and record length, length and
-/// start of the key where there is an index, the capacity, the count, how full the file is, the date and the extents.
+/// start of the key where there is an index, the capacity, the count, how full the file is, the date and the extents; of a slot that is
+/// damaged, or whose index is wrong, the reason.
 ///
 /// Refused with `Mount`, `NoMemory` or `File`, as `list` is.
 pub fn write_table<W: Write>(alloc: Global, pack: &[u8], writer: &mut W) -> Result<(), ListFault> {
     let slots = mount_slots(alloc, pack)?;
-    let text = table_text(alloc, &slots)?;
+    let wrongs = wrongs_of(alloc, pack)?;
+    let text = table_text(alloc, &slots, &wrongs)?;
     match writer.write_all(text.as_str().as_bytes()) {
         Ok(()) => Ok(()),
         Err(_) => Err(ListFault::File),
     }
 }
 
-fn table_text(alloc: Global, slots: &AreaSlots) -> Result<String, AllocError> {
+/// What is wrong with a pack.
+fn wrongs_of(alloc: Global, pack: &[u8]) -> Result<Vec<Wrong>, ListFault> {
+    match check_pack(alloc, pack) {
+        Ok(wrongs) => Ok(wrongs),
+        Err(CheckFault::Mount(fault)) => Err(ListFault::Mount(fault)),
+        Err(CheckFault::NoMemory) => Err(ListFault::NoMemory),
+    }
+}
+
+fn table_text(alloc: Global, slots: &AreaSlots, wrongs: &[Wrong]) -> Result<String, AllocError> {
     let header = slots.header();
     let mut text = String::new(alloc);
     let format = number_of(header.format);
@@ -37,18 +49,29 @@ fn table_text(alloc: Global, slots: &AreaSlots) -> Result<String, AllocError> {
         text,
         "Pack of format {format}: {total} sectors, quotas {quota_one} and {quota_two}"
     )?;
-    push_area(&mut text, "Masters", header.masters, slots.masters())?;
+    push_area(
+        &mut text,
+        "Masters",
+        0,
+        header.masters,
+        slots.masters(),
+        wrongs,
+    )?;
     push_area(
         &mut text,
         "Level 1",
+        1,
         header.level_one,
         slots.slots(LevelId::One),
+        wrongs,
     )?;
     push_area(
         &mut text,
         "Level 2",
+        2,
         header.level_two,
         slots.slots(LevelId::Two),
+        wrongs,
     )?;
     Ok(text)
 }
@@ -60,12 +83,14 @@ fn number_of(format: Format) -> u8 {
     }
 }
 
-/// Appends an area: its region, and a line for each used slot.
+/// Appends an area, 0 for the masters, 1 and 2 for the levels: its region, and a line for each used slot.
 fn push_area(
     text: &mut String,
     title: &str,
+    area: u16,
     region: Stretch,
     slots: &[Slot],
+    wrongs: &[Wrong],
 ) -> Result<(), AllocError> {
     let sectors = u32::from(region.sectors);
     let tracks = sectors / TRACK;
@@ -83,9 +108,19 @@ fn push_area(
         )?;
     }
     for (number, slot) in slots.iter().enumerate() {
-        push_slot(text, number, slot)?;
+        push_slot(text, number, slot, cause_of(wrongs, area, number))?;
     }
     Ok(())
+}
+
+/// What is wrong with the slot of a number in an area, if anything is.
+fn cause_of(wrongs: &[Wrong], area: u16, number: usize) -> Option<Cause> {
+    for wrong in wrongs {
+        if wrong.area == area && usize::from(wrong.slot) == number {
+            return Some(wrong.cause);
+        }
+    }
+    None
 }
 
 fn is_free(slot: &Slot) -> bool {
@@ -114,18 +149,28 @@ fn sectors_of(label: &FileLabel) -> u32 {
     sectors
 }
 
-/// Appends the line of the slot of this number in its area, 0 to 31; a free one has none.
-fn push_slot(text: &mut String, number: usize, slot: &Slot) -> Result<(), AllocError> {
+/// Appends the line of the slot of this number in its area, 0 to 31, with what is wrong with it, if anything is; a free one has none.
+fn push_slot(
+    text: &mut String,
+    number: usize,
+    slot: &Slot,
+    cause: Option<Cause>,
+) -> Result<(), AllocError> {
     match slot {
-        Slot::Free => Ok(()),
+        Slot::Free => return Ok(()),
         Slot::Damaged(Some(name)) => {
             write!(text, "{number:>4} ")?;
             push_name(text, *name)?;
-            writeln!(text, " damaged")
+            text.push_str(" damaged")?;
         }
-        Slot::Damaged(None) => writeln!(text, "{number:>4} ???????? damaged"),
-        Slot::Sound(label) => push_file(text, number, label),
+        Slot::Damaged(None) => write!(text, "{number:>4} ???????? damaged")?,
+        Slot::Sound(label) => push_file(text, number, label)?,
     }
+    if let Some(cause) = cause {
+        text.push_str(": ")?;
+        push_cause(text, cause)?;
+    }
+    text.push('\n')
 }
 
 fn push_file(text: &mut String, number: usize, label: &FileLabel) -> Result<(), AllocError> {
@@ -146,7 +191,7 @@ fn push_file(text: &mut String, number: usize, label: &FileLabel) -> Result<(), 
         let last = (first + u32::from(extent.sectors)).saturating_sub(1);
         write!(text, " {first}-{last}")?;
     }
-    writeln!(text)
+    Ok(())
 }
 
 /// Appends length and start of the key of an indexed file, and blanks for a file without an index.

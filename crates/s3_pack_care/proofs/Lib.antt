@@ -1,3 +1,4 @@
+pub mod Copies
 pub mod Deletes
 pub mod Judged
 pub mod Relabelled

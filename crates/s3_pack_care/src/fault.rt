@@ -15,12 +15,27 @@ pub enum CareFault {
     /// The labels don't allow it.
     #[error("the labels don't allow it")]
     Label(LabelFault),
-    /// The slot is free, or there is no such slot.
+    /// The slot is free.
     #[error("the slot has no file")]
     NoFile,
-    /// The file is permanent, and it wasn't said that this is meant.
+    /// There is no such slot: an area has the slots 0 to 31.
+    #[error("there is no such slot")]
+    NoSlot,
+    /// The file is permanent, sound or damaged, and it wasn't said that this is meant.
     #[error("the file is permanent")]
     Permanent,
+    /// The pack that is to have a file isn't mounted, for what is wrong with its header.
+    #[error("the pack of the file can't be mounted")]
+    SourceMount(MountFault),
+    /// The file isn't in its area.
+    #[error("there is no such file")]
+    SourceLabel(LabelFault),
+    /// A file of the area has the label that a copy is to get.
+    #[error("a file has that label already")]
+    Exists,
+    /// The label of a copy would not be judged to be that of the file.
+    #[error("the copy would not be like the file")]
+    Unlike,
     /// This slot, which is damaged for what it has in common with the file, would have a file again.
     #[error("slot {0} would have a file again")]
     Uncovers(u16),

@@ -58,7 +58,7 @@ fn read_slot<P: Sectors>(pool: &mut P, area: u16, i: u16) -> Result<[u8; 64], Ch
 
 /// How many sectors a file takes.
 #[tactic(auto, using(s3_files::proofs::Rooms::length_sectors), unfolding(s3_slots::specs::Labels::sectors_of))]
-fn sector_count(label: &FileLabel) -> usize
+pub fn sector_count(label: &FileLabel) -> usize
     ensures value { result ≡ length (sectors_of label.now) }
     ensures few { result ≤ 262140 }
 {
@@ -78,7 +78,7 @@ fn count_sectors(runs: &[Stretch]) -> usize
 }
 
 /// The bytes of a file of the pack, those of its index among them.
-fn file_bytes<P: Sectors>(
+pub fn file_bytes<P: Sectors>(
     alloc: Global,
     pool: &mut P,
     label: &FileLabel,

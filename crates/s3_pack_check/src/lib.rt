@@ -14,8 +14,10 @@ mod damage;
 mod entries;
 mod fault;
 mod laws;
+mod words;
 
-pub use checking::{Cause, Wrong, check_pack, region_of, slots_of};
+pub use checking::{Cause, Wrong, check_pack, file_bytes, region_of, sector_count, slots_of};
 pub use damage::{Damage, damage_of};
 pub use fault::CheckFault;
 pub use laws::nothing_is_told_of_a_sound_pack;
+pub use words::push_cause;

@@ -11,7 +11,7 @@ use Rattle.s3_labels.specs.Inner.Areas.{Areas, areas_on, slots_in}
 use Rattle.s3_labels.specs.declared.fault.Refusal.{Refusal}
 use Rattle.s3_labels.specs.declared.fault.Refusal.TheVariants.{BadPack, Sectors}
 use Rattle.s3_pack_care.specs.declared.fault.CareFault.{CareFault}
-use Rattle.s3_pack_care.specs.declared.fault.CareFault.TheVariants.{Label, Mount, NoFile, NoMemory, Permanent, Uncovers}
+use Rattle.s3_pack_care.specs.declared.fault.CareFault.TheVariants.{Mount, NoMemory}
 
 -- ---- slots as they are judged
 abbrev pub same_kind : Slot → Slot → Bool

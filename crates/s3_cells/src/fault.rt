@@ -1,0 +1,49 @@
+//! Why a value isn't shown, and why a cell isn't taken.
+ghost use Rattle.std.specs.Prelude.{◌≡◌};
+
+use std::alloc::AllocError;
+use thiserror::Error;
+
+/// Why a field of a record isn't shown.
+#[derive(Clone, Copy, Debug, PartialEq, Eq, Error)]
+pub enum ShowFault {
+    /// The text has a byte that is no character; its position in the record, from 1.
+    #[error("a byte that is no character")]
+    NoCharacter(u16),
+    /// The number has a digit above 9.
+    #[error("a digit above 9")]
+    NoNumber,
+    /// Memory was refused.
+    #[error("out of memory")]
+    NoMemory,
+}
+
+impl From<AllocError> for ShowFault {
+    ghost use Rattle.s3_cells.specs.declared.fault.ShowFault.TheVariants.{NoMemory as NoMemoryVariant};
+
+    ghost from_gives = { λ _ fault. fault ≡ NoMemoryVariant };
+
+    fn from(_: AllocError) -> Self {
+        ShowFault::NoMemory
+    }
+}
+
+/// Why a cell isn't taken into a field.
+#[derive(Clone, Copy, Debug, PartialEq, Eq, Error)]
+pub enum CellFault {
+    /// The cell is no number.
+    #[error("this is no number")]
+    NoNumber,
+    /// The number has more decimals than the field.
+    #[error("the number has more decimals than the field")]
+    TooManyDecimals,
+    /// The number has more digits in front of the point than the field.
+    #[error("the number has more digits than the field")]
+    TooLarge,
+    /// The text is longer than the field.
+    #[error("the text is longer than the field")]
+    TooLong,
+    /// The text has a character that no card can have.
+    #[error("the text has a character that no card can have")]
+    NoCharacter,
+}

@@ -1,0 +1,97 @@
+//! `bureau copy`: a file copied into an area.
+ghost use Rattle.std.specs.Prelude.{◌≤◌, ◌<◌};
+
+use crate::fault::Fault;
+use crate::pack_words::{
+    area_number, care_sentence, label_of, label_sentence, mount_sentence, pack_of, pack_to_change,
+    refused, saved, tell_done, value_of,
+};
+use crate::words::{file_word, overwrite_word, save_word, value_word};
+use clap::{ArgMatches, Command};
+use s3_pack_care::CareFault;
+use std::alloc::{AllocError, Global};
+
+/// The words of the command.
+pub fn copy_command<'a>(alloc: Global) -> Result<Command<'a>, AllocError> {
+    Command::new(alloc, "copy")
+        .about("Copies a file of a pack, with its index, into an area of another or the same")
+        .arg(
+            file_word(alloc, "pack")
+                .required(true)
+                .help("The pack that has the file"),
+        )?
+        .arg(
+            value_word(alloc, "area", "AREA").required(true).help(
+                "The area of the file: 0 for the masters, 1 or 2 for a level",
+            ),
+        )?
+        .arg(
+            value_word(alloc, "label", "LABEL")
+                .required(true)
+                .help("The label of the file"),
+        )?
+        .arg(
+            file_word(alloc, "into")
+                .required(true)
+                .help("The pack that gets the copy"),
+        )?
+        .arg(
+            value_word(alloc, "to-area", "AREA")
+                .required(true)
+                .help("The area that gets it"),
+        )?
+        .arg(save_word(alloc).help("Where the pack with the copy is written"))?
+        .arg(value_word(alloc, "as", "LABEL").help("The label of the copy, if it is another one"))?
+        .arg(overwrite_word(alloc))
+}
+
+/// Does what the words of `bureau copy` ask, and gives the exit status: 0 where it is done, else that of the refusal, whose
+/// sentence it wrote on standard error; then nothing was saved.
+pub fn copy(rt: &HostRuntime, matches: &ArgMatches<'_>) -> u8
+    ensures { result ≤ 4 }
+{
+    match copy_file(rt, matches) {
+        Ok(()) => 0,
+        Err(fault) => fault.tell(&mut rt.stderr()),
+    }
+}
+
+fn copy_file(rt: &HostRuntime, matches: &ArgMatches<'_>) -> Result<(), Fault> {
+    let area = area_number(rt, value_of(matches, "area"))?;
+    let to_area = area_number(rt, value_of(matches, "to-area"))?;
+    let label = value_of(matches, "label");
+    let name = label_of(rt, label)?;
+    let new_label = matches.get_str("as").unwrap_or(label);
+    let new_name = label_of(rt, new_label)?;
+    let save = value_of(matches, "save");
+    let (into, locked) = pack_to_change(rt, matches, value_of(matches, "into"), save)?;
+    let from = pack_of(rt, value_of(matches, "pack"))?;
+    match s3_pack_care::copy(rt.alloc(), from, area, name, into, to_area, new_name) {
+        Ok(pack) => saved(rt, save, locked, &pack)?,
+        Err(fault) => return Err(refusal(rt.alloc(), matches, area, to_area, fault)),
+    }
+    let sentence = format!(in rt.alloc();
+        "{label} of area {area} is copied into area {to_area} of {save} as {new_label}"
+    )?;
+    tell_done(rt, sentence.as_str());
+    Ok(())
+}
+
+/// Why nothing is copied: what the pack lacks that has the file, or what doesn't allow it in the pack that was to get the copy.
+fn refusal(
+    alloc: Global,
+    matches: &ArgMatches<'_>,
+    area: u16,
+    to_area: u16,
+    fault: CareFault,
+) -> Fault {
+    let from = value_of(matches, "pack");
+    let into = value_of(matches, "into");
+    let label = value_of(matches, "label");
+    let new_label = matches.get_str("as").unwrap_or(label);
+    refused(match fault {
+        CareFault::SourceMount(fault) => mount_sentence(alloc, from, fault),
+        CareFault::SourceLabel(fault) => label_sentence(alloc, from, area, label, fault),
+        _ => care_sentence(alloc, into, to_area, new_label, fault),
+    })
+}

@@ -1,0 +1,189 @@
+//! Sentences of refusals of `load`: what is wrong, where, and what mends it.
+
+use crate::pack_words::label_text;
+use s3_cells::CellFault;
+use s3_labels::{LabelFault, MountFault};
+use s3_load::{HeadingFault, LoadFault, Reason, ValueFault};
+use std::alloc::{AllocError, Global};
+
+/// Why a pack isn't mounted.
+fn mount_sentence(alloc: Global, path: &str, fault: MountFault) -> Result<String, AllocError> {
+    let reason = match fault {
+        MountFault::BadHeader => "its header isn't that of a pack",
+        MountFault::BadRegions => "its regions don't lie within it side by side",
+        MountFault::Short => "it is shorter than its header says",
+    };
+    format!(in alloc;
+        "the file {path} is no pack that can be used: {reason}; give one that `bureau init` made"
+    )
+}
+
+/// Why a label can't be used.
+fn label_sentence(alloc: Global, label: &str, fault: LabelFault) -> Result<String, AllocError> {
+    match fault {
+        LabelFault::NotFound => {
+            format!(in alloc;
+                "the area has no file {label}; `bureau list --table` shows the files that are there"
+            )
+        }
+        LabelFault::DamagedLabel => {
+            format!(in alloc;
+                "the label {label} is damaged; `bureau list --table` shows its slot, which has to be freed first"
+            )
+        }
+        LabelFault::Master => {
+            format!(in alloc; "a master has the label {label}; load under another label")
+        }
+        LabelFault::NoSpace => {
+            format!(in alloc;
+                "the region of the level has no room for {label}; delete a file that isn't needed, or ask for less by --records or --tracks"
+            )
+        }
+        LabelFault::Retained => {
+            format!(in alloc;
+                "the file {label} is there and permanent; delete it first, or load under another label"
+            )
+        }
+        LabelFault::NoSlot => {
+            format!(in alloc;
+                "all 32 slots of the level are used; delete a file that isn't needed, so that {label} gets one"
+            )
+        }
+    }
+}
+
+fn bad_index(alloc: Global, label: &str) -> Result<String, AllocError> {
+    format!(in alloc;
+        "the index of {label} isn't that of its records; --as hex writes the records as they stand in the file"
+    )
+}
+
+/// Why a table isn't loaded, but for what is wrong with its heading and its rows.
+pub fn load_sentence(
+    alloc: Global,
+    path: &str,
+    label: &str,
+    fault: &LoadFault,
+) -> Result<String, AllocError> {
+    match fault {
+        LoadFault::NoMemory => Err(AllocError),
+        LoadFault::File => format!(in alloc; "standard input can't be read"),
+        LoadFault::NoHeading => {
+            format!(in alloc;
+                "standard input has no table; its first line has to name the fields of the layout"
+            )
+        }
+        LoadFault::Heading(_) => {
+            format!(in alloc; "the heading isn't that of the layout; nothing is loaded")
+        }
+        LoadFault::Values(_, count) => {
+            format!(in alloc; "the table has {count} faults; nothing is loaded")
+        }
+        LoadFault::Mount(fault) => mount_sentence(alloc, path, *fault),
+        LoadFault::Label(fault) => label_sentence(alloc, label, *fault),
+        LoadFault::NoName => format!(in alloc; "{label} is no label"),
+        LoadFault::NoKey => {
+            format!(in alloc;
+                "the key of the F sheet doesn't lie in the records; mend columns 29, 30 and 35 to 38 of the layout's F card"
+            )
+        }
+        LoadFault::NoRoom => {
+            format!(in alloc;
+                "a file has room for 1 to 999999 records or takes 1 to 999 tracks; ask for such room, or load the table in parts"
+            )
+        }
+        LoadFault::Full(room, records) => {
+            format!(in alloc;
+                "the file {label} has room for {room} records and would have {records}; ask for more by --records or --tracks"
+            )
+        }
+        LoadFault::OtherKind => {
+            format!(in alloc;
+                "the file {label} that is there has records of another length, another key or another organization; load without --append, or give its own layout"
+            )
+        }
+        LoadFault::BadIndex => bad_index(alloc, label),
+    }
+}
+
+/// What is wrong with a heading.
+pub fn heading_sentence(alloc: Global, fault: &HeadingFault) -> Result<String, AllocError> {
+    match fault {
+        HeadingFault::Unknown(column, text) => {
+            let shown = shown(alloc, text)?;
+            format!(in alloc;
+                "line 1, column {column}: the layout has no field \"{shown}\"; leave the column out, or name a field as the I sheet does"
+            )
+        }
+        HeadingFault::Twice(name) => {
+            let name = label_text(alloc, Some(*name))?;
+            format!(in alloc; "line 1: the field {name} is named twice; leave one column out")
+        }
+        HeadingFault::Overlap(one, other) => {
+            let one = label_text(alloc, Some(*one))?;
+            let other = label_text(alloc, Some(*other))?;
+            format!(in alloc;
+                "line 1: the fields {one} and {other} lie over each other; leave one column out"
+            )
+        }
+        HeadingFault::Missing(name) => {
+            let name = label_text(alloc, Some(*name))?;
+            format!(in alloc;
+                "line 1: the field {name} is missing; add its column, or have it blank or 0 by --fill"
+            )
+        }
+    }
+}
+
+/// What is wrong with a row.
+pub fn value_sentence(alloc: Global, fault: &ValueFault) -> Result<String, AllocError> {
+    let line = fault.line;
+    let place = match fault.field {
+        Some(name) => {
+            let name = label_text(alloc, Some(name))?;
+            format!(in alloc; "line {line}, {name}")?
+        }
+        None => format!(in alloc; "line {line}")?,
+    };
+    match fault.reason {
+        Reason::Cell(fault) => {
+            let cure = cure_of(fault);
+            format!(in alloc; "{place}: {fault}; {cure}")
+        }
+        Reason::Cells(count) => {
+            format!(in alloc;
+                "{place}: the row has {count} cells, and the heading another number; give each column a cell"
+            )
+        }
+        Reason::SameKey(other) => {
+            format!(in alloc;
+                "{place}: the row on line {other} has the same key; give each row a key of its own"
+            )
+        }
+        Reason::KeyInFile => {
+            format!(in alloc; "{place}: a record of the file has the same key; leave the row out")
+        }
+    }
+}
+
+/// What mends a cell.
+fn cure_of(fault: CellFault) -> &'static str {
+    match fault {
+        CellFault::NoNumber =>
+            "write digits, with a minus in front and a point where they are needed",
+        CellFault::TooManyDecimals => "round it",
+        CellFault::TooLarge => "write a smaller one",
+        CellFault::TooLong => "shorten it",
+        CellFault::NoCharacter => "use capital letters, digits and the signs of cards",
+    }
+}
+
+/// The text of a cell, with a question mark for each byte that is no printable character of ASCII.
+fn shown(alloc: Global, text: &[u8]) -> Result<String, AllocError> {
+    let mut shown = String::new(alloc);
+    for byte in text {
+        let is_plain = b' ' <= *byte && *byte <= b'~';
+        shown.push(if is_plain { char::from(*byte) } else { '?' })?;
+    }
+    Ok(shown)
+}

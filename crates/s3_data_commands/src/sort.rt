@@ -1,0 +1,228 @@
+//! `bureau sort`: the records of a file sorted.
+ghost use Rattle.std.specs.Prelude.{◌≤◌, ◌<◌, IfOk};
+
+use crate::fault::Fault;
+use crate::pack_words::{
+    care_sentence, label_of, label_sentence, mount_sentence, pack_to_change, refused, saved,
+    tell_done, value_of, wrong_words,
+};
+use crate::words::{file_word, overwrite_word, save_word, value_word};
+use clap::{ArgMatches, Command};
+use s3_cards::Name;
+use s3_pack_care::CareFault;
+use s3_sort::{Form, SortFault, SortField};
+use std::alloc::{AllocError, Global};
+use std::io::Write;
+
+/// The words of the command.
+pub fn sort_command<'a>(alloc: Global) -> Result<Command<'a>, AllocError> {
+    Command::new(alloc, "sort")
+        .about("Sorts the records of a file that has no index and isn't direct")
+        .arg(file_word(alloc, "pack").required(true).help("The pack"))?
+        .arg(save_word(alloc))?
+        .arg(
+            value_word(alloc, "level", "LEVEL")
+                .required(true)
+                .help("The level of the file, 1 or 2"),
+        )?
+        .arg(
+            value_word(alloc, "label", "LABEL")
+                .required(true)
+                .help("The label of the file"),
+        )?
+        .arg(
+            value_word(alloc, "by", "FIELDS").required(true).help(
+                "The fields by which it is sorted, FROM-TO each with commas between: Z behind one is a zoned number, P a packed one, D the greatest first",
+            ),
+        )?
+        .arg(value_word(alloc, "as", "LABEL").help(
+            "The label of a new file for the sorted records; else the file itself is sorted",
+        ))?
+        .arg(overwrite_word(alloc))
+}
+
+/// Does what the words of `bureau sort` ask, and gives the exit status: 0 where it is done, else that of the refusal, whose
+/// sentence it wrote on standard error; then nothing was saved.
+pub fn sort(rt: &HostRuntime, matches: &ArgMatches<'_>) -> u8
+    ensures { result ≤ 4 }
+{
+    match sort_file(rt, matches) {
+        Ok(()) => 0,
+        Err(fault) => fault.tell(&mut rt.stderr()),
+    }
+}
+
+fn sort_file(rt: &HostRuntime, matches: &ArgMatches<'_>) -> Result<(), Fault> {
+    let level = level_number(rt, value_of(matches, "level"))?;
+    let label = value_of(matches, "label");
+    let name = label_of(rt, label)?;
+    let by = value_of(matches, "by");
+    let fields = fields_of(rt.alloc(), by)?;
+    let path = value_of(matches, "pack");
+    let save = value_of(matches, "save");
+    let new_label = matches.get_str("as").unwrap_or(label);
+    let new_name = label_of(rt, new_label)?;
+    let (pack, locked) = pack_to_change(rt, matches, path, save)?;
+    let pack = if matches.get_str("as").is_some() {
+        with_copy(
+            rt.alloc(),
+            path,
+            pack,
+            level,
+            label,
+            name,
+            new_label,
+            new_name,
+        )?
+    } else {
+        pack
+    };
+    match s3_sort::sort(rt.alloc(), pack, level, new_name, &fields) {
+        Ok(pack) => saved(rt, save, locked, &pack)?,
+        Err(fault) => {
+            return Err(refused(sort_sentence(rt.alloc(), path, level, label, &fields, fault)));
+        }
+    }
+    let sentence = format!(in rt.alloc();
+        "{new_label} of level {level} of {save} is sorted by {by}"
+    )?;
+    tell_done(rt, sentence.as_str());
+    Ok(())
+}
+
+/// The level that a word names.
+fn level_number(rt: &HostRuntime, text: &str) -> Result<u16, Fault>
+    ensures { IfOk result (λ level. level < 3) }
+{
+    match text {
+        "1" => Ok(1),
+        "2" => Ok(2),
+        _ => Err(wrong_words(rt.alloc(), "a level is 1 or 2")),
+    }
+}
+
+/// A pack with a copy of a file of a level beside it.
+fn with_copy(
+    alloc: Global,
+    path: &str,
+    pack: Vec<u8>,
+    level: u16,
+    label: &str,
+    name: Name,
+    new_label: &str,
+    new_name: Name,
+) -> Result<Vec<u8>, Fault>
+    requires { level < 3 }
+{
+    let from = Vec::from_slice(alloc, &pack)?;
+    match s3_pack_care::copy(alloc, from, level, name, pack, level, new_name) {
+        Ok(pack) => Ok(pack),
+        Err(CareFault::SourceLabel(fault)) => {
+            Err(refused(label_sentence(alloc, path, level, label, fault)))
+        }
+        Err(fault) => Err(refused(care_sentence(alloc, path, level, new_label, fault))),
+    }
+}
+
+/// The fields that a text names; all parts that name none are told at once.
+fn fields_of(alloc: Global, text: &str) -> Result<Vec<SortField>, Fault> {
+    let mut fields = Vec::new(alloc);
+    let mut wrong = String::new(alloc);
+    for part in text.split(',') {
+        match field_of(part) {
+            Some(field) => fields.push(field)?,
+            None => push_wrong(&mut wrong, part)?,
+        }
+    }
+    if wrong.is_empty() {
+        return Ok(fields);
+    }
+    let wrong = wrong.as_str();
+    Err(Fault::Usage(format!(in alloc;
+        "{wrong} in --by isn't FROM-TO with Z or P, and D, behind it: bytes of a record from 1, of a number at most 15 with Z, and 8 with P"
+    )?))
+}
+
+/// Appends a part that names no field, with a comma before it where it isn't the first.
+fn push_wrong(wrong: &mut String, part: &str) -> Result<(), AllocError> {
+    if !wrong.is_empty() {
+        wrong.push_str(", ")?;
+    }
+    write!(wrong, "`{part}`")
+}
+
+/// The field that a text names, if it does.
+fn field_of(part: &str) -> Option<SortField> {
+    let (rest, descending) = match part.strip_suffix("D") {
+        Some(rest) => (rest, true),
+        None => (part, false),
+    };
+    let (range, form) = form_of(rest);
+    let (from, to) = range.split_once("-")?;
+    let field = SortField {
+        from: place_of(from)?,
+        to: place_of(to)?,
+        form,
+        descending,
+    };
+    if field.fits(1024) { Some(field) } else { None }
+}
+
+/// How the bytes of a field are compared, behind its range.
+fn form_of(text: &str) -> (&str, Form) {
+    if let Some(range) = text.strip_suffix("Z") {
+        return (range, Form::Zoned);
+    }
+    match text.strip_suffix("P") {
+        Some(range) => (range, Form::Packed),
+        None => (text, Form::Characters),
+    }
+}
+
+/// The place in a record that a text of digits gives.
+fn place_of(text: &str) -> Option<u16> {
+    text.parse::<u16>().ok()
+}
+
+/// Why a file isn't sorted, and what helps.
+fn sort_sentence(
+    alloc: Global,
+    path: &str,
+    level: u16,
+    label: &str,
+    fields: &[SortField],
+    fault: SortFault,
+) -> Result<String, AllocError> {
+    match fault {
+        SortFault::Mount(fault) => mount_sentence(alloc, path, fault),
+        SortFault::Label(fault) => label_sentence(alloc, path, level, label, fault),
+        SortFault::NoMemory => Err(AllocError),
+        SortFault::NotInOrder => format!(in alloc;
+            "{label} of level {level} of {path} is indexed or direct, and its records have their places; a program can copy them into a file in order, which can be sorted"
+        ),
+        SortFault::Field(_, length) => misfit_sentence(alloc, label, fields, length),
+    }
+}
+
+/// Which fields don't fit the records of a file.
+fn misfit_sentence(
+    alloc: Global,
+    label: &str,
+    fields: &[SortField],
+    length: u16,
+) -> Result<String, AllocError> {
+    let mut misfits = String::new(alloc);
+    for field in fields {
+        if !field.fits(length) {
+            push_range(&mut misfits, *field)?;
+        }
+    }
+    let misfits = misfits.as_str();
+    format!(in alloc; "the records of {label} have {length} bytes, and --by has{misfits}")
+}
+
+fn push_range(text: &mut String, field: SortField) -> Result<(), AllocError> {
+    let from = field.from;
+    let to = field.to;
+    write!(text, " {from}-{to}")
+}

@@ -1,0 +1,137 @@
+//! `bureau unload`: the records of a file, for other programs.
+ghost use Rattle.std.specs.Prelude.{◌≤◌};
+
+use crate::fault::Fault;
+use crate::inputs::{delimiter_of, layout_of};
+use crate::pack_words::{area_number, label_of, pack_of, value_of, wrong_words};
+use crate::sentences::unload_sentence;
+use crate::words::{file_word, value_word};
+use clap::{ArgMatches, Command};
+use s3_cards::{LevelId, Name};
+use s3_unload::{Area, LineForm, UnloadFault};
+use std::alloc::{AllocError, Global};
+
+/// The words of the command.
+pub fn unload_command<'a>(alloc: Global) -> Result<Command<'a>, AllocError> {
+    Command::new(alloc, "unload")
+        .about("Writes the records of a file as a table in CSV, as texts or in hexadecimal digits")
+        .arg(file_word(alloc, "pack").required(true).help("The pack"))?
+        .arg(
+            value_word(alloc, "area", "AREA")
+                .required(true)
+                .help("0 for the masters, 1 or 2 for a level"),
+        )?
+        .arg(
+            value_word(alloc, "label", "LABEL")
+                .required(true)
+                .help("The label of the file"),
+        )?
+        .arg(file_word(alloc, "layout").help(
+            "A deck with the RPG source whose I sheet has the fields",
+        ))?
+        .arg(value_word(alloc, "file", "NAME").help(
+            "The file of the source, where it has several on DISK",
+        ))?
+        .arg(value_word(alloc, "type", "INDICATOR").help(
+            "The type of records, where the file has several",
+        ))?
+        .arg(value_word(alloc, "as", "FORM").help(
+            "csv, text or hex; csv with a layout, else text, if it isn't said",
+        ))?
+        .arg(value_word(alloc, "delimiter", "C").help(
+            "The character between the cells, a comma if it isn't said",
+        ))
+}
+
+/// Does what the words of `bureau unload` ask, and gives the exit status: 0 where it is done, 4 where a value can't be shown and
+/// the rows before it are written; else that of the refusal, whose sentence it wrote on standard error.
+pub fn unload(rt: &HostRuntime, matches: &ArgMatches<'_>) -> u8
+    ensures { result ≤ 4 }
+{
+    match unload_file(rt, matches) {
+        Ok(()) => 0,
+        Err(fault) => fault.tell(&mut rt.stderr()),
+    }
+}
+
+fn unload_file(rt: &HostRuntime, matches: &ArgMatches<'_>) -> Result<(), Fault> {
+    let number = area_number(rt, value_of(matches, "area"))?;
+    let area = area_of(number);
+    let label = value_of(matches, "label");
+    let name = label_of(rt, label)?;
+    let path = value_of(matches, "pack");
+    let form = form_of(rt, matches)?;
+    let done = match (form, matches.get_str("layout")) {
+        (Some(form), _) => {
+            let pack = pack_of(rt, path)?;
+            s3_unload::unload_lines(rt.alloc(), &pack, area, name, form, &mut rt.stdout())
+        }
+        (None, Some(layout)) => unload_table(rt, matches, path, area, name, layout)?,
+        (None, None) => {
+            return Err(wrong_words(
+                rt.alloc(),
+                "--as csv needs a layout; name a deck with the source by --layout",
+            ));
+        }
+    };
+    match done {
+        Ok(()) => Ok(()),
+        Err(fault) => Err(fault_of(rt.alloc(), path, number, label, &fault)),
+    }
+}
+
+/// Writes the table of a file.
+fn unload_table(
+    rt: &HostRuntime,
+    matches: &ArgMatches<'_>,
+    path: &str,
+    area: Area,
+    name: Name,
+    layout: &str,
+) -> Result<Result<(), UnloadFault>, Fault> {
+    let delimiter = delimiter_of(rt, matches)?;
+    let layout = layout_of(rt, matches, layout)?;
+    let pack = pack_of(rt, path)?;
+    Ok(s3_unload::unload(
+        rt.alloc(),
+        &pack,
+        area,
+        name,
+        &layout.layout,
+        delimiter,
+        &mut rt.stdout(),
+    ))
+}
+
+/// The area of a number.
+fn area_of(number: u16) -> Area {
+    match number {
+        0 => Area::Masters,
+        1 => Area::Level(LevelId::One),
+        _ => Area::Level(LevelId::Two),
+    }
+}
+
+/// The form of lines that the words ask for; none for a table.
+fn form_of(rt: &HostRuntime, matches: &ArgMatches<'_>) -> Result<Option<LineForm>, Fault> {
+    match (matches.get_str("as"), matches.get_str("layout")) {
+        (Some("text"), _) | (None, None) => Ok(Some(LineForm::Text)),
+        (Some("hex"), _) => Ok(Some(LineForm::Hexadecimal)),
+        (Some("csv"), _) | (None, Some(_)) => Ok(None),
+        (Some(_), _) => Err(wrong_words(rt.alloc(), "a file is unloaded as csv, text or hex")),
+    }
+}
+
+/// What a refusal is to the command.
+fn fault_of(alloc: Global, path: &str, area: u16, label: &str, fault: &UnloadFault) -> Fault {
+    let sentence = match unload_sentence(alloc, path, area, label, fault) {
+        Ok(sentence) => sentence,
+        Err(_) => return Fault::NoMemory,
+    };
+    match fault {
+        UnloadFault::NoMemory => Fault::NoMemory,
+        UnloadFault::File => Fault::File(sentence),
+        UnloadFault::Hidden(_, _, _) | UnloadFault::NoCharacter(_, _) => Fault::Waits(sentence),
+        _ => Fault::Refused(sentence),
+    }
+}

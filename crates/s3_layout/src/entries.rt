@@ -1,0 +1,188 @@
+//! The types of records of a file, and the lines of their fields.
+ghost use Rattle.std.specs.Prelude.{◌≡◌, ◌++◌, Some, None, IfOk, OnOk};
+ghost use Rattle.std.specs.List.{list_any};
+ghost use Rattle.s3_lines.specs.Indicators.{same_indicator};
+ghost use Rattle.s3_layout.specs.Inner.Files.{Chooses};
+ghost use Rattle.s3_layout.specs.Inner.Entries.{behind as behind_spec, behind_input as behind_input_spec, begun as begun_spec, entries_from, first as first_spec, is_meant as is_meant_spec, is_taken as is_taken_spec, taken, tested, types_from};
+
+use crate::fault::LayoutFault;
+use s3_cards::Name;
+use s3_lines::indicator::Indicator;
+use s3_lines::sheet::{FieldLine, InputLine, Line, SheetLine};
+use std::alloc::{AllocError, Global};
+
+/// Where a line of the I sheet stands: in the records of a file, and among the lines of a type that is meant.
+#[derive(Clone, Copy)]
+pub struct Place {
+    in_file: bool,
+    is_meant: bool,
+}
+
+impl Place {
+    /// In front of all lines.
+    fn first() -> Place
+        ensures { result ≡ first_spec }
+    {
+        Place {
+            in_file: false,
+            is_meant: false,
+        }
+    }
+
+    /// At a line, behind those that stand here.
+    fn behind(self, line: &Line, file: Name, record_type: Option<Indicator>) -> Place
+        ensures { result ≡ behind_spec file record_type self line.now }
+    {
+        match &line.sheet {
+            SheetLine::Input(input) => self.behind_input(input, file, record_type),
+            _ => self,
+        }
+    }
+
+    fn behind_input(self, line: &InputLine, file: Name, record_type: Option<Indicator>) -> Place
+        ensures { result ≡ behind_input_spec file record_type self line.now }
+    {
+        match line {
+            InputLine::Record(name, indicator, _) => {
+                let in_file = *name == file;
+                Place {
+                    in_file,
+                    is_meant: in_file && is_meant(*indicator, record_type),
+                }
+            }
+            InputLine::Or(indicator, _) => Place {
+                in_file: self.in_file,
+                is_meant: self.is_meant || self.in_file && is_meant(*indicator, record_type),
+            },
+            InputLine::And(_) | InputLine::Field(_) => self,
+        }
+    }
+}
+
+/// Whether the type of an indicator is the one that is named, or none is.
+fn is_meant(indicator: Indicator, record_type: Option<Indicator>) -> bool
+    ensures { result ≡ is_meant_spec record_type indicator }
+{
+    match record_type {
+        Some(named) => named.is(indicator),
+        None => true,
+    }
+}
+
+/// The lines of the fields that are taken from the records that are meant.
+pub fn entries_meant(
+    alloc: Global,
+    lines: &[Line],
+    file: Name,
+    record_type: Option<Indicator>,
+) -> Result<Vec<FieldLine>, AllocError>
+    ensures { IfOk result (λ entries. entries.items ≡ entries_from file record_type first_spec lines.now) }
+{
+    let mut entries = Vec::new(alloc);
+    let mut place = Place::first();
+    for line in lines {
+        place = place.behind(line, file, record_type);
+        push_taken(&mut entries, place, line, record_type)?;
+    }
+    Ok(entries)
+}
+
+/// Adds the line of a field that is taken.
+fn push_taken(
+    entries: &mut Vec<FieldLine>,
+    place: Place,
+    line: &Line,
+    record_type: Option<Indicator>,
+) -> Result<(), AllocError>
+    ensures { OnOk result (entries.new.items ≡ entries.old.items ++ taken record_type place line.now) }
+{
+    match &line.sheet {
+        SheetLine::Input(InputLine::Field(entry))
+            if place.is_meant && is_taken(entry, record_type) => {
+            entries.push(*entry)?;
+            Ok(())
+        }
+        _ => Ok(()),
+    }
+}
+
+/// Whether a field is taken from the records of a type: its entry in 63 and 64 is blank, or names that type.
+fn is_taken(entry: &FieldLine, record_type: Option<Indicator>) -> bool
+    ensures { result ≡ is_taken_spec record_type entry.now }
+{
+    match (entry.relation, record_type) {
+        (Some(relation), Some(named)) => named.is(relation),
+        _ => true,
+    }
+}
+
+/// Refuses a file of several types where none is named, and a type that the file doesn't have.
+pub fn test_type(
+    alloc: Global,
+    lines: &[Line],
+    file: Name,
+    record_type: Option<Indicator>,
+) -> Result<(), LayoutFault>
+    ensures { Chooses (tested record_type (types_from file first_spec lines.now)) result }
+{
+    let types = types_of(alloc, lines, file)?;
+    match record_type {
+        Some(named) => test_named(&types, named),
+        None => test_only(&types),
+    }
+}
+
+/// Refuses a type that isn't there.
+fn test_named(types: &[Indicator], named: Indicator) -> Result<(), LayoutFault>
+    ensures { result ≡ tested (Some named) types.now }
+{
+    if has_type(types, named) {
+        Ok(())
+    } else {
+        Err(LayoutFault::OtherType)
+    }
+}
+
+/// Whether a type is there.
+fn has_type(types: &[Indicator], named: Indicator) -> bool
+    ensures { result ≡ list_any (same_indicator named) types.now }
+{
+    types.iter().any(|indicator| named.is(*indicator))
+}
+
+/// Refuses several types.
+fn test_only(types: &[Indicator]) -> Result<(), LayoutFault>
+    ensures { result ≡ tested None types.now }
+{
+    match types {
+        [] | [_] => Ok(()),
+        _ => Err(LayoutFault::SeveralTypes),
+    }
+}
+
+/// The indicators of the types of records that a file has.
+fn types_of(alloc: Global, lines: &[Line], file: Name) -> Result<Vec<Indicator>, AllocError>
+    ensures { IfOk result (λ types. types.items ≡ types_from file first_spec lines.now) }
+{
+    let mut types = Vec::new(alloc);
+    let mut place = Place::first();
+    for line in lines {
+        place = place.behind(line, file, None);
+        push_begun(&mut types, place, line)?;
+    }
+    Ok(types)
+}
+
+/// Adds the indicator of the type of the file that begins on a line.
+fn push_begun(types: &mut Vec<Indicator>, place: Place, line: &Line) -> Result<(), AllocError>
+    ensures { OnOk result (types.new.items ≡ types.old.items ++ begun_spec place line.now) }
+{
+    match &line.sheet {
+        SheetLine::Input(InputLine::Record(_, indicator, _) | InputLine::Or(indicator, _))
+            if place.in_file => {
+            types.push(*indicator)?;
+            Ok(())
+        }
+        _ => Ok(()),
+    }
+}

@@ -1,0 +1,70 @@
+//! The layout that a source describes.
+ghost use Rattle.std.specs.Prelude.{◌≤◌, length, slice_range, IfOk};
+ghost use Rattle.s3_sheets.specs.Lines.{lines_of};
+ghost use Rattle.s3_layout.specs.Inner.Layouts.{IsLayoutOf};
+
+use crate::choosing::{Choice, chosen_file};
+use crate::columns::fields_of;
+use crate::entries::{entries_meant, test_type};
+use crate::fault::LayoutFault;
+use s3_cards::Deck;
+use s3_cells::Layout;
+use s3_lines::sheet::KeyField;
+use s3_sheets::{SheetFault, read_sheets};
+use std::alloc::Global;
+
+/// How the records of a file are laid out, and where their key lies.
+#[derive(Drop)]
+pub struct SourceLayout {
+    /// The records: their length by the F sheet, and the fields of the I sheet in the order of their cards, at least one.
+    pub layout: Layout,
+    /// Where the key lies, of a file that is addressed by keys and has an index.
+    pub key: Option<KeyField>,
+}
+
+/// The layout of records that the source on these cards of a deck describes, from place `from` up to but without `to`. Of a type
+/// of records that is named, it has the fields that are taken for it.
+pub fn read_layout(
+    alloc: Global,
+    deck: &Deck,
+    from: usize,
+    to: usize,
+    choice: Choice,
+) -> Result<SourceLayout, LayoutFault>
+    requires order { from ≤ to }
+    requires within { to ≤ length deck.now }
+    ensures { IfOk result (IsLayoutOf choice (lines_of from (slice_range deck.now from to))) }
+{
+    let lines = match read_sheets(alloc, deck, from, to) {
+        Ok(lines) => lines,
+        Err(fault) => return Err(first_fault(&fault)),
+    };
+    let file = chosen_file(alloc, &lines, choice.file)?;
+    test_type(alloc, &lines, file.name, choice.record_type)?;
+    let entries = entries_meant(alloc, &lines, file.name, choice.record_type)?;
+    let fields = fields_of(alloc, &entries, file.record_length)?;
+    if fields.is_empty() {
+        return Err(LayoutFault::NoFields);
+    }
+    Ok(SourceLayout {
+        layout: Layout {
+            record_length: file.record_length,
+            fields,
+        },
+        key: file.key,
+    })
+}
+
+/// The first fault of cards.
+fn first_fault(fault: &SheetFault) -> LayoutFault {
+    match fault {
+        SheetFault::NoMemory => LayoutFault::NoMemory,
+        SheetFault::Diagnostics(found) => match found.first() {
+            Some(first) => LayoutFault::Card {
+                card: first.card,
+                number: first.number,
+            },
+            None => LayoutFault::NoFile,
+        },
+    }
+}

@@ -1,0 +1,188 @@
+-- Records that get the values of cells, one after another.
+use Rattle.std.proofs.Common.{◌≡◌, ℕ, ◌+◌, ◌-◌, ◌*◌, ◌^◌, ◌<◌, ◌≤◌, ◌⊎◌, refl, arith, sym, ◌∙◌, ap, ap₂, subst, Bool, true, false, ◌||◌, ◌&&◌, cond, not, suc, zero, nat_le, nat_lt, List, [], ◌∷◌, length, take, get_or, replicate, inl, inr}
+use Rattle.std.specs.Prelude.{pos, Some, Result, Ok, Err, OnOk, OnErr}
+use Rattle.std.specs.Option.{option_map}
+use Rattle.std.specs.List.{All}
+use Rattle.std.proofs.Math.Nat.{zero-mul, zero-add}
+use Rattle.std.proofs.lemmas.List.{get_or-drop, get_or-take, get_or_default, take_all}
+use Rattle.std.proofs.lemmas.List.Elements.{All-contains, All-filter, All-get_or}
+use Rattle.std.proofs.lemmas.List.Folds.{list_any_more}
+use Rattle.std.proofs.lemmas.List.Sums.{fold_more}
+use Rattle.std.proofs.lemmas.Bool.{cases_Bool, cases_eq, le-leb, lt-ltb, ltb-false, leb-false}
+use Rattle.s3_decimal.proofs.Powers.{ten_pos}
+use Rattle.s3_decimal.specs.Records.{number_of}
+use Rattle.s3_store.specs.Bytes.{part}
+use Rattle.s3_store.specs.Inner.Bytes.{SameOutside, with_part}
+use Rattle.s3_store.proofs.SectorParts.{length-with_part, outside-with_part, part-with_part}
+use Rattle.s3_files.proofs.PartLemmas.{part-after, part-before}
+use Rattle.s3_cells.specs.Inner.Fields.{IsNotTaken, LiesIn, Takes, field_bytes}
+use Rattle.s3_cells.specs.Inner.Numbers.{magnitude_read, number_read}
+use Rattle.s3_cells.specs.Inner.Values.{GetsValue, Number, bytes_of, is_held, value_read}
+use Rattle.s3_cells.specs.declared.fault.CellFault.{CellFault}
+use Rattle.s3_cells.specs.declared.field.Field.{Field}
+use Rattle.s3_cells.specs.declared.kind.FieldKind.{FieldKind}
+use Rattle.s3_cells.specs.declared.kind.FieldKind.TheVariants.{Text as TextKind, Zoned, Packed}
+use Rattle.s3_load.specs.Inner.Columns.{AreNamed, LieApart, has_byte, is_covered, is_inside, left_out, overlap}
+use Rattle.s3_load.specs.Inner.Records.{HasTaken, IsRecordOf, empty_record, is_number, with_zero, with_zeros}
+
+pub field_lies : (fields : List Field) (n i : ℕ) (f : Field) → All (LiesIn n) fields → i < length fields → f ≡ get_or fields i f → LiesIn n f
+field_lies fields n i f all h is = subst (LiesIn n) (sym is) (All-get_or (LiesIn n) fields i f h all)
+
+-- ---- where the columns of a heading lie
+pub named_lie : (fields : List Field) (cells : List (List ℕ)) (n count : ℕ) (columns : List Field) → All (LiesIn n) fields → AreNamed fields cells count columns → All (LiesIn n) columns
+named_lie fields cells n count columns all named k d h =
+    let counted = named.counted in
+    All-contains (LiesIn n) fields (get_or columns k d) all (named.each k d (omega arith)).there
+
+pub left_out_lie : (fields columns : List Field) (n : ℕ) → All (LiesIn n) fields → All (LiesIn n) (left_out columns fields)
+left_out_lie fields columns n all = All-filter (λ field. not (is_covered columns field)) (LiesIn n) fields all
+
+-- ---- a field that gets bytes, and the others
+apart_ways : (one other : Field) → overlap one other ≡ false → (other.start + other.width ≤ one.start) ⊎ (one.start + one.width ≤ other.start)
+apart_ways one other h = elim (cases_Bool (nat_lt one.start (other.start + other.width))) [
+  | inl first ↦ elim (cases_Bool (nat_lt other.start (one.start + one.width))) [
+    | inl second ↦ absurd (cc (sym (ap₂ (λ a b. a && b) first second)))
+    | inr over ↦ inr (ltb-false _ _ over)
+  ]
+  | inr over ↦ inl (ltb-false _ _ over)
+]
+
+outside_ways : (place : ℕ) (field : Field) → has_byte place field ≡ false → (place < field.start) ⊎ (field.start + field.width ≤ place)
+outside_ways place field h = elim (cases_Bool (nat_le field.start place)) [
+  | inl first ↦ elim (cases_Bool (nat_lt place (field.start + field.width))) [
+    | inl second ↦ absurd (cc (sym (ap₂ (λ a b. a && b) first second)))
+    | inr over ↦ inr (ltb-false _ _ over)
+  ]
+  | inr over ↦ inl (leb-false _ _ over)
+]
+
+same_before : (at width place : ℕ) (s t : List ℕ) → place < at → SameOutside at width s t → get_or t place 0 ≡ get_or s place 0
+same_before at width place s t h same = sym (get_or-take at t place 0 h) ∙ ap (λ l. get_or l place 0) same.before ∙ get_or-take at s place 0 h
+
+same_after : (at width place : ℕ) (s t : List ℕ) → at + width ≤ place → SameOutside at width s t → get_or t place 0 ≡ get_or s place 0
+same_after at width place s t h same =
+    let rest : at + width + (place - (at + width)) ≡ place = omega arith in
+    ap (λ i. get_or t i 0) (sym rest) ∙ sym (get_or-drop (at + width) t (place - (at + width)) 0) ∙ ap (λ l. get_or l (place - (at + width)) 0) same.after
+    ∙ get_or-drop (at + width) s (place - (at + width)) 0 ∙ ap (λ i. get_or s i 0) rest
+
+-- what a field that takes a cell has then, and what stays
+pub record TakesWell (field : Field) (cell old new : List ℕ) : Type 0 where
+  pub long : length new ≡ length old
+  pub got : GetsValue field.kind cell field.width (field_bytes field new)
+  pub outside : SameOutside field.start field.width old new
+
+pub takes_well : (field : Field) (cell old new : List ℕ) → LiesIn (length old) field → Takes field cell old new → TakesWell field cell old new
+takes_well field cell old new lies takes =
+    let wide = takes.long in
+    let fits : field.start + length takes.bytes ≤ length old = omega arith in
+    let same : SameOutside field.start field.width old (with_part old field.start takes.bytes) =
+    subst (λ n. SameOutside field.start n old (with_part old field.start takes.bytes)) wide (outside-with_part old field.start takes.bytes fits) in
+    let there : part (with_part old field.start takes.bytes) field.start field.width ≡ takes.bytes =
+    ap (part (with_part old field.start takes.bytes) field.start) (sym wide) ∙ part-with_part old field.start takes.bytes fits in
+    record {
+      long = ap length takes.new_record ∙ length-with_part old field.start takes.bytes fits;
+      got = subst (λ t. GetsValue field.kind cell field.width (field_bytes field t)) (sym takes.new_record) (subst (λ b. GetsValue field.kind cell field.width b) (sym there) takes.got);
+      outside = subst (λ t. SameOutside field.start field.width old t) (sym takes.new_record) same;
+    }
+
+part_kept : (one other : Field) (old new : List ℕ) → overlap one other ≡ false → SameOutside other.start other.width old new → field_bytes one new ≡ field_bytes one old
+part_kept one other old new apart same = elim (apart_ways one other apart) [
+  | inl after ↦ part-after other.start other.width one.start one.width old new after same
+  | inr before ↦ part-before other.start other.width one.start one.width old new before same
+]
+
+byte_kept : (place : ℕ) (field : Field) (old new : List ℕ) → has_byte place field ≡ false → SameOutside field.start field.width old new → get_or new place 0 ≡ get_or old place 0
+byte_kept place field old new out same = elim (outside_ways place field out) [
+  | inl before ↦ same_before field.start field.width place old new before same
+  | inr after ↦ same_after field.start field.width place old new after same
+]
+
+or_left : (a b : Bool) → (a || b) ≡ false → a ≡ false
+or_left true b h = absurd cc
+or_left false b h = refl
+
+or_right : (a b : Bool) → (a || b) ≡ false → b ≡ false
+or_right true b h = absurd cc
+or_right false b h = h
+
+-- ---- the fields of columns, one after another
+pub none_taken : (columns : List Field) (cells : List (List ℕ)) (bytes : List ℕ) → HasTaken columns cells bytes 0 bytes
+none_taken columns cells bytes = record { long = refl; said = λ k d h. absurd (omega arith); rest = λ place h. refl }
+
+pub one_more_taken : (columns : List Field) (cells : List (List ℕ)) (start old new : List ℕ) (i : ℕ) (f : Field) → i < length columns → f ≡ get_or columns i f → LieApart columns → LiesIn (length old) f
+    → HasTaken columns cells start i old → Takes f (get_or cells i []) old new → HasTaken columns cells start (i + 1) new
+one_more_taken columns cells start old new i f h is apart lies before takes =
+    let well = takes_well f (get_or cells i []) old new lies takes in
+    record {
+      long = well.long ∙ before.long;
+      said = λ k d low. elim (cases_eq k i) [
+        | inl here ↦
+            let one : get_or columns k d ≡ f = ap (λ n. get_or columns n d) here ∙ get_or_default columns i d f h ∙ sym is in
+            let cell : get_or cells i [] ≡ get_or cells k [] = ap (λ n. get_or cells n []) (sym here) in
+            subst (λ (g : Field). GetsValue g.kind (get_or cells k []) g.width (field_bytes g new)) (sym one) (subst (λ c. GetsValue f.kind c f.width (field_bytes f new)) cell well.got)
+        | inr other ↦
+            let less : k < i = omega arith in
+            let beside : overlap (get_or columns k d) f ≡ false = ap (overlap (get_or columns k d)) (is ∙ get_or_default columns i f d h) ∙ apart k i d less h in
+            subst (λ b. GetsValue (get_or columns k d).kind (get_or cells k []) (get_or columns k d).width b) (sym (part_kept (get_or columns k d) f old new beside well.outside)) (before.said k d less)
+      ];
+      rest = λ place out.
+          let both : (is_inside (take i columns) place || has_byte place (get_or columns i f)) ≡ false = sym (list_any_more (has_byte place) columns i f h) ∙ out in
+          let last : has_byte place f ≡ false = ap (has_byte place) is ∙ or_right (is_inside (take i columns) place) (has_byte place (get_or columns i f)) both in
+          byte_kept place f old new last well.outside ∙ before.rest place (or_left (is_inside (take i columns) place) (has_byte place (get_or columns i f)) both);
+    }
+
+-- faults that are told stay told
+pub still_told : (old new : ℕ) → (new ≡ 0 → old ≡ 0) → 0 < old → 0 < new
+still_told old zero before told = let none : old ≡ 0 = before refl in omega arith
+still_told old (suc new) before told = omega arith
+
+pub is_record : (n : ℕ) (columns filled : List Field) (cells : List (List ℕ)) (start bytes : List ℕ) → start ≡ empty_record n filled → length start ≡ n → length cells ≡ length columns
+    → HasTaken columns cells start (length columns) bytes → IsRecordOf n columns filled cells bytes
+is_record n columns filled cells start bytes is long counted taken =
+    record {
+      long = taken.long ∙ long;
+      counted = counted;
+      said = taken.said;
+      rest = λ place out.
+          taken.rest place (ap (λ cs. is_inside cs place) (take_all (length columns) columns (omega arith)) ∙ out) ∙ ap (λ b. get_or b place 0) is;
+    }
+
+-- ---- numbers that are filled
+zeros_are_zero : (n : ℕ) → number_of (replicate n 0) ≡ 0
+zeros_are_zero zero = refl
+zeros_are_zero (suc n) = ap (λ k. k + number_of (replicate n 0)) (zero-mul (10 ^ length (replicate n 0))) ∙ zero-add (number_of (replicate n 0)) ∙ zeros_are_zero n
+
+zero_read : (decimals : ℕ) → number_read decimals (48 ∷ []) ≡ Some (pos 0)
+unfolding magnitude_read
+zero_read decimals =
+    let few : nat_le 0 decimals ≡ true = le-leb 0 decimals (omega arith) in
+    rw few (ap (λ n. Some (pos n)) (zeros_are_zero (suc (decimals - 0))))
+
+zero_value : (kind : FieldKind) → is_number kind ≡ true → value_read kind (48 ∷ []) ≡ Some (Number (pos 0))
+zero_value TextKind h = absurd cc
+zero_value (Zoned d) h = ap (option_map Number) (zero_read d)
+zero_value (Packed d) h = ap (option_map Number) (zero_read d)
+
+zero_held : (kind : FieldKind) (width : ℕ) → is_number kind ≡ true → is_held kind width (Number (pos 0)) ≡ true
+zero_held TextKind width h = absurd cc
+zero_held (Zoned d) width h = lt-ltb 0 (10 ^ width) (ten_pos width)
+zero_held (Packed d) width h = lt-ltb 0 (10 ^ (2 * width - 1)) (ten_pos (2 * width - 1))
+
+got_zero : (f : Field) (old new : List ℕ) → is_number f.kind ≡ true → Takes f (48 ∷ []) old new → new ≡ with_zero old f
+got_zero f old new number takes =
+    let value : Some takes.got.value ≡ Some (Number (pos 0)) = sym takes.got.said ∙ zero_value f.kind number in
+    let is : takes.got.value ≡ Number (pos 0) = cc in
+    let bytes : takes.bytes ≡ bytes_of f.kind f.width (Number (pos 0)) = takes.got.written ∙ ap (bytes_of f.kind f.width) is in
+    takes.new_record ∙ ap (with_part old f.start) bytes ∙ sym (ap (λ b. cond b (with_part old f.start (bytes_of f.kind f.width (Number (pos 0)))) old) number)
+
+-- a number of any form takes a 0
+pub zero_given : (f : Field) (old new : List ℕ) (r : Result (Unit {0}) CellFault) → is_number f.kind ≡ true → OnOk r (Takes f (48 ∷ []) old new) → OnErr r (IsNotTaken f (48 ∷ [])) → new ≡ with_zero old f
+zero_given f old new (Ok done) number taken refused = got_zero f old new number taken
+zero_given f old new (Err fault) number taken refused =
+    absurd (cc (refused (Number (pos 0)) (zero_value f.kind number), zero_held f.kind f.width number))
+
+pub text_stays : (f : Field) (old : List ℕ) → is_number f.kind ≡ false → with_zero old f ≡ old
+text_stays f old h = ap (λ b. cond b (with_part old f.start (bytes_of f.kind f.width (Number (pos 0)))) old) h
+
+pub one_more_zero : (bytes : List ℕ) (fields : List Field) (i : ℕ) (f : Field) → i < length fields → f ≡ get_or fields i f → with_zero (with_zeros bytes (take i fields)) f ≡ with_zeros bytes (take (i + 1) fields)
+one_more_zero bytes fields i f h is = sym (fold_more with_zero bytes fields i f h ∙ ap (with_zero (with_zeros bytes (take i fields))) (sym is))

@@ -1,0 +1,47 @@
+-- Records, as rows of a table give them.
+use Rattle.std.specs.Prelude.{◌≡◌, ℕ, ◌<◌, false, List, [], length, get_or, take, replicate, if◌then◌else◌, Bool, true, pos}
+use Rattle.std.specs.List.{fold}
+use Rattle.s3_cards.specs.declared.ebcdic.TheConstants.{BLANK}
+use Rattle.s3_store.specs.Inner.Bytes.{with_part}
+use Rattle.s3_cells.specs.Inner.Fields.{field_bytes}
+use Rattle.s3_cells.specs.Inner.Values.{GetsValue, IsAsWritten, Number, bytes_of}
+use Rattle.s3_cells.specs.declared.field.Field.{Field}
+use Rattle.s3_cells.specs.declared.kind.FieldKind.{FieldKind}
+use Rattle.s3_cells.specs.declared.kind.FieldKind.TheVariants.{Text as TextKind, Zoned, Packed}
+use Rattle.s3_load.specs.Inner.Columns.{is_inside}
+
+abbrev pub is_number : FieldKind → Bool
+is_number TextKind = false
+is_number (Zoned decimals) = true
+is_number (Packed decimals) = true
+
+-- a record in which a field, if it is of a number, has 0
+abbrev pub with_zero : List ℕ → Field → List ℕ
+with_zero bytes field = if is_number field.kind then with_part bytes field.start (bytes_of field.kind field.width (Number (pos 0))) else bytes
+
+-- a record in which each number of these has 0
+abbrev pub with_zeros : List ℕ → List Field → List ℕ
+with_zeros bytes fields = fold with_zero bytes fields
+
+-- a record before its row is read: blank, but for the numbers that are filled
+abbrev pub empty_record : (record_length : ℕ) → (filled : List Field) → List ℕ
+empty_record record_length filled = with_zeros (replicate record_length BLANK) filled
+
+-- The first so many cells have put their values into a record: each field has that of its cell, and the bytes that are of none of
+-- them are as they were.
+pub record HasTaken (columns : List Field) (cells : List (List ℕ)) (old : List ℕ) (count : ℕ) (new : List ℕ) : Type 0 where
+  pub long : length new ≡ length old
+  pub said : (k : ℕ) (d : Field) → k < count → GetsValue (get_or columns k d).kind (get_or cells k []) (get_or columns k d).width (field_bytes (get_or columns k d) new)
+  pub rest : (place : ℕ) → is_inside (take count columns) place ≡ false → get_or new place 0 ≡ get_or old place 0
+
+-- It is the record of a row: the field of each column has the value of its cell, and the other bytes are blank, but for the numbers
+-- that are filled, which have 0.
+pub record IsRecordOf (record_length : ℕ) (columns filled : List Field) (cells : List (List ℕ)) (bytes : List ℕ) : Type 0 where
+  pub long : length bytes ≡ record_length
+  pub counted : length cells ≡ length columns
+  pub said : (k : ℕ) (d : Field) → k < length columns → GetsValue (get_or columns k d).kind (get_or cells k []) (get_or columns k d).width (field_bytes (get_or columns k d) bytes)
+  pub rest : (place : ℕ) → is_inside columns place ≡ false → get_or bytes place 0 ≡ get_or (empty_record record_length filled) place 0
+
+-- each number of these fields stands as it is written
+abbrev pub AreAsWritten : List Field → List ℕ → Type 0
+AreAsWritten columns bytes = (k : ℕ) (d : Field) → k < length columns → IsAsWritten (get_or columns k d).kind (field_bytes (get_or columns k d) bytes)

@@ -1,0 +1,41 @@
+//! What a load is to do.
+
+use s3_cards::{LevelId, Name, Retention};
+use s3_cells::Layout;
+use s3_lines::sheet::KeyField;
+
+/// How much room a new file is to have.
+#[derive(Clone, Copy, Debug, PartialEq, Eq)]
+pub enum Room {
+    /// For the records of the table, and at least one.
+    ForTable,
+    /// For so many records.
+    Records(u32),
+    /// So many tracks.
+    Tracks(u16),
+}
+
+/// What a load is to do.
+#[derive(Clone, Copy)]
+pub struct Order<'a> {
+    /// The level whose file it is.
+    pub level: LevelId,
+    /// The label of the file.
+    pub name: Name,
+    /// The fields of its records.
+    pub layout: &'a Layout,
+    /// Where the key lies, if the file has an index.
+    pub key: Option<KeyField>,
+    /// How much room a new file is to have.
+    pub room: Room,
+    /// How long a new file is kept.
+    pub retention: Retention,
+    /// The date of a new file, mmddyy, in EBCDIC.
+    pub date: [u8; 6],
+    /// Whether the records go behind those of the file that is there.
+    pub appends: bool,
+    /// Whether fields that the table doesn't have are blank or 0.
+    pub fills: bool,
+    /// The byte between the cells.
+    pub delimiter: u8,
+}

@@ -1,0 +1,224 @@
+//! Rows of a table as records.
+ghost use Rattle.std.specs.Prelude.{◌≡◌, ◌<◌, ◌⊎◌, true, length, replicate, OnOk, IfOk, IfSome, IfNone};
+ghost use Rattle.std.specs.List.{All};
+ghost use Rattle.csv.specs.Records.{fields_of};
+ghost use Rattle.s3_cells.specs.Inner.Fields.{LiesIn, Takes};
+ghost use Rattle.s3_load.specs.Inner.Columns.{LieApart};
+ghost use Rattle.s3_load.specs.Inner.Records.{HasTaken, IsRecordOf, is_number as is_number_spec, with_zero, with_zeros};
+
+use crate::columns::{Columns, cell_at};
+use crate::fault::{Reason, ValueFault};
+use crate::order::Order;
+use csv::ByteRecord;
+use s3_cards::ebcdic::BLANK;
+use s3_cells::{Field, FieldKind};
+use s3_lines::sheet::KeyField;
+use std::alloc::{AllocError, Global};
+
+/// How many faults of rows are kept.
+const MOST_FAULTS: usize = 100;
+
+/// A record, and the line of its row.
+#[derive(Drop)]
+pub struct Row {
+    /// The line on which the row begins, from 1.
+    pub line: u64,
+    /// The record's bytes.
+    pub bytes: Vec<u8>,
+}
+
+/// What is wrong with rows: the first hundred, and how many there are.
+#[derive(Drop)]
+pub struct Faults {
+    /// The first of them.
+    pub first: Vec<ValueFault>,
+    /// How many there are.
+    pub count: u64,
+}
+
+impl Faults {
+    /// None yet.
+    pub fn new(alloc: Global) -> Faults
+        ensures { result.count ≡ 0 }
+    {
+        Faults {
+            first: Vec::new(alloc),
+            count: 0,
+        }
+    }
+
+    /// Adds one.
+    pub fn add(&mut self, fault: ValueFault) -> Result<(), AllocError>
+        ensures { 0 < self.new.count }
+    {
+        self.count = self.count.saturating_add(1);
+        if self.first.len() < MOST_FAULTS {
+            self.first.push(fault)?;
+        }
+        Ok(())
+    }
+}
+
+/// The record of a row; what is wrong with the row is added to the faults. None where the row has too many or too few cells, or
+/// its key isn't taken: such a row isn't compared with others.
+pub fn record_of(
+    alloc: Global,
+    order: &Order<'_>,
+    columns: &Columns,
+    cells: &ByteRecord,
+    faults: &mut Faults,
+) -> Result<Option<Row>, AllocError>
+    requires within { All (LiesIn order.now.layout.now.record_length) columns.now.fields.items }
+    requires filled { All (LiesIn order.now.layout.now.record_length) columns.now.filled.items }
+    requires apart { LieApart columns.now.fields.items }
+    ensures row { IfOk result (λ row. faults.new.count ≡ 0 → IfSome row (λ row. IsRecordOf order.now.layout.now.record_length columns.now.fields.items columns.now.filled.items (fields_of cells.now) row.bytes.items)) }
+    ensures none { IfOk result (λ row. IfNone row (0 < faults.new.count)) }
+    ensures before { OnOk result (faults.new.count ≡ 0 → faults.old.count ≡ 0) }
+{
+    let line = line_of(cells);
+    if cells.len() != columns.fields.len() {
+        faults.add(ValueFault {
+            line,
+            field: None,
+            reason: Reason::Cells(cells.len()),
+        })?;
+        return Ok(None);
+    }
+    let mut bytes = vec![in alloc; BLANK; usize::from(order.layout.record_length)]?;
+    if put_cells(columns, cells, line, order.key, &mut bytes, faults)? {
+        Ok(Some(Row { line, bytes }))
+    } else {
+        Ok(None)
+    }
+}
+
+/// Makes the record of a row of a blank one. What is wrong with a cell is added to the faults. Answers whether each field of the
+/// key has its value.
+#[tactic(auto, using(crate::proofs::RecordLemmas::is_record))]
+fn put_cells(
+    columns: &Columns,
+    cells: &ByteRecord,
+    line: u64,
+    key: Option<KeyField>,
+    bytes: &mut [u8],
+    faults: &mut Faults,
+) -> Result<bool, AllocError>
+    requires blank { bytes.old ≡ replicate (length bytes.old) BLANK }
+    requires within { All (LiesIn (length bytes.old)) columns.now.fields.items }
+    requires filled { All (LiesIn (length bytes.old)) columns.now.filled.items }
+    requires apart { LieApart columns.now.fields.items }
+    requires counted { length (fields_of cells.now) ≡ length columns.now.fields.items }
+    ensures row { OnOk result (faults.new.count ≡ 0 → IsRecordOf (length bytes.old) columns.now.fields.items columns.now.filled.items (fields_of cells.now) bytes.new) }
+    ensures key { IfOk result (λ has_key. has_key ≡ true ⊎ (0 < faults.new.count)) }
+    ensures before { OnOk result (faults.new.count ≡ 0 → faults.old.count ≡ 0) }
+{
+    fill(&columns.filled, bytes);
+    take_cells(&columns.fields, cells, line, key, bytes, faults)
+}
+
+/// Puts the values of a row into the fields of a record. What is wrong with a cell is added to the faults. Answers whether each
+/// field of the key has its value.
+#[tactic(auto, using(crate::proofs::RecordLemmas::none_taken, crate::proofs::RecordLemmas::one_more_taken, crate::proofs::RecordLemmas::field_lies))]
+fn take_cells(
+    fields: &[Field],
+    cells: &ByteRecord,
+    line: u64,
+    key: Option<KeyField>,
+    bytes: &mut [u8],
+    faults: &mut Faults,
+) -> Result<bool, AllocError>
+    requires within { All (LiesIn (length bytes.old)) fields.now }
+    requires apart { LieApart fields.now }
+    requires counted { length (fields_of cells.now) ≡ length fields.now }
+    ensures taken { OnOk result (faults.new.count ≡ 0 → HasTaken fields.now (fields_of cells.now) bytes.old (length fields.now) bytes.new) }
+    ensures key { IfOk result (λ has_key. has_key ≡ true ⊎ (0 < faults.new.count)) }
+    ensures before { OnOk result (faults.new.count ≡ 0 → faults.old.count ≡ 0) }
+{
+    let mut has_key = true;
+    for (column, field) in fields.iter().enumerate() {
+        let taken = take_cell(field, cell_at(cells, column), line, key, bytes, faults)?;
+        has_key = has_key && taken;
+    }
+    Ok(has_key)
+}
+
+/// Puts the value of a cell into a field of a record, or adds to the faults why it isn't taken. Answers whether the field has its
+/// value, or isn't of the key.
+fn take_cell(
+    field: &Field,
+    cell: &[u8],
+    line: u64,
+    key: Option<KeyField>,
+    bytes: &mut [u8],
+    faults: &mut Faults,
+) -> Result<bool, AllocError>
+    requires { LiesIn (length bytes.old) field.now }
+    ensures taken { OnOk result (faults.new.count ≡ 0 → Takes field.now cell.now bytes.old bytes.new) }
+    ensures key { IfOk result (λ has_key. has_key ≡ true ⊎ (0 < faults.new.count)) }
+    ensures before { OnOk result (faults.new.count ≡ 0 → faults.old.count ≡ 0) }
+{
+    match field.take(cell, bytes) {
+        Ok(()) => Ok(true),
+        Err(fault) => {
+            faults.add(ValueFault {
+                line,
+                field: Some(field.name),
+                reason: Reason::Cell(fault),
+            })?;
+            Ok(!is_in_key(field, key))
+        }
+    }
+}
+
+/// Whether a field has a byte of the key.
+fn is_in_key(field: &Field, key: Option<KeyField>) -> bool {
+    match key {
+        None => false,
+        Some(key) => {
+            let start = u32::from(key.start.saturating_sub(1));
+            u32::from(field.start) < start + u32::from(key.length)
+                && start < u32::from(field.start) + u32::from(field.width)
+        }
+    }
+}
+
+/// The line on which a row begins.
+fn line_of(cells: &ByteRecord) -> u64 {
+    match cells.position() {
+        Some(position) => position.line(),
+        None => 0,
+    }
+}
+
+/// Has the numbers among some fields 0 in a record.
+#[tactic(auto, using(crate::proofs::RecordLemmas::field_lies, crate::proofs::RecordLemmas::one_more_zero))]
+fn fill(fields: &[Field], bytes: &mut [u8])
+    requires { All (LiesIn (length bytes.old)) fields.now }
+    ensures { bytes.new ≡ with_zeros bytes.old fields.now }
+{
+    for field in fields {
+        zero(field, bytes);
+    }
+}
+
+/// Has a field, if it is of a number, 0 in a record.
+#[tactic(auto, using(crate::proofs::RecordLemmas::zero_given, crate::proofs::RecordLemmas::text_stays))]
+fn zero(field: &Field, bytes: &mut [u8])
+    requires { LiesIn (length bytes.old) field.now }
+    ensures { bytes.new ≡ with_zero bytes.old field.now }
+{
+    if is_number(field.kind) {
+        // a number of any form takes a 0
+        let _ = field.take(b"0", bytes);
+    }
+}
+
+/// Whether a field of this form is a number.
+fn is_number(kind: FieldKind) -> bool
+    ensures { result ≡ is_number_spec kind }
+{
+    match kind {
+        FieldKind::Text => false,
+        FieldKind::Zoned(_) | FieldKind::Packed(_) => true,
+    }
+}

@@ -1,0 +1,3 @@
+pub mod Arranged
+pub mod RowLemmas
+pub mod SortedPacks

@@ -1,0 +1,84 @@
+-- Rows that are written one after another.
+use Rattle.std.proofs.Common.{◌≡◌, ℕ, ◌+◌, ◌<◌, ◌≤◌, refl, arith, sym, ◌∙◌, ap, ap₂, subst, Bool, true, false, ◌&&◌, List, [], ◌∷◌, ◌++◌, length, map, take, get_or, append_assoc}
+use Rattle.std.specs.Prelude.{Some, slice_get, Result, Ok, Err, OnOk}
+use Rattle.std.specs.Io.KnownBytes.{Keeps}
+use Rattle.std.specs.List.{All, flat_map, list_all}
+use Rattle.std.proofs.lemmas.List.{append-nil, map-append, take_all, take_more}
+use Rattle.std.proofs.lemmas.List.Elements.{All-get_or}
+use Rattle.std.proofs.lemmas.List.Folds.{list_all_at, list_all_more}
+use Rattle.std.proofs.lemmas.Grind.{flat_map-append}
+use Rattle.std.proofs.lemmas.Option.{get_or_from_slice_get}
+use Rattle.csv.specs.Writing.{row_text, writer_pending, writer_under}
+use Rattle.csv.specs.declared.writer.Writer.{Writer}
+use Rattle.std.specs.Prelude.{Vec}
+use Rattle.std.specs.declared.alloc.Global.{Global}
+use Rattle.s3_cells.specs.Inner.Fields.{LiesIn, cell_of, is_shown}
+use Rattle.s3_cells.specs.declared.field.Field.{Field}
+use Rattle.s3_cells.specs.declared.fault.ShowFault.{ShowFault}
+use Rattle.s3_cells.specs.declared.fault.ShowFault.TheVariants.{NoCharacter, NoNumber, NoMemory}
+use Rattle.s3_unload.specs.Inner.Tables.{AddsText, IsBetweenRows, IsHiddenIn, IsHiddenValue, are_shown, heading, name_text, row_of, rows_text, setup, table_text, text_in}
+use Rattle.s3_unload.specs.declared.fault.UnloadFault.{UnloadFault}
+
+pub field_lies : (fields : List Field) (n i : ℕ) (f : Field) → All (LiesIn n) fields → i < length fields → f ≡ get_or fields i f → LiesIn n f
+field_lies fields n i f all h is = subst (LiesIn n) (sym is) (All-get_or (LiesIn n) fields i f h all)
+
+pub one_more_shown : (fields : List Field) (bytes : List ℕ) (i : ℕ) (f : Field) → i < length fields → f ≡ get_or fields i f → list_all (λ field. is_shown field bytes) (take i fields) ≡ true → is_shown f bytes ≡ true
+    → list_all (λ field. is_shown field bytes) (take (i + 1) fields) ≡ true
+one_more_shown fields bytes i f h is before one =
+    list_all_more (λ field. is_shown field bytes) fields i f h ∙ ap₂ (λ a b. a && b) before (sym (ap (λ field. is_shown field bytes) is) ∙ one)
+
+not_shown : (fields : List Field) (bytes : List ℕ) (i : ℕ) (f : Field) → i < length fields → f ≡ get_or fields i f → is_shown f bytes ≡ false → are_shown fields bytes ≡ false
+not_shown fields bytes i f h is one = list_all_at (λ field. is_shown field bytes) fields i f h (sym (ap (λ field. is_shown field bytes) is) ∙ one)
+
+pub one_not_shown : (fields : List Field) (bytes : List ℕ) (i : ℕ) (f : Field) (fault : ShowFault) → i < length fields → f ≡ get_or fields i f → IsHiddenValue f bytes fault → IsHiddenIn fields bytes fault
+one_not_shown fields bytes i f (NoCharacter position) h is one = not_shown fields bytes i f h is one
+one_not_shown fields bytes i f NoNumber h is one = not_shown fields bytes i f h is one
+one_not_shown fields bytes i f NoMemory h is one = tt
+
+pub one_more_cell : (fields : List Field) (bytes : List ℕ) (i : ℕ) (f : Field) → i < length fields → f ≡ get_or fields i f
+    → map (λ field. cell_of field bytes) (take i fields) ++ cell_of f bytes ∷ [] ≡ map (λ field. cell_of field bytes) (take (i + 1) fields)
+one_more_cell fields bytes i f h is =
+    ap (λ g. map (λ field. cell_of field bytes) (take i fields) ++ cell_of g bytes ∷ []) is
+    ∙ sym (ap (map (λ field. cell_of field bytes)) (take_more fields i f h) ∙ map-append (λ field. cell_of field bytes) (take i fields) (get_or fields i f ∷ []))
+
+pub one_more_name : (fields : List Field) (i : ℕ) (f : Field) → i < length fields → f ≡ get_or fields i f
+    → map (λ (field : Field). name_text field.name) (take i fields) ++ name_text f.name ∷ [] ≡ map (λ (field : Field). name_text field.name) (take (i + 1) fields)
+one_more_name fields i f h is =
+    ap (λ (g : Field). map (λ (field : Field). name_text field.name) (take i fields) ++ name_text g.name ∷ []) is
+    ∙ sym (ap (map (λ (field : Field). name_text field.name)) (take_more fields i f h) ∙ map-append (λ (field : Field). name_text field.name) (take i fields) (get_or fields i f ∷ []))
+
+-- ---- a writer that has written more
+pub adds_none : (delimiter : ℕ) (writer : Writer (Vec ℕ Global)) → IsBetweenRows delimiter writer → AddsText delimiter writer writer []
+adds_none delimiter writer between = record { added = sym (append-nil (text_in writer)); between = between }
+
+pub adds_more : (delimiter : ℕ) (first middle last : Writer (Vec ℕ Global)) (one two : List ℕ) → AddsText delimiter first middle one → AddsText delimiter middle last two → AddsText delimiter first last (one ++ two)
+adds_more delimiter first middle last one two a b =
+    record { added = b.added ∙ ap (λ t. t ++ two) a.added ∙ append_assoc (text_in first) one two; between = b.between }
+
+pub rows_more : (delimiter : ℕ) (fields : List Field) (records : List (List ℕ)) (n : ℕ) (bytes : List ℕ) → n < length records → slice_get records n ≡ Some bytes
+    → rows_text delimiter fields (take n records) ++ row_text (setup delimiter) (row_of fields bytes) ≡ rows_text delimiter fields (take (n + 1) records)
+rows_more delimiter fields records n bytes h got =
+    let one : take (n + 1) records ≡ take n records ++ bytes ∷ [] = take_more records n [] h ∙ ap (λ b. take n records ++ b ∷ []) (get_or_from_slice_get records n bytes [] got) in
+    sym (ap (rows_text delimiter fields) one ∙ flat_map-append (λ b. row_text (setup delimiter) (row_of fields b)) (take n records) (bytes ∷ [])
+    ∙ ap (λ t. rows_text delimiter fields (take n records) ++ t) (append-nil (row_text (setup delimiter) (row_of fields bytes))))
+
+pub shown_more : (fields : List Field) (records : List (List ℕ)) (n : ℕ) (bytes : List ℕ) → n < length records → slice_get records n ≡ Some bytes → list_all (are_shown fields) (take n records) ≡ true → are_shown fields bytes ≡ true
+    → list_all (are_shown fields) (take (n + 1) records) ≡ true
+shown_more fields records n bytes h got before one =
+    list_all_more (are_shown fields) records n [] h ∙ ap₂ (λ a b. a && b) before (ap (are_shown fields) (get_or_from_slice_get records n bytes [] got) ∙ one)
+
+-- ---- a table from its writer
+pub begun : (writer : Writer (Vec ℕ Global)) (under : Vec ℕ Global) → writer_under writer ≡ under → under.items ≡ [] → writer_pending writer ≡ [] → text_in writer ≡ []
+begun writer under is none pending = ap₂ (λ (v : Vec ℕ Global) p. v.items ++ p) is pending ∙ append-nil under.items ∙ none
+
+some_text : (a b : List ℕ) → Keeps (Some b) (Some a) → a ≡ b
+some_text a b h = cc
+
+pub table_made : (delimiter : ℕ) (named shown fields : List Field) (records : List (List ℕ)) (first middle last : Writer (Vec ℕ Global)) (text : List ℕ) (r : Result (Unit {0}) UnloadFault) → named ≡ fields → shown ≡ fields → text_in first ≡ []
+    → AddsText delimiter first middle (row_text (setup delimiter) (heading named)) → OnOk r (AddsText delimiter middle last (rows_text delimiter shown records)) → Keeps (Some (text_in last)) (Some text)
+    → OnOk r (text ≡ table_text delimiter fields records)
+table_made delimiter named shown fields records first middle last text (Err fault) n s none head rows kept = tt
+table_made delimiter named shown fields records first middle last text (Ok done) n s none head rows kept =
+    let made : text_in last ≡ row_text (setup delimiter) (heading named) ++ rows_text delimiter shown records =
+    rows.added ∙ ap (λ t. t ++ rows_text delimiter shown records) (head.added ∙ ap (λ t. t ++ row_text (setup delimiter) (heading named)) none) in
+    some_text text (text_in last) kept ∙ made ∙ ap₂ (λ f g. row_text (setup delimiter) (heading f) ++ rows_text delimiter g records) n s

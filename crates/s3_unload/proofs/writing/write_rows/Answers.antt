@@ -1,0 +1,34 @@
+use Rattle.std.proofs.Common.{◌≡◌, ◌<◌, ◌∙◌, ap, arith, length, subst, sym, take}
+use Rattle.std.specs.List.{list_all}
+use Rattle.std.specs.Prelude.{Some, slice_get}
+use Rattle.std.proofs.lemmas.List.{take_all}
+use Rattle.s3_unload.specs.Inner.Ordered.{ordered}
+use Rattle.s3_unload.specs.Inner.Tables.{AddsText, are_shown, rows_text}
+use Rattle.s3_unload.proofs.Opening.{ordered_counted}
+use Rattle.s3_unload.proofs.RowLemmas.{adds_more, adds_none, rows_more, shown_more}
+use Rattle.s3_unload.proofs.writing.write_rows.Goals as goal
+
+pub loop-n-preserved : goal.loop-n-preserved
+loop-n-preserved c =
+    let got : slice_get (ordered c.args.label.now c.args.store.now) c.loop-n.n ≡ Some c.read.new.bytes =
+    sym (ap (λ s. slice_get (ordered c.args.label.now s) c.loop-n.n) c.loop-n.invariant.same) ∙ c.in_ok-read.ensures.ok in
+    let there : c.loop-n.n < length (ordered c.args.label.now c.args.store.now) = omega (arith, ordered_counted c.args.label.now c.args.store.now) in
+    record {
+      same = c.read.ensures.keeps ∙ c.loop-n.invariant.same;
+      text = λ d b.
+          subst (λ t. AddsText d c.args.writer.now c.add_row.new.writer t) (rows_more d c.args.fields.now (ordered c.args.label.now c.args.store.now) c.loop-n.n c.read.new.bytes there got)
+          (adds_more d c.args.writer.now c.loop-n.writer c.add_row.new.writer _ _ (c.loop-n.invariant.text d b) (c.in_ok-add_row.ensures.text d (c.loop-n.invariant.text d b).between));
+      shown = shown_more c.args.fields.now (ordered c.args.label.now c.args.store.now) c.loop-n.n c.read.new.bytes there got c.loop-n.invariant.shown c.in_ok-add_row.ensures.shown;
+    }
+
+pub returns-clause-text : goal.returns-clause-text
+returns-clause-text c =
+    let all : take c.loop-n.n (ordered c.args.label.now c.args.store.now) ≡ ordered c.args.label.now c.args.store.now =
+    take_all c.loop-n.n (ordered c.args.label.now c.args.store.now) (omega (arith, ordered_counted c.args.label.now c.args.store.now)) in
+    λ d b. subst (λ rs. AddsText d c.args.writer.now c.loop-n.writer (rows_text d c.args.fields.now rs)) all (c.loop-n.invariant.text d b)
+
+pub returns-clause-shown : goal.returns-clause-shown
+returns-clause-shown c =
+    let all : take c.loop-n.n (ordered c.args.label.now c.args.store.now) ≡ ordered c.args.label.now c.args.store.now =
+    take_all c.loop-n.n (ordered c.args.label.now c.args.store.now) (omega (arith, ordered_counted c.args.label.now c.args.store.now)) in
+    ap (list_all (are_shown c.args.fields.now)) (sym all) ∙ c.loop-n.invariant.shown

@@ -1,0 +1,27 @@
+//! The records of a file on a pack, written out for other programs: as a table in CSV, as texts or in hexadecimal digits.
+//!
+//! What is proved, for every pack, layout and writer:
+//!
+//! - `unload` writes exactly the heading and a row for each record of the file, in the order of the keys where it has an
+//!   index: the cells that show the values of the layout's fields (`wrote`), each of which can be shown (`shown`);
+//! - it is refused by the pack's header, its labels and the index alone, where a value can't be shown, or where memory or the
+//!   writer fails (`refused`). The pack's bytes aren't changed.
+//! - what it writes reads as the heading and those rows, by the rules of a reader of CSV (`a_table_reads_as_its_rows`);
+//! - `unload_lines` is safe and returns.
+//!
+//! Only tested: the lines of `unload_lines`, and the words of refusals.
+#![tactic(auto)]
+
+mod fault;
+mod found;
+mod laws;
+mod lines;
+mod ordered;
+mod rows;
+mod writing;
+
+pub use fault::UnloadFault;
+pub use found::Area;
+pub use laws::a_table_reads_as_its_rows;
+pub use lines::{LineForm, unload_lines};
+pub use writing::unload;
