@@ -8,9 +8,13 @@
 mod day_deck;
 mod inherited;
 mod job_list;
+mod keyword;
 mod listing;
+mod program;
 
 pub use day_deck::left_out_from;
 pub use inherited::{Inherited, InheritedDate, InheritedSwitches, lost_settings};
 pub use job_list::{JobEntry, Statements, jobs_of};
+pub use keyword::keyword_columns;
 pub use listing::{push_inherited, push_jobs};
+pub use program::program_of;

@@ -22,6 +22,9 @@ use s3_replay::Performed;
 use std::alloc::Global;
 use std::num::NonZeroU16;
 
+/// The most turns that a level takes before the other one has its own: both show their first halts early so.
+const STRIDE: u16 = 1_000;
+
 /// What came of a level's going on.
 #[derive(Clone, Copy, Debug, PartialEq, Eq)]
 enum Went {
@@ -56,6 +59,16 @@ impl Seat {
             left: bounds,
             is_shown: false,
             answers: 0,
+        }
+    }
+
+    /// How many turns the level takes at most before the other one has its own, and before it is followed. After a reply it is one:
+    /// that may have ended a job, and the next one prints nothing in its first turn. Else turns end with a job by themselves.
+    fn stride(&self) -> NonZeroU16 {
+        if self.answers == 0 {
+            NonZeroU16::new(STRIDE).unwrap_or(NonZeroU16::MIN)
+        } else {
+            NonZeroU16::MIN
         }
     }
 }
@@ -242,8 +255,7 @@ fn serve<M: Machine, O: Operator<M>>(
     ensures failed { M.failures bureau.new ≡ M.failures bureau.old + failed_stop result }
     ensures not_stopped { NeverStopped M.after performed.old bureau.old result }
 {
-    let stride = operator.stride(bureau, level);
-    let went = go_on(bureau, level, stride, &mut seat.left, performed)?;
+    let went = go_on(bureau, level, seat.stride(), &mut seat.left, performed)?;
     follow(bureau, level, went, seat, operator, performed)?;
     show(alloc, bureau, level, seat, operator)?;
     Ok(went)

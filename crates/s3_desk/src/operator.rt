@@ -7,18 +7,14 @@ use s3_bureau::Halt;
 use s3_cards::LevelId;
 use s3_replay::Performed;
 use std::alloc::AllocError;
-use std::num::NonZeroU16;
 
 /// Who sits at the desk. No call changes what is operated.
 pub trait Operator<M: Machine> {
     /// By this it may come from one state to the other.
     ghost meets: { Self → Event → Self → Type 0 };
 
-    /// How many turns a level takes at most before the other one has its own, and before it is followed again.
-    fn stride(&self, machine: &M, level: LevelId) -> NonZeroU16;
-
-    /// A level has gone on, by a stride of turns at most or by drained lines: for what is told of the work, and for what is written
-    /// of it as it goes.
+    /// A level has gone on, by turns or by drained lines: for what is told of the work, and for what is written of it as it goes. Each
+    /// job that ended is followed before the next one of its level takes more than its first turn.
     fn follow(
         &mut self,
         machine: &M,

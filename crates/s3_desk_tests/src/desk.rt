@@ -8,7 +8,6 @@ use s3_labels::{ImageFault, image};
 use s3_replay::{Performed, part_text};
 use s3_store::MemoryStore;
 use std::alloc::{AllocError, Global};
-use std::num::NonZeroU16;
 use std::process::Abort;
 use std::test::Fail;
 
@@ -52,10 +51,6 @@ impl<'a> Operator<Bureau<MemoryStore>> for Listed<'a> {
     ghost use Rattle.std.specs.Prelude.{⊤};
 
     ghost meets = { λ old event new. ⊤ };
-
-    fn stride(&self, _machine: &Bureau<MemoryStore>, _level: LevelId) -> NonZeroU16 {
-        NonZeroU16::MAX
-    }
 
     fn follow(
         &mut self,

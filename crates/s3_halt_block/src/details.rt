@@ -2,7 +2,7 @@
 
 use crate::cards::DeckCards;
 use s3_blame::{FaultyEntry, columns_of, diagnostic_words, entries_of};
-use s3_deck_jobs::Statements;
+use s3_deck_jobs::{Statements, keyword_columns};
 use s3_evidence::Begun;
 use s3_lines::Diagnostic;
 use s3_operator::{Halt, HaltCode};
@@ -11,9 +11,6 @@ use std::alloc::{AllocError, Global};
 
 /// The most details that are shown.
 const MOST: usize = 20;
-
-/// The word RUN on the card of that statement.
-const RUN: Columns = Columns { from: 4, to: 6 };
 
 /// Appends each detail of a halt, by cards: the card, and below it what is wrong there, with marks under the columns to blame. At most
 /// twenty are shown, and how many more there are is told.
@@ -92,7 +89,9 @@ fn marked_for(
         .statements()
         .is_some_and(|job| job.run_card() == diagnostic.card)
     {
-        marked.push(RUN)?;
+        if let Some(card) = cards.card(usize::from(diagnostic.card)) {
+            marked.push(keyword_columns(card))?;
+        }
     } else {
         return columns_of(alloc, entries, diagnostic);
     }

@@ -2,28 +2,34 @@
 ghost use Rattle.std.specs.Prelude.{◌≡◌};
 ghost use Rattle.s3_ledger.specs.Inner.Endings.{behind_reply, has_passed};
 
-use crate::programs::{ReadThrough, Source};
 use s3_cards::{Deck, Name};
-use s3_deck_jobs::{JobEntry, Statements, jobs_of};
+use s3_deck_jobs::{JobEntry, Statements, jobs_of, program_of};
 use s3_level::Level;
 use s3_ocl::JobCards;
 use s3_operator::{HaltCode, is_at_start};
 use std::alloc::{AllocError, Global};
-use std::num::NonZeroU16;
 
 /// What a job was begun for.
 #[derive(Clone, Copy)]
 pub enum Purpose {
-    /// To compile a program.
-    Compiles(Source),
+    /// To compile the program of this name.
+    Compiles(Name),
     /// To run the program of this name.
     Runs(Name),
     /// Its statements are faulty.
     Unknown,
 }
 
-/// The most turns that a level takes before it is looked at again.
-const MOST_TURNS: usize = 1_000;
+impl Purpose {
+    /// The program that the job compiles or runs, if its statements name one.
+    pub fn program(self) -> Option<Name> {
+        match self {
+            Purpose::Compiles(name) => Some(name),
+            Purpose::Runs(name) => Some(name),
+            Purpose::Unknown => None,
+        }
+    }
+}
 
 /// A job that was begun.
 #[derive(Clone, Copy)]
@@ -47,10 +53,6 @@ pub struct Ledger {
     place: usize,
     /// Whether the last job that was begun is at work, or its halt waits.
     is_open: bool,
-    /// The file that this job has to read through before it can come to its end.
-    reads_through: Option<ReadThrough>,
-    /// How many jobs there are up to the last one that runs a program; more than any before the jobs are known.
-    last_run: usize,
     /// How many lines are counted for jobs.
     counted: usize,
 }
@@ -63,8 +65,6 @@ impl Ledger {
             begun: Vec::new(alloc),
             place: 0,
             is_open: false,
-            reads_through: None,
-            last_run: usize::MAX,
             counted: 0,
         }
     }
@@ -72,7 +72,6 @@ impl Ledger {
     /// Takes the jobs of a deck, before the first one is begun.
     pub fn read(&mut self, alloc: Global, deck: &Deck) -> Result<(), AllocError> {
         self.jobs = jobs_of(alloc, deck)?;
-        self.last_run = up_to_last_run(&self.jobs);
         Ok(())
     }
 
@@ -120,44 +119,12 @@ impl Ledger {
 
     /// The program of the last job that was begun, if its statements name one.
     pub fn program(&self) -> Option<Name> {
-        match self.begun.last()?.purpose {
-            Purpose::Runs(name) => Some(name),
-            Purpose::Compiles(source) => Some(source.name),
-            Purpose::Unknown => None,
-        }
+        self.begun.last()?.purpose.program()
     }
 
     /// How many jobs are over: these, from the first one on.
     pub fn jobs_over(&self) -> usize {
         self.begun.len().saturating_sub(usize::from(self.is_open))
-    }
-
-    /// How many turns the level may take so that a job can end in the last one of them alone: then the lines that were printed by
-    /// that time are told apart from those of the next job. A job behind which none prints may take many.
-    pub fn stride(&self, level: &Level) -> NonZeroU16 {
-        let most = if self.begun.len() >= self.last_run {
-            MOST_TURNS
-        } else {
-            self.unread(level).min(MOST_TURNS)
-        };
-        NonZeroU16::new(u16::try_from(most).unwrap_or(1)).unwrap_or(NonZeroU16::MIN)
-    }
-
-    /// How many records the job at work has to read before it can come to its end, each in a turn of its own.
-    fn unread(&self, level: &Level) -> usize {
-        match self.reads_through {
-            Some(ReadThrough::Cards) => match level.unread() {
-                Some(cards) => cards.end.saturating_sub(cards.next),
-                None => 0,
-            },
-            Some(ReadThrough::Disk(name)) => {
-                match level.files().iter().find(|file| file.name == name) {
-                    Some(file) => file.label.count.saturating_sub(file.read) as usize,
-                    None => 0,
-                }
-            }
-            None => 0,
-        }
     }
 
     /// Looks at a level that has gone on, with how many lines it has printed, those that are queued among them.
@@ -176,7 +143,9 @@ impl Ledger {
                 break;
             }
         }
-        self.mark_over();
+        if !is_open {
+            self.mark_last_over();
+        }
         self.count_lines(lines);
         Ok(())
     }
@@ -195,10 +164,7 @@ impl Ledger {
         let Some(job) = self.next_begun(deck) else {
             return Ok(false);
         };
-        self.reads_through = match self.source_of(job.purpose) {
-            Some(source) => source.reads_through,
-            None => None,
-        };
+        self.mark_last_over();
         self.begun.push(job)?;
         Ok(true)
     }
@@ -218,27 +184,10 @@ impl Ledger {
         })
     }
 
-    /// The source of the program that a job runs, if one was compiled: the last one under its name.
-    fn source_of(&self, purpose: Purpose) -> Option<Source> {
-        let Purpose::Runs(program) = purpose else {
-            return None;
-        };
-        for job in self.begun.iter().rev() {
-            match job.purpose {
-                Purpose::Compiles(source) if source.name == program && job.ending.is_none() => {
-                    return Some(source);
-                }
-                _ => {}
-            }
-        }
-        None
-    }
-
-    /// Marks the jobs that are over: all but the last one, and that too if it isn't open.
-    fn mark_over(&mut self) {
-        let over = self.jobs_over();
-        for (place, job) in self.begun.iter_mut().enumerate() {
-            job.is_over = place < over;
+    /// Marks the last job that was begun as over.
+    fn mark_last_over(&mut self) {
+        if let Some(job) = self.begun.last_mut() {
+            job.is_over = true;
         }
     }
 
@@ -249,7 +198,6 @@ impl Ledger {
         if digit == 0 {
             return;
         }
-        self.reads_through = None;
         let is_at_start = is_at_start(code);
         if is_at_start {
             self.is_open = false;
@@ -270,9 +218,7 @@ impl Ledger {
     /// The last job that was begun is over.
     fn close_last(&mut self) {
         self.is_open = false;
-        if let Some(job) = self.begun.last_mut() {
-            job.is_over = true;
-        }
+        self.mark_last_over();
     }
 
     /// Ends the ledger of a level that has printed so many lines in all, and has no job at work where it is done.
@@ -286,17 +232,6 @@ impl Ledger {
     }
 }
 
-/// How many jobs there are up to the last one that compiles nothing.
-fn up_to_last_run(jobs: &[JobEntry]) -> usize {
-    let mut count = 0;
-    for (place, job) in jobs.iter().enumerate() {
-        if !job.is_compile() {
-            count = place.saturating_add(1);
-        }
-    }
-    count
-}
-
 /// What a job is begun for.
 fn purpose_of(entry: &JobEntry, deck: &Deck) -> Purpose {
     match &entry.statements {
@@ -306,8 +241,8 @@ fn purpose_of(entry: &JobEntry, deck: &Deck) -> Purpose {
     }
 }
 
-/// The source that a job compiles.
-fn compiled_by(job: &JobCards, deck: &Deck) -> Source {
+/// The program that a job compiles.
+fn compiled_by(job: &JobCards, deck: &Deck) -> Name {
     let cards = deck.cards().get(job.data_from()..job.data_to());
-    Source::of(cards.unwrap_or(&[]))
+    program_of(cards.unwrap_or(&[]))
 }

@@ -7,8 +7,6 @@
 
 mod endings;
 mod ledger;
-mod programs;
 
 pub use endings::{LevelEnd, Verdict, became, end_of};
 pub use ledger::{BegunJob, Ledger, Purpose};
-pub use programs::{ReadThrough, Source};

@@ -107,8 +107,8 @@ impl Level {
         Ok(self.turns(NonZeroU16::MIN, pack, spool)?.did)
     }
 
-    /// Takes turns one behind the other, at most `most` of them and at least one, as long as they act. It answers how many they
-    /// were and what each of them did.
+    /// Takes turns one behind the other, at most `most` of them and at least one, as long as they act and up to the one in which a job
+    /// ends, so that who looks on sees each end. It answers how many they were and what each of them did.
     ///
     /// Each turn performs the pending request of the job at work, or begins the next job. A first turn is idle, takes no memory
     /// and changes nothing where a halt waits, where no job is at work and none is left, and where the job would print and its
@@ -143,11 +143,11 @@ impl Level {
                 Did::Acted => left -= taken.times,
                 _ => return Ok(taken.behind(all - left)),
             }
+            if self.job.is_none() {
+                return Ok(Taken::acted(all - left));
+            }
         }
-        Ok(Taken {
-            did: Did::Acted,
-            times: all,
-        })
+        Ok(Taken::acted(all))
     }
 
     /// Answers the halt that waits with a digit, and a job at work goes on with it to its next request (docs/MESSAGES.md,

@@ -16,6 +16,16 @@ pub struct Taken {
 }
 
 impl Taken {
+    /// So many entries that acted.
+    pub fn acted(times: u16) -> Taken
+        ensures { result ≡ record { did = Acted; times = times } }
+    {
+        Taken {
+            did: Did::Acted,
+            times,
+        }
+    }
+
     /// These entries; or where others acted right before them, `acted` in number, those alone.
     pub fn behind(self, acted: u16) -> Taken
         ensures none { acted ≡ 0 → result ≡ self }
@@ -24,10 +34,7 @@ impl Taken {
         if acted == 0 {
             return self;
         }
-        Taken {
-            did: Did::Acted,
-            times: acted,
-        }
+        Taken::acted(acted)
     }
 
     /// One entry with this answer, or its fault.

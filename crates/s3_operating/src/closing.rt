@@ -205,13 +205,13 @@ fn push_ending(
     end: LevelEnd,
 ) -> Result<(), AllocError> {
     text.push_str("  ")?;
-    if let Purpose::Compiles(source) = job.purpose
+    if let Purpose::Compiles(program) = job.purpose
         && job.is_over
         && job.ending.is_none()
     {
         let number = place.saturating_add(1);
         write!(text, "job {number}, compiled ")?;
-        push_name(text, source.name)?;
+        push_name(text, program)?;
         return text.push('\n');
     }
     push_job_at(text, ledger, place)?;

@@ -24,7 +24,6 @@ use s3_replies::{Rules, Typed, read_typed};
 use s3_store::PackStore;
 use std::alloc::{AllocError, Global};
 use std::io::{Read, Write};
-use std::num::NonZeroU16;
 
 /// How long a halt is shown at least before a line answers it, in milliseconds: what came sooner was typed before.
 const SOONEST: u64 = 200;
@@ -644,10 +643,6 @@ impl<'a, S: PackStore, R: Read + Drop, W: Write + Drop, F: Write + Drop, C: Cloc
 
     // nothing is said of what it is told, and of what it answers
     ghost meets = { λ old event new. ⊤ };
-
-    fn stride(&self, machine: &Bureau<S>, level: LevelId) -> NonZeroU16 {
-        self.seat(level).ledger.stride(machine.level(level))
-    }
 
     fn follow(
         &mut self,

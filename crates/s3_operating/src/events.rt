@@ -145,10 +145,8 @@ fn number_in_log(place: usize) -> u16 {
 
 /// The program of a job, if its statements name one.
 fn program_of(alloc: Global, job: &BegunJob) -> Result<Option<String>, AllocError> {
-    let name = match job.purpose {
-        Purpose::Runs(name) => name,
-        Purpose::Compiles(source) => source.name,
-        Purpose::Unknown => return Ok(None),
+    let Some(name) = job.purpose.program() else {
+        return Ok(None);
     };
     let mut text = String::new(alloc);
     push_name(&mut text, name)?;

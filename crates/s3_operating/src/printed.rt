@@ -4,7 +4,7 @@ use crate::clock::Clock;
 use crate::desk::Desk;
 use s3_cards::ebcdic::DIGIT_0;
 use s3_cards::{LevelId, Name};
-use s3_ledger::{Ledger, Purpose};
+use s3_ledger::Ledger;
 use std::alloc::{AllocError, Global};
 use std::io::{Read, Write};
 
@@ -39,14 +39,9 @@ fn printed_jobs_of(alloc: Global, ledger: &Ledger) -> Result<Vec<PrintedJob>, Al
         if let Some(given) = ledger.date_given(place) {
             date = given;
         }
-        let program = match job.purpose {
-            Purpose::Runs(name) => Some(name),
-            Purpose::Compiles(source) => Some(source.name),
-            Purpose::Unknown => None,
-        };
         jobs.push(PrintedJob {
             number: place.saturating_add(1),
-            program,
+            program: job.purpose.program(),
             date,
             lines: job.lines,
         })?;

@@ -27,9 +27,9 @@ pub(crate) fn push_job_at(
     write!(text, "job {number}, ")?;
     match ledger.begun().get(place).map(|job| job.purpose) {
         Some(Purpose::Runs(program)) => push_name(text, program),
-        Some(Purpose::Compiles(source)) => {
+        Some(Purpose::Compiles(program)) => {
             text.push_str("compiling ")?;
-            push_name(text, source.name)
+            push_name(text, program)
         }
         Some(Purpose::Unknown) | None => text.push_str("whose statements are faulty"),
     }

@@ -1,7 +1,8 @@
-use Rattle.std.proofs.Common.{ℕ, Ok, ◌-◌, ◌≡◌, ap, subst, ◌∙◌, arith}
+use Rattle.std.proofs.Common.{ℕ, Ok, ◌-◌, ◌≡◌, ap, subst, sym, ◌∙◌, arith}
 use Rattle.s3_store.specs.declared.pool_fault.PoolFault.{PoolFault}
 use Rattle.s3_solo.specs.declared.action.Action.TheVariants.{Turn}
 use Rattle.s3_solo.specs.declared.action.Did.TheVariants.{Acted}
+use Rattle.s3_level.specs.declared.taken.Taken.{Taken}
 use Rattle.s3_level.specs.Inner.Holds.{Around, Holds, Repeats, around}
 use Rattle.s3_level.proofs.Repeating.{ends_idle, first_acts, is_first, none_yet, on_err, spares_after, then_turned}
 use Rattle.s3_level.proofs.Turns.{turns_wholly}
@@ -51,7 +52,25 @@ loop-most-preserved g c =
       omega (arith, few, within),
     )
 
+-- the turn in which the job has ended is the last one
+pub returns-then-is_none-clause-steps : goal.returns-then-is_none-clause-steps
+returns-then-is_none-clause-steps g c =
+    let few = c.in_ok-taken.ensures.times.few in
+    let within = c.loop-most.invariant.1 in
+    subst (λ (t : Taken). Repeats Turn t.times t.did (Holds c.args.self.now (around c.args.pack.now.areas (g.P.Sectors.state c.args.pack.now.pool) c.args.spool.now)) (Holds c.step.new.self (around c.step.new.pack.areas (g.P.Sectors.state c.step.new.pack.pool) c.step.new.spool))) (sym c.acted.ensures)
+    (then_turned (c.get-all.result - c.loop-most.left) (c.get-all.result - (c.loop-most.left - c.in_ok-taken.taken.times)) c.in_ok-taken.taken c.args.self.now c.loop-most.self c.step.new.self
+    (around c.args.pack.now.areas (g.P.Sectors.state c.args.pack.now.pool) c.args.spool.now) (around c.loop-most.pack.areas (g.P.Sectors.state c.loop-most.pack.pool) c.loop-most.spool)
+    (around c.step.new.pack.areas (g.P.Sectors.state c.step.new.pack.pool) c.step.new.spool) (omega (arith, few, within)) c.loop-most.invariant.0 c.in-Acted.is c.in_ok-taken.ensures.times.some
+    (turns_wholly {E = PoolFault} (Ok c.in_ok-taken.taken) c.loop-most.self c.step.new.self (around c.loop-most.pack.areas (g.P.Sectors.state c.loop-most.pack.pool) c.loop-most.spool) (around c.step.new.pack.areas (g.P.Sectors.state c.step.new.pack.pool) c.step.new.spool) c.step.ensures.stays.id c.in_ok-taken.ensures.world)
+    c.in_ok-taken.ensures.ready c.step.ensures.spares c.in_ok-taken.ensures.failures c.in_ok-taken.ensures.says c.step.ensures.stays).worlds
+
+pub returns-then-is_none-clause-spares : goal.returns-then-is_none-clause-spares
+returns-then-is_none-clause-spares g c =
+    spares_after c.args.self.now c.loop-most.self (around c.args.pack.now.areas (g.P.Sectors.state c.args.pack.now.pool) c.args.spool.now) (around c.loop-most.pack.areas (g.P.Sectors.state c.loop-most.pack.pool) c.loop-most.spool)
+    (around c.step.new.pack.areas (g.P.Sectors.state c.step.new.pack.pool) c.step.new.spool) c.loop-most.invariant.0.stays c.loop-most.invariant.0.spares c.step.ensures.spares
+
 pub returns-clause-steps : goal.returns-clause-steps
 returns-clause-steps g c =
     let all : c.get-all.result - c.loop-most.left ≡ c.get-all.result = omega (arith, c.in_default.ensures) in
-    subst (λ (n : ℕ). Repeats Turn n Acted (Holds c.args.self.now (around c.args.pack.now.areas (g.P.Sectors.state c.args.pack.now.pool) c.args.spool.now)) (Holds c.loop-most.self (around c.loop-most.pack.areas (g.P.Sectors.state c.loop-most.pack.pool) c.loop-most.spool))) all c.loop-most.invariant.0.worlds
+    subst (λ (t : Taken). Repeats Turn t.times t.did (Holds c.args.self.now (around c.args.pack.now.areas (g.P.Sectors.state c.args.pack.now.pool) c.args.spool.now)) (Holds c.loop-most.self (around c.loop-most.pack.areas (g.P.Sectors.state c.loop-most.pack.pool) c.loop-most.spool))) (sym c.acted-2.ensures)
+    (subst (λ (n : ℕ). Repeats Turn n Acted (Holds c.args.self.now (around c.args.pack.now.areas (g.P.Sectors.state c.args.pack.now.pool) c.args.spool.now)) (Holds c.loop-most.self (around c.loop-most.pack.areas (g.P.Sectors.state c.loop-most.pack.pool) c.loop-most.spool))) all c.loop-most.invariant.0.worlds)
