@@ -1,5 +1,5 @@
 -- The texts of a run, and what it leaves of its pack.
-use Rattle.std.proofs.Common.{◌≡◌, inl, inr, ℕ, ◌≤◌, false, nat_lt, if◌then◌else◌, List, [], Option, Some, None, Result, Ok, Err, IfOk, OnOk, refl, sym, ap, subst, ◌∙◌, arith, length, slice_get}
+use Rattle.std.proofs.Common.{◌≡◌, inl, inr, ℕ, ◌≤◌, false, nat_lt, if◌then◌else◌, List, [], ◌∷◌, ◌++◌, Option, Some, None, Result, Ok, Err, IfOk, OnOk, refl, sym, ap, ap₂, subst, ◌∙◌, arith, length, take, slice_get}
 use Rattle.std.proofs.lemmas.List.{take_all, length-take}
 use Rattle.std.specs.List.{concat}
 use Rattle.s3_cards.specs.declared.levels.LevelId.{LevelId}
@@ -20,6 +20,8 @@ use Rattle.s3_solo.specs.declared.action.Action.{Action}
 use Rattle.s3_cards.specs.Deck.{deck_of}
 use Rattle.s3_job_files.specs.declared.file.OpenFile.{OpenFile}
 use Rattle.s3_job_files.specs.Inner.Holds.{is_open}
+use Rattle.s3_operator.specs.Halts.{ShownHalt}
+use Rattle.s3_solo.specs.Inner.Lines.{drained_lines}
 use Rattle.s3_solo.specs.Serving.{over}
 use Rattle.s3_solo.specs.World.{World, JobAtWork, at_start}
 use Rattle.s3_level.specs.declared.job.OpenJob.{OpenJob}
@@ -27,15 +29,17 @@ use Rattle.s3_level.specs.declared.level.Level.{Level}
 use Rattle.s3_level.specs.Inner.Holds.{Around, Holds, HoldsAtWork, open_files}
 use Rattle.s3_solo.specs.Solo.{solo, closed}
 use Rattle.s3_bureau.specs.declared.entry.Entry.{Entry}
-use Rattle.s3_bureau.specs.declared.outcome.LevelTexts.{LevelTexts}
 use Rattle.s3_bureau.specs.declared.outcome.Outcome.{Outcome}
+use Rattle.s3_bureau.specs.declared.unwritten.Unwritten.{Unwritten}
 use Rattle.s3_bureau.specs.declared.run_fault.RunFault.{RunFault}
 use Rattle.s3_bureau.specs.declared.run_fault.RunFault.TheVariants.{Script, Mount, Device as DeviceFault, NoMemory}
 use Rattle.s3_bureau.specs.Entries.{own}
-use Rattle.s3_bureau.specs.Inner.Held.{HoldsFor, IsSaid, State, header_of, held_by, level_of, rests}
+use Rattle.s3_bureau.specs.Inner.Held.{HoldsFor, IsSaid, State, header_of, held_by, level_of, lines_at, rests}
 use Rattle.s3_bureau.specs.Sharing.{IsCommon, IsOwn}
 use Rattle.s3_bureau.specs.Script.{entries_of}
-use Rattle.s3_bureau.specs.Runs.{AreSectors, HasFiles, HasSlots, LeavesSo, RunTexts, Runs, outcome_texts, cards_of, texts_of, run_alone, run_texts, level_texts, entries_texts, texts_after, texts_in, texts_over}
+use Rattle.s3_bureau.specs.Runs.{AreSectors, HasFiles, HasSlots, LeavesPack, LeavesSo, RunTexts, Runs, outcome_texts, cards_of, texts_of, run_alone, run_texts, level_texts, entries_texts, texts_after, texts_over}
+use Rattle.s3_bureau.specs.Texts.{halt_text_of, report_of}
+use Rattle.s3_bureau.specs.Inner.Unwritten.{GivesOver, RunsUnwritten, SavesAs, UnwrittenOver, texts_at, texts_with, unwritten_texts}
 use Rattle.s3_bureau.specs.Inner.Underway.{HaveFiles, HaveSlots, KeepSaying, LeavesSectors, ReadsDeck, Performs, RunsOver, HasTexts, drained_texts}
 
 -- all lines of a closed world were drained
@@ -112,15 +116,37 @@ slots_stand entries first middle last performs says closes mounts untangled same
 )
 
 -- ---- where a call finishes a bureau and gives its texts, or stops
-pub texts_served : {E : Type 0} (refusal1 refusal2 : Option (ℕ × ℕ)) (entries : List Entry) (opened performed finished : LevelId → World → Type 0) (result : Result (LevelTexts × LevelTexts) E)
+take_front : {A : Type 0} (xs ys : List A) → take (length xs) (xs ++ ys) ≡ xs
+take_front [] ys = refl
+take_front (x ∷ xs) ys = ap (λ l. x ∷ l) (take_front xs ys)
+
+-- the lines that a level has drained are those of each world that is held for it
+drained_at : (level : LevelId) (bureau : State) (w : World) → HoldsFor level bureau w → lines_at level bureau ≡ drained_lines w.lines
+drained_at level bureau w held =
+    let lines = held.world.parts.lines in
+    sym (ap₂ (λ n printed. take n printed) lines.drained_lines lines.printed ∙ take_front (lines_at level bureau) _)
+
+halts_shown : (level : LevelId) (bureau : State) (refusal : Option (ℕ × ℕ)) (halts : List ℕ) → ((w : World) → HoldsFor level bureau w → halts ≡ halt_text_of refusal w.halts)
+    → (w : World) → HoldsFor level bureau w → texts_with level bureau halts ≡ drained_texts refusal w
+halts_shown level bureau refusal halts are w held = ap₂ (λ lines text. record { report = report_of lines; halts = text }) (drained_at level bureau w held) (are w held)
+
+pub halts_served : {V : Type 0} {E : Type 0} (refusal1 refusal2 : Option (ℕ × ℕ)) (entries : List Entry) (opened performed : LevelId → World → Type 0) (last : State) (result : Result V E) (one two : V → List ℕ)
     → Performs entries opened performed
-    → OnOk result ((level : LevelId) (w : World) → performed level w → finished level (closed w))
-    → IfOk result (λ texts. (w : World) → finished One w → texts_in texts.0 ≡ drained_texts refusal1 w)
-    → IfOk result (λ texts. (w : World) → finished Two w → texts_in texts.1 ≡ drained_texts refusal2 w)
-    → IfOk result (λ texts. HasTexts refusal1 refusal2 entries opened (record { one = texts_in texts.0; two = texts_in texts.1 }))
-texts_served refusal1 refusal2 entries opened performed finished (Ok texts) performs closes one two =
-    texts_shown refusal1 refusal2 entries opened performed finished (record { one = texts_in texts.0; two = texts_in texts.1 }) performs closes one two
-texts_served refusal1 refusal2 entries opened performed finished (Err stop) performs closes one two = tt
+    → OnOk result ((level : LevelId) (w : World) → performed level w → HoldsFor level last (closed w))
+    → IfOk result (λ v. (w : World) → HoldsFor One last w → one v ≡ halt_text_of refusal1 w.halts)
+    → IfOk result (λ v. (w : World) → HoldsFor Two last w → two v ≡ halt_text_of refusal2 w.halts)
+    → IfOk result (λ v. HasTexts refusal1 refusal2 entries opened (texts_at last (one v) (two v)))
+halts_served refusal1 refusal2 entries opened performed last (Ok v) one two performs closes shown_one shown_two =
+    texts_shown refusal1 refusal2 entries opened performed (held_by last) (texts_at last (one v) (two v)) performs closes
+    (halts_shown One last refusal1 (one v) shown_one) (halts_shown Two last refusal2 (two v) shown_two)
+halts_served refusal1 refusal2 entries opened performed last (Err stop) one two performs closes shown_one shown_two = tt
+
+-- a level's halt text
+pub halts_told : {V : Type 0} {E : Type 0} (level : LevelId) (bureau : State) (refusal : Option (ℕ × ℕ)) (halts : List ShownHalt) (result : Result V E) (text : V → List ℕ)
+    → IfOk result (λ v. text v ≡ halt_text_of refusal halts) → ((w : World) → HoldsFor level bureau w → halts ≡ w.halts)
+    → IfOk result (λ v. (w : World) → HoldsFor level bureau w → text v ≡ halt_text_of refusal w.halts)
+halts_told level bureau refusal halts (Ok v) text is are = λ w held. is ∙ ap (halt_text_of refusal) (are w held)
+halts_told level bureau refusal halts (Err fault) text is are = tt
 
 pub files_served : {V : Type 0} {E : Type 0} (entries : List Entry) (first middle last : State) (result : Result V E) → Performs entries (held_by first) (held_by middle)
     → OnOk result ((level : LevelId) (w : World) → HoldsFor level middle w → HoldsFor level last (closed w))
@@ -191,39 +217,97 @@ left_so header deck1 deck2 cards1 cards2 refusal1 refusal2 entries first last co
         (λ untangled. (slots level (said level untangled)).1 (at_start level header contents cards) held)))
 
 -- the run over a store in memory is the run over the pack's bytes
+texts_by : (pack deck1 deck2 script : List ℕ) (entries : List Entry) → entries_of script ≡ Ok entries
+    → texts_over (mounted (contents_of pack)) (contents_of pack) deck1 deck2 entries ≡ run_texts pack deck1 deck2 script
+texts_by pack deck1 deck2 script entries entries_are = sym (ap (texts_after (contents_of pack) deck1 deck2) entries_are)
+
+given_by : (pack deck1 deck2 script : List ℕ) (entries : List Entry) (texts : RunTexts) (sectors : List (List ℕ)) → entries_of script ≡ Ok entries
+    → GivesOver (contents_of pack) deck1 deck2 entries texts sectors
+    → (run_texts pack deck1 deck2 script ≡ Ok texts) × ((saved : List ℕ) → sectors_of saved ≡ sectors → saved ≡ concat (sectors_of saved) → LeavesPack pack deck1 deck2 script saved)
+given_by pack deck1 deck2 script entries texts sectors entries_are given = (
+  sym (texts_by pack deck1 deck2 script entries entries_are) ∙ given.0,
+  λ saved are whole header others mount read. left saved whole header others (same entries others (entries_of script) entries_are read)
+      (subst (λ (c : List (List ℕ)). LeavesSo header deck1 deck2 entries (contents_of pack) c) (sym are) (given.1 header mount)),
+)
+  where
+    same : (one two : List Entry) (read : Result (List Entry) ℕ) → read ≡ Ok one → read ≡ Ok two → one ≡ two
+    same one two read first second = cc
+
+    few : (saved : List ℕ) → length (sectors_of saved) ≡ length (contents_of pack) → length (sectors_of saved) ≤ 65535
+    few saved count = subst (λ (n : ℕ). n ≤ 65535) (sym count) (omega (arith, length-take 65535 (sectors_of pack)))
+
+    left : (saved : List ℕ) → saved ≡ concat (sectors_of saved) → (header : Header) (others : List Entry) → entries ≡ others
+        → LeavesSo header deck1 deck2 entries (contents_of pack) (sectors_of saved)
+        → LeavesSo header deck1 deck2 others (contents_of pack) (contents_of saved) × AreSectors saved
+    left saved whole header others are rest =
+        subst (λ (c : List (List ℕ)). LeavesSo header deck1 deck2 others (contents_of pack) c × (saved ≡ concat c))
+        (sym (take_all 65535 (sectors_of saved) (few saved rest.count)))
+        (subst (λ (e : List Entry). LeavesSo header deck1 deck2 e (contents_of pack) (sectors_of saved)) are rest, whole)
+
 pub runs_by : (pack deck1 deck2 script : List ℕ) (entries : List Entry) (contents : List (List ℕ)) (result : Result Outcome RunFault) → contents ≡ contents_of pack → entries_of script ≡ Ok entries
     → RunsOver contents deck1 deck2 entries result → Runs pack deck1 deck2 script result
 runs_by pack deck1 deck2 script entries contents result contents_are entries_are given = by result (subst (λ (c : List (List ℕ)). RunsOver c deck1 deck2 entries result) contents_are given)
   where
-    texts : texts_over (mounted (contents_of pack)) (contents_of pack) deck1 deck2 entries ≡ run_texts pack deck1 deck2 script
-    texts = sym (ap (texts_after (contents_of pack) deck1 deck2) entries_are)
-
     by : (result : Result Outcome RunFault) → RunsOver (contents_of pack) deck1 deck2 entries result → Runs pack deck1 deck2 script result
-    by (Ok outcome) given = (sym texts ∙ given.0, λ header others mount read. left header others mount (same entries others (entries_of script) entries_are read) (given.1.0 header mount) given.1.1)
-      where
-        same : (one two : List Entry) (read : Result (List Entry) ℕ) → read ≡ Ok one → read ≡ Ok two → one ≡ two
-        same one two read first second = cc
-
-        few : length (sectors_of outcome.pack.items) ≡ length (contents_of pack) → length (sectors_of outcome.pack.items) ≤ 65535
-        few count = subst (λ (n : ℕ). n ≤ 65535) (sym count) (omega (arith, length-take 65535 (sectors_of pack)))
-
-        left : (header : Header) (others : List Entry) → mounted (contents_of pack) ≡ Ok header → entries ≡ others
-            → LeavesSo header deck1 deck2 entries (contents_of pack) (sectors_of outcome.pack.items)
-            → outcome.pack.items ≡ concat (sectors_of outcome.pack.items)
-            → LeavesSo header deck1 deck2 others (contents_of pack) (contents_of outcome.pack.items) × AreSectors outcome.pack.items
-        left header others mount are rest whole =
-            subst (λ (c : List (List ℕ)). LeavesSo header deck1 deck2 others (contents_of pack) c × (outcome.pack.items ≡ concat c))
-            (sym (take_all 65535 (sectors_of outcome.pack.items) (few rest.count)))
-            (subst (λ (e : List Entry). LeavesSo header deck1 deck2 e (contents_of pack) (sectors_of outcome.pack.items)) are rest, whole)
+    by (Ok outcome) given =
+        let gives = given_by pack deck1 deck2 script entries (outcome_texts outcome) (sectors_of outcome.pack.items) entries_are (given.0, given.1.0) in
+        (gives.0, gives.1 outcome.pack.items refl given.1.1)
     by (Err NoMemory) given = tt
     by (Err DeviceFault) given = given
     by (Err (Script line)) given = absurd given
-    by (Err (Mount fault)) given = sym texts ∙ given
+    by (Err (Mount fault)) given = sym (texts_by pack deck1 deck2 script entries entries_are) ∙ given
+
+-- so it is where no report is written yet
+pub unwritten_by : (pack deck1 deck2 script : List ℕ) (entries : List Entry) (contents : List (List ℕ)) (result : Result Unwritten RunFault) → contents ≡ contents_of pack → entries_of script ≡ Ok entries
+    → UnwrittenOver contents deck1 deck2 entries result → RunsUnwritten pack deck1 deck2 script result
+unwritten_by pack deck1 deck2 script entries contents result contents_are entries_are given = by result (subst (λ (c : List (List ℕ)). UnwrittenOver c deck1 deck2 entries result) contents_are given)
+  where
+    by : (result : Result Unwritten RunFault) → UnwrittenOver (contents_of pack) deck1 deck2 entries result → RunsUnwritten pack deck1 deck2 script result
+    by (Ok run) given =
+        let gives = given_by pack deck1 deck2 script entries (unwritten_texts run) run.bureau.beside.state.stored entries_are given in
+        (gives.0, λ saved saves. gives.1 saved saves.sectors saves.whole)
+    by (Err NoMemory) given = tt
+    by (Err DeviceFault) given = given
+    by (Err (Script line)) given = absurd given
+    by (Err (Mount fault)) given = sym (texts_by pack deck1 deck2 script entries entries_are) ∙ given
+
+-- and with its reports written
+pub runs_written : (pack deck1 deck2 script : List ℕ) (run : Unwritten) (outcome : Outcome) → outcome_texts outcome ≡ unwritten_texts run → SavesAs run outcome.pack.items
+    → RunsUnwritten pack deck1 deck2 script (Ok run) → Runs pack deck1 deck2 script (Ok outcome)
+runs_written pack deck1 deck2 script run outcome texts saves given = (given.0 ∙ ap (λ (t : RunTexts). Ok t) (sym texts), given.1 outcome.pack.items saves)
+
+pub runs_refused : (pack deck1 deck2 script : List ℕ) (fault : RunFault) → RunsUnwritten pack deck1 deck2 script (Err fault) → Runs pack deck1 deck2 script (Err fault)
+runs_refused pack deck1 deck2 script NoMemory given = tt
+runs_refused pack deck1 deck2 script DeviceFault given = given
+runs_refused pack deck1 deck2 script (Script line) given = given
+runs_refused pack deck1 deck2 script (Mount fault) given = given
 
 same_header : (one two : Header) (mount : Result Header MountFault) → mount ≡ Ok one → mount ≡ Ok two → one ≡ two
 same_header one two mount first second = cc
 
 -- what it gives where the bureau was opened, performed all entries and was finished
+given_over : (contents : List (List ℕ)) (deck1 deck2 : List ℕ) (cards1 cards2 : List (List ℕ)) (refusal1 refusal2 : Option (ℕ × ℕ)) (entries : List Entry) (first last : State) (texts : RunTexts) (sectors : List (List ℕ))
+    → mounted contents ≡ Ok (header_of first) → first.beside.state.contents ≡ contents
+    → HoldsFor One first (at_start One (header_of first) contents cards1) → HoldsFor Two first (at_start Two (header_of first) contents cards2)
+    → ((level : LevelId) → rests level first)
+    → ReadsDeck deck1 cards1 refusal1 → ReadsDeck deck2 cards2 refusal2
+    → ((level : LevelId) → IsUntangled (header_of first).format (region_of level (header_of first)) (area_of level) contents → IsSaid level first)
+    → HasTexts refusal1 refusal2 entries (held_by first) texts
+    → HaveSlots entries first last.beside.state.contents
+    → HaveFiles entries (held_by first) last.beside.state.contents
+    → last.beside.state.stored ≡ last.beside.state.contents
+    → LeavesSectors entries first last
+    → sectors ≡ last.beside.state.stored
+    → GivesOver contents deck1 deck2 entries texts sectors
+given_over contents deck1 deck2 cards1 cards2 refusal1 refusal2 entries first last texts sectors mount contents_are held1 held2 rest reads1 reads2 said has slots files flushed leaves saved = (
+  ap (λ (m : Result Header MountFault). texts_over m contents deck1 deck2 entries) mount
+      ∙ ap (λ (t : RunTexts). Ok t) (sym (texts_given (header_of first) contents deck1 deck2 cards1 cards2 refusal1 refusal2 entries (held_by first) texts reads1 reads2 held1 held2 has)),
+  λ header is. left_so header deck1 deck2 cards1 cards2 refusal1 refusal2 entries first last contents sectors is (same_header (header_of first) header (mounted contents) mount is) contents_are rest leaves reads1 reads2
+      (subst (λ (h : Header). HoldsFor One first (at_start One h contents cards1)) (same_header (header_of first) header (mounted contents) mount is) held1)
+      (subst (λ (h : Header). HoldsFor Two first (at_start Two h contents cards2)) (same_header (header_of first) header (mounted contents) mount is) held2)
+      said slots files flushed saved,
+)
+
 pub outcome_over : (contents : List (List ℕ)) (deck1 deck2 : List ℕ) (cards1 cards2 : List (List ℕ)) (refusal1 refusal2 : Option (ℕ × ℕ)) (entries : List Entry) (first last : State) (outcome : Outcome)
     → mounted contents ≡ Ok (header_of first) → first.beside.state.contents ≡ contents
     → HoldsFor One first (at_start One (header_of first) contents cards1) → HoldsFor Two first (at_start Two (header_of first) contents cards2)
@@ -238,14 +322,22 @@ pub outcome_over : (contents : List (List ℕ)) (deck1 deck2 : List ℕ) (cards1
     → sectors_of outcome.pack.items ≡ last.beside.state.stored
     → outcome.pack.items ≡ concat (sectors_of outcome.pack.items)
     → RunsOver contents deck1 deck2 entries (Ok outcome)
-outcome_over contents deck1 deck2 cards1 cards2 refusal1 refusal2 entries first last outcome mount contents_are held1 held2 rest reads1 reads2 said texts slots files flushed leaves saved whole = (
-  ap (λ (m : Result Header MountFault). texts_over m contents deck1 deck2 entries) mount
-      ∙ ap (λ (t : RunTexts). Ok t) (sym (texts_given (header_of first) contents deck1 deck2 cards1 cards2 refusal1 refusal2 entries (held_by first) (outcome_texts outcome) reads1 reads2 held1 held2 texts)),
-  (
-    λ header is. left_so header deck1 deck2 cards1 cards2 refusal1 refusal2 entries first last contents (sectors_of outcome.pack.items) is (same_header (header_of first) header (mounted contents) mount is) contents_are rest leaves reads1 reads2
-        (subst (λ (h : Header). HoldsFor One first (at_start One h contents cards1)) (same_header (header_of first) header (mounted contents) mount is) held1)
-        (subst (λ (h : Header). HoldsFor Two first (at_start Two h contents cards2)) (same_header (header_of first) header (mounted contents) mount is) held2)
-        said slots files flushed saved,
-    whole,
-  ),
-)
+outcome_over contents deck1 deck2 cards1 cards2 refusal1 refusal2 entries first last outcome mount contents_are held1 held2 rest reads1 reads2 said texts slots files flushed leaves saved whole =
+    let gives = given_over contents deck1 deck2 cards1 cards2 refusal1 refusal2 entries first last (outcome_texts outcome) (sectors_of outcome.pack.items) mount contents_are held1 held2 rest reads1 reads2 said texts slots files flushed leaves saved in
+    (gives.0, (gives.1, whole))
+
+-- where the lines stand in the bureau
+pub unwritten_over : (contents : List (List ℕ)) (deck1 deck2 : List ℕ) (cards1 cards2 : List (List ℕ)) (refusal1 refusal2 : Option (ℕ × ℕ)) (entries : List Entry) (first : State) (run : Unwritten)
+    → mounted contents ≡ Ok (header_of first) → first.beside.state.contents ≡ contents
+    → HoldsFor One first (at_start One (header_of first) contents cards1) → HoldsFor Two first (at_start Two (header_of first) contents cards2)
+    → ((level : LevelId) → rests level first)
+    → ReadsDeck deck1 cards1 refusal1 → ReadsDeck deck2 cards2 refusal2
+    → ((level : LevelId) → IsUntangled (header_of first).format (region_of level (header_of first)) (area_of level) contents → IsSaid level first)
+    → HasTexts refusal1 refusal2 entries (held_by first) (unwritten_texts run)
+    → HaveSlots entries first run.bureau.beside.state.contents
+    → HaveFiles entries (held_by first) run.bureau.beside.state.contents
+    → run.bureau.beside.state.stored ≡ run.bureau.beside.state.contents
+    → LeavesSectors entries first run.bureau
+    → UnwrittenOver contents deck1 deck2 entries (Ok run)
+unwritten_over contents deck1 deck2 cards1 cards2 refusal1 refusal2 entries first run mount contents_are held1 held2 rest reads1 reads2 said texts slots files flushed leaves =
+    given_over contents deck1 deck2 cards1 cards2 refusal1 refusal2 entries first run.bureau (unwritten_texts run) run.bureau.beside.state.stored mount contents_are held1 held2 rest reads1 reads2 said texts slots files flushed leaves refl

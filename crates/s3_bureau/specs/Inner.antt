@@ -12,3 +12,4 @@ pub mod Script
 pub mod Steps
 pub mod Stops
 pub mod Underway
+pub mod Unwritten

@@ -56,6 +56,7 @@ mod run_fault;
 mod runs;
 mod script;
 mod stop;
+mod unwritten;
 
 pub use bureau::Bureau;
 pub use entry::Entry;
@@ -65,8 +66,10 @@ pub use laws::{
     other_entries_make_no_difference, reports_are_written, scripts_are_read,
 };
 pub use outcome::{LevelTexts, Outcome};
+pub use report::{REPORT_ROOM, ReportTables};
 pub use run_fault::{RunFault, mount_number};
-pub use runs::{fault_of, fault_of_refusal, finish_texts, read_deck, run, run_on};
+pub use runs::{fault_of, fault_of_refusal, finish_texts, read_deck, run, run_on, run_unwritten};
 pub use s3_labels::{Refusal, RefusedStore};
 pub use s3_level::{Action, Did, Halt, HaltCode, Taken};
 pub use stop::Stop;
+pub use unwritten::Unwritten;

@@ -14,12 +14,12 @@ const LONGEST_LINE: usize = 12 + PRINT_POSITIONS + 1;
 /// A report gets room for so many bytes of each line at first.
 const USUAL_LINE: usize = 64;
 
-/// How many bytes may be laid out before they go into the report together.
-const ROOM: usize = 2_048;
+/// How many bytes are laid out at once, before they go into the report or are written.
+pub const REPORT_ROOM: usize = 2_048;
 
 /// What each line of a report is made with, so that two of its codes cost one look-up, and each digit of its page.
 #[derive(Drop)]
-struct Tables {
+pub struct ReportTables {
     /// The bytes that show each two codes, as one number whose first byte is the low one, at the place that the codes have so.
     shown: Vec<u16>,
     /// The first digit of each number below 100, in two.
@@ -36,35 +36,63 @@ pub fn report_text(alloc: Global, lines: &[PrintLine]) -> Result<Vec<u8>, AllocE
     if lines.is_empty() {
         return Ok(Vec::new(alloc));
     }
-    let tables = report_tables(alloc)?;
+    let tables = ReportTables::new(alloc)?;
     let mut text = Vec::with_capacity(alloc, lines.len().saturating_mul(USUAL_LINE))?;
-    let mut room = [b' '; ROOM];
-    let mut end = 0;
-    for line in lines {
-        let start = with_room(&mut text, &room, end)?;
-        end = lay_line(&mut room, start, &tables, line);
+    let mut room = [b' '; REPORT_ROOM];
+    let mut rest = lines;
+    while !rest.is_empty() {
+        let (end, after) = tables.lay_lines(&mut room, rest);
+        text.extend_from_slice(&room[..end])?;
+        rest = after;
     }
-    text.extend_from_slice(&room[..end])?;
     Ok(text)
 }
 
-/// Where the next line goes: behind those that are laid out, or where the room may be too short for it, to its front once they went
-/// into the report.
-fn with_room(report: &mut Vec<u8>, room: &[u8; ROOM], end: usize) -> Result<usize, AllocError>
-    requires { end ≤ 2048 }
-    ensures same { IfOk result (λ start. report.new.items ++ take start room.now ≡ report.old.items ++ take end room.now) }
-    ensures fits { IfOk result (λ start. start + 145 ≤ 2048) }
-{
-    if end + LONGEST_LINE <= ROOM {
-        return Ok(end);
+impl ReportTables {
+    /// The tables.
+    pub fn new(alloc: Global) -> Result<ReportTables, AllocError>
+        ensures { IfOk result AreTables }
+    {
+        Ok(ReportTables {
+            shown: shown_pairs(alloc)?,
+            tens: first_digits(),
+            ones: last_digits(),
+        })
     }
-    report.extend_from_slice(&room[..end])?;
-    Ok(0)
+
+    /// Lays out the report of the first of these lines, of as many as have room, and answers where it ends, with the lines that are
+    /// left.
+    pub fn lay_lines<'l>(
+        &self,
+        room: &mut [u8; REPORT_ROOM],
+        lines: &'l [PrintLine],
+    ) -> (usize, &'l [PrintLine])
+        requires { AreTables self.now }
+        ensures laid { take result.0 room.new ++ report_of result.1.now ≡ report_of lines.entry.now }
+        ensures within { result.0 ≤ 2048 }
+        ensures fewer { 0 < length lines.entry.now → length result.1.now < length lines.entry.now }
+    {
+        let mut end = 0;
+        let mut rest = lines;
+        while let Some((line, after)) = rest.split_first() {
+            if end + LONGEST_LINE > REPORT_ROOM {
+                return (end, rest);
+            }
+            end = lay_line(room, end, self, line);
+            rest = after;
+        }
+        (end, rest)
+    }
 }
 
 /// Lays out a printed line from a place on, and answers where it ends.
 #[tactic(auto, using(crate::proofs::Laying::line_whole), unfolding(crate::specs::Texts::report_line))]
-fn lay_line(room: &mut [u8; ROOM], at: usize, tables: &Tables, line: &PrintLine) -> usize
+fn lay_line(
+    room: &mut [u8; REPORT_ROOM],
+    at: usize,
+    tables: &ReportTables,
+    line: &PrintLine,
+) -> usize
     requires tables { AreTables tables.now }
     requires fits { at + 145 ≤ 2048 }
     ensures laid { IsLaid at result room.old room.new (report_line line.now) }
@@ -76,7 +104,7 @@ fn lay_line(room: &mut [u8; ROOM], at: usize, tables: &Tables, line: &PrintLine)
 }
 
 /// Copies bytes to a place, and answers where they end.
-fn lay(room: &mut [u8; ROOM], at: usize, bytes: &[u8]) -> usize
+fn lay(room: &mut [u8; REPORT_ROOM], at: usize, bytes: &[u8]) -> usize
     requires { at + length bytes.now ≤ 2048 }
     ensures { IsLaid at result room.old room.new bytes.now }
 {
@@ -86,7 +114,7 @@ fn lay(room: &mut [u8; ROOM], at: usize, bytes: &[u8]) -> usize
 }
 
 /// Lays out the characters of codes. Sixteen of them go without a test in between.
-fn lay_codes(room: &mut [u8; ROOM], at: usize, tables: &Tables, codes: &[u8]) -> usize
+fn lay_codes(room: &mut [u8; REPORT_ROOM], at: usize, tables: &ReportTables, codes: &[u8]) -> usize
     requires tables { AreTables tables.now }
     requires fits { at + length codes.now ≤ 2048 }
     ensures { IsLaid at result room.old room.new (map shown_byte codes.now) }
@@ -102,7 +130,7 @@ fn lay_codes(room: &mut [u8; ROOM], at: usize, tables: &Tables, codes: &[u8]) ->
 
 /// Lays out the characters of codes, two at a time.
 #[inline(always)]
-fn lay_pairs(room: &mut [u8; ROOM], at: usize, tables: &Tables, codes: &[u8]) -> usize
+fn lay_pairs(room: &mut [u8; REPORT_ROOM], at: usize, tables: &ReportTables, codes: &[u8]) -> usize
     requires tables { AreTables tables.now }
     requires fits { at + length codes.now ≤ 2048 }
     ensures { IsLaid at result room.old room.new (map shown_byte codes.now) }
@@ -123,7 +151,7 @@ fn lay_pairs(room: &mut [u8; ROOM], at: usize, tables: &Tables, codes: &[u8]) ->
     end
 }
 
-impl Tables {
+impl ReportTables {
     /// The bytes that show two codes.
     fn shown_pair(&self, codes: [u8; 2]) -> [u8; 2]
         requires { AreTables self.now }
@@ -134,7 +162,13 @@ impl Tables {
 }
 
 /// Lays out the page of a printed line and its line there, with a blank behind each.
-fn lay_place(room: &mut [u8; ROOM], at: usize, tables: &Tables, page: u16, line: u8) -> usize
+fn lay_place(
+    room: &mut [u8; REPORT_ROOM],
+    at: usize,
+    tables: &ReportTables,
+    page: u16,
+    line: u8,
+) -> usize
     requires tables { AreTables tables.now }
     requires fits { at + 12 ≤ 2048 }
     ensures laid { IsLaid at result room.old room.new (in_digits 4 page ++ 32 ∷ [] ++ in_digits 2 line ++ 32 ∷ []) }
@@ -149,7 +183,7 @@ fn lay_place(room: &mut [u8; ROOM], at: usize, tables: &Tables, page: u16, line:
 
 /// Lays out a page and a line, either of which may be too great for its digits.
 #[inline(never)]
-fn lay_long_place(room: &mut [u8; ROOM], at: usize, page: u16, line: u8) -> usize
+fn lay_long_place(room: &mut [u8; REPORT_ROOM], at: usize, page: u16, line: u8) -> usize
     requires { at + 12 ≤ 2048 }
     ensures laid { IsLaid at result room.old room.new (in_digits 4 page ++ 32 ∷ [] ++ in_digits 2 line ++ 32 ∷ []) }
     ensures within { result ≤ at + 12 }
@@ -161,7 +195,7 @@ fn lay_long_place(room: &mut [u8; ROOM], at: usize, page: u16, line: u8) -> usiz
 }
 
 /// Lays out a number with zeros in front up to a width of at most five.
-fn lay_number(room: &mut [u8; ROOM], at: usize, number: u16, width: usize) -> usize
+fn lay_number(room: &mut [u8; REPORT_ROOM], at: usize, number: u16, width: usize) -> usize
     requires { (at + 5 ≤ 2048) × (width ≤ 5) }
     ensures laid { IsLaid at result room.old room.new (in_digits width number) }
     ensures within { result ≤ at + 5 }
@@ -174,7 +208,7 @@ fn lay_number(room: &mut [u8; ROOM], at: usize, number: u16, width: usize) -> us
 }
 
 /// A page of at most four digits and a line of at most two, with a blank behind each.
-fn place_in_eight(tables: &Tables, page: u16, line: u8) -> [u8; 8]
+fn place_in_eight(tables: &ReportTables, page: u16, line: u8) -> [u8; 8]
     requires tables { AreTables tables.now }
     requires page { page < 10000 }
     requires line { line < 100 }
@@ -192,17 +226,6 @@ fn place_in_eight(tables: &Tables, page: u16, line: u8) -> [u8; 8]
         tables.ones[line as usize],
         b' ',
     ]
-}
-
-/// What the lines of a report are made with.
-fn report_tables(alloc: Global) -> Result<Tables, AllocError>
-    ensures { IfOk result AreTables }
-{
-    Ok(Tables {
-        shown: shown_pairs(alloc)?,
-        tens: first_digits(),
-        ones: last_digits(),
-    })
 }
 
 /// The bytes that show each two codes, a row for each second one.

@@ -8,7 +8,10 @@ ghost use Rattle.s3_bureau.specs.Inner.Stops.{failed_stop};
 ghost use Rattle.s3_bureau.specs.Inner.Held.{HoldsFor, IsSaid, header_of, held_by, is_open, rests};
 ghost use Rattle.s3_bureau.specs.Runs.{Runs, texts_in};
 ghost use Rattle.s3_bureau.specs.Sharing.{IsCommon, IsOwn};
-ghost use Rattle.s3_bureau.specs.Inner.Underway.{HasTexts, HaveFiles, HaveSlots, KeepSaying, Leaves, LeavesSectors, Performs, ReadsDeck, RunsOver, drained_texts, left_after};
+ghost use Rattle.s3_bureau.specs.Texts.{halt_text_of, report_of};
+ghost use Rattle.s3_bureau.specs.Inner.Underway.{HasTexts, HaveFiles, HaveSlots, KeepSaying, Leaves, LeavesSectors, Performs, ReadsDeck, drained_texts, left_after};
+ghost use Rattle.s3_bureau.specs.Inner.Unwritten.{RunsUnwritten, UnwrittenOver, texts_at};
+ghost use Rattle.s3_solo.specs.Inner.Lines.{drained_lines};
 ghost use Rattle.s3_cards.specs.declared.levels.LevelId.{LevelId};
 ghost use Rattle.s3_store.specs.Inner.State.{KeepsInStep};
 ghost use Rattle.s3_slots.specs.Header.{region_of};
@@ -26,6 +29,7 @@ use crate::report::report_text;
 use crate::run_fault::RunFault;
 use crate::script::{Command, read_script};
 use crate::stop::Stop;
+use crate::unwritten::Unwritten;
 use s3_cards::{Deck, LevelId};
 use s3_labels::{Refusal, RefusedStore};
 use s3_level::{Did, Taken};
@@ -63,20 +67,36 @@ pub fn run_on(
 ) -> Result<Outcome, RunFault>
     ensures { Runs pack.items deck1.now deck2.now script.now result }
 {
-    let commands = read_script(alloc, script)?;
-    let store = MemoryStore::from_bytes(pack);
-    outcome(alloc, store, deck1, deck2, &commands)
+    let unwritten = run_unwritten(alloc, pack, deck1, deck2, script)?;
+    let outcome = unwritten.written(alloc)?;
+    Ok(outcome)
 }
 
-/// The texts of both levels after the entries of all commands, and the pack.
-fn outcome(
+/// A run as `run_on` makes it, with no report written yet: it hands out the printed lines that a report is made of. So who writes
+/// them needs no room for a whole report.
+pub fn run_unwritten(
+    alloc: Global,
+    pack: Vec<u8>,
+    deck1: &[u8],
+    deck2: &[u8],
+    script: &[u8],
+) -> Result<Unwritten, RunFault>
+    ensures { RunsUnwritten pack.items deck1.now deck2.now script.now result }
+{
+    let commands = read_script(alloc, script)?;
+    let store = MemoryStore::from_bytes(pack);
+    unwritten(alloc, store, deck1, deck2, &commands)
+}
+
+/// The bureau after the entries of all commands, finished, and the halt texts of both levels.
+fn unwritten(
     alloc: Global,
     store: MemoryStore,
     deck1: &[u8],
     deck2: &[u8],
     commands: &[Command],
-) -> Result<Outcome, RunFault>
-    ensures { RunsOver store deck1.now deck2.now (flat_map entries_by commands.now) result }
+) -> Result<Unwritten, RunFault>
+    ensures { UnwrittenOver store deck1.now deck2.now (flat_map entries_by commands.now) result }
 {
     let (cards1, refusal1) = read_deck(alloc, deck1)?;
     let (cards2, refusal2) = read_deck(alloc, deck2)?;
@@ -84,11 +104,17 @@ fn outcome(
         Ok(bureau) => bureau,
         Err(RefusedStore { store: _, fault }) => return Err(fault_of_refusal(fault)),
     };
-    let texts = served(alloc, &mut bureau, commands, refusal1, refusal2);
-    let pack = bureau.into_store().into_bytes();
-    match texts {
-        Ok((one, two)) => Ok(Outcome { one, two, pack }),
-        Err(stop) => Err(fault_of(stop)),
+    let halts = served(alloc, &mut bureau, commands, refusal1, refusal2);
+    match halts {
+        Ok((halts1, halts2)) => Ok(Unwritten {
+            bureau,
+            halts1,
+            halts2,
+        }),
+        Err(stop) => {
+            let _store = bureau.into_store();
+            Err(fault_of(stop))
+        }
     }
 }
 
@@ -117,16 +143,17 @@ pub fn fault_of(stop: Stop) -> RunFault
     }
 }
 
-/// The texts of both levels after the entries of all commands, where each level's deck was refused or not.
+/// Finishes a bureau after the entries of all commands, and gives the halt texts of both levels, where each level's deck was refused
+/// or not.
 fn served<S: PackStore>(
     alloc: Global,
     bureau: &mut Bureau<S>,
     commands: &[Command],
     refusal1: Option<(u16, u8)>,
     refusal2: Option<(u16, u8)>,
-) -> Result<(LevelTexts, LevelTexts), Stop>
+) -> Result<(Vec<u8>, Vec<u8>), Stop>
     requires { is_open bureau.old ≡ true }
-    ensures texts { IfOk result (λ texts. HasTexts refusal1 refusal2 (flat_map entries_by commands.now) (held_by bureau.old) (record { one = texts_in texts.0; two = texts_in texts.1 })) }
+    ensures texts { IfOk result (λ halts. HasTexts refusal1 refusal2 (flat_map entries_by commands.now) (held_by bureau.old) (texts_at bureau.new halts.0.items halts.1.items)) }
     ensures files { OnOk result (HaveFiles (flat_map entries_by commands.now) (held_by bureau.old) bureau.new.beside.state.contents) }
     ensures slots { OnOk result (HaveSlots (flat_map entries_by commands.now) bureau.old bureau.new.beside.state.contents) }
     ensures flushed { OnOk result (bureau.new.beside.state.stored ≡ bureau.new.beside.state.contents) }
@@ -135,7 +162,32 @@ fn served<S: PackStore>(
     ensures not_stopped { result ≢ Err Stopped }
 {
     perform(bureau, commands)?;
-    finish_texts(alloc, bureau, refusal1, refusal2)
+    finish_halts(alloc, bureau, refusal1, refusal2)
+}
+
+/// Finishes a bureau, and gives the halt texts of both levels, where each level's deck was refused or not.
+fn finish_halts<S: PackStore>(
+    alloc: Global,
+    bureau: &mut Bureau<S>,
+    refusal1: Option<(u16, u8)>,
+    refusal2: Option<(u16, u8)>,
+) -> Result<(Vec<u8>, Vec<u8>), Stop>
+    ensures closes { OnOk result ((level : LevelId) (w : World) → HoldsFor level bureau.old w → HoldsFor level bureau.new (closed w)) }
+    ensures one { IfOk result (λ halts. (w : World) → HoldsFor LevelId.One bureau.new w → halts.0.items ≡ halt_text_of refusal1 w.halts) }
+    ensures two { IfOk result (λ halts. (w : World) → HoldsFor LevelId.Two bureau.new w → halts.1.items ≡ halt_text_of refusal2 w.halts) }
+    ensures flushed { OnOk result (bureau.new.beside.state.stored ≡ bureau.new.beside.state.contents) }
+    ensures mounts { OnOk result ((level : LevelId) (w : World) → IsSaid level bureau.old → HoldsFor level bureau.new w → slots_of (header_of bureau.new).format (region_of level (header_of bureau.new)) (area_of level) bureau.new.beside.state.contents ≡ w.pack.own.slots) }
+    ensures untangled { OnOk result ((level : LevelId) → IsSaid level bureau.old → IsUntangled (header_of bureau.new).format (region_of level (header_of bureau.new)) (area_of level) bureau.new.beside.state.contents) }
+    ensures unchanged { KeepsInStep (IsCommon (header_of bureau.old)) bureau.old.beside.state bureau.new.beside.state }
+    ensures rest { (level : LevelId) → rests level bureau.old → KeepsInStep (IsOwn level (header_of bureau.old)) bureau.old.beside.state bureau.new.beside.state }
+    ensures header { header_of bureau.new ≡ header_of bureau.old }
+    ensures failures { bureau.new.beside.state.failures ≡ bureau.old.beside.state.failures + failed_stop result }
+    ensures not_stopped { is_open bureau.old ≡ true → result ≢ Err Stopped }
+{
+    bureau.finish()?;
+    let one = level_halts(alloc, bureau, LevelId::One, refusal1)?;
+    let two = level_halts(alloc, bureau, LevelId::Two, refusal2)?;
+    Ok((one, two))
 }
 
 /// Finishes a bureau, and gives the texts of both levels, where each level's deck was refused or not.
@@ -160,9 +212,9 @@ pub fn finish_texts<S: PackStore>(
     ensures failures { bureau.new.beside.state.failures ≡ bureau.old.beside.state.failures + failed_stop result }
     ensures not_stopped { is_open bureau.old ≡ true → result ≢ Err Stopped }
 {
-    bureau.finish()?;
-    let one = level_texts(alloc, bureau, LevelId::One, refusal1)?;
-    let two = level_texts(alloc, bureau, LevelId::Two, refusal2)?;
+    let (halts1, halts2) = finish_halts(alloc, bureau, refusal1, refusal2)?;
+    let one = level_texts(alloc, bureau, LevelId::One, halts1)?;
+    let two = level_texts(alloc, bureau, LevelId::Two, halts2)?;
     Ok((one, two))
 }
 
@@ -228,17 +280,29 @@ fn left_behind(taken: Taken, left: u16) -> u16
     }
 }
 
-/// A level's texts.
+/// A level's texts, with this halt text.
 fn level_texts<S: PackStore>(
     alloc: Global,
     bureau: &Bureau<S>,
     level: LevelId,
-    refusal: Option<(u16, u8)>,
+    halts: Vec<u8>,
 ) -> Result<LevelTexts, AllocError>
-    ensures { IfOk result (λ texts. (w : World) → HoldsFor level bureau.now w → texts_in texts ≡ drained_texts refusal w) }
+    ensures { IfOk result (λ texts. (w : World) → HoldsFor level bureau.now w → texts_in texts ≡ record { report = report_of (drained_lines w.lines); halts = halts.items }) }
 {
     Ok(LevelTexts {
         report: report_text(alloc, bureau.lines(level))?,
-        halts: halt_text(alloc, refusal, bureau.halts(level))?,
+        halts,
     })
+}
+
+/// A level's halt text.
+fn level_halts<S: PackStore>(
+    alloc: Global,
+    bureau: &Bureau<S>,
+    level: LevelId,
+    refusal: Option<(u16, u8)>,
+) -> Result<Vec<u8>, AllocError>
+    ensures { IfOk result (λ halts. (w : World) → HoldsFor level bureau.now w → halts.items ≡ halt_text_of refusal w.halts) }
+{
+    halt_text(alloc, refusal, bureau.halts(level))
 }

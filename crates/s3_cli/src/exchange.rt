@@ -6,10 +6,10 @@ ghost use Rattle.s3_cli.specs.declared.fault.SessionFault.TheVariants.{File};
 
 use crate::fault::SessionFault;
 use crate::input::{ReadFault, read_within};
-use crate::output::write_output;
+use crate::output::write_lines;
 use crate::parts::split_parts;
 use crate::watched::{Sink, Source};
-use s3_bureau::{RunFault, run_on};
+use s3_bureau::{ReportTables, RunFault, run_unwritten};
 use std::alloc::Global;
 
 /// The most bytes that the input of a session may have.
@@ -63,9 +63,13 @@ pub fn session_on<R: Source, W: Sink>(
     let Some(parts) = split_parts(input.as_slice()) else {
         return Err(SessionFault::Input);
     };
-    let outcome = run_on(alloc, pack, parts.deck1, parts.deck2, parts.script)?;
-    match write_output(writer, &outcome) {
-        Ok(()) => Ok(outcome.pack),
+    // Memory may run out here, but no more once something is written.
+    let tables = ReportTables::new(alloc)?;
+    let unwritten = run_unwritten(alloc, pack, parts.deck1, parts.deck2, parts.script)?;
+    let written = write_lines(writer, &tables, &unwritten);
+    let pack = unwritten.into_pack();
+    match written {
+        Ok(()) => Ok(pack),
         Err(_) => Err(SessionFault::File),
     }
 }

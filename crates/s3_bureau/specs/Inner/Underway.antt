@@ -28,7 +28,7 @@ use Rattle.s3_bureau.specs.declared.run_fault.RunFault.{RunFault}
 use Rattle.s3_bureau.specs.declared.run_fault.RunFault.TheVariants.{Script, Mount, Device, NoMemory}
 use Rattle.s3_bureau.specs.Runs.{HasFiles, LeavesSo, Texts, RunTexts, cards_of, outcome_texts, refusal_of, texts_over}
 use Rattle.s3_bureau.specs.Texts.{shown_byte, report_of, halt_text_of}
-use Rattle.s3_bureau.specs.declared.report.Tables.{Tables}
+use Rattle.s3_bureau.specs.declared.report.ReportTables.{ReportTables}
 
 -- what is read of a deck: its cards, or why it was refused
 pub record ReadsDeck (text : List ℕ) (cards : List (List ℕ)) (refusal : Option (ℕ × ℕ)) : Type 0 where
@@ -121,7 +121,7 @@ abbrev pub HasOnes : List ℕ → Type 0
 HasOnes table = (number : ℕ) → number < 100 → slice_index table number ≡ 48 + number % 10
 
 -- the tables that a report is made with have what they say
-pub record AreTables (tables : Tables) : Type 0 where
+pub record AreTables (tables : ReportTables) : Type 0 where
   pub shown : ShowsPairs tables.shown.items
   pub all : length tables.shown.items ≡ 65536
   pub tens : HasTens tables.tens

@@ -1,7 +1,10 @@
--- The text so far, with what is laid out, is that of the lines so far.
-use Rattle.std.proofs.Common.{◌≡◌, ◌≤◌, ◌++◌, take, vec_items}
+-- The text so far, with the report of the lines that are left, is the report of all.
+use Rattle.std.proofs.Common.{◌≡◌, ◌++◌, length, vec_items}
 use Rattle.s3_bureau.specs.Texts.{report_of}
 use Rattle.s3_bureau.proofs.report.report_text.Given as goal
 
-abbrev pub invariant-loop-line : goal.invariant-loop-line
-invariant-loop-line l = (vec_items l.text ++ take l.end l.room ≡ report_of (take l.line-index l.lines)) × (l.end ≤ 2048)
+abbrev pub invariant-loop-rest : goal.invariant-loop-rest
+invariant-loop-rest l = vec_items l.text ++ report_of l.rest ≡ report_of l.lines
+
+abbrev pub decreases-loop-rest : goal.decreases-loop-rest
+decreases-loop-rest l = length l.rest

@@ -1,12 +1,16 @@
-use Rattle.std.proofs.Common.{List, Ok, ap, sym, ◌∙◌}
-use Rattle.std.specs.List.{flat_map}
-use Rattle.s3_bureau.specs.declared.script.Command.{Command}
-use Rattle.s3_bureau.specs.Script.{entries_by}
-use Rattle.s3_bureau.proofs.Running.{runs_by}
+use Rattle.std.proofs.Common.{◌≡◌, Result, Err, sym, subst, rules}
+use Rattle.s3_bureau.specs.declared.outcome.Outcome.{Outcome}
+use Rattle.s3_bureau.specs.declared.run_fault.RunFault.{RunFault}
+use Rattle.s3_bureau.specs.Runs.{Runs}
+use Rattle.s3_bureau.proofs.Running.{runs_refused, runs_written}
 use Rattle.s3_bureau.proofs.runs.run_on.Goals as goal
 
 pub returns : goal.returns
 returns c =
-    runs_by c.args.pack.items c.args.deck1.now c.args.deck2.now c.args.script.now (flat_map entries_by c.deref.result.now) c.from_bytes-store.result c.outcome.result
-    c.from_bytes-store.ensures
-    (c.in_ok-commands.ensures ∙ ap (λ (commands : List Command). Ok (flat_map entries_by commands)) (sym c.deref.ensures.value)) c.outcome.ensures
+    runs_written c.args.pack.items c.args.deck1.now c.args.deck2.now c.args.script.now c.in_ok-unwritten.unwritten c.in_ok-outcome.outcome c.in_ok-outcome.ensures.texts c.in_ok-outcome.ensures.pack c.in_ok-unwritten.ensures
+
+pub returns-in_err-unwritten : goal.returns-in_err-unwritten
+returns-in_err-unwritten c =
+    let is : c.from_residual.result ≡ Err c.in_err-unwritten.field-0.0 = search rules in
+    subst (λ (result : Result Outcome RunFault). Runs c.args.pack.items c.args.deck1.now c.args.deck2.now c.args.script.now result) (sym is)
+    (runs_refused c.args.pack.items c.args.deck1.now c.args.deck2.now c.args.script.now c.in_err-unwritten.field-0.0 c.in_err-unwritten.ensures)

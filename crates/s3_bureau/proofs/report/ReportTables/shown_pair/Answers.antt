@@ -2,7 +2,7 @@ use Rattle.std.proofs.Common.{◌<◌, ◌∙◌, ap, sym, vec_items, rules, ari
 use Rattle.std.specs.Prelude.{slice_index}
 use Rattle.std.proofs.lemmas.List.{get_or_read_under}
 use Rattle.s3_bureau.proofs.Laying.{pair_shown}
-use Rattle.s3_bureau.proofs.report.Tables.shown_pair.Goals as goal
+use Rattle.s3_bureau.proofs.report.ReportTables.shown_pair.Goals as goal
 
 pub returns : goal.returns
 returns c =
