@@ -1,2 +1,5 @@
-pub mod SourceLemmas
 pub mod PartLemmas
+pub mod Shown
+pub mod SourceLemmas
+pub mod TableLemmas
+pub mod TestedLemmas

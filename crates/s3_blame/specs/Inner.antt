@@ -1,5 +1,8 @@
 -- What the contracts of a run and of a session don't reach: the diagnostics of a source, the columns to blame, and words.
+pub mod Changes
 pub mod Columns
+pub mod Entries
+pub mod Marks
 pub mod Sources
 pub mod Tested
 pub mod Words

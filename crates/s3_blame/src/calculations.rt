@@ -3,10 +3,12 @@
 ghost use Rattle.std.specs.Prelude.{◌≡◌, true, map, IfOk};
 ghost use Rattle.s3_program.specs.Indications.{is_overflow_entry};
 ghost use Rattle.s3_program.specs.Places.{is_late as is_late_spec};
-ghost use Rattle.s3_blame.specs.Inner.Tested.{span, are_of, of_calculation};
+ghost use Rattle.s3_sheets.specs.declared.kind.CardKind.TheVariants as kind;
+ghost use Rattle.s3_blame.specs.Inner.Entries.{entries_tested};
+ghost use Rattle.s3_blame.specs.Inner.Marks.{span, are_of};
 
 use crate::known::{Known, differences, is_date};
-use crate::parts::{Part, at_fault, entry};
+use crate::parts::{Part, at_fault, entry, entry_alone};
 use crate::walk::Walk;
 use s3_cards::Name;
 use s3_diagnose::rows::row_of;
@@ -17,6 +19,7 @@ use s3_sheets::FaultyEntry;
 use std::alloc::{AllocError, Global};
 
 /// The entries to blame for a number of a C card. `is_cut` says that a C card follows, and doesn't go on with this one.
+#[tactic(auto, using(crate::proofs::TableLemmas::calculation_10))]
 pub fn calculation_entries(
     alloc: Global,
     known: &Known,
@@ -26,7 +29,7 @@ pub fn calculation_entries(
     is_cut: bool,
     number: u8,
 ) -> Result<Vec<FaultyEntry>, AllocError>
-    ensures { IfOk result (λ found. are_of card number (of_calculation number) found.items ≡ true) }
+    ensures { IfOk result (λ found. are_of card number (entries_tested kind.Calculation number) found.items ≡ true) }
 {
     match number {
         5 => at_fault(alloc, card, number, &undefined_parts(known, line)),
@@ -34,7 +37,8 @@ pub fn calculation_entries(
         7 => at_fault(alloc, card, number, &overflow_parts(line)),
         8 => at_fault(alloc, card, number, &misfits(known, line, is_cut).parts()),
         9 => at_fault(alloc, card, number, &misplaced_parts(walk, line)),
-        _ => at_fault(alloc, card, number, &[entry(33, 42, true)]),
+        10 => at_fault(alloc, card, number, &entry_alone(33, 42)),
+        _ => Ok(Vec::new(alloc)),
     }
 }
 
@@ -53,8 +57,9 @@ fn is_unknown(known: &Known, operand: Operand, factor: Option<Factor>) -> bool {
 }
 
 /// What 5 speaks of: each name that nothing defines, where the operation has a use for it.
+#[tactic(auto, using(crate::proofs::TableLemmas::calculation_5))]
 fn undefined_parts(known: &Known, line: &CalculationLine) -> [Part; 3]
-    ensures { map span result ≡ of_calculation 5 }
+    ensures { map span result ≡ entries_tested kind.Calculation 5 }
 {
     let (is_factor1, is_factor2, is_result) = match line.operation {
         Some(operation) => undefined(known, &row_of(operation), line),
@@ -96,8 +101,9 @@ fn is_second(known: &Known, card: u16, line: &CalculationLine) -> bool {
 
 /// What 6 speaks of: the name of a second tag or subroutine; a result that was defined otherwise, with the length or the decimals that
 /// differ; a date field that would be changed.
+#[tactic(auto, using(crate::proofs::TableLemmas::calculation_6))]
 fn redefined_parts(known: &Known, card: u16, line: &CalculationLine) -> [Part; 4]
-    ensures { map span result ≡ of_calculation 6 }
+    ensures { map span result ≡ entries_tested kind.Calculation 6 }
 {
     let (is_length, are_decimals) = redefined(known, line);
     [
@@ -135,8 +141,9 @@ fn is_overflow(indicator: Option<Indicator>) -> bool
 }
 
 /// What 7 speaks of: each overflow indicator.
+#[tactic(auto, using(crate::proofs::TableLemmas::calculation_7))]
 fn overflow_parts(line: &CalculationLine) -> [Part; 3]
-    ensures { map span result ≡ of_calculation 7 }
+    ensures { map span result ≡ entries_tested kind.Calculation 7 }
 {
     let [first, second, third] = line.indicators;
     [
@@ -196,8 +203,9 @@ impl Unfit {
     };
 
     /// What 8 speaks of.
+    #[tactic(auto, using(crate::proofs::TableLemmas::calculation_8))]
     fn parts(self) -> [Part; 11]
-        ensures { map span result ≡ of_calculation 8 }
+        ensures { map span result ≡ entries_tested kind.Calculation 8 }
     {
         let [first, second, third] = self.indicators.surplus;
         [
@@ -388,8 +396,9 @@ fn is_late(part: u8, time: CalculationTime) -> bool
 
 /// What 9 speaks of: the level that is out of order, that goes on with nothing or that stands outside of every subroutine; else the
 /// operation.
+#[tactic(auto, using(crate::proofs::TableLemmas::calculation_9))]
 fn misplaced_parts(walk: &Walk, line: &CalculationLine) -> [Part; 2]
-    ensures { map span result ≡ of_calculation 9 }
+    ensures { map span result ≡ entries_tested kind.Calculation 9 }
 {
     let time = walk.time_of(line);
     let begins_or_ends = matches!(

@@ -3,6 +3,7 @@ ghost use Rattle.std.specs.Prelude.{◌≡◌, ◌≢◌, ◌≤◌, [], length,
 ghost use Rattle.s3_sheets.specs.Inner.Parts.{faulty_entries as faulty_entries_spec};
 ghost use Rattle.s3_sheets.specs.Sheets.{sheet_diagnostics};
 ghost use Rattle.s3_blame.specs.Inner.Columns.{columns_of as columns_of_spec};
+ghost use Rattle.s3_blame.specs.Inner.Tested.{AreTested};
 
 use crate::lines::later_entries;
 use s3_cards::Deck;
@@ -23,7 +24,8 @@ pub fn entries_of(
 ) -> Result<Vec<FaultyEntry>, AllocError>
     requires order { from ≤ to }
     requires within { to ≤ length deck.now }
-    ensures { IfOk result (λ found. sheet_diagnostics from (slice_range deck.now from to) ≢ [] → found.items ≡ faulty_entries_spec from (slice_range deck.now from to)) }
+    ensures of_cards { IfOk result (λ found. sheet_diagnostics from (slice_range deck.now from to) ≢ [] → found.items ≡ faulty_entries_spec from (slice_range deck.now from to)) }
+    ensures of_lines { IfOk result (λ found. sheet_diagnostics from (slice_range deck.now from to) ≡ [] → AreTested from (slice_range deck.now from to) found.items) }
 {
     match read_sheets(alloc, deck, from, to) {
         Ok(lines) => later_entries(alloc, &lines, told),

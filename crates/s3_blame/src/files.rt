@@ -1,6 +1,8 @@
 //! F cards: 6 and 12.
 ghost use Rattle.std.specs.Prelude.{◌≡◌, true, map, IfOk};
-ghost use Rattle.s3_blame.specs.Inner.Tested.{span, are_of, of_file};
+ghost use Rattle.s3_sheets.specs.declared.kind.CardKind.TheVariants as kind;
+ghost use Rattle.s3_blame.specs.Inner.Entries.{entries_tested};
+ghost use Rattle.s3_blame.specs.Inner.Marks.{span, are_of};
 
 use crate::parts::{Part, at_fault, entry};
 use s3_diagnose::files::{is_card_file, is_print_file};
@@ -9,15 +11,17 @@ use s3_sheets::FaultyEntry;
 use std::alloc::{AllocError, Global};
 
 /// What 6 speaks of on an F card: its name.
+#[tactic(auto, using(crate::proofs::TableLemmas::file_6))]
 fn name_part() -> [Part; 1]
-    ensures { map span result ≡ of_file 6 }
+    ensures { map span result ≡ entries_tested kind.File 6 }
 {
     [entry(7, 14, true)]
 }
 
 /// What 12 speaks of on an F card: the device of a second card or print file, else all that the table of file uses looks at.
+#[tactic(auto, using(crate::proofs::TableLemmas::file_12))]
 fn use_parts(file: &FileLine) -> [Part; 6]
-    ensures { map span result ≡ of_file 12 }
+    ensures { map span result ≡ entries_tested kind.File 12 }
 {
     let is_second = is_card_file(file) || is_print_file(file);
     [
@@ -37,11 +41,11 @@ pub fn file_entries(
     file: &FileLine,
     number: u8,
 ) -> Result<Vec<FaultyEntry>, AllocError>
-    ensures { IfOk result (λ found. are_of card number (of_file number) found.items ≡ true) }
+    ensures { IfOk result (λ found. are_of card number (entries_tested kind.File number) found.items ≡ true) }
 {
-    if number == 6 {
-        at_fault(alloc, card, number, &name_part())
-    } else {
-        at_fault(alloc, card, number, &use_parts(file))
+    match number {
+        6 => at_fault(alloc, card, number, &name_part()),
+        12 => at_fault(alloc, card, number, &use_parts(file)),
+        _ => Ok(Vec::new(alloc)),
     }
 }

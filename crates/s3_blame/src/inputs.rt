@@ -1,11 +1,13 @@
 //! I cards: 5 to 9, 11 and 12.
 
-ghost use Rattle.std.specs.Prelude.{◌≡◌, ◌==◌, [], ◌∷◌, true, if◌then◌else◌, map, IfOk};
+ghost use Rattle.std.specs.Prelude.{◌≡◌, true, map, IfOk};
 ghost use Rattle.s3_program.specs.Indications.{is_text_form};
-ghost use Rattle.s3_blame.specs.Inner.Tested.{span, are_of, of_input, of_input_field};
+ghost use Rattle.s3_sheets.specs.declared.kind.CardKind.TheVariants as kind;
+ghost use Rattle.s3_blame.specs.Inner.Entries.{entries_tested, kind_of_input};
+ghost use Rattle.s3_blame.specs.Inner.Marks.{span, are_of};
 
 use crate::known::{Known, differences, is_date, shape_of_field};
-use crate::parts::{Part, at_fault, entry};
+use crate::parts::{Part, at_fault, entry, entry_alone};
 use crate::walk::{Key, Walk};
 use s3_diagnose::shapes::same_kind_and_length;
 use s3_lines::indicator::Indicator;
@@ -22,28 +24,54 @@ pub fn input_entries(
     line: &InputLine,
     number: u8,
 ) -> Result<Vec<FaultyEntry>, AllocError>
-    ensures { IfOk result (λ found. are_of card number (of_input line.now number) found.items ≡ true) }
+    ensures { IfOk result (λ found. are_of card number (entries_tested (kind_of_input line.now) number) found.items ≡ true) }
 {
     match line {
         InputLine::Field(field) => field_entries(alloc, known, walk, card, field, number),
-        InputLine::Record(..) => at_fault(alloc, card, number, &type_part(7, 14, number)),
-        InputLine::Or(..) => at_fault(alloc, card, number, &type_part(14, 16, number)),
-        InputLine::And(_) => at_fault(alloc, card, number, &[entry(14, 16, true)]),
+        InputLine::Record(..) => record_entries(alloc, card, number),
+        InputLine::Or(..) => or_entries(alloc, card, number),
+        InputLine::And(_) => and_entries(alloc, card, number),
     }
 }
 
-/// What a number speaks of on a card of a record type: 11 of its indicator, each other of the entry in these columns.
-fn type_part(from: usize, to: usize, number: u8) -> [Part; 1]
-    ensures { map span result ≡ (if number == 11 then (19, 20) ∷ [] else (from, to) ∷ []) }
+/// The entries to blame for a number of a record line's card. 5, 12: its file. 11: its indicator.
+#[tactic(auto, using(crate::proofs::TableLemmas::record_5, crate::proofs::TableLemmas::record_11, crate::proofs::TableLemmas::record_12))]
+fn record_entries(alloc: Global, card: u16, number: u8) -> Result<Vec<FaultyEntry>, AllocError>
+    ensures { IfOk result (λ found. are_of card number (entries_tested kind.Record number) found.items ≡ true) }
 {
-    if number == 11 {
-        [entry(19, 20, true)]
-    } else {
-        [entry(from, to, true)]
+    match number {
+        5 => at_fault(alloc, card, number, &entry_alone(7, 14)),
+        11 => at_fault(alloc, card, number, &entry_alone(19, 20)),
+        12 => at_fault(alloc, card, number, &entry_alone(7, 14)),
+        _ => Ok(Vec::new(alloc)),
     }
 }
 
-/// The entries to blame for a number of a field's card.
+/// The entries to blame for a number of an OR line's card. 9: the word. 11: its indicator.
+#[tactic(auto, using(crate::proofs::TableLemmas::or_9, crate::proofs::TableLemmas::or_11))]
+fn or_entries(alloc: Global, card: u16, number: u8) -> Result<Vec<FaultyEntry>, AllocError>
+    ensures { IfOk result (λ found. are_of card number (entries_tested kind.RecordOr number) found.items ≡ true) }
+{
+    match number {
+        9 => at_fault(alloc, card, number, &entry_alone(14, 16)),
+        11 => at_fault(alloc, card, number, &entry_alone(19, 20)),
+        _ => Ok(Vec::new(alloc)),
+    }
+}
+
+/// The entries to blame for a number of an AND line's card. 9: the word.
+#[tactic(auto, using(crate::proofs::TableLemmas::and_9))]
+fn and_entries(alloc: Global, card: u16, number: u8) -> Result<Vec<FaultyEntry>, AllocError>
+    ensures { IfOk result (λ found. are_of card number (entries_tested kind.RecordAnd number) found.items ≡ true) }
+{
+    match number {
+        9 => at_fault(alloc, card, number, &entry_alone(14, 16)),
+        _ => Ok(Vec::new(alloc)),
+    }
+}
+
+/// The entries to blame for a number of a field's card. 8, P of a text; 9, a file's name; 12, P of a file that isn't on DISK.
+#[tactic(auto, using(crate::proofs::TableLemmas::field_8, crate::proofs::TableLemmas::field_9, crate::proofs::TableLemmas::field_12))]
 fn field_entries(
     alloc: Global,
     known: &Known,
@@ -52,21 +80,23 @@ fn field_entries(
     field: &FieldLine,
     number: u8,
 ) -> Result<Vec<FaultyEntry>, AllocError>
-    ensures { IfOk result (λ found. are_of card number (of_input_field number) found.items ≡ true) }
+    ensures { IfOk result (λ found. are_of card number (entries_tested kind.Field number) found.items ≡ true) }
 {
     match number {
         6 => at_fault(alloc, card, number, &shape_parts(known, field)),
         7 => at_fault(alloc, card, number, &indicator_parts(walk, field)),
-        9 => at_fault(alloc, card, number, &[entry(7, 14, true)]),
+        8 => at_fault(alloc, card, number, &entry_alone(43, 43)),
+        9 => at_fault(alloc, card, number, &entry_alone(7, 14)),
         11 => at_fault(alloc, card, number, &level_parts(walk, field)),
-        // P: 8 of a text, 12 of a file that isn't on DISK
-        _ => at_fault(alloc, card, number, &[entry(43, 43, true)]),
+        12 => at_fault(alloc, card, number, &entry_alone(43, 43)),
+        _ => Ok(Vec::new(alloc)),
     }
 }
 
 /// What 6 speaks of: the name, and of a field that was defined before what is otherwise than there, positions and P, or decimals.
+#[tactic(auto, using(crate::proofs::TableLemmas::field_6))]
 fn shape_parts(known: &Known, field: &FieldLine) -> [Part; 3]
-    ensures { map span result ≡ of_input_field 6 }
+    ensures { map span result ≡ entries_tested kind.Field 6 }
 {
     let (are_positions, are_decimals) = redefined(known, field);
     [
@@ -91,8 +121,9 @@ fn is_text(form: FieldForm) -> bool
 }
 
 /// What 7 speaks of: a relation that isn't of the group; plus and minus of a text.
+#[tactic(auto, using(crate::proofs::TableLemmas::field_7))]
 fn indicator_parts(walk: &Walk, field: &FieldLine) -> [Part; 3]
-    ensures { map span result ≡ of_input_field 7 }
+    ensures { map span result ≡ entries_tested kind.Field 7 }
 {
     let [plus, minus, _zero] = field.indicators;
     [
@@ -134,8 +165,9 @@ fn is_given_twice(walk: &Walk, field: &FieldLine, key: Key) -> bool {
 }
 
 /// What 11 speaks of: each level that is at fault.
+#[tactic(auto, using(crate::proofs::TableLemmas::field_11))]
 fn level_parts(walk: &Walk, field: &FieldLine) -> [Part; 2]
-    ensures { map span result ≡ of_input_field 11 }
+    ensures { map span result ≡ entries_tested kind.Field 11 }
 {
     let control = field.control_level.map(|level| Key::Control(level));
     let matching = field.match_level.map(|level| Key::Match(level));

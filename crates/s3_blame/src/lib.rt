@@ -8,7 +8,9 @@
 //!   number exactly where an entry of it is at fault by that number; `columns_of` gives the columns of those entries;
 //! - what tells the entries for 5 to 12 apart by one line alone is what the language's definitions say: what each operation needs, which
 //!   files are card and print files, which lines a file refuses, which levels come late, equal shapes;
-//! - each entry that is marked for 5 to 12 is one that the number's condition speaks of on a line of its kind (`is_tested`).
+//! - where a source has none, each entry that is marked, for 5 to 12, is one that the number's condition tests on cards of that kind
+//!   (`AreTested`): two sources are alike but for the columns of that entry on one such card, and just one of them has the number on it.
+//!   `specs/Inner/Entries.antt` has two such sources for each entry, on which the definitions are computed.
 //!
 //! Only tested: which of these entries are marked, for 5 to 12. They are those whose own part of the condition holds.
 

@@ -1,7 +1,8 @@
 //! The entries to blame for 5 to 12.
 ghost use Rattle.std.specs.Prelude.{◌≡◌, true, IfOk};
 ghost use Rattle.std.specs.List.{list_all};
-ghost use Rattle.s3_blame.specs.Inner.Tested.{are_of, entries_on, are_tested_on, is_tested};
+ghost use Rattle.s3_blame.specs.Inner.Entries.{entries_on};
+ghost use Rattle.s3_blame.specs.Inner.Marks.{are_of, are_listed_on, is_listed};
 
 use crate::calculations::calculation_entries;
 use crate::files::file_entries;
@@ -57,7 +58,6 @@ fn from_card(told: &[Diagnostic], card: u16) -> &[Diagnostic] {
 }
 
 /// The entries to blame for the diagnostics of a line's card, which stand in front of those of the cards behind it.
-#[tactic(auto, using(crate::proofs::PartLemmas::more_on_line))]
 fn entries_of_card(
     alloc: Global,
     known: &Known,
@@ -66,7 +66,7 @@ fn entries_of_card(
     later: &[Line],
     told: &[Diagnostic],
 ) -> Result<Vec<FaultyEntry>, AllocError>
-    ensures { IfOk result (λ found. are_tested_on line.now found.items ≡ true) }
+    ensures { IfOk result (λ found. are_listed_on line.now found.items ≡ true) }
 {
     let mut found = Vec::new(alloc);
     for diagnostic in told {
@@ -86,7 +86,7 @@ pub fn later_entries(
     lines: &[Line],
     told: &[Diagnostic],
 ) -> Result<Vec<FaultyEntry>, AllocError>
-    ensures { IfOk result (λ found. list_all (is_tested lines.now) found.items ≡ true) }
+    ensures { IfOk result (λ found. list_all (is_listed lines.now) found.items ≡ true) }
 {
     let known = Known::of(alloc, lines)?;
     let mut walk = Walk::new(alloc);

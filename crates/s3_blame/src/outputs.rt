@@ -1,10 +1,12 @@
 //! O cards: 5, 8, 9 and 12.
 
 ghost use Rattle.std.specs.Prelude.{◌≡◌, true, map, IfOk};
-ghost use Rattle.s3_blame.specs.Inner.Tested.{span, are_of, of_output, of_output_line, of_output_field};
+ghost use Rattle.s3_sheets.specs.declared.kind.CardKind.TheVariants as kind;
+ghost use Rattle.s3_blame.specs.Inner.Entries.{entries_tested, kind_of_output};
+ghost use Rattle.s3_blame.specs.Inner.Marks.{span, are_of};
 
 use crate::known::Known;
-use crate::parts::{Part, at_fault, entry};
+use crate::parts::{Part, at_fault, entry, entry_alone};
 use crate::walk::Walk;
 use s3_diagnose::files::{allows_output, has_spacing, is_in_table, is_printer};
 use s3_edit::EditCode;
@@ -21,17 +23,30 @@ pub fn output_entries(
     line: &OutputLine,
     number: u8,
 ) -> Result<Vec<FaultyEntry>, AllocError>
-    ensures { IfOk result (λ found. are_of card number (of_output line.now number) found.items ≡ true) }
+    ensures { IfOk result (λ found. are_of card number (entries_tested (kind_of_output line.now) number) found.items ≡ true) }
 {
     match line {
         OutputLine::Line(first) => line_entries(alloc, known, walk, card, first, number),
-        OutputLine::And(_) => at_fault(alloc, card, number, &[entry(14, 16, true)]),
-        OutputLine::Or(_) => at_fault(alloc, card, number, &[entry(14, 16, true)]),
+        OutputLine::And(_) => word_entries(alloc, card, number),
+        OutputLine::Or(_) => word_entries(alloc, card, number),
         OutputLine::Field(field) => field_entries(alloc, known, card, field, number),
     }
 }
 
+/// The entries to blame for a number of the card of an AND or OR line. 9: the word.
+#[tactic(auto, using(crate::proofs::TableLemmas::line_and_9, crate::proofs::TableLemmas::line_or_9))]
+fn word_entries(alloc: Global, card: u16, number: u8) -> Result<Vec<FaultyEntry>, AllocError>
+    ensures and { IfOk result (λ found. are_of card number (entries_tested kind.OutputAnd number) found.items ≡ true) }
+    ensures or { IfOk result (λ found. are_of card number (entries_tested kind.OutputOr number) found.items ≡ true) }
+{
+    match number {
+        9 => at_fault(alloc, card, number, &entry_alone(14, 16)),
+        _ => Ok(Vec::new(alloc)),
+    }
+}
+
 /// The entries to blame for a number of the first card of a line. 5: the file's name, also where it is that of the line before.
+#[tactic(auto, using(crate::proofs::TableLemmas::line_5))]
 fn line_entries(
     alloc: Global,
     known: &Known,
@@ -40,18 +55,19 @@ fn line_entries(
     line: &OutputCard,
     number: u8,
 ) -> Result<Vec<FaultyEntry>, AllocError>
-    ensures { IfOk result (λ found. are_of card number (of_output_line number) found.items ≡ true) }
+    ensures { IfOk result (λ found. are_of card number (entries_tested kind.OutputLine number) found.items ≡ true) }
 {
-    if number == 12 {
-        at_fault(alloc, card, number, &disallowed_parts(known, walk, line))
-    } else {
-        at_fault(alloc, card, number, &[entry(7, 14, true)])
+    match number {
+        5 => at_fault(alloc, card, number, &entry_alone(7, 14)),
+        12 => at_fault(alloc, card, number, &disallowed_parts(known, walk, line)),
+        _ => Ok(Vec::new(alloc)),
     }
 }
 
 /// What 12 speaks of: the file's name, with 16 to 18 where the file takes no such line; spaces and skips where they may not stand.
+#[tactic(auto, using(crate::proofs::TableLemmas::line_12))]
 fn disallowed_parts(known: &Known, walk: &Walk, line: &OutputCard) -> [Part; 6]
-    ensures { map span result ≡ of_output_line 12 }
+    ensures { map span result ≡ entries_tested kind.OutputLine 12 }
 {
     let file = line
         .file
@@ -88,6 +104,7 @@ fn may_edit(code: EditCode, shape: Shape) -> bool {
 }
 
 /// The entries to blame for a number of a field's card. 5: the field. 9: the file's name that is missing in front. 12: P.
+#[tactic(auto, using(crate::proofs::TableLemmas::put_5, crate::proofs::TableLemmas::put_9, crate::proofs::TableLemmas::put_12))]
 fn field_entries(
     alloc: Global,
     known: &Known,
@@ -95,19 +112,21 @@ fn field_entries(
     field: &OutputField,
     number: u8,
 ) -> Result<Vec<FaultyEntry>, AllocError>
-    ensures { IfOk result (λ found. are_of card number (of_output_field number) found.items ≡ true) }
+    ensures { IfOk result (λ found. are_of card number (entries_tested kind.OutputField number) found.items ≡ true) }
 {
     match number {
-        5 => at_fault(alloc, card, number, &[entry(32, 37, true)]),
-        9 => at_fault(alloc, card, number, &[entry(7, 14, true)]),
-        12 => at_fault(alloc, card, number, &[entry(44, 44, true)]),
-        _ => at_fault(alloc, card, number, &editing_parts(known, field)),
+        5 => at_fault(alloc, card, number, &entry_alone(32, 37)),
+        8 => at_fault(alloc, card, number, &editing_parts(known, field)),
+        9 => at_fault(alloc, card, number, &entry_alone(7, 14)),
+        12 => at_fault(alloc, card, number, &entry_alone(44, 44)),
+        _ => Ok(Vec::new(alloc)),
     }
 }
 
 /// What 8 speaks of: an edit code or P that can't stand for the field, else its end position with the edit code.
+#[tactic(auto, using(crate::proofs::TableLemmas::put_8))]
 fn editing_parts(known: &Known, field: &OutputField) -> [Part; 3]
-    ensures { map span result ≡ of_output_field 8 }
+    ensures { map span result ≡ entries_tested kind.OutputField 8 }
 {
     let (is_code, is_end, is_packed) = match &field.content {
         OutputContent::Constant(_) => (false, false, false),

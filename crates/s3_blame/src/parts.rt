@@ -1,6 +1,6 @@
 //! What the condition of a number speaks of on a card, entry by entry.
-ghost use Rattle.std.specs.Prelude.{◌≡◌, true, map, filter, IfOk};
-ghost use Rattle.s3_blame.specs.Inner.Tested.{span, fails, entry_of, are_of};
+ghost use Rattle.std.specs.Prelude.{◌≡◌, true, [], ◌∷◌, map, filter, IfOk};
+ghost use Rattle.s3_blame.specs.Inner.Marks.{span, fails, entry_of, are_of};
 
 use s3_sheets::FaultyEntry;
 use std::alloc::{AllocError, Global};
@@ -27,6 +27,13 @@ pub fn entry(from: usize, to: usize, is_at_fault: bool) -> Part
         to,
         is_at_fault,
     }
+}
+
+/// What a number speaks of that blames one entry alone.
+pub fn entry_alone(from: usize, to: usize) -> [Part; 1]
+    ensures { map span result ≡ (from, to) ∷ [] }
+{
+    [entry(from, to, true)]
 }
 
 /// Those parts that are at fault, as the entries to blame for a number of a card.

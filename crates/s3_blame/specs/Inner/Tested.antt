@@ -1,119 +1,111 @@
--- The entries that the conditions of the diagnostics 5 to 12 speak of, by their first and last columns: on a line of each kind, for each
--- number that it can have.
-use Rattle.std.specs.Prelude.{ℕ, ◌==◌, Bool, ◌&&◌, List, [], ◌∷◌, if◌then◌else◌}
-use Rattle.std.specs.List.{list_all, list_any}
-use Rattle.s3_cards.specs.declared.name.Name.{Name}
-use Rattle.s3_lines.specs.declared.sheet.InputLine.{InputLine}
-use Rattle.s3_lines.specs.declared.sheet.InputLine.TheVariants as input
-use Rattle.s3_lines.specs.declared.sheet.OutputLine.{OutputLine}
-use Rattle.s3_lines.specs.declared.sheet.OutputLine.TheVariants as output
-use Rattle.s3_lines.specs.declared.sheet.SheetLine.{SheetLine}
-use Rattle.s3_lines.specs.declared.sheet.SheetLine.TheVariants as sheet
-use Rattle.s3_lines.specs.declared.sheet.Line.{Line}
+-- What it is that the condition of a number tests an entry of a card: two sources are alike but for the columns of that entry on one card,
+-- and just one of them has the number on that card.
+use Rattle.std.specs.Prelude.{◌≡◌, ℕ, ◌+◌, ◌<◌, ◌==◌, nat_le, Bool, true, false, not, ◌&&◌, ◌||◌, List, [], ◌∷◌, ◌++◌, length, map}
+use Rattle.std.specs.List.{All, list_all, list_any}
+use Rattle.s3_lines.specs.declared.diagnostic.Diagnostic.{Diagnostic}
+use Rattle.s3_sheets.specs.declared.kind.CardKind.{CardKind}
+use Rattle.s3_sheets.specs.declared.kind.CardKind.TheVariants.{Comment, Unknown, Header, File, Record, RecordAnd, RecordOr, Field, Calculation, OutputLine, OutputAnd, OutputOr, OutputField}
 use Rattle.s3_sheets.specs.declared.parts.FaultyEntry.{FaultyEntry}
-use Rattle.s3_blame.specs.declared.parts.Part.{Part}
+use Rattle.s3_sheets.specs.Kinds.{kind_of}
+use Rattle.s3_sheets.specs.Rules.{Rule}
+use Rattle.s3_sheets.specs.Tables.{rules_of}
+use Rattle.s3_sheets.specs.Lines.{lines_of}
+use Rattle.s3_sheets.specs.Sheets.{kind_at, sheet_diagnostics}
+use Rattle.s3_diagnose.specs.Diagnostics.{compile_diagnostics}
+use Rattle.s3_diagnose.specs.Inner.Whole.{has_number}
+use Rattle.s3_blame.specs.Inner.Changes.{Entry, Change, first_source, other_card, other_source, card_changed}
 
-abbrev pub Entries : Type 0
-Entries = List (ℕ × ℕ)
+-- ---- entries
+abbrev pub entry_of_rule : Rule → Entry
+entry_of_rule rule = (rule.from, rule.to)
 
--- F: 6 its name; 12 its use, random, keys, index, device, additions
-abbrev pub of_file : (number : ℕ) → Entries
-of_file number =
-    if number == 6 then (7, 14) ∷ []
-    else (15, 16) ∷ (28, 28) ∷ (31, 31) ∷ (32, 32) ∷ (40, 46) ∷ (66, 66) ∷ []
+-- those that have no rule of their own: a C card's operation, its factor 2 and the length of its result, ADD and spaces; and those by which
+-- a card is one of its kind, the words AND and OR, and a file's name where there is none
+abbrev pub entries_besides : CardKind → List Entry
+entries_besides Calculation = (28, 32) ∷ (33, 42) ∷ (49, 51) ∷ []
+entries_besides OutputLine = (16, 18) ∷ (17, 17) ∷ (18, 18) ∷ []
+entries_besides RecordAnd = (14, 16) ∷ []
+entries_besides RecordOr = (14, 16) ∷ []
+entries_besides OutputAnd = (14, 16) ∷ []
+entries_besides OutputOr = (14, 16) ∷ []
+entries_besides Field = (7, 14) ∷ []
+entries_besides OutputField = (7, 14) ∷ []
+entries_besides _ = []
 
--- I, a type of records: 11 its indicator; 5, 9, 12 its file
-abbrev pub of_record : (number : ℕ) → Entries
-of_record number = if number == 11 then (19, 20) ∷ [] else (7, 14) ∷ []
+abbrev pub entries_of_kind : CardKind → List Entry
+entries_of_kind kind = map entry_of_rule (rules_of kind) ++ entries_besides kind
 
--- I, OR: 11 its indicator; 9 the word
-abbrev pub of_or : (number : ℕ) → Entries
-of_or number = if number == 11 then (19, 20) ∷ [] else (14, 16) ∷ []
+abbrev pub begins_at : ℕ → Entry → Bool
+begins_at column (from, to) = from == column
 
--- I and O, AND, and O, OR: 9 the word
-abbrev pub of_word : Entries
-of_word = (14, 16) ∷ []
+abbrev pub ends_at : ℕ → Entry → Bool
+ends_at column (from, to) = to == column
 
--- I, a field: 6 positions and form, decimals, name; 7 relation, plus and minus; 9 a file's name; 11 control and match level; 8, 12 P
-abbrev pub of_input_field : (number : ℕ) → Entries
-of_input_field number =
-    if number == 6 then (44, 51) ∷ (52, 52) ∷ (53, 58) ∷ []
-    else if number == 7 then (63, 64) ∷ (65, 66) ∷ (67, 68) ∷ []
-    else if number == 9 then (7, 14) ∷ []
-    else if number == 11 then (59, 60) ∷ (61, 62) ∷ []
-    else (43, 43) ∷ []
+-- the columns of an entry of such cards, or of several that stand side by side
+abbrev pub is_of_entries : CardKind → Change → Bool
+is_of_entries kind change =
+    nat_le change.from change.to
+    && list_any (begins_at change.from) (entries_of_kind kind)
+    && list_any (ends_at change.to) (entries_of_kind kind)
 
--- C: 5 factors and result; 6 factor 1, result, length, decimals; 7 resulting indicators; 8 factors, operation, result, length, decimals,
--- H, resulting indicators, each and all; 9 level and operation; 10 factor 2
-abbrev pub of_calculation : (number : ℕ) → Entries
-of_calculation number =
-    if number == 5 then (18, 27) ∷ (33, 42) ∷ (43, 48) ∷ []
-    else if number == 6 then (18, 27) ∷ (43, 48) ∷ (49, 51) ∷ (52, 52) ∷ []
-    else if number == 7 then (54, 55) ∷ (56, 57) ∷ (58, 59) ∷ []
-    else if number == 8 then (18, 27) ∷ (28, 32) ∷ (33, 42) ∷ (43, 48) ∷ (49, 51) ∷ (52, 52) ∷ (53, 53) ∷ (54, 55) ∷ (56, 57) ∷ (58, 59) ∷ (54, 59) ∷ []
-    else if number == 9 then (7, 8) ∷ (28, 32) ∷ []
-    else (33, 42) ∷ []
+-- the other codes fill just those columns
+abbrev pub fills_its_columns : Change → Bool
+fills_its_columns change =
+    length change.card == 96 && nat_le 1 change.from && nat_le change.to 96 && change.from + length change.other == change.to + 1
 
--- O, the first card of a line: 12 its file, ADD, space before and after, skip before and after; 5 its file
-abbrev pub of_output_line : (number : ℕ) → Entries
-of_output_line number =
-    if number == 12 then (7, 14) ∷ (16, 18) ∷ (17, 17) ∷ (18, 18) ∷ (19, 20) ∷ (21, 22) ∷ []
-    else (7, 14) ∷ []
+-- ---- what they have
+-- no card is at fault by itself
+abbrev pub is_read : List (List ℕ) → Bool
+is_read cards = length (sheet_diagnostics 0 cards) == 0
 
--- O, a field card: 5 its field; 8 edit code, end position, P; 9 a file's name; 12 P
-abbrev pub of_output_field : (number : ℕ) → Entries
-of_output_field number =
-    if number == 5 then (32, 37) ∷ []
-    else if number == 9 then (7, 14) ∷ []
-    else if number == 12 then (44, 44) ∷ []
-    else (38, 38) ∷ (40, 43) ∷ (44, 44) ∷ []
+-- the condition of a number holds on a card
+abbrev pub has : (card number : ℕ) → List (List ℕ) → Bool
+has card number cards = has_number card number (compile_diagnostics (length cards + 1) (lines_of 0 cards))
 
-abbrev pub of_input : InputLine Name → (number : ℕ) → Entries
-of_input (input.Record file indicator codes) number = of_record number
-of_input (input.And codes) number = of_word
-of_input (input.Or indicator codes) number = of_or number
-of_input (input.Field field) number = of_input_field number
+abbrev pub same_kind : CardKind → CardKind → Bool
+same_kind Comment Comment = true
+same_kind Unknown Unknown = true
+same_kind Header Header = true
+same_kind File File = true
+same_kind Record Record = true
+same_kind RecordAnd RecordAnd = true
+same_kind RecordOr RecordOr = true
+same_kind Field Field = true
+same_kind Calculation Calculation = true
+same_kind OutputLine OutputLine = true
+same_kind OutputAnd OutputAnd = true
+same_kind OutputOr OutputOr = true
+same_kind OutputField OutputField = true
+same_kind _ _ = false
 
-abbrev pub of_output : OutputLine Name → (number : ℕ) → Entries
-of_output (output.Line card) number = of_output_line number
-of_output (output.And conditions) number = of_word
-of_output (output.Or conditions) number = of_word
-of_output (output.Field field) number = of_output_field number
+-- 9 is of a card of some kind that is out of its place, and so it tests the entry by which the card is one of that kind. With other codes
+-- there the card is of another kind, and what else it has may be wrong for that kind.
+abbrev pub is_of_other_kind : Change → Bool
+is_of_other_kind change =
+    not (same_kind (kind_of (other_card change)) (kind_of change.card))
+    && list_all (λ (diagnostic : Diagnostic). diagnostic.card == card_changed change) (sheet_diagnostics 0 (other_source change))
 
-abbrev pub entries_on : SheetLine → (number : ℕ) → Entries
-entries_on (sheet.Header name) number = []
-entries_on (sheet.File file) number = of_file number
-entries_on (sheet.Input line) number = of_input line number
-entries_on (sheet.Calculation line) number = of_calculation number
-entries_on (sheet.Output line) number = of_output line number
+-- a card of this kind has the number, and with the other codes it hasn't
+abbrev pub takes_away : (number : ℕ) → CardKind → Change → Bool
+takes_away number kind change =
+    is_of_entries kind change
+    && fills_its_columns change
+    && same_kind (kind_of change.card) kind
+    && is_read (first_source change)
+    && has (card_changed change) number (first_source change)
+    && (is_read (other_source change) || (number == 9 && is_of_other_kind change))
+    && not (has (card_changed change) number (other_source change))
 
--- an entry of a condition, by its columns
-abbrev pub span : Part → ℕ × ℕ
-span part = (part.from, part.to)
+-- ---- the relation
+-- the condition of a number tests an entry of cards of a kind: a change of this entry alone can take the number from such a card
+abbrev pub IsTested : (number : ℕ) → CardKind → Entry → Type 0
+IsTested number kind entry = (change : Change) × ((change.from, change.to) ≡ entry) × (takes_away number kind change ≡ true)
 
-abbrev pub fails : Part → Bool
-fails part = part.is_at_fault
+-- an entry that is marked for a number of a card, of a source that stands from a place of its deck on, is one that the number's condition
+-- tests on cards of that kind
+abbrev pub IsTestedOn : (from : ℕ) → List (List ℕ) → FaultyEntry → Type 0
+IsTestedOn from cards entry =
+    (i : ℕ) × (i < length cards) × (entry.card ≡ from + i + 1) × IsTested entry.number (kind_at cards i) (entry.from, entry.to)
 
-abbrev pub entry_of : (card number : ℕ) → Part → FaultyEntry
-entry_of card number part = record { card = card; number = number; from = part.from; to = part.to }
-
-abbrev pub has_columns : FaultyEntry → ℕ × ℕ → Bool
-has_columns entry (from, to) = entry.from == from && entry.to == to
-
--- an entry is one of these, and marked for this number of this card
-abbrev pub is_of : (card number : ℕ) → Entries → FaultyEntry → Bool
-is_of card number entries entry = entry.card == card && (entry.number == number && list_any (has_columns entry) entries)
-
-abbrev pub are_of : (card number : ℕ) → Entries → List FaultyEntry → Bool
-are_of card number entries marked = list_all (is_of card number entries) marked
-
--- an entry is one that the condition of its number speaks of on this line
-abbrev pub is_tested_on : FaultyEntry → Line → Bool
-is_tested_on entry line = is_of line.card entry.number (entries_on line.sheet entry.number) entry
-
-abbrev pub are_tested_on : Line → List FaultyEntry → Bool
-are_tested_on line marked = list_all (λ entry. is_tested_on entry line) marked
-
--- .. on one of some lines
-abbrev pub is_tested : List Line → FaultyEntry → Bool
-is_tested lines entry = list_any (is_tested_on entry) lines
+abbrev pub AreTested : (from : ℕ) → List (List ℕ) → List FaultyEntry → Type 0
+AreTested from cards entries = All (IsTestedOn from cards) entries
