@@ -3,8 +3,9 @@ ghost use Rattle.std.specs.Prelude.{◌≤◌};
 
 use crate::deck::{ReadFiles, read_deck};
 use crate::fault::CommandFault;
+use crate::unread::words_of_unread;
 use clap::{Arg, ArgAction, ArgMatches, Command};
-use s3_cards::{CardFault, Deck, DeckFault};
+use s3_cards::{Deck, DeckFault};
 use s3_deck_files::DeckText;
 use s3_source_listing::{Outcome, write_listing};
 use std::alloc::{AllocError, Global};
@@ -30,7 +31,9 @@ pub fn compile_command<'a>(alloc: Global) -> Result<Command<'a>, AllocError> {
                 .value_name("FILE")
                 .action(ArgAction::Append)
                 .required(true)
-                .help("The deck; several files are one deck; one in .rpg or .punch is plain text"),
+                .help(
+                    "The deck, where a source stands behind // LOAD $RPG,F1 and // RUN; several files are one deck; one whose name ends in .rpg or .punch is plain text",
+                ),
         )?
         .arg(
             Arg::new(alloc, "cross-reference")
@@ -55,8 +58,9 @@ pub fn compile_files<'a>(rt: &'a HostRuntime, matches: &ArgMatches<'a>) -> u8
 /// Lists a deck on standard output, and gives the exit status.
 fn list_deck<'a>(rt: &'a HostRuntime, matches: &ArgMatches<'a>) -> Result<u8, CommandFault<'a>> {
     let has_references = matches.get_flag("cross-reference");
-    match read_deck(rt, matches.get_strs("file").unwrap_or(&[]))? {
-        ReadFiles::Deck(text) => list_text(rt, &text, has_references),
+    let files = matches.get_strs("file").unwrap_or(&[]);
+    match read_deck(rt, files)? {
+        ReadFiles::Deck(text) => list_text(rt, &text, has_references, files.len() == 1),
         ReadFiles::Faulty => Ok(NO_DECK),
         ReadFiles::Unread => Ok(UNREAD),
     }
@@ -67,12 +71,13 @@ fn list_text<'a>(
     rt: &HostRuntime,
     text: &DeckText<'_>,
     has_references: bool,
+    is_one_file: bool,
 ) -> Result<u8, CommandFault<'a>> {
     match Deck::read(rt.alloc(), text.text()) {
         Ok(deck) => write_on_output(rt, text, &deck, has_references),
         Err(DeckFault::NoMemory) => Err(CommandFault::NoMemory),
-        Err(DeckFault::At(card, fault)) => {
-            tell_unread(rt, text, card, fault);
+        Err(DeckFault::At(..)) => {
+            tell_unread(rt, text, is_one_file)?;
             Ok(NO_DECK)
         }
     }
@@ -99,20 +104,19 @@ fn status_of(rt: &HostRuntime, outcome: Outcome) -> u8 {
     if outcome.sources == 0 {
         let _ = writeln!(
             rt.stderr(),
-            "The deck has no source: no job of it loads $RPG."
+            "The deck has no source: no job of it loads $RPG. A source stands in a job: put // LOAD $RPG,F1 and // RUN in front of it, and /* behind it."
         );
     }
     0
 }
 
-/// Tells why the files are no deck: on which card, and what is to be done.
-fn tell_unread(rt: &HostRuntime, text: &DeckText<'_>, card: u16, fault: CardFault) {
-    let place = text.place_of(usize::from(card));
-    let cure = match fault {
-        CardFault::TooWide => "is over 96 columns; shorten its line",
-        CardFault::BadCharacter =>
-            "has a character that no card can have; docs/LANGUAGE.md lists those that it can",
-        CardFault::TooMany => "is the last that a deck can have; make two decks of it",
-    };
-    let _ = writeln!(rt.stderr(), "{place} {cure}.");
+/// Tells why the files are no deck: which cards can't be read, and what is to be done.
+fn tell_unread<'a>(
+    rt: &HostRuntime,
+    text: &DeckText<'_>,
+    is_one_file: bool,
+) -> Result<(), CommandFault<'a>> {
+    let words = words_of_unread(rt.alloc(), text, is_one_file)?;
+    let _ = rt.stderr().write_all(words.as_bytes());
+    Ok(())
 }

@@ -30,9 +30,19 @@ struct Standing {
     is_faulty: bool,
 }
 
-/// Whether a file has plain text, of which a deck is punched: its name says so.
+/// Whether a file has plain text, of which a deck is punched: its name ends in `.rpg` or `.punch`, in capitals or small letters.
 pub fn is_plain_text(path: &str) -> bool {
-    path.ends_with(".rpg") || path.ends_with(".punch")
+    ends_in(path, b".rpg") || ends_in(path, b".punch")
+}
+
+/// Whether a name ends in these characters, in capitals or small letters.
+fn ends_in(path: &str, end: &[u8]) -> bool {
+    let bytes = path.as_bytes();
+    let front = bytes.len().saturating_sub(end.len());
+    match bytes.get(front..) {
+        Some(last) => last.eq_ignore_ascii_case(end),
+        None => false,
+    }
 }
 
 /// The deck of some files, one behind the other. Each file that can't be read is told, and all that is wrong with those of plain text.

@@ -7,10 +7,12 @@
 
 #![tactic(auto)]
 
+mod characters;
 mod compile;
 mod deck;
 mod fault;
 mod punch;
+mod unread;
 
 pub use compile::{compile_command, compile_files};
 pub use deck::is_plain_text;

@@ -1,6 +1,7 @@
 //! `bureau punch`: a deck of plain text, on standard output. docs/PUNCHING.md has its rules.
 ghost use Rattle.std.specs.Prelude.{◌≤◌};
 
+use crate::characters::is_shown;
 use crate::fault::CommandFault;
 use clap::{Arg, ArgAction, ArgMatches, Command};
 use s3_host_files::read_within;
@@ -167,18 +168,12 @@ fn tell_faults(rt: &HostRuntime, file: &str, faults: &[PunchFault]) {
     }
 }
 
-/// The code of the character that a reason is about, where a terminal wouldn't show it, or would obey it: a control character, or one
-/// that only joins, parts or turns the characters beside it.
+/// The code of the character that a reason is about, where a terminal wouldn't show it as it is.
 fn unprintable(reason: PunchReason) -> Option<u32> {
-    let PunchReason::NoCardHas(character) = reason else {
-        return None;
-    };
-    let code = character as u32;
-    let is_shown = !matches!(
-        code,
-        0..=0x1f | 0x7f..=0x9f | 0xad | 0x200b..=0x200f | 0x2028..=0x202e | 0x2060..=0x206f | 0xfeff
-    );
-    if is_shown { None } else { Some(code) }
+    match reason {
+        PunchReason::NoCardHas(character) if !is_shown(character) => Some(character as u32),
+        _ => None,
+    }
 }
 
 /// Tells each line of a file that was changed.

@@ -1,32 +1,31 @@
--- Steps of the loop over the numbers of a card, and the entries that it looks at.
-use Rattle.std.proofs.Common.{◌≡◌, ℕ, ◌+◌, ◌<◌, ◌==◌, List, [], ◌∷◌, ◌++◌, Bool, true, false, ◌&&◌, cond, length, map, take, get_or, refl, sym, ap, ◌∙◌}
-use Rattle.std.specs.List.{filter}
-use Rattle.std.proofs.lemmas.List.{map-append, take_more}
-use Rattle.s3_ruled.specs.declared.ruled.Columns.{Columns}
-use Rattle.s3_blame.specs.Inner.Columns.{is_of, span}
+-- Steps of the loops over the entries and over the diagnostics of a source.
+use Rattle.std.proofs.Common.{◌≡◌, ℕ, ◌+◌, ◌<◌, ◌==◌, List, [], ◌∷◌, ◌++◌, Bool, true, false, ◌&&◌, cond, length, map, take, get_or, refl, sym, ap, ◌∙◌, filter, eqb-true}
+use Rattle.std.proofs.lemmas.List.{map-append}
+use Rattle.std.proofs.lemmas.List.Elements.{filter_more}
+use Rattle.s3_blame.specs.Inner.Columns.{columns_of, is_of, span}
+use Rattle.s3_lines.specs.declared.diagnostic.Diagnostic.{Diagnostic}
 use Rattle.s3_sheets.specs.declared.parts.FaultyEntry.{FaultyEntry}
-use Rattle.s3_source_listing.specs.Inner.Notes.{is_on, marked_of, marks_of, number_of}
-use Rattle.s3_source_listing.specs.declared.notes.Note.{Note}
+use Rattle.s3_ruled.specs.declared.ruled.Columns.{Columns}
+use Rattle.s3_source_listing.specs.Inner.Notes.{is_on, marks_of, marks_under, numbers_under}
 
--- the numbers of notes, with one note more
-pub numbered : (notes : List Note) (note : Note) (numbers : List ℕ) (i : ℕ)
-    → i < length numbers → map number_of notes ≡ take i numbers → note.number ≡ get_or numbers i 0
-    → map number_of (notes ++ note ∷ []) ≡ take (i + 1) numbers
-numbered notes note numbers i within so_far same =
-    map-append number_of notes (note ∷ [])
-    ∙ ap (λ front. front ++ note.number ∷ []) so_far
-    ∙ ap (λ last. take i numbers ++ last ∷ []) same
-    ∙ sym (take_more numbers i 0 within)
+-- the entries of a card, with one entry more
+pub entry_more : (card : ℕ) (entries : List FaultyEntry) (i : ℕ) (none : FaultyEntry) → i < length entries
+    → filter (is_on card) (take (i + 1) entries) ≡ filter (is_on card) (take i entries) ++ cond ((get_or entries i none).card == card) (get_or entries i none ∷ []) []
+entry_more card entries i none within = filter_more (is_on card) entries i none within
 
--- the columns of notes, with one note more
-pub noted : (asked : ℕ → List Columns) (notes : List Note) (note : Note) (numbers : List ℕ) (i : ℕ)
-    → i < length numbers → map marked_of notes ≡ map asked (take i numbers) → note.marked.items ≡ asked (get_or numbers i 0)
-    → map marked_of (notes ++ note ∷ []) ≡ map asked (take (i + 1) numbers)
-noted asked notes note numbers i within so_far same =
-    map-append marked_of notes (note ∷ [])
-    ∙ ap (λ front. front ++ note.marked.items ∷ []) so_far
-    ∙ ap (λ last. map asked (take i numbers) ++ last ∷ []) same
-    ∙ sym (ap (map asked) (take_more numbers i 0 within) ∙ map-append asked (take i numbers) (get_or numbers i 0 ∷ []))
+-- the numbers of a card, with one diagnostic more
+number_if : (found : Diagnostic) (on_card : Bool)
+    → map (λ (diagnostic : Diagnostic). diagnostic.number) (cond on_card (found ∷ []) []) ≡ cond on_card (found.number ∷ []) []
+number_if found true = refl
+number_if found false = refl
+
+number_more : (card : ℕ) (found : List Diagnostic) (i : ℕ) (none : Diagnostic) → i < length found
+    → numbers_under card (take (i + 1) found)
+    ≡ numbers_under card (take i found) ++ cond ((get_or found i none).card == card) ((get_or found i none).number ∷ []) []
+number_more card found i none within =
+    ap (map (λ (diagnostic : Diagnostic). diagnostic.number)) (filter_more (λ (diagnostic : Diagnostic). diagnostic.card == card) found i none within)
+    ∙ map-append (λ (diagnostic : Diagnostic). diagnostic.number) (filter (λ (diagnostic : Diagnostic). diagnostic.card == card) (take i found)) (cond ((get_or found i none).card == card) (get_or found i none ∷ []) [])
+    ∙ ap (λ more. numbers_under card (take i found) ++ more) (number_if (get_or found i none) ((get_or found i none).card == card))
 
 -- the entries of a card with a number are those with that number among the entries of the card: of a list with one entry in front, by
 -- whether it is of the card
@@ -39,16 +38,43 @@ with_entry card number entry entries true same rest =
     ap (λ (b : Bool). cond (b && (entry.number == number)) (entry ∷ filter (is_of (record { card = card; number = number })) (filter (is_on card) entries)) (filter (is_of (record { card = card; number = number })) (filter (is_on card) entries))) same
     ∙ ap (λ (more : List FaultyEntry). cond (true && (entry.number == number)) (entry ∷ more) more) rest
 
-narrowed_entries : (card number : ℕ) (entries : List FaultyEntry)
+narrowed : (card number : ℕ) (entries : List FaultyEntry)
     → filter (is_of (record { card = card; number = number })) (filter (is_on card) entries) ≡ filter (is_of (record { card = card; number = number })) entries
-narrowed_entries card number [] = refl
-narrowed_entries card number (entry ∷ entries) =
-    with_entry card number entry entries (entry.card == card) refl (narrowed_entries card number entries)
+narrowed card number [] = refl
+narrowed card number (entry ∷ entries) =
+    with_entry card number entry entries (entry.card == card) refl (narrowed card number entries)
 
--- so the columns are the same
-pub narrowed : (card : ℕ) (entries : List FaultyEntry) (numbers : List ℕ)
-    → map (marks_of card (filter (is_on card) entries)) numbers ≡ map (marks_of card entries) numbers
-narrowed card entries [] = refl
-narrowed card entries (number ∷ numbers) =
-    ap (λ marked. map span marked ∷ map (marks_of card (filter (is_on card) entries)) numbers) (narrowed_entries card number entries)
-    ∙ ap (λ more. marks_of card entries number ∷ more) (narrowed card entries numbers)
+-- so a diagnostic of a card has the same columns there
+marks_if : (card : ℕ) (entries : List FaultyEntry) (found : Diagnostic) (on_card : Bool) → (found.card == card) ≡ on_card
+    → cond on_card (columns_of found (filter (is_on found.card) entries) ∷ []) [] ≡ map (marks_of card entries) (cond on_card (found.number ∷ []) [])
+marks_if card entries found false same = refl
+marks_if card entries found true same =
+    ap (λ marked. map span marked ∷ []) (narrowed found.card found.number entries)
+    ∙ ap (λ other. columns_of (record { card = other; number = found.number }) entries ∷ []) (eqb-true found.card card same)
+
+mark_more : (card : ℕ) (found : List Diagnostic) (entries : List FaultyEntry) (i : ℕ) (none : Diagnostic) → i < length found
+    → marks_under card (take (i + 1) found) entries
+    ≡ marks_under card (take i found) entries ++ cond ((get_or found i none).card == card) (columns_of (get_or found i none) (filter (is_on (get_or found i none).card) entries) ∷ []) []
+mark_more card found entries i none within =
+    ap (map (marks_of card entries)) (number_more card found i none within)
+    ∙ map-append (marks_of card entries) (numbers_under card (take i found)) (cond ((get_or found i none).card == card) ((get_or found i none).number ∷ []) [])
+    ∙ ap (λ more. marks_under card (take i found) entries ++ more) (sym (marks_if card entries (get_or found i none) ((get_or found i none).card == card) refl))
+
+-- so what is noted of a card grows by what a diagnostic adds to it
+pub numbered : (found : List Diagnostic) (i : ℕ) (none : Diagnostic) (old new : List ℕ) (card : ℕ) → i < length found
+    → new ≡ old ++ cond ((get_or found i none).card == card) ((get_or found i none).number ∷ []) []
+    → old ≡ numbers_under card (take i found) → new ≡ numbers_under card (take (i + 1) found)
+numbered found i none old new card within more so_far =
+    more
+    ∙ ap (λ front. front ++ cond ((get_or found i none).card == card) ((get_or found i none).number ∷ []) []) so_far
+    ∙ sym (number_more card found i none within)
+
+pub marked : (found : List Diagnostic) (entries of_card : List FaultyEntry) (i : ℕ) (none : Diagnostic) (old new : List (List Columns)) (card : ℕ) → i < length found
+    → of_card ≡ filter (is_on (get_or found i none).card) entries
+    → new ≡ old ++ cond ((get_or found i none).card == card) (columns_of (get_or found i none) of_card ∷ []) []
+    → old ≡ marks_under card (take i found) entries → new ≡ marks_under card (take (i + 1) found) entries
+marked found entries of_card i none old new card within same more so_far =
+    more
+    ∙ ap (λ front. front ++ cond ((get_or found i none).card == card) (columns_of (get_or found i none) of_card ∷ []) []) so_far
+    ∙ ap (λ some. marks_under card (take i found) entries ++ cond ((get_or found i none).card == card) (columns_of (get_or found i none) some ∷ []) []) same
+    ∙ sym (mark_more card found entries i none within)

@@ -1,9 +1,9 @@
 //! Listings of sources: each card with its diagnostics, and then what the program has. docs/LISTINGS.md says what they look like.
 //!
-//! What is proved: `notes_under` gives exactly the numbers that a card has among a source's diagnostics, in order, each with exactly the
-//! columns of those of its entries that are at fault by it; `s3_blame` says which diagnostics and entries a source has, and has the one
-//! table of words. Each call is safe and returns. The layout, the tables behind the cards, and the columns that are marked for 5 to 12
-//! are tested.
+//! What is proved: `notes_of_cards` gives for each card exactly the numbers that it has among a source's diagnostics, in order, each with
+//! exactly the columns of those of its entries that are at fault by it, and `notes_under` what that has for a card; `s3_blame` says which
+//! diagnostics and entries a source has, and has the one table of words. Each call is safe and returns. The layout, the tables behind the
+//! cards, and the columns that are marked for 5 to 12 are tested.
 
 #![tactic(auto)]
 
@@ -19,4 +19,4 @@ mod source;
 mod tables;
 
 pub use listing::{Outcome, write_listing};
-pub use notes::{Note, notes_under};
+pub use notes::{CardNotes, Note, notes_of_cards, notes_under};

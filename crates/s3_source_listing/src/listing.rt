@@ -2,10 +2,11 @@
 
 use crate::card_lines::{push_card, push_fault, push_ruler};
 use crate::source::{SourceRange, push_program, push_source};
-use s3_cards::{Card, Deck};
+use s3_cards::ebcdic::{ASTERISK, BLANK, LETTER_C, LETTER_F, LETTER_H, LETTER_I, LETTER_O};
+use s3_cards::{Card, Deck, is_digit};
 use s3_deck_files::DeckText;
 use s3_deck_jobs::{JobEntry, Statements, jobs_of};
-use s3_ocl::{FaultyJob, JobCards};
+use s3_ocl::{FaultyJob, JobCards, JobFault};
 use s3_ruled::{Columns, without_blanks_behind};
 use std::alloc::{AllocError, Global};
 use std::io;
@@ -88,11 +89,56 @@ fn columns_of_statement(card: &Card) -> Columns {
     }
 }
 
+/// Whether a card looks like one of a source: no more than page and line stand in front of column 6, and there the letter of a sheet, or
+/// behind it the `*` of a comment.
+fn is_of_source(card: &Card) -> bool {
+    let is_sheet = matches!(
+        card[5],
+        LETTER_H | LETTER_F | LETTER_I | LETTER_C | LETTER_O
+    );
+    (is_sheet || card[6] == ASTERISK)
+        && card[..5]
+            .iter()
+            .all(|code| *code == BLANK || is_digit(*code))
+}
+
+/// Appends where a source stands, if a card that looks like one of a source stands in the place of a statement.
+fn push_source_cure(
+    text: &mut String,
+    files: &DeckText<'_>,
+    fault: JobFault,
+    number: usize,
+    card: &Card,
+) -> Result<(), AllocError> {
+    if fault != JobFault::NotOcl || !is_of_source(card) {
+        return Ok(());
+    }
+    let place = files.place_of(number);
+    writeln!(
+        text,
+        "A source stands in a job: put // LOAD $RPG,F1 and // RUN in front of {place}, where they are missing, and /* behind its last card."
+    )
+}
+
+/// Appends the card at which the statements of a job are faulty, with what is wrong there.
+fn push_faulty_card(
+    text: &mut String,
+    files: &DeckText<'_>,
+    fault: JobFault,
+    words: &str,
+    number: usize,
+    card: &Card,
+) -> Result<(), AllocError> {
+    push_card(text, number, card)?;
+    push_fault(text, fault.number(), words, &[columns_of_statement(card)])?;
+    push_source_cure(text, files, fault, number, card)
+}
+
 /// Appends the statement at which a job is faulty, with what is wrong there.
 fn push_faulty(
     text: &mut String,
     alloc: Global,
-    deck: &Deck,
+    listed: &Listed<'_>,
     faulty: &FaultyJob,
 ) -> Result<(), AllocError> {
     let fault = faulty.fault;
@@ -100,16 +146,8 @@ fn push_faulty(
     write!(words, "{fault}")?;
     push_ruler(text)?;
     let number = usize::from(faulty.card);
-    match deck.card(number.saturating_sub(1)) {
-        Some(card) => {
-            push_card(text, number, card)?;
-            push_fault(
-                text,
-                fault.number(),
-                words.as_str(),
-                &[columns_of_statement(card)],
-            )
-        }
+    match listed.deck.card(number.saturating_sub(1)) {
+        Some(card) => push_faulty_card(text, listed.files, fault, words.as_str(), number, card),
         None => push_fault(text, fault.number(), words.as_str(), &[]),
     }
 }
@@ -127,7 +165,7 @@ fn push_job(
         Statements::Faulty(faulty) => {
             text.push_str("faulty statements")?;
             push_place(text, listed.files, number, job)?;
-            push_faulty(text, alloc, listed.deck, faulty)?;
+            push_faulty(text, alloc, listed, faulty)?;
             Ok(Outcome {
                 sources: 0,
                 faults: 1,

@@ -1,7 +1,9 @@
-//! What is wrong with a card: numbers, and the columns to blame.
-ghost use Rattle.std.specs.Prelude.{◌≡◌, IfOk, filter, map};
-ghost use Rattle.s3_source_listing.specs.Inner.Notes.{is_on, number_of, marked_of, marks_of, numbers_under as numbers_under_spec, marks_under};
+//! What is wrong with each card of a source: numbers, and the columns to blame.
+ghost use Rattle.std.specs.Prelude.{◌≡◌, ◌++◌, ◌∷◌, [], ℕ, nat_eq, IfOk, OnOk, filter, map, if◌then◌else◌};
+ghost use Rattle.s3_blame.specs.Inner.Columns.{columns_of as columns_of_spec};
+ghost use Rattle.s3_source_listing.specs.Inner.Notes.{is_on, number_of, marked_of, numbers_under, marks_under, entries_in, notes_in};
 
+use indexmap::IndexMap;
 use s3_blame::{FaultyEntry, columns_of};
 use s3_lines::Diagnostic;
 use s3_ruled::Columns;
@@ -16,76 +18,101 @@ pub struct Note {
     pub marked: Vec<Columns>,
 }
 
-/// The numbers of a card among diagnostics, in their order.
-fn numbers_under(alloc: Global, found: &[Diagnostic], card: u16) -> Result<Vec<u8>, AllocError>
-    ensures { IfOk result (λ numbers. numbers.items ≡ numbers_under_spec card found.now) }
+/// What is wrong with each card, by the numbers of the cards. A card without diagnostics has no place in it.
+pub type CardNotes = IndexMap<u16, Vec<Note>>;
+
+/// Adds an entry to those of its card.
+fn add_entry(
+    alloc: Global,
+    by_card: &mut IndexMap<u16, Vec<FaultyEntry>>,
+    entry: FaultyEntry,
+) -> Result<(), AllocError>
+    ensures { OnOk result ((card : ℕ) → entries_in by_card.new card ≡ entries_in by_card.old card ++ (if nat_eq entry.card card then entry ∷ [] else [])) }
 {
-    found
-        .iter()
-        .filter(|diagnostic| diagnostic.card == card)
-        .map(|diagnostic| diagnostic.number)
-        .collect(alloc)
+    by_card
+        .entry(entry.card)?
+        .or_insert(Vec::new(alloc))
+        .push(entry)?;
+    Ok(())
+}
+
+/// The entries of each card.
+#[tactic(auto, using(crate::proofs::NoteLemmas::entry_more))]
+fn entries_by_card(
+    alloc: Global,
+    entries: &[FaultyEntry],
+) -> Result<IndexMap<u16, Vec<FaultyEntry>>, AllocError>
+    ensures { IfOk result (λ by_card. (card : ℕ) → entries_in by_card card ≡ filter (is_on card) entries.now) }
+{
+    let mut by_card = IndexMap::new(alloc);
+    for entry in entries {
+        add_entry(alloc, &mut by_card, *entry)?;
+    }
+    Ok(by_card)
 }
 
 /// The entries of a card.
-fn entries_on(
-    alloc: Global,
-    entries: &[FaultyEntry],
-    card: u16,
-) -> Result<Vec<FaultyEntry>, AllocError>
-    ensures { IfOk result (λ found. found.items ≡ filter (is_on card) entries.now) }
+fn entries_on(by_card: &IndexMap<u16, Vec<FaultyEntry>>, card: u16) -> &[FaultyEntry]
+    ensures { result.now ≡ entries_in by_card.now card }
 {
-    entries
-        .iter()
-        .filter(|entry| entry.card == card)
-        .copied()
-        .collect(alloc)
-}
-
-/// Numbers of a card, each with the columns of those of its entries that are at fault by it.
-#[tactic(auto, using(crate::proofs::NoteLemmas::numbered, crate::proofs::NoteLemmas::noted))]
-fn with_columns(
-    alloc: Global,
-    entries: &[FaultyEntry],
-    card: u16,
-    numbers: &[u8],
-) -> Result<Vec<Note>, AllocError>
-    ensures numbers { IfOk result (λ notes. map number_of notes.items ≡ numbers.now) }
-    ensures marked { IfOk result (λ notes. map marked_of notes.items ≡ map (marks_of card entries.now) numbers.now) }
-{
-    let mut notes = Vec::new(alloc);
-    for number in numbers {
-        let diagnostic = Diagnostic {
-            card,
-            number: *number,
-        };
-        let marked = columns_of(alloc, entries, &diagnostic)?;
-        notes.push(Note {
-            number: *number,
-            marked,
-        })?;
+    match by_card.get(&card) {
+        Some(entries) => entries,
+        None => &[],
     }
-    Ok(notes)
 }
 
-/// What a listing has under a card: of all diagnostics of a source those of the card, in their order, each with the columns of those
-/// of its entries that are at fault by it. It is refused only where memory runs out.
-#[tactic(auto, using(crate::proofs::NoteLemmas::narrowed))]
-pub fn notes_under(
+/// Adds a note to those of a card.
+fn add_note(alloc: Global, notes: &mut CardNotes, card: u16, note: Note) -> Result<(), AllocError>
+    ensures { OnOk result ((other : ℕ) → notes_in notes.new other ≡ notes_in notes.old other ++ (if nat_eq card other then note ∷ [] else [])) }
+{
+    notes.entry(card)?.or_insert(Vec::new(alloc)).push(note)?;
+    Ok(())
+}
+
+/// Adds a diagnostic to the notes of its card, with the columns of those of the card's entries that are at fault by it.
+fn add_diagnostic(
+    alloc: Global,
+    notes: &mut CardNotes,
+    diagnostic: &Diagnostic,
+    entries: &[FaultyEntry],
+) -> Result<(), AllocError>
+    ensures numbers { OnOk result ((card : ℕ) → map number_of (notes_in notes.new card) ≡ map number_of (notes_in notes.old card) ++ (if nat_eq diagnostic.now.card card then diagnostic.now.number ∷ [] else [])) }
+    ensures marked { OnOk result ((card : ℕ) → map marked_of (notes_in notes.new card) ≡ map marked_of (notes_in notes.old card) ++ (if nat_eq diagnostic.now.card card then columns_of_spec diagnostic.now entries.now ∷ [] else [])) }
+{
+    let marked = columns_of(alloc, entries, diagnostic)?;
+    let note = Note {
+        number: diagnostic.number,
+        marked,
+    };
+    add_note(alloc, notes, diagnostic.card, note)
+}
+
+/// What a listing has under each card of a source: of all its diagnostics those of the card, in their order, each with the columns of
+/// those of the card's entries that are at fault by it. Each diagnostic and each entry is looked at once, and then only with those of
+/// its card. It is refused only where memory runs out.
+pub fn notes_of_cards(
     alloc: Global,
     found: &[Diagnostic],
     entries: &[FaultyEntry],
-    card: u16,
-) -> Result<Vec<Note>, AllocError>
-    ensures numbers { IfOk result (λ notes. map number_of notes.items ≡ numbers_under_spec card found.now) }
-    ensures marked { IfOk result (λ notes. map marked_of notes.items ≡ marks_under card found.now entries.now) }
+) -> Result<CardNotes, AllocError>
+    ensures numbers { IfOk result (λ notes. (card : ℕ) → map number_of (notes_in notes card) ≡ numbers_under card found.now) }
+    ensures marked { IfOk result (λ notes. (card : ℕ) → map marked_of (notes_in notes card) ≡ marks_under card found.now entries.now) }
 {
-    let numbers = numbers_under(alloc, found, card)?;
-    if numbers.is_empty() {
-        return Ok(Vec::new(alloc));
+    let by_card = entries_by_card(alloc, entries)?;
+    let mut notes = IndexMap::new(alloc);
+    for diagnostic in found {
+        let of_card = entries_on(&by_card, diagnostic.card);
+        add_diagnostic(alloc, &mut notes, diagnostic, of_card)?;
     }
-    // looked through once, and not for each number
-    let of_card = entries_on(alloc, entries, card)?;
-    let notes = with_columns(alloc, &of_card, card, &numbers)?;
     Ok(notes)
+}
+
+/// What a listing has under a card; nothing where it has no diagnostics.
+pub fn notes_under(notes: &CardNotes, card: u16) -> &[Note]
+    ensures { result.now ≡ notes_in notes.now card }
+{
+    match notes.get(&card) {
+        Some(notes) => notes,
+        None => &[],
+    }
 }

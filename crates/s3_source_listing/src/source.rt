@@ -5,18 +5,15 @@ ghost use Rattle.s3_sheets.specs.Inner.Parts.{faulty_entries};
 ghost use Rattle.s3_sheets.specs.Sheets.{sheet_diagnostics};
 
 use crate::card_lines::{push_card, push_diagnostic, push_ruler};
-use crate::notes::notes_under;
+use crate::notes::{CardNotes, notes_of_cards, notes_under};
 use crate::tables::push_tables;
 use s3_blame::{FaultyEntry, entries_of, told};
-use s3_cards::ebcdic::{ASTERISK, LETTER_H};
-use s3_cards::{Card, Deck, are_blank};
+use s3_cards::{Card, Deck};
+use s3_deck_jobs::{keyword_columns, program_of};
 use s3_lines::Diagnostic;
-use s3_ruled::{Columns, push_characters, without_blanks_behind};
+use s3_ruled::{push_characters, without_blanks_behind};
 use s3_sheets::{SheetFault, read_sheets};
 use std::alloc::{AllocError, Global};
-
-/// What is marked for a number of a source's RUN card: the word RUN.
-const RUN: Columns = Columns { from: 4, to: 6 };
 
 /// Where a source stands in its deck, by places from 0.
 #[derive(Clone, Copy)]
@@ -34,19 +31,9 @@ struct Faults {
     entries: Vec<FaultyEntry>,
 }
 
-/// Whether a card is the H card that names its program.
-fn names_program(card: &Card) -> bool {
-    card[5] == LETTER_H && card[6] != ASTERISK && !are_blank(&card[74..80])
-}
-
-/// Appends the program's name: that of the first H card that bears one, or RPGOBJ.
+/// Appends the name of the program that a source makes.
 pub fn push_program(text: &mut String, cards: &[Card]) -> Result<(), AllocError> {
-    for card in cards {
-        if names_program(card) {
-            return push_characters(text, without_blanks_behind(&card[74..80]));
-        }
-    }
-    text.push_str("RPGOBJ")
+    push_characters(text, without_blanks_behind(&program_of(cards).codes))
 }
 
 /// Whether a number is one of those that hide the others.
@@ -55,14 +42,8 @@ fn hides(diagnostic: &Diagnostic) -> bool {
 }
 
 /// Appends what is wrong with a card, by its number from 1.
-fn push_notes(
-    text: &mut String,
-    alloc: Global,
-    faults: &Faults,
-    card: u16,
-) -> Result<(), AllocError> {
-    let notes = notes_under(alloc, &faults.diagnostics, &faults.entries, card)?;
-    for note in &notes {
+fn push_notes(text: &mut String, notes: &CardNotes, card: u16) -> Result<(), AllocError> {
+    for note in notes_under(notes, card) {
         push_diagnostic(text, note.number, &note.marked)?;
     }
     Ok(())
@@ -71,9 +52,8 @@ fn push_notes(
 /// Appends a card of a deck, by its number from 1, and what is wrong with it.
 fn push_source_card(
     text: &mut String,
-    alloc: Global,
     deck: &Deck,
-    faults: &Faults,
+    notes: &CardNotes,
     number: u16,
 ) -> Result<(), AllocError> {
     let number_in_deck = usize::from(number);
@@ -81,21 +61,20 @@ fn push_source_card(
         return Ok(());
     };
     push_card(text, number_in_deck, card)?;
-    push_notes(text, alloc, faults, number)
+    push_notes(text, notes, number)
 }
 
 /// Appends the cards of a source, each with what is wrong with it.
 fn push_cards(
     text: &mut String,
-    alloc: Global,
     deck: &Deck,
     range: SourceRange,
-    faults: &Faults,
+    notes: &CardNotes,
 ) -> Result<(), AllocError>
     requires { range.to ≤ 9_999 }
 {
     for place in range.from..range.to {
-        push_source_card(text, alloc, deck, faults, place as u16 + 1)?;
+        push_source_card(text, deck, notes, place as u16 + 1)?;
     }
     Ok(())
 }
@@ -103,21 +82,21 @@ fn push_cards(
 /// Appends the RUN card and its numbers, where it has any.
 fn push_run(
     text: &mut String,
-    alloc: Global,
     deck: &Deck,
-    faults: &Faults,
+    notes: &CardNotes,
     run_card: u16,
 ) -> Result<(), AllocError> {
-    let notes = notes_under(alloc, &faults.diagnostics, &faults.entries, run_card)?;
+    let notes = notes_under(notes, run_card);
     if notes.is_empty() {
         return Ok(());
     }
     let number = usize::from(run_card);
-    if let Some(card) = deck.card(number.saturating_sub(1)) {
-        push_card(text, number, card)?;
-    }
-    for note in &notes {
-        push_diagnostic(text, note.number, &[RUN])?;
+    let Some(card) = deck.card(number.saturating_sub(1)) else {
+        return Ok(());
+    };
+    push_card(text, number, card)?;
+    for note in notes {
+        push_diagnostic(text, note.number, &[keyword_columns(card)])?;
     }
     Ok(())
 }
@@ -147,9 +126,10 @@ fn push_all_cards(
 ) -> Result<(), AllocError>
     requires { range.to ≤ 9_999 }
 {
+    let notes = notes_of_cards(alloc, &faults.diagnostics, &faults.entries)?;
     push_ruler(text)?;
-    push_run(text, alloc, deck, faults, run_card)?;
-    push_cards(text, alloc, deck, range, faults)?;
+    push_run(text, deck, &notes, run_card)?;
+    push_cards(text, deck, range, &notes)?;
     push_count(text, &faults.diagnostics)
 }
 

@@ -19,7 +19,7 @@ pub fn push_tables(
     lines: &[Line],
     has_references: bool,
 ) -> Result<(), AllocError> {
-    push_files(text, lines)?;
+    push_files(text, alloc, lines)?;
     push_fields(text, alloc, lines)?;
     push_indicators(text, alloc, lines)?;
     push_labels(text, alloc, lines)?;
@@ -28,6 +28,17 @@ pub fn push_tables(
     } else {
         Ok(())
     }
+}
+
+/// Appends the lines of a table under its heading; nothing where it has none.
+fn push_table(text: &mut String, heading: &str, lines: &str) -> Result<(), AllocError> {
+    if lines.is_empty() {
+        return Ok(());
+    }
+    text.push('\n')?;
+    text.push_str(heading)?;
+    text.push('\n')?;
+    text.push_str(lines)
 }
 
 /// Appends a name, and blanks behind it up to so many columns.
@@ -40,8 +51,17 @@ fn push_padded(text: &mut String, name: Name, columns: usize) -> Result<(), Allo
     Ok(())
 }
 
-fn push_files(text: &mut String, lines: &[Line]) -> Result<(), AllocError> {
-    text.push_str("\nfiles     use                                record  key\n")?;
+fn push_files(text: &mut String, alloc: Global, lines: &[Line]) -> Result<(), AllocError> {
+    let mut table = String::new(alloc);
+    push_file_lines(&mut table, lines)?;
+    push_table(
+        text,
+        "files     use                                record  key",
+        table.as_str(),
+    )
+}
+
+fn push_file_lines(text: &mut String, lines: &[Line]) -> Result<(), AllocError> {
     for line in lines {
         if let SheetLine::File(file) = &line.sheet {
             push_file(text, file)?;
@@ -70,9 +90,14 @@ fn push_key(text: &mut String, key: KeyField) -> Result<(), AllocError> {
 }
 
 fn push_fields(text: &mut String, alloc: Global, lines: &[Line]) -> Result<(), AllocError> {
-    text.push_str("\nfields  kind    length  decimals  cards\n")?;
     let known = Known::of(alloc, lines)?;
-    push_fields_with(text, alloc, lines, &known)
+    let mut table = String::new(alloc);
+    push_fields_with(&mut table, alloc, lines, &known)?;
+    push_table(
+        text,
+        "fields  kind    length  decimals  cards",
+        table.as_str(),
+    )
 }
 
 /// Appends the fields of lines, with what all of them define.
@@ -134,14 +159,12 @@ fn push_gap(text: &mut String, cards: &Cards) -> Result<(), AllocError> {
 
 fn push_indicators(text: &mut String, alloc: Global, lines: &[Line]) -> Result<(), AllocError> {
     let indicators = indicators_of(alloc, lines)?;
-    push_indicator_lines(text, &indicators)
+    let mut table = String::new(alloc);
+    push_indicator_lines(&mut table, &indicators)?;
+    push_table(text, "indicators  cards", table.as_str())
 }
 
 fn push_indicator_lines(text: &mut String, indicators: &Indicators) -> Result<(), AllocError> {
-    if indicators.is_empty() {
-        return Ok(());
-    }
-    text.push_str("\nindicators  cards\n")?;
     for place in 0..indicators.len() {
         if let Some((indicator, cards)) = indicators.get_index(place) {
             push_indicator_line(text, *indicator, cards)?;
@@ -171,7 +194,9 @@ fn push_setting_and_testing(text: &mut String, cards: &Cards) -> Result<(), Allo
 
 fn push_labels(text: &mut String, alloc: Global, lines: &[Line]) -> Result<(), AllocError> {
     let tags = names_of(alloc, lines, Sort::Tag)?;
-    push_labels_with(text, alloc, lines, &tags)
+    let mut table = String::new(alloc);
+    push_labels_with(&mut table, alloc, lines, &tags)?;
+    push_table(text, "tags and subroutines  cards", table.as_str())
 }
 
 /// Appends tags, and the subroutines of lines.
@@ -190,10 +215,6 @@ fn push_label_lines(
     tags: &Names,
     subroutines: &Names,
 ) -> Result<(), AllocError> {
-    if tags.is_empty() && subroutines.is_empty() {
-        return Ok(());
-    }
-    text.push_str("\ntags and subroutines  cards\n")?;
     push_labels_of(text, tags, "tag           ")?;
     push_labels_of(text, subroutines, "subroutine    ")
 }
@@ -215,7 +236,16 @@ fn push_label(text: &mut String, name: Name, sort: &str, cards: &Cards) -> Resul
 
 /// Appends each name and each indicator of lines with all cards that name it.
 fn push_references(text: &mut String, alloc: Global, lines: &[Line]) -> Result<(), AllocError> {
-    text.push_str("\ncross-reference       cards\n")?;
+    let mut table = String::new(alloc);
+    push_reference_lines(&mut table, alloc, lines)?;
+    push_table(text, "cross-reference       cards", table.as_str())
+}
+
+fn push_reference_lines(
+    text: &mut String,
+    alloc: Global,
+    lines: &[Line],
+) -> Result<(), AllocError> {
     push_names(text, alloc, lines, Sort::File)?;
     push_names(text, alloc, lines, Sort::Field)?;
     push_names(text, alloc, lines, Sort::Tag)?;

@@ -1,5 +1,7 @@
 -- What stands under a card in a listing.
-use Rattle.std.specs.Prelude.{ℕ, ◌==◌, Bool, List, map, filter}
+use Rattle.std.specs.Prelude.{ℕ, nat_eq, ◌==◌, Bool, List, [], Vec, map, filter}
+use Rattle.std.specs.Option.{option_map_or}
+use Rattle.indexmap.specs.IndexMap.{IndexMap, get}
 use Rattle.s3_blame.specs.Inner.Columns.{columns_of}
 use Rattle.s3_lines.specs.declared.diagnostic.Diagnostic.{Diagnostic}
 use Rattle.s3_ruled.specs.declared.ruled.Columns.{Columns}
@@ -27,3 +29,10 @@ marks_of card entries number = columns_of (record { card = card; number = number
 -- those of each number that a card has among diagnostics
 abbrev pub marks_under : (card : ℕ) → List Diagnostic → List FaultyEntry → List (List Columns)
 marks_under card found entries = map (marks_of card entries) (numbers_under card found)
+
+-- the entries, and the notes, that a table has for a card
+abbrev pub entries_in : {A S : Type 0} → IndexMap ℕ (Vec FaultyEntry A) S → (card : ℕ) → List FaultyEntry
+entries_in table card = option_map_or (λ entries. entries.items) (get nat_eq table card) []
+
+abbrev pub notes_in : {A S : Type 0} → IndexMap ℕ (Vec Note A) S → (card : ℕ) → List Note
+notes_in table card = option_map_or (λ notes. notes.items) (get nat_eq table card) []

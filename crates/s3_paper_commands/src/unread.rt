@@ -1,0 +1,218 @@
+//! Files that are no deck: which of their cards can't be read, and what is to be done.
+
+use crate::characters::{TAB, is_shown};
+use bstr::ByteSlice;
+use s3_cards::{COLUMNS, code_of_byte, first_line, to_ebcdic};
+use s3_deck_files::{CardPlace, DeckText, FilePlace};
+use s3_punch::PunchReason;
+use std::alloc::{AllocError, Global};
+
+/// The most cards that are told one by one.
+const TOLD: usize = 20;
+
+/// The most cards of a deck.
+const MAX_CARDS: usize = 9_999;
+
+/// What is wrong with a card.
+#[derive(Clone, Copy)]
+enum UnreadCard {
+    /// It has so many columns, more than 96.
+    Wide(usize),
+    /// It has characters that no card has.
+    Characters(WrongCharacters),
+}
+
+/// The characters of a card that no card has.
+#[derive(Clone, Copy)]
+struct WrongCharacters {
+    /// The column of the first one, from 1.
+    column: usize,
+    /// The first one.
+    first: char,
+    /// How many more there are.
+    more: usize,
+    /// Whether one of them may be punched as a character that cards have.
+    is_typed: bool,
+}
+
+/// The cards that can't be read.
+#[derive(Drop)]
+struct Unread<'a> {
+    /// What is told of the first ones.
+    told: String,
+    /// How many there are.
+    count: usize,
+    /// The first one that may be plain text.
+    typed: Option<FilePlace<'a>>,
+}
+
+/// Whether a line is a card.
+fn is_card(line: &[u8]) -> bool {
+    line.len() <= COLUMNS && line.iter().all(|byte| code_of_byte(*byte).is_some())
+}
+
+/// Whether punching may make a character that cards have of one that they don't: of a small letter, of a tab, and of some letters and
+/// signs beyond ASCII.
+fn is_typed(character: char) -> bool {
+    let is_foreign = !character.is_ascii() && is_shown(character);
+    character == TAB || character.is_ascii_lowercase() || is_foreign
+}
+
+/// What is wrong with a line, if it is no card.
+fn fault_of(alloc: Global, line: &[u8]) -> Result<Option<UnreadCard>, AllocError> {
+    if is_card(line) {
+        return Ok(None);
+    }
+    let characters: Vec<char> = line.chars().collect(alloc)?;
+    if characters.len() > COLUMNS {
+        return Ok(Some(UnreadCard::Wide(characters.len())));
+    }
+    Ok(wrong_characters(&characters).map(|wrong| UnreadCard::Characters(wrong)))
+}
+
+/// The characters of a line that no card has, if it has any.
+fn wrong_characters(characters: &[char]) -> Option<WrongCharacters> {
+    let place = characters
+        .iter()
+        .position(|character| to_ebcdic(*character).is_none())?;
+    let first = *characters.get(place)?;
+    let rest = characters.get(place..).unwrap_or(&[]);
+    let count = rest
+        .iter()
+        .filter(|character| to_ebcdic(**character).is_none())
+        .count();
+    Some(WrongCharacters {
+        column: place.saturating_add(1),
+        first,
+        more: count.saturating_sub(1),
+        is_typed: rest.iter().any(|character| is_typed(*character)),
+    })
+}
+
+/// Appends which character no card has.
+fn push_character(text: &mut String, character: char) -> Result<(), AllocError> {
+    let code = character as u32;
+    match character {
+        TAB => text.push_str("no card has a tab"),
+        _ if is_shown(character) => write!(text, "no card has the character {character}"),
+        _ => write!(text, "no card has the unprintable character U+{code:04X}"),
+    }
+}
+
+/// Appends what is wrong with the characters of a card, and what is to be done where punching doesn't help.
+fn push_wrong(text: &mut String, wrong: &WrongCharacters) -> Result<(), AllocError> {
+    push_character(text, wrong.first)?;
+    let more = wrong.more;
+    if more > 0 {
+        write!(text, ", nor {more} more behind it")?;
+    }
+    if is_typed(wrong.first) {
+        Ok(())
+    } else if is_shown(wrong.first) {
+        text.push_str("; write one that cards have in its place")
+    } else {
+        text.push_str("; take it out")
+    }
+}
+
+/// Appends what is wrong with a card, and where.
+fn push_fault(
+    text: &mut String,
+    place: CardPlace<'_>,
+    fault: &UnreadCard,
+) -> Result<(), AllocError> {
+    match fault {
+        UnreadCard::Wide(columns) => {
+            let column = COLUMNS + 1;
+            let reason = PunchReason::TooWide(*columns);
+            write!(text, "{place}, column {column}: {reason}")?;
+        }
+        UnreadCard::Characters(wrong) => {
+            let column = wrong.column;
+            write!(text, "{place}, column {column}: ")?;
+            push_wrong(text, wrong)?;
+        }
+    }
+    text.push_str(".\n")
+}
+
+impl<'a> Unread<'a> {
+    /// Notes a card that can't be read.
+    fn note(&mut self, place: CardPlace<'a>, fault: &UnreadCard) -> Result<(), AllocError> {
+        if self.count < TOLD {
+            push_fault(&mut self.told, place, fault)?;
+        }
+        self.count = self.count.saturating_add(1);
+        if let UnreadCard::Characters(wrong) = fault {
+            if wrong.is_typed && self.typed.is_none() {
+                self.typed = place.place;
+            }
+        }
+        Ok(())
+    }
+
+    /// The cards of a deck that can't be read.
+    fn of(alloc: Global, deck: &DeckText<'a>) -> Result<Unread<'a>, AllocError> {
+        let mut unread = Unread {
+            told: String::new(alloc),
+            count: 0,
+            typed: None,
+        };
+        let mut rest = deck.text();
+        for card in 1..=MAX_CARDS {
+            let Some((line, after)) = first_line(rest) else {
+                break;
+            };
+            if let Some(fault) = fault_of(alloc, line)? {
+                unread.note(deck.place_of(card), &fault)?;
+            }
+            rest = after;
+        }
+        Ok(unread)
+    }
+}
+
+/// Why the files of a deck are none: each card that can't be read, up to twenty of them, how many more there are, and what is to be done.
+/// It is refused only where memory runs out.
+pub fn words_of_unread(
+    alloc: Global,
+    deck: &DeckText<'_>,
+    is_one_file: bool,
+) -> Result<String, AllocError> {
+    let unread = Unread::of(alloc, deck)?;
+    let mut text = unread.told;
+    let more = unread.count.saturating_sub(TOLD);
+    match more {
+        0 => {}
+        1 => text.push_str("Another card can't be read either.\n")?,
+        _ => writeln!(text, "Another {more} cards can't be read either.")?,
+    }
+    push_surplus(&mut text, deck)?;
+    if let Some(place) = unread.typed {
+        push_cure(&mut text, place.file, is_one_file)?;
+    }
+    Ok(text)
+}
+
+/// Appends that a deck has too many cards, where it has.
+fn push_surplus(text: &mut String, deck: &DeckText<'_>) -> Result<(), AllocError> {
+    if deck.card_count() <= MAX_CARDS {
+        return Ok(());
+    }
+    let place = deck.place_of(MAX_CARDS + 1);
+    let reason = PunchReason::TooManyCards;
+    writeln!(text, "{place}, column 1: {reason}.")
+}
+
+/// Appends what is to be done with a file of plain text. A file that stands among others isn't punched alone, since what it is follows
+/// from those before it.
+fn push_cure(text: &mut String, file: &str, is_one_file: bool) -> Result<(), AllocError> {
+    write!(
+        text,
+        "Small letters, tabs and marked letters are punched as cards have them where a file's name ends in .rpg: rename {file} so"
+    )?;
+    if is_one_file {
+        write!(text, ", or make a deck of it with bureau punch {file}")?;
+    }
+    text.push_str(".\n")
+}
