@@ -1,18 +1,20 @@
 -- A pack whose free slot got a file that is a copy.
-use Rattle.std.proofs.Common.{◌≡◌, ◌≢◌, ℕ, zero, suc, ◌+◌, ◌*◌, ◌<◌, ◌≤◌, true, List, [], length, nat_le, slice_get, Option, Some, Result, Ok, refl, sym, ap, ap₂, ◌∙◌, subst, arith}
+use Rattle.std.proofs.Common.{◌≡◌, ℕ, zero, suc, ◌+◌, ◌*◌, ◌/◌, ◌%◌, ◌<◌, ◌≤◌, true, List, length, nat_le, slice_get, Some, None, Ok, refl, sym, ap, ap₂, ◌∙◌, subst, arith}
 use Rattle.std.proofs.lemmas.Bool.{and_parts, leb-true}
 use Rattle.std.specs.List.{Contains}
 use Rattle.s3_cards.specs.declared.levels.LevelId.TheVariants.{One, Two}
+use Rattle.s3_cards.specs.Names.{is_name}
 use Rattle.s3_cards.specs.declared.name.Name.{Name}
 use Rattle.s3_store.specs.Bytes.{bytes_at, part}
+use Rattle.s3_store.specs.Inner.Bytes.{with_piece}
 use Rattle.s3_store.specs.Contents.{sectors_of as sectors_in_bytes}
 use Rattle.s3_store.specs.declared.stretch.Stretch.{Stretch}
 use Rattle.s3_store.proofs.SectorParts.{sector_bytes-same}
 use Rattle.s3_slots.specs.Header.{mounted}
 use Rattle.s3_slots.specs.Inner.Kept.{IsOfPack}
-use Rattle.s3_slots.specs.Inner.Stretches.{IsWhole}
+use Rattle.s3_slots.specs.Inner.Labels.{label_bytes}
 use Rattle.s3_slots.specs.Labels.{sectors_of}
-use Rattle.s3_slots.specs.Slots.{slots_of, standing}
+use Rattle.s3_slots.specs.Slots.{labels_at, slots_of, standing}
 use Rattle.s3_slots.specs.Stretches.{IsIn}
 use Rattle.s3_slots.specs.declared.header.Format.{Format}
 use Rattle.s3_slots.specs.declared.header.Header.{Header}
@@ -25,18 +27,20 @@ use Rattle.s3_slots.proofs.Judging.{slots_kept}
 use Rattle.s3_slots.proofs.Keeping.{formed_parts}
 use Rattle.s3_slots.proofs.Makes.{present_at}
 use Rattle.s3_slots.proofs.SlotLemmas.{key_fits}
-use Rattle.s3_labels.specs.Areas.{IsLabelSector}
 use Rattle.s3_labels.specs.Contents.{contents_of}
 use Rattle.s3_labels.specs.Inner.Areas.{ArePlaced, Areas, IsReady, areas_on, slots_in}
 use Rattle.s3_labels.proofs.Labelled.{slots_kept as judged_alike}
 use Rattle.s3_labels.proofs.MigratedPacks.{file_same}
 use Rattle.s3_labels.proofs.Mounts.{mounted_itself}
 use Rattle.s3_labels.proofs.Regions.{IsRegion, accepted_placed, accepted_regions}
+use Rattle.s3_pack_check.specs.Inner.Damages.{first_damaged}
 use Rattle.s3_pack_check.specs.Inner.Wrongs.{region_in}
 use Rattle.s3_pack_check.proofs.Files.{area_on_pack, length_bytes, whole_part}
-use Rattle.s3_pack_care.specs.Inner.Copied.{IsCopy, IsFilled, IsSource, IsWith, is_like}
-use Rattle.s3_pack_care.specs.Inner.Kept.{IsMounted, IsOther, IsRelabelled, KeepsFile, slot_on}
+use Rattle.s3_pack_care.specs.Inner.Copied.{Forbids, IsCopy, IsFilled, IsRoom, IsSource, IsWith}
+use Rattle.s3_pack_care.specs.Inner.Kept.{IsMounted, IsRelabelled, slot_on}
 use Rattle.s3_pack_care.proofs.Deletes.{one_header, seen_whole}
+use Rattle.s3_pack_care.proofs.Placed.{free_there, label_on_pack, label_room, written_is, written_there}
+use Rattle.s3_pack_care.proofs.Refusals.{allowed, are_on}
 use Rattle.s3_pack_care.proofs.Relabelled.{file_behind, file_kept, in_region, mounted_same}
 
 -- ---- the file that is read
@@ -136,26 +140,6 @@ with_copy area slot name source bytes label_bytes header old labelled new area_i
           };
     }
 
-pub copied_is : (from into new : List ℕ) (from_area : ℕ) (name : Name) (area slot : ℕ) (new_name : Name) (source : FileLabel) (bytes label_bytes : List ℕ) (areas : Areas) (old labelled after : List (List ℕ))
-    → area < 3 → slot < 32 → IsSource from_area name source bytes (contents_of from) → old ≡ contents_of into → IsMounted areas old → slice_get (slots_in area areas) slot ≡ Some Free
-    → IsRelabelled area slot label_bytes areas.header old labelled → IsFilled area slot new_name source bytes areas.header labelled after → sectors_in_bytes new ≡ after → length after ≤ 65535
-    → IsCopy from_area name area new_name (contents_of from) (contents_of into) (contents_of new)
-copied_is from into new from_area name area slot new_name source bytes label_bytes areas old labelled after area_in slot_in read here is free written fills stored few = record {
-  slot = slot;
-  slot_in = slot_in;
-  source = source;
-  bytes = bytes;
-  read = read;
-  copied = λ header mounts.
-      let is_mounted : mounted (contents_of into) ≡ Ok areas.header = sym (ap mounted here) ∙ is.mounts in
-      let is_header : areas.header ≡ header = one_header (contents_of into) areas.header header is_mounted mounts in
-      let was_free : slot_on areas.header old area slot ≡ Some Free = sym (ap (λ (a : Areas). slice_get (slots_in area a) slot) is.judged) ∙ free in
-      let base : IsWith area slot new_name source bytes areas.header old after = with_copy area slot new_name source bytes label_bytes areas.header old labelled after area_in slot_in is.mounts was_free written fills in
-      subst (λ (n : List (List ℕ)). IsWith area slot new_name source bytes header (contents_of into) n) (sym (seen_whole new after stored few))
-      (subst (λ (o : List (List ℕ)). IsWith area slot new_name source bytes header o after) here
-      (subst (λ (h : Header). IsWith area slot new_name source bytes h old after) is_header base));
-}
-
 -- ---- the steps of a copy
 pub source_read : (area : ℕ) (areas : Areas) (contents : List (List ℕ)) (name : Name) (label : FileLabel) (bytes : List ℕ) (now : List Slot) (found : Standing) → area < 3 → now ≡ slots_in area areas
     → found ≡ standing name now → found ≡ Present label → IsMounted areas contents → IsReady areas contents → bytes ≡ bytes_at (sectors_of label) contents → IsSource area name label bytes contents
@@ -163,6 +147,7 @@ source_read area areas contents name label bytes now found few slots is present 
     let stands : standing name (slots_in area areas) ≡ Present label = sym (is ∙ ap (standing name) slots) ∙ present in
     record {
       stands = stands_on area areas contents name label mounted_as stands;
+      mounts = are_on areas contents (λ a. standing name (slots_in area a) ≡ Present label) mounted_as stands;
       on_pack = on_pack_by_name area areas contents name label few stands ready;
       has = same;
     }
@@ -176,22 +161,68 @@ pub written_sectors : (label : FileLabel) (sectors : List ℕ) (old new : List (
     → (n : ℕ) → ¬ Contains (sectors_of label) n → slice_get new n ≡ slice_get old n
 written_sectors label sectors old new same kept n out = kept n (λ has. out (subst (λ (s : List ℕ). Contains s n) same has))
 
-pub filled_is : (area slot at : ℕ) (name : Name) (source label : FileLabel) (bytes : List ℕ) (areas : Areas) (found : Slot) (old new : List (List ℕ)) → IsMounted areas old → at ≡ slot
-    → slice_get (slots_in area areas) at ≡ Some found → found ≡ Sound label → is_like name source label ≡ true → bytes_at (sectors_of label) new ≡ bytes → length new ≡ length old
-    → ((n : ℕ) → ¬ Contains (sectors_of label) n → slice_get new n ≡ slice_get old n) → IsFilled area slot name source bytes areas.header old new
-filled_is area slot at name source label bytes areas found old new is same there sound like written count kept = record {
-  label = label;
-  there = sym (ap (λ (a : Areas). slice_get (slots_in area a) slot) is.judged) ∙ ap (λ i. slice_get (slots_in area areas) i) (sym same) ∙ there ∙ ap (λ s. Some s) sound;
-  like = like;
-  filled = written;
-  count = count;
-  sectors = kept;
-}
+-- ---- a copy
+-- what a label that is written for a copy leaves, and the file that is filled then
+module _ (area slot sectors : ℕ) (name : Name) (source label : FileLabel) (bytes : List ℕ) (areas : Areas) (old : List (List ℕ)) (area_in : area < 3) (slot_in : slot < 32) (is : IsMounted areas old) (ready : IsReady areas old)
+    (read : IsOfPack sectors source) (codes : length name.codes ≡ 8) (named : is_name name.codes ≡ true) (date : length source.date ≡ 6) (room : IsRoom area name source areas slot label) where
+  abbrev header : Header
+  header = areas.header
 
-pub copy_is : (from into new : List ℕ) (from_area : ℕ) (name : Name) (area slot : ℕ) (new_name : Name) (source : FileLabel) (bytes label_bytes : List ℕ) (areas after_areas : Areas) (begun old labelled after : List (List ℕ))
-    → area < 3 → slot < 32 → IsSource from_area name source bytes (contents_of from) → begun ≡ contents_of into → IsMounted areas begun → old ≡ begun → slice_get (slots_in area areas) slot ≡ Some Free
-    → IsRelabelled area slot label_bytes areas.header old labelled → IsMounted after_areas labelled → IsFilled area slot new_name source bytes after_areas.header labelled after → sectors_in_bytes new ≡ after → length after ≤ 65535
+  ready_here : IsReady (areas_on header old) old
+  ready_here = subst (λ (a : Areas). IsReady a old) is.judged ready
+
+  room_here : IsRoom area name source (areas_on header old) slot label
+  room_here = subst (λ (a : Areas). IsRoom area name source a slot label) is.judged room
+
+  region_here : IsRegion (length old) (region_in area (areas_on header old))
+  region_here = area_region area (areas_on header old) old area_in ready_here
+
+  pub on_pack : IsOfPack (length old) label
+  on_pack = label_on_pack area slot sectors name source label header old area_in slot_in is.mounts ready_here region_here read codes named date room_here
+
+  pub as_many : length (sectors_of label) ≡ length (sectors_of source)
+  as_many = label_room area slot sectors name source label header old area_in slot_in is.mounts ready_here region_here read codes named date room_here
+
+  pub copied_with : (labelled after : List (List ℕ)) → length (label_bytes label) ≡ 64 → labelled ≡ with_piece old (labels_at area + slot / 4) (slot % 4 * 64) (label_bytes label) → length labelled ≡ length old
+      → bytes_at (sectors_of label) after ≡ bytes → length after ≡ length labelled → ((n : ℕ) → ¬ Contains (sectors_of label) n → slice_get after n ≡ slice_get labelled n) → IsWith area slot name source bytes header old after
+  copied_with labelled after width set count filled same others =
+      with_copy area slot name source bytes (label_bytes label) header old labelled after area_in slot_in is.mounts (free_there (slots_in area (areas_on header old)) slot room_here.free)
+      (written_is area slot sectors name source label header old area_in slot_in is.mounts ready_here region_here read codes named date room_here labelled (slot % 4) width refl set count)
+      (record {
+        label = label;
+        there = written_there area slot sectors name source label header old area_in slot_in is.mounts ready_here region_here read codes named date room_here labelled (slot % 4) width refl set count;
+        like = room.labelled;
+        filled = filled;
+        count = same;
+        sectors = others;
+      })
+
+-- a mounted pack has as many sectors as the bytes that it is made of
+pub copy_is : (from into new : List ℕ) (from_area : ℕ) (name : Name) (area slot : ℕ) (new_name : Name) (source label : FileLabel) (bytes : List ℕ) (areas : Areas) (begun old labelled after : List (List ℕ))
+    → area < 3 → slot < 32 → IsSource from_area name source bytes (contents_of from) → begun ≡ contents_of into → IsMounted areas begun → IsReady areas begun → old ≡ begun → length new_name.codes ≡ 8 → is_name new_name.codes ≡ true
+    → length source.date ≡ 6 → IsRoom area new_name source areas slot label → length (label_bytes label) ≡ 64 → labelled ≡ with_piece old (labels_at area + slot / 4) (slot % 4 * 64) (label_bytes label) → length labelled ≡ length old
+    → bytes_at (sectors_of label) after ≡ bytes → length after ≡ length labelled → ((n : ℕ) → ¬ Contains (sectors_of label) n → slice_get after n ≡ slice_get labelled n) → sectors_in_bytes new ≡ after
     → IsCopy from_area name area new_name (contents_of from) (contents_of into) (contents_of new)
-copy_is from into new from_area name area slot new_name source bytes label_bytes areas after_areas begun old labelled after area_in slot_in read here is same free written is_after fills stored few =
-    copied_is from into new from_area name area slot new_name source bytes label_bytes areas old labelled after area_in slot_in read (same ∙ here) (subst (λ (s : List (List ℕ)). IsMounted areas s) (sym same) is) free written
-    (subst (λ (h : Header). IsFilled area slot new_name source bytes h labelled after) (one_header labelled after_areas.header areas.header is_after.mounts written.mounts) fills) stored few
+copy_is from into new from_area name area slot new_name source label bytes areas begun old labelled after area_in slot_in read here is ready same codes named date room width set count filled long others stored =
+    let few : length after ≤ 65535 = omega (arith, long, count, ap length same, ready.few) in
+    let with_it : IsWith area slot new_name source bytes areas.header begun after =
+    copied_with area slot (length (contents_of from)) new_name source label bytes areas begun area_in slot_in is ready read.on_pack codes named date room labelled after width
+    (set ∙ ap (λ s. with_piece s (labels_at area + slot / 4) (slot % 4 * 64) (label_bytes label)) same) (count ∙ ap length same) filled long others in
+    record {
+      slot = slot;
+      slot_in = slot_in;
+      source = source;
+      bytes = bytes;
+      read = read;
+      undamaged = are_on areas (contents_of into) (λ a. first_damaged (slots_in area a) ≡ None) (subst (λ (s : List (List ℕ)). IsMounted areas s) here is) room.undamaged;
+      allowed = λ fault on.
+          let mounts : mounted begun ≡ Ok on.header = ap mounted here ∙ on.mounts in
+          let headers : areas.header ≡ on.header = one_header begun areas.header on.header is.mounts mounts in
+          let back : areas_on on.header (contents_of into) ≡ areas = sym (is.judged ∙ ap₂ areas_on headers here) in
+          allowed area slot new_name source label areas named room fault (subst (λ (a : Areas). Forbids area new_name source a fault) back on.so);
+      copied = λ header mounts.
+          let headers : areas.header ≡ header = one_header begun areas.header header is.mounts (ap mounted here ∙ mounts) in
+          subst (λ (n : List (List ℕ)). IsWith area slot new_name source bytes header (contents_of into) n) (sym (seen_whole new after stored few))
+          (subst (λ (o : List (List ℕ)). IsWith area slot new_name source bytes header o after) here
+          (subst (λ (h : Header). IsWith area slot new_name source bytes h begun after) headers with_it));
+    }

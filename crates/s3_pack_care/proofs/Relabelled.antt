@@ -1,13 +1,13 @@
 -- What a written slot leaves of the slots and files of a pack.
-use Rattle.std.proofs.Common.{◌≡◌, ◌≢◌, ℕ, zero, suc, ◌+◌, ◌*◌, ◌/◌, ◌%◌, ◌<◌, ◌≤◌, ◌⊎◌, inl, inr, true, List, [], length, replicate, slice_get, Option, Some, Result, Ok, Err, OnOk, if◌then◌else◌, refl, sym, ap, ap₂, ◌∙◌, subst, arith}
+use Rattle.std.proofs.Common.{◌≡◌, ◌≢◌, ℕ, zero, suc, ◌+◌, ◌*◌, ◌/◌, ◌%◌, ◌<◌, ◌≤◌, ◌⊎◌, inl, inr, true, List, length, replicate, slice_get, Some, Result, Ok, Err, if◌then◌else◌, refl, sym, ap, ap₂, ◌∙◌, arith}
 use Rattle.std.specs.Prelude.{nat_lt}
 use Rattle.std.specs.List.{Contains}
-use Rattle.s3_store.specs.Bytes.{part, sector_bytes}
+use Rattle.s3_store.specs.Bytes.{part}
 use Rattle.s3_store.specs.Inner.Bytes.{with_piece}
 use Rattle.s3_store.proofs.SectorParts.{piece_other, sector_bytes-same}
 use Rattle.s3_store.specs.declared.stretch.Stretch.{Stretch}
 use Rattle.s3_slots.specs.Header.{accepted, first_region, format_in, header_by, mounted}
-use Rattle.s3_slots.specs.Labels.{file_bytes, sectors_of}
+use Rattle.s3_slots.specs.Labels.{sectors_of}
 use Rattle.s3_slots.specs.Slots.{labels_at, slot_bytes, slots_of}
 use Rattle.s3_slots.specs.Stretches.{IsIn}
 use Rattle.s3_slots.specs.declared.header.Format.{Format}
@@ -21,12 +21,12 @@ use Rattle.s3_slots.proofs.Keeping.{extents_inside, formed_parts}
 use Rattle.s3_labels.proofs.MigratedPacks.{file_same}
 use Rattle.s3_labels.proofs.Mounts.{mounted_itself}
 use Rattle.s3_labels.proofs.Parts.{others_stay, slot_changed}
-use Rattle.s3_labels.proofs.Regions.{IsRegion, accepted_regions}
+use Rattle.s3_labels.proofs.Regions.{accepted_regions}
 use Rattle.s3_labels.specs.Inner.Areas.{Areas, areas_on, slots_in}
 use Rattle.s3_pack_care.specs.Inner.Kept.{IsMounted, IsOther, IsRelabelled, IsWithout, KeepsFile, alike, slot_on}
 use Rattle.s3_pack_care.proofs.Judged.{slot_same, zeros_free}
 
-eq_or : (a b : ℕ) → (a ≡ b) ⊎ (a ≢ b)
+pub eq_or : (a b : ℕ) → (a ≡ b) ⊎ (a ≢ b)
 eq_or zero zero = inl refl
 eq_or zero (suc b) = inr (λ e. omega (arith, e))
 eq_or (suc a) zero = inr (λ e. omega (arith, e))
@@ -50,13 +50,13 @@ module _ (area slot at : ℕ) (bytes : List ℕ) (old new : List (List ℕ)) (ar
   there : labels_at area + slot / 4 < length old
   there = omega (arith, area_in, slot_in, room)
 
-  own_bytes : slot_bytes area new slot ≡ bytes
+  pub own_bytes : slot_bytes area new slot ≡ bytes
   own_bytes = slot_changed area slot at old new bytes there width e {T = Unit {0}} (Ok tt) set
 
-  other_sector : (n : ℕ) → n ≢ labels_at area + slot / 4 → slice_get new n ≡ slice_get old n
+  pub other_sector : (n : ℕ) → n ≢ labels_at area + slot / 4 → slice_get new n ≡ slice_get old n
   other_sector n other = ap (λ contents. slice_get contents n) set ∙ piece_other old (labels_at area + slot / 4) (at * 64) n bytes other
 
-  other_bytes : (a i : ℕ) → IsOther area slot a i → slot_bytes a new i ≡ slot_bytes a old i
+  pub other_bytes : (a i : ℕ) → IsOther area slot a i → slot_bytes a new i ≡ slot_bytes a old i
   other_bytes a i is = elim (eq_or a area) [
     | inl same ↦ rw same (others_stay area slot at old new bytes there width e {T = Unit {0}} (Ok tt) set tt i (λ same_slot. is.other same same_slot))
     | inr differ ↦ ap (λ sector. part sector (i % 4 * 64) 64) (sector_bytes-same old new (labels_at a + i / 4)

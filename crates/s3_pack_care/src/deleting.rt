@@ -1,11 +1,14 @@
 //! A file deleted.
-ghost use Rattle.std.specs.Prelude.{◌≡◌, ◌<◌, ℕ, slice_get, Ok, Some, IfOk, IfErr};
+ghost use Rattle.std.specs.Prelude.{◌≡◌, ◌<◌, ◌≤◌, ◌&&◌, not, ℕ, length, Ok, Some, IfOk, IfErr, OnOk};
 ghost use Rattle.s3_slots.specs.Header.{mounted};
+ghost use Rattle.s3_slots.specs.Making.{is_permanent as is_permanent_spec};
+ghost use Rattle.s3_slots.specs.Placement.{is_free as is_free_spec};
+ghost use Rattle.s3_slots.specs.Slots.{slot_bytes};
 ghost use Rattle.s3_slots.specs.declared.header.Header.{Header};
 ghost use Rattle.s3_labels.specs.Contents.{contents_of};
 ghost use Rattle.s3_labels.specs.Inner.Areas.{areas_on, slots_in};
 ghost use Rattle.s3_pack_care.specs.Inner.Kept.{IsWithout};
-ghost use Rattle.s3_pack_care.specs.Inner.Deleted.{chosen_in};
+ghost use Rattle.s3_pack_care.specs.Inner.Deleted.{MayFree, MayGo, RefusesDelete, RefusesLabel, RefusesSlot, chosen_in, is_kept as is_kept_spec};
 
 use crate::fault::CareFault;
 use crate::relabelling::{MountedPack, mount, relabelled};
@@ -14,7 +17,7 @@ use s3_cards::{Name, Retention};
 use s3_labels::{AreaSlots, Slot};
 use s3_pack_check::slots_of;
 use s3_slots::place_in;
-use s3_store::MemoryStore;
+use s3_store::{MemoryStore, Sectors};
 use std::alloc::Global;
 
 /// Which file of an area is meant.
@@ -32,50 +35,101 @@ fn slot_of(areas: &AreaSlots, area: u16, chosen: Chosen) -> Result<u16, CareFaul
     requires { area < 3 }
     ensures within { IfOk result (λ slot. slot < 32) }
     ensures chosen { IfOk result (λ slot. chosen_in chosen (slots_in area areas.now) ≡ Some slot) }
+    ensures refused { IfErr result (RefusesLabel chosen (slots_in area areas.now)) }
 {
     match chosen {
         Chosen::Label(name) => match place_in(name, slots_of(areas, area)) {
             Ok(place) => Ok(place as u16),
             Err(fault) => Err(CareFault::Label(fault)),
         },
-        Chosen::Slot(slot) if slot < 32 => Ok(slot),
-        Chosen::Slot(_) => Err(CareFault::NoSlot),
-    }
-}
-
-/// Whether the retention in a slot's bytes is that of a permanent file, also where the slot is damaged.
-fn reads_permanent(pack: &[u8], area: u16, chosen: Chosen) -> bool {
-    match chosen {
-        Chosen::Label(_) => false,
         Chosen::Slot(slot) => {
-            let start = 256 + 2048 * usize::from(area) + 64 * usize::from(slot);
-            match pack.get(start + 10) {
-                Some(byte) => *byte == LETTER_P,
-                None => false,
+            if slot < 32 {
+                Ok(slot)
+            } else {
+                Err(CareFault::NoSlot)
             }
         }
     }
 }
 
-/// Whether a slot may be freed: not where it is free, and where its file is permanent only if that is said.
-fn permit(slot: &Slot, reads_permanent: bool, is_permanent_meant: bool) -> Result<(), CareFault> {
-    match slot {
-        Slot::Free => Err(CareFault::NoFile),
-        Slot::Damaged(_) if reads_permanent && !is_permanent_meant => Err(CareFault::Permanent),
-        Slot::Damaged(_) => Ok(()),
-        Slot::Sound(label) => match label.retention {
-            Retention::Permanent if !is_permanent_meant => Err(CareFault::Permanent),
-            Retention::Permanent | Retention::Temporary | Retention::Scratch => Ok(()),
-        },
+/// Reads the 64 bytes of slot `i`, 0 to 31, of an area. Refused with `NoMemory`.
+fn read_slot(store: &mut MemoryStore, area: u16, i: u16) -> Result<[u8; 64], CareFault>
+    requires area { area < 3 }
+    requires slot { i < 32 }
+    requires room { 25 ≤ length store.old }
+    ensures ok { IfOk result (λ bytes. bytes ≡ slot_bytes area store.old i) }
+    ensures keeps { store.new ≡ store.old }
+    ensures fault { IfErr result (λ fault. fault ≡ CareFault.NoMemory) }
+{
+    let mut bytes = [0; 64];
+    match store.read_part(1 + 8 * area + i / 4, usize::from(i % 4) * 64, &mut bytes) {
+        Ok(()) => Ok(bytes),
+        // a store in memory never fails
+        Err(_) => Err(CareFault::NoMemory),
     }
+}
+
+/// Whether what stands in a slot is to be kept: a permanent file, or what is damaged and has the retention of one in its bytes.
+fn is_kept(slot: &Slot, bytes: &[u8; 64]) -> bool
+    ensures { result ≡ is_kept_spec slot.now bytes.now }
+{
+    match slot {
+        Slot::Free => false,
+        Slot::Damaged(_) => bytes[10] == LETTER_P,
+        Slot::Sound(label) => is_permanent(label.retention),
+    }
+}
+
+/// Whether a file of this retention is permanent.
+fn is_permanent(retention: Retention) -> bool
+    ensures { result ≡ is_permanent_spec retention }
+{
+    match retention {
+        Retention::Permanent => true,
+        Retention::Temporary | Retention::Scratch => false,
+    }
+}
+
+/// Whether a slot is free.
+fn is_free(slot: &Slot) -> bool
+    ensures { result ≡ is_free_spec slot.now }
+{
+    match slot {
+        Slot::Free => true,
+        Slot::Damaged(_) | Slot::Sound(_) => false,
+    }
+}
+
+/// Whether what stands in a slot stays: it is to be kept, and it isn't said that it is meant.
+fn stays(slot: &Slot, bytes: &[u8; 64], is_permanent_meant: bool) -> bool
+    ensures { result ≡ (is_kept_spec slot.now bytes.now && not is_permanent_meant) }
+{
+    is_kept(slot, bytes) && !is_permanent_meant
+}
+
+/// That a slot may be freed. Refused with `NoFile` where it is free, and with `Permanent` where what stands in it is to be kept and
+/// it isn't said that this is meant.
+#[tactic(auto, using(crate::proofs::Deletes::may_go))]
+fn permit(slot: &Slot, bytes: &[u8; 64], is_permanent_meant: bool) -> Result<(), CareFault>
+    ensures permitted { OnOk result (MayFree slot.now bytes.now is_permanent_meant) }
+    ensures refused { IfErr result (RefusesSlot slot.now bytes.now is_permanent_meant) }
+{
+    if is_free(slot) {
+        return Err(CareFault::NoFile);
+    }
+    if stays(slot, bytes, is_permanent_meant) {
+        return Err(CareFault::Permanent);
+    }
+    Ok(())
 }
 
 /// The pack of these bytes, its first 65,535 whole sectors, without a file of an area: 0 for the masters, 1 and 2 for the levels.
 /// The slot of the file is filled with zeros, and no other sector changes than that one.
 ///
 /// Refused with `Mount` by the header; with `Label` where no sound file has the label, and with `NoFile` where the slot has none;
-/// with `NoSlot` where there is no such slot; with `Permanent` unless that is meant; with `Uncovers` where a slot that is damaged for what it has in common with the file
-/// would have a file again; and with `NoMemory`.
+/// with `NoSlot` where there is no such slot; with `Permanent` unless that is meant; with `Uncovers` where a slot that is damaged
+/// for what it has in common with the file would have a file again; and with `NoMemory`.
+#[tactic(auto, using(crate::proofs::Deletes::mount_refuses, crate::proofs::Deletes::label_refuses, crate::proofs::Deletes::memory_refuses))]
 pub fn delete(
     alloc: Global,
     pack: Vec<u8>,
@@ -84,14 +138,19 @@ pub fn delete(
     is_permanent_meant: bool,
 ) -> Result<Vec<u8>, CareFault>
     requires { area < 3 }
-    ensures { IfOk result (λ new. (header : Header) (slot : ℕ) → mounted (contents_of pack.items) ≡ Ok header → chosen_in chosen (slots_in area (areas_on header (contents_of pack.items))) ≡ Some slot → IsWithout area slot header (contents_of pack.items) (contents_of new.items)) }
+    ensures deleted { IfOk result (λ new. (header : Header) (slot : ℕ) → mounted (contents_of pack.items) ≡ Ok header → chosen_in chosen (slots_in area (areas_on header (contents_of pack.items))) ≡ Some slot → IsWithout area slot header (contents_of pack.items) (contents_of new.items)) }
+    ensures permitted { IfOk result (λ new. MayGo area chosen is_permanent_meant (contents_of pack.items)) }
+    ensures refused { IfErr result (RefusesDelete area chosen is_permanent_meant (contents_of pack.items)) }
 {
-    let reads_permanent = reads_permanent(&pack, area, chosen);
-    let old = mount(alloc, MemoryStore::from_bytes(pack))?;
-    let slot = slot_of(&old.areas, area, chosen)?;
-    let standing = old.areas.slot(area, usize::from(slot));
-    permit(standing, reads_permanent, is_permanent_meant)?;
-    let new = relabelled(alloc, old, area, slot, &[0; 64])?;
+    let MountedPack { mut store, areas } = mount(alloc, MemoryStore::from_bytes(pack))?;
+    let slot = slot_of(&areas, area, chosen)?;
+    let bytes = read_slot(&mut store, area, slot)?;
+    permit(
+        areas.slot(area, usize::from(slot)),
+        &bytes,
+        is_permanent_meant,
+    )?;
+    let new = relabelled(alloc, MountedPack { store, areas }, area, slot, &[0; 64])?;
     let MountedPack { store, areas: _ } = new;
     Ok(store.into_bytes())
 }

@@ -33,9 +33,13 @@ pub enum CareFault {
     /// A file of the area has the label that a copy is to get.
     #[error("a file has that label already")]
     Exists,
-    /// The label of a copy would not be judged to be that of the file.
-    #[error("the copy would not be like the file")]
-    Unlike,
+    /// This slot, the first damaged one of the area that is to get a copy. What it holds can't be told, so its tracks can't be kept
+    /// from the copy.
+    #[error("slot {0} is damaged, and what it holds can't be told")]
+    Damaged(u16),
+    /// The label that a copy is to get isn't a name.
+    #[error("the label isn't a name")]
+    NoName,
     /// This slot, which is damaged for what it has in common with the file, would have a file again.
     #[error("slot {0} would have a file again")]
     Uncovers(u16),

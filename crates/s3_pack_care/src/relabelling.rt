@@ -1,8 +1,8 @@
 //! A slot written, and all slots judged anew.
-ghost use Rattle.std.specs.Prelude.{◌≡◌, ◌≢◌, ◌<◌, ◌≤◌, ℕ, true, slice_get, length, Ok, Some, OnOk, IfOk, IfErr, IfNone, IfSome};
+ghost use Rattle.std.specs.Prelude.{◌≡◌, ◌≢◌, ◌<◌, ◌≤◌, ℕ, true, slice_get, length, Ok, Some, OnOk, IfOk, IfErr, IfNone, IfSome, ◌&&◌, not, nat_eq};
 ghost use Rattle.s3_slots.specs.Header.{mounted};
 ghost use Rattle.s3_labels.specs.Inner.Areas.{IsReady, areas_on, slots_in};
-ghost use Rattle.s3_pack_care.specs.Inner.Kept.{IsMounted, IsMountRefusal, IsOther, IsRelabelled, alike, fault_of as fault_of_spec, same_kind};
+ghost use Rattle.s3_pack_care.specs.Inner.Kept.{IsMounted, IsMountRefusal, IsOther, IsChanged, IsRelabelled, RefusesWritten, alike, fault_of as fault_of_spec, same_kind};
 
 use crate::fault::CareFault;
 use s3_labels::{AreaSlots, Pack, Refusal, Refused, Slot};
@@ -42,29 +42,47 @@ fn is_alike(old: &AreaSlots, new: &AreaSlots, area: u16, i: u16) -> bool
     )
 }
 
+/// Whether slot `i`, 0 to 31, of an area is another one than that which was written, and isn't of the kind that it was.
+fn is_changed(old: &AreaSlots, new: &AreaSlots, area: u16, written: u16, i: u16) -> bool
+    requires area { area < 3 }
+    requires slot { i < 32 }
+    ensures { result ≡ (not (nat_eq i written) && not (alike (slice_get (slots_in area old.now) i) (slice_get (slots_in area new.now) i))) }
+{
+    i != written && !is_alike(old, new, area, i)
+}
+
 /// The first slot of an area, but for the one that was written, that isn't of the kind that it was.
 fn first_other(old: &AreaSlots, new: &AreaSlots, area: u16, written: u16) -> Option<u16>
     requires { area < 3 }
-    ensures { IfNone result ((i : ℕ) → i < 32 → i ≢ written → alike (slice_get (slots_in area old.now) i) (slice_get (slots_in area new.now) i) ≡ true) }
+    ensures none { IfNone result ((i : ℕ) → i < 32 → i ≢ written → alike (slice_get (slots_in area old.now) i) (slice_get (slots_in area new.now) i) ≡ true) }
+    ensures few { IfSome result (λ i. i < 32) }
+    ensures changed { IfSome result (λ i. (not (nat_eq i written) && not (alike (slice_get (slots_in area old.now) i) (slice_get (slots_in area new.now) i))) ≡ true) }
 {
     for i in 0..32u16 {
-        if i != written && !is_alike(old, new, area, i) {
+        if is_changed(old, new, area, written, i) {
             return Some(i);
         }
     }
     None
 }
 
+/// The slot of an area that was written: that one in its own area, and none, 32, in another.
+fn written_in(a: u16, area: u16, slot: u16) -> u16
+    ensures own { a ≡ area → result ≡ slot }
+    ensures none { a ≢ area → result ≡ 32 }
+{
+    if a == area { slot } else { 32 }
+}
+
 /// The first slot of the three areas, but for the one that was written, that isn't of the kind that it was.
 fn first_changed(old: &AreaSlots, new: &AreaSlots, area: u16, slot: u16) -> Option<u16>
     requires { area < 3 }
-    ensures { IfNone result ((a i : ℕ) → IsOther area slot a i → alike (slice_get (slots_in a old.now) i) (slice_get (slots_in a new.now) i) ≡ true) }
+    ensures none { IfNone result ((a i : ℕ) → IsOther area slot a i → alike (slice_get (slots_in a old.now) i) (slice_get (slots_in a new.now) i) ≡ true) }
+    ensures some { IfSome result (IsChanged area slot old.now new.now) }
 {
     for a in 0..3u16 {
-        let written = if a == area { slot } else { 32 };
-        let other = first_other(old, new, a, written);
-        if other.is_some() {
-            return other;
+        if let Some(other) = first_other(old, new, a, written_in(a, area, slot)) {
+            return Some(other);
         }
     }
     None
@@ -109,6 +127,7 @@ pub fn relabelled(
     ensures ok { IfOk result (λ new. IsRelabelled area slot bytes.now pack.areas.header pack.store new.store) }
     ensures mounted { IfOk result (λ new. IsMounted new.areas new.store) }
     ensures ready { IfOk result (λ new. IsReady new.areas new.store) }
+    ensures refused { IfErr result (RefusesWritten area slot bytes.now pack.areas.header pack.store) }
 {
     let MountedPack { mut store, areas } = pack;
     let sector = 1 + 8 * area + slot / 4;

@@ -16,6 +16,7 @@ use Rattle.s3_keyed.specs.declared.fault.KeyedFault.TheVariants.{BadIndex}
 use Rattle.s3_pack_check.specs.Inner.Entries.{first_fault}
 use Rattle.s3_pack_check.specs.Inner.Wrongs.{index_cause, is_good}
 use Rattle.s3_pack_check.specs.declared.checking.Cause.TheVariants.{Index}
+use Rattle.s3_pack_check.specs.declared.entries.WrongEntry.{WrongEntry}
 
 -- the label of a sound slot of an area is one that the pack has
 pub area_on_pack : (area : ℕ) (areas : Areas) (contents : List (List ℕ)) (i : ℕ) (label : FileLabel) → area < 3 → slice_get (slots_in area areas) i ≡ Some (Sound label) → IsReady areas contents
@@ -63,7 +64,7 @@ bad_if false h = refl
 pub no_cause : (label : FileLabel) (contents : List (List ℕ)) → answer (is_good label contents) ≡ Ok tt → index_cause label contents ≡ None
 no_cause label contents h = ap (λ good. if good then None else Some (Index (first_fault label (bytes_at (sectors_of label) contents)))) (good_if (is_good label contents) h)
 
-pub some_cause : (label : FileLabel) (contents : List (List ℕ)) (bytes : List ℕ) (first : Option ℕ) → answer (is_good label contents) ≡ Err BadIndex → bytes ≡ bytes_at (sectors_of label) contents
+pub some_cause : (label : FileLabel) (contents : List (List ℕ)) (bytes : List ℕ) (first : Option WrongEntry) → answer (is_good label contents) ≡ Err BadIndex → bytes ≡ bytes_at (sectors_of label) contents
     → first ≡ first_fault label bytes → index_cause label contents ≡ Some (Index first)
 some_cause label contents bytes first h is is_first =
     ap (λ good. if good then None else Some (Index (first_fault label (bytes_at (sectors_of label) contents)))) (bad_if (is_good label contents) h)

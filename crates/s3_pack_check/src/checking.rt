@@ -1,15 +1,16 @@
 //! The pass over the slots of a pack.
-ghost use Rattle.std.specs.Prelude.{◌≡◌, ◌<◌, ◌≤◌, ◌*◌, ◌++◌, true, length, slice_get, Ok, OnOk, IfOk, IfErr};
+ghost use Rattle.std.specs.Prelude.{◌≡◌, ◌<◌, ◌≤◌, ◌*◌, ◌++◌, true, length, slice_get, Ok, OnOk, IfOk, IfErr, IfSome};
 ghost use Rattle.std.specs.List.{sum_by};
 ghost use Rattle.s3_store.specs.Bytes.{bytes_at};
 ghost use Rattle.s3_slots.specs.Inner.Kept.{IsOfPack};
 ghost use Rattle.s3_slots.specs.Labels.{sectors_of, is_indexed};
 ghost use Rattle.s3_slots.specs.Slots.{slot_bytes};
 ghost use Rattle.s3_labels.specs.Inner.Areas.{IsReady, slots_in};
+ghost use Rattle.s3_pack_check.specs.Inner.Damages.{first_damaged as first_damaged_spec};
 ghost use Rattle.s3_pack_check.specs.Inner.Wrongs.{index_cause as index_cause_spec, file_cause as file_cause_spec, cause_of as cause_of_spec, name_on as name_on_spec, slot_wrongs, area_wrongs, region_in, wrongs_on, told, IsRefused, fault_of as fault_of_spec};
 
-use crate::damage::{Damage, damage_of};
-use crate::entries::first_fault;
+use crate::damage::{Damage, damage_of, is_damaged};
+use crate::entries::{WrongEntry, first_fault};
 use crate::fault::CheckFault;
 use s3_cards::{LevelId, Name};
 use s3_files::{FileSectors, read_bytes};
@@ -23,8 +24,8 @@ use std::alloc::Global;
 pub enum Cause {
     /// The label can't be used.
     Label(Damage),
-    /// The index isn't that of the records; the first entry at fault, from 0.
-    Index(Option<u32>),
+    /// The index isn't that of the records; the first entry at fault.
+    Index(Option<WrongEntry>),
 }
 
 /// A slot with which something is wrong.
@@ -172,6 +173,27 @@ pub fn slots_of(areas: &AreaSlots, area: u16) -> &[Slot]
         0 => areas.masters(),
         1 => areas.slots(LevelId::One),
         _ => areas.slots(LevelId::Two),
+    }
+}
+
+/// The place of the first damaged slot, from 0.
+fn damaged_place(slots: &[Slot]) -> Option<usize>
+    ensures place { result ≡ first_damaged_spec slots.now }
+    ensures within { IfSome result (λ i. i < length slots.now) }
+{
+    slots.iter().position(|slot| is_damaged(slot))
+}
+
+/// The first damaged slot of an area, 0 to 31, if one is; an area is 0 for the masters, 1 and 2 for the levels. What a damaged slot
+/// holds can't be told, so nothing new may be written into the room of its area: it might be that of the slot's file.
+pub fn first_damaged(areas: &AreaSlots, area: u16) -> Option<u16>
+    requires { area < 3 }
+    ensures first { result ≡ first_damaged_spec (slots_in area areas.now) }
+    ensures within { IfSome result (λ slot. slot < 32) }
+{
+    match damaged_place(slots_of(areas, area)) {
+        Some(place) => Some(place as u16),
+        None => None,
     }
 }
 

@@ -176,7 +176,7 @@ fn field_damage(bytes: &[u8; 64]) -> Option<Damage>
 }
 
 /// Whether a slot is damaged.
-fn is_damaged(slot: &Slot) -> bool
+pub fn is_damaged(slot: &Slot) -> bool
     ensures { result ≡ is_damaged_spec slot.now }
 {
     match slot {

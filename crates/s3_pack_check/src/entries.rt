@@ -3,10 +3,30 @@ ghost use Rattle.std.specs.Prelude.{◌≡◌, ◌≤◌, ◌*◌, ◌/◌, ◌%
 ghost use Rattle.s3_store.specs.Bytes.{part};
 ghost use Rattle.s3_slots.specs.Slots.{record_sectors as record_sectors_spec, entries_per_sector as entries_spec};
 ghost use Rattle.s3_keyed.specs.Index.{entry_place as entry_place_spec, layout_of};
-ghost use Rattle.s3_pack_check.specs.Inner.Entries.{is_below as is_below_spec, entry_key, is_first_or_above as is_first_or_above_spec, has_key_of as has_key_spec, is_right as is_right_spec, first_fault as first_fault_spec};
+ghost use Rattle.s3_pack_check.specs.Inner.Entries.{is_below as is_below_spec, entry_key, entry_number as entry_number_spec, is_first_or_above as is_first_or_above_spec, has_key_of as has_key_spec, has_record as has_record_spec, flaw_of as flaw_spec, first_fault as first_fault_spec};
 
 use byteorder::{BigEndian, ByteOrder};
 use s3_labels::FileLabel;
+
+/// What is wrong with an entry of an index. Records are counted from 1.
+#[derive(Clone, Copy, Debug, PartialEq, Eq)]
+pub enum EntryFlaw {
+    /// Its key isn't above that of the entry before it.
+    Order,
+    /// It names this record, which the file doesn't have.
+    Record(u32),
+    /// Its key isn't that of this record, which it names.
+    Key(u32),
+}
+
+/// An entry of an index with which something is wrong.
+#[derive(Clone, Copy, Debug, PartialEq, Eq)]
+pub struct WrongEntry {
+    /// The place of the entry in the index, from 0.
+    pub place: u32,
+    /// What is wrong with it.
+    pub flaw: EntryFlaw,
+}
 
 /// Whether a key comes before another one of the same length, by its bytes.
 fn is_below(key: &[u8], other: &[u8]) -> bool
@@ -115,44 +135,67 @@ fn record_place(i: u32, record_length: u16) -> usize
     i as usize * usize::from(record_length)
 }
 
-/// Whether there is a record of this number, from 1, and has this key.
-fn has_key_of(label: &FileLabel, bytes: &[u8], number: u32, key: &[u8]) -> bool
-    requires { 1 ≤ label.now.key_start }
-    ensures { result ≡ has_key_spec label.now bytes.now number key.now }
+/// The number of the record that entry `i` names, from 1; 0 where the entry doesn't lie in the file.
+fn entry_number(label: &FileLabel, bytes: &[u8], i: u32) -> u32
+    requires { label.now.key_length ≤ 29 }
+    ensures { result ≡ entry_number_spec label.now bytes.now i }
 {
-    if number < 1 || number > label.count {
-        return false;
+    let at = entry_place(label, i) as usize + usize::from(label.key_length);
+    if bytes.len() < at + 4 {
+        return 0;
     }
-    let start = usize::from(label.key_start) - 1;
-    let at = record_place(number - 1, label.record_length) + start;
-    part_of(bytes, at, usize::from(label.key_length)) == key
+    BigEndian::read_u32(&bytes[at..])
 }
 
-/// Whether entry `i` of the index, from 0, is above the one before it, and has the number and the key of a record.
-fn is_right(label: &FileLabel, bytes: &[u8], i: u32) -> bool
+/// Whether the file has a record of this number, from 1.
+fn has_record(label: &FileLabel, number: u32) -> bool
+    ensures { result ≡ has_record_spec label.now number }
+{
+    1 <= number && number <= label.count
+}
+
+/// Whether entry `i` has the key of the record of this number.
+fn has_key_of(label: &FileLabel, bytes: &[u8], number: u32, i: u32) -> bool
     requires key { label.now.key_length ≤ 29 }
     requires start { 1 ≤ label.now.key_start }
-    ensures { result ≡ is_right_spec label.now bytes.now i }
+    requires number { 1 ≤ number }
+    ensures { result ≡ has_key_spec label.now bytes.now number i }
 {
-    let number_at = entry_place(label, i) as usize + usize::from(label.key_length);
-    if bytes.len() < number_at + 4 {
-        return false;
-    }
-    let number = BigEndian::read_u32(&bytes[number_at..]);
-    is_first_or_above(label, bytes, i)
-        && has_key_of(label, bytes, number, key_of_entry(label, bytes, i))
+    let start = usize::from(label.key_start) - 1;
+    let at = record_place(number - 1, label.record_length) + start;
+    part_of(bytes, at, usize::from(label.key_length)) == key_of_entry(label, bytes, i)
 }
 
-/// The first entry of an index that isn't right, from 0, by the bytes of its file.
+/// What is wrong with entry `i` of the index, from 0: its key isn't above that of the entry before it, it names no record of the
+/// file, or one with another key.
+fn flaw_of(label: &FileLabel, bytes: &[u8], i: u32) -> Option<EntryFlaw>
+    requires key { label.now.key_length ≤ 29 }
+    requires start { 1 ≤ label.now.key_start }
+    ensures { result ≡ flaw_spec label.now bytes.now i }
+{
+    if !is_first_or_above(label, bytes, i) {
+        return Some(EntryFlaw::Order);
+    }
+    let number = entry_number(label, bytes, i);
+    if !has_record(label, number) {
+        return Some(EntryFlaw::Record(number));
+    }
+    if !has_key_of(label, bytes, number, i) {
+        return Some(EntryFlaw::Key(number));
+    }
+    None
+}
+
+/// The first entry of an index with which something is wrong, by the bytes of its file.
 #[tactic(auto, unfolding(crate::specs::Inner::Entries::first_fault))]
-pub fn first_fault(label: &FileLabel, bytes: &[u8]) -> Option<u32>
+pub fn first_fault(label: &FileLabel, bytes: &[u8]) -> Option<WrongEntry>
     requires key { label.now.key_length ≤ 29 }
     requires start { 1 ≤ label.now.key_start }
     ensures { result ≡ first_fault_spec label.now bytes.now }
 {
     for i in 0..label.count {
-        if !is_right(label, bytes, i) {
-            return Some(i);
+        if let Some(flaw) = flaw_of(label, bytes, i) {
+            return Some(WrongEntry { place: i, flaw });
         }
     }
     None

@@ -16,8 +16,11 @@ mod fault;
 mod laws;
 mod words;
 
-pub use checking::{Cause, Wrong, check_pack, file_bytes, region_of, sector_count, slots_of};
+pub use checking::{
+    Cause, Wrong, check_pack, file_bytes, first_damaged, region_of, sector_count, slots_of,
+};
 pub use damage::{Damage, damage_of};
+pub use entries::{EntryFlaw, WrongEntry};
 pub use fault::CheckFault;
 pub use laws::nothing_is_told_of_a_sound_pack;
 pub use words::push_cause;

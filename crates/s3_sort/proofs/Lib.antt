@@ -1,3 +1,5 @@
 pub mod Arranged
+pub mod Ranks
+pub mod Refusals
 pub mod RowLemmas
 pub mod SortedPacks

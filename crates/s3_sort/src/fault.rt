@@ -25,6 +25,11 @@ pub enum SortFault {
 }
 
 impl From<CareFault> for SortFault {
+    ghost use Rattle.std.specs.Prelude.{◌≡◌};
+    ghost use Rattle.s3_sort.specs.Inner.Sorted.{of_care};
+
+    ghost from_gives = { λ fault new. new ≡ of_care fault };
+
     fn from(fault: CareFault) -> Self {
         match fault {
             CareFault::Mount(fault) => SortFault::Mount(fault),

@@ -1,5 +1,5 @@
 //! The records of a file beside their keys.
-ghost use Rattle.std.specs.Prelude.{◌≡◌, ◌<◌, length, map, slice_get, slice_set, Some, OnOk, IfOk, true};
+ghost use Rattle.std.specs.Prelude.{◌≡◌, ◌<◌, length, map, slice_get, slice_set, Some, OnOk, IfOk, IfErr, true};
 ghost use Rattle.std.specs.List.{All};
 ghost use Rattle.s3_files.specs.Inner.Files.{AreStored, records};
 ghost use Rattle.s3_sort.specs.Inner.Keys.{fits};
@@ -95,6 +95,7 @@ fn row_at(
     ensures long { IfOk result (λ row. length row.bytes.items ≡ file.now.record_length) }
     ensures key { IfOk result (IsKeyed fields.now) }
     ensures keeps { store.new ≡ store.old }
+    ensures fault { IfErr result (λ fault. fault ≡ SortFault.NoMemory) }
 {
     let mut bytes = vec![in alloc; 0; usize::from(file.record_length)]?;
     // a store in memory never fails
@@ -119,6 +120,7 @@ pub fn rows_of(
     ensures long { IfOk result (λ rows. All (λ row. length row.bytes.items ≡ file.now.record_length) rows.items) }
     ensures keys { IfOk result (λ rows. All (IsKeyed fields.now) rows.items) }
     ensures keeps { store.new ≡ store.old }
+    ensures fault { IfErr result (λ fault. fault ≡ SortFault.NoMemory) }
 {
     let mut rows = Vec::with_capacity(alloc, file.len() as usize)?;
     for i in 0..file.len() {
@@ -134,6 +136,7 @@ fn put_row(store: &mut MemoryStore, file: &Sequential, i: u32, row: &Row) -> Res
     ensures ok { OnOk result (records (shape_of file.now) store.new ≡ slice_set (records (shape_of file.now) store.old) i row.now.bytes.items) }
     ensures count { length store.new ≡ length store.old }
     ensures others { ChangesSectors file.now.sectors store.old store.new }
+    ensures fault { IfErr result (λ fault. fault ≡ SortFault.NoMemory) }
 {
     match file.put(store, i, &row.bytes) {
         Ok(()) => Ok(()),
@@ -158,6 +161,7 @@ pub fn write_rows(store: &mut MemoryStore, file: &Sequential, rows: &[Row]) -> R
     ensures ok { OnOk result (records (shape_of file.now) store.new ≡ map (λ row. row.bytes.items) rows.now) }
     ensures count { length store.new ≡ length store.old }
     ensures others { ChangesSectors file.now.sectors store.old store.new }
+    ensures fault { IfErr result (λ fault. fault ≡ SortFault.NoMemory) }
 {
     for i in 0..file.len() {
         put_row(store, file, i, row_of(rows, i))?;

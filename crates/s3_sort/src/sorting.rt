@@ -1,8 +1,6 @@
 //! A file sorted.
-ghost use Rattle.std.specs.Prelude.{◌≡◌, ◌<◌, length, true, Ok, IfOk, OnOk, IfNone};
+ghost use Rattle.std.specs.Prelude.{◌≡◌, ◌<◌, length, true, IfOk, IfErr, OnOk, IfNone, IfSome};
 ghost use Rattle.std.specs.List.{All};
-ghost use Rattle.s3_slots.specs.Header.{mounted};
-ghost use Rattle.s3_slots.specs.declared.header.Header.{Header};
 ghost use Rattle.s3_slots.specs.Inner.Kept.{IsOfPack};
 ghost use Rattle.s3_slots.specs.Labels.{sectors_of};
 ghost use Rattle.s3_slots.specs.declared.label.Organization.TheVariants.{Sequential as SequentialVariant};
@@ -10,7 +8,7 @@ ghost use Rattle.s3_labels.specs.Contents.{contents_of};
 ghost use Rattle.s3_files.specs.Inner.Files.{AreStored, records};
 ghost use Rattle.s3_sort.specs.Inner.Keys.{fits, key_of};
 ghost use Rattle.s3_sort.specs.Inner.Rows.{ChangesSectors, shape_of};
-ghost use Rattle.s3_sort.specs.Inner.Sorted.{IsArranged, IsSortedIn, records_of};
+ghost use Rattle.s3_sort.specs.Inner.Sorted.{IsArranged, IsFirstMisfit, IsSorted, RefusesFile, RefusesSort, records_of};
 
 use crate::fault::SortFault;
 use crate::fields::SortField;
@@ -26,7 +24,8 @@ use std::alloc::Global;
 
 /// The first field that doesn't fit records of this length, by its place from 0.
 fn first_misfit(fields: &[SortField], record_length: u16) -> Option<usize>
-    ensures { IfNone result (All (λ field. fits field record_length ≡ true) fields.now) }
+    ensures none { IfNone result (All (λ field. fits field record_length ≡ true) fields.now) }
+    ensures first { IfSome result (IsFirstMisfit fields.now record_length) }
 {
     for i in 0..fields.len() {
         if !fields[i].fits(record_length) {
@@ -48,6 +47,7 @@ fn sort_file(
     ensures sorted { OnOk result (IsArranged (key_of fields.now) (records (shape_of file.now) store.old) (records (shape_of file.now) store.new)) }
     ensures count { length store.new ≡ length store.old }
     ensures others { ChangesSectors file.now.sectors store.old store.new }
+    ensures fault { IfErr result (λ fault. fault ≡ SortFault.NoMemory) }
 {
     let mut rows = rows_of(alloc, store, file, fields)?;
     rows.sort()?;
@@ -55,7 +55,9 @@ fn sort_file(
     Ok(())
 }
 
-/// Sorts the file of a label, if its records are in order and the fields fit them.
+/// Sorts the file of a label, if its records are in order and the fields fit them. Refused with `NotInOrder`, with `Field`, and with
+/// `NoMemory`.
+#[tactic(auto, using(crate::proofs::Refusals::memory_file))]
 fn sort_label(
     alloc: Global,
     store: &mut MemoryStore,
@@ -64,9 +66,11 @@ fn sort_label(
 ) -> Result<(), SortFault>
     requires { IsOfPack (length store.old) label.now }
     ensures in_order { OnOk result (label.now.organization ≡ SequentialVariant) }
+    ensures within { OnOk result (All (λ field. fits field label.now.record_length ≡ true) fields.now) }
     ensures sorted { OnOk result (IsArranged (key_of fields.now) (records_of label.now store.old) (records_of label.now store.new)) }
     ensures count { length store.new ≡ length store.old }
     ensures others { ChangesSectors (sectors_of label.now) store.old store.new }
+    ensures refused { IfErr result (RefusesFile fields.now label.now) }
 {
     match label.organization {
         Organization::Sequential => (),
@@ -92,7 +96,8 @@ pub fn sort(
     fields: &[SortField],
 ) -> Result<Vec<u8>, SortFault>
     requires { area < 3 }
-    ensures { IfOk result (λ new. (header : Header) → mounted (contents_of pack.items) ≡ Ok header → IsSortedIn area name fields.now header (contents_of pack.items) (contents_of new.items)) }
+    ensures sorted { IfOk result (λ new. IsSorted area name fields.now (contents_of pack.items) (contents_of new.items)) }
+    ensures refused { IfErr result (RefusesSort area name fields.now (contents_of pack.items)) }
 {
     let MountedPack { mut store, areas } = mount(alloc, MemoryStore::from_bytes(pack))?;
     match standing_of(name, slots_of(&areas, area)) {

@@ -1,5 +1,6 @@
 -- What stays of a pack where a file of it is deleted, or one is added.
-use Rattle.std.specs.Prelude.{◌≡◌, ◌≢◌, ◌<◌, ◌+◌, ◌*◌, ◌/◌, ℕ, Bool, true, false, List, slice_get, Option, Some, None, Ok, Err, ⊤}
+use Rattle.std.specs.Prelude.{◌≡◌, ◌≢◌, ◌<◌, ◌+◌, ◌*◌, ◌/◌, ◌%◌, ℕ, Bool, true, false, List, slice_get, Option, Some, Ok, Err, ⊤}
+use Rattle.s3_store.specs.Inner.Bytes.{with_piece}
 use Rattle.s3_slots.specs.Header.{mounted}
 use Rattle.s3_slots.specs.Labels.{file_bytes}
 use Rattle.s3_slots.specs.Slots.{labels_at, slot_bytes}
@@ -11,7 +12,7 @@ use Rattle.s3_labels.specs.Inner.Areas.{Areas, areas_on, slots_in}
 use Rattle.s3_labels.specs.declared.fault.Refusal.{Refusal}
 use Rattle.s3_labels.specs.declared.fault.Refusal.TheVariants.{BadPack, Sectors}
 use Rattle.s3_pack_care.specs.declared.fault.CareFault.{CareFault}
-use Rattle.s3_pack_care.specs.declared.fault.CareFault.TheVariants.{Mount, NoMemory}
+use Rattle.s3_pack_care.specs.declared.fault.CareFault.TheVariants.{Mount, NoMemory, Uncovers}
 
 -- ---- slots as they are judged
 abbrev pub same_kind : Slot → Slot → Bool
@@ -32,7 +33,14 @@ fault_of (Sectors fault) = NoMemory
 -- a pack is refused by its header; nothing is said of memory
 abbrev pub IsMountRefusal : List (List ℕ) → CareFault → Type 0
 IsMountRefusal contents (Mount fault) = mounted contents ≡ Err fault
-IsMountRefusal contents _ = ⊤
+IsMountRefusal contents NoMemory = ⊤
+IsMountRefusal contents _ = ⊥
+
+-- these sectors are mounted, and this is so of the areas on them
+pub record AreOn (contents : List (List ℕ)) (are : Areas → Type 0) : Type 0 where
+  pub header : Header
+  pub mounts : mounted contents ≡ Ok header
+  pub so : are (areas_on header contents)
 
 -- these sectors are mounted as these areas
 pub record IsMounted (areas : Areas) (contents : List (List ℕ)) : Type 0 where
@@ -56,6 +64,22 @@ pub record IsRelabelled (area slot : ℕ) (bytes : List ℕ) (header : Header) (
   pub own : slot_bytes area new slot ≡ bytes
   pub others : (a i : ℕ) → IsOther area slot a i → slot_on header new a i ≡ slot_on header old a i
   pub sectors : (n : ℕ) → n ≢ labels_at area + slot / 4 → slice_get new n ≡ slice_get old n
+
+-- slot i of one of the three areas, but for the one that is written, isn't of the kind that it was
+pub record IsChanged (area slot : ℕ) (old new : Areas) (i : ℕ) : Type 0 where
+  pub in_area : ℕ
+  pub is : IsOther area slot in_area i
+  pub unlike : alike (slice_get (slots_in in_area old) i) (slice_get (slots_in in_area new) i) ≡ false
+
+-- the sectors with these bytes in a slot
+abbrev pub with_slot : (area slot : ℕ) → List ℕ → List (List ℕ) → List (List ℕ)
+with_slot area slot bytes contents = with_piece contents (labels_at area + slot / 4) (slot % 4 * 64) bytes
+
+-- a slot isn't written where another one would not be what it was; nothing is said of memory
+abbrev pub RefusesWritten : (area slot : ℕ) → List ℕ → Header → List (List ℕ) → CareFault → Type 0
+RefusesWritten area slot bytes header old (Uncovers other) = IsChanged area slot (areas_on header old) (areas_on header (with_slot area slot bytes old)) other
+RefusesWritten area slot bytes header old NoMemory = ⊤
+RefusesWritten area slot bytes header old _ = ⊥
 
 -- ---- what a call leaves
 -- a slot is as it was, and its file has the same bytes

@@ -44,6 +44,10 @@ is_damaged (Damaged name) = true
 is_damaged Free = false
 is_damaged (Sound label) = false
 
+-- the first damaged slot of an area, if one is: what it holds can't be told
+abbrev pub first_damaged : List Slot → Option ℕ
+first_damaged slots = position_from is_damaged 0 slots
+
 -- a label that would be sound without the slots before it repeats the label of one of them, or overlaps it
 abbrev pub neighbour_damage : Option Name → List Slot → Damage
 neighbour_damage None earlier = Overlap

@@ -2,7 +2,6 @@ use Rattle.std.proofs.Common.{ℕ, List, length, sym, ap, subst, arith}
 use Rattle.s3_slots.specs.Labels.{sectors_of}
 use Rattle.s3_files.specs.Inner.Files.{AreStored}
 use Rattle.s3_files.proofs.Rooms.{of_pack_room, of_pack_stored}
-use Rattle.s3_pack_care.proofs.Copies.{written_whole, written_sectors}
 use Rattle.s3_pack_care.proofs.copying.write_file.Goals as goal
 
 pub of-requires-clause-small : goal.of-requires-clause-small

@@ -1,7 +1,7 @@
-use Rattle.std.proofs.Common.{◌≡◌, ◌-◌, not}
+use Rattle.std.proofs.Common.{◌≡◌, ◌-◌}
 use Rattle.std.specs.List.{range_with_len}
-use Rattle.s3_pack_check.specs.Inner.Entries.{first_fault, first_where, is_right}
+use Rattle.s3_pack_check.specs.Inner.Entries.{first_fault, first_of, wrong_entry}
 use Rattle.s3_pack_check.proofs.entries.first_fault.Given as goal
 
 abbrev pub invariant-loop-i : goal.invariant-loop-i
-invariant-loop-i l = first_where (λ i. not (is_right l.label l.bytes i)) (range_with_len l.i (l.label.count - l.i)) ≡ first_fault l.label l.bytes
+invariant-loop-i l = first_of (wrong_entry l.label l.bytes) (range_with_len l.i (l.label.count - l.i)) ≡ first_fault l.label l.bytes

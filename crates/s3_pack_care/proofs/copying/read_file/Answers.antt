@@ -1,0 +1,14 @@
+use Rattle.std.proofs.Common.{sym, ap, ◌∙◌}
+use Rattle.s3_slots.specs.Slots.{standing}
+use Rattle.s3_pack_care.proofs.Copies.{on_pack_by_name, source_read}
+use Rattle.s3_pack_care.proofs.copying.read_file.Goals as goal
+
+pub file_bytes-requires : goal.file_bytes-requires
+file_bytes-requires c = record {
+  on_pack = on_pack_by_name c.args.area c.args.areas.now c.args.store.now c.args.name c.in-Present.label c.requires.area (sym (c.standing_of.ensures ∙ ap (standing c.args.name) c.slots_of.ensures.slots) ∙ c.in-Present.is) c.requires.ready;
+}
+
+pub returns-in-Ok-clause-source : goal.returns-in-Ok-clause-source
+returns-in-Ok-clause-source c =
+    source_read c.args.area c.args.areas.now c.args.store.now c.args.name c.in-Present.label c.in-Ok.bytes.items c.slots_of.result.now c.standing_of.result c.requires.area c.slots_of.ensures.slots c.standing_of.ensures
+    c.in-Present.is c.requires.mounted c.requires.ready c.in-Ok.ensures.ok
