@@ -10,7 +10,7 @@
 //!   them are those of the value that they show (`what_is_shown_is_taken`), and a cell of a value reads as that value
 //!   (`a_cell_reads_back`).
 //!
-//! Only tested: the words of faults.
+//! Only tested: which fault a cell that isn't taken is told by, the position of a byte without a character, and the words of faults.
 #![tactic(auto)]
 
 mod fault;

@@ -6,17 +6,23 @@ use Rattle.csv.proofs.RecordFacts.{field-get, field-there}
 use Rattle.std.specs.List.{list_all, list_any, range_with_len}
 use Rattle.std.proofs.lemmas.List.{get_or-take, get_or_append_left, get_or_default, get_or_push, length-append, length-take-le}
 use Rattle.std.proofs.lemmas.List.Elements.{filter_more}
-use Rattle.std.proofs.lemmas.List.Folds.{list_any_at, list_any_more}
+use Rattle.std.proofs.lemmas.List.Folds.{list_all_more, list_any_at, list_any_more}
 use Rattle.std.proofs.lemmas.Bool.{cases_Bool, cases_eq}
 use Rattle.std.proofs.Math.Bool.{and-true}
 use Rattle.s3_cells.specs.declared.field.Field.{Field}
 use Rattle.s3_unload.specs.Inner.Tables.{name_text}
-use Rattle.s3_load.specs.Inner.Columns.{AddsColumn, AreNamed, IsNamed, LieApart, bare, is_covered, is_inside, left_out, overlap}
+use Rattle.s3_load.specs.Inner.Columns.{AddsColumn, AreNamed, IsNamed, LieApart, bare, is_clear, is_covered, is_inside, is_number, left_out, overlap}
 
 -- what has one more isn't empty
 pub more_is_some : {X : Type 0} (xs ys : List X) (x : X) (P : Type 0) → ys ≡ xs ++ x ∷ [] → ys ≡ [] → P
 more_is_some [] ys x P e none = absurd cc
 more_is_some (y ∷ xs) ys x P e none = absurd cc
+
+pub none_told : {X : Type 0} (xs : List X) (P : Type 0) → 0 < length xs → xs ≡ [] → P
+none_told xs P some none = absurd (omega (arith, some, ap length none))
+
+pub all_of_none : (p : Field → Bool) (xs : List Field) → xs ≡ [] → list_all p xs ≡ true
+all_of_none p xs none = ap (list_all p) none
 
 -- ---- cells
 pub some_cell : (fields : List (List ℕ)) (i : ℕ) (x : List ℕ) → Some x ≡ field_at fields i → x ≡ get_or fields i []
@@ -55,6 +61,18 @@ pub one_more_beside : (others : List Field) (field : Field) (i : ℕ) (o : Field
     → list_any (λ other. overlap other field) (take (i + 1) others) ≡ false
 one_more_beside others field i o h is before one =
     list_any_more (λ other. overlap other field) others i o h ∙ ap₂ (λ a b. a || b) before (sym (ap (λ other. overlap other field) is) ∙ one)
+
+-- ---- numbers that can be 0
+pub clear_text : (columns : List Field) (field : Field) → is_number field.kind ≡ false → is_clear columns field ≡ true
+clear_text columns field h = ap (λ b. not (b && list_any (λ other. overlap other field) columns)) h
+
+pub clear_number : (columns : List Field) (field : Field) → list_any (λ other. overlap other field) columns ≡ false → is_clear columns field ≡ true
+clear_number columns field h = ap (λ b. not (is_number field.kind && b)) h ∙ elim (is_number field.kind) as (λ b. not (b && false) ≡ true) [ true ↦ refl | false ↦ refl ]
+
+pub one_more_clear : (columns fields : List Field) (i : ℕ) (f : Field) → i < length fields → f ≡ get_or fields i f → list_all (is_clear columns) (take i fields) ≡ true → is_clear columns f ≡ true
+    → list_all (is_clear columns) (take (i + 1) fields) ≡ true
+one_more_clear columns fields i f h is before one =
+    list_all_more (is_clear columns) fields i f h ∙ ap₂ (λ a b. a && b) before (sym (ap (is_clear columns) is) ∙ one)
 
 -- no two of the first so many lie over each other
 abbrev pub ApartBelow : List Field → ℕ → Type 0

@@ -1,10 +1,10 @@
 -- Files that records are put into, one behind another.
-use Rattle.std.proofs.Common.{◌≡◌, ℕ, ◌+◌, ◌<◌, ◌≤◌, refl, arith, sym, ◌∙◌, ap, ap₂, subst, Bool, true, false, cond, nat_eq, nat_lt, List, [], ◌∷◌, ◌++◌, length, take, get_or, append_assoc}
+use Rattle.std.proofs.Common.{◌≡◌, ℕ, ◌+◌, ◌<◌, ◌≤◌, refl, arith, sym, ◌∙◌, ap, ap₂, subst, Bool, true, false, cond, nat_eq, nat_lt, List, [], ◌∷◌, ◌++◌, length, take, get_or, slice_get, append_assoc}
 use Rattle.std.specs.Prelude.{Result, Ok, Err}
 use Rattle.std.proofs.lemmas.List.{append-nil, length-append, map-append, take_all, take_more}
-use Rattle.std.specs.List.{list_all, list_any}
+use Rattle.std.specs.List.{Contains, list_all, list_any}
 use Rattle.s3_store.specs.Bytes.{bytes_at}
-use Rattle.s3_store.specs.Inner.State.{PoolState}
+use Rattle.s3_store.specs.Inner.State.{ChangesWithin, KeepsContents, PoolState}
 use Rattle.s3_slots.specs.Labels.{file_bytes, sectors_of}
 use Rattle.s3_slots.specs.declared.label.FileLabel.{FileLabel}
 use Rattle.s3_files.specs.Records.{records_in, with_last}
@@ -22,7 +22,7 @@ use Rattle.s3_files.specs.declared.fault.FileFault.TheVariants.{Full}
 use Rattle.s3_keyed.specs.declared.keyed.Keyed.{Keyed}
 use Rattle.s3_unload.specs.Inner.Ordered.{in_order}
 use Rattle.s3_load.specs.declared.rows.Row.{Row}
-use Rattle.s3_load.specs.Inner.Filling.{AddsByKey, AddsRecord, HasGoodIndex, HasMore, IsAtWork, IsFilled, counted, records_of}
+use Rattle.s3_load.specs.Inner.Filling.{AddsByKey, AddsRecord, ChangesOnly, HasGoodIndex, HasMore, IsAtWork, IsFilled, counted, records_of}
 
 -- the records of rows, one more
 records_more : (rows : List Row) (i : ℕ) (row : Row) → i < length rows → row ≡ get_or rows i row → records_of (take (i + 1) rows) ≡ records_of (take i rows) ++ row.bytes.items ∷ []
@@ -40,6 +40,24 @@ counted_is label count contents = refl
 
 counted_long : (label : FileLabel) (contents : List (List ℕ)) → length (in_order label contents) ≡ label.count
 counted_long label contents = ap length (in_order_is label contents) ∙ length_records label.record_length label.count (bytes_at (sectors_of label) contents)
+
+-- ---- sectors that stay
+pub only_same : (sectors : List ℕ) (contents : List (List ℕ)) → ChangesOnly sectors contents contents
+only_same sectors contents = record { others = λ n out. refl }
+
+pub only_within : (sectors of : List ℕ) (old new : PoolState) → of ≡ sectors → ChangesWithin (Contains of) old new → ChangesOnly sectors old.contents new.contents
+only_within sectors of old new same within = record { others = λ n out. within.contents n (λ has. out (subst (λ s. Contains s n) same has)) }
+
+pub only_kept : (sectors : List ℕ) (old new : PoolState) → KeepsContents old new → ChangesOnly sectors old.contents new.contents
+only_kept sectors old new keeps = record { others = λ n out. ap (λ contents. slice_get contents n) keeps.contents }
+
+pub only_more : (sectors of : List ℕ) (old middle new : List (List ℕ)) → of ≡ sectors → ChangesOnly sectors old middle → ChangesOnly of middle new → ChangesOnly sectors old new
+only_more sectors of old middle new same before after = record { others = λ n out. after.others n (λ has. out (subst (λ s. Contains s n) same has)) ∙ before.others n out }
+
+-- a file that was opened, filled and closed
+pub only_closed : (sectors of : List ℕ) (begun opened : List (List ℕ)) (old new : PoolState) → opened ≡ begun → of ≡ sectors → ChangesOnly sectors opened old.contents → ChangesWithin (Contains of) old new → ChangesOnly sectors begun new.contents
+only_closed sectors of begun opened old new same own before within =
+    subst (λ s. ChangesOnly sectors s new.contents) same (only_more sectors sectors opened old.contents new.contents refl before (only_within sectors of old new own within))
 
 -- ---- without an index
 pub none_filled : (file : Sequential) (label : FileLabel) (contents : List (List ℕ)) → file.sectors ≡ sectors_of label → file.record_length ≡ label.record_length → file.count ≡ label.count → IsFilled file label [] contents contents

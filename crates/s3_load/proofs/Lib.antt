@@ -1,5 +1,11 @@
 pub mod ColumnLemmas
+pub mod CountedSlots
 pub mod FillLemmas
+pub mod KeyLemmas
+pub mod LoadedPacks
+pub mod PlacedFiles
 pub mod RecordLemmas
 pub mod RowLaws
 pub mod TableLemmas
+pub mod UndamagedSlots
+pub mod WholePacks

@@ -22,8 +22,8 @@ use Rattle.s3_cells.specs.declared.fault.CellFault.{CellFault}
 use Rattle.s3_cells.specs.declared.field.Field.{Field}
 use Rattle.s3_cells.specs.declared.kind.FieldKind.{FieldKind}
 use Rattle.s3_cells.specs.declared.kind.FieldKind.TheVariants.{Text as TextKind, Zoned, Packed}
-use Rattle.s3_load.specs.Inner.Columns.{AreNamed, LieApart, has_byte, is_covered, is_inside, left_out, overlap}
-use Rattle.s3_load.specs.Inner.Records.{HasTaken, IsRecordOf, empty_record, is_number, with_zero, with_zeros}
+use Rattle.s3_load.specs.Inner.Columns.{AreNamed, LieApart, has_byte, is_covered, is_inside, is_number, left_out, overlap}
+use Rattle.s3_load.specs.Inner.Records.{HasTaken, IsRecordOf, empty_record, with_zero, with_zeros}
 
 pub field_lies : (fields : List Field) (n i : ℕ) (f : Field) → All (LiesIn n) fields → i < length fields → f ≡ get_or fields i f → LiesIn n f
 field_lies fields n i f all h is = subst (LiesIn n) (sym is) (All-get_or (LiesIn n) fields i f h all)

@@ -2,4 +2,6 @@
 pub mod Columns
 pub mod Records
 pub mod Filling
+pub mod KeyOrder
+pub mod Loaded
 pub mod Tables

@@ -1,16 +1,19 @@
 //! The columns of a table, by its heading.
-ghost use Rattle.std.specs.Prelude.{◌≡◌, ◌<◌, ◌≤◌, ◌⊎◌, ◌↔◌, ◌++◌, [], true, false, drop, length, map, get_or, OnOk, IfOk, IfSome, IsTrue};
-ghost use Rattle.std.specs.List.{list_any, prefix_len};
+ghost use Rattle.std.specs.Prelude.{◌≡◌, ◌<◌, ◌≤◌, ◌⊎◌, ◌↔◌, ◌++◌, [], true, false, drop, length, map, get_or, OnOk, IfNone, IfOk, IfSome, IsTrue};
+ghost use Rattle.std.specs.List.{list_all, list_any, prefix_len};
 ghost use Rattle.csv.specs.Records.{fields_of};
 ghost use Rattle.s3_cells.specs.Inner.Texts.{shown_byte};
 ghost use Rattle.s3_unload.specs.Inner.Tables.{name_text};
-ghost use Rattle.s3_load.specs.Inner.Columns.{AddsColumn, AreNamed, IsHeading, IsNamed, LieApart, bare as bare_spec, has_byte as has_byte_spec, is_blank, is_covered as is_covered_spec, is_inside as is_inside_spec, left_out, overlap};
+ghost use Rattle.s3_load.specs.Inner.Columns.{AddsColumn, AreNamed, IsHeading, IsNamed, LieApart, bare as bare_spec, has_byte as has_byte_spec, is_blank, is_clear, is_covered as is_covered_spec, is_inside as is_inside_spec, is_number as is_number_spec, left_out, overlap};
 
 use crate::fault::{HeadingFault, LoadFault};
 use csv::ByteRecord;
 use s3_cards::{Name, host_byte, word_len};
-use s3_cells::{Field, trimmed};
+use s3_cells::{Field, FieldKind, trimmed};
 use std::alloc::{AllocError, Global};
+
+/// How many faults of a heading are kept.
+const MOST_FAULTS: usize = 100;
 
 /// The field of each column, and the fields that no column has and that get a blank or 0.
 #[derive(Drop)]
@@ -21,7 +24,7 @@ pub struct Columns {
     pub filled: Vec<Field>,
 }
 
-/// The columns that a heading names. Refused with all that is wrong with it.
+/// The columns that a heading names. Refused with all that is wrong with it, the first hundred of it.
 pub fn read_columns(
     alloc: Global,
     heading: &ByteRecord,
@@ -34,7 +37,7 @@ pub fn read_columns(
     let named = named_fields(alloc, heading, fields, &mut faults)?;
     find_overlaps(&named, &mut faults)?;
     let missing = missing_fields(alloc, fields, &named)?;
-    tell_missing(&missing, fills, &mut faults)?;
+    tell_missing(&missing, &named, fills, &mut faults)?;
     if faults.is_empty() {
         Ok(Columns {
             fields: named,
@@ -64,8 +67,19 @@ fn named_fields(
     Ok(named)
 }
 
+/// Adds a fault, if there aren't a hundred yet.
+fn tell(faults: &mut Vec<HeadingFault>, fault: HeadingFault) -> Result<(), AllocError>
+    ensures { OnOk result (0 < length faults.new.items) }
+{
+    if faults.len() >= MOST_FAULTS {
+        return Ok(());
+    }
+    faults.push(fault)?;
+    Ok(())
+}
+
 /// Adds the field that a cell of a heading names, or that it names none, or one for the second time.
-#[tactic(auto, using(crate::proofs::ColumnLemmas::more_is_some))]
+#[tactic(auto, using(crate::proofs::ColumnLemmas::none_told))]
 fn name_column(
     alloc: Global,
     fields: &[Field],
@@ -80,10 +94,13 @@ fn name_column(
     match field_named(fields, cell) {
         None => {
             let text = Vec::from_slice(alloc, cell)?;
-            faults.push(HeadingFault::Unknown(column.saturating_add(1), text))?;
+            tell(
+                faults,
+                HeadingFault::Unknown(column.saturating_add(1), text),
+            )?;
         }
         Some(field) if has_name(named, field.name) => {
-            faults.push(HeadingFault::Twice(field.name))?;
+            tell(faults, HeadingFault::Twice(field.name))?;
         }
         Some(field) => named.push(field)?,
     }
@@ -181,8 +198,8 @@ fn find_overlaps(named: &[Field], faults: &mut Vec<HeadingFault>) -> Result<(), 
     Ok(())
 }
 
-/// Tells of each of some fields that lies over this one.
-#[tactic(auto, using(crate::proofs::ColumnLemmas::one_more_beside))]
+/// Tells of the first of some fields that lies over this one.
+#[tactic(auto, using(crate::proofs::ColumnLemmas::none_told))]
 fn tell_overlaps(
     field: &Field,
     others: &[Field],
@@ -191,26 +208,23 @@ fn tell_overlaps(
     ensures beside { OnOk result (faults.new.items ≡ [] → list_any (λ other. overlap other field.now) others.now ≡ false) }
     ensures before { OnOk result (faults.new.items ≡ [] → faults.old.items ≡ []) }
 {
-    for other in others {
-        tell_overlap(field, other, faults)?;
+    match first_over(field, others) {
+        Some(other) => tell(faults, HeadingFault::Overlap(other.name, field.name)),
+        None => Ok(()),
     }
-    Ok(())
 }
 
-/// Tells of two fields that lie over each other.
-#[tactic(auto, using(crate::proofs::ColumnLemmas::more_is_some))]
-fn tell_overlap(
-    field: &Field,
-    other: &Field,
-    faults: &mut Vec<HeadingFault>,
-) -> Result<(), AllocError>
-    ensures beside { OnOk result (faults.new.items ≡ [] → overlap other.now field.now ≡ false) }
-    ensures before { OnOk result (faults.new.items ≡ [] → faults.old.items ≡ []) }
+/// The first of some fields that lies over this one.
+#[tactic(auto, using(crate::proofs::ColumnLemmas::one_more_beside))]
+fn first_over(field: &Field, others: &[Field]) -> Option<Field>
+    ensures { IfNone result (list_any (λ other. overlap other field.now) others.now ≡ false) }
 {
-    if do_overlap(other, field) {
-        faults.push(HeadingFault::Overlap(other.name, field.name))?;
+    for other in others {
+        if do_overlap(other, field) {
+            return Some(*other);
+        }
     }
-    Ok(())
+    None
 }
 
 /// Whether two fields have a byte in common.
@@ -239,23 +253,72 @@ fn missing_fields(
     Ok(missing)
 }
 
-/// Tells of the fields that are missing, if they aren't to be filled.
-#[tactic(auto, using(crate::proofs::ColumnLemmas::more_is_some))]
+/// Tells of the fields that are missing; where they are to be filled, of the numbers among them that lie partly under a field that
+/// is named, and so can't be 0.
+#[tactic(auto, using(crate::proofs::ColumnLemmas::none_told, crate::proofs::ColumnLemmas::all_of_none))]
 fn tell_missing(
     missing: &[Field],
+    named: &[Field],
     fills: bool,
     faults: &mut Vec<HeadingFault>,
 ) -> Result<(), AllocError>
     ensures allowed { OnOk result (faults.new.items ≡ [] → (fills ≡ true) ⊎ (missing.now ≡ [])) }
+    ensures clear { OnOk result (faults.new.items ≡ [] → list_all (is_clear named.now) missing.now ≡ true) }
     ensures before { OnOk result (faults.new.items ≡ [] → faults.old.items ≡ []) }
 {
     if fills {
+        tell_all_under(missing, named, faults)?;
         return Ok(());
     }
     for field in missing {
-        faults.push(HeadingFault::Missing(field.name))?;
+        tell(faults, HeadingFault::Missing(field.name))?;
     }
     Ok(())
+}
+
+/// Tells of the numbers among some fields that lie under ones that are named.
+#[tactic(auto, using(crate::proofs::ColumnLemmas::one_more_clear))]
+fn tell_all_under(
+    missing: &[Field],
+    named: &[Field],
+    faults: &mut Vec<HeadingFault>,
+) -> Result<(), AllocError>
+    ensures clear { OnOk result (faults.new.items ≡ [] → list_all (is_clear named.now) missing.now ≡ true) }
+    ensures before { OnOk result (faults.new.items ≡ [] → faults.old.items ≡ []) }
+{
+    for field in missing {
+        tell_under(field, named, faults)?;
+    }
+    Ok(())
+}
+
+/// Tells of a field that is a number and lies under one that is named.
+#[tactic(auto, using(crate::proofs::ColumnLemmas::none_told, crate::proofs::ColumnLemmas::clear_text, crate::proofs::ColumnLemmas::clear_number))]
+fn tell_under(
+    field: &Field,
+    named: &[Field],
+    faults: &mut Vec<HeadingFault>,
+) -> Result<(), AllocError>
+    ensures clear { OnOk result (faults.new.items ≡ [] → is_clear named.now field.now ≡ true) }
+    ensures before { OnOk result (faults.new.items ≡ [] → faults.old.items ≡ []) }
+{
+    if !is_number(field.kind) {
+        return Ok(());
+    }
+    match first_over(field, named) {
+        Some(other) => tell(faults, HeadingFault::Under(field.name, other.name)),
+        None => Ok(()),
+    }
+}
+
+/// Whether a field of this form is a number.
+pub fn is_number(kind: FieldKind) -> bool
+    ensures { result ≡ is_number_spec kind }
+{
+    match kind {
+        FieldKind::Text => false,
+        FieldKind::Zoned(_) | FieldKind::Packed(_) => true,
+    }
 }
 
 /// Whether each byte of a field is one of some others.

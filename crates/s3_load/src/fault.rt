@@ -17,6 +17,8 @@ pub enum HeadingFault {
     Overlap(Name, Name),
     /// The field isn't named.
     Missing(Name),
+    /// The first field is a number that isn't named, and lies partly under the second one, which is: so it can't be 0.
+    Under(Name, Name),
 }
 
 /// Why a row isn't taken.
@@ -55,7 +57,7 @@ pub enum LoadFault {
     /// The table has no heading.
     #[error("the table has no heading")]
     NoHeading,
-    /// These are wrong with the heading.
+    /// The first 100 of what is wrong with the heading.
     #[error("the heading isn't that of the layout")]
     Heading(Vec<HeadingFault>),
     /// The first 100 of what is wrong with rows, and how many there are.
@@ -67,6 +69,9 @@ pub enum LoadFault {
     /// The labels don't allow it.
     #[error("the labels don't allow it")]
     Label(LabelFault),
+    /// This slot of the level's area, from 0, is damaged, and what it holds can't be told: a new file might be written over it.
+    #[error("slot {0} of the area is damaged")]
+    DamagedSlot(u16),
     /// The label is no name.
     #[error("the label is no name")]
     NoName,

@@ -1,12 +1,14 @@
 //! The file of a load: made, and filled with records.
-ghost use Rattle.std.specs.Prelude.{◌≡◌, true, length, IfOk, OnOk};
+ghost use Rattle.std.specs.Prelude.{◌≡◌, true, length, IfOk, IsTrue, OnOk};
 ghost use Rattle.s3_slots.specs.Inner.Kept.{IsOfPack};
 ghost use Rattle.s3_slots.specs.Inner.Making.{IsNewFile, IsSize};
-ghost use Rattle.s3_slots.specs.Labels.{is_indexed};
-ghost use Rattle.s3_slots.specs.Slots.{is_count_of, is_key_of};
-ghost use Rattle.s3_labels.specs.Inner.Areas.{IsReady};
+ghost use Rattle.s3_slots.specs.Labels.{is_indexed, sectors_of};
+ghost use Rattle.s3_slots.specs.Slots.{is_count_of, is_key_of, standing};
+ghost use Rattle.s3_slots.specs.declared.slot.Standing.TheVariants.{Present};
+ghost use Rattle.s3_labels.specs.Inner.Areas.{IsReady, slots_at};
 ghost use Rattle.s3_files.specs.Inner.Files.{AreStored};
-ghost use Rattle.s3_load.specs.Inner.Filling.{AddsByKey, AddsRecord, HasGoodIndex, HasMore, IsAtWork, counted, records_of};
+ghost use Rattle.s3_load.specs.Inner.Filling.{AddsByKey, AddsRecord, ChangesOnly, HasGoodIndex, HasMore, IsAtWork, counted, records_of};
+ghost use Rattle.s3_load.specs.Inner.Loaded.{IsAsked, IsNewOf, has_key as has_key_spec};
 
 use crate::fault::{LoadFault, Reason, ValueFault};
 use crate::order::{Order, Room};
@@ -16,6 +18,7 @@ use s3_cards::is_name;
 use s3_files::{FileFault, RecordFile, Sequential};
 use s3_keyed::{Keyed, KeyedFault};
 use s3_labels::{FileLabel, LabelFault, NewFile, Organization, Pack, Size, Standing};
+use s3_lines::sheet::KeyField;
 use s3_slots::standing_of;
 use s3_store::MemoryStore;
 use std::alloc::Global;
@@ -31,7 +34,8 @@ const LONGEST_KEY: u8 = 29;
 
 /// The file that a load makes for so many records.
 pub fn new_file(order: &Order<'_>, count: usize) -> Result<NewFile, LoadFault>
-    ensures { IfOk result IsNewFile }
+    ensures proper { IfOk result IsNewFile }
+    ensures asked { IfOk result (IsNewOf order.now) }
 {
     if !is_name(&order.name.codes) {
         return Err(LoadFault::NoName);
@@ -101,7 +105,9 @@ fn size_for(records: usize) -> Result<Size, LoadFault>
 #[tactic(auto, using(s3_labels::proofs::Regions::own_on_pack))]
 pub fn file_there(pack: &Pack<MemoryStore>, order: &Order<'_>) -> Result<FileLabel, LoadFault>
     requires { IsReady pack.now.areas pack.now.pool }
-    ensures { IfOk result (IsOfPack (length pack.now.pool)) }
+    ensures on_pack { IfOk result (IsOfPack (length pack.now.pool)) }
+    ensures stands { IfOk result (λ label. standing order.now.name (slots_at order.now.level pack.now.areas) ≡ Present label) }
+    ensures asked { IfOk result (IsAsked order.now) }
 {
     match standing_of(order.name, pack.areas.slots(order.level)) {
         Standing::Absent => Err(LoadFault::Label(LabelFault::NotFound)),
@@ -117,19 +123,28 @@ pub fn file_there(pack: &Pack<MemoryStore>, order: &Order<'_>) -> Result<FileLab
 }
 
 /// Whether a file has the records and the key of the layout.
-fn is_of_kind(label: &FileLabel, order: &Order<'_>) -> bool {
-    let has_key = match (label.organization, order.key) {
+fn is_of_kind(label: &FileLabel, order: &Order<'_>) -> bool
+    ensures key { IsTrue result → has_key_spec order.now.key label.now ≡ true }
+    ensures long { IsTrue result → label.now.record_length ≡ order.now.layout.now.record_length }
+{
+    has_key(label, order.key) && label.record_length == order.layout.record_length
+}
+
+/// Whether a file has a key there, or none where none is asked for.
+fn has_key(label: &FileLabel, key: Option<KeyField>) -> bool
+    ensures { result ≡ has_key_spec key label.now }
+{
+    match (label.organization, key) {
         (Organization::Indexed, Some(key)) => {
             label.key_length == key.length && label.key_start == key.start
         }
         (Organization::Sequential, None) => true,
         _ => false,
-    };
-    has_key && label.record_length == order.layout.record_length
+    }
 }
 
 /// Puts records behind those of a file, whose label doesn't count them yet, and answers how many it has then. Where it has an index,
-/// that is the one of all of them.
+/// that is the one of all of them. Refused or not, no sector changes but those of the file.
 pub fn fill(
     alloc: Global,
     store: &mut MemoryStore,
@@ -138,8 +153,9 @@ pub fn fill(
 ) -> Result<u32, LoadFault>
     requires { IsOfPack (length store.old) label.now }
     ensures records { IfOk result (HasMore label.now (records_of rows.now) store.old store.new) }
-    ensures index { is_indexed label.now.organization ≡ true → IfOk result (λ count. HasGoodIndex (counted label.now count) store.new) }
+    ensures index { IfOk result (λ count. is_indexed label.now.organization ≡ true → HasGoodIndex (counted label.now count) store.new) }
     ensures long { length store.new ≡ length store.old }
+    ensures only { ChangesOnly (sectors_of label.now) store.old store.new }
 {
     match label.organization {
         Organization::Indexed => fill_by_key(alloc, store, label, rows),
@@ -156,11 +172,12 @@ fn full(label: &FileLabel, rows: &[Row]) -> LoadFault {
 }
 
 /// Puts records behind those of a file without an index.
-#[tactic(auto, using(s3_files::proofs::Rooms::of_pack_room, s3_files::proofs::Rooms::of_pack_stored, crate::proofs::FillLemmas::none_filled, crate::proofs::FillLemmas::one_more_filled, crate::proofs::FillLemmas::all_filled))]
+#[tactic(auto, using(s3_files::proofs::Rooms::of_pack_room, s3_files::proofs::Rooms::of_pack_stored, crate::proofs::FillLemmas::none_filled, crate::proofs::FillLemmas::one_more_filled, crate::proofs::FillLemmas::all_filled, crate::proofs::FillLemmas::only_same, crate::proofs::FillLemmas::only_more))]
 fn fill_in_order(store: &mut MemoryStore, label: &FileLabel, rows: &[Row]) -> Result<u32, LoadFault>
     requires { IsOfPack (length store.old) label.now }
     ensures records { IfOk result (HasMore label.now (records_of rows.now) store.old store.new) }
     ensures long { length store.new ≡ length store.old }
+    ensures only { ChangesOnly (sectors_of label.now) store.old store.new }
 {
     let mut file = Sequential::of(label);
     for row in rows {
@@ -170,7 +187,7 @@ fn fill_in_order(store: &mut MemoryStore, label: &FileLabel, rows: &[Row]) -> Re
 }
 
 /// Puts a record behind those of a file without an index.
-#[tactic(auto, using(s3_files::proofs::FileFrames::stored_within, crate::proofs::FillLemmas::grown_by))]
+#[tactic(auto, using(s3_files::proofs::FileFrames::stored_within, crate::proofs::FillLemmas::grown_by, crate::proofs::FillLemmas::only_within))]
 fn append_row(
     file: &mut Sequential,
     store: &mut MemoryStore,
@@ -182,6 +199,7 @@ fn append_row(
     ensures adds { OnOk result (AddsRecord row.now.bytes.items file.old file.new store.old store.new) }
     ensures stored { OnOk result (AreStored file.new.sectors store.new) }
     ensures long { length store.new ≡ length store.old }
+    ensures only { ChangesOnly file.old.sectors store.old store.new }
 {
     if row.bytes.len() != usize::from(file.record_length) {
         return Err(LoadFault::OtherKind);
@@ -194,7 +212,7 @@ fn append_row(
 }
 
 /// Puts records into a file with an index.
-#[tactic(auto, using(s3_files::proofs::Rooms::of_pack_room, s3_files::proofs::Rooms::of_pack_stored, s3_keyed::proofs::Indexes::of_pack_index, crate::proofs::FillLemmas::opened_records, crate::proofs::FillLemmas::opened_work, crate::proofs::FillLemmas::one_more_by_key, crate::proofs::FillLemmas::all_by_key, crate::proofs::FillLemmas::good_by_key))]
+#[tactic(auto, using(s3_files::proofs::Rooms::of_pack_room, s3_files::proofs::Rooms::of_pack_stored, s3_keyed::proofs::Indexes::of_pack_index, crate::proofs::FillLemmas::opened_records, crate::proofs::FillLemmas::opened_work, crate::proofs::FillLemmas::one_more_by_key, crate::proofs::FillLemmas::all_by_key, crate::proofs::FillLemmas::good_by_key, crate::proofs::FillLemmas::only_same, crate::proofs::FillLemmas::only_kept, crate::proofs::FillLemmas::only_more, crate::proofs::FillLemmas::only_within))]
 fn fill_by_key(
     alloc: Global,
     store: &mut MemoryStore,
@@ -206,6 +224,7 @@ fn fill_by_key(
     ensures records { IfOk result (HasMore label.now (records_of rows.now) store.old store.new) }
     ensures index { IfOk result (λ count. HasGoodIndex (counted label.now count) store.new) }
     ensures long { length store.new ≡ length store.old }
+    ensures only { ChangesOnly (sectors_of label.now) store.old store.new }
 {
     let mut file = match Keyed::check(alloc, store, label) {
         Ok(file) => file,
@@ -233,7 +252,7 @@ fn fill_by_key(
 
 /// Puts a record into a file with an index, and answers whether there was room for it; that another has its key is added to the
 /// faults.
-#[tactic(auto, using(s3_files::proofs::FileFrames::stored_within, crate::proofs::FillLemmas::loaded_last, crate::proofs::FillLemmas::still_at_work, crate::proofs::FillLemmas::untouched_at_work))]
+#[tactic(auto, using(s3_files::proofs::FileFrames::stored_within, crate::proofs::FillLemmas::loaded_last, crate::proofs::FillLemmas::still_at_work, crate::proofs::FillLemmas::untouched_at_work, crate::proofs::FillLemmas::only_same, crate::proofs::FillLemmas::only_more, crate::proofs::FillLemmas::only_within))]
 fn put_row(
     file: &mut Keyed,
     store: &mut MemoryStore,
@@ -246,6 +265,7 @@ fn put_row(
     ensures work { OnOk result (IsAtWork file.new label.now store.new) }
     ensures before { OnOk result (faults.new.count ≡ 0 → faults.old.count ≡ 0) }
     ensures long { length store.new ≡ length store.old }
+    ensures only { ChangesOnly (sectors_of label.now) store.old store.new }
 {
     if row.bytes.len() != usize::from(label.record_length) {
         return Err(LoadFault::OtherKind);
@@ -259,7 +279,7 @@ fn put_row(
 }
 
 /// Adds a record whose key isn't above all others, and answers whether there was room for it.
-#[tactic(auto, using(s3_files::proofs::FileFrames::stored_within, crate::proofs::FillLemmas::added_last, crate::proofs::FillLemmas::still_at_work, crate::proofs::FillLemmas::untouched_at_work))]
+#[tactic(auto, using(s3_files::proofs::FileFrames::stored_within, crate::proofs::FillLemmas::added_last, crate::proofs::FillLemmas::still_at_work, crate::proofs::FillLemmas::untouched_at_work, crate::proofs::FillLemmas::only_same, crate::proofs::FillLemmas::only_more, crate::proofs::FillLemmas::only_within))]
 fn add_row(
     file: &mut Keyed,
     store: &mut MemoryStore,
@@ -273,6 +293,7 @@ fn add_row(
     ensures work { OnOk result (IsAtWork file.new label.now store.new) }
     ensures before { OnOk result (faults.new.count ≡ 0 → faults.old.count ≡ 0) }
     ensures long { length store.new ≡ length store.old }
+    ensures only { ChangesOnly (sectors_of label.now) store.old store.new }
 {
     match file.add(store, &row.bytes) {
         Ok(()) => Ok(true),

@@ -3,18 +3,23 @@
 //! What is proved, for every pack, order and reader:
 //!
 //! - the columns of a heading are fields that its cells name, no two of which lie over each other, and the fields that they leave out
-//!   are filled, where that is asked for (`read_columns`);
-//! - the records are those of the rows of the table's text, one for each row, and in their order where the file has no key
+//!   are filled, where that is asked for and no number of them lies partly under a column (`read_columns`);
+//! - the records are those of the rows of the table's text, one for each row; where the file has a key, each comes before all those
+//!   behind it by the characters of its key, so that no two have the same one, and else they stand in the order of the rows
 //!   (`read_table`);
 //! - the record of a row has the value of each cell in the field of its column, and is blank elsewhere but for the numbers that are
 //!   filled (`record_of`); it shows the values that the row says, and the row of a record gives that record again
 //!   (`a_loaded_row_is_unloaded`, `an_unloaded_record_is_loaded`);
-//! - records are put behind those of the file, in the order in which they come, and an index is the one of all of them (`fill`);
+//! - the pack that is handed out has, in a slot of the level's area, the file that is asked for: with its label, its record length
+//!   and its key. Its records are those of the file that was there, where the order appends, and behind them those of the table;
+//!   an index is the one of all of them. Each other slot is as it was, and its file has the same bytes; the slot of an old file
+//!   of the label, in whose place a new one comes, is free, if the new one hasn't got it (`load`);
+//! - a new file is made only where no slot of the level's area is damaged (`load`);
 //! - each call is safe and returns; a pack is handed out only where all of the table was taken, and the pack that is given is never
 //!   changed, so a refused load leaves it as it was.
 //!
-//! Only tested: that records are sorted by their keys, that the pack which is handed out has the file, when a load is refused, and
-//! the words of refusals.
+//! Only tested: how much room a new file gets, its retention and its date, when a load is refused but for a damaged slot, which
+//! line is told of a row, and the words of refusals.
 #![tactic(auto)]
 
 mod columns;

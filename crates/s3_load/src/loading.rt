@@ -1,39 +1,63 @@
 //! A table loaded into a file of a pack.
-ghost use Rattle.std.specs.Prelude.{length, IfOk, OnOk};
+ghost use Rattle.std.specs.Prelude.{◌≡◌, ◌<◌, ◌≤◌, ℕ, List, Some, length, slice_get, true, false, IfNone, IfOk, IfSome, OnOk};
 ghost use Rattle.s3_slots.specs.Inner.Kept.{IsOfPack};
-ghost use Rattle.s3_labels.specs.Inner.Areas.{IsReady};
+ghost use Rattle.s3_labels.specs.Areas.{area_of as area_of_spec};
+ghost use Rattle.s3_labels.specs.Contents.{contents_of};
+ghost use Rattle.s3_labels.specs.Inner.Areas.{IsReady, slots_in};
+ghost use Rattle.s3_pack_care.specs.Inner.Kept.{IsMounted};
+ghost use Rattle.s3_load.specs.Inner.Filling.{records_of};
+ghost use Rattle.s3_load.specs.Inner.Loaded.{HasFile, IsCounted, IsLoaded, IsPlaced, is_damaged as is_damaged_spec, is_damaged_at};
 
 use crate::fault::LoadFault;
 use crate::filling::{file_there, fill, may_have, new_file};
 use crate::order::Order;
 use crate::rows::Row;
 use crate::table::read_table;
-use s3_labels::{FileLabel, Pack, Refusal, Refused, Standing};
+use s3_cards::LevelId;
+use s3_labels::{AreaSlots, FileLabel, Pack, Refusal, Refused, Slot, Standing};
 use s3_slots::standing_of;
 use s3_store::MemoryStore;
 use std::alloc::Global;
-use std::io::Read;
+use std::io::{ErrorKind, Read};
 
 /// The pack with the records of a table in a file of a level: a new file, which takes the place of a file of its label that isn't
 /// permanent, or behind the records of the file that is there. Records of a file with an index go in by their keys, whatever
-/// the order of the rows. Refused as `LoadFault` says; the pack that is given stays as it is.
+/// the order of the rows. Every other file stays as it was. Refused as `LoadFault` says; the pack that is given stays as it is.
+#[tactic(auto, using(crate::proofs::WholePacks::seen_few))]
 pub fn load<R: Read + Drop>(
     alloc: Global,
     pack: &[u8],
     order: &Order<'_>,
     reader: R,
-) -> Result<Vec<u8>, LoadFault> {
-    let rows = read_table(alloc, order, reader)?;
+) -> Result<Vec<u8>, LoadFault>
+    ensures { IfOk result (λ new. IsLoaded order.now (R.remaining reader) (contents_of pack.now) (contents_of new.items)) }
+{
+    let text = read_text(alloc, reader)?;
+    let rows = read_table(alloc, order, text.as_slice(), &text)?;
     let mut mounted = mount(alloc, pack)?;
     let placed = place_rows(alloc, &mut mounted, order, &rows);
     let Pack { pool, areas: _ } = mounted;
     placed?;
-    with_rest(pool.into_bytes(), pack)
+    Ok(bytes_of(pool))
+}
+
+/// The whole of a text.
+fn read_text<R: Read + Drop>(alloc: Global, mut reader: R) -> Result<Vec<u8>, LoadFault>
+    ensures { IfOk result (λ text. (bytes : List ℕ) → R.remaining reader ≡ Some bytes → text.items ≡ bytes) }
+{
+    let mut text = Vec::new(alloc);
+    match reader.read_to_end(&mut text) {
+        Ok(_) => Ok(text),
+        Err(error) if error.kind() == ErrorKind::OutOfMemory => Err(LoadFault::NoMemory),
+        Err(_) => Err(LoadFault::File),
+    }
 }
 
 /// The pack of these bytes, over a copy of its sectors.
 fn mount(alloc: Global, pack: &[u8]) -> Result<Pack<MemoryStore>, LoadFault>
-    ensures { IfOk result (λ mounted. IsReady mounted.areas mounted.pool) }
+    ensures same { IfOk result (λ mounted. mounted.pool ≡ contents_of pack.now) }
+    ensures mounted { IfOk result (λ mounted. IsMounted mounted.areas mounted.pool) }
+    ensures ready { IfOk result (λ mounted. IsReady mounted.areas mounted.pool) }
 {
     let store = MemoryStore::from_bytes(Vec::from_slice(alloc, pack)?);
     match Pack::over(alloc, store) {
@@ -52,28 +76,107 @@ fn place_rows(
     order: &Order<'_>,
     rows: &[Row],
 ) -> Result<(), LoadFault>
-    requires { IsReady mounted.old.areas mounted.old.pool }
+    requires ready { IsReady mounted.old.areas mounted.old.pool }
+    requires mounted { IsMounted mounted.old.areas mounted.old.pool }
+    ensures file { OnOk result (HasFile order.now (records_of rows.now) mounted.old.areas.header mounted.old.pool mounted.new.pool) }
+    ensures long { OnOk result (length mounted.new.pool ≡ length mounted.old.pool) }
 {
-    let label = placed_label(mounted, order, rows)?;
+    let label = placed_label(mounted, order, rows.len())?;
     let count = fill(alloc, &mut mounted.pool, &label, rows)?;
-    set_count(mounted, order, count)
+    set_count(mounted, order, count)?;
+    Ok(())
 }
 
-/// The label of the file that the records go into: of a new one, or of the one that is there.
+/// The label of the file that the records go into: of a new one with room for so many, or of the one that is there.
+#[tactic(auto, using(crate::proofs::PlacedFiles::there_placed))]
 fn placed_label(
     mounted: &mut Pack<MemoryStore>,
     order: &Order<'_>,
-    rows: &[Row],
+    count: usize,
 ) -> Result<FileLabel, LoadFault>
-    requires { IsReady mounted.old.areas mounted.old.pool }
+    requires ready { IsReady mounted.old.areas mounted.old.pool }
+    requires mounted { IsMounted mounted.old.areas mounted.old.pool }
+    ensures placed { IfOk result (IsPlaced order.now mounted.old.areas.header mounted.old.pool mounted.new.pool) }
     ensures on_pack { IfOk result (IsOfPack (length mounted.new.pool)) }
     ensures ready { OnOk result (IsReady mounted.new.areas mounted.new.pool) }
+    ensures mounted { OnOk result (IsMounted mounted.new.areas mounted.new.pool) }
+    ensures header { OnOk result (mounted.new.areas.header ≡ mounted.old.areas.header) }
+    ensures long { OnOk result (length mounted.new.pool ≡ length mounted.old.pool) }
 {
     if order.appends {
-        return file_there(mounted, order);
+        file_there(mounted, order)
+    } else {
+        made_file(mounted, order, count)
     }
-    let new = new_file(order, rows.len())?;
-    Ok(mounted.make(order.level, &new)?)
+}
+
+/// Makes a new file with room for so many records. Refused with `DamagedSlot` where the level's area has a damaged slot.
+#[tactic(auto, using(crate::proofs::PlacedFiles::set_header))]
+fn made_file(
+    mounted: &mut Pack<MemoryStore>,
+    order: &Order<'_>,
+    count: usize,
+) -> Result<FileLabel, LoadFault>
+    requires anew { order.now.appends ≡ false }
+    requires ready { IsReady mounted.old.areas mounted.old.pool }
+    requires mounted { IsMounted mounted.old.areas mounted.old.pool }
+    ensures placed { IfOk result (IsPlaced order.now mounted.old.areas.header mounted.old.pool mounted.new.pool) }
+    ensures on_pack { IfOk result (IsOfPack (length mounted.new.pool)) }
+    ensures ready { OnOk result (IsReady mounted.new.areas mounted.new.pool) }
+    ensures mounted { OnOk result (IsMounted mounted.new.areas mounted.new.pool) }
+    ensures header { OnOk result (mounted.new.areas.header ≡ mounted.old.areas.header) }
+    ensures long { OnOk result (length mounted.new.pool ≡ length mounted.old.pool) }
+{
+    refuse_damaged(&mounted.areas, area_of(order.level))?;
+    let new = new_file(order, count)?;
+    let label = mounted.make(order.level, &new)?;
+    Ok(label)
+}
+
+/// The number of a level's area, 1 or 2.
+fn area_of(level: LevelId) -> u16
+    ensures value { result ≡ area_of_spec level }
+    ensures few { result < 3 }
+{
+    match level {
+        LevelId::One => 1,
+        LevelId::Two => 2,
+    }
+}
+
+/// Whether a slot is damaged.
+fn is_damaged(slot: &Slot) -> bool
+    ensures { result ≡ is_damaged_spec slot.now }
+{
+    match slot {
+        Slot::Damaged(_) => true,
+        Slot::Free | Slot::Sound(_) => false,
+    }
+}
+
+/// The first damaged slot of an area, from 0.
+fn first_damaged(areas: &AreaSlots, area: u16) -> Option<u16>
+    requires { area < 3 }
+    ensures none { IfNone result ((i : ℕ) → i < 32 → is_damaged_at (slice_get (slots_in area areas.now) i) ≡ false) }
+    ensures some { IfSome result (λ i. is_damaged_at (slice_get (slots_in area areas.now) i) ≡ true) }
+{
+    for i in 0..32u16 {
+        if is_damaged(areas.slot(area, usize::from(i))) {
+            return Some(i);
+        }
+    }
+    None
+}
+
+/// Refuses an area that has a damaged slot.
+fn refuse_damaged(areas: &AreaSlots, area: u16) -> Result<(), LoadFault>
+    requires { area < 3 }
+    ensures none { OnOk result ((i : ℕ) → i < 32 → is_damaged_at (slice_get (slots_in area areas.now) i) ≡ false) }
+{
+    match first_damaged(areas, area) {
+        Some(slot) => Err(LoadFault::DamagedSlot(slot)),
+        None => Ok(()),
+    }
 }
 
 /// Sets the count of the file, which has room for so many records.
@@ -82,22 +185,26 @@ fn set_count(
     order: &Order<'_>,
     count: u32,
 ) -> Result<(), LoadFault>
-    requires { IsReady mounted.old.areas mounted.old.pool }
+    requires ready { IsReady mounted.old.areas mounted.old.pool }
+    requires mounted { IsMounted mounted.old.areas mounted.old.pool }
+    ensures counted { OnOk result (IsCounted order.now.level order.now.name count mounted.old.areas.header mounted.old.pool mounted.new.pool) }
+    ensures long { OnOk result (length mounted.new.pool ≡ length mounted.old.pool) }
 {
-    match standing_of(order.name, mounted.areas.slots(order.level)) {
-        Standing::Present(label) if may_have(&label, count) => {
-            mounted.set_count(order.level, order.name, count)?;
-            Ok(())
-        }
-        _ => Err(LoadFault::OtherKind),
+    let Standing::Present(label) = standing_of(order.name, mounted.areas.slots(order.level)) else {
+        return Err(LoadFault::OtherKind);
+    };
+    if !may_have(&label, count) {
+        return Err(LoadFault::OtherKind);
     }
+    mounted.set_count(order.level, order.name, count)?;
+    Ok(())
 }
 
-/// Sectors, and behind them the bytes that a pack has behind its own.
-fn with_rest(sectors: Vec<u8>, pack: &[u8]) -> Result<Vec<u8>, LoadFault> {
-    let mut whole = sectors;
-    if let Some(rest) = pack.get(whole.len()..) {
-        whole.extend_from_slice(rest)?;
-    }
-    Ok(whole)
+/// The bytes of the sectors of a pack.
+#[tactic(auto, using(crate::proofs::WholePacks::seen_alone))]
+fn bytes_of(pool: MemoryStore) -> Vec<u8>
+    requires { length pool ≤ 65535 }
+    ensures { contents_of result.items ≡ pool }
+{
+    pool.into_bytes()
 }

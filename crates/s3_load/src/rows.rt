@@ -4,14 +4,14 @@ ghost use Rattle.std.specs.List.{All};
 ghost use Rattle.csv.specs.Records.{fields_of};
 ghost use Rattle.s3_cells.specs.Inner.Fields.{LiesIn, Takes};
 ghost use Rattle.s3_load.specs.Inner.Columns.{LieApart};
-ghost use Rattle.s3_load.specs.Inner.Records.{HasTaken, IsRecordOf, is_number as is_number_spec, with_zero, with_zeros};
+ghost use Rattle.s3_load.specs.Inner.Records.{HasTaken, IsRecordOf, with_zero, with_zeros};
 
-use crate::columns::{Columns, cell_at};
+use crate::columns::{Columns, cell_at, is_number};
 use crate::fault::{Reason, ValueFault};
 use crate::order::Order;
 use csv::ByteRecord;
 use s3_cards::ebcdic::BLANK;
-use s3_cells::{Field, FieldKind};
+use s3_cells::Field;
 use s3_lines::sheet::KeyField;
 use std::alloc::{AllocError, Global};
 
@@ -25,6 +25,45 @@ pub struct Row {
     pub line: u64,
     /// The record's bytes.
     pub bytes: Vec<u8>,
+}
+
+/// A text that is gone through from its start on, and the line where that stands.
+#[derive(Drop)]
+pub struct Lines<'a> {
+    text: &'a [u8],
+    place: usize,
+    line: u64,
+}
+
+impl<'a> Lines<'a> {
+    /// At the start of a text.
+    pub fn new(text: &'a [u8]) -> Lines<'a> {
+        Lines {
+            text,
+            place: 0,
+            line: 1,
+        }
+    }
+
+    /// The line, from 1, of the first byte from this place on that ends no line; places are asked for in their order. Where a reader
+    /// of CSV stands before a row, the end of the line before may be still ahead, and empty lines are.
+    fn line_at(&mut self, place: u64) -> u64 {
+        let text = self.text;
+        let Some(rest) = text.get(self.place..) else {
+            return self.line;
+        };
+        for byte in rest {
+            let is_end = *byte == b'\n' || *byte == b'\r';
+            if self.place as u64 >= place && !is_end {
+                return self.line;
+            }
+            if *byte == b'\n' {
+                self.line = self.line.saturating_add(1);
+            }
+            self.place = self.place.saturating_add(1);
+        }
+        self.line
+    }
 }
 
 /// What is wrong with rows: the first hundred, and how many there are.
@@ -66,6 +105,7 @@ pub fn record_of(
     order: &Order<'_>,
     columns: &Columns,
     cells: &ByteRecord,
+    lines: &mut Lines<'_>,
     faults: &mut Faults,
 ) -> Result<Option<Row>, AllocError>
     requires within { All (LiesIn order.now.layout.now.record_length) columns.now.fields.items }
@@ -75,7 +115,7 @@ pub fn record_of(
     ensures none { IfOk result (λ row. IfNone row (0 < faults.new.count)) }
     ensures before { OnOk result (faults.new.count ≡ 0 → faults.old.count ≡ 0) }
 {
-    let line = line_of(cells);
+    let line = line_of(cells, lines);
     if cells.len() != columns.fields.len() {
         faults.add(ValueFault {
             line,
@@ -183,9 +223,9 @@ fn is_in_key(field: &Field, key: Option<KeyField>) -> bool {
 }
 
 /// The line on which a row begins.
-fn line_of(cells: &ByteRecord) -> u64 {
+fn line_of(cells: &ByteRecord, lines: &mut Lines<'_>) -> u64 {
     match cells.position() {
-        Some(position) => position.line(),
+        Some(position) => lines.line_at(position.byte()),
         None => 0,
     }
 }
@@ -210,15 +250,5 @@ fn zero(field: &Field, bytes: &mut [u8])
     if is_number(field.kind) {
         // a number of any form takes a 0
         let _ = field.take(b"0", bytes);
-    }
-}
-
-/// Whether a field of this form is a number.
-fn is_number(kind: FieldKind) -> bool
-    ensures { result ≡ is_number_spec kind }
-{
-    match kind {
-        FieldKind::Text => false,
-        FieldKind::Zoned(_) | FieldKind::Packed(_) => true,
     }
 }

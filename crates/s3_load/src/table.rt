@@ -1,17 +1,20 @@
 //! A table read to its end.
 ghost use Rattle.std.specs.Prelude.{◌≡◌, ◌∷◌, ℕ, List, [], None, Some, true, false, IfOk, IsPermutation, OnOk};
+ghost use Rattle.std.specs.Cmp.Lexicographic.{slice_cmp};
 ghost use Rattle.std.specs.List.{All};
+ghost use Rattle.std.specs.Ordering.{nat_cmp};
 ghost use Rattle.csv.specs.Reading.{ReadRecord, Ready, reader_trim};
 ghost use Rattle.csv.specs.Records.{fields_of};
 ghost use Rattle.csv.specs.declared.reader.Trim.TheVariants as trim;
 ghost use Rattle.s3_cells.specs.Inner.Fields.{LiesIn};
 ghost use Rattle.s3_load.specs.Inner.Columns.{LieApart};
+ghost use Rattle.s3_load.specs.Inner.KeyOrder.{AreInKeyOrder, ComesBefore, key_in as key_in_spec};
 ghost use Rattle.s3_load.specs.Inner.Tables.{AddsRow, AreRowsOf, FindsEnd, IsReading, IsTable};
 
 use crate::columns::{Columns, read_columns};
 use crate::fault::{LoadFault, Reason, ValueFault};
 use crate::order::Order;
-use crate::rows::{Faults, Row, record_of};
+use crate::rows::{Faults, Lines, Row, record_of};
 use csv::{ByteRecord, Reader, ReaderBuilder};
 use s3_lines::sheet::KeyField;
 use std::alloc::Global;
@@ -22,12 +25,13 @@ use std::io::Read;
 pub const MOST_RECORDS: usize = 999_999;
 
 /// The records of a table: in the order of their keys where the file has an index, else of their rows. Refused with all that is
-/// wrong with the heading, or with the rows.
+/// wrong with the heading, or with the rows, whose lines are those of the text that the reader reads.
 #[tactic(auto, using(crate::proofs::RecordLemmas::named_lie, crate::proofs::RecordLemmas::left_out_lie))]
 pub fn read_table<R: Read + Drop>(
     alloc: Global,
     order: &Order<'_>,
     reader: R,
+    text: &[u8],
 ) -> Result<Vec<Row>, LoadFault>
     ensures { IfOk result (λ rows. (text : List ℕ) → R.remaining reader ≡ Some text → IsTable text order.now.delimiter order.now.layout.now.record_length order.now.layout.now.fields.items order.now.fills order.now.key rows.items) }
 {
@@ -38,7 +42,8 @@ pub fn read_table<R: Read + Drop>(
     }
     let columns = read_columns(alloc, &cells, &order.layout.fields, order.fills)?;
     let mut faults = Faults::new(alloc);
-    let mut rows = read_rows(alloc, order, &columns, &mut table, &mut faults)?;
+    let mut lines = Lines::new(text);
+    let mut rows = read_rows(alloc, order, &columns, &mut table, &mut lines, &mut faults)?;
     sort_by_key(&mut rows, order.key, &mut faults)?;
     if faults.count > 0 {
         return Err(LoadFault::Values(faults.first, faults.count));
@@ -81,6 +86,7 @@ fn read_rows<R: Read + Drop>(
     order: &Order<'_>,
     columns: &Columns,
     reader: &mut Reader<R>,
+    lines: &mut Lines<'_>,
     faults: &mut Faults,
 ) -> Result<Vec<Row>, LoadFault>
     requires within { All (LiesIn order.now.layout.now.record_length) columns.now.fields.items }
@@ -94,7 +100,9 @@ fn read_rows<R: Read + Drop>(
     let mut rows: Vec<Row> = Vec::new(alloc);
     let mut cells = ByteRecord::new(alloc);
     for _ in 0..u64::MAX {
-        if !read_row(alloc, order, columns, reader, &mut cells, &mut rows, faults)? {
+        if !read_row(
+            alloc, order, columns, reader, &mut cells, lines, &mut rows, faults,
+        )? {
             return Ok(rows);
         }
     }
@@ -108,6 +116,7 @@ fn read_row<R: Read + Drop>(
     columns: &Columns,
     reader: &mut Reader<R>,
     cells: &mut ByteRecord,
+    lines: &mut Lines<'_>,
     rows: &mut Vec<Row>,
     faults: &mut Faults,
 ) -> Result<bool, LoadFault>
@@ -128,19 +137,24 @@ fn read_row<R: Read + Drop>(
     if rows.len() >= MOST_RECORDS {
         return Err(LoadFault::NoRoom);
     }
-    match record_of(alloc, order, columns, cells, faults)? {
+    match record_of(alloc, order, columns, cells, lines, faults)? {
         Some(row) => rows.push(row)?,
         None => {}
     }
     Ok(true)
 }
 
-/// The bytes of the key of a record.
-pub fn key_in(bytes: &[u8], key: KeyField) -> &[u8] {
+/// The bytes of the key of a record; none where it doesn't lie in the record.
+pub fn key_in(bytes: &[u8], key: KeyField) -> &[u8]
+    ensures { result.now ≡ key_in_spec key bytes.now }
+{
     let start = usize::from(key.start.saturating_sub(1));
-    bytes
-        .get(start..start + usize::from(key.length))
-        .unwrap_or(&[])
+    let end = start + usize::from(key.length);
+    if end <= bytes.len() {
+        &bytes[start..end]
+    } else {
+        &[]
+    }
 }
 
 /// Sorts rows by their keys, where the file has an index, and tells of those that have the same.
@@ -151,6 +165,7 @@ fn sort_by_key(
 ) -> Result<(), LoadFault>
     ensures same { OnOk result (IsPermutation rows.old.items rows.new.items) }
     ensures unkeyed { key ≡ None → rows.new.items ≡ rows.old.items }
+    ensures keyed { OnOk result (faults.new.count ≡ 0 → AreInKeyOrder key rows.new.items) }
     ensures before { OnOk result (faults.new.count ≡ 0 → faults.old.count ≡ 0) }
 {
     match key {
@@ -170,22 +185,39 @@ fn sort_rows(rows: &mut Vec<Row>, key: KeyField) -> Result<(), LoadFault>
     Ok(())
 }
 
-fn order_by(key: KeyField, one: &Row, other: &Row) -> Ordering {
-    key_in(&one.bytes, key).cmp(&key_in(&other.bytes, key))
+/// The order of two rows by their keys, character by character.
+fn order_by(key: KeyField, one: &Row, other: &Row) -> Ordering
+    ensures { result ≡ slice_cmp nat_cmp (key_in_spec key one.now.bytes.items) (key_in_spec key other.now.bytes.items) }
+{
+    key_in(&one.bytes, key).cmp(key_in(&other.bytes, key))
 }
 
-/// Tells of each row that has the key of the one before it.
+/// Tells of each row that doesn't come behind the one before it by its key: where rows are sorted, it has the same key.
+#[tactic(auto, using(crate::proofs::KeyLemmas::none_compared, crate::proofs::KeyLemmas::one_more_compared, crate::proofs::KeyLemmas::all_compared))]
 fn find_same_keys(rows: &[Row], key: KeyField, faults: &mut Faults) -> Result<(), LoadFault>
-    ensures { OnOk result (faults.new.count ≡ 0 → faults.old.count ≡ 0) }
+    ensures keyed { OnOk result (faults.new.count ≡ 0 → AreInKeyOrder (Some key) rows.now) }
+    ensures before { OnOk result (faults.new.count ≡ 0 → faults.old.count ≡ 0) }
 {
-    for (one, next) in rows.iter().zip(rows.iter().skip(1)) {
-        if key_in(&one.bytes, key) == key_in(&next.bytes, key) {
+    for place in 1..rows.len() {
+        tell_same_key(&rows[place - 1], &rows[place], key, faults)?;
+    }
+    Ok(())
+}
+
+/// Tells of a row that doesn't come behind another one by its key.
+fn tell_same_key(one: &Row, next: &Row, key: KeyField, faults: &mut Faults) -> Result<(), LoadFault>
+    ensures behind { OnOk result (faults.new.count ≡ 0 → ComesBefore key one.now next.now) }
+    ensures before { OnOk result (faults.new.count ≡ 0 → faults.old.count ≡ 0) }
+{
+    match order_by(key, one, next) {
+        Ordering::Less => Ok(()),
+        Ordering::Equal | Ordering::Greater => {
             faults.add(ValueFault {
                 line: next.line,
                 field: None,
                 reason: Reason::SameKey(one.line),
             })?;
+            Ok(())
         }
     }
-    Ok(())
 }

@@ -1,12 +1,12 @@
 -- Lines that are written one after another.
-use Rattle.std.proofs.Common.{◌≡◌, ℕ, ◌+◌, ◌-◌, ◌<◌, arith, sym, ◌∙◌, ap, ap₂, true, ◌&&◌, List, [], ◌∷◌, ◌++◌, length, map, take, get_or, append_assoc}
+use Rattle.std.proofs.Common.{◌≡◌, ℕ, ◌+◌, ◌-◌, ◌<◌, arith, sym, ◌∙◌, ap, ap₂, true, ◌&&◌, List, [], ◌∷◌, ◌++◌, length, take, get_or, append_assoc}
 use Rattle.std.specs.Prelude.{Some, slice_get}
 use Rattle.std.specs.List.{flat_map, list_all}
 use Rattle.std.proofs.lemmas.List.{append-nil, take_more}
 use Rattle.std.proofs.lemmas.List.Folds.{list_all_more}
 use Rattle.std.proofs.lemmas.Grind.{flat_map-append}
 use Rattle.std.proofs.lemmas.Option.{get_or_from_slice_get}
-use Rattle.s3_unload.specs.Inner.Lines.{HasUnshown, IsLineRefusal, IsUnshown, digits_of, is_line, line_of, lines_text}
+use Rattle.s3_unload.specs.Inner.Lines.{IsLineRefusal, IsUnshown, digits_of, is_line, line_of, lines_text}
 use Rattle.s3_unload.specs.declared.fault.UnloadFault.{UnloadFault}
 use Rattle.s3_unload.specs.declared.fault.UnloadFault.TheVariants.{Mount, NotFound, DamagedLabel, BadIndex, OtherLength, Hidden, NoCharacter, NoMemory, File}
 use Rattle.s3_unload.specs.declared.lines.LineForm.{LineForm}

@@ -1,5 +1,5 @@
 -- Records that are read of files that are open.
-use Rattle.std.proofs.Common.{◌≡◌, ℕ, ◌+◌, ◌-◌, ◌<◌, ◌≤◌, refl, arith, sym, ◌∙◌, ap, subst, Bool, true, false, cond, suc, zero, List, [], ◌∷◌, length, map, take, get_or, nat_lt}
+use Rattle.std.proofs.Common.{◌≡◌, ℕ, ◌+◌, ◌-◌, ◌<◌, refl, arith, sym, ◌∙◌, ap, subst, Bool, true, false, cond, suc, zero, List, [], ◌∷◌, length, take, get_or, nat_lt}
 use Rattle.std.specs.Prelude.{Option, Some, None, Result, Ok, Err, slice_get}
 use Rattle.std.specs.Option.{option_map}
 use Rattle.std.proofs.lemmas.List.{length-map, take_all}
@@ -8,15 +8,14 @@ use Rattle.s3_store.specs.Bytes.{bytes_at}
 use Rattle.s3_slots.specs.Labels.{file_bytes, is_indexed, sectors_of}
 use Rattle.s3_slots.specs.declared.label.FileLabel.{FileLabel}
 use Rattle.s3_files.specs.Records.{records_in}
-use Rattle.s3_files.specs.Inner.Files.{records}
 use Rattle.s3_files.specs.Inner.Records.{got, record_at}
 use Rattle.s3_files.specs.declared.sequential.Sequential.{Sequential}
 use Rattle.s3_files.proofs.RecordLemmas.{length_records}
 use Rattle.s3_keyed.specs.Calls.{keyed_result, nth_by_key, place_in}
-use Rattle.s3_keyed.specs.Index.{KeyPlace, index_in, keys_of, layout_of}
+use Rattle.s3_keyed.specs.Index.{KeyPlace, keys_of, layout_of}
 use Rattle.s3_keyed.specs.Inner.Calls.{index_answer, or_no_key}
 use Rattle.s3_keyed.specs.KeyOrder.{Entry, entries_from, insert_entries, insert_entry, is_good_index, key_order}
-use Rattle.s3_keyed.specs.Inner.Keyed.{KeyedFile, keys_now, opened_of, records_now, shown}
+use Rattle.s3_keyed.specs.Inner.Keyed.{KeyedFile, keys_now, records_now, shown}
 use Rattle.s3_keyed.specs.declared.fault.KeyedFault.{KeyedFault}
 use Rattle.s3_keyed.specs.declared.fault.KeyedFault.TheVariants.{BadIndex}
 use Rattle.s3_keyed.specs.declared.keyed.Keyed.{Keyed}
@@ -91,6 +90,13 @@ keyed_record label contents file n p bytes keyed nth got =
     let there : slice_get (in_order label contents) p ≡ Some bytes = sym (ap (λ r. slice_get r p) rs) ∙ got_record p (records_now (shown file) contents) bytes got in
     ordered_record (layout_of label).key (in_order label contents) n p bytes first there
 
+-- its place in the file
+pub keyed_place : (label : FileLabel) (contents : List (List ℕ)) (file : Keyed) (p : ℕ) (bytes : List ℕ) → IsKeyed label contents file → keyed_result (record_at p (records_now (shown file) contents)) ≡ Ok bytes
+    → slice_get (in_order label contents) p ≡ Some bytes
+keyed_place label contents file p bytes keyed got =
+    let rs : records_now (shown file) contents ≡ in_order label contents = ap (λ (f : KeyedFile). records_now f contents) keyed.opened ∙ sym (in_order_is label contents) in
+    sym (ap (λ r. slice_get r p) rs) ∙ got_record p (records_now (shown file) contents) bytes got
+
 -- ---- how many there are
 length_insert : (e : Entry) (es : List Entry) → length (insert_entry e es) ≡ suc (length es)
 length_insert e [] = refl
@@ -118,6 +124,18 @@ by_key_counted label contents =
 
 pub in_order_counted : (label : FileLabel) (contents : List (List ℕ)) → length (in_order label contents) ≡ label.count
 in_order_counted label contents = ap length (in_order_is label contents) ∙ length_records label.record_length label.count (bytes_at (sectors_of label) contents)
+
+got_within : (rs : List (List ℕ)) (i : ℕ) (bytes : List ℕ) → slice_get rs i ≡ Some bytes → i < length rs
+got_within [] i bytes h = absurd cc
+got_within (r ∷ rs) zero bytes h = omega arith
+got_within (r ∷ rs) (suc i) bytes h = let e = got_within rs i bytes h in omega (arith, e)
+
+-- a place of the file is below its count
+pub place_counted : (label : FileLabel) (contents : List (List ℕ)) (place : ℕ) (bytes : List ℕ) → slice_get (in_order label contents) place ≡ Some bytes → place < label.count
+place_counted label contents place bytes there =
+    let low = got_within (in_order label contents) place bytes there in
+    let all = in_order_counted label contents in
+    omega (arith, low, all)
 
 pub ordered_counted : (label : FileLabel) (contents : List (List ℕ)) → length (ordered label contents) ≡ label.count
 ordered_counted label contents =

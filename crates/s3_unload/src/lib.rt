@@ -6,10 +6,16 @@
 //!   index: the cells that show the values of the layout's fields (`wrote`), each of which can be shown (`shown`);
 //! - it is refused by the pack's header, its labels and the index alone, where a value can't be shown, or where memory or the
 //!   writer fails (`refused`). The pack's bytes aren't changed.
-//! - what it writes reads as the heading and those rows, by the rules of a reader of CSV (`a_table_reads_as_its_rows`);
-//! - `unload_lines` is safe and returns.
+//! - what it writes with commas reads as the heading and those rows, by the rules of a reader of CSV
+//!   (`a_table_reads_as_its_rows`);
+//! - `unload_lines` writes exactly a line for each record: its characters, each of which it has, or two hexadecimal digits for
+//!   each byte (`wrote`); it is refused by the header, the labels, a byte without a character, memory and the writer alone
+//!   (`refused`).
 //!
-//! Only tested: the lines of `unload_lines`, and the words of refusals.
+//! A record that has a value that can't be shown is told by its number in the file; that it is the first one of the table, that
+//! the field and the position that are told are those at fault, and that the rows before it are written and nothing at other
+//! refusals, is only tested. So is what is written with another delimiter than the comma, as what it reads, and the words of
+//! refusals.
 #![tactic(auto)]
 
 mod fault;

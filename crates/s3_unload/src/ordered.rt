@@ -48,7 +48,7 @@ impl Records {
         }
     }
 
-    /// Reads record `n`, from 0, into these bytes.
+    /// Reads record `n` of that order, from 0, into these bytes, and answers its place in the file, from 0.
     #[tactic(auto, using(crate::proofs::Opening::ordered_plain, crate::proofs::Opening::ordered_keyed))]
     pub fn read(
         &self,
@@ -56,16 +56,20 @@ impl Records {
         label: &FileLabel,
         n: u32,
         bytes: &mut [u8],
-    ) -> Result<(), UnloadFault>
+    ) -> Result<u32, UnloadFault>
         requires on_pack { IsOfPack (length store.old) label.now }
         requires opened { IsOpened label.now store.old self.now }
         requires long { length bytes.old ≡ label.now.record_length }
         ensures ok { OnOk result (slice_get (ordered label.now store.old) n ≡ Some bytes.new) }
+        ensures place { IfOk result (λ place. slice_get (in_order label.now store.old) place ≡ Some bytes.new) }
         ensures refused { IfErr result (λ fault. fault ≡ UnloadFault.NoMemory) }
         ensures keeps { store.new ≡ store.old }
     {
         match self {
-            Records::InOrder(file) => read_in_order(file, store, label, n, bytes),
+            Records::InOrder(file) => {
+                read_in_order(file, store, label, n, bytes)?;
+                Ok(n)
+            }
             Records::ByKey(file) => read_by_key(file, store, label, n, bytes),
         }
     }
@@ -113,19 +117,20 @@ pub fn read_in_order(
     }
 }
 
-/// Reads the record that is number `n` by key, from 0.
-#[tactic(auto, using(s3_files::proofs::Rooms::of_pack_stored, crate::proofs::Opening::keyed_record))]
+/// Reads the record that is number `n` by key, from 0, and answers its place in the file, from 0.
+#[tactic(auto, using(s3_files::proofs::Rooms::of_pack_stored, crate::proofs::Opening::keyed_record, crate::proofs::Opening::keyed_place))]
 fn read_by_key(
     file: &Keyed,
     store: &mut MemoryStore,
     label: &FileLabel,
     n: u32,
     bytes: &mut [u8],
-) -> Result<(), UnloadFault>
+) -> Result<u32, UnloadFault>
     requires on_pack { IsOfPack (length store.old) label.now }
     requires opened { IsKeyed label.now store.old file.now }
     requires long { length bytes.old ≡ label.now.record_length }
     ensures ok { OnOk result (slice_get (by_key_of label.now store.old) n ≡ Some bytes.new) }
+    ensures place { IfOk result (λ place. slice_get (in_order label.now store.old) place ≡ Some bytes.new) }
     ensures refused { IfErr result (λ fault. fault ≡ UnloadFault.NoMemory) }
     ensures keeps { store.new ≡ store.old }
 {
@@ -134,7 +139,7 @@ fn read_by_key(
         Err(_) => return Err(UnloadFault::NoMemory),
     };
     match file.get(store, place, bytes) {
-        Ok(()) => Ok(()),
+        Ok(()) => Ok(place),
         Err(_) => Err(UnloadFault::NoMemory),
     }
 }

@@ -56,7 +56,14 @@ fn add_cell(
     ensures shown { OnOk result (is_shown field.now bytes.now ≡ true) }
     ensures hidden { IfErr result (λ hidden. IsHiddenValue field.now bytes.now hidden.fault) }
 {
-    let mut cell = Vec::new(alloc);
+    // A packed byte has two digits; a point and a minus may come to them.
+    let room = usize::from(field.width).saturating_mul(2).saturating_add(2);
+    let Ok(mut cell) = Vec::with_capacity(alloc, room) else {
+        return Err(HiddenField {
+            field: *field,
+            fault: ShowFault::NoMemory,
+        });
+    };
     if let Err(fault) = field.show(bytes, &mut cell) {
         return Err(HiddenField {
             field: *field,

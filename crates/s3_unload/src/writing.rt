@@ -8,7 +8,7 @@ ghost use Rattle.s3_labels.specs.Contents.{contents_of};
 ghost use Rattle.s3_cells.specs.Inner.Fields.{LiesIn};
 ghost use Rattle.s3_unload.specs.Inner.Hidden.{hidden_fault};
 ghost use Rattle.s3_unload.specs.Inner.Opened.{IsOpened};
-ghost use Rattle.s3_unload.specs.Inner.Ordered.{ordered};
+ghost use Rattle.s3_unload.specs.Inner.Ordered.{in_order, ordered};
 ghost use Rattle.s3_unload.specs.Inner.Tables.{AddsText, IsBetweenRows, are_shown, heading, row_of, rows_text, setup, table_text};
 ghost use Rattle.s3_unload.specs.Inner.Unloads.{IsRowRefusal, IsRowsRefusal, IsUnloadRefusal, Unloads};
 
@@ -28,7 +28,8 @@ use std::io::Write;
 /// where the file has an index.
 ///
 /// Refused with `Mount`, `NotFound`, `DamagedLabel`, `OtherLength`, `BadIndex` and `NoMemory`, where nothing is written; with
-/// `Hidden` at the first record with a value that can't be shown, where the rows before it are written; and with `File`.
+/// `Hidden` at the first record with a value that can't be shown, by its number in the file, where the rows before it are written;
+/// and with `File`.
 pub fn unload<W: Write>(
     alloc: Global,
     pack: &[u8],
@@ -67,7 +68,7 @@ fn table(
     requires fits { label.now.record_length ≡ layout.now.record_length }
     ensures text { IfOk result (λ made. OnOk made.1 (made.0.items ≡ table_text delimiter layout.now.fields.items (ordered label.now store.old))) }
     ensures shown { IfOk result (λ made. OnOk made.1 (list_all (are_shown layout.now.fields.items) (ordered label.now store.old) ≡ true)) }
-    ensures hidden { IfOk result (λ made. IfErr made.1 (IsRowsRefusal layout.now.fields.items (ordered label.now store.old))) }
+    ensures hidden { IfOk result (λ made. IfErr made.1 (IsRowsRefusal layout.now.fields.items (in_order label.now store.old))) }
     ensures memory { IfErr result (λ fault. fault ≡ UnloadFault.NoMemory) }
 {
     let mut bytes = vec![in alloc; 0u8; usize::from(layout.record_length)]?;
@@ -114,7 +115,8 @@ fn write_row(row: &ByteRecord, writer: &mut Writer<Vec<u8>>) -> Result<(), Unloa
     }
 }
 
-/// Writes a row for each record.
+/// Writes a row for each record. Where one has a value that can't be shown, it is told by its number in the file.
+#[tactic(auto, using(crate::proofs::Opening::place_counted))]
 fn write_rows(
     alloc: Global,
     store: &mut MemoryStore,
@@ -130,16 +132,16 @@ fn write_rows(
     requires within { All (LiesIn label.now.record_length) fields.now }
     ensures text { (delimiter : ℕ) → IsBetweenRows delimiter writer.old → OnOk result (AddsText delimiter writer.old writer.new (rows_text delimiter fields.now (ordered label.now store.old))) }
     ensures shown { OnOk result (list_all (are_shown fields.now) (ordered label.now store.old) ≡ true) }
-    ensures hidden { IfErr result (IsRowsRefusal fields.now (ordered label.now store.old)) }
+    ensures hidden { IfErr result (IsRowsRefusal fields.now (in_order label.now store.old)) }
 {
     for n in 0..label.count {
-        records.read(store, label, n, bytes)?;
-        add_row(alloc, n, fields, bytes, writer)?;
+        let place = records.read(store, label, n, bytes)?;
+        add_row(alloc, place, fields, bytes, writer)?;
     }
     Ok(())
 }
 
-/// Writes the row of record `n`, from 0.
+/// Writes the row of record `n` of the file, from 0.
 fn add_row(
     alloc: Global,
     n: u32,

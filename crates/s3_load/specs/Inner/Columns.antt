@@ -3,6 +3,8 @@ use Rattle.std.specs.Prelude.{◌≡◌, ℕ, ◌+◌, ◌<◌, ◌==◌, ◌&&�
 use Rattle.std.specs.List.{AllPairs, Contains, filter, list_all, list_any, prefix_len, range_with_len}
 use Rattle.s3_cells.specs.Inner.Texts.{space, trimmed}
 use Rattle.s3_cells.specs.declared.field.Field.{Field}
+use Rattle.s3_cells.specs.declared.kind.FieldKind.{FieldKind}
+use Rattle.s3_cells.specs.declared.kind.FieldKind.TheVariants.{Text as TextKind, Zoned, Packed}
 use Rattle.s3_unload.specs.Inner.Tables.{name_text}
 use Rattle.s3_load.specs.declared.columns.Columns.{Columns}
 
@@ -42,6 +44,15 @@ overlap one other = nat_lt one.start (other.start + other.width) && nat_lt other
 abbrev pub LieApart : List Field → Type 0
 LieApart columns = AllPairs (λ one other. overlap one other ≡ false) columns
 
+abbrev pub is_number : FieldKind → Bool
+is_number TextKind = false
+is_number (Zoned decimals) = true
+is_number (Packed decimals) = true
+
+-- it has no byte in common with any of them, if it is a number, and so can be 0 beside them
+abbrev pub is_clear : List Field → Field → Bool
+is_clear columns field = not (is_number field.kind && list_any (λ other. overlap other field) columns)
+
 -- a byte is one of these fields
 abbrev pub is_inside : List Field → ℕ → Bool
 is_inside columns place = list_any (has_byte place) columns
@@ -55,9 +66,11 @@ abbrev pub left_out : List Field → List Field → List Field
 left_out columns fields = filter (λ field. not (is_covered columns field)) fields
 
 -- ---- a heading
--- these are its columns: each cell names one of the fields, no two of these lie over each other, and what they leave out is filled
+-- these are its columns: each cell names one of the fields, no two of these lie over each other, and what they leave out is filled,
+-- where no number of it lies partly under one of them
 pub record IsHeading (fields : List Field) (fills : Bool) (cells : List (List ℕ)) (columns : Columns) : Type 0 where
   pub named : AreNamed fields cells (length cells) columns.fields.items
   pub apart : LieApart columns.fields.items
   pub filled : columns.filled.items ≡ left_out columns.fields.items fields
   pub allowed : (fills ≡ true) ⊎ (columns.filled.items ≡ [])
+  pub clear : list_all (is_clear columns.fields.items) columns.filled.items ≡ true

@@ -1,5 +1,6 @@
 -- A file that records are put into, one behind another.
-use Rattle.std.specs.Prelude.{◌≡◌, ◌+◌, ℕ, true, List, [], ◌∷◌, ◌++◌, length, map}
+use Rattle.std.specs.Prelude.{◌≡◌, ◌+◌, ℕ, true, List, [], ◌∷◌, ◌++◌, length, map, slice_get}
+use Rattle.std.specs.List.{Contains}
 use Rattle.s3_store.specs.Bytes.{bytes_at}
 use Rattle.s3_slots.specs.Labels.{sectors_of}
 use Rattle.s3_slots.specs.declared.label.FileLabel.{FileLabel}
@@ -25,6 +26,10 @@ counted label count = record label { count = count }
 pub record HasMore (label : FileLabel) (added : List (List ℕ)) (old new : List (List ℕ)) (count : ℕ) : Type 0 where
   pub counts : count ≡ label.count + length added
   pub records : in_order (counted label count) new ≡ in_order label old ++ added
+
+-- no other sectors have changed
+pub record ChangesOnly (sectors : List ℕ) (old new : List (List ℕ)) : Type 0 where
+  pub others : (n : ℕ) → ¬ Contains sectors n → slice_get new n ≡ slice_get old n
 
 -- its index is that of its records
 abbrev pub HasGoodIndex : FileLabel → List (List ℕ) → Type 0

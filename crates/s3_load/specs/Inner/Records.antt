@@ -1,19 +1,12 @@
 -- Records, as rows of a table give them.
-use Rattle.std.specs.Prelude.{◌≡◌, ℕ, ◌<◌, false, List, [], length, get_or, take, replicate, if◌then◌else◌, Bool, true, pos}
+use Rattle.std.specs.Prelude.{◌≡◌, ℕ, ◌<◌, false, List, [], length, get_or, take, replicate, if◌then◌else◌, pos}
 use Rattle.std.specs.List.{fold}
 use Rattle.s3_cards.specs.declared.ebcdic.TheConstants.{BLANK}
 use Rattle.s3_store.specs.Inner.Bytes.{with_part}
 use Rattle.s3_cells.specs.Inner.Fields.{field_bytes}
 use Rattle.s3_cells.specs.Inner.Values.{GetsValue, IsAsWritten, Number, bytes_of}
 use Rattle.s3_cells.specs.declared.field.Field.{Field}
-use Rattle.s3_cells.specs.declared.kind.FieldKind.{FieldKind}
-use Rattle.s3_cells.specs.declared.kind.FieldKind.TheVariants.{Text as TextKind, Zoned, Packed}
-use Rattle.s3_load.specs.Inner.Columns.{is_inside}
-
-abbrev pub is_number : FieldKind → Bool
-is_number TextKind = false
-is_number (Zoned decimals) = true
-is_number (Packed decimals) = true
+use Rattle.s3_load.specs.Inner.Columns.{is_inside, is_number}
 
 -- a record in which a field, if it is of a number, has 0
 abbrev pub with_zero : List ℕ → Field → List ℕ

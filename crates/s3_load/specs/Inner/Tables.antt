@@ -11,6 +11,7 @@ use Rattle.s3_lines.specs.declared.sheet.KeyField.{KeyField}
 use Rattle.s3_load.specs.declared.columns.Columns.{Columns}
 use Rattle.s3_load.specs.declared.rows.Row.{Row}
 use Rattle.s3_load.specs.Inner.Columns.{IsHeading}
+use Rattle.s3_load.specs.Inner.KeyOrder.{AreInKeyOrder}
 use Rattle.s3_load.specs.Inner.Records.{IsRecordOf}
 
 -- how a table is read, with this byte between its cells
@@ -60,7 +61,7 @@ pub record AreRowsOf (text : List ℕ) (delimiter : ℕ) (heading : List (List �
   pub are_records : AreRecords (table_config delimiter) st.StartRecord (strip_bom text) (heading ∷ cells)
   pub made : AreRecordsOf record_length columns filled cells rows
 
--- these are the records of a table, each once; those of a file without a key stand in the order of the rows
+-- these are the records of a table, each once: in the order of their keys, or, where the file has none, of the rows
 pub record IsTable (text : List ℕ) (delimiter : ℕ) (record_length : ℕ) (fields : List Field) (fills : Bool) (key : Option KeyField) (rows : List Row) : Type 0 where
   pub heading : List (List ℕ)
   pub columns : Columns
@@ -69,3 +70,4 @@ pub record IsTable (text : List ℕ) (delimiter : ℕ) (record_length : ℕ) (fi
   pub are_rows : AreRowsOf text delimiter heading record_length columns.fields.items columns.filled.items made
   pub same : IsPermutation made rows
   pub unkeyed : key ≡ None → rows ≡ made
+  pub keyed : AreInKeyOrder key rows

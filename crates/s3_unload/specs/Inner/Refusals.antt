@@ -1,5 +1,5 @@
 -- Why files aren't unloaded.
-use Rattle.std.specs.Prelude.{◌≡◌, ℕ, List, Result, Err, ⊤}
+use Rattle.std.specs.Prelude.{◌≡◌, ℕ, List, Err, ⊤}
 use Rattle.s3_cards.specs.declared.name.Name.{Name}
 use Rattle.s3_slots.specs.Header.{mounted}
 use Rattle.s3_slots.specs.Slots.{standing}

@@ -8,7 +8,7 @@ use Rattle.s3_cells.specs.declared.field.Field.{Field}
 use Rattle.s3_cells.specs.declared.layout.Layout.{Layout}
 use Rattle.s3_unload.specs.Inner.Found.{IsFound}
 use Rattle.s3_unload.specs.Inner.Opened.{IsOpenRefusal}
-use Rattle.s3_unload.specs.Inner.Ordered.{ordered}
+use Rattle.s3_unload.specs.Inner.Ordered.{in_order, ordered}
 use Rattle.s3_unload.specs.Inner.Refusals.{IsFindRefusal}
 use Rattle.s3_unload.specs.Inner.Tables.{are_shown, table_text}
 use Rattle.s3_unload.specs.declared.found.Area.{Area}
@@ -24,7 +24,7 @@ pub record Unloads (area : Area) (name : Name) (layout : Layout) (delimiter : �
   pub shown : list_all (are_shown layout.fields.items) (ordered label contents) ≡ true
   pub written : Appends old new (table_text delimiter layout.fields.items (ordered label contents))
 
--- record number n, from 1, has a value that can't be shown
+-- of records in the order in which they were written, number n, from 1, has a value that can't be shown
 pub record HasHidden (fields : List Field) (records : List (List ℕ)) (number : ℕ) : Type 0 where
   pub bytes : List ℕ
   pub there : slice_get records (number - 1) ≡ Some bytes
@@ -67,7 +67,7 @@ IsUnloadRefusal area name layout contents NotFound = IsFindRefusal area name con
 IsUnloadRefusal area name layout contents DamagedLabel = IsFindRefusal area name contents DamagedLabel
 IsUnloadRefusal area name layout contents (OtherLength long) = Refuses area name contents (λ label. label.record_length ≢ layout.record_length)
 IsUnloadRefusal area name layout contents BadIndex = Refuses area name contents (λ label. IsOpenRefusal label contents BadIndex)
-IsUnloadRefusal area name layout contents (Hidden number field fault) = Refuses area name contents (λ label. HasHidden layout.fields.items (ordered label contents) number)
+IsUnloadRefusal area name layout contents (Hidden number field fault) = Refuses area name contents (λ label. HasHidden layout.fields.items (in_order label contents) number)
 IsUnloadRefusal area name layout contents (NoCharacter number position) = ⊥
 IsUnloadRefusal area name layout contents NoMemory = ⊤
 IsUnloadRefusal area name layout contents File = ⊤

@@ -1,10 +1,12 @@
-use Rattle.std.proofs.Common.{◌≡◌, ◌∙◌, arith, subst, sym, true}
+use Rattle.std.proofs.Common.{◌≡◌, ◌∙◌, arith, refl, subst, sym, true}
 use Rattle.std.proofs.lemmas.Bool.{cases_Bool}
 use Rattle.std.proofs.Common.{inl, inr}
+use Rattle.s3_slots.specs.Labels.{sectors_of}
 use Rattle.s3_files.proofs.Rooms.{of_pack_room}
 use Rattle.s3_keyed.proofs.Indexes.{of_pack_index}
+use Rattle.s3_keyed.specs.Inner.Keyed.{shown}
 use Rattle.s3_load.specs.Inner.Filling.{HasMore, records_of}
-use Rattle.s3_load.proofs.FillLemmas.{all_by_key, one_more_by_key}
+use Rattle.s3_load.proofs.FillLemmas.{all_by_key, one_more_by_key, only_closed, only_more}
 use Rattle.s3_load.proofs.filling.fill_by_key.Goals.{then-fits, else-fits}
 use Rattle.s3_load.proofs.filling.fill_by_key.Goals as goal
 
@@ -24,6 +26,7 @@ loop-row-preserved c = record {
     | else-fits w ↦ absurd (cc (w.fits-is, fits))
   ];
   long = c.put_row.ensures.long ∙ c.loop-row.invariant.long;
+  only = only_more (sectors_of c.args.label.now) (sectors_of c.args.label.now) c.check.new.pool c.loop-row.store c.put_row.new.store refl c.loop-row.invariant.only c.put_row.ensures.only;
 }
 
 pub returns-in-Ok-close-clause-records : goal.returns-in-Ok-close-clause-records
@@ -35,3 +38,11 @@ returns-in-Ok-close-clause-records c =
     (c.loop-row.invariant.records fits none) c.close.ensures.records in
     subst (λ s. HasMore c.args.label.now (records_of c.args.rows.now) s c.close.new.pool c.len-count.result) same
     (subst (λ n. HasMore c.args.label.now (records_of c.args.rows.now) c.check.new.pool c.close.new.pool n) (sym c.len-count.ensures) more)
+
+pub returns-in-Ok-close-clause-only : goal.returns-in-Ok-close-clause-only
+returns-in-Ok-close-clause-only c =
+    only_closed (sectors_of c.args.label.now) (shown c.loop-row.file).sectors c.args.store.now c.check.new.pool _ _ c.check.ensures.keeps.contents c.loop-row.invariant.work.sectors c.loop-row.invariant.only c.close.ensures.within
+
+pub returns-clause-only : goal.returns-clause-only
+returns-clause-only c =
+    only_closed (sectors_of c.args.label.now) (shown c.loop-row.file).sectors c.args.store.now c.check.new.pool _ _ c.check.ensures.keeps.contents c.loop-row.invariant.work.sectors c.loop-row.invariant.only c.close.ensures.within

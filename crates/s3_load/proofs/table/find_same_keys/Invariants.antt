@@ -1,5 +1,9 @@
 use Rattle.std.proofs.Common.{◌≡◌}
+use Rattle.s3_load.proofs.KeyLemmas.{AscendBelow}
 use Rattle.s3_load.proofs.table.find_same_keys.Given as goal
 
-abbrev pub invariant-loop-one : goal.invariant-loop-one
-invariant-loop-one l = l.faults.count ≡ 0 → l.initial.faults.count ≡ 0
+abbrev pub invariant-loop-place : goal.invariant-loop-place
+invariant-loop-place l = record {
+  before : l.faults.count ≡ 0 → l.initial.faults.count ≡ 0;
+  below : l.faults.count ≡ 0 → AscendBelow l.key l.rows l.place;
+}

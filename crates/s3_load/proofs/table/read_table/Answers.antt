@@ -25,4 +25,5 @@ returns g c = λ text source.
       are_rows = c.in_ok-rows.ensures.rows (c.in_ok-sort_by_key.ensures.before none) text heading begun;
       same = c.in_ok-sort_by_key.ensures.same;
       unkeyed = c.sort_by_key.ensures.unkeyed;
+      keyed = c.in_ok-sort_by_key.ensures.keyed none;
     }

@@ -1,4 +1,4 @@
-use Rattle.std.proofs.Common.{◌≡◌, ◌∙◌, ap, sym}
+use Rattle.std.proofs.Common.{◌∙◌, ap}
 use Rattle.csv.specs.Writing.{with_delimiter}
 use Rattle.s3_unload.specs.Inner.Tables.{IsBetweenRows}
 use Rattle.s3_unload.proofs.RowLemmas.{begun, table_made}

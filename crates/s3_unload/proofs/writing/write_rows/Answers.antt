@@ -4,14 +4,19 @@ use Rattle.std.specs.Prelude.{Some, slice_get}
 use Rattle.std.proofs.lemmas.List.{take_all}
 use Rattle.s3_unload.specs.Inner.Ordered.{ordered}
 use Rattle.s3_unload.specs.Inner.Tables.{AddsText, are_shown, rows_text}
-use Rattle.s3_unload.proofs.Opening.{ordered_counted}
-use Rattle.s3_unload.proofs.RowLemmas.{adds_more, adds_none, rows_more, shown_more}
+use Rattle.s3_unload.proofs.Opening.{ordered_counted, place_counted}
+use Rattle.s3_unload.proofs.RowLemmas.{adds_more, rows_more, shown_more}
 use Rattle.s3_unload.proofs.writing.write_rows.Goals as goal
+
+pub add_row-requires-clause-number : goal.add_row-requires-clause-number
+add_row-requires-clause-number c =
+    let low = place_counted c.args.label.now c.loop-n.store c.in_ok-place.place c.read.new.bytes c.in_ok-place.ensures.place in
+    omega arith
 
 pub loop-n-preserved : goal.loop-n-preserved
 loop-n-preserved c =
     let got : slice_get (ordered c.args.label.now c.args.store.now) c.loop-n.n ≡ Some c.read.new.bytes =
-    sym (ap (λ s. slice_get (ordered c.args.label.now s) c.loop-n.n) c.loop-n.invariant.same) ∙ c.in_ok-read.ensures.ok in
+    sym (ap (λ s. slice_get (ordered c.args.label.now s) c.loop-n.n) c.loop-n.invariant.same) ∙ c.in_ok-place.ensures.ok in
     let there : c.loop-n.n < length (ordered c.args.label.now c.args.store.now) = omega (arith, ordered_counted c.args.label.now c.args.store.now) in
     record {
       same = c.read.ensures.keeps ∙ c.loop-n.invariant.same;

@@ -1,0 +1,22 @@
+-- Rows in the order of their keys, character by character.
+use Rattle.std.specs.Prelude.{◌≡◌, ℕ, ◌+◌, ◌-◌, ⊤, Option, Some, None, List, [], length, nat_le, if◌then◌else◌}
+use Rattle.std.specs.Cmp.Lexicographic.{slice_cmp}
+use Rattle.std.specs.List.{AllPairs}
+use Rattle.std.specs.Ordering.{nat_cmp}
+use Rattle.std.specs.declared.cmp.Ordering.TheVariants.{Less}
+use Rattle.s3_store.specs.Bytes.{part}
+use Rattle.s3_lines.specs.declared.sheet.KeyField.{KeyField}
+use Rattle.s3_load.specs.declared.rows.Row.{Row}
+
+-- the bytes of the key of a record; none where it doesn't lie in the record
+abbrev pub key_in : KeyField → List ℕ → List ℕ
+key_in key bytes = if nat_le (key.start - 1 + key.length) (length bytes) then part bytes (key.start - 1) key.length else []
+
+-- of the first characters of two keys that differ, the first row's is the less
+abbrev pub ComesBefore : KeyField → Row → Row → Type 0
+ComesBefore key one other = slice_cmp nat_cmp (key_in key one.bytes.items) (key_in key other.bytes.items) ≡ Less
+
+-- where the file has a key, each row comes before all those behind it, so no two have the same key
+abbrev pub AreInKeyOrder : Option KeyField → List Row → Type 0
+AreInKeyOrder None rows = ⊤
+AreInKeyOrder (Some key) rows = AllPairs (ComesBefore key) rows

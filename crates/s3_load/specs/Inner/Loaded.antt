@@ -1,0 +1,129 @@
+-- A file of a pack that a table was loaded into, and what stays of the pack.
+use Rattle.std.specs.Prelude.{◌≡◌, ◌<◌, ◌≤◌, ◌++◌, ◌==◌, ◌&&◌, ℕ, Bool, true, false, Option, Some, None, List, [], slice_get, Ok, if◌then◌else◌}
+use Rattle.std.specs.List.{position_from}
+use Rattle.s3_cards.specs.declared.levels.LevelId.{LevelId}
+use Rattle.s3_cards.specs.declared.name.Name.{Name}
+use Rattle.s3_lines.specs.declared.sheet.KeyField.{KeyField}
+use Rattle.s3_slots.specs.Header.{mounted}
+use Rattle.s3_slots.specs.Labels.{is_indexed}
+use Rattle.s3_slots.specs.Slots.{bears, standing}
+use Rattle.s3_slots.specs.declared.header.Header.{Header}
+use Rattle.s3_slots.specs.declared.label.FileLabel.{FileLabel}
+use Rattle.s3_slots.specs.declared.label.Organization.{Organization}
+use Rattle.s3_slots.specs.declared.label.Organization.TheVariants.{Indexed, Sequential}
+use Rattle.s3_slots.specs.declared.making.NewFile.{NewFile}
+use Rattle.s3_slots.specs.declared.slot.Slot.{Slot}
+use Rattle.s3_slots.specs.declared.slot.Slot.TheVariants.{Damaged, Free, Sound}
+use Rattle.s3_slots.specs.declared.slot.Standing.{Standing}
+use Rattle.s3_slots.specs.declared.slot.Standing.TheVariants.{Absent, Blocked, Present}
+use Rattle.s3_labels.specs.Areas.{area_of}
+use Rattle.s3_labels.specs.Inner.Areas.{areas_on, slots_at}
+use Rattle.s3_unload.specs.Inner.Ordered.{in_order}
+use Rattle.s3_pack_care.specs.Inner.Kept.{IsOther, KeepsFile, slot_on}
+use Rattle.s3_load.specs.declared.order.Order.{Order}
+use Rattle.s3_load.specs.declared.rows.Row.{Row}
+use Rattle.s3_load.specs.Inner.Filling.{HasGoodIndex, counted, records_of}
+use Rattle.s3_load.specs.Inner.Tables.{IsTable}
+
+-- ---- the file that is asked for
+-- a file has the key of the F card; without one its records stand in order
+abbrev pub has_key_by : Option KeyField → Organization → (key_length key_start : ℕ) → Bool
+has_key_by None Sequential key_length key_start = true
+has_key_by (Some key) Indexed key_length key_start = (key_length == key.length) && (key_start == key.start)
+has_key_by _ _ key_length key_start = false
+
+abbrev pub has_key : Option KeyField → FileLabel → Bool
+has_key key label = has_key_by key label.organization label.key_length label.key_start
+
+-- it has the label, the record length and the key that the order says
+pub record IsAsked (order : Order) (label : FileLabel) : Type 0 where
+  pub named : label.name ≡ order.name
+  pub long : label.record_length ≡ order.layout.now.record_length
+  pub keyed : has_key order.key label ≡ true
+
+-- the same of a file that is to be made
+pub record IsNewOf (order : Order) (new : NewFile) : Type 0 where
+  pub named : new.name ≡ order.name
+  pub long : new.record_length ≡ order.layout.now.record_length
+  pub keyed : has_key_by order.key new.organization new.key_length new.key_start ≡ true
+
+-- the records of the file that stands there, in the order in which they were written
+abbrev pub records_under : Standing → List (List ℕ) → List (List ℕ)
+records_under (Present label) contents = in_order label contents
+records_under Absent contents = []
+records_under Blocked contents = []
+
+-- the records in front of those that are loaded: those of the level's file of that label, where these go behind them
+abbrev pub records_before : Order → Header → List (List ℕ) → List (List ℕ)
+records_before order header contents = if order.appends then records_under (standing order.name (slots_at order.level (areas_on header contents))) contents else []
+
+-- ---- what becomes of the slots
+-- slot i of an area has the file of that label, in whose place a new one comes
+pub record IsReplaced (order : Order) (header : Header) (contents : List (List ℕ)) (a i : ℕ) : Type 0 where
+  pub anew : order.appends ≡ false
+  pub own : a ≡ area_of order.level
+  pub place : position_from (bears order.name) 0 (slots_at order.level (areas_on header contents)) ≡ Some i
+
+-- The slots and files beside one slot: that of an old file that is replaced is free, each other one is as it was, and its file has
+-- the same bytes.
+pub record KeepsOthers (order : Order) (slot : ℕ) (header : Header) (old new : List (List ℕ)) : Type 0 where
+  pub kept : (a i : ℕ) → IsOther (area_of order.level) slot a i → ¬ IsReplaced order header old a i → KeepsFile header old new a i
+  pub freed : (a i : ℕ) → IsOther (area_of order.level) slot a i → IsReplaced order header old a i → slot_on header new a i ≡ Some Free
+
+abbrev pub is_damaged : Slot → Bool
+is_damaged (Damaged name) = true
+is_damaged Free = false
+is_damaged (Sound label) = false
+
+abbrev pub is_damaged_at : Option Slot → Bool
+is_damaged_at (Some slot) = is_damaged slot
+is_damaged_at None = false
+
+-- no slot of the level's area is damaged
+abbrev pub HasNoDamage : Order → Header → List (List ℕ) → Type 0
+HasNoDamage order header contents = (i : ℕ) → i < 32 → is_damaged_at (slot_on header contents (area_of order.level) i) ≡ false
+
+-- ---- steps
+-- the file that is asked for stands in a slot: a new one without records, where no slot was damaged, or the one that was there
+pub record IsPlaced (order : Order) (header : Header) (old new : List (List ℕ)) (label : FileLabel) : Type 0 where
+  pub slot : ℕ
+  pub slot_in : slot < 32
+  pub there : slot_on header new (area_of order.level) slot ≡ Some (Sound label)
+  pub asked : IsAsked order label
+  pub begins : in_order label new ≡ records_before order header old
+  pub others : KeepsOthers order slot header old new
+  pub undamaged : order.appends ≡ false → HasNoDamage order header old
+
+-- the label of a level's file has another count, and nothing else has changed
+pub record IsCounted (level : LevelId) (name : Name) (count : ℕ) (header : Header) (old new : List (List ℕ)) : Type 0 where
+  pub mounts : mounted new ≡ Ok header
+  pub slot : ℕ
+  pub label : FileLabel
+  pub was : slot_on header old (area_of level) slot ≡ Some (Sound label)
+  pub named : label.name ≡ name
+  pub there : slot_on header new (area_of level) slot ≡ Some (Sound (counted label count))
+  pub others : (a i : ℕ) → IsOther (area_of level) slot a i → slot_on header new a i ≡ slot_on header old a i
+  pub behind : (n : ℕ) → 168 ≤ n → slice_get new n ≡ slice_get old n
+
+-- ---- a pack with a file that was loaded
+-- A slot of the level's area has the file that is asked for. Its records are those in front, if these go behind some, and then those
+-- that were loaded; an index is that of all of them.
+pub record HasFile (order : Order) (added : List (List ℕ)) (header : Header) (old new : List (List ℕ)) : Type 0 where
+  pub mounts : mounted new ≡ Ok header
+  pub slot : ℕ
+  pub slot_in : slot < 32
+  pub label : FileLabel
+  pub there : slot_on header new (area_of order.level) slot ≡ Some (Sound label)
+  pub asked : IsAsked order label
+  pub records : in_order label new ≡ records_before order header old ++ added
+  pub index : is_indexed label.organization ≡ true → HasGoodIndex label new
+  pub others : KeepsOthers order slot header old new
+  pub undamaged : order.appends ≡ false → HasNoDamage order header old
+
+-- The pack has the records of a table in the file that is asked for, if the bytes of the table are known.
+pub record IsLoaded (order : Order) (text : Option (List ℕ)) (old new : List (List ℕ)) : Type 0 where
+  pub rows : List Row
+  pub table : (bytes : List ℕ) → text ≡ Some bytes → IsTable bytes order.delimiter order.layout.now.record_length order.layout.now.fields.items order.fills order.key rows
+  pub header : Header
+  pub mounts : mounted old ≡ Ok header
+  pub filled : HasFile order (records_of rows) header old new

@@ -1,0 +1,156 @@
+-- The records of rows are bytes.
+use Rattle.std.proofs.Common.{◌≡◌, ℕ, zero, suc, ◌+◌, ◌-◌, ◌*◌, ◌^◌, ◌<◌, ◌≤◌, refl, arith, sym, ◌∙◌, ap, subst, inl, inr, Bool, true, false, ◌==◌, ◌&&◌, cond, List, [], ◌∷◌, ◌++◌, length, take, drop, replicate, get_or, nat_le, nat_lt, pos}
+use Rattle.std.specs.Prelude.{Some, find, unwrap_or}
+use native.Mathlib.Numerals.{unary_clauses}
+use Rattle.std.proofs.Math.Nat.{mul-le-mul_left}
+use Rattle.std.specs.List.{list_all}
+use Rattle.std.specs.Option.{option_map}
+use Rattle.std.proofs.lemmas.Bool.{and_parts, cases_Bool, leb-true, ltb-true}
+use Rattle.std.proofs.lemmas.List.{get_or-drop, get_or-take}
+use Rattle.std.proofs.lemmas.List.Folds.{Any-from_list_any}
+use Rattle.s3_cards.specs.Codes.{code_page, ebcdic}
+use Rattle.s3_cards.specs.declared.ebcdic.TheConstants.{BLANK}
+use Rattle.s3_decimal.specs.Records.{low_half, packed_bytes, zone_at, zoned_bytes}
+use Rattle.s3_store.specs.Bytes.{part}
+use Rattle.s3_store.specs.Inner.Bytes.{with_part}
+use Rattle.s3_keyed.specs.KeyOrder.{number_of}
+use Rattle.s3_cells.specs.Inner.Fields.{field_bytes}
+use Rattle.s3_cells.specs.Inner.Values.{Value, bytes_of, Number, Characters}
+use Rattle.s3_cells.specs.declared.field.Field.{Field}
+use Rattle.s3_cells.specs.declared.kind.FieldKind.{FieldKind}
+use Rattle.s3_cells.specs.declared.kind.FieldKind.TheVariants.{Text as TextKind, Zoned, Packed}
+use Rattle.s3_load.specs.Inner.Columns.{has_byte, is_inside, is_number}
+use Rattle.s3_load.specs.Inner.Records.{IsRecordOf, empty_record, with_zero, with_zeros}
+
+unfoldable pub AreBytes : List ℕ → Type 0
+AreBytes [] = Unit {0}
+AreBytes (b ∷ bs) = (b < 256) × AreBytes bs
+
+from_places : (xs : List ℕ) → ((i : ℕ) → get_or xs i 0 < 256) → AreBytes xs
+unfolding AreBytes
+from_places [] h = tt
+from_places (x ∷ xs) h = (h zero, from_places xs (λ i. h (suc i)))
+
+pub bytes_taken : (n : ℕ) (xs : List ℕ) → AreBytes xs → AreBytes (take n xs)
+unfolding AreBytes
+bytes_taken zero xs h = tt
+bytes_taken (suc n) [] h = tt
+bytes_taken (suc n) (x ∷ xs) h = (h.0, bytes_taken n xs h.1)
+
+pub bytes_dropped : (n : ℕ) (xs : List ℕ) → AreBytes xs → AreBytes (drop n xs)
+unfolding AreBytes
+bytes_dropped zero xs h = h
+bytes_dropped (suc n) [] h = tt
+bytes_dropped (suc n) (x ∷ xs) h = bytes_dropped n xs h.1
+
+pub number_of_fits : (xs : List ℕ) → AreBytes xs → number_of xs < 256 ^ length xs
+unfolding number_of AreBytes
+number_of_fits [] h = omega arith
+number_of_fits (x ∷ xs) h =
+    let rest = number_of_fits xs h.1 in
+    let p = 256 ^ length xs in
+    let byte : x + 1 ≤ 256 = omega (arith, h.0) in
+    let top = mul-le-mul_left p byte in
+    let whole : 256 ^ suc (length xs) ≡ p * 256 = simp unary_clauses (omega arith) in
+    omega (arith, top, whole, rest)
+
+joined : (xs ys : List ℕ) → AreBytes xs → AreBytes ys → AreBytes (xs ++ ys)
+unfolding AreBytes
+joined [] ys h k = k
+joined (x ∷ xs) ys h k = (h.0, joined xs ys h.1 k)
+
+repeated : (n byte : ℕ) → byte < 256 → AreBytes (replicate n byte)
+unfolding AreBytes
+repeated zero byte h = tt
+repeated (suc n) byte h = (h, repeated n byte h)
+
+byte_at : (xs : List ℕ) (i : ℕ) → AreBytes xs → get_or xs i 0 < 256
+unfolding AreBytes
+byte_at [] i h = omega arith
+byte_at (x ∷ xs) zero h = h.0
+byte_at (x ∷ xs) (suc i) h = byte_at xs i h.1
+
+-- ---- texts
+abbrev is_low : ℕ × ℕ → Bool
+is_low entry = nat_lt entry.0 256
+
+page_is_low : list_all is_low code_page ≡ true
+unfolding code_page
+page_is_low = refl
+
+code_below : (p : ℕ × ℕ → Bool) (page : List (ℕ × ℕ)) → list_all is_low page ≡ true → unwrap_or (option_map (λ entry. entry.0) (find p page)) 0 < 256
+code_below p [] h = omega arith
+code_below p (x ∷ xs) h =
+    let both = and_parts (is_low x) (list_all is_low xs) h in
+    elim (p x) as (λ b. unwrap_or (option_map (λ (entry : ℕ × ℕ). entry.0) (cond b (Some x) (find p xs))) 0 < 256) [ true ↦ ltb-true x.0 256 both.0 | false ↦ code_below p xs both.1 ]
+
+coded : (text : List ℕ) → AreBytes (ebcdic text)
+unfolding AreBytes ebcdic
+coded [] = tt
+coded (x ∷ xs) = (code_below (λ entry. entry.1 == x) code_page page_is_low, coded xs)
+
+-- ---- numbers
+zone_below : (negative : Bool) (place : ℕ) → zone_at negative place ≤ 240
+zone_below negative place = elim ((place == 0) && negative) as (λ b. cond b 0xd0 0xf0 ≤ 240) [ true ↦ omega arith | false ↦ omega arith ]
+
+zoned : (negative : Bool) (width n : ℕ) → AreBytes (zoned_bytes negative width n)
+unfolding AreBytes
+zoned negative zero n = tt
+zoned negative (suc place) n = let zone = zone_below negative place in (omega (arith, zone), zoned negative place n)
+
+half_below : (negative : Bool) (place n : ℕ) → low_half negative place n < 16
+half_below true zero n = omega arith
+half_below false zero n = omega arith
+half_below negative (suc place) n = omega arith
+
+packed : (negative : Bool) (width n : ℕ) → AreBytes (packed_bytes negative width n)
+unfolding AreBytes
+packed negative zero n = tt
+packed negative (suc place) n = let half = half_below negative place n in (omega (arith, half), packed negative place n)
+
+value_bytes : (kind : FieldKind) (width : ℕ) (value : Value) → AreBytes (bytes_of kind width value)
+unfolding AreBytes
+value_bytes TextKind width (Characters text) = joined (ebcdic text) (replicate (width - length text) BLANK) (coded text) (repeated (width - length text) BLANK (omega arith))
+value_bytes (Zoned decimals) width (Number value) = zoned _ width _
+value_bytes (Packed decimals) width (Number value) = packed _ width _
+value_bytes (Zoned decimals) width (Characters text) = tt
+value_bytes (Packed decimals) width (Characters text) = tt
+value_bytes TextKind width (Number value) = tt
+
+-- ---- records
+zero_bytes : (bytes : List ℕ) (field : Field) → AreBytes bytes → AreBytes (with_zero bytes field)
+zero_bytes bytes field h =
+    let piece = bytes_of field.kind field.width (Number (pos 0)) in
+    elim (is_number field.kind) as (λ b. AreBytes (cond b (with_part bytes field.start piece) bytes)) [
+      | true ↦ joined (take field.start bytes ++ piece) (drop (field.start + length piece) bytes) (joined (take field.start bytes) piece (bytes_taken field.start bytes h) (value_bytes field.kind field.width (Number (pos 0)))) (bytes_dropped (field.start + length piece) bytes h)
+      | false ↦ h
+    ]
+
+zeros_bytes : (bytes : List ℕ) (fields : List Field) → AreBytes bytes → AreBytes (with_zeros bytes fields)
+zeros_bytes bytes [] h = h
+zeros_bytes bytes (x ∷ xs) h = zeros_bytes (with_zero bytes x) xs (zero_bytes bytes x h)
+
+byte_in : (bytes : List ℕ) (start width place : ℕ) → start ≤ place → place < start + width → get_or (part bytes start width) (place - start) 0 ≡ get_or bytes place 0
+byte_in bytes start width place low high =
+    let at : start + (place - start) ≡ place = omega arith in
+    get_or-take width (drop start bytes) (place - start) 0 (omega arith) ∙ get_or-drop start bytes (place - start) 0 ∙ ap (λ i. get_or bytes i 0) at
+
+within_field : (field : Field) (bytes : List ℕ) (place : ℕ) → has_byte place field ≡ true → AreBytes (field_bytes field bytes) → get_or bytes place 0 < 256
+within_field field bytes place has h =
+    let both = and_parts (nat_le field.start place) (nat_lt place (field.start + field.width)) has in
+    subst (λ b. b < 256) (byte_in bytes field.start field.width place (leb-true field.start place both.0) (ltb-true place (field.start + field.width) both.1)) (byte_at (field_bytes field bytes) (place - field.start) h)
+
+pub record_bytes : (record_length : ℕ) (columns filled : List Field) (cells : List (List ℕ)) (bytes : List ℕ) → IsRecordOf record_length columns filled cells bytes → AreBytes bytes
+record_bytes n columns filled cells bytes is = from_places bytes each
+  where
+    each : (place : ℕ) → get_or bytes place 0 < 256
+    each place = elim (cases_Bool (is_inside columns place)) [
+      | inl inside ↦
+          let there = Any-from_list_any (has_byte place) columns inside in
+          let f : Field = there.1 in
+          let got = is.said there.0 f there.2 in
+          let g : Field = get_or columns there.0 f in
+          let has : has_byte place g ≡ true = subst (λ (x : Field). has_byte place x ≡ true) (sym there.3) there.4 in
+          within_field g bytes place has (subst AreBytes (sym got.written) (value_bytes g.kind g.width got.value))
+      | inr outside ↦ subst (λ b. b < 256) (sym (is.rest place outside)) (byte_at (empty_record n filled) place (zeros_bytes (replicate n BLANK) filled (repeated n BLANK (omega arith))))
+    ]
