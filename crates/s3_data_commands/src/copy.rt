@@ -3,11 +3,12 @@ ghost use Rattle.std.specs.Prelude.{◌≤◌, ◌<◌};
 
 use crate::fault::Fault;
 use crate::pack_words::{
-    area_number, care_sentence, label_of, label_sentence, mount_sentence, pack_of, pack_to_change,
-    refused, saved, tell_done, value_of,
+    area_number, care_sentence, keep_input, label_of, label_sentence, mount_sentence,
+    no_room_for_copy, pack_of, pack_to_change, refused, saved, tell_done, value_of,
 };
 use crate::words::{file_word, overwrite_word, save_word, value_word};
 use clap::{ArgMatches, Command};
+use s3_labels::LabelFault;
 use s3_pack_care::CareFault;
 use std::alloc::{AllocError, Global};
 
@@ -64,10 +65,20 @@ fn copy_file(rt: &HostRuntime, matches: &ArgMatches<'_>) -> Result<(), Fault> {
     let new_label = matches.get_str("as").unwrap_or(label);
     let new_name = label_of(rt, new_label)?;
     let save = value_of(matches, "save");
+    let path = value_of(matches, "pack");
     let (into, locked) = pack_to_change(rt, matches, value_of(matches, "into"), save)?;
-    let from = pack_of(rt, value_of(matches, "pack"))?;
+    if locked.is_none() {
+        keep_input(rt, save, path)?;
+    }
+    let from = pack_of(rt, path)?;
     match s3_pack_care::copy(rt.alloc(), from, area, name, into, to_area, new_name) {
         Ok(pack) => saved(rt, save, locked, &pack)?,
+        Err(CareFault::Label(LabelFault::NoSpace)) => {
+            let into = value_of(matches, "into");
+            return Err(Fault::Refused(no_room_for_copy(
+                rt, path, area, name, into, to_area, new_label,
+            )?));
+        }
         Err(fault) => return Err(refusal(rt.alloc(), matches, area, to_area, fault)),
     }
     let sentence = format!(in rt.alloc();

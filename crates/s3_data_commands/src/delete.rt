@@ -6,7 +6,7 @@ use crate::pack_words::{
     area_number, care_sentence, label_of, pack_to_change, refused, saved, tell_done, value_of,
     wrong_words,
 };
-use crate::words::{file_word, flag, overwrite_word, value_word};
+use crate::words::{file_word, flag, overwrite_word, save_word, value_word};
 use clap::{ArgMatches, Command, value_parser};
 use s3_pack_care::{CareFault, Chosen};
 use std::alloc::{AllocError, Global};
@@ -16,11 +16,7 @@ pub fn delete_command<'a>(alloc: Global) -> Result<Command<'a>, AllocError> {
     Command::new(alloc, "delete")
         .about("Deletes a file from a pack, or frees a damaged slot")
         .arg(file_word(alloc, "pack").required(true).help("The pack"))?
-        .arg(
-            file_word(alloc, "save")
-                .required(true)
-                .help("Where the pack is written"),
-        )?
+        .arg(save_word(alloc))?
         .arg(
             value_word(alloc, "area", "AREA")
                 .required(true)
@@ -85,8 +81,11 @@ fn refusal_sentence(
     fault: CareFault,
 ) -> Result<String, AllocError> {
     let path = value_of(matches, "pack");
-    let label = matches.get_str("label").unwrap_or("");
     let slot = matches.get_one::<u16>("slot").unwrap_or(0);
+    let file = match matches.get_str("label") {
+        Some(label) => String::from_str(alloc, label)?,
+        None => format!(in alloc; "the file in slot {slot}")?,
+    };
     match fault {
         CareFault::NoFile => format!(in alloc;
             "slot {slot} in area {area} of {path} has no file; `bureau list --pack {path} --table` shows the slots that have one"
@@ -94,7 +93,7 @@ fn refusal_sentence(
         CareFault::NoSlot => format!(in alloc;
             "area {area} of {path} has no slot {slot}; its slots are 0 to 31"
         ),
-        _ => care_sentence(alloc, path, area, label, fault),
+        _ => care_sentence(alloc, path, area, file.as_str(), fault),
     }
 }
 

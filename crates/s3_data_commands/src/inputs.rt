@@ -1,15 +1,23 @@
-//! What the words of `unload` give: layouts and delimiters.
-ghost use Rattle.std.specs.Prelude.{◌≤◌, length};
+//! What the words of `unload` and `load` give: layouts and delimiters.
+ghost use Rattle.std.specs.Prelude.{◌≤◌, length, IfOk, IfSome};
 
 use crate::fault::{Fault, of_call};
 use crate::pack_words::{label_of, wrong_words};
 use crate::sentences::layout_sentence;
 use clap::ArgMatches;
+use s3_blame::diagnostic_words;
 use s3_cards::ebcdic::{AMPERSAND, ASTERISK, SLASH};
-use s3_cards::{Card, Deck, DeckFault, Name};
+use s3_cards::{Card, CardFault, Deck, DeckFault, Name};
+use s3_deck_files::{CardRange, DeckText};
+use s3_deck_jobs::{Statements, jobs_of};
 use s3_host_files::read_within;
 use s3_layout::{Choice, LayoutFault, SourceLayout, read_layout};
 use s3_lines::indicator::Indicator;
+use s3_paper_commands::{is_plain_text, tell_punched};
+use s3_punch::{Begun, Part, Punched, punch};
+use s3_sheets::{SheetFault, read_sheets};
+use std::alloc::AllocError;
+use std::io::Write;
 
 /// The most bytes of a deck that is read.
 const DECK_LIMIT: usize = 4_194_304;
@@ -21,7 +29,7 @@ pub fn delimiter_of(rt: &HostRuntime, matches: &ArgMatches<'_>) -> Result<u8, Fa
         [byte] if byte.is_ascii() && !matches!(byte, b'"' | b'\n' | b'\r') => Ok(*byte),
         _ => Err(wrong_words(
             rt.alloc(),
-            "a delimiter is one character, and neither a quote nor the end of a line",
+            "a delimiter is one character of ASCII, as , or ; or | or a tab, and neither a quote nor the end of a line",
         )),
     }
 }
@@ -33,12 +41,39 @@ pub fn layout_of(
     path: &str,
 ) -> Result<SourceLayout, Fault> {
     let choice = choice_of(rt, matches)?;
-    let deck = deck_at(rt, path)?;
-    let (from, to) = source_of(deck.cards());
-    match read_layout(rt.alloc(), &deck, from, to, choice) {
+    let text = text_at(rt, path)?;
+    let deck = deck_of(rt, &text)?;
+    let Some(source) = source_of(rt, &deck)? else {
+        return Err(Fault::Refused(format!(in rt.alloc();
+            "the deck {path} has no source: no job of it compiles one, and it doesn't begin with the cards of one; give the deck of a program, or the cards of its source alone"
+        )?));
+    };
+    match read_layout(rt.alloc(), &deck, source.from, source.to, choice) {
         Ok(layout) => Ok(layout),
         Err(LayoutFault::NoMemory) => Err(Fault::NoMemory),
-        Err(fault) => Err(Fault::Refused(layout_sentence(rt.alloc(), path, &fault)?)),
+        Err(fault) => {
+            if let LayoutFault::Card { .. } = fault {
+                tell_cards(rt, &text, &deck, source);
+            }
+            Err(Fault::Refused(layout_sentence(rt.alloc(), path, &fault)?))
+        }
+    }
+}
+
+/// Tells each diagnostic of the cards of a source, a line each.
+fn tell_cards(rt: &HostRuntime, text: &DeckText<'_>, deck: &Deck, source: CardRange)
+    requires order { source.from ≤ source.to }
+    requires within { source.to ≤ length deck.now }
+{
+    let Err(SheetFault::Diagnostics(found)) = read_sheets(rt.alloc(), deck, source.from, source.to)
+    else {
+        return;
+    };
+    for diagnostic in &found {
+        let place = text.place_of(usize::from(diagnostic.card));
+        let number = diagnostic.number;
+        let words = diagnostic_words(number);
+        let _ = writeln!(rt.stderr(), "{place}: diagnostic {number}, {words}");
     }
 }
 
@@ -65,18 +100,75 @@ fn source_file_of(rt: &HostRuntime, text: &str) -> Result<Name, Fault> {
     }
 }
 
-/// The cards in the file at a path.
-fn deck_at(rt: &HostRuntime, path: &str) -> Result<Deck, Fault> {
-    let text = match read_within(rt, path, DECK_LIMIT) {
-        Ok(text) => text,
+/// The cards of the file at a path, each with its line there. A file of plain text is punched; what is wrong with it is told.
+fn text_at<'a>(rt: &HostRuntime, path: &'a str) -> Result<DeckText<'a>, Fault> {
+    let bytes = match read_within(rt, path, DECK_LIMIT) {
+        Ok(bytes) => bytes,
         Err(error) => return Err(of_call(rt, &error, path)),
     };
-    match Deck::read(rt.alloc(), &text) {
+    let mut text = DeckText::new(rt.alloc());
+    if is_plain_text(path) {
+        let punched = punched_of(rt, &bytes)?;
+        if !punched.faults.is_empty() {
+            tell_punched(rt, path, &punched);
+            return Err(Fault::Refused(format!(in rt.alloc();
+                "the text {path} can't be punched; mend what is told above"
+            )?));
+        }
+        add_punched(&mut text, path, punched)?;
+    } else {
+        text.add(path, bytes)?;
+    }
+    Ok(text)
+}
+
+/// What is punched of a plain text: one that doesn't begin with a statement is a source from its first line on, with the tabs of one.
+fn punched_of(rt: &HostRuntime, text: &[u8]) -> Result<Punched, AllocError> {
+    let begun = Begun::new(false);
+    let punched = punch(rt.alloc(), text, &begun)?;
+    if punched.text.starts_with(b"//") {
+        return Ok(punched);
+    }
+    let begun = Begun {
+        part: Part::Source,
+        cards: 0,
+        blanks_remarks: false,
+    };
+    punch(rt.alloc(), text, &begun)
+}
+
+/// Puts the cards that were punched of a file into a text.
+fn add_punched<'a>(
+    text: &mut DeckText<'a>,
+    path: &'a str,
+    punched: Punched,
+) -> Result<(), AllocError> {
+    let Punched {
+        text: cards,
+        origins,
+        changes: _changes,
+        faults: _faults,
+        part: _part,
+    } = punched;
+    text.add_punched(path, cards, &origins)
+}
+
+/// The cards of a text.
+fn deck_of(rt: &HostRuntime, text: &DeckText<'_>) -> Result<Deck, Fault> {
+    match Deck::read(rt.alloc(), text.text()) {
         Ok(deck) => Ok(deck),
         Err(DeckFault::NoMemory) => Err(Fault::NoMemory),
-        Err(DeckFault::At(card, fault)) => Err(Fault::Refused(format!(in rt.alloc();
-            "card {card} of the deck {path} is {fault}; mend it, and unload again"
-        )?)),
+        Err(DeckFault::At(card, fault)) => {
+            let place = text.place_of(usize::from(card));
+            let cure = match fault {
+                CardFault::TooWide => "is over 96 columns; shorten its line",
+                CardFault::BadCharacter =>
+                    "has a character that no card can have; write one that cards have, or give the text a name that ends in .rpg, so that it is punched",
+                CardFault::TooMany =>
+                    "is the last that a deck can have; cut the source out of the deck",
+            };
+            Err(Fault::Refused(format!(in rt.alloc(); "{place} {cure}")?))
+        }
     }
 }
 
@@ -94,18 +186,40 @@ fn indicator_of(rt: &HostRuntime, text: &str) -> Result<Indicator, Fault> {
     }
 }
 
-/// The cards of the first source of a deck: up to the card that ends it, without the statements in front of it.
-fn source_of(cards: &[Card]) -> (usize, usize)
-    ensures order { result.0 ≤ result.1 }
-    ensures within { result.1 ≤ length cards.now }
+/// The places of the cards of a deck's first source, from one up to but without another: those of the first job that compiles one, or,
+/// of a deck that doesn't begin with a statement, all cards up to one that ends a source. None where there are none.
+fn source_of(rt: &HostRuntime, deck: &Deck) -> Result<Option<CardRange>, AllocError>
+    ensures order { IfOk result (λ source. IfSome source (λ range. range.from ≤ range.to)) }
+    ensures within { IfOk result (λ source. IfSome source (λ range. range.to ≤ length deck.now)) }
 {
-    let from = match cards.iter().position(|card| !is_statement(card)) {
-        Some(from) => from,
+    let jobs = jobs_of(rt.alloc(), deck)?;
+    for job in &jobs {
+        if let Statements::Sound(cards) = &job.statements {
+            if cards.is_compile() {
+                return Ok(filled(cards.data_from(), cards.data_to(), deck.len()));
+            }
+        }
+    }
+    let cards = deck.cards();
+    if cards.first().is_some_and(|card| is_statement(card)) {
+        return Ok(None);
+    }
+    let to = match cards.iter().position(|card| ends_source(card)) {
+        Some(to) => to,
         None => cards.len(),
     };
-    match cards[from..].iter().position(|card| ends_source(card)) {
-        Some(count) => (from, from + count),
-        None => (from, cards.len()),
+    Ok(filled(0, to, deck.len()))
+}
+
+/// The range between two places of a deck of so many cards, if there is a card in it.
+fn filled(from: usize, to: usize, count: usize) -> Option<CardRange>
+    ensures order { IfSome result (λ range. range.from ≤ range.to) }
+    ensures within { IfSome result (λ range. range.to ≤ count) }
+{
+    if from < to && to <= count {
+        Some(CardRange { from, to })
+    } else {
+        None
     }
 }
 
@@ -114,7 +228,7 @@ fn is_statement(card: &Card) -> bool {
     card[0] == SLASH && card[1] == SLASH
 }
 
-/// Whether a card ends a source: `/*`, `/&` or a statement.
+/// Whether a card ends a source: `/*` or `/&`.
 fn ends_source(card: &Card) -> bool {
-    card[0] == SLASH && matches!(card[1], SLASH | ASTERISK | AMPERSAND)
+    card[0] == SLASH && matches!(card[1], ASTERISK | AMPERSAND)
 }

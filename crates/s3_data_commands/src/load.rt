@@ -4,11 +4,19 @@ ghost use Rattle.std.specs.Prelude.{◌≤◌};
 use crate::fault::Fault;
 use crate::inputs::{delimiter_of, layout_of};
 use crate::load_sentences::{heading_sentence, load_sentence, value_sentence};
-use crate::pack_words::{label_of, pack_to_save, saved, value_of, wrong_words};
-use crate::words::{file_word, flag, value_word};
+use crate::pack_words::{
+    keep_input, label_of, level_of, no_room_sentence, number_of, pack_of, pack_to_change, saved,
+    tell_done, value_of, wrong_words,
+};
+use crate::words::{
+    delimiter_word, file_word, flag, layout_file_word, layout_type_word, layout_word,
+    overwrite_word, save_word, value_word,
+};
 use clap::{ArgMatches, Command, value_parser};
 use s3_cards::ebcdic::DIGIT_0;
-use s3_cards::{LevelId, Retention, is_digit, to_ebcdic};
+use s3_cards::{LevelId, Name, Retention};
+use s3_labels::LabelFault;
+use s3_listing::{file_size, free_room};
 use s3_load::{LoadFault, Order, Room};
 use std::alloc::{AllocError, Global};
 use std::io::Write;
@@ -18,32 +26,29 @@ pub fn load_command<'a>(alloc: Global) -> Result<Command<'a>, AllocError> {
     let command = Command::new(alloc, "load")
         .about("Loads the table in CSV of standard input into a file of a level")
         .arg(file_word(alloc, "pack").required(true).help("The pack"))?
-        .arg(
-            file_word(alloc, "save")
-                .required(true)
-                .help("Where the pack is written"),
-        )?
+        .arg(save_word(alloc))?
         .arg(
             value_word(alloc, "level", "LEVEL")
                 .required(true)
-                .help("1 or 2"),
+                .help("The level of the file, 1 or 2"),
         )?
         .arg(
             value_word(alloc, "label", "LABEL")
                 .required(true)
                 .help("The label of the file"),
         )?
-        .arg(
-            file_word(alloc, "layout")
-                .required(true)
-                .help("A deck with the RPG source whose I sheet has the fields"),
-        )?
-        .arg(value_word(alloc, "file", "NAME").help(
-            "The file of the source, where it has several on DISK",
-        ))?
-        .arg(value_word(alloc, "type", "INDICATOR").help(
-            "The type of records, where the file has several",
-        ))?;
+        .arg(layout_word(alloc).required(true))?
+        .arg(layout_file_word(alloc))?
+        .arg(layout_type_word(alloc))?;
+    with_file_words(alloc, command)?
+        .arg(flag(alloc, "append").help("Puts the records behind those of the file that is there"))?
+        .arg(flag(alloc, "fill").help("Fields that the table doesn't have are blank or 0"))?
+        .arg(delimiter_word(alloc))?
+        .arg(overwrite_word(alloc))
+}
+
+/// The words for a new file.
+fn with_file_words<'a>(alloc: Global, command: Command<'a>) -> Result<Command<'a>, AllocError> {
     command
         .arg(
             value_word(alloc, "records", "N")
@@ -57,12 +62,7 @@ pub fn load_command<'a>(alloc: Global) -> Result<Command<'a>, AllocError> {
         )?
         .arg(value_word(alloc, "retain", "R").help("T, S or P; T if it isn't said"))?
         .arg(value_word(alloc, "date", "MMDDYY").help(
-            "The date of the file, 000000 if it isn't said",
-        ))?
-        .arg(flag(alloc, "append").help("Puts the records behind those of the file that is there"))?
-        .arg(flag(alloc, "fill").help("Fields that the table doesn't have are blank or 0"))?
-        .arg(value_word(alloc, "delimiter", "C").help(
-            "The character between the cells, a comma if it isn't said",
+            "The date of the file: month, day and year; 000000 if it isn't said",
         ))
 }
 
@@ -81,14 +81,17 @@ fn load_table(rt: &HostRuntime, matches: &ArgMatches<'_>) -> Result<(), Fault> {
     let level = level_of(rt, value_of(matches, "level"))?;
     let label = value_of(matches, "label");
     let name = label_of(rt, label)?;
+    test_words(rt, matches)?;
     let room = room_of(rt, matches)?;
     let retention = retention_of(rt, matches)?;
     let date = date_of(rt, matches)?;
     let delimiter = delimiter_of(rt, matches)?;
-    let layout = layout_of(rt, matches, value_of(matches, "layout"))?;
+    let source = value_of(matches, "layout");
+    let layout = layout_of(rt, matches, source)?;
     let path = value_of(matches, "pack");
     let save = value_of(matches, "save");
-    let (pack, locked) = pack_to_save(rt, path, save)?;
+    let (pack, locked) = pack_to_change(rt, matches, path, save)?;
+    keep_input(rt, save, source)?;
     let order = Order {
         level,
         name,
@@ -103,18 +106,35 @@ fn load_table(rt: &HostRuntime, matches: &ArgMatches<'_>) -> Result<(), Fault> {
     };
     let loaded = match s3_load::load(rt.alloc(), &pack, &order, rt.stdin()) {
         Ok(loaded) => loaded,
-        Err(fault) => return Err(fault_of(rt, path, label, &fault)),
+        Err(fault) => return Err(fault_of(rt, matches, level, &fault)),
     };
-    saved(rt, save, locked, &loaded)
+    saved(rt, save, locked, &loaded)?;
+    Ok(tell_loaded(rt, save, number_of(level), label, name, &loaded)?)
 }
 
-/// The level that a word names.
-fn level_of(rt: &HostRuntime, text: &str) -> Result<LevelId, Fault> {
-    match text {
-        "1" => Ok(LevelId::One),
-        "2" => Ok(LevelId::Two),
-        _ => Err(wrong_words(rt.alloc(), "a level is 1 or 2")),
-    }
+/// Tells into which file the table was loaded, and how many records that has now.
+fn tell_loaded(
+    rt: &HostRuntime,
+    save: &str,
+    level: u16,
+    label: &str,
+    name: Name,
+    loaded: &[u8],
+) -> Result<(), AllocError> {
+    let records = match file_size(rt.alloc(), loaded, level, name) {
+        Ok(Some(size)) => size.records,
+        _ => 0,
+    };
+    let records = match records {
+        1 => String::from_str(rt.alloc(), "1 record")?,
+        records => format!(in rt.alloc(); "{records} records")?,
+    };
+    let records = records.as_str();
+    let sentence = format!(in rt.alloc();
+        "{label} of level {level} of {save} is loaded: it has {records} now"
+    )?;
+    tell_done(rt, sentence.as_str());
+    Ok(())
 }
 
 /// The room that the words ask for.
@@ -145,37 +165,75 @@ fn retention_of(rt: &HostRuntime, matches: &ArgMatches<'_>) -> Result<Retention,
 
 /// The date that the words give, in EBCDIC.
 fn date_of(rt: &HostRuntime, matches: &ArgMatches<'_>) -> Result<[u8; 6], Fault> {
-    let mut date = [DIGIT_0; 6];
     let Some(text) = matches.get_str("date") else {
-        return Ok(date);
+        return Ok([DIGIT_0; 6]);
     };
-    let mut count = 0usize;
-    for character in text.chars() {
-        match to_ebcdic(character) {
-            Some(code) if count < 6 && is_digit(code) => {
-                date[count] = code;
-                count += 1;
-            }
-            _ => return Err(no_date(rt)),
-        }
-    }
-    if count == 6 {
-        Ok(date)
-    } else {
-        Err(no_date(rt))
+    match date_in(text.as_bytes()) {
+        Some(date) => Ok(date),
+        None => Err(Fault::Usage(format!(in rt.alloc();
+            "{text} is no date; one has six digits: the month 01 to 12, the day 01 to 31 and the year"
+        )?)),
     }
 }
 
-fn no_date(rt: &HostRuntime) -> Fault {
-    wrong_words(rt.alloc(), "a date has six digits: month, day and year")
+/// The date that six digits of ASCII are, in EBCDIC: any year, a month 01 to 12 and a day 01 to 31.
+fn date_in(text: &[u8]) -> Option<[u8; 6]> {
+    if text.len() != 6 {
+        return None;
+    }
+    let mut date = [DIGIT_0; 6];
+    for (place, byte) in text.iter().enumerate() {
+        match byte {
+            digit @ b'0'..=b'9' if place < 6 => date[place] = DIGIT_0 + (*digit - b'0'),
+            _ => return None,
+        }
+    }
+    let month = two_digits(date[0], date[1]);
+    let day = two_digits(date[2], date[3]);
+    if 1 <= month && month <= 12 && 1 <= day && day <= 31 {
+        Some(date)
+    } else {
+        None
+    }
+}
+
+/// The number of two digits in EBCDIC.
+fn two_digits(tens: u8, ones: u8) -> u8 {
+    (tens % 16).saturating_mul(10).saturating_add(ones % 16)
+}
+
+/// Refuses words for a new file where the records go behind those of one that is there.
+fn test_words(rt: &HostRuntime, matches: &ArgMatches<'_>) -> Result<(), Fault> {
+    let is_new = matches.get_one::<u32>("records").is_some()
+        || matches.get_one::<u16>("tracks").is_some()
+        || matches.get_str("retain").is_some()
+        || matches.get_str("date").is_some();
+    if is_new && matches.get_flag("append") {
+        return Err(wrong_words(
+            rt.alloc(),
+            "--records, --tracks, --retain and --date are of a new file, and with --append the file that is there stays as it was made; leave them out",
+        ));
+    }
+    Ok(())
 }
 
 /// What a refusal is to the command; what is wrong with the heading or the rows is told before it, a line each.
-fn fault_of(rt: &HostRuntime, path: &str, label: &str, fault: &LoadFault) -> Fault {
+fn fault_of(
+    rt: &HostRuntime,
+    matches: &ArgMatches<'_>,
+    level: LevelId,
+    fault: &LoadFault,
+) -> Fault {
+    let path = value_of(matches, "pack");
+    let label = value_of(matches, "label");
+    let appends = matches.get_flag("append");
     if tell_all(rt, fault).is_err() {
         return Fault::NoMemory;
     }
-    let sentence = match load_sentence(rt.alloc(), path, label, fault) {
+    if let LoadFault::Label(LabelFault::NoSpace) = fault {
+        return no_room(rt, path, level, label).unwrap_or_else(|fault| fault);
+    }
+    let sentence = match load_sentence(rt.alloc(), path, number_of(level), label, appends, fault) {
         Ok(sentence) => sentence,
         Err(_) => return Fault::NoMemory,
     };
@@ -184,6 +242,20 @@ fn fault_of(rt: &HostRuntime, path: &str, label: &str, fault: &LoadFault) -> Fau
         LoadFault::File => Fault::File(sentence),
         _ => Fault::Refused(sentence),
     }
+}
+
+/// Why a level has no room for a file.
+fn no_room(rt: &HostRuntime, path: &str, level: LevelId, label: &str) -> Result<Fault, Fault> {
+    let area = number_of(level);
+    let pack = pack_of(rt, path)?;
+    let Ok(room) = free_room(rt.alloc(), &pack, area) else {
+        return Err(Fault::NoMemory);
+    };
+    let reason = no_room_sentence(rt.alloc(), path, area, label, None, room)?;
+    let reason = reason.as_str();
+    Ok(Fault::Refused(format!(in rt.alloc();
+        "{reason}; delete a file there, or ask for less by --records or --tracks"
+    )?))
 }
 
 /// Tells what is wrong with the heading or the rows, a line each.

@@ -1,60 +1,52 @@
 //! Sentences of refusals of `load`: what is wrong, where, and what mends it.
 
-use crate::pack_words::label_text;
+use crate::pack_words::{damaged_sentence, label_sentence, label_text, mount_sentence};
 use s3_cells::CellFault;
-use s3_labels::{LabelFault, MountFault};
+use s3_labels::LabelFault;
 use s3_load::{HeadingFault, LoadFault, Reason, ValueFault};
 use std::alloc::{AllocError, Global};
 
-/// Why a pack isn't mounted.
-fn mount_sentence(alloc: Global, path: &str, fault: MountFault) -> Result<String, AllocError> {
-    let reason = match fault {
-        MountFault::BadHeader => "its header isn't that of a pack",
-        MountFault::BadRegions => "its regions don't lie within it side by side",
-        MountFault::Short => "it is shorter than its header says",
-    };
-    format!(in alloc;
-        "the file {path} is no pack that can be used: {reason}; give one that `bureau init` made"
-    )
-}
-
-/// Why a label can't be used.
-fn label_sentence(alloc: Global, label: &str, fault: LabelFault) -> Result<String, AllocError> {
+/// Why a label can't be used by a load.
+fn load_label_sentence(
+    alloc: Global,
+    path: &str,
+    level: u16,
+    label: &str,
+    fault: LabelFault,
+) -> Result<String, AllocError> {
     match fault {
-        LabelFault::NotFound => {
-            format!(in alloc;
-                "the area has no file {label}; `bureau list --table` shows the files that are there"
-            )
-        }
-        LabelFault::DamagedLabel => {
-            format!(in alloc;
-                "the label {label} is damaged; `bureau list --table` shows its slot, which has to be freed first"
-            )
-        }
-        LabelFault::Master => {
-            format!(in alloc; "a master has the label {label}; load under another label")
-        }
-        LabelFault::NoSpace => {
-            format!(in alloc;
-                "the region of the level has no room for {label}; delete a file that isn't needed, or ask for less by --records or --tracks"
-            )
-        }
-        LabelFault::Retained => {
-            format!(in alloc;
-                "the file {label} is there and permanent; delete it first, or load under another label"
-            )
-        }
-        LabelFault::NoSlot => {
-            format!(in alloc;
-                "all 32 slots of the level are used; delete a file that isn't needed, so that {label} gets one"
-            )
-        }
+        LabelFault::Master => format!(in alloc;
+            "a master of {path} has the label {label}; load under another label"
+        ),
+        LabelFault::Retained => format!(in alloc;
+            "{label} in area {level} of {path} is there and permanent; delete it first by `bureau delete --permanent`, load behind its records by --append, or load under another label"
+        ),
+        _ => label_sentence(alloc, path, level, label, fault),
     }
 }
 
-fn bad_index(alloc: Global, label: &str) -> Result<String, AllocError> {
+/// Why a file that is there isn't loaded into.
+fn bad_index(alloc: Global, path: &str, level: u16, label: &str) -> Result<String, AllocError> {
     format!(in alloc;
-        "the index of {label} isn't that of its records; --as hex writes the records as they stand in the file"
+        "the index of {label} in area {level} of {path} isn't that of its records; take an older copy of the pack, or delete the file and load all of its records"
+    )
+}
+
+/// Why a file has no room for the records of a table, made for it or there before.
+fn full_sentence(
+    alloc: Global,
+    label: &str,
+    appends: bool,
+    room: u32,
+    records: u64,
+) -> Result<String, AllocError> {
+    let cure = if appends {
+        "unload it, delete it, and load all of its records with more room by --records or --tracks"
+    } else {
+        "ask for more by --records or --tracks"
+    };
+    format!(in alloc;
+        "the file {label} has room for {room} records and would have {records}; {cure}"
     )
 }
 
@@ -62,7 +54,9 @@ fn bad_index(alloc: Global, label: &str) -> Result<String, AllocError> {
 pub fn load_sentence(
     alloc: Global,
     path: &str,
+    level: u16,
     label: &str,
+    appends: bool,
     fault: &LoadFault,
 ) -> Result<String, AllocError> {
     match fault {
@@ -77,10 +71,14 @@ pub fn load_sentence(
             format!(in alloc; "the heading isn't that of the layout; nothing is loaded")
         }
         LoadFault::Values(_, count) => {
+            if *count == 1 {
+                return format!(in alloc; "the table has 1 fault; nothing is loaded");
+            }
             format!(in alloc; "the table has {count} faults; nothing is loaded")
         }
         LoadFault::Mount(fault) => mount_sentence(alloc, path, *fault),
-        LoadFault::Label(fault) => label_sentence(alloc, label, *fault),
+        LoadFault::Label(fault) => load_label_sentence(alloc, path, level, label, *fault),
+        LoadFault::DamagedSlot(slot) => damaged_sentence(alloc, path, level, *slot),
         LoadFault::NoName => format!(in alloc; "{label} is no label"),
         LoadFault::NoKey => {
             format!(in alloc;
@@ -92,17 +90,13 @@ pub fn load_sentence(
                 "a file has room for 1 to 999999 records or takes 1 to 999 tracks; ask for such room, or load the table in parts"
             )
         }
-        LoadFault::Full(room, records) => {
-            format!(in alloc;
-                "the file {label} has room for {room} records and would have {records}; ask for more by --records or --tracks"
-            )
-        }
+        LoadFault::Full(room, records) => { full_sentence(alloc, label, appends, *room, *records) }
         LoadFault::OtherKind => {
             format!(in alloc;
                 "the file {label} that is there has records of another length, another key or another organization; load without --append, or give its own layout"
             )
         }
-        LoadFault::BadIndex => bad_index(alloc, label),
+        LoadFault::BadIndex => bad_index(alloc, path, level, label),
     }
 }
 
@@ -124,6 +118,13 @@ pub fn heading_sentence(alloc: Global, fault: &HeadingFault) -> Result<String, A
             let other = label_text(alloc, Some(*other))?;
             format!(in alloc;
                 "line 1: the fields {one} and {other} lie over each other; leave one column out"
+            )
+        }
+        HeadingFault::Under(field, named) => {
+            let field = label_text(alloc, Some(*field))?;
+            let named = label_text(alloc, Some(*named))?;
+            format!(in alloc;
+                "line 1: the field {field} lies partly under {named}, so it can't be 0; name {field} in place of {named}, or leave --fill out"
             )
         }
         HeadingFault::Missing(name) => {

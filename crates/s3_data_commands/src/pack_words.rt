@@ -1,11 +1,12 @@
 //! What the words for the care of a pack give, and the sentences of its refusals.
-ghost use Rattle.std.specs.Prelude.{◌<◌, IfOk};
+ghost use Rattle.std.specs.Prelude.{◌≤◌, ◌<◌, IfOk};
 
 use crate::fault::{Fault, of_call, of_pack};
 use clap::ArgMatches;
-use s3_cards::{Name, host_byte, is_name, to_ebcdic};
-use s3_host_files::{LockedPack, read_pack, read_to_save, save_pack};
+use s3_cards::{LevelId, Name, host_byte, is_name, to_ebcdic, word_len};
+use s3_host_files::{LockedPack, Target, read_pack, read_to_save, save_pack};
 use s3_labels::{LabelFault, MountFault};
+use s3_listing::{FreeRoom, file_size, free_room};
 use s3_pack_care::CareFault;
 use std::alloc::{AllocError, Global};
 use std::fs;
@@ -31,13 +32,33 @@ pub fn area_number(rt: &HostRuntime, text: &str) -> Result<u16, Fault>
     }
 }
 
+/// The level that a word names.
+pub fn level_of(rt: &HostRuntime, text: &str) -> Result<LevelId, Fault> {
+    match text {
+        "1" => Ok(LevelId::One),
+        "2" => Ok(LevelId::Two),
+        _ => Err(wrong_words(rt.alloc(), "a level is 1 or 2")),
+    }
+}
+
+/// The number of a level, which its area has too.
+pub fn number_of(level: LevelId) -> u16
+    ensures least { 1 ≤ result }
+    ensures area { result < 3 }
+{
+    match level {
+        LevelId::One => 1,
+        LevelId::Two => 2,
+    }
+}
+
 /// The label that a word gives.
 pub fn label_of(rt: &HostRuntime, text: &str) -> Result<Name, Fault> {
     let mut codes = [0x40u8; 8];
     let mut count = 0usize;
     for character in text.chars() {
         match to_ebcdic(character) {
-            Some(code) if count < 8 => {
+            Some(code) if count < 8 && code != 0x40 => {
                 codes[count] = code;
                 count += 1;
             }
@@ -73,10 +94,8 @@ pub fn label_text(alloc: Global, name: Option<Name>) -> Result<String, AllocErro
     let mut text = String::new(alloc);
     match name {
         Some(name) => {
-            for code in &name.codes {
-                if *code != 0x40 {
-                    text.push(char::from(host_byte(*code)))?;
-                }
+            for code in &name.codes[..word_len(&name.codes)] {
+                text.push(char::from(host_byte(*code)))?;
             }
         }
         None => text.push_str("????????")?,
@@ -84,22 +103,38 @@ pub fn label_text(alloc: Global, name: Option<Name>) -> Result<String, AllocErro
     Ok(text)
 }
 
-/// The bytes of the pack at a path.
+/// The bytes of the pack at a path; a file that doesn't begin as a pack is refused.
 pub fn pack_of(rt: &HostRuntime, path: &str) -> Result<Vec<u8>, Fault> {
     match read_pack(rt, path) {
-        Ok(pack) => Ok(pack),
+        Ok(pack) => {
+            test_begin(rt.alloc(), path, &pack)?;
+            Ok(pack)
+        }
         Err(error) => Err(of_call(rt, &error, path)),
     }
 }
 
+/// Refuses a file that doesn't begin as a pack, as a text or a table that was named in a pack's place.
+fn test_begin(alloc: Global, path: &str, pack: &[u8]) -> Result<(), Fault> {
+    if pack.starts_with(b"S3PACK01") || pack.starts_with(b"S3PACK02") {
+        return Ok(());
+    }
+    Err(Fault::Refused(format!(in alloc;
+        "{path} is no pack: it doesn't begin with S3PACK; give the file of a pack, as `bureau init` makes it"
+    )?))
+}
+
 /// The bytes of the pack at a path, for a command that saves to another or the same, with the lock in the second case.
-pub fn pack_to_save(
+fn pack_to_save(
     rt: &HostRuntime,
     path: &str,
     save: &str,
 ) -> Result<(Vec<u8>, Option<LockedPack>), Fault> {
     match read_to_save(rt, path, save) {
-        Ok(read) => Ok(read),
+        Ok((pack, locked)) => {
+            test_begin(rt.alloc(), path, &pack)?;
+            Ok((pack, locked))
+        }
         Err(fault) => Err(of_pack(rt, &fault, path)),
     }
 }
@@ -123,9 +158,26 @@ pub fn pack_to_change(
 fn refuse_file_there(rt: &HostRuntime, save: &str) -> Result<(), Fault> {
     match fs::exists(rt, save) {
         Ok(false) => Ok(()),
-        Ok(true) => Err(Fault::Refused(format!(in rt.alloc(); "exists {save}")?)),
+        Ok(true) => Err(Fault::Refused(format!(in rt.alloc();
+            "{save} is there already; give another name, or say --overwrite to write over it"
+        )?)),
         Err(error) => Err(of_call(rt, &error, save)),
     }
+}
+
+/// Refuses to save over a file that the command reads beside the pack that it changes: whatever else stands in it would be lost.
+pub fn keep_input(rt: &HostRuntime, save: &str, input: &str) -> Result<(), Fault> {
+    let is_same = match (Target::find(rt, save), Target::find(rt, input)) {
+        (Ok(save), Ok(input)) => save.is_same(&input),
+        // what reads or saves there tells why it can't
+        _ => false,
+    };
+    if !is_same {
+        return Ok(());
+    }
+    Err(Fault::Refused(format!(in rt.alloc();
+        "--save {save} names the file that is read as {input}, and what stands there would be lost; give another name"
+    )?))
 }
 
 /// Tells on standard error what was done; nothing hangs on whether that can be written.
@@ -158,16 +210,29 @@ pub fn care_sentence(
         CareFault::Exists => format!(in alloc;
             "area {area} of {path} has a file {label} already; delete it first, or give another label by --as"
         ),
-        CareFault::Unlike => format!(in alloc;
-            "a copy in area {area} of {path} would not be like the file; `bureau check` tells what is wrong with the pack"
+        CareFault::Damaged(slot) => damaged_sentence(alloc, path, area, slot),
+        CareFault::NoName => format!(in alloc;
+            "{label} is no label; one has 1 to 8 capital letters, digits, $, # or @, and begins with no digit"
         ),
         CareFault::Permanent => format!(in alloc;
-            "the file in area {area} of {path} is permanent; say --permanent if it is meant"
+            "{label} in area {area} of {path} is permanent; say --permanent if it is meant"
         ),
         CareFault::Uncovers(slot) => format!(in alloc;
-            "slot {slot} of {path}, which is damaged, would have a file again once this one is gone; free it first by --slot {slot}, or put its label right"
+            "slot {slot} in area {area} of {path}, which is damaged, would have a file again once {label} is gone; free it first by --slot {slot}, or put its label right"
         ),
     }
+}
+
+/// Why no file is made in an area with a damaged slot.
+pub fn damaged_sentence(
+    alloc: Global,
+    path: &str,
+    area: u16,
+    slot: u16,
+) -> Result<String, AllocError> {
+    format!(in alloc;
+        "slot {slot} of area {area} of {path} is damaged, and what it holds can't be told: delete it by `bureau delete --slot {slot}` first, or mend it"
+    )
 }
 
 /// A refusal with the sentence that was made for it.
@@ -195,7 +260,7 @@ pub fn saved(
 pub fn mount_sentence(alloc: Global, path: &str, fault: MountFault) -> Result<String, AllocError> {
     match fault {
         MountFault::BadHeader => format!(in alloc;
-            "{path} is no pack: its first eight bytes or its quotas are those of none; give the file of a pack"
+            "{path} can't be used: its quotas are those of no pack; take a copy that is whole"
         ),
         MountFault::BadRegions => format!(in alloc;
             "{path} can't be used: its regions aren't whole tracks within it, or they meet; take a copy that is whole"
@@ -219,7 +284,7 @@ pub fn label_sentence(
             "area {area} of {path} has no file {label}; `bureau list --pack {path}` shows those that it has"
         ),
         LabelFault::DamagedLabel => format!(in alloc;
-            "{label} in area {area} of {path} is damaged; `bureau check --pack {path}` tells its slot and why, and --slot names it"
+            "{label} in area {area} of {path} is damaged; `bureau check --pack {path}` tells its slot and why: put its label right, or free the slot by `bureau delete --slot`"
         ),
         LabelFault::Master => format!(in alloc;
             "a master of {path} has the label {label}; give another one by --as"
@@ -228,10 +293,56 @@ pub fn label_sentence(
             "area {area} of {path} has no room for {label}; delete a file there, or make a larger pack"
         ),
         LabelFault::Retained => format!(in alloc;
-            "{label} in area {area} of {path} is permanent; say --permanent if it is meant"
+            "{label} in area {area} of {path} is permanent; delete it first by `bureau delete --permanent`, or give another label"
         ),
         LabelFault::NoSlot => format!(in alloc;
-            "area {area} of {path} has no free slot for {label}; delete a file there"
+            "all 32 slots in area {area} of {path} are used; delete a file there that isn't needed, so that {label} gets one"
         ),
     }
+}
+
+/// Why an area has no room for a file that takes so many tracks, where that is known: with the tracks that are free there.
+pub fn no_room_sentence(
+    alloc: Global,
+    path: &str,
+    area: u16,
+    label: &str,
+    wanted: Option<u16>,
+    room: FreeRoom,
+) -> Result<String, AllocError> {
+    let taken = match wanted {
+        Some(1) => String::from_str(alloc, ", which takes 1 track")?,
+        Some(tracks) => format!(in alloc; ", which takes {tracks} tracks")?,
+        None => String::new(alloc),
+    };
+    let taken = taken.as_str();
+    let free = room.tracks;
+    let in_a_row = room.in_a_row;
+    format!(in alloc;
+        "area {area} of {path} has no room for {label}{taken} (tracks that are free there: {free}, in a row at most {in_a_row})"
+    )
+}
+
+/// Why a copy of a file has no room in an area of a pack.
+pub fn no_room_for_copy(
+    rt: &HostRuntime,
+    from: &str,
+    from_area: u16,
+    name: Name,
+    into: &str,
+    area: u16,
+    label: &str,
+) -> Result<String, Fault> {
+    let source = pack_of(rt, from)?;
+    let target = pack_of(rt, into)?;
+    let wanted = match file_size(rt.alloc(), &source, from_area, name) {
+        Ok(Some(size)) => Some(size.tracks),
+        _ => None,
+    };
+    let Ok(room) = free_room(rt.alloc(), &target, area) else {
+        return Ok(label_sentence(rt.alloc(), into, area, label, LabelFault::NoSpace)?);
+    };
+    let reason = no_room_sentence(rt.alloc(), into, area, label, wanted, room)?;
+    let reason = reason.as_str();
+    Ok(format!(in rt.alloc(); "{reason}; delete a file there, or make a larger pack")?)
 }

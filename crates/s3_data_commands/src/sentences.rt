@@ -15,51 +15,51 @@ pub fn layout_sentence(
 ) -> Result<String, AllocError> {
     match fault {
         LayoutFault::NoMemory => Err(AllocError),
-        LayoutFault::Card { card, number } => {
+        LayoutFault::Card { .. } => {
             format!(in alloc;
-                "card {card} of the deck {path} has diagnostic {number}; mend it: `bureau compile` over the job that compiles this source marks where"
+                "the first source in {path} has the diagnostics above; mend its cards (docs/MESSAGES.md says how), or have a job compile it and see `bureau compile` mark the columns"
             )
         }
         LayoutFault::NoFile => {
             format!(in alloc;
-                "the source in {path} has no file on DISK; give a source whose F sheet has the file"
+                "the first source in {path} has no file on DISK; give a source whose F sheet has the file"
             )
         }
         LayoutFault::SeveralFiles => {
             format!(in alloc;
-                "the source in {path} has several files on DISK; say which by --file NAME"
+                "the first source in {path} has several files on DISK; say which by --file NAME"
             )
         }
         LayoutFault::OtherFile => {
             format!(in alloc;
-                "the source in {path} has no file of the name of --file on DISK; its F sheet has the names"
+                "the first source in {path} has no file of the name of --file on DISK; its F sheet has the names"
             )
         }
         LayoutFault::SeveralTypes => {
             format!(in alloc;
-                "the file has several types of records in {path}; say which by --type INDICATOR, as columns 19 and 20 of the I sheet have it"
+                "the file has several types of records in the first source in {path}; say which by --type INDICATOR, as columns 19 and 20 of the I sheet have it"
             )
         }
         LayoutFault::OtherType => {
             format!(in alloc;
-                "the file has no type of records of the indicator of --type in {path}; columns 19 and 20 of the I sheet have them"
+                "the file has no type of records of the indicator of --type in the first source in {path}; columns 19 and 20 of the I sheet have them"
             )
         }
         LayoutFault::NoFields => {
             format!(in alloc;
-                "the source in {path} has no field of these records; give one whose I sheet has their fields"
+                "the first source in {path} has no field of these records; give one whose I sheet has their fields"
             )
         }
         LayoutFault::NoForm(name) => {
             let name = label_text(alloc, Some(*name))?;
             format!(in alloc;
-                "the field {name} in {path} has a length or decimals that no program can have; mend its card of the I sheet"
+                "the field {name} in the first source in {path} has a length or decimals that no program can have; mend its card of the I sheet"
             )
         }
         LayoutFault::Twice(name) => {
             let name = label_text(alloc, Some(*name))?;
             format!(in alloc;
-                "the field {name} is there twice in {path}; give a source in which each field of these records has a name of its own"
+                "the field {name} is there twice in the first source in {path}; give a source in which each field of these records has a name of its own"
             )
         }
     }
@@ -77,9 +77,7 @@ pub fn unload_sentence(
         UnloadFault::Mount(fault) => mount_sentence(alloc, path, *fault),
         UnloadFault::NotFound => label_sentence(alloc, path, area, label, LabelFault::NotFound),
         UnloadFault::DamagedLabel => {
-            format!(in alloc;
-                "{label} in area {area} of {path} is damaged; `bureau check --pack {path}` tells its slot and why"
-            )
+            label_sentence(alloc, path, area, label, LabelFault::DamagedLabel)
         }
         UnloadFault::BadIndex => {
             format!(in alloc;

@@ -1,14 +1,15 @@
 //! `bureau sort`: the records of a file sorted.
-ghost use Rattle.std.specs.Prelude.{◌≤◌, ◌<◌, IfOk};
+ghost use Rattle.std.specs.Prelude.{◌≤◌, ◌<◌};
 
 use crate::fault::Fault;
 use crate::pack_words::{
-    care_sentence, label_of, label_sentence, mount_sentence, pack_to_change, refused, saved,
-    tell_done, value_of, wrong_words,
+    care_sentence, label_of, label_sentence, level_of, mount_sentence, no_room_for_copy, number_of,
+    pack_to_change, refused, saved, tell_done, value_of,
 };
 use crate::words::{file_word, overwrite_word, save_word, value_word};
 use clap::{ArgMatches, Command};
 use s3_cards::Name;
+use s3_labels::LabelFault;
 use s3_pack_care::CareFault;
 use s3_sort::{Form, SortFault, SortField};
 use std::alloc::{AllocError, Global};
@@ -53,7 +54,7 @@ pub fn sort(rt: &HostRuntime, matches: &ArgMatches<'_>) -> u8
 }
 
 fn sort_file(rt: &HostRuntime, matches: &ArgMatches<'_>) -> Result<(), Fault> {
-    let level = level_number(rt, value_of(matches, "level"))?;
+    let level = number_of(level_of(rt, value_of(matches, "level"))?);
     let label = value_of(matches, "label");
     let name = label_of(rt, label)?;
     let by = value_of(matches, "by");
@@ -64,16 +65,7 @@ fn sort_file(rt: &HostRuntime, matches: &ArgMatches<'_>) -> Result<(), Fault> {
     let new_name = label_of(rt, new_label)?;
     let (pack, locked) = pack_to_change(rt, matches, path, save)?;
     let pack = if matches.get_str("as").is_some() {
-        with_copy(
-            rt.alloc(),
-            path,
-            pack,
-            level,
-            label,
-            name,
-            new_label,
-            new_name,
-        )?
+        with_copy(rt, path, pack, level, label, name, new_label, new_name)?
     } else {
         pack
     };
@@ -90,20 +82,9 @@ fn sort_file(rt: &HostRuntime, matches: &ArgMatches<'_>) -> Result<(), Fault> {
     Ok(())
 }
 
-/// The level that a word names.
-fn level_number(rt: &HostRuntime, text: &str) -> Result<u16, Fault>
-    ensures { IfOk result (λ level. level < 3) }
-{
-    match text {
-        "1" => Ok(1),
-        "2" => Ok(2),
-        _ => Err(wrong_words(rt.alloc(), "a level is 1 or 2")),
-    }
-}
-
 /// A pack with a copy of a file of a level beside it.
 fn with_copy(
-    alloc: Global,
+    rt: &HostRuntime,
     path: &str,
     pack: Vec<u8>,
     level: u16,
@@ -114,24 +95,28 @@ fn with_copy(
 ) -> Result<Vec<u8>, Fault>
     requires { level < 3 }
 {
+    let alloc = rt.alloc();
     let from = Vec::from_slice(alloc, &pack)?;
     match s3_pack_care::copy(alloc, from, level, name, pack, level, new_name) {
         Ok(pack) => Ok(pack),
         Err(CareFault::SourceLabel(fault)) => {
             Err(refused(label_sentence(alloc, path, level, label, fault)))
         }
+        Err(CareFault::Label(LabelFault::NoSpace)) => Err(Fault::Refused(no_room_for_copy(
+            rt, path, level, name, path, level, new_label,
+        )?)),
         Err(fault) => Err(refused(care_sentence(alloc, path, level, new_label, fault))),
     }
 }
 
-/// The fields that a text names; all parts that name none are told at once.
+/// The fields that a text names; what is wrong with its parts is told of all of them at once.
 fn fields_of(alloc: Global, text: &str) -> Result<Vec<SortField>, Fault> {
     let mut fields = Vec::new(alloc);
     let mut wrong = String::new(alloc);
     for part in text.split(',') {
         match field_of(part) {
-            Some(field) => fields.push(field)?,
-            None => push_wrong(&mut wrong, part)?,
+            Ok(field) => fields.push(field)?,
+            Err(reason) => push_wrong(&mut wrong, part, reason)?,
         }
     }
     if wrong.is_empty() {
@@ -139,33 +124,56 @@ fn fields_of(alloc: Global, text: &str) -> Result<Vec<SortField>, Fault> {
     }
     let wrong = wrong.as_str();
     Err(Fault::Usage(format!(in alloc;
-        "{wrong} in --by isn't FROM-TO with Z or P, and D, behind it: bytes of a record from 1, of a number at most 15 with Z, and 8 with P"
+        "--by {text} names no fields: {wrong}; a field is FROM-TO, with Z or P, and D, behind it, as 1-6,20-24PD"
     )?))
 }
 
-/// Appends a part that names no field, with a comma before it where it isn't the first.
-fn push_wrong(wrong: &mut String, part: &str) -> Result<(), AllocError> {
+/// Appends what is wrong with a part, with a comma before it where it isn't the first.
+fn push_wrong(wrong: &mut String, part: &str, reason: &'static str) -> Result<(), AllocError> {
     if !wrong.is_empty() {
         wrong.push_str(", ")?;
     }
-    write!(wrong, "`{part}`")
+    write!(wrong, "`{part}` {reason}")
 }
 
-/// The field that a text names, if it does.
-fn field_of(part: &str) -> Option<SortField> {
+/// The field that a text names, or why it names none.
+fn field_of(part: &str) -> Result<SortField, &'static str> {
     let (rest, descending) = match part.strip_suffix("D") {
         Some(rest) => (rest, true),
         None => (part, false),
     };
     let (range, form) = form_of(rest);
-    let (from, to) = range.split_once("-")?;
+    let Some((from, to)) = range_of(range) else {
+        return Err("isn't two numbers with a hyphen between them");
+    };
     let field = SortField {
-        from: place_of(from)?,
-        to: place_of(to)?,
+        from,
+        to,
         form,
         descending,
     };
-    if field.fits(1024) { Some(field) } else { None }
+    if field.fits(1024) {
+        return Ok(field);
+    }
+    Err(misfit_of(from, to, form))
+}
+
+/// The two places in a record that a text gives.
+fn range_of(text: &str) -> Option<(u16, u16)> {
+    let (from, to) = text.split_once("-")?;
+    Some((place_of(from)?, place_of(to)?))
+}
+
+/// Why a field from one place to another is in no record.
+fn misfit_of(from: u16, to: u16, form: Form) -> &'static str {
+    if from < 1 || to < from || 1024 < to {
+        return "isn't from a byte to the same or a later one, of 1 to 1024";
+    }
+    match form {
+        Form::Zoned => "has over 15 bytes, the most of a zoned number",
+        Form::Packed => "has over 8 bytes, the most of a packed number",
+        Form::Characters => "is in no record",
+    }
 }
 
 /// How the bytes of a field are compared, behind its range.
@@ -181,7 +189,12 @@ fn form_of(text: &str) -> (&str, Form) {
 
 /// The place in a record that a text of digits gives.
 fn place_of(text: &str) -> Option<u16> {
-    text.parse::<u16>().ok()
+    let is_signed = text.starts_with("+");
+    if is_signed {
+        None
+    } else {
+        text.parse::<u16>().ok()
+    }
 }
 
 /// Why a file isn't sorted, and what helps.
@@ -218,7 +231,9 @@ fn misfit_sentence(
         }
     }
     let misfits = misfits.as_str();
-    format!(in alloc; "the records of {label} have {length} bytes, and --by has{misfits}")
+    format!(in alloc;
+        "the records of {label} have {length} bytes, and --by names bytes behind them:{misfits}; give fields that lie in the records"
+    )
 }
 
 fn push_range(text: &mut String, field: SortField) -> Result<(), AllocError> {

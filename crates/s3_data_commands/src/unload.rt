@@ -5,7 +5,9 @@ use crate::fault::Fault;
 use crate::inputs::{delimiter_of, layout_of};
 use crate::pack_words::{area_number, label_of, pack_of, value_of, wrong_words};
 use crate::sentences::unload_sentence;
-use crate::words::{file_word, value_word};
+use crate::words::{
+    delimiter_word, file_word, layout_file_word, layout_type_word, layout_word, value_word,
+};
 use clap::{ArgMatches, Command};
 use s3_cards::{LevelId, Name};
 use s3_unload::{Area, LineForm, UnloadFault};
@@ -26,21 +28,13 @@ pub fn unload_command<'a>(alloc: Global) -> Result<Command<'a>, AllocError> {
                 .required(true)
                 .help("The label of the file"),
         )?
-        .arg(file_word(alloc, "layout").help(
-            "A deck with the RPG source whose I sheet has the fields",
-        ))?
-        .arg(value_word(alloc, "file", "NAME").help(
-            "The file of the source, where it has several on DISK",
-        ))?
-        .arg(value_word(alloc, "type", "INDICATOR").help(
-            "The type of records, where the file has several",
-        ))?
+        .arg(layout_word(alloc))?
+        .arg(layout_file_word(alloc))?
+        .arg(layout_type_word(alloc))?
         .arg(value_word(alloc, "as", "FORM").help(
             "csv, text or hex; csv with a layout, else text, if it isn't said",
         ))?
-        .arg(value_word(alloc, "delimiter", "C").help(
-            "The character between the cells, a comma if it isn't said",
-        ))
+        .arg(delimiter_word(alloc))
 }
 
 /// Does what the words of `bureau unload` ask, and gives the exit status: 0 where it is done, 4 where a value can't be shown and
@@ -61,6 +55,7 @@ fn unload_file(rt: &HostRuntime, matches: &ArgMatches<'_>) -> Result<(), Fault> 
     let name = label_of(rt, label)?;
     let path = value_of(matches, "pack");
     let form = form_of(rt, matches)?;
+    test_words(rt, matches, form)?;
     let done = match (form, matches.get_str("layout")) {
         (Some(form), _) => {
             let pack = pack_of(rt, path)?;
@@ -120,6 +115,28 @@ fn form_of(rt: &HostRuntime, matches: &ArgMatches<'_>) -> Result<Option<LineForm
         (Some("csv"), _) | (None, Some(_)) => Ok(None),
         (Some(_), _) => Err(wrong_words(rt.alloc(), "a file is unloaded as csv, text or hex")),
     }
+}
+
+/// Refuses words that would do nothing: those that choose in a layout where there is none, and a delimiter where there are no cells.
+fn test_words(
+    rt: &HostRuntime,
+    matches: &ArgMatches<'_>,
+    form: Option<LineForm>,
+) -> Result<(), Fault> {
+    let chooses = matches.get_str("file").is_some() || matches.get_str("type").is_some();
+    if chooses && matches.get_str("layout").is_none() {
+        return Err(wrong_words(
+            rt.alloc(),
+            "--file and --type choose in a layout; name a deck with the source by --layout, or leave them out",
+        ));
+    }
+    if form.is_some() && matches.get_str("delimiter").is_some() {
+        return Err(wrong_words(
+            rt.alloc(),
+            "--delimiter stands between the cells of a table, and text and hex have none; leave it out, or give a layout and --as csv",
+        ));
+    }
+    Ok(())
 }
 
 /// What a refusal is to the command.

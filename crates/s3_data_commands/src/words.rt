@@ -29,3 +29,27 @@ pub fn save_word<'a>(alloc: Global) -> Arg<'a> {
         .required(true)
         .help("Where the pack is written")
 }
+
+/// The word for the source that has the fields of the records.
+pub fn layout_word<'a>(alloc: Global) -> Arg<'a> {
+    file_word(alloc, "layout").help(
+        "A deck with the RPG source whose I sheet has the fields; one in .rpg or .punch is plain text",
+    )
+}
+
+/// The word for the file of a layout that is meant.
+pub fn layout_file_word<'a>(alloc: Global) -> Arg<'a> {
+    value_word(alloc, "file", "NAME").help("The file of the source, where it has several on DISK")
+}
+
+/// The word for the type of records that is meant.
+pub fn layout_type_word<'a>(alloc: Global) -> Arg<'a> {
+    value_word(alloc, "type", "INDICATOR").help("The type of records, where the file has several")
+}
+
+/// The word for what stands between the cells of a table.
+pub fn delimiter_word<'a>(alloc: Global) -> Arg<'a> {
+    value_word(alloc, "delimiter", "C").help(
+        "The character between the cells, a comma if it isn't said",
+    )
+}

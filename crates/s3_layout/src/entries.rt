@@ -3,7 +3,7 @@ ghost use Rattle.std.specs.Prelude.{◌≡◌, ◌++◌, Some, None, IfOk, OnOk}
 ghost use Rattle.std.specs.List.{list_any};
 ghost use Rattle.s3_lines.specs.Indicators.{same_indicator};
 ghost use Rattle.s3_layout.specs.Inner.Files.{Chooses};
-ghost use Rattle.s3_layout.specs.Inner.Entries.{behind as behind_spec, behind_input as behind_input_spec, begun as begun_spec, entries_from, first as first_spec, is_meant as is_meant_spec, is_taken as is_taken_spec, taken, tested, types_from};
+ghost use Rattle.s3_layout.specs.Inner.Entries.{behind as behind_spec, behind_input as behind_input_spec, begun as begun_spec, chosen_type as chosen_type_spec, entries_from, first as first_spec, is_meant as is_meant_spec, is_taken as is_taken_spec, taken, types_from};
 
 use crate::fault::LayoutFault;
 use s3_cards::Name;
@@ -59,7 +59,7 @@ impl Place {
     }
 }
 
-/// Whether the type of an indicator is the one that is named, or none is.
+/// Whether the type of an indicator is the one that is meant, or none is.
 fn is_meant(indicator: Indicator, record_type: Option<Indicator>) -> bool
     ensures { result ≡ is_meant_spec record_type indicator }
 {
@@ -116,28 +116,29 @@ fn is_taken(entry: &FieldLine, record_type: Option<Indicator>) -> bool
     }
 }
 
-/// Refuses a file of several types where none is named, and a type that the file doesn't have.
-pub fn test_type(
+/// The type of the records that are meant: the one that is named, or the only one; none of a file without types. Refuses a file of
+/// several types where none is named, and a type that the file doesn't have.
+pub fn chosen_type(
     alloc: Global,
     lines: &[Line],
     file: Name,
     record_type: Option<Indicator>,
-) -> Result<(), LayoutFault>
-    ensures { Chooses (tested record_type (types_from file first_spec lines.now)) result }
+) -> Result<Option<Indicator>, LayoutFault>
+    ensures { Chooses (chosen_type_spec record_type (types_from file first_spec lines.now)) result }
 {
     let types = types_of(alloc, lines, file)?;
     match record_type {
-        Some(named) => test_named(&types, named),
-        None => test_only(&types),
+        Some(named) => named_type(&types, named),
+        None => only_type(&types),
     }
 }
 
-/// Refuses a type that isn't there.
-fn test_named(types: &[Indicator], named: Indicator) -> Result<(), LayoutFault>
-    ensures { result ≡ tested (Some named) types.now }
+/// The type that is named, if it is there.
+fn named_type(types: &[Indicator], named: Indicator) -> Result<Option<Indicator>, LayoutFault>
+    ensures { result ≡ chosen_type_spec (Some named) types.now }
 {
     if has_type(types, named) {
-        Ok(())
+        Ok(Some(named))
     } else {
         Err(LayoutFault::OtherType)
     }
@@ -150,12 +151,13 @@ fn has_type(types: &[Indicator], named: Indicator) -> bool
     types.iter().any(|indicator| named.is(*indicator))
 }
 
-/// Refuses several types.
-fn test_only(types: &[Indicator]) -> Result<(), LayoutFault>
-    ensures { result ≡ tested None types.now }
+/// The only type, if there is one, and no several.
+fn only_type(types: &[Indicator]) -> Result<Option<Indicator>, LayoutFault>
+    ensures { result ≡ chosen_type_spec None types.now }
 {
     match types {
-        [] | [_] => Ok(()),
+        [] => Ok(None),
+        [only] => Ok(Some(*only)),
         _ => Err(LayoutFault::SeveralTypes),
     }
 }

@@ -4,7 +4,7 @@
 //! chosen, and the record length and the key of the file's line (`IsLayoutOf`); each field lies in its records, and has a form
 //! that a program can read; each call is safe and returns.
 //!
-//! Only tested: when a layout is refused for its fields, and the words of refusals.
+//! Only tested: when a layout is refused, that no two of its fields have one name, and the words of refusals.
 #![tactic(auto)]
 
 mod choosing;

@@ -5,7 +5,7 @@ ghost use Rattle.s3_layout.specs.Inner.Layouts.{IsLayoutOf};
 
 use crate::choosing::{Choice, chosen_file};
 use crate::columns::fields_of;
-use crate::entries::{entries_meant, test_type};
+use crate::entries::{chosen_type, entries_meant};
 use crate::fault::LayoutFault;
 use s3_cards::Deck;
 use s3_cells::Layout;
@@ -22,8 +22,8 @@ pub struct SourceLayout {
     pub key: Option<KeyField>,
 }
 
-/// The layout of records that the source on these cards of a deck describes, from place `from` up to but without `to`. Of a type
-/// of records that is named, it has the fields that are taken for it.
+/// The layout of records that the source on these cards of a deck describes, from place `from` up to but without `to`. It has the
+/// fields that are taken for the type of records that is named, or for the only one.
 pub fn read_layout(
     alloc: Global,
     deck: &Deck,
@@ -40,8 +40,8 @@ pub fn read_layout(
         Err(fault) => return Err(first_fault(&fault)),
     };
     let file = chosen_file(alloc, &lines, choice.file)?;
-    test_type(alloc, &lines, file.name, choice.record_type)?;
-    let entries = entries_meant(alloc, &lines, file.name, choice.record_type)?;
+    let record_type = chosen_type(alloc, &lines, file.name, choice.record_type)?;
+    let entries = entries_meant(alloc, &lines, file.name, record_type)?;
     let fields = fields_of(alloc, &entries, file.record_length)?;
     if fields.is_empty() {
         return Err(LayoutFault::NoFields);

@@ -15,7 +15,7 @@ use Rattle.s3_layout.specs.declared.entries.Place.{Place}
 use Rattle.s3_layout.specs.declared.fault.LayoutFault.{LayoutFault}
 use Rattle.s3_layout.specs.declared.fault.LayoutFault.TheVariants.{SeveralTypes, OtherType}
 
--- the type of an indicator is the one that is named, or none is
+-- the type of an indicator is the one that is meant, or none is
 abbrev pub is_meant : Option Indicator → Indicator → Bool
 is_meant (Some named) indicator = same_indicator named indicator
 is_meant None indicator = true
@@ -39,7 +39,7 @@ behind file record_type place line = on line.sheet
     on (Input input) = behind_input file record_type place input
     on _ = place
 
--- 63 and 64 are blank or name the type, or no type is named
+-- 63 and 64 are blank or name the type that is meant: a field of another type never counts in its records
 abbrev pub is_taken : Option Indicator → FieldLine Name → Bool
 is_taken record_type entry = related record_type entry.relation
   where
@@ -86,9 +86,9 @@ abbrev pub types_from : Name → Place → List Line → List Indicator
 types_from file place [] = []
 types_from file place (line ∷ lines) = begun (behind file None place line) line ++ types_from file (behind file None place line) lines
 
--- a type that is named has to be there, and where none is named there is at most one
-abbrev pub tested : Option Indicator → List Indicator → Result (Unit {0}) LayoutFault
-tested (Some named) types = if list_any (same_indicator named) types then Ok tt else Err OtherType
-tested None [] = Ok tt
-tested None (one ∷ []) = Ok tt
-tested None (one ∷ other ∷ more) = Err SeveralTypes
+-- the type that is meant: the one that is named, which has to be there, or the only one
+abbrev pub chosen_type : Option Indicator → List Indicator → Result (Option Indicator) LayoutFault
+chosen_type (Some named) types = if list_any (same_indicator named) types then Ok (Some named) else Err OtherType
+chosen_type None [] = Ok None
+chosen_type None (one ∷ []) = Ok (Some one)
+chosen_type None (one ∷ other ∷ more) = Err SeveralTypes

@@ -1,9 +1,10 @@
 -- What a layout has of a source.
-use Rattle.std.specs.Prelude.{◌≡◌, List, Ok}
+use Rattle.std.specs.Prelude.{◌≡◌, List, Ok, Option}
+use Rattle.s3_lines.specs.declared.indicator.Indicator.{Indicator}
 use Rattle.s3_lines.specs.declared.sheet.FileLine.{FileLine}
 use Rattle.s3_lines.specs.declared.sheet.Line.{Line}
 use Rattle.s3_layout.specs.Inner.Columns.{AreFieldsOf}
-use Rattle.s3_layout.specs.Inner.Entries.{entries_from, first, tested, types_from}
+use Rattle.s3_layout.specs.Inner.Entries.{chosen_type, entries_from, first, types_from}
 use Rattle.s3_layout.specs.Inner.Files.{chosen_file}
 use Rattle.s3_layout.specs.declared.choosing.Choice.{Choice}
 use Rattle.s3_layout.specs.declared.reading.SourceLayout.{SourceLayout}
@@ -12,7 +13,8 @@ use Rattle.s3_layout.specs.declared.reading.SourceLayout.{SourceLayout}
 pub record IsLayoutOf (choice : Choice) (lines : List Line) (found : SourceLayout) : Type 0 where
   pub file : FileLine
   pub is_chosen : chosen_file choice.file lines ≡ Ok file
-  pub has_type : tested choice.record_type (types_from file.name first lines) ≡ Ok tt
+  pub record_type : Option Indicator
+  pub has_type : chosen_type choice.record_type (types_from file.name first lines) ≡ Ok record_type
   pub record_length : found.layout.record_length ≡ file.record_length
-  pub fields : AreFieldsOf file.record_length (entries_from file.name choice.record_type first lines) found.layout.fields.items
+  pub fields : AreFieldsOf file.record_length (entries_from file.name record_type first lines) found.layout.fields.items
   pub key : found.key ≡ file.key

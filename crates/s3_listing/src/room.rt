@@ -1,0 +1,124 @@
+//! What room a pack has, and what its files take.
+
+use crate::fault::ListFault;
+use crate::written::mount_slots;
+use s3_cards::{LevelId, Name};
+use s3_labels::{AreaSlots, Slot};
+use s3_store::Stretch;
+use std::alloc::Global;
+
+/// The sectors of a track.
+const TRACK: u16 = 24;
+
+/// The tracks of a region that no file has.
+#[derive(Clone, Copy, Debug, PartialEq, Eq)]
+pub struct FreeRoom {
+    /// How many there are.
+    pub tracks: u16,
+    /// How many lie in a row where most do.
+    pub in_a_row: u16,
+}
+
+/// The free tracks of an area of a pack: 0 for the masters, 1 and 2 for the levels. Refused with `Mount` or `NoMemory`.
+pub fn free_room(alloc: Global, pack: &[u8], area: u16) -> Result<FreeRoom, ListFault> {
+    let areas = mount_slots(alloc, pack)?;
+    let header = areas.header();
+    let region = match area {
+        0 => header.masters,
+        1 => header.level_one,
+        _ => header.level_two,
+    };
+    Ok(room_in(region, slots_of(&areas, area)))
+}
+
+/// How large a file is.
+#[derive(Clone, Copy, Debug, PartialEq, Eq)]
+pub struct FileSize {
+    /// The tracks that it takes.
+    pub tracks: u16,
+    /// The records that it has.
+    pub records: u32,
+}
+
+/// How large the sound file of a label is in an area of a pack, where it has one. Refused with `Mount` or `NoMemory`.
+pub fn file_size(
+    alloc: Global,
+    pack: &[u8],
+    area: u16,
+    name: Name,
+) -> Result<Option<FileSize>, ListFault> {
+    let areas = mount_slots(alloc, pack)?;
+    for slot in slots_of(&areas, area) {
+        if let Slot::Sound(label) = slot {
+            if label.name == name {
+                return Ok(Some(FileSize {
+                    tracks: tracks_of(label.extents.as_slice()),
+                    records: label.count,
+                }));
+            }
+        }
+    }
+    Ok(None)
+}
+
+/// The slots of an area.
+fn slots_of(areas: &AreaSlots, area: u16) -> &[Slot] {
+    match area {
+        0 => areas.masters(),
+        1 => areas.slots(LevelId::One),
+        _ => areas.slots(LevelId::Two),
+    }
+}
+
+/// The free tracks of a region with these slots.
+fn room_in(region: Stretch, slots: &[Slot]) -> FreeRoom {
+    let mut room = FreeRoom {
+        tracks: 0,
+        in_a_row: 0,
+    };
+    let mut row = 0u16;
+    for track in 0..region.sectors / TRACK {
+        let place = Stretch {
+            start: region.start.saturating_add(track.saturating_mul(TRACK)),
+            sectors: TRACK,
+        };
+        if slots.iter().any(|slot| has_sector_of(slot, place)) {
+            row = 0;
+        } else {
+            row = row.saturating_add(1);
+            room.tracks = room.tracks.saturating_add(1);
+            room.in_a_row = room.in_a_row.max(row);
+        }
+    }
+    room
+}
+
+/// Whether the sound file of a slot, if it has one, has a sector of a stretch.
+fn has_sector_of(slot: &Slot, place: Stretch) -> bool {
+    match slot {
+        Slot::Sound(label) => {
+            let extents = label.extents.as_slice();
+            extents.iter().any(|extent| meet(*extent, place))
+        }
+        Slot::Free | Slot::Damaged(_) => false,
+    }
+}
+
+/// Whether two stretches have a sector in common.
+fn meet(one: Stretch, other: Stretch) -> bool {
+    u32::from(one.start) < end_of(other) && u32::from(other.start) < end_of(one)
+}
+
+/// The sector behind a stretch.
+fn end_of(stretch: Stretch) -> u32 {
+    u32::from(stretch.start) + u32::from(stretch.sectors)
+}
+
+/// The tracks of some extents.
+fn tracks_of(extents: &[Stretch]) -> u16 {
+    let mut tracks = 0u16;
+    for extent in extents {
+        tracks = tracks.saturating_add(extent.sectors / TRACK);
+    }
+    tracks
+}
