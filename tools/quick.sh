@@ -28,10 +28,10 @@ compile() {
     when_stopped="the compilation was stopped"
     tests=
     if [ $kind = plain ]; then
-        say "compiling the program without its proof: some 90 seconds on two processors"
+        say "compiling the program without its proof: about two minutes on two processors"
     else
         tests=--tested
-        say "compiling the program without its proof, with run-time tests: some 100 seconds on one processor"
+        say "compiling the program without its proof, with run-time tests: about two minutes on one processor"
     fi
     mkdir -p "$kept"
     watch "$here/tools/unproved" "$kept/unstamped" $tests || { cat "$log" >&2; say "the program doesn't compile"; exit $failed; }

@@ -62,8 +62,10 @@ fn operate_command<'a>(alloc: Global) -> Result<Command<'a>, AllocError> {
             "The pack; a new one with 10 tracks a region if none is given",
         ))?
         .arg(file_word(alloc, "save").help("Where the pack is written once both levels are done"))?
-        .arg(files_word(alloc, "deck1").help("The deck of level 1; several files are one deck"))?
-        .arg(files_word(alloc, "deck2").help("The deck of level 2"))?
+        .arg(files_word(alloc, "deck1").help(
+            "The deck of level 1; several files are one deck, and those that end in .rpg or .punch are plain text",
+        ))?
+        .arg(files_word(alloc, "deck2").help("The deck of level 2, likewise"))?
         .arg(files_word(alloc, "replies").help(
             "Rules that answer halts, a line each: LEVEL LETTERS DIGIT [PROGRAM]; with - the replies come from standard input",
         ))?
@@ -103,10 +105,10 @@ fn operate_flags<'a>(alloc: Global, command: Command<'a>) -> Result<Command<'a>,
         .arg(flag(alloc, "jobs").help("Lists the jobs of the decks, and runs none"))?
         .arg(flag(alloc, "save-unfinished").help("Saves the pack also where a level isn't done"))?
         .arg(flag(alloc, "overwrite").help(
-            "Writes over a script, a log, a deck or a pack that is there",
+            "Writes over a script, a log, a deck or a pack that is there, and into a folder of pages that isn't empty",
         ))?
         .arg(flag(alloc, "quiet").help(
-            "Tells neither how far the work has come nor what rules answered",
+            "Tells neither how far the work has come nor what rules or a log answered",
         ))
 }
 
