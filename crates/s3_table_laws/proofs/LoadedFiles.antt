@@ -29,6 +29,7 @@ use Rattle.s3_load.specs.Inner.Tables.{AreRecordsOf}
 use Rattle.s3_load.proofs.RecordLemmas.{named_lie}
 use Rattle.s3_load.proofs.RowLaws.{loaded_shown, loaded_values}
 use Rattle.s3_table_laws.proofs.Bytes.{AreBytes, record_bytes}
+use Rattle.s3_table_laws.proofs.KeyedAlike.{as_they_stood}
 use Rattle.s3_table_laws.proofs.KeyOrders.{in_place, numbers_ascend}
 use Rattle.s3_table_laws.specs.Inner.RoundTrip.{AreByKey, AreUnloaded, HasFileAsked, ShowRows, ShowsRow, UnloadsTable}
 
@@ -135,11 +136,10 @@ loaded_as order text old new anew is =
     let whole : AreWhole n (records_of is.rows) =
     record { long = All-permutation (λ bytes. length bytes ≡ n) (records_of table.made) (records_of is.rows) moved begun.long; bytes = All-permutation AreBytes (records_of table.made) (records_of is.rows) moved begun.bytes } in
     let all : ordered label new ≡ records_of is.rows = ordered_as_loaded order.key label new n is.rows file.asked.keyed (new_records order (records_of is.rows) is.header old new file anew) whole table.keyed in
-    record {
-      same = subst (IsPermutation (records_of table.made)) (sym all) moved;
-      unkeyed = λ none. all ∙ ap records_of (table.unkeyed none);
-      keyed = subst (AreByKey order.key) (sym all) (by_keys order.key is.rows table.keyed);
-    }
+    let same : IsPermutation (records_of table.made) (ordered label new) = subst (IsPermutation (records_of table.made)) (sym all) moved in
+    let unkeyed : order.key ≡ None → ordered label new ≡ records_of table.made = λ none. all ∙ ap records_of (table.unkeyed none) in
+    let keyed : AreByKey order.key (ordered label new) = subst (AreByKey order.key) (sym all) (by_keys order.key is.rows table.keyed) in
+    record { same = same; unkeyed = unkeyed; keyed = keyed; in_order = λ stand. as_they_stood order.key (records_of table.made) (ordered label new) same unkeyed keyed stand }
 
 pub loaded_unloaded : (order : Order) (text : List ℕ) (old new : List (List ℕ)) → order.appends ≡ false → IsLoaded order (Some text) old new → UnloadsTable order text new
 loaded_unloaded order text old new anew is =

@@ -7,10 +7,10 @@
 //!   them, are one for each row of the table: in the order of their keys, no two the same, or, where the file has none, in the
 //!   order of the rows. Each record shows in each column the value that the row's cell says.
 //! - `what_is_unloaded_is_loaded`: where a text that reads as the table of some records was loaded into a new file, that file has
-//!   those very records: in the order of their keys, or, where it has none, as they stood. The fields of the layout have each
-//!   byte of a record, no two of them have one name, each value can be shown, and each number stands as it is written (`read`). The
-//!   text that `unload` writes with commas reads so, as `load` reads it: a byte order mark, which is left out, isn't in front
-//!   (`written`).
+//!   those very records: in the order of their keys, or, where it has none, as they stood; so it is the same list where they came
+//!   in the order of their keys. The fields of the layout have each byte of a record, no two of them have one name, each value can
+//!   be shown, and each number stands as it is written (`read`). The text that `unload` writes with commas reads so, as `load` reads
+//!   it: a byte order mark, which is left out, isn't in front (`written`).
 //!
 //! Nothing is said of records that were loaded behind others, nor of a pack where another slot of the area in front of this one
 //! bears the same label.

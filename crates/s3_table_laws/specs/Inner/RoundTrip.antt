@@ -56,11 +56,13 @@ abbrev pub AreByKey : Option KeyField → List (List ℕ) → Type 0
 AreByKey None records = ⊤
 AreByKey (Some key) records = AllPairs (λ one other. slice_cmp nat_cmp (key_in key one) (key_in key other) ≡ Less) records
 
--- the file is unloaded as these records: in the order of their keys, or, where it has none, as they stand here
+-- The file is unloaded as these records: in the order of their keys, or, where it has none, as they stand here. Where they stand by
+-- their keys here, too, these are the same.
 pub record AreUnloaded (order : Order) (label : FileLabel) (contents records : List (List ℕ)) : Type 0 where
   pub same : IsPermutation records (ordered label contents)
   pub unkeyed : order.key ≡ None → ordered label contents ≡ records
   pub keyed : AreByKey order.key (ordered label contents)
+  pub in_order : AreByKey order.key records → ordered label contents ≡ records
 
 -- The file that a table was loaded into is unloaded as records that show the table's rows, one for each: in the order of their
 -- keys, or, where the file has none, of the rows.

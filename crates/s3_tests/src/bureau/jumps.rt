@@ -94,9 +94,9 @@ fn turns_are_taken_one_by_one(rt: HostRuntime) -> Result<(), Fail> {
 #[test]
 fn turns_are_taken_at_once(rt: HostRuntime) -> Result<(), Fail> {
     let mut bureau = opened(&rt, rt.alloc())?;
-    assert_takes(&rt, &mut bureau, 9, 9);
-    // the last one ends the job, and the one behind it would be idle
+    // a job's end ends them: the first one compiles the program, and the last one ends the job that runs it
     assert_takes(&rt, &mut bureau, 9, 1);
+    assert_takes(&rt, &mut bureau, 10, 9);
     assert_eq!(rt; bureau.step(TURN), Ok(Did::Idle));
     assert_ends(&rt, bureau);
     Ok(())
