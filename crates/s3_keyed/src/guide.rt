@@ -1,8 +1,8 @@
 //! Where the search for a key begins. A search doesn't rely on it, so that nothing is proved of it.
 ghost use Rattle.std.specs.Prelude.{◌≡◌, ◌≤◌, ◌<◌, ◌+◌, ◌/◌, IfErr};
 
-use crate::index_sector::{key_number, key_of_entry, number_in};
-use crate::keys::{Key, QuickKey};
+use crate::index_sector::{key_bytes, key_number, key_of_entry, number_in};
+use crate::keys::{Key, QuickKey, short_form};
 use crate::noted::NotedRecords;
 use s3_store::PoolFault;
 use std::alloc::Global;
@@ -17,7 +17,7 @@ pub struct Guide {
     numbers: Vec<u64>,
     /// Which entry of the index has each of them.
     entries: Vec<u32>,
-    /// The record of each key, where keys have four to eight bytes.
+    /// The record of each key.
     records: NotedRecords,
     /// The first key of each sector, where keys are shorter or longer.
     firsts: Vec<QuickKey>,
@@ -52,10 +52,24 @@ impl Guide {
         match key_length {
             4..=8 => self.note_numbers(sector, count, key_length, entry),
             _ => {
+                self.note_records(sector, count, key_length);
                 let first = key_of_entry(sector, 0, usize::from(key_length));
                 self.firsts.push(QuickKey::of(&first, key_length))?;
                 Ok(())
             }
+        }
+    }
+
+    /// Notes the records of the first so many entries of a sector.
+    #[inline(never)]
+    fn note_records(&mut self, sector: &[u8; 256], count: usize, key_length: u8)
+        requires short { key_length ≤ 29 }
+        requires inside { count ≤ 256 / (key_length + 4) }
+    {
+        let key_length = usize::from(key_length);
+        for j in 0..count {
+            let form = short_form(key_bytes(sector, j, key_length));
+            self.records.note(form, number_in(sector, j, key_length));
         }
     }
 
@@ -94,9 +108,10 @@ impl Guide {
         Some(*entry)
     }
 
-    /// The place of the record with this key, from 0, where keys have four to eight bytes and it stood at the check.
-    pub fn record_of(&self, key: u64) -> Option<u32> {
-        self.records.find(key)
+    /// The place of the record with the key in these bytes, from 0, where it stood at the check. Seldom it is a record with another
+    /// key.
+    pub fn record_of(&self, key: &[u8]) -> Option<u32> {
+        self.records.find(short_form(key))
     }
 
     /// The sector of the index, each of so many entries, that a key of so many bytes lies in.

@@ -57,6 +57,14 @@ fn entry_bytes(sector: &[u8; 256], j: usize, key_length: usize) -> &[u8]
     &sector[j * width..j * width + width]
 }
 
+/// The bytes of the key of entry `j` of a sector, whose keys have so many.
+pub fn key_bytes(sector: &[u8; 256], j: usize, key_length: usize) -> &[u8]
+    requires short { key_length ≤ 29 }
+    requires inside { j < 256 / (key_length + 4) }
+{
+    &entry_bytes(sector, j, key_length)[..key_length]
+}
+
 /// The number whose bytes are the first four to eight of these: the highest ones of a number of 64 bits.
 pub fn number_at(bytes: &[u8], key_length: usize) -> u64
     requires long { 4 ≤ key_length }

@@ -18,7 +18,7 @@ use crate::entries::{has_key_of, have_same_key, read_number};
 use crate::fault::KeyedFault;
 use crate::guide::Guide;
 use crate::indexed::{IndexEntry, IndexedFile};
-use crate::keys::{Key, short_number_of};
+use crate::keys::{Key, are_same_keys, short_number_of};
 use crate::search::{is_above_index, search_from, search_index};
 use crate::write::{read_record, write_entry, write_record};
 use s3_slots::FileLabel;
@@ -175,20 +175,19 @@ impl Keyed {
     fn key_bytes<'a>(&self, bytes: &'a [u8]) -> &'a [u8]
         requires { length bytes.now ≡ (shown self.now).layout.record_length }
         ensures key { number_of result.now ≡ key_of (shown self.now).layout.key bytes.now }
+        ensures long { length result.now ≡ (shown self.now).layout.key.length }
     {
         let start = usize::from(self.file.key_start - 1);
         &bytes[start..start + usize::from(self.file.key_length)]
     }
 
-    /// Whether the key in the bytes of a record is this one, of four to eight bytes.
-    fn has_number(&self, bytes: &[u8], key: u64) -> bool
-        requires { length bytes.now ≡ (shown self.now).layout.record_length }
-        ensures { IsTrue result → key_of (shown self.now).layout.key bytes.now ≡ key }
+    /// Whether the key in the bytes of a record is the one in these bytes.
+    fn has_key(&self, bytes: &[u8], key: &[u8]) -> bool
+        requires long { length bytes.now ≡ (shown self.now).layout.record_length }
+        requires key { length key.now ≡ (shown self.now).layout.key.length }
+        ensures { IsTrue result → key_of (shown self.now).layout.key bytes.now ≡ number_of key.now }
     {
-        match short_number_of(self.key_bytes(bytes)) {
-            Some(number) => number == key,
-            None => false,
-        }
+        are_same_keys(self.key_bytes(bytes), key)
     }
 
     /// The key in the bytes of a record.
@@ -274,9 +273,8 @@ impl Keyed {
         }
     }
 
-    /// Reads the record with the key in these bytes where they are four to eight and it stood at the check, and answers its
-    /// place, from 0; `None` where it isn't noted, although it may be there. The record's own key is compared, so that no
-    /// sector of the index is read. Refused where a transfer fails or memory runs out.
+    /// Reads the record with the key in these bytes where it stood at the check, and answers its place, from 0; `None` where it
+    /// isn't noted, although it may be there. The record's own key is compared, so that no sector of the index is read. Refused where a transfer fails or memory runs out.
     pub fn get_noted<P: Sectors>(
         &self,
         pool: &mut P,
@@ -293,17 +291,14 @@ impl Keyed {
         ensures failures { (P.state pool.new).failures ≡ (P.state pool.old).failures + failed_transfers result }
         ensures fault { IfErr result (λ fault. fault ≢ PoolFault.NoSector) }
     {
-        let Some(number) = short_number_of(key) else {
-            return Ok(None);
-        };
-        let Some(place) = self.guide.record_of(number) else {
+        let Some(place) = self.guide.record_of(key) else {
             return Ok(None);
         };
         if place >= self.count {
             return Ok(None);
         }
         read_record(&self.file, pool, place, bytes)?;
-        if self.has_number(bytes, number) {
+        if self.has_key(bytes, key) {
             return Ok(Some(place));
         }
         Ok(None)

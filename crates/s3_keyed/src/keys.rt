@@ -1,10 +1,13 @@
 //! Keys of records.
-ghost use Rattle.std.specs.Prelude.{◌≡◌, ◌≤◌, ◌<◌, ◌^◌, ℕ, length, slice_index, take, drop, nat_lt, ◌==◌, IfSome};
+ghost use Rattle.std.specs.Prelude.{◌≡◌, ◌≤◌, ◌<◌, ◌^◌, ℕ, length, slice_index, take, drop, nat_lt, ◌==◌, IfSome, IsTrue};
 ghost use Rattle.std.specs.Ordering.{nat_cmp, ordering_then};
 ghost use Rattle.s3_keyed.specs.KeyOrder.{number_of};
 
 use byteorder::{BigEndian, ByteOrder};
 use std::cmp::Ordering;
+
+/// Spreads the bits of a word over a form: an odd number without a pattern.
+const FOLD: u64 = 0xD6E8_FEB8_6659_FD93;
 
 /// A key of at most 29 bytes, with zeros before it, so that keys of one length compare as numbers.
 #[derive(Clone, Copy)]
@@ -83,6 +86,64 @@ pub fn short_number_of(key: &[u8]) -> Option<u64>
     let first = u64::from(BigEndian::read_u32(key));
     let last = u64::from(BigEndian::read_u32(&key[length - 4..]));
     Some((first >> (8 * (8 - length)) << 32) + last)
+}
+
+/// Whether two texts of one length have the same bytes.
+fn have_same_bytes(one: &[u8], other: &[u8]) -> bool
+    requires { length one.now ≡ length other.now }
+    ensures { IsTrue result → one.now ≡ other.now }
+{
+    for place in 0..one.len() {
+        if one[place] != other[place] {
+            return false;
+        }
+    }
+    true
+}
+
+/// Whether two keys of one length are the same: compared as numbers where they have four to eight bytes.
+pub fn are_same_keys(one: &[u8], other: &[u8]) -> bool
+    requires { length one.now ≡ length other.now }
+    ensures { IsTrue result → number_of one.now ≡ number_of other.now }
+{
+    let Some(number) = short_number_of(one) else {
+        return have_same_bytes(one, other);
+    };
+    let Some(wanted) = short_number_of(other) else {
+        return false;
+    };
+    number == wanted
+}
+
+/// A number by which nearly all keys differ; a key of at most eight bytes is told by it. Nothing is proved of it, so a search may
+/// begin by it, but no answer rests on it.
+pub fn short_form(key: &[u8]) -> u64 {
+    match short_number_of(key) {
+        Some(number) => number,
+        None => folded(key),
+    }
+}
+
+/// The key's words of eight bytes, folded into one: the last eight bytes, and as many words from its front as lie before its last
+/// byte. The bytes of a key that has none such are put behind one another.
+#[inline(never)]
+fn folded(key: &[u8]) -> u64 {
+    let mut form = 0;
+    if key.len() < 8 {
+        for byte in key {
+            form = (form << 8) | u64::from(*byte);
+        }
+        return form;
+    }
+    for step in 0..(key.len() - 1) / 8 {
+        form = with_word(form, BigEndian::read_u64(&key[8 * step..]));
+    }
+    with_word(form, BigEndian::read_u64(&key[key.len() - 8..]))
+}
+
+/// A form with one word more folded in.
+fn with_word(form: u64, word: u64) -> u64 {
+    (form.rotate_left(23) ^ word).wrapping_mul(FOLD)
 }
 
 /// A key as a number.

@@ -19,7 +19,7 @@ struct Slot {
     number: u32,
 }
 
-/// The records of an index as it was checked, where keys have four to eight bytes.
+/// The records of an index as it was checked, by the short forms of their keys.
 #[derive(Drop)]
 pub struct NotedRecords {
     /// More of them than keys, by the high bits of the hash.
@@ -29,9 +29,9 @@ pub struct NotedRecords {
     ghost small: { shift < 32 },
 }
 
-/// The hash of a key.
-fn hash_of(key: u64) -> u32 {
-    (key.wrapping_mul(SPREAD) >> 32) as u32
+/// The hash of a key, by its short form.
+fn hash_of(form: u64) -> u32 {
+    (form.wrapping_mul(SPREAD) >> 32) as u32
 }
 
 impl NotedRecords {
@@ -54,8 +54,8 @@ impl NotedRecords {
     }
 
     /// Notes the number of a record in a free slot of its key, if there is one.
-    pub fn note(&mut self, key: u64, number: u32) {
-        let hash = hash_of(key);
+    pub fn note(&mut self, form: u64, number: u32) {
+        let hash = hash_of(form);
         let first = self.first(hash);
         for step in 0..TRIES {
             if let Some(slot) = self.slots.get_mut(first.wrapping_add(step)) {
@@ -68,8 +68,8 @@ impl NotedRecords {
     }
 
     /// The place, from 0, of the record that was noted for a key. Seldom it is a record with another key.
-    pub fn find(&self, key: u64) -> Option<u32> {
-        let hash = hash_of(key);
+    pub fn find(&self, form: u64) -> Option<u32> {
+        let hash = hash_of(form);
         let first = self.first(hash);
         for step in 0..TRIES {
             let slot = self.slots.get(first.wrapping_add(step))?;
