@@ -18,11 +18,12 @@ use Rattle.s3_program.specs.declared.program.Program.{Program}
 use Rattle.s3_program.specs.declared.starts.TypeStart.{TypeStart}
 use Rattle.s3_program.specs.Inner.Stands.{source_named}
 use Rattle.s3_operations.specs.Inner.Held.{held}
-use Rattle.s3_operations.proofs.WithinLemmas.{fields_within, file_found}
+use Rattle.s3_cycle.proofs.WithinLemmas.{fields_within, file_found}
 use Rattle.s3_match.specs.Inner.Heads.{file_at}
 use Rattle.s3_match.specs.Inner.Types.{is_type_start, kind_at, name_of_file}
 use Rattle.s3_match.proofs.ReadingLemmas.{file_named}
 use Rattle.s3_sections.specs.Inner.Courses.{goes_through, spots_of}
+use Rattle.s3_instructions.specs.declared.input.instruction.InputInstruction.{InputInstruction}
 use Rattle.s3_cycle.specs.declared.request.Current.{Current}
 use Rattle.s3_cycle.specs.declared.request.Current.TheVariants.{LastChained}
 use Rattle.s3_cycle.specs.declared.progress.Progress.{Progress}
@@ -94,17 +95,17 @@ abbrev pub kept : Stepper → List ℕ → Stepper
 kept c bytes = record c { progress = record c.progress { «record» = record { items = bytes } } }
 
 kept_running : (c : Stepper) (bytes : List ℕ) → IsRunning c → IsRunning (kept c bytes)
-kept_running c bytes running = record { overflow = running.overflow; state = running.state; reading = running.reading; heads = running.heads; prepared = running.prepared; inputs = running.inputs; guards = running.guards }
+kept_running c bytes running = record { overflow = running.overflow; state = running.state; reading = running.reading; heads = running.heads; calculations = running.calculations; totals_guard = running.totals_guard; inputs = running.inputs; outputs = running.outputs }
 
 pub unkept_running : (c : Stepper) (bytes : List ℕ) → IsRunning (kept c bytes) → IsRunning c
-unkept_running c bytes running = record { overflow = running.overflow; state = running.state; reading = running.reading; heads = running.heads; prepared = running.prepared; inputs = running.inputs; guards = running.guards }
+unkept_running c bytes running = record { overflow = running.overflow; state = running.state; reading = running.reading; heads = running.heads; calculations = running.calculations; totals_guard = running.totals_guard; inputs = running.inputs; outputs = running.outputs }
 
 kept_calculates : (c : Stepper) (bytes : List ℕ) → CanCalculate c.program c.progress → CanCalculate c.program (kept c bytes).progress
 kept_calculates c bytes calculates = record { time = still_time c.program c.progress (kept c bytes).progress c.progress.time calculates.time; course = calculates.course }
 
-pub found_moved : (c : Stepper) (place : ℕ) (bytes : List ℕ) → IsRunning c → CanCalculate c.program c.progress → AreWithin c.program bytes place → IsMovedBy (kept c bytes) moves.Chained c.program place bytes c.state.values
-found_moved c place bytes running calculates within =
-    record { running = kept_running c bytes running; can = record { moves = kept_calculates c bytes calculates; within = within }; same = refl }
+pub found_moved : (c : Stepper) (place : ℕ) (bytes : List ℕ) → IsRunning c → CanCalculate c.program c.progress → AreWithin c.program bytes place → (inputs : List InputInstruction) → inputs ≡ c.inputs.items → IsMovedBy (kept c bytes) moves.Chained inputs place bytes c.state.values
+found_moved c place bytes running calculates within inputs same =
+    record { running = kept_running c bytes running; instructions = same; can = record { moves = kept_calculates c bytes calculates; within = within }; same = refl }
 
 found_begun : (c : Stepper) (place : ℕ) (bytes : List ℕ) → here c (found_from bytes place) ≡ here (kept c bytes) (λ source program progress. fields_from source program progress moves.Chained place)
 unfolding fields_from

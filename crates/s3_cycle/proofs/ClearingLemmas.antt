@@ -1,9 +1,10 @@
 -- Step 2: record identifying indicators go off, by their numbers.
 use Rattle.std.proofs.Common.{◌≡◌, ℕ, ◌+◌, ◌<◌, ◌||◌, ◌&&◌, not, zero, suc, length, get_or, map, take, List, [], ◌∷◌, Bool, true, false, refl, sym, ◌∙◌, ap, subst, arith}
-use Rattle.std.specs.Prelude.{slice_set, if◌then◌else◌}
+use Rattle.std.specs.Prelude.{◌==◌, if◌then◌else◌}
 use Rattle.std.specs.List.{list_any, list_all}
 use Rattle.std.proofs.lemmas.Bool.{and_parts}
 use Rattle.std.proofs.lemmas.List.{take_all, take_more, length-map, get_or-map}
+use Rattle.std.proofs.lemmas.List.Elements.{All-get_or}
 use Rattle.std.proofs.lemmas.List.Folds.{list_any-append}
 use Rattle.s3_cards.specs.declared.name.Name.{Name}
 use Rattle.s3_cards.specs.Names.{no_name}
@@ -28,7 +29,8 @@ use Rattle.s3_operations.specs.declared.values.Values.{Values}
 use Rattle.s3_operations.specs.Inner.Held.{IsSound, Changes}
 use Rattle.s3_operations.specs.Inner.Indicating.{type_indicator}
 use Rattle.s3_operations.specs.Inner.Indicators.{on_in, is_settable, is_settable_entry}
-use Rattle.s3_operations.proofs.IndicatorLemmas.{turned_to}
+use Rattle.s3_operations.specs.Inner.Mirrored.{is_turned}
+use Rattle.s3_operations.proofs.IndicatorLemmas.{settable_number, turned_to}
 use Rattle.s3_operations.proofs.IndicatingLemmas.{turned_by, turn_once, off_where, types_settable}
 use Rattle.s3_cycle.specs.Inner.Clearing.{turned_off}
 use Rattle.s3_cycle.proofs.IdentifyLemmas.{kind_settable}
@@ -56,26 +58,45 @@ one_off types k d other v w within before =
     rw (before, take_more types k d within, list_any-append (same_indicator other) (take k types) (get_or types k d ∷ []))
     (turn_once (list_any (same_indicator other) (take k types)) (same_indicator other (get_or types k d)) false v)
 
-pub one_more_off : (p : Program) (indicators : Indicators) (numbers : List ℕ) (k number : ℕ) (d other : Indicator) (v : Bool) → AreNumbersOf p.inputs.items numbers → k < length numbers
-    → number ≡ get_or numbers k 0 → number < length indicators.on
-    → on_in indicators other ≡ turned_off (take k (indicators_on p.inputs.items)) other v
-    → on_in (record indicators { on = slice_set indicators.on number false }) other ≡ turned_off (take (k + 1) (indicators_on p.inputs.items)) other v
-one_more_off p indicators numbers k number d other v are within is few before =
+-- a number that goes on and off
+number_turned : (indicator : Indicator) (number : ℕ) → number ≡ indicator_number indicator → is_settable indicator ≡ true → number < 2048 → is_turned number ≡ true
+number_turned indicator number is settable few = ap is_turned is ∙ settable_number indicator settable (subst (λ (n : ℕ). n < 2048) is few)
+
+-- the one with this number goes off
+abbrev pub IsSetOff : (old new : Indicators) → (number : ℕ) → Indicator → Type 0
+IsSetOff old new number other = on_in new other ≡ (if indicator_number other == number then false else on_in old other)
+
+number_there : (p : Program) (numbers : List ℕ) (k number : ℕ) (d : Indicator) → AreNumbersOf p.inputs.items numbers → k < length numbers → number ≡ get_or numbers k 0
+    → number ≡ indicator_number (get_or (indicators_on p.inputs.items) k d)
+number_there p numbers k number d are within is =
+    is ∙ ap (λ (xs : List ℕ). get_or xs k 0) are.numbered ∙ get_or-map indicator_number (indicators_on p.inputs.items) k d 0 (omega (arith, within, ap length are.numbered, length-map (indicators_on p.inputs.items) indicator_number))
+
+settable_there : (p : Program) (numbers : List ℕ) (k : ℕ) (d : Indicator) → AreNumbersOf p.inputs.items numbers → k < length numbers → is_settable (get_or (indicators_on p.inputs.items) k d) ≡ true
+settable_there p numbers k d are within =
+    holds_at is_settable (indicators_on p.inputs.items) k d (settable_kept p.inputs.items (types_settable p)) (omega (arith, within, ap length are.numbered, length-map (indicators_on p.inputs.items) indicator_number))
+
+-- its number is one that goes on and off
+pub type_number_turned : (p : Program) (numbers : List ℕ) (k number : ℕ) (d : Indicator) → AreNumbersOf p.inputs.items numbers → k < length numbers → number ≡ get_or numbers k 0 → is_turned number ≡ true
+type_number_turned p numbers k number d are within is =
+    let there = number_there p numbers k number d are within is in
+    number_turned (get_or (indicators_on p.inputs.items) k d) number there (settable_there p numbers k d are within)
+    (subst (λ (n : ℕ). n < 2048) (sym is) (All-get_or (λ (n : ℕ). n < 2048) numbers k 0 within are.within))
+
+pub one_more_off : (p : Program) (old new : Indicators) (numbers : List ℕ) (k number : ℕ) (d other : Indicator) (v : Bool) → AreNumbersOf p.inputs.items numbers → k < length numbers → number ≡ get_or numbers k 0
+    → IsSetOff old new number other → on_in old other ≡ turned_off (take k (indicators_on p.inputs.items)) other v → on_in new other ≡ turned_off (take (k + 1) (indicators_on p.inputs.items)) other v
+one_more_off p old new numbers k number d other v are within is set before =
     let types : List Indicator = indicators_on p.inputs.items in
-    let inside : k < length types = omega (arith, within, ap length are.numbered, length-map types indicator_number) in
-    let there : number ≡ indicator_number (get_or types k d) = is ∙ ap (λ (xs : List ℕ). get_or xs k 0) are.numbered ∙ get_or-map indicator_number types k d 0 inside in
-    turned_to indicators (get_or types k d) other false number (holds_at is_settable types k d (settable_kept p.inputs.items (types_settable p)) inside) there few
-    ∙ one_off types k d other v (on_in indicators other) inside before
+    turned_to old new (get_or types k d) other false number (number_there p numbers k number d are within is) set
+    ∙ one_off types k d other v (on_in old other) (omega (arith, within, ap length are.numbered, length-map types indicator_number)) before
 
 -- a single one
-pub only_off : (p : Program) (indicators : Indicators) (numbers : List ℕ) (number : ℕ) (d other : Indicator) → AreNumbersOf p.inputs.items numbers → length numbers ≡ 1
-    → number ≡ get_or numbers 0 0 → number < length indicators.on
-    → on_in (record indicators { on = slice_set indicators.on number false }) other ≡ turned_off (indicators_on p.inputs.items) other (on_in indicators other)
-only_off p indicators numbers number d other are one is few =
+pub only_off : (p : Program) (old new : Indicators) (numbers : List ℕ) (number : ℕ) (d other : Indicator) → AreNumbersOf p.inputs.items numbers → length numbers ≡ 1 → number ≡ get_or numbers 0 0
+    → IsSetOff old new number other → on_in new other ≡ turned_off (indicators_on p.inputs.items) other (on_in old other)
+only_off p old new numbers number d other are one is set =
     let types : List Indicator = indicators_on p.inputs.items in
     let all : take 1 types ≡ types = take_all 1 types (omega (arith, one, ap length are.numbered, length-map types indicator_number)) in
-    one_more_off p indicators numbers 0 number d other (on_in indicators other) are (omega (arith, one)) is few refl
-    ∙ ap (λ (shown : List Indicator). turned_off shown other (on_in indicators other)) all
+    one_more_off p old new numbers 0 number d other (on_in old other) are (omega (arith, one)) is set refl
+    ∙ ap (λ (shown : List Indicator). turned_off shown other (on_in old other)) all
 
 -- ---- all of them are the types of the source
 types_shown : (tables : Tables) (other : Indicator) (file : Name) (lines : List (InputLine Reference))
@@ -91,20 +112,23 @@ all_shown : (p : Program) (other : Indicator)
 unfolding named
 all_shown p other = types_shown (tables_in p) other no_name p.inputs.items
 
-pub types_cleared : (p : Program) (old new : Values) → IsSound p old → new.numbers.items ≡ old.numbers.items → new.texts ≡ old.texts → new.division ≡ old.division
+pub types_cleared : (p : Program) (old new : Values) → IsSound p old → new.numbers.items ≡ old.numbers.items → new.forms.items ≡ old.forms.items → new.texts ≡ old.texts → new.division ≡ old.division
     → ((other : Indicator) → on_in new.indicators other ≡ turned_off (indicators_on p.inputs.items) other (on_in old.indicators other)) → Changes p old new without_types
-types_cleared p old new sound numbers texts division turned =
-    let change = turned_by (λ on other. on other && not (list_any (λ (kind : RecordType). same_indicator other kind.indicator) (source_named p).types)) p old new sound numbers texts division
+types_cleared p old new sound numbers forms texts division turned =
+    let change = turned_by (λ on other. on other && not (list_any (λ (kind : RecordType). same_indicator other kind.indicator) (source_named p).types)) p old new sound numbers forms texts division
     (λ other. turned other ∙ off_where (list_any (same_indicator other) (indicators_on p.inputs.items)) (on_in old.indicators other)
     ∙ ap (λ (b : Bool). on_in old.indicators other && not b) (all_shown p other)) in
     record { sound = change.sound; held = change.held }
 
 -- ---- the indicator of one type goes on
-pub type_turned : (p : Program) (values new : Values) (start : TypeStart) (number : ℕ) → IsSound p values → is_type_start p start ≡ true → number ≡ indicator_number (kind_at p start).indicator
-    → number < length values.indicators.on → new ≡ record values { indicators = record values.indicators { on = slice_set values.indicators.on number true } }
-    → Changes p values new (λ source. turn (kind_at p start).indicator true)
-type_turned p values new start number sound starts is within same =
+pub type_turned : (p : Program) (old new : Values) (start : TypeStart) (number : ℕ) → IsSound p old → is_type_start p start ≡ true → number ≡ indicator_number (kind_at p start).indicator
+    → new.numbers.items ≡ old.numbers.items → new.forms.items ≡ old.forms.items → new.texts ≡ old.texts → new.division ≡ old.division
+    → ((other : Indicator) → on_in new.indicators other ≡ (if indicator_number other == number then true else on_in old.indicators other)) → Changes p old new (λ source. turn (kind_at p start).indicator true)
+type_turned p old new start number sound starts is numbers forms texts division set =
     let shown : Indicator = (kind_at p start).indicator in
-    subst (λ (v : Values). Changes p values v (λ source. turn shown true)) (sym same)
-    (turned_by (λ on other. if same_indicator other shown then true else on other) p values (record values { indicators = record values.indicators { on = slice_set values.indicators.on number true } })
-    sound refl refl refl (λ other. turned_to values.indicators shown other true number (kind_settable p start starts) is within))
+    turned_by (λ on other. if same_indicator other shown then true else on other) p old new sound numbers forms texts division
+    (λ other. turned_to old.indicators new.indicators shown other true number is (set other))
+
+-- the number of a type is one that goes on and off
+pub start_number_turned : (p : Program) (start : TypeStart) (number : ℕ) → is_type_start p start ≡ true → number ≡ indicator_number (kind_at p start).indicator → number < 2048 → is_turned number ≡ true
+start_number_turned p start number starts is few = number_turned (kind_at p start).indicator number is (kind_settable p start starts) few

@@ -1,6 +1,6 @@
 -- The record identifying indicators of one file go off, by the numbers of its types.
 use Rattle.std.proofs.Common.{◌≡◌, ℕ, ◌+◌, ◌<◌, ◌&&◌, ◌||◌, not, length, get_or, drop, map, take, List, [], ◌∷◌, Bool, true, false, refl, sym, ◌∙◌, ap, arith}
-use Rattle.std.specs.Prelude.{Option, Some, None, is_some, unwrap_or, filter, filter_map, nat_lt, slice_set, if◌then◌else◌}
+use Rattle.std.specs.Prelude.{Option, Some, None, is_some, unwrap_or, filter, filter_map, nat_lt, if◌then◌else◌}
 use Rattle.std.specs.List.{list_any, list_all}
 use Rattle.std.proofs.lemmas.Bool.{and_parts, true≢false}
 use Rattle.std.proofs.lemmas.List.{drop-drop, get_or-map, length-map}
@@ -31,22 +31,20 @@ use Rattle.s3_operations.specs.Inner.Indicators.{on_in}
 use Rattle.s3_operations.proofs.IndicatorLemmas.{turned_to}
 use Rattle.s3_operations.proofs.IndicatingLemmas.{turned_by, off_where}
 use Rattle.s3_cycle.specs.Inner.Clearing.{shown_by, turned_off, without_types_of}
-use Rattle.s3_cycle.proofs.ClearingLemmas.{holds_at, one_off}
-use Rattle.s3_cycle.proofs.IdentifyLemmas.{kind_settable}
+use Rattle.s3_cycle.proofs.ClearingLemmas.{IsSetOff, one_off}
 
 -- ---- one after the other
 abbrev shown : Program → TypeStart → Indicator
 shown p start = (kind_at p start).indicator
 
-pub one_type_off : (p : Program) (indicators : Indicators) (starts : List TypeStart) (k number : ℕ) (d : TypeStart) (other : Indicator) (v : Bool) → list_all (is_type_start p) starts ≡ true → k < length starts
-    → number ≡ indicator_number (shown p (get_or starts k d)) → number < length indicators.on
-    → on_in indicators other ≡ turned_off (take k (shown_by p starts)) other v
-    → on_in (record indicators { on = slice_set indicators.on number false }) other ≡ turned_off (take (k + 1) (shown_by p starts)) other v
-one_type_off p indicators starts k number d other v types within is few before =
+pub one_type_off : (p : Program) (old new : Indicators) (starts : List TypeStart) (k number : ℕ) (d : TypeStart) (other : Indicator) (v : Bool) → k < length starts
+    → number ≡ indicator_number (shown p (get_or starts k d)) → IsSetOff old new number other
+    → on_in old other ≡ turned_off (take k (shown_by p starts)) other v → on_in new other ≡ turned_off (take (k + 1) (shown_by p starts)) other v
+one_type_off p old new starts k number d other v within is set before =
     let here : get_or (shown_by p starts) k (shown p d) ≡ shown p (get_or starts k d) = get_or-map (shown p) starts k d (shown p d) within in
-    turned_to indicators (shown p (get_or starts k d)) other false number (kind_settable p (get_or starts k d) (holds_at (is_type_start p) starts k d types within)) is few
-    ∙ ap (λ (i : Indicator). if same_indicator other i then false else on_in indicators other) (sym here)
-    ∙ one_off (shown_by p starts) k (shown p d) other v (on_in indicators other) (omega (arith, within, length-map starts (shown p))) before
+    turned_to old new (shown p (get_or starts k d)) other false number is set
+    ∙ ap (λ (i : Indicator). if same_indicator other i then false else on_in old other) (sym here)
+    ∙ one_off (shown_by p starts) k (shown p d) other v (on_in old other) (omega (arith, within, length-map starts (shown p))) before
 
 -- ---- each start of a file is one of a type
 starts_from : (tables : Tables) (all : List (InputLine Reference)) (last k : ℕ) (lines : List (InputLine Reference)) → drop k all ≡ lines
@@ -142,13 +140,13 @@ own_types p file other within =
     fits : file < length p.files.items → file < length (tables_in p).files
     fits h = grind (arith, length-map, h)
 
-pub types_of_cleared : (p : Program) (file : ℕ) (old new : Values) → IsSound p old → file < length p.files.items → new.numbers.items ≡ old.numbers.items → new.texts ≡ old.texts → new.division ≡ old.division
+pub types_of_cleared : (p : Program) (file : ℕ) (old new : Values) → IsSound p old → file < length p.files.items → new.numbers.items ≡ old.numbers.items → new.forms.items ≡ old.forms.items → new.texts ≡ old.texts → new.division ≡ old.division
     → ((other : Indicator) → on_in new.indicators other ≡ turned_off (shown_by p (types_of_file (type_starts p.files.items p.inputs.items) file)) other (on_in old.indicators other))
     → Changes p old new (without_types_of (name_of_file p file))
-types_of_cleared p file old new sound within numbers texts division turned =
+types_of_cleared p file old new sound within numbers forms texts division turned =
     let starts : List TypeStart = type_starts p.files.items p.inputs.items in
     let own : List TypeStart = types_of_file starts file in
-    let change = turned_by (λ on other. on other && not (list_any (λ (kind : RecordType). same_name kind.file (name_of_file p file) && same_indicator other kind.indicator) (source_named p).types)) p old new sound numbers texts division
+    let change = turned_by (λ on other. on other && not (list_any (λ (kind : RecordType). same_name kind.file (name_of_file p file) && same_indicator other kind.indicator) (source_named p).types)) p old new sound numbers forms texts division
     (λ other. turned other ∙ off_where (list_any (same_indicator other) (shown_by p own)) (on_in old.indicators other)
     ∙ ap (λ b. on_in old.indicators other && not b) (any_mapped (same_indicator other) (shown p) own
     ∙ any_kept (λ start. same_indicator other (shown p start)) (is_type_of file) starts ∙ own_types p file other within)) in

@@ -23,7 +23,7 @@ use Rattle.s3_cycle.specs.Inner.Going.{own, held_by, here, AreSound, IsRunning, 
 -- ---- requests
 -- what it waits at says nothing of where it stands
 pub waiting_running : (c : Stepper) (request : Request) (point : Point) → IsRunning c → IsRunning (record c { request = request; point = point })
-waiting_running c request point running = record { overflow = running.overflow; state = running.state; reading = running.reading; heads = running.heads; prepared = running.prepared; inputs = running.inputs; guards = running.guards }
+waiting_running c request point running = record { overflow = running.overflow; state = running.state; reading = running.reading; heads = running.heads; calculations = running.calculations; totals_guard = running.totals_guard; inputs = running.inputs; outputs = running.outputs }
 
 -- a run waits where it asks
 pub goes_wait : (old new : Stepper) (request : Request) (point : Point) (run : Run) → new ≡ record old { request = request; point = point } → IsRunning old → Waits old.program old.progress request point → IsLine request old.composition → FitsFile old.program.files.items request old.composition
@@ -53,7 +53,7 @@ goes_as old new run run' same goes = goes_then old old new run run' refl same go
 pub changed_running : (old new : Stepper) (change : Source → Environment → Environment) → Changes old new change → IsRunning old → IsRunning new
 changed_running old new change changes running =
     let P : Stepper → Type 0 = λ k. IsRunning k in
-    subst P (sym changes.stays) (record { overflow = running.overflow; state = changes.sound; reading = running.reading; heads = running.heads; prepared = running.prepared; inputs = running.inputs; guards = running.guards })
+    subst P (sym changes.stays) (record { overflow = running.overflow; state = changes.sound; reading = running.reading; heads = running.heads; calculations = running.calculations; totals_guard = running.totals_guard; inputs = running.inputs; outputs = running.outputs })
 
 -- over the same program, as far as before
 pub changed_program : (old new : Stepper) (change : Source → Environment → Environment) → Changes old new change → new.program ≡ old.program
@@ -100,7 +100,3 @@ values_changed old new values change same sound changes =
       sound = record { values = changes.sound; current = sound.current };
       held = changes.held (others old.program old.state);
     })
-
--- nothing changes
-pub changes_nothing : (c : Stepper) → AreSound c.program c.state → Changes c c (λ source e. e)
-changes_nothing c sound = record { stays = refl; sound = sound; held = refl }

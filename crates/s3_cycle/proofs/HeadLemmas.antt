@@ -21,7 +21,7 @@ use Rattle.s3_program.specs.declared.starts.TypeStart.{TypeStart}
 use Rattle.s3_program.specs.Inner.Stands.{source_named}
 use Rattle.s3_program.specs.Inner.Started.{type_on}
 use Rattle.s3_operations.specs.Inner.Fits.{tables}
-use Rattle.s3_operations.proofs.WithinLemmas.{fields_within, file_found}
+use Rattle.s3_cycle.proofs.WithinLemmas.{fields_within, file_found}
 use Rattle.s3_match.specs.declared.heads.InputFile.{InputFile}
 use Rattle.s3_match.specs.declared.heads.Standing.{Standing}
 use Rattle.s3_match.specs.declared.heads.Standing.TheVariants as at
@@ -169,7 +169,7 @@ put_within program start bytes input fields head e =
 
 -- ---- a run with another reading
 pub reading_running : (c : Stepper) (reading : Reading) → IsRunning c → IsReading c.program reading → All (IsHeadWithin c.program) reading.files.items → IsRunning (record c { progress = record c.progress { reading = reading } })
-reading_running c reading running sound heads = record { overflow = running.overflow; state = running.state; reading = sound; heads = heads; prepared = running.prepared; inputs = running.inputs; guards = running.guards }
+reading_running c reading running sound heads = record { overflow = running.overflow; state = running.state; reading = sound; heads = heads; calculations = running.calculations; totals_guard = running.totals_guard; inputs = running.inputs; outputs = running.outputs }
 
 -- one record more was read
 pub counted_heads : (program : Program) (old new : Reading) (place : ℕ) → place < length old.files.items → IsReading program old → IsReading program new → All (IsHeadWithin program) old.files.items

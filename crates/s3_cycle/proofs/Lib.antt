@@ -6,6 +6,7 @@ pub mod LineLemmas
 pub mod PrintLemmas
 pub mod HaltLemmas
 pub mod ClearingLemmas
+pub mod WithinLemmas
 pub mod HeadLemmas
 pub mod TurnLemmas
 pub mod AskLemmas
@@ -27,9 +28,11 @@ pub mod CalculatingLemmas
 pub mod JumpLemmas
 pub mod OverLemmas
 pub mod PerformingLemmas
-pub mod PreparedLemmas
+pub mod AskingLemmas
+pub mod DivisionLemmas
 pub mod ForgetLemmas
 pub mod ChainingLemmas
+pub mod SoughtLemmas
 pub mod FoundLemmas
 pub mod ChainedLemmas
 pub mod StandingLemmas

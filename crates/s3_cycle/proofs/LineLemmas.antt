@@ -1,12 +1,11 @@
 -- Lines of the O sheet that are put out together: which of them are passed over, and what one that is due does.
-use Rattle.std.proofs.Common.{◌≡◌, ℕ, zero, suc, ◌+◌, ◌<◌, ◌≤◌, Bool, true, false, not, ◌&&◌, if◌then◌else◌, List, [], ◌∷◌, length, drop, filter, get_or, Option, Some, None, refl, sym, ◌∙◌, ap, true≢false, arith}
-use Rattle.std.specs.Prelude.{slice_get, unwrap_or, option_map, is_some, filter_map, IfSome, IfNone}
+use Rattle.std.proofs.Common.{◌≡◌, ℕ, zero, suc, ◌+◌, ◌<◌, ◌≤◌, Bool, true, false, ◌&&◌, if◌then◌else◌, List, [], ◌∷◌, length, drop, filter, get_or, Option, Some, None, refl, sym, ◌∙◌, ap, true≢false, arith}
+use Rattle.std.specs.Prelude.{slice_get, unwrap_or, option_map, is_some, filter_map}
 use Rattle.std.specs.List.{cons_option}
 use Rattle.std.proofs.lemmas.Bool.{and_parts}
-use Rattle.std.proofs.lemmas.Option.{slice_get-map, slice_get_read, slice_get_past, get_or_from_slice_get}
+use Rattle.std.proofs.lemmas.Option.{slice_get-map, slice_get_read}
 use Rattle.s3_cards.specs.declared.name.Name.{Name}
 use Rattle.s3_cards.specs.Names.{no_name}
-use Rattle.s3_lines.specs.declared.indicator.Indicator.{Indicator}
 use Rattle.s3_lines.specs.declared.sheet.FileLine.{FileLine}
 use Rattle.s3_lines.specs.declared.sheet.OutputKind.{OutputKind}
 use Rattle.s3_lines.specs.declared.sheet.OutputKind.TheVariants.{Heading, Detail, Total, Exception}
@@ -29,20 +28,18 @@ use Rattle.s3_program.specs.Inner.Stands.{source_named}
 use Rattle.s3_program.specs.Inner.Tables.{name_in}
 use Rattle.s3_program.specs.FileEntries.{file_entry}
 use Rattle.s3_operations.specs.Inner.Fits.{tables}
-use Rattle.s3_operations.specs.Inner.Held.{held}
-use Rattle.s3_operations.specs.declared.indicators.Indicators.{Indicators}
-use Rattle.s3_output.specs.declared.guards.LineGuard.{LineGuard}
-use Rattle.s3_output.specs.declared.guards.LineGuard.TheVariants.{One, Group, Either, OneOf, Cards}
-use Rattle.s3_output.specs.declared.guards.LineGuards.{LineGuards}
-use Rattle.s3_output.specs.Inner.Guards.{AreGuarded, IsGuardedLine, IsLineGuard, guards_of, is_always_used, line_guard_holds}
 use Rattle.s3_output.specs.Inner.Lines.{IsLineAt, IsStart}
-use Rattle.s3_output.proofs.ComposeLemmas.{StartsAt, starts_at}
 use Rattle.s3_output.proofs.LawLemmas.{line_starts, file_there, walked_start}
+use Rattle.s3_output.proofs.StartLemmas.{StartsAt, starts_at}
+use Rattle.s3_instructions.specs.declared.output.instruction.OutputInstruction.{OutputInstruction}
+use Rattle.s3_instructions.specs.declared.output.sheet.OutputSheet.{OutputSheet}
+use Rattle.s3_instructions.specs.Inner.Guards.{guard_holds}
+use Rattle.s3_instructions.specs.Inner.OutputLines.{AreLines, AreOutputs, is_used, lines_of}
 use Rattle.s3_cycle.specs.declared.stepper.Stepper.{Stepper}
 use Rattle.s3_cycle.specs.Inner.Rest.{starts_of, outputs_from, is_wanted, is_at_overflow, lines_then}
 use Rattle.s3_cycle.specs.Inner.Environment.{environment, others}
-use Rattle.s3_cycle.specs.Inner.Going.{own, held_by}
-use Rattle.s3_cycle.specs.Inner.Lines.{is_used, is_held, is_due, IsDue, PassesTo, PassesAll}
+use Rattle.s3_cycle.specs.Inner.Going.{own, held_by, IsRunning}
+use Rattle.s3_cycle.specs.Inner.Lines.{is_held, is_due, IsDue, PassesTo, PassesAll}
 use Rattle.s3_program.proofs.NameLemmas.{no_nameless_file}
 
 -- ---- lists
@@ -224,87 +221,26 @@ due_by : (c : Stepper) (w : Walk) (start : OutputStart) (line : Output) → IsLi
     → is_due c w start ≡ (is_used (held_by c) (slice_get c.program.files.items start.file) && line_holds (own c) (is_at_overflow w) (held_by c) line)
 due_by c w start line line_is = ap (λ o. is_used (held_by c) (slice_get c.program.files.items start.file) && is_held c w o) line_is
 
--- a file is used
-pub used_there : (e : Environment) (files list : List FileLine) (k : ℕ) (file : FileLine) → list ≡ files → k < length list → file ≡ get_or list k file → is_used e (slice_get files k) ≡ is_served e file
-used_there e files list k file same within read = ap (λ (fs : List FileLine). is_used e (slice_get fs k)) (sym same) ∙ ap (is_used e) (slice_get_read list (length list) k file refl within read)
+-- a line that is put out together with others has its guard at overflow, or elsewhere
+pub lines_are : (p : Program) (sheet : OutputSheet) (w : Walk) → AreOutputs p sheet → AreLines p (starts_of p.starts w) (is_at_overflow w) (lines_of sheet w)
+lines_are p sheet walk.Beginning are = are.beginning
+lines_are p sheet walk.Totals are = are.totals
+lines_are p sheet walk.Exceptions are = are.exceptions
+lines_are p sheet walk.Overflow are = are.overflow
 
--- and none that isn't there
-pub used_nowhere : (e : Environment) (files list : List FileLine) (k : ℕ) → list ≡ files → length list ≤ k → false ≡ is_used e (slice_get files k)
-used_nowhere e files list k same past = sym (ap (λ (fs : List FileLine). is_used e (slice_get fs k)) (sym same) ∙ ap (is_used e) (slice_get_past list k past))
+pub lines_count : (c : Stepper) (w : Walk) → IsRunning c → length (lines_of c.outputs w) ≡ length (starts_of c.program.starts w)
+lines_count c w running = (lines_are c.program c.outputs w running.outputs).count
 
--- the line of a start holds, whose file is used
-pub due_used : (c : Stepper) (w : Walk) (place : ℕ) (starts : List OutputStart) (d : OutputStart) (used holds overflowing : Bool) → starts ≡ starts_of c.program.starts w
-    → used ≡ is_used (held_by c) (slice_get c.program.files.items (get_or starts place d).file) → used ≡ true → overflowing ≡ is_at_overflow w
-    → ((line : Output) (rest : Environment) → IsLineAt c.program (get_or starts place d) line → holds ≡ line_holds (own c) overflowing (held c.program c.state.values rest) line)
+-- it is due where its guard holds
+pub due_guarded : (c : Stepper) (w : Walk) (place : ℕ) (lines : List OutputInstruction) (instruction : OutputInstruction) (holds : Bool) → IsRunning c → lines ≡ lines_of c.outputs w
+    → place < length lines → instruction ≡ get_or lines place instruction → holds ≡ guard_holds c.state.values.indicators instruction.guard
     → (start : OutputStart) → slice_get (starts_of c.program.starts w) place ≡ Some start → holds ≡ is_due c w start
 unfolding environment
-due_used c w place starts d used holds overflowing same used_is on overflow_is held_is start there =
-    let at : get_or starts place d ≡ start = get_or_from_slice_get starts place start d (ap (λ list. slice_get list place) same ∙ there) in
+due_guarded c w place lines instruction holds running same within read held_is start there =
     let line = line_of c.program w place start there in
-    let is_line : IsLineAt c.program (get_or starts place d) line.0 = ap (output_at (tables c.program) c.program.outputs.items) at ∙ line.1.there in
-    held_is line.0 (others c.program c.state) is_line
-    ∙ ap (λ b. line_holds (own c) b (held_by c) line.0) overflow_is
-    ∙ sym (due_by c w start line.0 line.1.there ∙ ap (λ b. b && line_holds (own c) (is_at_overflow w) (held_by c) line.0) (ap (λ (s : OutputStart). is_used (held_by c) (slice_get c.program.files.items s.file)) (sym at) ∙ sym used_is ∙ on))
-
--- one whose file isn't used is not due
-pub due_unused : (c : Stepper) (w : Walk) (place : ℕ) (starts : List OutputStart) (d : OutputStart) (used : Bool) → starts ≡ starts_of c.program.starts w
-    → used ≡ is_used (held_by c) (slice_get c.program.files.items (get_or starts place d).file) → used ≡ false
-    → (start : OutputStart) → slice_get (starts_of c.program.starts w) place ≡ Some start → used ≡ is_due c w start
-due_unused c w place starts d used same used_is off start there =
-    let at : get_or starts place d ≡ start = get_or_from_slice_get starts place start d (ap (λ list. slice_get list place) same ∙ there) in
-    off ∙ sym (ap (λ b. b && is_held c w (output_at (tables c.program) c.program.outputs.items start)) (ap (λ (s : OutputStart). is_used (held_by c) (slice_get c.program.files.items s.file)) (sym at) ∙ sym used_is ∙ off))
-
--- a file without a condition is used
-always_used : (e : Environment) (o : Option FileLine) → is_always_used o ≡ true → is_used e o ≡ true
-always_used e None always = absurd (true≢false (sym always))
-always_used e (Some file) always = by file.condition refl always
-  where
-    by : (o : Option Indicator) → file.condition ≡ o → not (is_some o) ≡ true → is_served e file ≡ true
-    by None is h = rw is refl
-    by (Some indicator) is h = absurd (true≢false (sym h))
-
--- lines that have guards aren't put out for the overflow indicator
-pub record IsGuardedBy (p : Program) (w : Walk) (start : OutputStart) (guard : LineGuard) : Type 0 where
-  pub line : IsLineGuard p start guard
-  pub elsewhere : is_at_overflow w ≡ false
-
-guarded_by : (p : Program) (guards : LineGuards) (w : Walk) (place : ℕ) (start : OutputStart) (guard : LineGuard) → AreGuarded p guards → slice_get (starts_of p.starts w) place ≡ Some start
-    → slice_get (guards_of guards w) place ≡ Some guard → IsGuardedBy p w start guard
-guarded_by p guards walk.Beginning place start guard are there at = record { line = are.beginning place start guard there at; elsewhere = refl }
-guarded_by p guards walk.Totals place start guard are there at = record { line = are.totals place start guard there at; elsewhere = refl }
-guarded_by p guards walk.Exceptions place start guard are there at = record { line = are.exceptions place start guard there at; elsewhere = refl }
-guarded_by p guards walk.Overflow place start guard are there at = cc
-
--- the guard of a line that has one
-guarded_line : (p : Program) (start : OutputStart) (guard : LineGuard) (indicators : Indicators) (holds : Bool) → IsLineGuard p start guard → line_guard_holds indicators guard ≡ Some holds → IsGuardedLine p start guard
-guarded_line p start (One one) indicators holds line is = line
-guarded_line p start (Group one) indicators holds line is = line
-guarded_line p start (Either one two) indicators holds line is = line
-guarded_line p start (OneOf one two three) indicators holds line is = line
-guarded_line p start Cards indicators holds line is = cc
-
-guard_read : (guards : List LineGuard) (place : ℕ) (indicators : Indicators) (holds : Bool) → option_map (line_guard_holds indicators) (slice_get guards place) ≡ Some (Some holds)
-    → (guard : LineGuard) × ((slice_get guards place ≡ Some guard) × (line_guard_holds indicators guard ≡ Some holds))
-guard_read guards place indicators holds is = by (slice_get guards place) refl is
-  where
-    by : (o : Option LineGuard) → slice_get guards place ≡ o → option_map (line_guard_holds indicators) o ≡ Some (Some holds)
-        → (guard : LineGuard) × ((slice_get guards place ≡ Some guard) × (line_guard_holds indicators guard ≡ Some holds))
-    by None at is = cc
-    by (Some guard) at is = (guard, (at, ap (λ o. unwrap_or o None) is))
-
--- a line that has one holds where it does
-pub due_guarded : (c : Stepper) (w : Walk) (place : ℕ) (guards : List LineGuard) (holds : Bool) → AreGuarded c.program c.guards → guards ≡ guards_of c.guards w
-    → option_map (line_guard_holds c.state.values.indicators) (slice_get guards place) ≡ Some (Some holds)
-    → (start : OutputStart) → slice_get (starts_of c.program.starts w) place ≡ Some start → holds ≡ is_due c w start
-unfolding environment
-due_guarded c w place guards holds are same is start there =
-    let line = line_of c.program w place start there in
-    let read = guard_read guards place c.state.values.indicators holds is in
-    let by : IsGuardedBy c.program w start read.0 = guarded_by c.program c.guards w place start read.0 are there (ap (λ list. slice_get list place) (sym same) ∙ read.1.0) in
-    let group : IsGuardedLine c.program start read.0 = guarded_line c.program start read.0 c.state.values.indicators holds by.line read.1.1 in
-    ap (λ o. unwrap_or o false) (sym read.1.1) ∙ group.holds c.state.values line.0 (others c.program c.state) line.1.there
-    ∙ ap (λ b. line_holds (own c) b (held_by c) line.0) (sym by.elsewhere)
-    ∙ ap (λ b. b && line_holds (own c) (is_at_overflow w) (held_by c) line.0) (sym (always_used (held_by c) (slice_get c.program.files.items start.file) group.used))
+    let at : slice_get (lines_of c.outputs w) place ≡ Some instruction = ap (λ ls. slice_get ls place) (sym same) ∙ slice_get_read lines (length lines) place instruction refl within read in
+    held_is
+    ∙ ((lines_are c.program c.outputs w running.outputs).each place start instruction there at).guard c.state.values (others c.program c.state) line.0 line.1.there
     ∙ sym (due_by c w start line.0 line.1.there)
 
 -- ---- the next one that is due
@@ -326,12 +262,3 @@ due_there c w place due is within on =
 
 pub passes_all : (c : Stepper) (w : Walk) (next place : ℕ) → PassesTo c w next place → length (starts_of c.program.starts w) ≤ place → PassesAll c w next
 passes_all c w next place passes past = λ go. passes go ∙ lines_past c.program w place go (held_by c) past
-
--- what is found behind lines that are passed over
-pub found_behind : (c : Stepper) (w : Walk) (next place : ℕ) (found : Option ℕ) → PassesTo c w next place → IfSome found (λ at. IsDue c w at × PassesTo c w place at) → IfSome found (λ at. IsDue c w at × PassesTo c w next at)
-found_behind c w next place None passes is = is
-found_behind c w next place (Some at) passes is = (is.0, λ go. passes go ∙ is.1 go)
-
-pub none_behind : (c : Stepper) (w : Walk) (next place : ℕ) (found : Option ℕ) → PassesTo c w next place → IfNone found (PassesAll c w place) → IfNone found (PassesAll c w next)
-none_behind c w next place None passes is = λ go. passes go ∙ is go
-none_behind c w next place (Some at) passes is = is

@@ -1,13 +1,13 @@
 -- The request that an output line makes.
-use Rattle.std.proofs.Common.{◌≡◌, ℕ, ◌+◌, ◌<◌, ◌≤◌, Bool, true, false, if◌then◌else◌, List, [], ◌∷◌, length, get_or, Option, Some, None, Fits, w64, ◌⊎◌, inl, inr, refl, sym, ◌∙◌, ap, subst, true≢false, arith}
+use Rattle.std.proofs.Common.{◌≡◌, ℕ, ◌+◌, ◌<◌, ◌≤◌, Bool, true, false, if◌then◌else◌, List, [], ◌∷◌, length, get_or, Option, Some, None, Fits, w64, refl, sym, ◌∙◌, ap, subst, true≢false, arith}
 use Rattle.std.specs.Prelude.{not, ◌&&◌, nat_le, slice_get, is_some, unwrap_or, option_map, option_and_then, replicate}
 use Rattle.std.specs.List.{list_all}
 use Rattle.std.specs.Option.{option_or}
 use Rattle.std.proofs.lemmas.Bool.{and_parts}
-use Rattle.std.proofs.lemmas.Option.{slice_get-map, slice_get_read, slice_get-get_or, get_or_from_slice_get, slice_get_within}
+use Rattle.std.proofs.lemmas.Option.{slice_get-map, slice_get_read, slice_get-get_or, slice_get_within}
 use Rattle.s3_cards.specs.declared.name.Name.{Name}
 use Rattle.s3_cards.specs.Names.{no_name}
-use Rattle.s3_lines.specs.Inner.Ranges.{file_in_range}
+use Rattle.s3_lines.specs.Inner.Ranges.{file_in_range, spacing_in_range}
 use Rattle.s3_lines.specs.Ranges.{if_given, is_between, is_overflow_indicator, longest_record}
 use Rattle.s3_lines.specs.declared.indicator.Indicator.{Indicator}
 use Rattle.s3_lines.specs.declared.indicator.Indicator.TheVariants.{Switch}
@@ -38,7 +38,7 @@ use Rattle.s3_program.specs.Inner.Valid.{named}
 use Rattle.s3_program.proofs.SlotLemmas.{kept, own_slot}
 use Rattle.s3_operations.specs.Inner.Fits.{tables}
 use Rattle.s3_operations.specs.declared.values.Values.{Values}
-use Rattle.s3_operations.specs.Inner.Held.{held}
+use Rattle.s3_operations.specs.Inner.Held.{IsSound as AreValues, held}
 use Rattle.s3_operations.specs.Inner.Indicators.{is_settable, is_settable_entry}
 use Rattle.s3_output.specs.declared.carriage.Carriage.{Carriage}
 use Rattle.s3_output.specs.declared.carriage.Moved.{Moved}
@@ -46,8 +46,14 @@ use Rattle.s3_output.specs.declared.requests.DiskRequest.{DiskRequest}
 use Rattle.s3_output.specs.declared.requests.DiskRequest.TheVariants as disk
 use Rattle.s3_output.specs.Inner.Carriages.{place, place_moved}
 use Rattle.s3_output.specs.Inner.Requests as disk_spec
-use Rattle.s3_output.specs.Inner.Composing.{Composes}
-use Rattle.s3_output.specs.Inner.Lines.{IsLineAt}
+use Rattle.s3_output.specs.Inner.Lines.{IsLineAt, IsStart}
+use Rattle.s3_instructions.specs.declared.output.instruction.LineRequest.{LineRequest}
+use Rattle.s3_instructions.specs.declared.output.instruction.LineRequest.TheVariants as lines
+use Rattle.s3_instructions.specs.declared.output.instruction.OutputInstruction.{OutputInstruction}
+use Rattle.s3_instructions.specs.Inner.Composing.{Composes}
+use Rattle.s3_instructions.specs.Inner.OutputLines.{IsLineRequest, IsPrinting, IsStoring, IsWhole, is_told, is_used, lines_of}
+use Rattle.s3_instructions.specs.Inner.Putting.{FitsLine}
+use Rattle.s3_instructions.proofs.ComposeLemmas.{line_fits}
 use Rattle.s3_match.specs.Inner.Heads.{no_file, file_at}
 use Rattle.s3_match.specs.Inner.Types.{name_of_file}
 use Rattle.s3_cycle.specs.declared.progress.Point.TheVariants as at
@@ -57,16 +63,16 @@ use Rattle.s3_cycle.specs.declared.request.Current.{Current}
 use Rattle.s3_cycle.specs.declared.state.State.{State}
 use Rattle.s3_cycle.specs.declared.stepper.Stepper.{Stepper}
 use Rattle.s3_cycle.specs.Inner.Requests.{IsLine, FitsFile, IsDiskFile, TakesRecord, request_of, current_of}
-use Rattle.s3_cycle.specs.Inner.Rest.{lines_from, after_lines, starts_of}
+use Rattle.s3_cycle.specs.Inner.Rest.{lines_from, starts_of}
 use Rattle.s3_cycle.specs.Inner.Environment.{environment, others}
 use Rattle.s3_cycle.specs.Inner.Going.{own, held_by, here, AreSound, IsRunning, IsWalk, GoesOn, Changes, is_record_request}
 use Rattle.s3_cycle.specs.Inner.Entries.{turn_entry}
-use Rattle.s3_cycle.specs.Inner.Lines.{is_used, is_held, is_due, IsDue, PassesTo}
-use Rattle.s3_cycle.specs.Inner.Printing.{CanStore, ComposesLine}
-use Rattle.s3_cycle.proofs.GoingLemmas.{goes_wait, goes_then, goes_as, changed_running, changed_program, changes_both}
+use Rattle.s3_cycle.specs.Inner.Lines.{is_held, is_due, IsDue}
+use Rattle.s3_cycle.specs.Inner.Printing.{AsksFor, CanStore, ComposesLine}
+use Rattle.s3_cycle.proofs.GoingLemmas.{goes_wait, goes_then, changed_running, changed_program, changes_both}
 use Rattle.s3_cycle.proofs.AnswerLemmas.{at_most, file_ranged}
 use Rattle.s3_cycle.proofs.FileLemmas.{IsPutOnDisk, file_tabled, line_taken, put_on_disk}
-use Rattle.s3_cycle.proofs.LineLemmas.{IsLineOf, line_of, line_due}
+use Rattle.s3_cycle.proofs.LineLemmas.{IsLineOf, line_due, line_of, lines_are}
 
 -- ---- the carriage
 -- the overflow indicator is no switch
@@ -182,56 +188,37 @@ current_there c k current within there =
     ap (λ n. option_map current_of (option_and_then (λ (o : Option Current). o) (slice_get c.state.current.items n))) slot
     ∙ ap (λ (o : Option (Option Current)). option_map current_of (option_and_then (λ (o : Option Current). o) o)) there
 
--- the file of a slot, as it is read
-file_read : (p : Program) (k : ℕ) (file : FileLine) → k < length p.files.items → file ≡ get_or p.files.items k file → file ≡ file_at p k
-file_read p k file within read = sym (ap (λ o. unwrap_or o no_file) (slice_get_read p.files.items (length p.files.items) k file refl within read))
-
 -- what a line asks for
-disk_asks : (c : Stepper) (start : OutputStart) (asked kind : DiskRequest) (is_added : Bool) (file : FileLine) (request : Request) → start.file < length c.program.files.items
-    → file ≡ get_or c.program.files.items start.file file → asked ≡ kind
-    → request_of c.program c.composition request ≡ disk_spec.request_of kind (file_at c.program start.file) c.composition (held_by c)
-    → ((line : Output) (positions : List (Option ℕ)) (e : Environment) → line.is_addition ≡ is_added → disk_request file line positions e ≡ disk_spec.request_of asked file positions e)
-    → ((line : Output) → IsLineAt c.program start line → line.is_addition ≡ is_added)
-    → (line : Output) → IsLineAt c.program start line → request_of c.program c.composition request ≡ disk_request (file_at c.program start.file) line c.composition (held_by c)
-disk_asks c start asked kind is_added file request within read is_kind asks meant added line is =
-    let same : file ≡ file_at c.program start.file = file_read c.program start.file file within read in
-    asks ∙ (ap (λ (f : FileLine). disk_spec.request_of kind f c.composition (held_by c)) (sym same)
-    ∙ (ap (λ (a : DiskRequest). disk_spec.request_of a file c.composition (held_by c)) (sym is_kind)
-    ∙ (sym (meant line c.composition (held_by c) (added line is)) ∙ ap (λ (f : FileLine). disk_request f line c.composition (held_by c)) same)))
+asks_as : (c : Stepper) (file : ℕ) (asked kind : DiskRequest) (request : Request) → asked ≡ kind
+    → request_of c.program c.composition request ≡ disk_spec.request_of kind (file_at c.program file) c.composition (held_by c)
+    → (line : Output) → AsksFor c.program file line asked → request_of c.program c.composition request ≡ disk_request (file_at c.program file) line c.composition (held_by c)
+asks_as c file asked kind request is_kind asks line meant =
+    asks ∙ (ap (λ (a : DiskRequest). disk_spec.request_of a (file_at c.program file) c.composition (held_by c)) (sym is_kind) ∙ sym (meant c.composition (held_by c)))
 
--- what the lines of a file ask for, and whether a line is an addition
-abbrev pub AsksFor : FileLine → DiskRequest → Bool → Type 0
-AsksFor file asked is_added = (line : Output) (positions : List (Option ℕ)) (e : Environment) → line.is_addition ≡ is_added → disk_request file line positions e ≡ disk_spec.request_of asked file positions e
+abbrev pub Asks : Stepper → (file : ℕ) → DiskRequest → Request → Type 0
+Asks c file asked request = (line : Output) → AsksFor c.program file line asked → request_of c.program c.composition request ≡ disk_request (file_at c.program file) line c.composition (held_by c)
 
-abbrev pub IsAdded : Stepper → OutputStart → Bool → Type 0
-IsAdded c start is_added = (line : Output) → IsLineAt c.program start line → line.is_addition ≡ is_added
-
-abbrev pub Asks : Stepper → OutputStart → Request → Type 0
-Asks c start request = (line : Output) → IsLineAt c.program start line → request_of c.program c.composition request ≡ disk_request (file_at c.program start.file) line c.composition (held_by c)
-
-pub appends : (c : Stepper) (start : OutputStart) (asked : DiskRequest) (is_added : Bool) (file : FileLine) → start.file < length c.program.files.items → file ≡ get_or c.program.files.items start.file file
-    → asked ≡ disk.Append → AsksFor file asked is_added → IsAdded c start is_added → Asks c start (asks.Append start.file)
+pub appends : (c : Stepper) (file : ℕ) (asked : DiskRequest) → asked ≡ disk.Append → Asks c file asked (asks.Append file)
 unfolding request_of
-appends c start asked is_added file within read is meant added =
-    disk_asks c start asked disk.Append is_added file (asks.Append start.file) within read is (ap (λ name. Meant.Append name (filled c.composition)) (file_name c.program start.file)) meant added
+appends c file asked is = asks_as c file asked disk.Append (asks.Append file) is (ap (λ name. Meant.Append name (filled c.composition)) (file_name c.program file))
 
-pub adds : (c : Stepper) (start : OutputStart) (asked : DiskRequest) (is_added : Bool) (file : FileLine) → start.file < length c.program.files.items → file ≡ get_or c.program.files.items start.file file
-    → asked ≡ disk.Add → AsksFor file asked is_added → IsAdded c start is_added → Asks c start (asks.Add start.file)
+pub adds : (c : Stepper) (file : ℕ) (asked : DiskRequest) → asked ≡ disk.Add → Asks c file asked (asks.Add file)
 unfolding request_of
-adds c start asked is_added file within read is meant added =
-    disk_asks c start asked disk.Add is_added file (asks.Add start.file) within read is (ap (λ name. Meant.Add name (filled c.composition)) (file_name c.program start.file)) meant added
+adds c file asked is = asks_as c file asked disk.Add (asks.Add file) is (ap (λ name. Meant.Add name (filled c.composition)) (file_name c.program file))
 
-pub updates : (c : Stepper) (start : OutputStart) (asked : DiskRequest) (is_added : Bool) (file : FileLine) (current : Option Current) → AreSound c.program c.state → start.file < length c.program.files.items
-    → file ≡ get_or c.program.files.items start.file file → current ≡ get_or c.state.current.items start.file current
-    → asked ≡ disk.Update → AsksFor file asked is_added → IsAdded c start is_added → Asks c start (asks.Update start.file current)
+-- the file of a record that can be stored is there
+pub store_within : (c : Stepper) (file : ℕ) (asked : DiskRequest) → CanStore c file asked → file < length c.program.files.items
+store_within c file asked stores = slice_get_within c.program.files.items file stores.fits.line stores.fits.there
+
+pub updates : (c : Stepper) (file : ℕ) (asked : DiskRequest) (current : Option Current) → AreSound c.program c.state → file < length c.program.files.items
+    → current ≡ get_or c.state.current.items file current → asked ≡ disk.Update → Asks c file asked (asks.Update file current)
 unfolding request_of
-updates c start asked is_added file current sound within read stands is meant added =
-    let inside : start.file < length c.state.current.items = omega (arith, sound.current, within) in
-    let there : slice_get c.state.current.items start.file ≡ Some current = slice_get_read c.state.current.items (length c.state.current.items) start.file current refl inside stands in
-    disk_asks c start asked disk.Update is_added file (asks.Update start.file current) within read is
-    (ap (λ name. Meant.Update name (option_map current_of current) c.composition) (file_name c.program start.file)
-    ∙ ap (λ o. Meant.Update (file_at c.program start.file).name o c.composition) (sym (current_there c start.file current within there)))
-    meant added
+updates c file asked current sound within stands is =
+    let inside : file < length c.state.current.items = omega (arith, sound.current, within) in
+    let there : slice_get c.state.current.items file ≡ Some current = slice_get_read c.state.current.items (length c.state.current.items) file current refl inside stands in
+    asks_as c file asked disk.Update (asks.Update file current) is
+    (ap (λ name. Meant.Update name (option_map current_of current) c.composition) (file_name c.program file)
+    ∙ ap (λ o. Meant.Update (file_at c.program file).name o c.composition) (sym (current_there c file current within there)))
 
 -- ---- what its file allows
 abbrev is_add : Meant.Request → Bool
@@ -260,38 +247,32 @@ update_changes file line positions e is = (and_parts (is_updated file) (not line
     by false true h = absurd (true≢false (sym h))
     by false false h = absurd (true≢false (sym h))
 
--- the F line of a file, as it is read, is that at its slot
-same_line : (p : Program) (slot : ℕ) (line file : FileLine) → slot < length p.files.items → file ≡ get_or p.files.items slot file → slice_get p.files.items slot ≡ Some line → file ≡ line
-same_line p slot line file within read there = ap (λ o. unwrap_or o no_file) (ap (λ (f : FileLine). Some f) read ∙ (sym (slice_get-get_or p.files.items slot file within) ∙ there))
+-- the F line of a file that takes a record
+taking_line : (c : Stepper) (file : ℕ) (asked : DiskRequest) (stores : CanStore c file asked) → file_at c.program file ≡ stores.fits.line
+taking_line c file asked stores = ap (λ o. unwrap_or o no_file) stores.fits.there
 
-pub add_fits : (c : Stepper) (start : OutputStart) (asked : DiskRequest) (is_added : Bool) (file : FileLine) → start.file < length c.program.files.items
-    → file ≡ get_or c.program.files.items start.file file → asked ≡ disk.Add → AsksFor file asked is_added → IsAdded c start is_added → CanStore c start
-    → FitsFile c.program.files.items (asks.Add start.file) c.composition
-add_fits c start asked is_added file within read is meant added stores =
-    let same : file ≡ stores.fits.line = same_line c.program start.file stores.fits.line file within read stores.fits.there in
-    let keyed : is_some file.key ≡ true =
-    add_keyed file stores.line c.composition (held_by c)
-    (ap is_add (meant stores.line c.composition (held_by c) (added stores.line stores.is_line)) ∙ ap (λ (d : DiskRequest). is_add (disk_spec.request_of d file c.composition (held_by c))) is) in
+pub add_fits : (c : Stepper) (file : ℕ) (asked : DiskRequest) → asked ≡ disk.Add → CanStore c file asked → FitsFile c.program.files.items (asks.Add file) c.composition
+add_fits c file asked is stores =
+    let keyed : is_some (file_at c.program file).key ≡ true =
+    add_keyed (file_at c.program file) stores.line c.composition (held_by c)
+    (ap is_add (stores.asks c.composition (held_by c)) ∙ ap (λ (d : DiskRequest). is_add (disk_spec.request_of d (file_at c.program file) c.composition (held_by c))) is) in
     record {
       line = stores.fits.line;
       there = stores.fits.there;
       on_disk = stores.fits.on_disk;
-      suits = record { takes = stores.fits.suits; keyed = ap (λ (f : FileLine). is_some f.key) (sym same) ∙ keyed };
+      suits = record { takes = stores.fits.suits; keyed = ap (λ (f : FileLine). is_some f.key) (sym (taking_line c file asked stores)) ∙ keyed };
     }
 
-pub update_fits : (c : Stepper) (start : OutputStart) (asked : DiskRequest) (is_added : Bool) (file : FileLine) (current : Option Current) → start.file < length c.program.files.items
-    → file ≡ get_or c.program.files.items start.file file → asked ≡ disk.Update → AsksFor file asked is_added → IsAdded c start is_added → CanStore c start
-    → FitsFile c.program.files.items (asks.Update start.file current) c.composition
-update_fits c start asked is_added file current within read is meant added stores =
-    let same : file ≡ stores.fits.line = same_line c.program start.file stores.fits.line file within read stores.fits.there in
-    let updated : is_updated file ≡ true =
-    update_changes file stores.line c.composition (held_by c)
-    (ap is_update (meant stores.line c.composition (held_by c) (added stores.line stores.is_line)) ∙ ap (λ (d : DiskRequest). is_update (disk_spec.request_of d file c.composition (held_by c))) is) in
+pub update_fits : (c : Stepper) (file : ℕ) (asked : DiskRequest) (current : Option Current) → asked ≡ disk.Update → CanStore c file asked → FitsFile c.program.files.items (asks.Update file current) c.composition
+update_fits c file asked current is stores =
+    let updated : is_updated (file_at c.program file) ≡ true =
+    update_changes (file_at c.program file) stores.line c.composition (held_by c)
+    (ap is_update (stores.asks c.composition (held_by c)) ∙ ap (λ (d : DiskRequest). is_update (disk_spec.request_of d (file_at c.program file) c.composition (held_by c))) is) in
     record {
       line = stores.fits.line;
       there = stores.fits.there;
       on_disk = stores.fits.on_disk;
-      suits = record { takes = stores.fits.suits; updated = ap is_updated (sym same) ∙ updated };
+      suits = record { takes = stores.fits.suits; updated = ap is_updated (sym (taking_line c file asked stores)) ∙ updated };
     }
 
 -- a record is no line
@@ -316,27 +297,6 @@ stores old new line k request w next running walk is asks fits same =
     (ap (λ r. ask r (λ answer. stored_or_halted (again (own old)) (lines_from (own old) old.program old.progress w next) answer (held_by old))) (sym asks))
 
 -- ---- a line is put out
--- it is composed
-pub composes_line : (old : Stepper) (start : OutputStart) (size : ℕ) (told : Bool) (values : Values) (positions : List (Option ℕ)) (new : Stepper) (file : FileLine) → AreSound old.program old.state
-    → start.file < length old.program.files.items → file ≡ get_or old.program.files.items start.file file → size ≡ file.record_length → told ≡ not (is_printer file.device)
-    → new ≡ record old { state = record old.state { values = values }; composition = new.composition } → new.composition ≡ positions
-    → Composes old.program start size told old.state.values values positions → ComposesLine old new start
-unfolding environment
-composes_line old start size told values positions new file sound within read is_size is_told same is_put composes =
-    let at : file ≡ file_at old.program start.file = file_read old.program start.file file within read in
-    let is_state : new.state ≡ record old.state { values = values } = ap (λ (k : Stepper). k.state) same in
-    let as_long : size ≡ (file_at old.program start.file).record_length = is_size ∙ ap (λ (f : FileLine). f.record_length) at in
-    record {
-      same = same ∙ ap (λ (s : State). let k : Stepper = record old { state = s; composition = new.composition } in k) (sym is_state);
-      sound = let P : State → Type 0 = λ s. AreSound old.program s in subst P (sym is_state) (record { values = composes.sound; current = sound.current });
-      sized = ap (λ (ps : List (Option ℕ)). length ps) is_put ∙ composes.sized ∙ as_long;
-      composes = λ line line_is.
-          (λ i. composed (own old) line.fields (record { positions = replicate (sym as_long i) (first_position (sym (is_told ∙ ap (λ (f : FileLine). not (is_printer f.device)) at) i)); after = held_by old }))
-          ∙ (sym (composes.composed line (others old.program old.state) line_is)
-          ∙ (ap (λ ps. let c : Composed = record { positions = ps; after = held old.program values (others old.program old.state) } in c) (sym is_put)
-          ∙ ap (λ (s : State). let c : Composed = record { positions = new.composition; after = environment old.program s } in c) (sym is_state)));
-    }
-
 -- its run goes on with it as it is composed
 pub record IsPut (old : Stepper) (w : Walk) (place : ℕ) (start : OutputStart) (line : Output) : Type 0 where
   pub is_line : IsLineOf old.program w start line
@@ -365,12 +325,69 @@ is_put old w place start there due =
         by None at used = absurd (true≢false (sym used))
         by (Some file) at used = slice_get_within files k file at
 
--- the start of a line that is due, as it is read
-pub due_read : (old : Stepper) (w : Walk) (place : ℕ) (starts : List OutputStart) (d : OutputStart) → starts ≡ starts_of old.program.starts w → IsDue old w place → (line : Output) × IsPut old w place (get_or starts place d) line
-due_read old w place starts d same due =
-    let at : get_or starts place d ≡ due.start = get_or_from_slice_get starts place due.start d (ap (λ list. slice_get list place) same ∙ due.there) in
-    let P : OutputStart → Type 0 = λ s. (line : Output) × IsPut old w place s line in
-    subst P (sym at) (is_put old w place due.start due.there due.due)
+-- ---- it is composed
+told_is : (p : Program) (start : OutputStart) (file : FileLine) (request : LineRequest) → IsLineRequest p start file request → is_told request ≡ not (is_printer file.device)
+told_is p start file (lines.Print spacing) is = sym (ap not is.printer)
+told_is p start file (lines.Record request) is = sym (ap not is.other)
+
+-- the instruction of a line that is due, and what is put out of it
+pub record IsDueLine (c : Stepper) (w : Walk) (place : ℕ) (start : OutputStart) (instruction : OutputInstruction) : Type 0 where
+  pub line : Output
+  pub put : IsPut c w place start line
+  pub slot : instruction.file ≡ start.file
+  pub whole : IsWhole c.program start instruction
+
+pub due_line : (c : Stepper) (w : Walk) (place : ℕ) (instructions : List OutputInstruction) (instruction : OutputInstruction) (start : OutputStart) → IsRunning c → IsDue c w place → instructions ≡ lines_of c.outputs w
+    → instruction ≡ get_or instructions place instruction → slice_get (starts_of c.program.starts w) place ≡ Some start → IsDueLine c w place start instruction
+due_line c w place instructions instruction start running due same read there =
+    let own_start : due.start ≡ start = ap (λ (o : Option OutputStart). unwrap_or o start) (sym due.there ∙ there) in
+    let on : is_due c w start ≡ true = ap (is_due c w) (sym own_start) ∙ due.due in
+    let put = is_put c w place start there on in
+    let are = lines_are c.program c.outputs w running.outputs in
+    let inside : place < length instructions = omega (arith, slice_get_within (starts_of c.program.starts w) place start there, are.count, ap length same) in
+    let at : slice_get (lines_of c.outputs w) place ≡ Some instruction = ap (λ ls. slice_get ls place) (sym same) ∙ slice_get_read instructions (length instructions) place instruction refl inside read in
+    let is = are.each place start instruction there at in
+    record {
+      line = put.0;
+      put = put.1;
+      slot = is.slot;
+      whole = is.whole (ap is_some (file_within c.program start.file put.1.within));
+    }
+
+pub due_fits : (c : Stepper) (w : Walk) (place : ℕ) (instructions : List OutputInstruction) (instruction : OutputInstruction) → IsRunning c → IsDue c w place → instructions ≡ lines_of c.outputs w
+    → instruction ≡ get_or instructions place instruction → FitsLine c.state.values instruction
+due_fits c w place instructions instruction running due same read =
+    let is = due_line c w place instructions instruction due.start running due same read due.there in
+    line_fits c.program c.state.values due.start instruction running.state.values is.put.is_line.starts is.whole
+
+-- values and positions that a line composes, whatever its program is
+abbrev pub ComposesAll : OutputInstruction → (old new : Values) → List (Option ℕ) → Type 0
+ComposesAll instruction old new positions =
+    (p : Program) (start : OutputStart) → AreValues p old → IsStart p start → IsWhole p start instruction → Composes p start instruction.length (is_told instruction.request) old new positions
+
+pub composes_line : (old new : Stepper) (w : Walk) (place : ℕ) (instructions : List OutputInstruction) (instruction : OutputInstruction) (values : Values) (positions : List (Option ℕ)) → IsRunning old → IsDue old w place
+    → instructions ≡ lines_of old.outputs w → instruction ≡ get_or instructions place instruction
+    → new ≡ record old { state = record old.state { values = values }; composition = new.composition } → new.composition ≡ positions → ComposesAll instruction old.state.values values positions
+    → (start : OutputStart) → slice_get (starts_of old.program.starts w) place ≡ Some start → ComposesLine old new start
+unfolding environment
+composes_line old new w place instructions instruction values positions running due same_lines read same composed_so all start there =
+    let is : IsDueLine old w place start instruction = due_line old w place instructions instruction start running due same_lines read there in
+    let composes : Composes old.program start instruction.length (is_told instruction.request) old.state.values values positions = all old.program start running.state.values is.put.is_line.starts is.whole in
+    let at : is.whole.file ≡ file_at old.program start.file = sym (ap (λ o. unwrap_or o no_file) is.whole.there) in
+    let is_state : new.state ≡ record old.state { values = values } = ap (λ (k : Stepper). k.state) same in
+    let as_long : instruction.length ≡ (file_at old.program start.file).record_length = is.whole.size ∙ ap (λ (f : FileLine). f.record_length) at in
+    let told : is_told instruction.request ≡ not (is_printer (file_at old.program start.file).device) =
+    told_is old.program start is.whole.file instruction.request is.whole.request ∙ ap (λ (f : FileLine). not (is_printer f.device)) at in
+    record {
+      same = same ∙ ap (λ (s : State). let k : Stepper = record old { state = s; composition = new.composition } in k) (sym is_state);
+      sound = let P : State → Type 0 = λ s. AreSound old.program s in subst P (sym is_state) (record { values = composes.sound; current = running.state.current });
+      sized = ap (λ (ps : List (Option ℕ)). length ps) composed_so ∙ composes.sized ∙ as_long;
+      composes = λ line line_is.
+          (λ i. composed (own old) line.fields (record { positions = replicate (sym as_long i) (first_position (sym told i)); after = held_by old }))
+          ∙ (sym (composes.composed line (others old.program old.state) line_is)
+          ∙ (ap (λ ps. let c : Composed = record { positions = ps; after = held old.program values (others old.program old.state) } in c) (sym composed_so)
+          ∙ ap (λ (s : State). let c : Composed = record { positions = new.composition; after = environment old.program s } in c) (sym is_state)));
+    }
 
 -- no list is so long that its places don't fit
 pub place_fits : (c : Stepper) (w : Walk) (place : ℕ) → IsDue c w place → Fits w64 (place + 1)
@@ -382,19 +399,11 @@ place_fits c w place due = by w (slice_get_within (starts_of c.program.starts w)
     by walk.Exceptions within = record { fits = omega (arith, within, c.program.starts.exceptions.ok.0, c.program.starts.exceptions.small) }
     by walk.Overflow within = record { fits = omega (arith, within, c.program.starts.overflow.ok.0, c.program.starts.overflow.small) }
 
--- whether its file is a printer, as it is read
-pub device_read : (p : Program) (k : ℕ) (file : FileLine) (b : Bool) → k < length p.files.items → file ≡ get_or p.files.items k file → is_printer file.device ≡ b → is_printer (file_at p k).device ≡ b
-device_read p k file b within read is = ap (λ (f : FileLine). is_printer f.device) (sym (file_read p k file within read)) ∙ is
-
 -- the lines of a printer have 1 to 132 positions
 printable : (d : Device) (n : ℕ) → is_printer d ≡ true → is_between 1 (longest_record d) n ≡ true → (1 ≤ n) × (n ≤ 132)
 printable Printer n is h = let both = and_parts (nat_le 1 n) (nat_le n 132) h in (at_most 1 n both.0, at_most n 132 both.1)
 printable CardReader n is h = absurd (true≢false (sym is))
 printable Disk n is h = absurd (true≢false (sym is))
-
-pub not_printer : (d : Device) → (d ≡ CardReader) ⊎ (d ≡ Disk) → is_printer d ≡ false
-not_printer d (inl card) = ap is_printer card
-not_printer d (inr disk_file) = ap is_printer disk_file
 
 -- what is printed is the same where the record is blank at first
 begun_alike : (printed_so : Bool) (print : List ℕ → Rest) (store : List (Option ℕ) → Rest) (source : Source) (fields : List (OutputField Name)) (n : ℕ) (e : Environment)
@@ -422,68 +431,108 @@ composed_runs old mid w place start line put composes =
     ∙ sym (ap (λ (k : Stepper). here k (λ source program progress. (if is_printer (file_at program start.file).device then printed source line (filled mid.composition) (lines_from source program progress w (place + 1))
     else (λ e. ask (disk_request (file_at program start.file) line mid.composition e) (λ answer. stored_or_halted (again source) (lines_from source program progress w (place + 1)) answer e))))) composes.same))
 
-pub composed_running : (old mid : Stepper) (start : OutputStart) → ComposesLine old mid start → IsRunning old → IsRunning mid
-composed_running old mid start composes running =
-    let P : Stepper → Type 0 = λ k. IsRunning k in
-    subst P (sym composes.same) (record { overflow = running.overflow; state = composes.sound; reading = running.reading; heads = running.heads; prepared = running.prepared; inputs = running.inputs; guards = running.guards })
-
-pub composed_walk : (old mid : Stepper) (start : OutputStart) (w : Walk) → ComposesLine old mid start → IsWalk old.program old.progress w → IsWalk mid.program mid.progress w
-composed_walk old mid start w composes walks = let P : Stepper → Type 0 = λ k. IsWalk k.program k.progress w in subst P (sym composes.same) walks
-
 composed_program : (old mid : Stepper) (start : OutputStart) → ComposesLine old mid start → mid.program ≡ old.program
 composed_program old mid start composes = ap (λ (k : Stepper). k.program) composes.same
 
-pub composed_line : (old mid : Stepper) (start : OutputStart) (page line : ℕ) → ComposesLine old mid start → start.file < length old.program.files.items
-    → is_printer (file_at mid.program start.file).device ≡ true → IsLine (asks.Print page line) mid.composition
-composed_line old mid start page line composes within is =
-    let device : is_printer (file_at old.program start.file).device ≡ true = ap (λ (p : Program). is_printer (file_at p start.file).device) (sym (composed_program old mid start composes)) ∙ is in
-    let P : ℕ → Type 0 = λ n. (1 ≤ n) × (n ≤ 132) in
-    subst P (sym composes.sized) (printable (file_at old.program start.file).device (file_at old.program start.file).record_length device (file_ranged old.program start.file within))
+-- ---- and put out
+-- the instruction of the line that is composed, as it is read again
+pub record IsComposed (old mid : Stepper) (w : Walk) (place : ℕ) (start : OutputStart) (line : Output) (instruction : OutputInstruction) : Type 0 where
+  pub put : IsPut old w place start line
+  pub composes : ComposesLine old mid start
+  pub slot : instruction.file ≡ start.file
+  pub whole : IsWhole old.program start instruction
 
-pub composed_within : (old mid : Stepper) (start : OutputStart) → ComposesLine old mid start → start.file < length old.program.files.items → start.file < length mid.program.files.items
-composed_within old mid start composes inside = let P : Stepper → Type 0 = λ k. start.file < length k.program.files.items in subst P (sym composes.same) inside
+pub is_composed : (old mid : Stepper) (w : Walk) (place : ℕ) (instructions : List OutputInstruction) (instruction : OutputInstruction) → IsRunning old → (due : IsDue old w place)
+    → ((start : OutputStart) → slice_get (starts_of old.program.starts w) place ≡ Some start → ComposesLine old mid start) → instructions ≡ lines_of mid.outputs w
+    → instruction ≡ get_or instructions place instruction → (line : Output) × IsComposed old mid w place due.start line instruction
+is_composed old mid w place instructions instruction running due composing same read =
+    let composes = composing due.start due.there in
+    let outputs : mid.outputs ≡ old.outputs = ap (λ (k : Stepper). k.outputs) composes.same in
+    let is = due_line old w place instructions instruction due.start running due (same ∙ ap (λ sheet. lines_of sheet w) outputs) read due.there in
+    (is.line, record { put = is.put; composes = composes; slot = is.slot; whole = is.whole })
+
+whole_file : (old : Stepper) (start : OutputStart) (instruction : OutputInstruction) (whole : IsWhole old.program start instruction) → whole.file ≡ file_at old.program start.file
+whole_file old start instruction whole = sym (ap (λ o. unwrap_or o no_file) whole.there)
+
+-- a line that is printed
+printing_of : (p : Program) (start : OutputStart) (file : FileLine) (request : LineRequest) (spacing : Spacing) → request ≡ lines.Print spacing → IsLineRequest p start file request → IsPrinting p start file spacing
+printing_of p start file request spacing is asked = subst (λ (r : LineRequest). IsLineRequest p start file r) is asked
+
+storing_of : (p : Program) (start : OutputStart) (file : FileLine) (request : LineRequest) (asked : DiskRequest) → request ≡ lines.Record asked → IsLineRequest p start file request → IsStoring p start file asked
+storing_of p start file request asked is all = subst (λ (r : LineRequest). IsLineRequest p start file r) is all
+
+pub print_line : (old mid : Stepper) (w : Walk) (place : ℕ) (start : OutputStart) (line : Output) (instruction : OutputInstruction) (spacing : Spacing) → IsComposed old mid w place start line instruction
+    → instruction.request ≡ lines.Print spacing → (1 ≤ length mid.composition) × (length mid.composition ≤ 132)
+print_line old mid w place start line instruction spacing is asked =
+    let printer : is_printer (file_at old.program start.file).device ≡ true =
+    ap (λ (f : FileLine). is_printer f.device) (sym (whole_file old start instruction is.whole)) ∙ (printing_of old.program start is.whole.file instruction.request spacing asked is.whole.request).printer in
+    let P : ℕ → Type 0 = λ n. (1 ≤ n) × (n ≤ 132) in
+    subst P (sym is.composes.sized) (printable (file_at old.program start.file).device (file_at old.program start.file).record_length printer (file_ranged old.program start.file is.put.within))
+
+pub print_ranged : (old mid : Stepper) (w : Walk) (place : ℕ) (start : OutputStart) (line : Output) (instruction : OutputInstruction) (spacing : Spacing) → IsComposed old mid w place start line instruction
+    → instruction.request ≡ lines.Print spacing → spacing_in_range spacing ≡ true
+print_ranged old mid w place start line instruction spacing is asked = (printing_of old.program start is.whole.file instruction.request spacing asked is.whole.request).ranged
+
+pub line_printed : (old mid new : Stepper) (w : Walk) (place : ℕ) (start : OutputStart) (line : Output) (instruction : OutputInstruction) (spacing : Spacing) → IsComposed old mid w place start line instruction
+    → instruction.request ≡ lines.Print spacing
+    → ((line : Output) → line.spacing ≡ spacing → GoesOn mid new (here mid (λ source program progress. printed source line (filled mid.composition) (lines_from source program progress w (place + 1)))))
+    → GoesOn old new (here old (λ source program progress. lines_from source program progress w place))
+line_printed old mid new w place start line instruction spacing is asked goes =
+    let printing = printing_of old.program start is.whole.file instruction.request spacing asked is.whole.request in
+    let program : mid.program ≡ old.program = composed_program old mid start is.composes in
+    let printer : is_printer (file_at mid.program start.file).device ≡ true =
+    ap (λ (p : Program). is_printer (file_at p start.file).device) program ∙ (ap (λ (f : FileLine). is_printer f.device) (sym (whole_file old start instruction is.whole)) ∙ printing.printer) in
+    goes_then old mid new _ _ program
+    (composed_runs old mid w place start line is.put is.composes
+    ∙ ap (λ (b : Bool). here mid (λ source program progress. (if b then printed source line (filled mid.composition) (lines_from source program progress w (place + 1))
+    else (λ e. ask (disk_request (file_at program start.file) line mid.composition e) (λ answer. stored_or_halted (again source) (lines_from source program progress w (place + 1)) answer e))))) printer)
+    (goes line (printing.line line is.put.is_line.there))
+
+-- one that goes into its file
+asks_for : (old : Stepper) (start : OutputStart) (line : Output) (instruction : OutputInstruction) (asked : DiskRequest) → IsLineAt old.program start line → instruction.file ≡ start.file
+    → (whole : IsWhole old.program start instruction) → IsStoring old.program start whole.file asked → AsksFor old.program instruction.file line asked
+asks_for old start line instruction asked line_is slot whole storing =
+    let at : whole.file ≡ file_at old.program instruction.file = whole_file old start instruction whole ∙ ap (file_at old.program) (sym slot) in
+    λ positions e.
+    ap (λ (f : FileLine). disk_request f line positions e) (sym at) ∙ (storing.line line positions e line_is ∙ ap (λ (f : FileLine). disk_spec.request_of asked f positions e) at)
 
 -- its file on disk takes it
-pub composed_stores : (old mid : Stepper) (w : Walk) (place : ℕ) (start : OutputStart) (line : Output) → IsPut old w place start line → ComposesLine old mid start
-    → is_printer (file_at mid.program start.file).device ≡ false → CanStore mid start
-composed_stores old mid w place start line put composes printer =
-    let program : mid.program ≡ old.program = composed_program old mid start composes in
-    let listed : slice_get old.program.files.items start.file ≡ Some (file_at old.program start.file) = file_within old.program start.file put.within in
-    let device : is_printer (file_at old.program start.file).device ≡ false = ap (λ (p : Program). is_printer (file_at p start.file).device) (sym program) ∙ printer in
+pub stores_line : (old mid : Stepper) (w : Walk) (place : ℕ) (start : OutputStart) (line : Output) (instruction : OutputInstruction) (asked : DiskRequest) → IsComposed old mid w place start line instruction
+    → instruction.request ≡ lines.Record asked → CanStore mid instruction.file asked
+stores_line old mid w place start line instruction asked is request =
+    let storing = storing_of old.program start is.whole.file instruction.request asked request is.whole.request in
+    let program : mid.program ≡ old.program = composed_program old mid start is.composes in
+    let listed : slice_get old.program.files.items start.file ≡ Some (file_at old.program start.file) = file_within old.program start.file is.put.within in
+    let device : is_printer (file_at old.program start.file).device ≡ false = ap (λ (f : FileLine). is_printer f.device) (sym (whole_file old start instruction is.whole)) ∙ storing.other in
     let takes : IsPutOnDisk (file_at old.program start.file) =
     put_on_disk (file_at old.program start.file) line.is_addition (file_tabled old.program start.file (file_at old.program start.file) listed)
-    (line_taken old.program start line (file_at old.program start.file) put.is_line.starts put.is_line.there listed) device in
+    (line_taken old.program start line (file_at old.program start.file) is.put.is_line.starts is.put.is_line.there listed) device in
+    let there : slice_get old.program.files.items instruction.file ≡ Some (file_at old.program start.file) = ap (slice_get old.program.files.items) is.slot ∙ listed in
     record {
       line = line;
-      is_line = let P : Program → Type 0 = λ p. IsLineAt p start line in subst P (sym program) put.is_line.there;
-      fits = let P : Program → Type 0 = λ p. IsDiskFile p.files.items start.file (TakesRecord (length mid.composition)) in
-          subst P (sym program) (record { line = file_at old.program start.file; there = listed; on_disk = takes.on_disk; suits = record { long = composes.sized; put_out = takes.put_out } });
+      asks = let P : Program → Type 0 = λ p. AsksFor p instruction.file line asked in
+          subst P (sym program) (asks_for old start line instruction asked is.put.is_line.there is.slot is.whole storing);
+      fits = let P : Program → Type 0 = λ p. IsDiskFile p.files.items instruction.file (TakesRecord (length mid.composition)) in
+          subst P (sym program) (record { line = file_at old.program start.file; there = there; on_disk = takes.on_disk; suits = record { long = is.composes.sized; put_out = takes.put_out } });
     }
 
-pub line_printed : (old mid new : Stepper) (w : Walk) (place : ℕ) (start : OutputStart) (line : Output) → IsPut old w place start line → ComposesLine old mid start
-    → is_printer (file_at mid.program start.file).device ≡ true
-    → ((line : Output) → IsLineAt mid.program start line → GoesOn mid new (here mid (λ source program progress. printed source line (filled mid.composition) (lines_from source program progress w (place + 1)))))
-    → GoesOn old new (here old (λ source program progress. lines_from source program progress w place))
-line_printed old mid new w place start line put composes printer goes =
-    goes_then old mid new _ _ (composed_program old mid start composes)
-    (composed_runs old mid w place start line put composes
-    ∙ ap (λ (b : Bool). here mid (λ source program progress. (if b then printed source line (filled mid.composition) (lines_from source program progress w (place + 1))
-    else (λ e. ask (disk_request (file_at program start.file) line mid.composition e) (λ answer. stored_or_halted (again source) (lines_from source program progress w (place + 1)) answer e))))) printer)
-    (goes line (let P : Stepper → Type 0 = λ k. IsLineAt k.program start line in subst P (sym composes.same) put.is_line.there))
-
-pub line_stored : (old mid new : Stepper) (w : Walk) (place : ℕ) (start : OutputStart) (line : Output) → IsPut old w place start line → ComposesLine old mid start
-    → is_printer (file_at mid.program start.file).device ≡ false
-    → ((line : Output) → IsLineAt mid.program start line → GoesOn mid new (here mid (λ source program progress e. ask (disk_request (file_at program start.file) line mid.composition e)
+pub line_stored : (old mid new : Stepper) (w : Walk) (place : ℕ) (start : OutputStart) (line : Output) (instruction : OutputInstruction) (asked : DiskRequest) → IsComposed old mid w place start line instruction
+    → instruction.request ≡ lines.Record asked
+    → ((line : Output) → AsksFor mid.program instruction.file line asked → GoesOn mid new (here mid (λ source program progress e. ask (disk_request (file_at program instruction.file) line mid.composition e)
     (λ answer. stored_or_halted (again source) (lines_from source program progress w (place + 1)) answer e))))
     → GoesOn old new (here old (λ source program progress. lines_from source program progress w place))
-line_stored old mid new w place start line put composes printer goes =
-    goes_then old mid new _ _ (composed_program old mid start composes)
-    (composed_runs old mid w place start line put composes
-    ∙ ap (λ (b : Bool). here mid (λ source program progress. (if b then printed source line (filled mid.composition) (lines_from source program progress w (place + 1))
-    else (λ e. ask (disk_request (file_at program start.file) line mid.composition e) (λ answer. stored_or_halted (again source) (lines_from source program progress w (place + 1)) answer e))))) printer)
-    (goes line (let P : Stepper → Type 0 = λ k. IsLineAt k.program start line in subst P (sym composes.same) put.is_line.there))
+line_stored old mid new w place start line instruction asked is request goes =
+    let storing = storing_of old.program start is.whole.file instruction.request asked request is.whole.request in
+    let program : mid.program ≡ old.program = composed_program old mid start is.composes in
+    let printer : is_printer (file_at mid.program start.file).device ≡ false =
+    ap (λ (p : Program). is_printer (file_at p start.file).device) program ∙ (ap (λ (f : FileLine). is_printer f.device) (sym (whole_file old start instruction is.whole)) ∙ storing.other) in
+    let asks : AsksFor mid.program instruction.file line asked =
+    let P : Program → Type 0 = λ p. AsksFor p instruction.file line asked in subst P (sym program) (asks_for old start line instruction asked is.put.is_line.there is.slot is.whole storing) in
+    goes_then old mid new _ _ program
+    (composed_runs old mid w place start line is.put is.composes
+    ∙ (ap (λ (b : Bool). here mid (λ source program progress. (if b then printed source line (filled mid.composition) (lines_from source program progress w (place + 1))
+    else (λ e. ask (disk_request (file_at program start.file) line mid.composition e) (λ answer. stored_or_halted (again source) (lines_from source program progress w (place + 1)) answer e))))) printer
+    ∙ ap (λ (n : ℕ). here mid (λ source program progress e. ask (disk_request (file_at program n) line mid.composition e) (λ answer. stored_or_halted (again source) (lines_from source program progress w (place + 1)) answer e))) (sym is.slot)))
+    (goes line asks)
 
 -- ---- lines from a place on
-pub puts_next : (old new : Stepper) (w : Walk) (next place : ℕ) → PassesTo old w next place → GoesOn old new (here old (λ source program progress. lines_from source program progress w place))
-    → GoesOn old new (here old (λ source program progress. lines_from source program progress w next))
-puts_next old new w next place passes goes = goes_as old new _ _ (passes (after_lines (own old) old.program old.progress w)) goes

@@ -99,7 +99,7 @@ without_totals c new selection due goes =
 -- ---- the head is taken
 pub takes_running : (old new : Stepper) (place : ℕ) (selection : Selection) → Takes old new place selection → IsRunning old → IsRunning new
 takes_running old new place selection takes running =
-    subst IsRunning (sym takes.same) (record { overflow = running.overflow; state = running.state; reading = takes.reading; heads = takes.heads; prepared = running.prepared; inputs = running.inputs; guards = running.guards })
+    subst IsRunning (sym takes.same) (record { overflow = running.overflow; state = running.state; reading = takes.reading; heads = takes.heads; calculations = running.calculations; totals_guard = running.totals_guard; inputs = running.inputs; outputs = running.outputs })
 
 pub takes_taken : (old new : Stepper) (place : ℕ) (selection : Selection) → Takes old new place selection → IsTaken new.program new.progress selection
 takes_taken old new place selection takes =

@@ -23,7 +23,9 @@ use Rattle.s3_cycle.specs.declared.progress.Time.{Time}
 use Rattle.s3_cycle.specs.declared.progress.Time.TheVariants as time
 use Rattle.s3_cycle.specs.declared.stepper.Stepper.{Stepper}
 use Rattle.s3_cycle.specs.Inner.Rest.{after_calculations, after_lines, calculating, lines_from, lines_then, overflow_end, record_moved, totals_done, totals_end}
-use Rattle.s3_cycle.specs.Inner.Calculating.{IsOver}
+use Rattle.s3_instructions.specs.Inner.Guards.{guard_holds}
+use Rattle.s3_cycle.specs.Inner.Calculating.{IsAtTotals, IsOver}
+use Rattle.s3_cycle.specs.Inner.Environment.{environment, others}
 use Rattle.s3_cycle.specs.Inner.Entries.{turn_entry, is_entry_on}
 use Rattle.s3_cycle.specs.Inner.Going.{own, held_by, here, Changes, GoesOn, IsOverflowTime, IsRunning, IsTaken, IsTime, IsTotalTime}
 use Rattle.s3_cycle.specs.Inner.Lines.{PassesAll}
@@ -49,6 +51,28 @@ section_begun program anew go lines spot course begins =
     (λ i. goes_through program anew go (begins.returns i ++ begins.here i ∷ []))
     ∙ (ap (λ (k : ℕ). calculated (source_named program) anew (rest_of program spot.section spot.begin) go None (rest_of program spot.section k)) begins.all
     ∙ ap (λ (ls : List Calculation). calculated (source_named program) anew ls go None ls) (sym begins.whole))
+
+-- the total calculations
+pub at_totals : (program : Program) (spot : Spot) (course : Course) → Begins program (total_calculations (source_named program)) spot course → IsAtTotals program course
+at_totals program spot course begins = record {
+  whole = ap (λ (k : Spot). rest_of program k.section k.begin) begins.here ∙ sym begins.whole;
+  first = ap (λ (k : Spot). k.place) begins.here ∙ (begins.all ∙ ap (λ (k : Spot). k.begin) (sym begins.here));
+  returns = begins.returns;
+}
+
+-- where none of them can do anything, all are done
+pub totals_idle : (c : Stepper) → IsRunning c → IsAtTotals c.program c.progress.course → guard_holds c.state.values.indicators c.totals_guard ≡ false → IsOver c c
+unfolding environment
+totals_idle c running totals off =
+    let go : Rest = after_calculations (own c) c.program c.progress c.progress.time in
+    record {
+      calculates = record { program = refl; reading = refl; time = refl; running = running };
+      runs =
+          (λ i. goes_through c.program (again (own c)) go (totals.returns i ++ c.progress.course.here ∷ []) (held_by c))
+          ∙ (ap (λ (k : ℕ). calculated (own c) (again (own c)) (rest_of c.program c.progress.course.here.section c.progress.course.here.begin) go None (rest_of c.program c.progress.course.here.section k) (held_by c)) totals.first
+          ∙ (ap (λ (lines : List Calculation). calculated (own c) (again (own c)) lines go None lines (held_by c)) totals.whole
+          ∙ running.totals_guard c.state.values off (again (own c)) go (others c.program c.state)));
+    }
 
 -- total calculations, T lines, and what follows
 totals_begun : (program : Program) (go : Rest) (spot : Spot) (course : Course) → Begins program (total_calculations (source_named program)) spot course

@@ -80,7 +80,6 @@ impl Stepper {
     }
 
     /// A record is put into its file, or refused, which halts.
-    #[inline(always)]
     fn go_on_stored(&mut self, walk: Walk, next: usize, answer: Answer<'_>)
         requires running { IsRunning self.old }
         requires walk { IsWalk self.old.program self.old.progress walk }
@@ -95,7 +94,6 @@ impl Stepper {
     }
 
     /// The card or the record that was asked for, or none.
-    #[inline(always)]
     fn go_on_read(&mut self, place: usize, answer: Answer<'_>)
         requires running { IsRunning self.old }
         requires unread { IsUnreadAt self.old.progress.reading.files.items place }
@@ -110,7 +108,6 @@ impl Stepper {
     }
 
     /// The record that CHAIN found, or none.
-    #[inline(always)]
     fn go_on_chained(&mut self, place: usize, file: usize, answer: Answer<'_>)
         requires running { IsRunning self.old }
         requires calculates { CanCalculate self.old.program self.old.progress }
@@ -126,7 +123,6 @@ impl Stepper {
     }
 
     /// Reply 0 goes on, 2 goes to the totals of the last record, 3 ends the job.
-    #[inline(always)]
     fn go_on_replied(&mut self, then: Continuation, answer: Answer<'_>)
         requires running { IsRunning self.old }
         requires then { Continues self.old.program self.old.progress then }

@@ -1,5 +1,5 @@
 //! CHAIN: what it looks for, and what becomes of the record.
-ghost use Rattle.std.specs.Prelude.{◌≡◌, ◌≤◌, ◌<◌, true, None, Some, IsTrue, length, slice_get};
+ghost use Rattle.std.specs.Prelude.{◌≡◌, ◌<◌, true, None, Some, IsTrue, length, slice_get};
 ghost use Rattle.s3_lines.specs.declared.sheet.CalculationLine.{CalculationLine};
 ghost use Rattle.s3_program.specs.declared.program.Reference.{Reference};
 ghost use Rattle.s3_lines.specs.declared.sheet.Operation.TheVariants as op;
@@ -7,68 +7,60 @@ ghost use Rattle.s3_meaning.specs.Requests.{Found, LastChained, Nothing};
 ghost use Rattle.s3_meaning.specs.Environment.{put_current};
 ghost use Rattle.s3_meaning.specs.Selection.{type_of as type_of_spec};
 ghost use Rattle.s3_meaning.specs.Cycle.{again};
-ghost use Rattle.s3_meaning.specs.Calculating.{chained_to, first_indicator as first_indicator_spec, forgotten, sought_in};
-ghost use Rattle.s3_operations.specs.Inner.Fits.{named_line};
+ghost use Rattle.s3_meaning.specs.Calculating.{chained_to, first_indicator as first_indicator_spec, forgotten};
+ghost use Rattle.s3_operations.specs.Inner.Fits.{IsLineOf};
+ghost use Rattle.s3_instructions.specs.Inner.Chains.{IsChained};
 ghost use Rattle.s3_match.specs.Inner.Heads.{file_at};
 ghost use Rattle.s3_match.specs.Inner.Reading.{IsReading};
 ghost use Rattle.s3_match.specs.Inner.Types.{is_type_start, kind_at, name_of_file};
-ghost use Rattle.s3_cycle.specs.Inner.Requests.{IsSoughtBy, sought_of};
 ghost use Rattle.s3_cycle.specs.Inner.Rest.{calculating, chain_answered};
-ghost use Rattle.s3_cycle.specs.Inner.Going.{AreSound, IsRunning, CanCalculate, IsChainOf, IsLineAt, Changes, GoesOn, own, held_by, here};
+ghost use Rattle.s3_cycle.specs.Inner.Going.{AreSound, IsRunning, CanCalculate, IsChainOf, IsLineAt, Changes, GoesOn, own, here};
 ghost use Rattle.s3_cycle.specs.Inner.Heads.{IsRecordOf};
-ghost use Rattle.s3_cycle.specs.Inner.Calculating.{Does, IsPerformed, Misses};
+ghost use Rattle.s3_cycle.specs.Inner.Calculating.{Misses};
+ghost use Rattle.s3_cycle.specs.Inner.Chaining.{ChainsAt, DoesChain, Seeks};
 
 use crate::indicating::clear_types_of;
 use crate::progress::{Continuation, Point};
 use crate::request::{Current, Request, Sought};
 use crate::stepper::Stepper;
 use crate::went::Calculated;
+use s3_instructions::calculation::{Chained, Sought as SoughtBy};
 use s3_lines::indicator::Indicator;
-use s3_operations::chaining::chained_file;
+use s3_operations::chaining::{key_of, zoned_key};
 use s3_operator::HaltCode;
 use s3_program::starts::TypeStart;
 
 impl Stepper {
-    /// CHAIN: its file has no current record, its indicators go off, and a record is asked for. What it seeks, the key or the
-    /// record number that factor 1 has, is told apart once, so that a key isn't copied on its way into the request.
-    pub fn chain(&mut self, place: usize) -> Calculated
-        requires { IsPerformed self.old place op.Chain }
-        ensures { Does self.old self.new result }
+    /// What a CHAIN seeks with the values that the run holds.
+    pub fn sought(&self, chained: &Chained) -> Sought
+        requires running { IsRunning self.now }
+        requires chained { ChainsAt self.now chained.now }
+        ensures { (line : CalculationLine Reference) → IsLineOf self.now.program line op.Chain → IsChained self.now.program line chained.now → Seeks self.now line chained.now.file result }
     {
-        let program = &self.program;
-        let line = &program.calculations[place];
         let values = &self.state.values;
-        let file = chained_file(program, line);
-        match program.files[file].key {
-            Some(_) => {
-                let key = values.key(program, line);
-                self.seek(place, file, Sought::Key(key))
-            }
-            None => {
-                let number = values.record_number(program, line);
-                self.seek(place, file, Sought::RecordNumber(number))
-            }
+        match chained.sought {
+            SoughtBy::Text(slot) => Sought::Key(key_of(values.texts.text(slot))),
+            SoughtBy::Number(slot) => Sought::Key(zoned_key(values.number(slot))),
+            SoughtBy::RecordNumber(slot) => Sought::RecordNumber(values.numbers[slot]),
         }
     }
 
-    /// The same, with the file that it names, and what it seeks there.
-    #[inline(always)]
-    fn seek(&mut self, place: usize, file: usize, sought: Sought) -> Calculated
-        requires performed { IsPerformed self.old place op.Chain }
-        requires chain { IsChainOf self.old.program place file }
-        requires by { IsSoughtBy (file_at self.old.program file).key sought }
-        requires value { (line : CalculationLine Reference) → slice_get self.old.program.calculations.items place ≡ Some line
-            → sought_of sought ≡ sought_in (own self.old) (held_by self.old) (named_line self.old.program line) (file_at self.old.program file) }
-        ensures { Does self.old self.new result }
+    /// CHAIN: its file has no current record, its indicators go off, and a record is asked for.
+    pub fn chain(&mut self, place: usize, chained: Chained) -> Calculated
+        requires running { IsRunning self.old }
+        requires calculates { CanCalculate self.old.program self.old.progress }
+        requires chain { IsLineAt self.old.program place op.Chain }
+        requires chained { (line : CalculationLine Reference) → slice_get self.old.program.calculations.items place ≡ Some line → IsChained self.old.program line chained }
+        ensures { DoesChain self.old self.new place result }
     {
-        self.progress.course.move_to(place + 1);
-        let program = &self.program;
-        let length = program.files[file].record_length;
-        let is_served = self.state.values.is_served(program, &program.files[file]);
+        let sought = self.sought(&chained);
+        let is_served = chained.served.holds(&self.state.values.indicators);
+        let file = chained.file;
         self.forget(file);
         if !is_served {
             return self.miss(place);
         }
+        let length = chained.length;
         let request = Request::Chain {
             file,
             length,

@@ -26,11 +26,11 @@ fn turn_off(indicators: &mut Indicators, program: &Program, numbers: &[usize])
     ensures { (other : MeantIndicator) → on_in indicators.new other ≡ turned_off (indicators_on program.now.inputs.items) other (on_in indicators.old other) }
 {
     if numbers.len() == 1 {
-        indicators.on[numbers[0]] = false;
+        indicators.set(numbers[0], false);
         return;
     }
     for number in numbers {
-        indicators.on[*number] = false;
+        indicators.set(*number, false);
     }
 }
 
@@ -46,7 +46,7 @@ fn turn_types_off(
     ensures { (other : MeantIndicator) → on_in indicators.new other ≡ turned_off (shown_by program.now starts.now) other (on_in indicators.old other) }
 {
     for start in starts {
-        indicators.on[reading.number_of(program, *start)] = false;
+        indicators.set(reading.number_of(program, *start), false);
     }
 }
 
@@ -85,7 +85,7 @@ fn show_type(values: &mut Values, program: &Program, reading: &Reading, start: T
     ensures { ValuesChange program.now values.old values.new (λ source. turn (kind_at program.now start).indicator true) }
 {
     let number = reading.number_of(program, start);
-    values.indicators.on[number] = true;
+    values.indicators.set(number, true);
 }
 
 impl Stepper {

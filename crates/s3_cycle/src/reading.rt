@@ -71,7 +71,6 @@ impl Stepper {
     }
 
     /// Reads the files behind a place, and selects a record. The head of a file alone needs no search, if it has no match fields.
-    #[inline(always)]
     fn read_behind(&mut self, place: usize)
         requires running { IsRunning self.old }
         requires within { place < length self.old.progress.reading.files.items }

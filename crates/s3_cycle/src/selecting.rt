@@ -1,8 +1,8 @@
 //! Steps 3 to 5, when all files were read: the record that is processed next, and what it breaks.
 ghost use Rattle.std.specs.Prelude.{◌≡◌, Some};
 ghost use Rattle.s3_meaning.specs.Cycle.{again, last_time, record_time};
-ghost use Rattle.s3_meaning.specs.Environment.{with_last_record, turn};
-ghost use Rattle.s3_meaning.specs.Selection.{Selected, broken, is_matched as is_matched_spec, taken};
+ghost use Rattle.s3_meaning.specs.Environment.{with_last_record};
+ghost use Rattle.s3_meaning.specs.Selection.{Selected, is_matched as is_matched_spec, taken};
 ghost use Rattle.s3_match.specs.Inner.Choice.{IsHeadAt};
 ghost use Rattle.s3_match.specs.Inner.Reading.{IsReading, reading_in};
 ghost use Rattle.s3_match.specs.Inner.Selecting.{selected_at};
@@ -74,7 +74,6 @@ impl Stepper {
     }
 
     /// Step 4, the identifying indicator, and step 5, the control break.
-    #[inline(always)]
     fn identify(&mut self, selection: Selection)
         requires sound { AreSound self.old.program self.old.state }
         requires reading { IsReading self.old.program self.old.progress.reading }
@@ -84,7 +83,7 @@ impl Stepper {
         self.identify_type(selection.start);
         let bytes = &self.progress.reading.files[selection.place].bytes;
         let controls = &mut self.state.controls;
-        let levels = self.progress.reading.levels;
+        let levels = &self.progress.reading.levels;
         let level = controls.break_and_hold(&self.program, selection.start, levels, bytes);
         self.state.values.raise_levels(&self.program, level);
     }

@@ -1,21 +1,17 @@
 //! Where a run that halts stands in its source, and what it holds there.
-ghost use Rattle.std.specs.Prelude.{◌≡◌, IfSome, option_map};
-ghost use Rattle.std.specs.Option.{option_copied, option_and_then};
-ghost use Rattle.s3_lines.specs.declared.sheet.Operation.TheVariants as op;
-ghost use Rattle.s3_operations.specs.Inner.Fits.{IsLineOf};
+ghost use Rattle.std.specs.Prelude.{◌≡◌, option_map};
+ghost use Rattle.std.specs.Option.{option_and_then, option_copied};
 ghost use Rattle.s3_cycle.specs.Inner.Requests.{sought_of};
 ghost use Rattle.s3_cycle.specs.Inner.Going.{IsRunning};
-ghost use Rattle.s3_cycle.specs.Inner.Rest.{moved_bytes};
+ghost use Rattle.s3_cycle.specs.Inner.Rest.{moved_bytes, starts_of};
 ghost use Rattle.s3_cycle.specs.declared.progress.Moves.TheVariants as moves;
-ghost use Rattle.s3_cycle.specs.Inner.Standing.{chain_at, chain_of, field_at, file_of, head_at, output_before, record_at, sought_by, stand_before, stand_of};
+ghost use Rattle.s3_cycle.specs.Inner.Standing.{FindsChain, chain_at, chained_in, chain_of, field_at, file_of, head_at, output_before, record_at, sought_by, stand_before, stand_of};
 
 use crate::progress::{Continuation, Moves, Point, Time};
 use crate::request::Sought;
 use crate::stepper::Stepper;
-use s3_lines::sheet::{CalculationLine, Operation};
-use s3_operations::chaining::chained_file;
-use s3_program::program::Reference;
-use s3_program::starts::Walk;
+use s3_instructions::calculation::{Asked, Chained};
+use s3_program::starts::{OutputStart, Walk};
 
 /// Where a run that halts stands in its source: a line by its place among those of its sheet, from 0, a file by its slot, in the
 /// order of the F sheet.
@@ -58,7 +54,30 @@ pub enum Stand {
     },
 }
 
+/// The CHAIN that is asked for, if one is.
+fn chained(asked: &Asked) -> Option<&Chained>
+    ensures { option_copied result ≡ chained_in asked.now }
+{
+    match asked {
+        Asked::Chain(chained) => Some(chained),
+        _ => None,
+    }
+}
+
 impl Stepper {
+    /// The lines that are put out together.
+    fn starts(&self, walk: Walk) -> &[OutputStart]
+        ensures { result.now ≡ starts_of self.now.program.starts walk }
+    {
+        let starts = &self.program.starts;
+        match walk {
+            Walk::Beginning => &starts.beginning,
+            Walk::Totals => &starts.totals,
+            Walk::Exceptions => &starts.exceptions,
+            Walk::Overflow => &starts.overflow,
+        }
+    }
+
     /// The output line before the next one of those that are put out together.
     fn output_before(&self, walk: Walk, next: usize) -> Stand
         ensures { result ≡ output_before self.now.program walk next }
@@ -160,41 +179,25 @@ impl Stepper {
         }
     }
 
-    /// The C line at a place, if it is a CHAIN.
-    fn chain_at(&self, place: usize) -> Option<&CalculationLine<Reference>>
-        ensures line { option_copied result ≡ chain_at self.now.program place }
-        ensures chain { IfSome result (λ line. IsLineOf self.now.program line.now op.Chain) }
+    /// The CHAIN at a place of the C sheet, if one is there.
+    fn chain_at(&self, place: usize) -> Option<&Chained>
+        requires { IsRunning self.now }
+        ensures { FindsChain self.now.program place (option_copied result) }
     {
-        let line = self.program.calculations.get(place)?;
-        match line.operation {
-            Some(Operation::Chain) => Some(line),
-            _ => None,
+        match self.calculations.get(place) {
+            Some(card) => chained(&card.asked),
+            None => None,
         }
     }
 
-    /// The CHAIN that a run stands at.
-    fn chain_there(&self) -> Option<&CalculationLine<Reference>>
-        ensures line { option_copied result ≡ chain_of self.now.program (stand_of self.now) }
-        ensures chain { IfSome result (λ line. IsLineOf self.now.program line.now op.Chain) }
+    /// What the CHAIN at a place seeks, if one is there.
+    fn sought_at(&self, place: usize) -> Option<Sought>
+        requires { IsRunning self.now }
+        ensures { option_map sought_of result ≡ option_and_then (sought_by self.now) (chain_at self.now.program place) }
     {
-        match self.stand() {
-            Stand::Calculation { place } => self.chain_at(place),
-            _ => None,
-        }
-    }
-
-    /// What a CHAIN seeks with the values that the run holds.
-    #[tactic(auto, using(crate::proofs::StandingLemmas::seeks_by_key, crate::proofs::StandingLemmas::seeks_by_number))]
-    fn sought_by(&self, line: &CalculationLine<Reference>) -> Option<Sought>
-        requires running { IsRunning self.now }
-        requires chain { IsLineOf self.now.program line.now op.Chain }
-        ensures { option_map sought_of result ≡ sought_by self.now line.now }
-    {
-        let program = &self.program;
-        let values = &self.state.values;
-        match program.files.get(chained_file(program, line))?.key {
-            Some(_) => Some(Sought::Key(values.key(program, line))),
-            None => Some(Sought::RecordNumber(values.record_number(program, line))),
+        match self.chain_at(place) {
+            Some(chained) => Some(self.sought(chained)),
+            None => None,
         }
     }
 
@@ -203,20 +206,26 @@ impl Stepper {
         requires { IsRunning self.now }
         ensures { option_map sought_of result ≡ option_and_then (sought_by self.now) (chain_of self.now.program (stand_of self.now)) }
     {
-        let line = self.chain_there()?;
-        self.sought_by(line)
+        match self.stand() {
+            Stand::Calculation { place } => self.sought_at(place),
+            _ => None,
+        }
     }
 
     /// The slot of the file that a CHAIN at a place names, if one is there.
     fn file_chained(&self, place: usize) -> Option<usize>
+        requires { IsRunning self.now }
         ensures { result ≡ file_of self.now.program (Stand.Calculation place) }
     {
-        let line = self.chain_at(place)?;
-        Some(chained_file(&self.program, line))
+        match self.chain_at(place) {
+            Some(chained) => Some(chained.file),
+            None => None,
+        }
     }
 
     /// The slot of the file that a run stands at: that of a record, of a CHAIN or of an output line.
     pub fn file_there(&self) -> Option<usize>
+        requires { IsRunning self.now }
         ensures { result ≡ file_of self.now.program (stand_of self.now) }
     {
         match self.stand() {

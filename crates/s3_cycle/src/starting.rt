@@ -8,15 +8,15 @@ use crate::request::{Current, Request};
 use crate::state::State;
 use crate::stepper::Stepper;
 use arrayvec::ArrayVec;
-use s3_fields::preparing::prepared_inputs;
+use s3_instructions::calculation::{calculations, totals_guard};
+use s3_instructions::input::inputs;
+use s3_instructions::output::OutputSheet;
 use s3_match::controls::Controls;
 use s3_match::reading::Reading;
 use s3_operations::values::Values;
 use s3_output::carriage::Carriage;
 use s3_output::composition::Composition;
 use s3_output::conditions::overflow_of;
-use s3_output::guards::line_guards;
-use s3_prepared::preparing::prepared_lines;
 use s3_program::program::Program;
 use s3_sections::course::Course;
 use s3_sections::spot::Spot;
@@ -61,16 +61,18 @@ impl Stepper {
         let values = Values::new(alloc, &program, switches, date)?;
         let current = no_records(alloc, program.files.len())?;
         let progress = Progress::first(alloc, &program, switches)?;
-        let prepared = prepared_lines(alloc, &program)?;
-        let inputs = prepared_inputs(alloc, &program)?;
+        let calculations = calculations(alloc, &program, &values.texts)?;
+        let totals_guard = totals_guard(alloc, &program)?;
+        let inputs = inputs(alloc, &program, &values.texts)?;
         let overflow = overflow_of(&program.files);
-        let guards = line_guards(alloc, &program, overflow)?;
+        let outputs = OutputSheet::of(alloc, &program, &values.texts, overflow)?;
         let mut stepper = Stepper {
             program,
-            prepared,
+            calculations,
+            totals_guard,
             inputs,
             overflow,
-            guards,
+            outputs,
             // nothing is asked for yet
             request: Request::End { at_once: false },
             point: Point::End { at_once: false },

@@ -5,12 +5,13 @@ ghost use Rattle.std.specs.Option.{option_copied};
 use crate::progress::{Point, Progress};
 use crate::request::Request;
 use crate::state::State;
-use s3_fields::input::PreparedInput;
+use s3_instructions::calculation::CalculationInstruction;
+use s3_instructions::guard::Guard;
+use s3_instructions::input::InputInstruction;
+use s3_instructions::output::OutputSheet;
 use s3_lines::indicator::Indicator;
 use s3_lines::sheet::FileLine;
 use s3_output::composition::Composition;
-use s3_output::guards::LineGuards;
-use s3_prepared::line::PreparedLine;
 use s3_program::program::Program;
 
 /// A run that waits for the answer to its request.
@@ -18,14 +19,16 @@ use s3_program::program::Program;
 pub struct Stepper {
     /// The program that runs.
     pub program: Program,
-    /// Its calculations, as they are prepared.
-    pub prepared: Vec<PreparedLine>,
-    /// Its lines of the I sheet, as they are prepared.
-    pub inputs: Vec<PreparedInput>,
+    /// The instructions of its C sheet.
+    pub calculations: Vec<CalculationInstruction>,
+    /// When its total calculations can do anything at all.
+    pub totals_guard: Guard,
+    /// The instructions of its I sheet.
+    pub inputs: Vec<InputInstruction>,
     /// The overflow indicator of its print file.
     pub overflow: Option<Indicator>,
-    /// When its output lines are put out, as it is told of their cards once.
-    pub guards: LineGuards,
+    /// The instructions of its O sheet.
+    pub outputs: OutputSheet,
     /// The request that waits for an answer.
     pub request: Request,
     /// What goes on with the answer.

@@ -6,6 +6,7 @@ ghost use Rattle.s3_cycle.specs.declared.progress.Time.TheVariants as time;
 ghost use Rattle.s3_cycle.specs.Inner.Rest.{calculating, lines_from, record_moved, selected_of, totals_done, totals_end};
 ghost use Rattle.s3_meaning.specs.Requests.{NthRead};
 ghost use Rattle.s3_meaning.specs.Environment.{put_current};
+ghost use Rattle.s3_cycle.specs.Inner.Calculating.{IsAtTotals};
 ghost use Rattle.s3_cycle.specs.Inner.Going.{CanCalculate, Changes, GoesOn, IsOverflowTime, IsRunning, IsTaken, here};
 
 use crate::progress::{Selection, Time};
@@ -27,14 +28,15 @@ impl Stepper {
         self.calculate_last();
     }
 
-    /// Total calculations of the last record from where they stand, and the T lines.
+    /// Total calculations of the last record from their first one on, and the T lines.
     pub fn calculate_last(&mut self)
         requires running { IsRunning self.old }
         requires calculates { CanCalculate self.old.program self.old.progress }
+        requires totals { IsAtTotals self.old.program self.old.progress.course }
         requires time { self.old.progress.time ≡ time.Last }
         ensures { GoesOn self.old self.new (here self.old calculating) }
     {
-        match self.calculate_rare() {
+        match self.calculate_where_due() {
             Went::ToRequest => {}
             Went::ToEnd => self.put_last_totals(0),
         }
@@ -53,7 +55,6 @@ impl Stepper {
     }
 
     /// The totals before the selected record, and the steps behind them.
-    #[inline(always)]
     pub fn total(&mut self, selection: Selection)
         requires running { IsRunning self.old }
         requires taken { IsTaken self.old.program self.old.progress selection }
@@ -64,15 +65,15 @@ impl Stepper {
         self.calculate_totals();
     }
 
-    /// Total calculations before the selected record from where they stand, and the T lines.
-    #[inline(always)]
+    /// Total calculations before the selected record from their first one on, and the T lines.
     pub fn calculate_totals(&mut self)
         requires running { IsRunning self.old }
         requires calculates { CanCalculate self.old.program self.old.progress }
+        requires totals { IsAtTotals self.old.program self.old.progress.course }
         requires time { IsOverflowTime self.old.program self.old.progress self.old.progress.time }
         ensures { GoesOn self.old self.new (here self.old calculating) }
     {
-        match self.calculate_rare() {
+        match self.calculate_where_due() {
             Went::ToRequest => {}
             Went::ToEnd => self.put_totals(0),
         }
@@ -92,7 +93,6 @@ impl Stepper {
     }
 
     /// Step 8: the job ends where LR is on.
-    #[inline(always)]
     fn leave_totals(&mut self)
         requires running { IsRunning self.old }
         requires time { IsOverflowTime self.old.program self.old.progress self.old.progress.time }

@@ -7,11 +7,11 @@ use Rattle.std.proofs.lemmas.List.{at_drop_more, at_drop_all, append-nil, length
 use Rattle.s3_decimal.specs.Records.{halves, zoned_digits, packed_digits}
 use Rattle.s3_lines.specs.declared.sheet.FieldForm.{FieldForm}
 use Rattle.s3_lines.specs.declared.sheet.FieldForm.TheVariants.{Alphanumeric, Zoned, Packed, PackedText}
-use Rattle.s3_lines.specs.declared.sheet.FieldLine.{FieldLine}
 use Rattle.s3_lines.specs.declared.sheet.Shape.TheVariants.{Numeric}
-use Rattle.s3_lines.specs.Inner.Ranges.{field_in_range}
 use Rattle.s3_lines.specs.Ranges.{shape_in_range, shape_of_positions}
 use Rattle.s3_meaning.specs.Selection.{compared, is_below}
+use Rattle.s3_match.specs.declared.levels.LevelField.{LevelField}
+use Rattle.s3_match.specs.Inner.Levels.{compared_at, is_ranged}
 
 -- ---- items in front of what is still to come
 pub room : (items rest all : List ℕ) (x n : ℕ) → items ++ x ∷ rest ≡ all → length all ≤ n → length items < n
@@ -116,15 +116,17 @@ compared_length (Packed decimals) bytes width fits ranged =
     at_most (length (packed_digits bytes)) (2 * width - 1 + 2) 256 (omega (arith, packed_short bytes, fits)) (more_by (2 * width - 1) (digits (2 * width - 1) decimals ranged))
 compared_length PackedText bytes width fits ranged = at_most (length bytes) width 256 fits (and_parts (nat_le 1 width) (nat_le width 256) ranged).1
 
-pub compared_short : {N : Type 0} (field : FieldLine N) (bytes : List ℕ) → field_in_range field ≡ true → length (compared field.form (slice_range bytes (field.from - 1) field.to)) ≤ 256
+pub compared_short : (field : LevelField) (bytes : List ℕ) → is_ranged field ≡ true → length (compared_at bytes field) ≤ 256
 compared_short field bytes ranged =
-    let four = (and_parts _ _ (and_parts _ _ (and_parts _ _ (and_parts _ _ ranged).0).0).0).0 in
-    let three = and_parts (nat_le 1 field.from && nat_le field.from field.to) (shape_in_range (shape_of_positions field.form (field.to + 1 - field.from))) four in
+    let parts = and_parts (nat_le 1 field.from) (shape_in_range (shape_of_positions field.form (field.to + 1 - field.from))) ranged in
     compared_length field.form (slice_range bytes (field.from - 1) field.to) (field.to + 1 - field.from)
-    (width (length (slice_range bytes (field.from - 1) field.to)) field.from field.to (range_short bytes (field.from - 1) field.to) (and_parts _ _ three.0).0) three.1
+    (width (length (slice_range bytes (field.from - 1) field.to)) field.from field.to (range_short bytes (field.from - 1) field.to) parts.0) parts.1
   where
     width : (n from to : ℕ) → n ≤ to - (from - 1) → nat_le 1 from ≡ true → n ≤ to + 1 - from
     width n from to h first = grind (arith, nat_tests, h, first)
+
+pub fits_first : (items more : List ℕ) → items ≡ [] → length more ≤ 256 → length items + length more ≤ 2304
+fits_first items more none short = omega (arith, ap length none, short)
 
 pub fits_behind : (items more : List ℕ) (n : ℕ) → length more ≤ 256 → length items + 256 ≤ n → length items + length more ≤ n
 fits_behind items more n short room_left = omega (arith, short, room_left)

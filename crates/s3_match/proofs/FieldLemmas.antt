@@ -21,6 +21,7 @@ use Rattle.s3_program.specs.declared.starts.TypeStart.{TypeStart}
 use Rattle.s3_program.specs.Lines.{map_field}
 use Rattle.s3_program.specs.Inner.Positions.{are_in_range}
 use Rattle.s3_program.specs.Inner.Started.{type_on}
+use Rattle.s3_program.specs.Inner.Starts.{is_type}
 use Rattle.s3_program.specs.Inner.Stands.{parts_of}
 use Rattle.s3_program.specs.Tables.{Tables}
 use Rattle.s3_program.specs.Inner.Tables.{name_of}
@@ -163,3 +164,19 @@ unfolding are_in_range
 field_ranged program k indicator key level =
     let ranged = (and_parts _ _ (and_parts _ _ (and_parts _ _ (kept (parts_of program) program.valid).ranged).0).0).1 in
     ranged_on indicator key level (tables_in program) (drop k program.inputs.items) (all_behind input_in_range (meant_input (tables_in program)) k program.inputs.items ranged)
+
+-- ---- whether a type starts at a line
+start_on : (tables : Tables) (inputs : List (InputLine Reference)) (start : TypeStart) (line : InputLine Reference) (lines : List (InputLine Reference)) → is_some (type_on tables inputs start (line ∷ lines)) ≡ is_type line
+start_on tables inputs start (Record file indicator codes) lines = refl
+start_on tables inputs start (AndCodes codes) lines = refl
+start_on tables inputs start (OrCodes indicator codes) lines = refl
+start_on tables inputs start (InputField field) lines = refl
+
+pub starts_there : (program : Program) (start : TypeStart) (d : InputLine Reference) (starts : Bool) → start.place < length program.inputs.items
+    → starts ≡ is_type (get_or program.inputs.items start.place d) → starts ≡ is_type_start program start
+starts_there program start d starts within e =
+    e ∙ sym (at_drop_more (λ (lines : List (InputLine Reference)). is_some (type_on (tables_in program) program.inputs.items start lines)) program.inputs.items start.place d within
+    ∙ start_on (tables_in program) program.inputs.items start (get_or program.inputs.items start.place d) (drop (start.place + 1) program.inputs.items))
+
+pub starts_nowhere : (program : Program) (start : TypeStart) → length program.inputs.items ≤ start.place → false ≡ is_type_start program start
+starts_nowhere program start past = sym (at_drop_all (λ (lines : List (InputLine Reference)). is_some (type_on (tables_in program) program.inputs.items start lines)) program.inputs.items start.place past)

@@ -26,12 +26,11 @@ use Rattle.s3_program.specs.Inner.Stands.{source_named}
 use Rattle.s3_program.specs.Tables.{Tables}
 use Rattle.s3_program.specs.Inner.Tables.{name_of}
 use Rattle.s3_program.specs.Inner.Valid.{named, named_input}
-use Rattle.s3_match.specs.declared.fields.NamedLevels.{NamedLevels}
 use Rattle.s3_match.specs.Inner.Types.{tables_in, is_type_start, kind_at}
-use Rattle.s3_match.specs.Inner.Fields.{named_field, is_own, has_level, first_field, field_at, named_levels}
+use Rattle.s3_match.specs.Inner.Fields.{named_field, is_own, has_level, first_field, field_at}
 use Rattle.s3_match.specs.Inner.Controls.{names_some_level, some_type_names_level, breaks_at, break_of}
 use Rattle.s3_match.proofs.FieldLemmas.{field_is, field_ranged}
-use Rattle.s3_match.proofs.MatchFieldLemmas.{no_field, is_off}
+use Rattle.s3_match.proofs.LevelLemmas.{none_of_type}
 use Rattle.s3_match.proofs.KeyLemmas.{control_is, level_any, any_found, is_some_map}
 
 -- ---- whether some level is named
@@ -81,25 +80,20 @@ unnamed program start bytes n is out =
     nothing None has ranged = refl
     nothing (Some field) has ranged = absurd (no_such_level n field.control_level out has (entry_of field ranged))
 
--- ---- where no line has a control field
-no_control : (program : Program) (start : TypeStart) (told : NamedLevels) (bytes : List ℕ) (n : ℕ) → is_type_start program start ≡ true → told ≡ named_levels program → not told.controls ≡ true
-    → control_value (kind_at program start) bytes n ≡ None
-no_control program start told bytes n is named off =
-    ap (option_map (compared_field bytes))
-    (sym (control_is program start n) ∙ no_field program start key.Control (Some n) is (sym (ap (λ (levels : NamedLevels). levels.controls) named) ∙ is_off told.controls off))
+-- ---- where a type has no control field
+no_control : (program : Program) (start : TypeStart) (bytes : List ℕ) (n : ℕ) → is_some (field_at program start key.Control None) ≡ false → control_value (kind_at program start) bytes n ≡ None
+no_control program start bytes n none = ap (option_map (compared_field bytes)) (sym (control_is program start n) ∙ none_of_type key.Control program start n none)
 
 found_nowhere : (p : ℕ → Bool) (xs : List ℕ) → ((n : ℕ) → p n ≡ false) → find p xs ≡ None
 found_nowhere p [] none = refl
 found_nowhere p (x ∷ xs) none = ap (λ (b : Bool). if b then Some x else find p xs) (none x) ∙ found_nowhere p xs none
 
-pub none_breaks : (program : Program) (start : TypeStart) (told : NamedLevels) (bytes : List ℕ) (held : ℕ → Option (List ℕ)) → is_type_start program start ≡ true → told ≡ named_levels program → not told.controls ≡ true
-    → 0 ≡ break_of held (kind_at program start) bytes
-none_breaks program start told bytes held is named off =
-    sym (ap (λ (o : Option ℕ). unwrap_or o 0) (found_nowhere (breaks_at held (kind_at program start) bytes) levels (λ n. ap (λ (v : Option (List ℕ)). is_some v && not (same_key v (held n))) (no_control program start told bytes n is named off))))
+pub none_breaks : (program : Program) (start : TypeStart) (bytes : List ℕ) (held : ℕ → Option (List ℕ)) → is_some (field_at program start key.Control None) ≡ false → 0 ≡ break_of held (kind_at program start) bytes
+none_breaks program start bytes held none =
+    sym (ap (λ (o : Option ℕ). unwrap_or o 0) (found_nowhere (breaks_at held (kind_at program start) bytes) levels (λ n. ap (λ (v : Option (List ℕ)). is_some v && not (same_key v (held n))) (no_control program start bytes n none))))
 
-pub none_is_held : (program : Program) (start : TypeStart) (told : NamedLevels) (bytes : List ℕ) (held : ℕ → Option (List ℕ)) → is_type_start program start ≡ true → told ≡ named_levels program → not told.controls ≡ true
-    → (n : ℕ) → held n ≡ option_or (control_value (kind_at program start) bytes n) (held n)
-none_is_held program start told bytes held is named off n = sym (ap (λ (v : Option (List ℕ)). option_or v (held n)) (no_control program start told bytes n is named off))
+pub none_is_held : (program : Program) (start : TypeStart) (bytes : List ℕ) (held : ℕ → Option (List ℕ)) → is_some (field_at program start key.Control None) ≡ false → (n : ℕ) → held n ≡ option_or (control_value (kind_at program start) bytes n) (held n)
+none_is_held program start bytes held none n = sym (ap (λ (v : Option (List ℕ)). option_or v (held n)) (no_control program start bytes n none))
 
 -- ---- whether a program has control fields
 types_at : (lines : List (InputLine Reference)) (k : ℕ) (d : InputLine Reference) → k < length lines → some_type_names_level lines ≡ some_type_names_level (drop k lines)

@@ -3,8 +3,7 @@ pub mod ComparedLemmas
 pub mod TypeLemmas
 pub mod FieldLemmas
 pub mod KeyLemmas
-pub mod MatchFieldLemmas
-pub mod ControlFieldLemmas
+pub mod LevelLemmas
 pub mod LawLemmas
 pub mod ControlLemmas
 pub mod SelectLemmas

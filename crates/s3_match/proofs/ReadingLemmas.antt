@@ -20,6 +20,7 @@ use Rattle.s3_match.specs.declared.keys.RecordKey.{RecordKey}
 use Rattle.s3_match.specs.declared.reading.Reading.{Reading}
 use Rattle.s3_match.specs.Inner.Types.{tables_in, is_type_start}
 use Rattle.s3_match.specs.Inner.Keys.{key_in}
+use Rattle.s3_match.specs.Inner.Levels.{AreLevels}
 use Rattle.s3_match.specs.Inner.Heads.{no_file, file_at, is_unread, is_unread_standing, has_head, is_head_standing, input_of, IsInput}
 use Rattle.s3_match.specs.Inner.Selecting.{inputs_of, reading_of, selected_of, selected_at}
 use Rattle.s3_match.specs.Inner.Reading.{no_input, input_at, slots_of, bytes_at, is_unread_at, changed_at, head_with, IsReading, AreOnlyTypes, AreNumbersOf, AreLineNumbers, IsUnreadAt}
@@ -56,7 +57,7 @@ pub still_sound : (program : Program) (old new : Reading) (k : ℕ) (x y : Input
 still_sound program old new k x y within there e told types numbers lines same sound reading = record {
   inputs = subst (All (IsInput program)) (sym e) (All-set (IsInput program) old.files.items k y sound reading.inputs);
   slots = ap slots_of e ∙ slots_stay old.files.items k x y within there same ∙ reading.slots;
-  levels = told ∙ reading.levels;
+  levels = subst (AreLevels program) (sym told) reading.levels;
   only_types = subst (λ (xs : List (Option TypeStart)). AreOnlyTypes program xs) (sym (ap (λ v. v.items) types)) reading.only_types;
   type_numbers = subst (λ (xs : List ℕ). AreNumbersOf program.inputs.items xs) (sym (ap (λ v. v.items) numbers)) reading.type_numbers;
   line_numbers = subst (λ (xs : List ℕ). AreLineNumbers program.inputs.items xs) (sym (ap (λ v. v.items) lines)) reading.line_numbers;

@@ -2,13 +2,13 @@
 pub mod Beginning
 pub mod BeginningEnvironment
 pub mod Choice
-pub mod ControlFields
 pub mod Controls
 pub mod Fields
 pub mod Heads
 pub mod Holding
 pub mod Keys
 pub mod Laws
+pub mod Levels
 pub mod Reading
 pub mod Selecting
 pub mod Types

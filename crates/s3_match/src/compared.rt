@@ -6,16 +6,16 @@ ghost use Rattle.arrayvec.specs.ArrayVec.{array_vec_len};
 ghost use Rattle.s3_decimal.specs.Records.{halves, zoned_digits, packed_digits};
 ghost use Rattle.s3_meaning.specs.Selection as meaning;
 
+use crate::levels::LevelField;
 use arrayvec::ArrayVec;
-use s3_lines::sheet::{FieldForm, FieldLine};
-use s3_program::program::Reference;
+use s3_lines::sheet::FieldForm;
 use std::cmp::min;
 
 /// The most bytes that the match fields of a record compare: nine fields of 256 characters.
 pub const KEY_BYTES: usize = 2_304;
 
 /// The bytes of a record that a field lies in.
-pub fn field_bytes<'a>(field: &FieldLine<Reference>, bytes: &'a [u8]) -> &'a [u8]
+pub fn field_bytes<'a>(field: &LevelField, bytes: &'a [u8]) -> &'a [u8]
     ensures { result.now ≡ slice_range bytes.now (field.now.from - 1) field.now.to }
 {
     let end = min(field.to as usize, bytes.len());

@@ -6,15 +6,15 @@ ghost use Rattle.std.specs.List.{list_any};
 ghost use Rattle.s3_meaning.specs.Selection.{control_value};
 ghost use Rattle.s3_meaning.specs.Source.{has_control_fields as has_control_fields_spec, has_levels as has_levels_spec};
 ghost use Rattle.s3_program.specs.Inner.Stands.{source_named};
-ghost use Rattle.s3_program.specs.Inner.Starts.{is_type};
 ghost use Rattle.s3_match.specs.Inner.Types.{is_type_start, kind_at};
-ghost use Rattle.s3_match.specs.Inner.Fields.{named_levels};
+ghost use Rattle.s3_match.specs.Inner.Levels.{AreLevels};
 ghost use Rattle.s3_match.specs.Inner.Controls as spec;
 
 use crate::control_fields::hold_fields;
-use crate::fields::{NamedLevels, field_at};
+use crate::fields::{field_at, starts_type};
 use crate::held::HeldField;
 use crate::keys::RecordKey;
+use crate::levels::Levels;
 use s3_lines::sheet::InputLine;
 use s3_program::mark::Key;
 use s3_program::program::{Program, Reference};
@@ -43,16 +43,6 @@ fn some_names_level(lines: &[InputLine<Reference>]) -> bool
     ensures { result ≡ list_any spec.names_some_level lines.now }
 {
     lines.iter().any(|line| names_some_level(line))
-}
-
-/// Whether a record type starts at a line.
-fn starts_type(line: &InputLine<Reference>) -> bool
-    ensures { result ≡ is_type line.now }
-{
-    match line {
-        InputLine::Record(..) | InputLine::Or(..) => true,
-        InputLine::And(_) | InputLine::Field(_) => false,
-    }
 }
 
 /// Whether a line behind the start of a type has a field with a control level.
@@ -107,23 +97,24 @@ impl Controls {
     }
 
     /// The greatest level, 1 to 9, that the control fields of a record of a type break; 0 if they break none. After the call they
-    /// are held, for the levels that the type names. Where no line of the program has a control field, none is looked for.
+    /// are held, for the levels that the type names.
     #[inline(always)]
     pub fn break_and_hold(
         &mut self,
         program: &Program,
         start: TypeStart,
-        levels: NamedLevels,
+        levels: &Levels,
         bytes: &[u8],
     ) -> u8
         requires starts { IsTrue (is_type_start program.now start) }
-        requires named { levels ≡ named_levels program.now }
+        requires prepared { AreLevels program.now levels.now }
         ensures level { result ≡ spec.break_of (spec.held_in self.old.held) (kind_at program.now start) bytes.now }
         ensures held { (level : ℕ) → spec.held_in self.new.held level ≡ option_or (control_value (kind_at program.now start) bytes.now level) (spec.held_in self.old.held level) }
     {
-        if !levels.controls {
+        if !levels.has_any(program, start, Key::Control) {
             return 0;
         }
-        hold_fields(&mut self.held, &mut self.value, program, start, bytes)
+        let fields = levels.fields_of(program, start, Key::Control);
+        hold_fields(&mut self.held, &mut self.value, &fields, bytes)
     }
 }

@@ -1,8 +1,8 @@
 //! Finds the match and control fields of a record type.
 
-ghost use Rattle.std.specs.Prelude.{◌≡◌, drop, is_some, IsTrue, IfSome, None, option_map};
+ghost use Rattle.std.specs.Prelude.{◌≡◌, drop, IsTrue, IfSome, option_map};
 ghost use Rattle.s3_lines.specs.Inner.Ranges.{field_in_range};
-ghost use Rattle.s3_program.specs.declared.mark.Key.TheVariants as key_of;
+ghost use Rattle.s3_program.specs.Inner.Starts.{is_type};
 ghost use Rattle.s3_match.specs.Inner.Types.{is_type_start, kind_at};
 ghost use Rattle.s3_match.specs.Inner.Fields as spec;
 
@@ -11,16 +11,6 @@ use s3_lines::sheet::{FieldLine, InputLine};
 use s3_program::mark::Key;
 use s3_program::program::{Program, Reference};
 use s3_program::starts::TypeStart;
-
-/// Whether any line of a program has a match field, and whether any has a control field. It is found out once, and not for each
-/// record.
-#[derive(Clone, Copy)]
-pub struct NamedLevels {
-    /// Whether a line has a match field.
-    pub matches: bool,
-    /// Whether a line has a control field.
-    pub controls: bool,
-}
 
 /// A field with an entry in 63-64 is one of the types with that indicator alone.
 fn is_own(indicator: Indicator, relation: Option<Indicator>) -> bool
@@ -51,32 +41,6 @@ fn level_of(key: Key, field: &FieldLine<Reference>) -> Option<u8>
     match key {
         Key::Control => field.control_level,
         Key::Match => field.match_level,
-    }
-}
-
-/// Whether a line has a match field, or a control field.
-fn names_level(line: &InputLine<Reference>, key: Key) -> bool
-    ensures { result ≡ spec.names_level key line.now }
-{
-    match line {
-        InputLine::Field(field) => level_of(key, field).is_some(),
-        InputLine::Record(..) | InputLine::And(_) | InputLine::Or(..) => false,
-    }
-}
-
-fn some_names_level(program: &Program, key: Key) -> bool
-    ensures { result ≡ spec.some_names_level program.now key }
-{
-    program.inputs.iter().any(|line| names_level(line, key))
-}
-
-/// Whether any line of a program has a match field, and whether any has a control field.
-pub fn named_levels(program: &Program) -> NamedLevels
-    ensures { result ≡ spec.named_levels program.now }
-{
-    NamedLevels {
-        matches: some_names_level(program, Key::Match),
-        controls: some_names_level(program, Key::Control),
     }
 }
 
@@ -175,15 +139,22 @@ pub fn field_at(
     )
 }
 
-/// Whether a type has match fields; its lines are looked at only where some line has one.
-#[tactic(auto, using(crate::proofs::MatchFieldLemmas::looked_for))]
-pub(crate) fn has_match_fields(program: &Program, start: TypeStart, levels: NamedLevels) -> bool
-    requires starts { IsTrue (is_type_start program.now start) }
-    requires named { levels ≡ spec.named_levels program.now }
-    ensures { result ≡ is_some (spec.field_at program.now start key_of.Match None) }
+/// Whether a record type starts at a line.
+pub(crate) fn starts_type(line: &InputLine<Reference>) -> bool
+    ensures { result ≡ is_type line.now }
 {
-    if !levels.matches {
+    match line {
+        InputLine::Record(..) | InputLine::Or(..) => true,
+        InputLine::And(_) | InputLine::Field(_) => false,
+    }
+}
+
+/// Whether a record type starts there.
+pub(crate) fn is_start(program: &Program, start: TypeStart) -> bool
+    ensures { result ≡ is_type_start program.now start }
+{
+    if start.place >= program.inputs.len() {
         return false;
     }
-    field_at(program, start, Key::Match, None).is_some()
+    starts_type(&program.inputs[start.place])
 }

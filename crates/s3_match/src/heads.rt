@@ -5,11 +5,11 @@ ghost use Rattle.s3_meaning.specs.Cycle.{counted_read};
 ghost use Rattle.s3_meaning.specs.Selection as meaning;
 ghost use Rattle.s3_program.specs.declared.program.Program.{Program};
 ghost use Rattle.s3_match.specs.Inner.Types.{is_type_start, kind_at};
-ghost use Rattle.s3_match.specs.Inner.Fields.{named_levels};
+ghost use Rattle.s3_match.specs.Inner.Levels.{AreLevels};
 ghost use Rattle.s3_match.specs.Inner.Heads as spec;
 
-use crate::fields::NamedLevels;
 use crate::keys::RecordKey;
+use crate::levels::Levels;
 use arrayvec::ArrayVec;
 use s3_program::program::Program;
 use s3_program::starts::TypeStart;
@@ -140,12 +140,12 @@ impl InputFile {
         &mut self,
         program: &Program,
         start: TypeStart,
-        levels: NamedLevels,
+        levels: &Levels,
         bytes: &[u8],
     ) -> bool
         requires unread { spec.is_unread self.old ≡ true }
         requires starts { IsTrue (is_type_start program.now start) }
-        requires named { levels ≡ named_levels program.now }
+        requires prepared { AreLevels program.now levels.now }
         requires fits { length bytes.now ≤ RECORD_BYTES }
         ensures in_sequence { result ≡ meaning.in_sequence (meaning.match_key (kind_at program.now start) bytes.now) (spec.input_of program.now self.old).last_key }
         ensures input { spec.input_of program.now self.new ≡ (if result then spec.put program.now start bytes.now (spec.input_of program.now self.old) else spec.input_of program.now self.old) }

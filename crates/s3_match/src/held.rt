@@ -2,9 +2,9 @@
 
 use crate::compared::{are_zoned_digits, field_bytes};
 use crate::keys::RecordKey;
+use crate::levels::LevelField;
 use arrayvec::ArrayVec;
-use s3_lines::sheet::{FieldForm, FieldLine};
-use s3_program::program::Reference;
+use s3_lines::sheet::FieldForm;
 
 /// The most bytes that a control field compares.
 pub const FIELD_BYTES: usize = 256;
@@ -20,10 +20,9 @@ pub struct HeldField {
 
 impl HeldField {
     ghost use Rattle.std.specs.Prelude.{◌≡◌, ◌≤◌, None, Some, IsTrue, length};
-    ghost use Rattle.s3_lines.specs.Inner.Ranges.{field_in_range};
     ghost use Rattle.s3_meaning.specs.Selection.{same_key};
     ghost use Rattle.s3_match.specs.Inner.Keys.{held_key};
-    ghost use Rattle.s3_match.specs.Inner.ControlFields.{compared_on};
+    ghost use Rattle.s3_match.specs.Inner.Levels.{compared_at, is_ranged};
 
     /// No control field is held.
     pub fn none() -> HeldField
@@ -56,14 +55,9 @@ impl HeldField {
 
     /// Whether what is held is the same as what a control field of a record compares. A zoned number and characters are compared
     /// where they lie in the record; `value` is the room in which a packed number is read.
-    pub fn is_field(
-        &self,
-        value: &mut RecordKey,
-        field: &FieldLine<Reference>,
-        bytes: &[u8],
-    ) -> bool
-        requires { IsTrue (field_in_range field.now) }
-        ensures { result ≡ same_key (Some (compared_on bytes.now field.now)) (held_key self.now) }
+    pub fn is_field(&self, value: &mut RecordKey, field: &LevelField, bytes: &[u8]) -> bool
+        requires { IsTrue (is_ranged field.now) }
+        ensures { result ≡ same_key (Some (compared_at bytes.now field.now)) (held_key self.now) }
     {
         if !self.is_given {
             return false;

@@ -1,24 +1,18 @@
 //! Keys: what the match fields of a record compare, and the control field of a level.
 
-ghost use Rattle.std.specs.Prelude.{◌≡◌, ◌+◌, ◌≤◌, ◌++◌, [], None, IsTrue, is_some, length, unwrap_or};
+ghost use Rattle.std.specs.Prelude.{◌≡◌, ◌+◌, ◌≤◌, ◌++◌, [], None, IsTrue, length, unwrap_or, option_map};
 ghost use Rattle.arrayvec.specs.ArrayVec.{array_vec_len};
-ghost use Rattle.s3_lines.specs.Inner.Ranges.{field_in_range};
 ghost use Rattle.s3_meaning.specs.Selection as meaning;
-ghost use Rattle.s3_match.specs.Inner.Types.{is_type_start, kind_at};
-ghost use Rattle.s3_match.specs.Inner.Fields.{named_levels};
 ghost use Rattle.s3_match.specs.Inner.Keys as spec;
-ghost use Rattle.s3_match.specs.Inner.ControlFields.{compared_on};
+ghost use Rattle.s3_match.specs.Inner.Types.{is_type_start, kind_at};
+ghost use Rattle.s3_match.specs.Inner.Levels.{AreLevels, AreRanged, compared_at, field_in, is_ranged};
 
 use crate::compared::{KEY_BYTES, field_bytes, is_below, push_compared};
-use crate::fields::{NamedLevels, field_at, has_match_fields};
+use crate::levels::{LEVELS, LevelField, LevelFields, Levels};
 use arrayvec::ArrayVec;
-use s3_lines::sheet::FieldLine;
 use s3_program::mark::Key;
-use s3_program::program::{Program, Reference};
+use s3_program::program::Program;
 use s3_program::starts::TypeStart;
-
-/// How many levels there are of match fields, M1 to M9, and of control fields, L1 to L9.
-pub const LEVELS: u8 = 9;
 
 /// The key of a record: what its match fields compare, if its type has any. It serves for single control fields too.
 #[derive(Drop)]
@@ -29,43 +23,28 @@ pub struct RecordKey {
     pub bytes: ArrayVec<u8, KEY_BYTES>,
 }
 
-/// Puts what the field of a level compares behind the others; whether the type has such a field.
-fn push_field(
-    compared: &mut ArrayVec<u8, KEY_BYTES>,
-    program: &Program,
-    start: TypeStart,
-    key: Key,
-    level: u8,
-    bytes: &[u8],
-) -> bool
-    requires starts { IsTrue (is_type_start program.now start) }
+/// Puts what the field of a level compares, if there is one, behind the others.
+fn push_field(compared: &mut ArrayVec<u8, KEY_BYTES>, fields: &LevelFields, level: u8, bytes: &[u8])
+    requires from_one { 1 ≤ level }
+    requires to_nine { level ≤ 9 }
+    requires ranged { AreRanged fields.now.fields }
     requires room { array_vec_len compared.old + 256 ≤ KEY_BYTES }
-    ensures found { result ≡ is_some (spec.value_at program.now start key level bytes.now) }
-    ensures items { compared.new.items ≡ compared.old.items ++ unwrap_or (spec.value_at program.now start key level bytes.now) [] }
+    ensures items { compared.new.items ≡ compared.old.items ++ unwrap_or (option_map (compared_at bytes.now) (field_in fields.now.fields level)) [] }
     ensures bound { array_vec_len compared.new ≤ array_vec_len compared.old + 256 }
 {
-    match field_at(program, start, key, Some(level)) {
-        Some(field) => {
-            push_compared(compared, field.form, field_bytes(&field, bytes));
-            true
-        }
-        None => false,
+    if let Some(field) = fields.at(level) {
+        push_compared(compared, field.form, field_bytes(&field, bytes));
     }
 }
 
 /// Puts what the match fields compare one behind another, M9 first.
-fn push_match_fields(
-    compared: &mut ArrayVec<u8, KEY_BYTES>,
-    program: &Program,
-    start: TypeStart,
-    bytes: &[u8],
-)
-    requires starts { IsTrue (is_type_start program.now start) }
+fn push_match_fields(compared: &mut ArrayVec<u8, KEY_BYTES>, fields: &LevelFields, bytes: &[u8])
+    requires ranged { AreRanged fields.now.fields }
     requires none { compared.old.items ≡ [] }
-    ensures { compared.new.items ≡ spec.match_values program.now start bytes.now meaning.levels }
+    ensures { compared.new.items ≡ spec.match_values fields.now bytes.now meaning.levels }
 {
     for step in 0..LEVELS {
-        push_field(compared, program, start, Key::Match, LEVELS - step, bytes);
+        push_field(compared, fields, LEVELS - step, bytes);
     }
 }
 
@@ -80,24 +59,37 @@ impl RecordKey {
         }
     }
 
-    /// Becomes the key of a record of a type, none where the type has no match fields.
-    pub fn read(&mut self, program: &Program, start: TypeStart, levels: NamedLevels, bytes: &[u8])
+    /// Becomes the key of a record of a type; none where the type has no match fields.
+    pub fn read(&mut self, program: &Program, start: TypeStart, levels: &Levels, bytes: &[u8])
         requires starts { IsTrue (is_type_start program.now start) }
-        requires named { levels ≡ named_levels program.now }
+        requires prepared { AreLevels program.now levels.now }
         ensures { spec.key_in self.new ≡ meaning.match_key (kind_at program.now start) bytes.now }
     {
-        self.is_given = has_match_fields(program, start, levels);
+        if !levels.has_any(program, start, Key::Match) {
+            self.is_given = false;
+            return;
+        }
+        let fields = levels.fields_of(program, start, Key::Match);
+        self.read_fields(&fields, bytes);
+    }
+
+    /// Becomes the key of a record whose type has these match fields; none where it has none.
+    fn read_fields(&mut self, fields: &LevelFields, bytes: &[u8])
+        requires { AreRanged fields.now.fields }
+        ensures { spec.key_in self.new ≡ spec.key_by fields.now bytes.now }
+    {
+        self.is_given = fields.is_any;
         if !self.is_given {
             return;
         }
         self.bytes.clear();
-        push_match_fields(&mut self.bytes, program, start, bytes);
+        push_match_fields(&mut self.bytes, fields, bytes);
     }
 
     /// Becomes what one control field of a record compares.
-    pub fn read_field(&mut self, field: &FieldLine<Reference>, bytes: &[u8])
-        requires { IsTrue (field_in_range field.now) }
-        ensures value { self.new.bytes.items ≡ compared_on bytes.now field.now }
+    pub fn read_field(&mut self, field: &LevelField, bytes: &[u8])
+        requires { IsTrue (is_ranged field.now) }
+        ensures value { self.new.bytes.items ≡ compared_at bytes.now field.now }
         ensures short { length self.new.bytes.items ≤ 256 }
     {
         self.bytes.clear();

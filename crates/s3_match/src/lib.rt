@@ -29,6 +29,7 @@ pub mod heads;
 pub mod held;
 pub mod keys;
 pub mod laws;
+pub mod levels;
 pub mod reading;
 pub mod selection;
 mod types;

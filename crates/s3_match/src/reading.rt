@@ -25,9 +25,10 @@ ghost use Rattle.s3_match.specs.Inner.Reading.{IsReading, AreOnlyTypes, AreNumbe
 ghost use Rattle.s3_match.specs.Inner.Selecting.{inputs_of, selected_at};
 ghost use Rattle.s3_match.specs.Inner.Types.{is_type_start, kind_at, name_of_file};
 
-use crate::fields::{NamedLevels, indicator_on, named_levels};
+use crate::fields::indicator_on;
 use crate::heads::{InputFile, RECORD_BYTES, Standing};
 use crate::keys::RecordKey;
+use crate::levels::Levels;
 use crate::selection::is_primary;
 use crate::types::{only_type, type_of};
 use s3_lines::indicator::Indicator;
@@ -44,8 +45,8 @@ pub struct Reading {
     pub files: Vec<InputFile>,
     /// The key of the last selected primary record with match fields.
     pub primary_key: RecordKey,
-    /// Whether the program has match fields, and whether it has control fields.
-    pub levels: NamedLevels,
+    /// The match and control fields of its record types.
+    pub levels: Levels,
     /// For each file of the program, by slot, the type of all its records where its first type has no codes; else none.
     pub only_types: Vec<Option<TypeStart>>,
     /// The numbers (`Indicator::number`) of all record identifying indicators of the program.
@@ -199,14 +200,15 @@ impl Reading {
         ensures sound { IfOk result (λ reading. IsReading program.now reading) }
         ensures reading { IfOk result (λ reading. (e : Environment) → BeginsWith switches e → reading_in program.now reading ≡ first_reading (source_named program.now) e) }
     {
-        let mut files = Vec::new(alloc);
+        // A file has long rooms, so that the list isn't to grow.
+        let mut files = Vec::with_capacity(alloc, program.files.len())?;
         for slot in 0..program.files.len() {
             add_first(&mut files, program, slot, switches)?;
         }
         Ok(Reading {
             files,
             primary_key: RecordKey::none(),
-            levels: named_levels(program),
+            levels: Levels::of(alloc, program)?,
             only_types: only_types(alloc, program)?,
             type_numbers: type_numbers(alloc, program)?,
             line_numbers: line_numbers(alloc, program)?,
@@ -330,6 +332,6 @@ impl Reading {
         ensures unread { spec.is_unread_at self.new.files.items place ≡ not result }
         ensures reading { reading_in program.now self.new ≡ (if result then changed_at place (put_head program.now start bytes.now) (reading_in program.now self.old) else reading_in program.now self.old) }
     {
-        self.files[place].put(program, start, self.levels, bytes)
+        self.files[place].put(program, start, &self.levels, bytes)
     }
 }

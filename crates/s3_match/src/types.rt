@@ -115,7 +115,6 @@ fn first_codes_hold(bytes: &[u8], line: &InputLine<Reference>) -> bool
 }
 
 /// Whether the codes of a type end before the line.
-#[inline(always)]
 fn ends_codes(line: &InputLine<Reference>) -> bool
     ensures { (bytes : List ℕ) → IsTrue result → spec.further_codes_hold bytes line.now ≡ None }
 {
@@ -137,7 +136,6 @@ fn has_no_further(inputs: &[InputLine<Reference>], place: usize) -> bool
 }
 
 /// Whether the codes of the AND lines from there on hold; mostly there are none.
-#[inline(always)]
 fn further_hold(inputs: &[InputLine<Reference>], from: usize, bytes: &[u8]) -> bool
     requires { from ≤ length inputs.now }
     ensures { result ≡ spec.further_hold bytes.now (drop from inputs.now) }
@@ -171,7 +169,6 @@ fn first_that_holds(
 }
 
 /// Whether none of a line's entries has a code.
-#[inline(always)]
 fn are_blank(entries: &[Option<RecordCode>; 3]) -> bool
     ensures { (bytes : List ℕ) → IsTrue result → IsTrue (list_all (spec.entry_holds bytes) entries.now) }
 {
@@ -179,7 +176,6 @@ fn are_blank(entries: &[Option<RecordCode>; 3]) -> bool
 }
 
 /// Whether the line is a record line without a code.
-#[inline(always)]
 fn starts_without_codes(line: &InputLine<Reference>) -> bool
     ensures { (bytes : List ℕ) → IsTrue result → IsTrue (spec.first_codes_hold bytes line.now) }
 {
@@ -190,7 +186,6 @@ fn starts_without_codes(line: &InputLine<Reference>) -> bool
 }
 
 /// Whether a type without codes starts there, so that any record is of it.
-#[inline(always)]
 fn has_no_codes(inputs: &[InputLine<Reference>], place: usize) -> bool
     ensures { (bytes : List ℕ) → IsTrue result → IsTrue (spec.type_holds bytes (drop place inputs.now)) }
 {

@@ -1,19 +1,22 @@
--- The values at the start of a job: a zero or blanks in each field, and the date.
-use Rattle.std.proofs.Common.{◌≡◌, ℕ, ◌+◌, ◌*◌, ◌^◌, ◌<◌, ◌≤◌, List, [], ◌∷◌, ◌++◌, true, map, take, length, refl, sym, ◌∙◌, ap, arith, zero, suc, get_or}
-use Rattle.std.specs.Prelude.{ℤ, pos, Option, Some, None, replicate, slice_get, slice_index, unwrap_or, option_map, nat_le, nat_lt, ◌&&◌, ◌%◌}
+-- The values at the start of a job: a zero or blanks in each field, the constants, and the date.
+use Rattle.std.proofs.Common.{◌≡◌, ℕ, ◌+◌, ◌*◌, ◌^◌, ◌<◌, ◌≤◌, List, [], ◌∷◌, ◌++◌, true, map, take, drop, length, subst, refl, sym, ◌∙◌, ap, arith, zero, suc, get_or, inl, inr}
+use Rattle.std.specs.Prelude.{ℤ, pos, unsigned_abs, Option, Some, None, is_some, replicate, slice_get, slice_index, unwrap_or, option_map, nat_lt, ◌%◌}
 use Rattle.std.specs.List.{list_all}
 use Rattle.std.specs.Map.{keys_of}
 use Rattle.std.specs.Cmp.Lexicographic.{pointwise}
-use Rattle.std.proofs.lemmas.Bool.{and_parts, true≢false}
+use Rattle.std.proofs.Math.Path.{fun_ext}
+use Rattle.std.proofs.lemmas.Bool.{and_parts, cases_lt, true≢false}
 use Rattle.std.proofs.lemmas.Bool.Decides.{nat_tests}
-use Rattle.std.proofs.lemmas.List.{map-append, take_more, take_all, length-replicate}
-use Rattle.std.proofs.lemmas.Option.{slice_get-map}
+use Rattle.std.proofs.lemmas.List.{map-append, take_more, take_all, length-replicate, length-append, length-map, replicate-append-replicate, drop-append-le, drop_all}
+use Rattle.std.proofs.lemmas.List.Sums.{prefix_len-le-length}
+use Rattle.std.proofs.lemmas.Option.{slice_get-map, slice_get-get_or, slice_get_within}
 use Rattle.std.proofs.lemmas.Simd.{map-map}
-use Rattle.s3_decimal.specs.declared.number.Dec.{Dec}
+use Rattle.s3_decimal.specs.declared.number.Form.{Form}
 use Rattle.s3_cards.specs.declared.ebcdic.TheConstants.{BLANK}
 use Rattle.s3_cards.specs.declared.name.Name.{Name}
 use Rattle.s3_cards.specs.Names.{same_name}
 use Rattle.s3_cards.proofs.NameLemmas.{same_name-equal}
+use Rattle.s3_lines.specs.declared.indicator.Indicator.{Indicator}
 use Rattle.s3_lines.specs.declared.sheet.Shape.{Shape}
 use Rattle.s3_lines.specs.declared.sheet.Shape.TheVariants.{Alphanumeric, Numeric}
 use Rattle.s3_lines.specs.Ranges.{shape_in_range}
@@ -21,98 +24,94 @@ use Rattle.s3_lines.specs.Reserved.{page, udate, umonth, uday, uyear}
 use Rattle.s3_meaning.specs.Source.{Source, shape_of, digits_of, decimals_of, reserved_shapes}
 use Rattle.s3_meaning.specs.Source.{length_of as length_in_source}
 use Rattle.s3_meaning.specs.Environment.{put_number, date_part, on_at_first}
-use Rattle.s3_lines.specs.declared.indicator.Indicator.{Indicator}
-use Rattle.std.proofs.Math.Path.{fun_ext}
-use Rattle.s3_program.specs.Inner.Tables.{slot_in}
 use Rattle.s3_program.specs.declared.program.Program.{Program}
 use Rattle.s3_program.specs.declared.program.Defined.{Defined}
 use Rattle.s3_program.specs.declared.program.Reference.TheVariants.{Field as FieldSlot}
 use Rattle.s3_program.specs.declared.program.Meaning.TheVariants as meaning
-use Rattle.s3_program.specs.Inner.Tables.{name_of, meaning_at}
+use Rattle.s3_program.specs.Inner.Tables.{slot_in, name_of, meaning_at}
 use Rattle.s3_program.specs.Tables.{or_undefined, found_in}
 use Rattle.s3_program.specs.Inner.Valid.{entry_of, named, is_shaped}
 use Rattle.s3_program.specs.Inner.Stands.{parts_of, source_named}
 use Rattle.s3_program.proofs.SlotLemmas.{Kept, kept, no_shape}
-use Rattle.s3_program.proofs.TableLemmas.{slot_entry}
+use Rattle.s3_program.proofs.TableLemmas.{place, slot_entry, slot_is}
 use Rattle.s3_operations.specs.Inner.Fits.{tables, is_number_field, is_numeric_shape}
-use Rattle.s3_operations.specs.declared.values.Values.{Values}
+use Rattle.s3_operations.specs.Inner.Constants.{Constant, constants, factors_of}
 use Rattle.s3_operations.specs.Inner.Indicators.{on_in}
-use Rattle.s3_operations.specs.Inner.Held.{form_of, form_in, form_in_shape, length_in, number_at, text_at, remainder_in, held, IsSound, Changes}
-use Rattle.s3_operations.specs.Inner.Texts.{blank_texts, length_of}
-use Rattle.s3_operations.specs.Inner.Beginning.{IsDate, IsZeros, are_digits, are_fields_in_range, no_number, with_date, Begins}
-use Rattle.s3_operations.proofs.ChangeLemmas.{at_get}
-use Rattle.s3_operations.proofs.ValueLemmas.{FieldAt, NumberField, field_entry, field_at, field_number, digits_when, decimals_when}
+use Rattle.s3_operations.specs.Inner.Texts.{blank_texts, length_of, text_at, texts_of}
+use Rattle.s3_operations.specs.Inner.Held.{digits_and_decimals, form_in, form_in_shape, length_in, number_at, remainder_in, held, HasTexts, IsSound, Changes, Fits, behind_fields}
+use Rattle.s3_operations.specs.Inner.Beginning.{IsDate, IsZeros, are_digits, are_fields_in_range, with_date, Begins}
+use Rattle.s3_operations.specs.declared.values.Values.{Values}
+use Rattle.s3_operations.proofs.ValueLemmas.{FieldAt, field_entry, digits_when, decimals_when, get_left, get_behind}
+use Rattle.s3_operations.proofs.ConstantLemmas.{AllFit, constants_fit}
 
 some_same : {X : Type 0} (x y : X) → Some x ≡ Some y → x ≡ y
 some_same x y h = ap (λ o. unwrap_or o x) h
 
 -- ---- zeros
-pub record InRange (digits decimals : ℕ) : Type 0 where
-  pub some : 1 ≤ digits
-  pub few : digits ≤ 15
-  pub few_decimals : decimals ≤ 9
-  pub within : decimals ≤ digits
-
-pub in_range : (digits decimals : ℕ) → shape_in_range (Numeric digits decimals) ≡ true → InRange digits decimals
-in_range d e h =
-    let outer = and_parts ((nat_le 1 d && nat_le d 15) && nat_le e 9) (nat_le e d) h in
-    let inner = and_parts (nat_le 1 d && nat_le d 15) (nat_le e 9) outer.0 in
-    let digits = and_parts (nat_le 1 d) (nat_le d 15) inner.0 in
-    record { some = test 1 d digits.0; few = test d 15 digits.1; few_decimals = test e 9 inner.1; within = test e d outer.1 }
-  where
-    test : (a b : ℕ) → nat_le a b ≡ true → a ≤ b
-    test a b h = grind (arith, nat_tests, h)
-
 pub power_some : (n : ℕ) → 0 < 10 ^ n
 power_some zero = omega arith
 power_some (suc n) = omega (arith, power_some n)
+
+pub no_zeros : IsZeros [] [] []
+no_zeros = record { numbers = refl; forms = refl }
+
+pub zeros_more : (fields : List (Defined Shape)) (k : ℕ) (d : Defined Shape) (zeros zeros' : List ℤ) (of of' : List Form) (form : Form) → k < length fields → IsZeros (take k fields) zeros of
+    → digits_and_decimals form ≡ form_in_shape (get_or fields k d).meaning → zeros' ≡ zeros ++ pos 0 ∷ [] → of' ≡ of ++ form ∷ [] → IsZeros (take (k + 1) fields) zeros' of'
+zeros_more fields k d zeros zeros' of of' form within before is more_zeros more_forms =
+    let field : Defined Shape = get_or fields k d in
+    let more : take (k + 1) fields ≡ take k fields ++ field ∷ [] = take_more fields k d within in
+    let count : length (take k fields) + 1 ≡ length (take (k + 1) fields) = omega (arith, ap length more, length-append (take k fields) (field ∷ [])) in
+    record {
+      numbers =
+          more_zeros
+          ∙ (ap (λ zs. zs ++ pos 0 ∷ []) before.numbers ∙ (replicate-append-replicate (length (take k fields)) 1 (pos 0) ∙ ap (λ n. replicate n (pos 0)) count));
+      forms =
+          ap (map digits_and_decimals) more_forms
+          ∙ (map-append digits_and_decimals of (form ∷ [])
+          ∙ ((λ i. before.forms i ++ is i ∷ [])
+          ∙ (sym (map-append (λ (f : Defined Shape). form_in_shape f.meaning) (take k fields) (field ∷ [])) ∙ ap (map (λ (f : Defined Shape). form_in_shape f.meaning)) (sym more))));
+    }
+
+pub zeros_all : (fields : List (Defined Shape)) (k : ℕ) (zeros : List ℤ) (of : List Form) → length fields ≤ k → IsZeros (take k fields) zeros of → IsZeros fields zeros of
+zeros_all fields k zeros of past before =
+    let all : take k fields ≡ fields = take_all k fields past in
+    record { numbers = before.numbers ∙ ap (λ (fs : List (Defined Shape)). replicate (length fs) (pos 0)) all; forms = before.forms ∙ ap (map (λ (f : Defined Shape). form_in_shape f.meaning)) all }
+
+-- a zero in each field, and one behind them
+zero_at : (n k : ℕ) (rest : List ℤ) → k ≤ n → number_at (replicate n (pos 0) ++ pos 0 ∷ rest) k ≡ pos 0
+zero_at zero zero rest within = refl
+zero_at zero (suc k) rest within = absurd (omega (arith, within))
+zero_at (suc n) zero rest within = refl
+zero_at (suc n) (suc k) rest within = zero_at n k rest (omega (arith, within))
+
+-- ---- all numbers fit
+zeros_fit : (n : ℕ) (forms : List (ℕ × ℕ)) → AllFit (replicate n (pos 0)) forms
+zeros_fit zero forms = tt
+zeros_fit (suc n) [] = tt
+zeros_fit (suc n) (form ∷ forms) = (power_some form.0, zeros_fit n forms)
+
+both_fit : (ns ms : List ℤ) (fs gs : List (ℕ × ℕ)) → length ns ≡ length fs → AllFit ns fs → AllFit ms gs → AllFit (ns ++ ms) (fs ++ gs)
+both_fit [] ms [] gs same first second = second
+both_fit [] ms (f ∷ fs) gs same first second = absurd (omega (arith, same))
+both_fit (n ∷ ns) ms [] gs same first second = absurd (omega (arith, same))
+both_fit (n ∷ ns) ms (f ∷ fs) gs same first second = (first.0, both_fit ns ms fs gs (omega (arith, same)) first.1 second)
+
+fit_more : (n : ℤ) (ns : List ℤ) (f : Form) (fs : List Form) → unsigned_abs n < 10 ^ f.digits → Fits ns fs → Fits (n ∷ ns) (f ∷ fs)
+fit_more n ns f fs first rest = λ slot. at slot
+  where
+    at : (slot : ℕ) (form : Form) → slice_get (f ∷ fs) slot ≡ Some form → unsigned_abs (number_at (n ∷ ns) slot) < 10 ^ form.digits
+    at zero form there = let of : Form → Type 0 = λ x. unsigned_abs n < 10 ^ x.digits in subst of (some_same f form there) first
+    at (suc slot) form there = rest slot form there
+
+fit_at : (numbers : List ℤ) (forms : List Form) → AllFit numbers (map digits_and_decimals forms) → Fits numbers forms
+fit_at [] forms all = λ slot form there. power_some form.digits
+fit_at (n ∷ ns) [] all = λ slot form there. cc
+fit_at (n ∷ ns) (f ∷ fs) all = fit_more n ns f fs all.0 (fit_at ns fs all.1)
 
 pub range_at : (fields : List (Defined Shape)) (k : ℕ) (d : Defined Shape) → are_fields_in_range fields ≡ true → k < length fields → shape_in_range (get_or fields k d).meaning ≡ true
 range_at [] k d all within = absurd (omega (arith, within))
 range_at (f ∷ fs) zero d all within = (and_parts (shape_in_range f.meaning) (are_fields_in_range fs) all).0
 range_at (f ∷ fs) (suc k) d all within = range_at fs k d (and_parts (shape_in_range f.meaning) (are_fields_in_range fs) all).1 (omega (arith, within))
-
-pub zeros_more : (fields : List (Defined Shape)) (k : ℕ) (d : Defined Shape) (numbers numbers' : List Dec) (n : Dec) → k < length fields → IsZeros (take k fields) numbers
-    → n.value ≡ pos 0 → form_of n ≡ form_in_shape (get_or fields k d).meaning → numbers' ≡ numbers ++ n ∷ [] → IsZeros (take (k + 1) fields) numbers'
-zeros_more fields k d numbers numbers' n within zeros value form is =
-    let field : Defined Shape = get_or fields k d in
-    let more : take (k + 1) fields ≡ take k fields ++ field ∷ [] = take_more fields k d within in
-    record {
-      forms =
-          ap (map form_of) is
-          ∙ (map-append form_of numbers (n ∷ [])
-          ∙ ((λ i. zeros.forms i ++ form i ∷ [])
-          ∙ (sym (map-append (λ (f : Defined Shape). form_in_shape f.meaning) (take k fields) (field ∷ [])) ∙ ap (map (λ (f : Defined Shape). form_in_shape f.meaning)) (sym more))));
-      values =
-          ap (map (λ (m : Dec). m.value)) is
-          ∙ (map-append (λ (m : Dec). m.value) numbers (n ∷ [])
-          ∙ ((λ i. zeros.values i ++ value i ∷ []) ∙ (sym (map-append no_number (take k fields) (field ∷ [])) ∙ ap (map no_number) (sym more))));
-    }
-
-pub zeros_all : (fields : List (Defined Shape)) (k : ℕ) (numbers : List Dec) → length fields ≤ k → IsZeros (take k fields) numbers → IsZeros fields numbers
-zeros_all fields k numbers past zeros =
-    let all : take k fields ≡ fields = take_all k fields past in
-    record { forms = zeros.forms ∙ ap (map (λ (f : Defined Shape). form_in_shape f.meaning)) all; values = zeros.values ∙ ap (map no_number) all }
-
-zero_in_all : (fields : List (Defined Shape)) (k : ℕ) → get_or (map no_number fields) k (pos 0) ≡ pos 0
-zero_in_all [] k = refl
-zero_in_all (f ∷ fs) zero = refl
-zero_in_all (f ∷ fs) (suc k) = zero_in_all fs k
-
-pub zero_at : (fields : List (Defined Shape)) (numbers : List Dec) (k : ℕ) → IsZeros fields numbers → number_at numbers k ≡ pos 0
-zero_at fields numbers k zeros = at_get numbers k ∙ (ap (λ (zs : List ℤ). get_or zs k (pos 0)) zeros.values ∙ zero_in_all fields k)
-
-pub zero_forms : (fields : List (Defined Shape)) (numbers : List Dec) → IsZeros fields numbers → map form_of numbers ≡ map form_in (map entry_of fields)
-zero_forms fields numbers zeros = zeros.forms ∙ sym (map-map form_in entry_of fields)
-
--- ---- blanks
-pub blank_lengths : (fields : List (Defined Shape)) → map (λ (text : List ℕ). length text) (blank_texts fields) ≡ map length_in (map entry_of fields)
-blank_lengths [] = refl
-blank_lengths (f ∷ fs) = λ i. one f.name f.meaning i ∷ blank_lengths fs i
-  where
-    one : (name : Name) (shape : Shape) → length (replicate (length_of shape) BLANK) ≡ length_in (name, shape)
-    one name (Alphanumeric size) = length-replicate size BLANK
-    one name (Numeric digits decimals) = refl
 
 -- ---- every field is in range
 pub fields_in_range : (p : Program) → are_fields_in_range p.fields.items ≡ true
@@ -176,30 +175,80 @@ pub year_at : (p : Program) → ReservedAt p 4 2 uyear
 unfolding named
 year_at p = reserved_at p 4 2 uyear refl refl
 
--- ---- a zero in the slot of a number
-pub number_range : (p : Program) (slot : ℕ) (field : Defined Shape) → is_number_field (Some (meaning_at (tables p) (FieldSlot slot))) ≡ true → field ≡ get_or p.fields.items slot field → shape_in_range field.meaning ≡ true
-number_range p slot field fits found = (field_at p slot field p.valid (field_number p slot fits).within found).fits
+-- ---- slots of names
+slot_most : (table : List (Name × Shape)) (name : Name) → slot_in table name ≤ length table
+slot_most table name =
+    let within : place table name ≤ length (keys_of table) = prefix_len-le-length _ (keys_of table) in
+    omega (arith, within, slot_is table name, length-map table (λ (e : Name × Shape). e.0))
 
-pub number_form : (p : Program) (slot : ℕ) (field : Defined Shape) (n : Dec) → is_number_field (Some (meaning_at (tables p) (FieldSlot slot))) ≡ true → field ≡ get_or p.fields.items slot field
-    → form_of n ≡ form_in_shape field.meaning
-    → form_of n ≡ (digits_of (source_named p) (name_of (tables p) (FieldSlot slot)), decimals_of (source_named p) (name_of (tables p) (FieldSlot slot)))
-number_form p slot field n fits found form =
-    let f : NumberField p slot = field_number p slot fits in
-    let g : FieldAt p slot field.name field.meaning = field_at p slot field p.valid f.within found in
-    let shape : Name × Shape = (f.name, Numeric f.digits f.decimals) in
-    let own : Name × Shape = (field.name, field.meaning) in
-    let same : own ≡ shape = some_same own shape (sym g.there ∙ f.field.there) in
-    let digits : digits_of (source_named p) (name_of (tables p) (FieldSlot slot)) ≡ f.digits = ap (digits_of (source_named p)) f.field.named ∙ digits_when (source_named p) f.name f.digits f.decimals f.field.shaped in
-    let decimals : decimals_of (source_named p) (name_of (tables p) (FieldSlot slot)) ≡ f.decimals =
-    ap (decimals_of (source_named p)) f.field.named ∙ decimals_when (source_named p) f.name f.digits f.decimals f.field.shaped in
-    form ∙ (ap form_in same ∙ (λ i. (sym digits i, sym decimals i)))
+-- one that isn't there has the slot behind the last
+missing : (table : List (Name × Shape)) (name : Name) → found_in table name ≡ None → slot_in table name ≡ length table
+missing table name none = elim (cases_lt (slot_in table name) (length table)) [
+  | inl below ↦
+      let some = slice_get-get_or table (slot_in table name) (name, Alphanumeric 0) below in
+      let nothing : slice_get table (slot_in table name) ≡ None = slot_entry table name ∙ ap (option_map (λ x. (name, x))) none in
+      absurd (true≢false (ap is_some (sym some ∙ nothing)))
+  | inr past ↦ omega (arith, past, slot_most table name)
+]
 
 -- ---- the whole
-pub zeros_sound : (p : Program) (s : Values) → IsZeros p.fields.items s.numbers.items → s.texts ≡ blank_texts p.fields.items → IsSound p s
-zeros_sound p s zeros texts = record {
-  numbers = zero_forms p.fields.items s.numbers.items zeros;
-  texts = ap (map (λ (text : List ℕ). length text)) texts ∙ blank_lengths p.fields.items;
-}
+-- the values before the date is put
+pub record AreFirst (p : Program) (switches : ℕ) (s : Values) (zeros : List ℤ) (of : List Form) : Type 0 where
+  pub zero : IsZeros p.fields.items zeros of
+  pub numbers : s.numbers.items ≡ zeros ++ map (λ (constant : Constant). constant.number) (constants p)
+  pub forms : map digits_and_decimals s.forms.items ≡ map digits_and_decimals of ++ map (λ (constant : Constant). (constant.digits, constant.decimals)) (constants p)
+  pub texts : texts_of s.texts ≡ blank_texts p.fields.items ++ map (λ (constant : Constant). constant.text) (constants p)
+  pub area : HasTexts p s.texts
+  pub on : (other : Indicator) → on_in s.indicators other ≡ on_at_first switches other
+  pub division : s.division ≡ None
+
+zero_forms : (p : Program) (s : Values) (switches : ℕ) (zeros : List ℤ) (of : List Form) → AreFirst p switches s zeros of
+    → map digits_and_decimals s.forms.items ≡ map form_in (tables p).fields ++ map (λ (constant : Constant). (constant.digits, constant.decimals)) (constants p)
+zero_forms p s switches zeros of first =
+    first.forms ∙ ap (λ xs. xs ++ map (λ (constant : Constant). (constant.digits, constant.decimals)) (constants p)) (first.zero.forms ∙ sym (map-map form_in entry_of p.fields.items))
+
+pub first_sound : (p : Program) (switches : ℕ) (s : Values) (zeros : List ℤ) (of : List Form) → AreFirst p switches s zeros of → IsSound p s
+first_sound p switches s zeros of first =
+    let cs : List Constant = constants p in
+    let values : Constant → ℤ = λ constant. constant.number in
+    let shapes : Constant → ℕ × ℕ = λ constant. (constant.digits, constant.decimals) in
+    let texts : Constant → List ℕ = λ constant. constant.text in
+    let forms = zero_forms p s switches zeros of first in
+    let fields : length (map form_in (tables p).fields) ≡ length p.fields.items = length-map (tables p).fields form_in ∙ length-map p.fields.items entry_of in
+    let count : length zeros ≡ length p.fields.items = ap length first.zero.numbers ∙ length-replicate (length p.fields.items) (pos 0) in
+    let all : s.numbers.items ≡ replicate (length p.fields.items) (pos 0) ++ map values cs = first.numbers ∙ ap (λ zs. zs ++ map values cs) first.zero.numbers in
+    let fitting : AllFit (replicate (length p.fields.items) (pos 0) ++ map values cs) (map form_in (tables p).fields ++ map shapes cs) =
+    both_fit (replicate (length p.fields.items) (pos 0)) (map values cs) (map form_in (tables p).fields) (map shapes cs) (length-replicate (length p.fields.items) (pos 0) ∙ sym fields)
+    (zeros_fit (length p.fields.items) (map form_in (tables p).fields)) (constants_fit p) in
+    record {
+      forms = forms;
+      texts = first.area;
+      count =
+          omega (
+            arith,
+            ap length first.numbers,
+            length-append zeros (map values cs),
+            count,
+            length-map cs values,
+            sym (length-map s.forms.items digits_and_decimals),
+            ap length forms,
+            length-append (map form_in (tables p).fields) (map shapes cs),
+            fields,
+            length-map cs shapes,
+          );
+      fit = fit_at s.numbers.items s.forms.items (carried (sym all) (sym forms) fitting);
+      numbers = ap (behind_fields p) first.numbers ∙ behind zeros (map values cs) (count ∙ sym (length-map p.fields.items entry_of));
+      literals = ap (behind_fields p) first.texts ∙ behind (blank_texts p.fields.items) (map texts cs) (length-map p.fields.items (λ (f : Defined Shape). replicate (length_of f.meaning) BLANK) ∙ sym (length-map p.fields.items entry_of));
+    }
+  where
+    carried : {ns ms : List ℤ} {fs gs : List (ℕ × ℕ)} → ns ≡ ms → fs ≡ gs → AllFit ns fs → AllFit ms gs
+    carried {ns} {ms} {fs} {gs} e f all =
+        let first : List ℤ → Type 0 = λ xs. AllFit xs fs in
+        let second : List (ℕ × ℕ) → Type 0 = λ xs. AllFit ms xs in
+        subst second f (subst first e all)
+
+    behind : {X : Type 0} (xs ys : List X) → length xs ≡ length (tables p).fields → behind_fields p (xs ++ ys) ≡ ys
+    behind xs ys same = ap (λ n. drop n (xs ++ ys)) (sym same) ∙ (drop-append-le (length xs) xs ys (omega arith) ∙ ap (λ zs. zs ++ ys) (drop_all (length xs) xs (omega arith)))
 
 pub dated : (date : List ℕ) (p : Program) (old year day month new : Values) (y d m u : ℤ) (ny nd nm nu : Name) → ny ≡ uyear → nd ≡ uday → nm ≡ umonth → nu ≡ udate
     → y ≡ pos (date_part date 4) → d ≡ pos (date_part date 2) → m ≡ pos (date_part date 0) → u ≡ pos (date_part date 0 * 10000 + date_part date 2 * 100 + date_part date 4)
@@ -230,33 +279,51 @@ length_by source name (Alphanumeric size) h = rw h refl
 length_by source name (Numeric digits decimals) h = rw h refl
 
 -- a name without a slot has no length
-blank_held : (p : Program) (name : Name) → text_at (blank_texts p.fields.items) (slot_in (tables p).fields name) ≡ replicate (length_in_source (source_named p) name) BLANK
-blank_held p name =
+blank_sizes : (p : Program) → length (blank_texts p.fields.items) ≡ length (tables p).fields
+blank_sizes p = length-map p.fields.items (λ (f : Defined Shape). replicate (length_of f.meaning) BLANK) ∙ sym (length-map p.fields.items entry_of)
+
+blank_found : (p : Program) (name : Name) (rest : List (List ℕ)) (o : Option Shape) → found_in (tables p).fields name ≡ o
+    → text_at (blank_texts p.fields.items ++ [] ∷ rest) (slot_in (tables p).fields name) ≡ replicate (length_in_source (source_named p) name) BLANK
+blank_found p name rest None found =
+    ap (λ (o : Option (List ℕ)). unwrap_or o []) (get_behind (blank_texts p.fields.items) rest [] (slot_in (tables p).fields name) (missing (tables p).fields name found ∙ sym (blank_sizes p)))
+    ∙ length_by (source_named p) name (Alphanumeric 0) (no_shape (parts_of p) name p.valid found)
+blank_found p name rest (Some shape) found =
     let table : List (Name × Shape) = (tables p).fields in
     let slot : ℕ = slot_in table name in
-    ap (λ (texts : List (List ℕ)). text_at texts slot) (blank_entries p.fields.items)
-    ∙ (ap (λ (o : Option (List ℕ)). unwrap_or o []) (slice_get-map blank_entry table slot ∙ ap (option_map blank_entry) (slot_entry table name))
-    ∙ step (found_in table name) refl)
-  where
-    step : (o : Option Shape) → found_in (tables p).fields name ≡ o → unwrap_or (option_map blank_entry (option_map (λ (x : Shape). (name, x)) o)) [] ≡ replicate (length_in_source (source_named p) name) BLANK
-    step None found = length_by (source_named p) name (Alphanumeric 0) (no_shape (parts_of p) name p.valid found)
-    step (Some shape) found =
-        length_by (source_named p) name shape (field_entry p (slot_in (tables p).fields name) name shape p.valid (slot_entry (tables p).fields name ∙ ap (option_map (λ (x : Shape). (name, x))) found)).shaped
+    let there : slice_get table slot ≡ Some (name, shape) = slot_entry table name ∙ ap (option_map (λ (x : Shape). (name, x))) found in
+    let within : slot < length (blank_texts p.fields.items) = omega (arith, slice_get_within table slot (name, shape) there, blank_sizes p) in
+    ap (λ (o : Option (List ℕ)). unwrap_or o [])
+    (get_left (blank_texts p.fields.items) ([] ∷ rest) slot within
+    ∙ (ap (λ (texts : List (List ℕ)). slice_get texts slot) (blank_entries p.fields.items) ∙ (slice_get-map blank_entry table slot ∙ ap (option_map blank_entry) there)))
+    ∙ length_by (source_named p) name shape (field_entry p slot name shape p.valid there).shaped
+
+blank_held : (p : Program) (name : Name) (rest : List (List ℕ)) → text_at (blank_texts p.fields.items ++ [] ∷ rest) (slot_in (tables p).fields name) ≡ replicate (length_in_source (source_named p) name) BLANK
+blank_held p name rest = blank_found p name rest (found_in (tables p).fields name) refl
 
 -- values of a job that has begun, by name
-pub begun : (p : Program) (switches : ℕ) (date : List ℕ) (s new : Values) → IsZeros p.fields.items s.numbers.items → s.texts ≡ blank_texts p.fields.items
-    → ((other : Indicator) → on_in s.indicators other ≡ on_at_first switches other) → s.division ≡ None → Changes p s new (λ source. with_date date) → Begins p switches date new
+pub begun : (p : Program) (switches : ℕ) (date : List ℕ) (s new : Values) (zeros : List ℤ) (of : List Form) → AreFirst p switches s zeros of → Changes p s new (λ source. with_date date) → Begins p switches date new
 unfolding held
-begun p switches date s new zeros texts on division change = record {
+begun p switches date s new zeros of first change = record {
   sound = change.sound;
   held = λ rest.
       change.held rest ∙ (λ i. with_date date (record rest {
-        numbers = fun_ext (λ (name : Name). zero_at p.fields.items s.numbers.items (slot_in (tables p).fields name) zeros) i;
-        texts = fun_ext (λ (name : Name). ap (λ (ts : List (List ℕ)). text_at ts (slot_in (tables p).fields name)) texts ∙ blank_held p name) i;
-        on = fun_ext on i;
-        remainder = remainder_in (division i);
+        numbers = fun_ext by_number i;
+        texts = fun_ext by_text i;
+        on = fun_ext first.on i;
+        remainder = remainder_in (first.division i);
       }));
 }
+  where
+    by_number : (name : Name) → number_at s.numbers.items (slot_in (tables p).fields name) ≡ pos 0
+    by_number name =
+        ap (λ (ns : List ℤ). number_at ns (slot_in (tables p).fields name)) (first.numbers ∙ ap (λ zs. zs ++ map (λ (constant : Constant). constant.number) (constants p)) first.zero.numbers)
+        ∙ zero_at (length p.fields.items) (slot_in (tables p).fields name) (map (λ (constant : Constant). constant.number) (factors_of p.calculations.items))
+        (omega (arith, slot_most (tables p).fields name, length-map p.fields.items entry_of))
+
+    by_text : (name : Name) → text_at (texts_of s.texts) (slot_in (tables p).fields name) ≡ replicate (length_in_source (source_named p) name) BLANK
+    by_text name =
+        ap (λ (ts : List (List ℕ)). text_at ts (slot_in (tables p).fields name)) first.texts
+        ∙ blank_held p name (map (λ (constant : Constant). constant.text) (factors_of p.calculations.items))
 
 -- ---- six digits are a date
 digit_at : (date : List ℕ) (k : ℕ) → are_digits date ≡ true → slice_index date k % 16 < 10

@@ -1,5 +1,5 @@
 -- Indicators that the cycle turns by itself.
-use Rattle.std.proofs.Common.{◌≡◌, ℕ, ◌+◌, List, [], ◌∷◌, Bool, true, false, not, ◌&&◌, ◌||◌, refl, ◌∙◌, ap, arith, length}
+use Rattle.std.proofs.Common.{◌≡◌, ℕ, ◌+◌, List, [], ◌∷◌, Bool, true, false, not, ◌&&◌, ◌||◌, refl, ◌∙◌, ap, arith}
 use Rattle.std.specs.Prelude.{map, if◌then◌else◌}
 use Rattle.std.specs.List.{list_all}
 use Rattle.std.proofs.Math.Path.{fun_ext}
@@ -24,19 +24,21 @@ use Rattle.s3_program.specs.Inner.Stands.{parts_of}
 use Rattle.s3_program.proofs.SlotLemmas.{kept}
 use Rattle.s3_operations.specs.declared.values.Values.{Values}
 use Rattle.s3_operations.specs.Inner.Fits.{tables}
-use Rattle.s3_operations.specs.Inner.Held.{held, number_at, text_at, remainder_in, IsSound, Changes, form_of}
+use Rattle.s3_operations.specs.Inner.Held.{held, number_at, remainder_in, IsSound, Changes}
+use Rattle.s3_operations.specs.Inner.Texts.{text_at, texts_of}
 use Rattle.s3_operations.specs.Inner.Indicators.{on_in, is_settable, is_settable_entry}
 use Rattle.s3_operations.specs.Inner.Indicating.{type_indicator}
+use Rattle.s3_operations.proofs.ValueLemmas.{sound_carried}
 
 -- indicators alone change
-pub turned_by : (f : (Indicator → Bool) → Indicator → Bool) (p : Program) (old new : Values) → IsSound p old → new.numbers.items ≡ old.numbers.items → new.texts ≡ old.texts → new.division ≡ old.division
+pub turned_by : (f : (Indicator → Bool) → Indicator → Bool) (p : Program) (old new : Values) → IsSound p old → new.numbers.items ≡ old.numbers.items → new.forms.items ≡ old.forms.items → new.texts ≡ old.texts → new.division ≡ old.division
     → ((other : Indicator) → on_in new.indicators other ≡ f (on_in old.indicators) other) → Changes p old new (λ source e. record e { on = f e.on })
 unfolding held
-turned_by f p old new sound numbers texts division turned = record {
-  sound = record { numbers = ap (map form_of) numbers ∙ sound.numbers; texts = ap (map (λ (text : List ℕ). length text)) texts ∙ sound.texts };
+turned_by f p old new sound numbers forms texts division turned = record {
+  sound = sound_carried p old new sound numbers forms texts;
   held = λ rest i. record rest {
     numbers = λ other. number_at (numbers i) (slot_in (tables p).fields other);
-    texts = λ other. text_at (texts i) (slot_in (tables p).fields other);
+    texts = λ other. text_at (texts_of (texts i)) (slot_in (tables p).fields other);
     on = fun_ext turned i;
     remainder = remainder_in (division i);
   };

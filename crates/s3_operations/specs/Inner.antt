@@ -6,6 +6,8 @@ pub mod Groups
 pub mod Held
 pub mod Indicating
 pub mod Indicators
+pub mod Mirrored
+pub mod Constants
 pub mod Moves
 pub mod Performing
 pub mod Texts

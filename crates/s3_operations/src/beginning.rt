@@ -1,19 +1,17 @@
 //! The values at the start of a job.
-ghost use Rattle.std.specs.Prelude.{◌≡◌, ◌+◌, ◌^◌, ◌<◌, ◌≤◌, true, pos, IfOk, Some};
+ghost use Rattle.std.specs.Prelude.{◌≡◌, ◌+◌, ◌^◌, ◌<◌, ◌≤◌, true, pos, IfOk};
 ghost use Rattle.s3_lines.specs.Ranges.{shape_in_range};
-ghost use Rattle.s3_meaning.specs.Environment.{date_part as date_part_spec, put_number};
-ghost use Rattle.s3_program.specs.Inner.Tables.{meaning_at, name_of};
-ghost use Rattle.s3_operations.specs.Inner.Fits.{tables, is_number_field};
-ghost use Rattle.s3_operations.specs.Inner.Held.{IsSound, Changes, form_of, form_in_shape};
+ghost use Rattle.s3_meaning.specs.Environment.{date_part as date_part_spec};
+ghost use Rattle.s3_operations.specs.Inner.Held.{IsSound, Changes, digits_and_decimals, form_in_shape};
 ghost use Rattle.s3_operations.specs.Inner.Beginning.{Begins, IsDate, IsZeros, are_fields_in_range, with_date};
 
+use crate::constants::add_constants;
 use crate::indicators::Indicators;
-use crate::numbers::ZERO;
 use crate::texts::Texts;
 use crate::values::Values;
-use s3_decimal::Dec;
+use s3_decimal::{Dec, Form};
 use s3_lines::sheet::Shape;
-use s3_program::program::{Defined, Program, Reference};
+use s3_program::program::{Defined, Program};
 use std::alloc::{AllocError, Global};
 
 /// The slots of UDATE, UMONTH, UDAY and UYEAR; every program has PAGE first and then these.
@@ -25,41 +23,32 @@ const DAY: usize = 3;
 
 const YEAR: usize = 4;
 
-/// Zero of so many digits.
-fn zero(digits: u8, decimals: u8) -> Dec
-    requires { shape_in_range (Shape.Numeric digits decimals) ≡ true }
-    ensures value { result.value ≡ pos 0 }
-    ensures form { form_of result ≡ (digits, decimals) }
-{
-    Dec {
-        value: 0,
-        digits,
-        decimals,
-    }
-}
-
-/// Zero, in the form of a field.
-fn zero_in(shape: Shape) -> Dec
+/// The form of a field; one of characters has that of a digit.
+fn form_of(shape: Shape) -> Form
     requires { shape_in_range shape ≡ true }
-    ensures value { result.value ≡ pos 0 }
-    ensures form { form_of result ≡ form_in_shape shape }
+    ensures { digits_and_decimals result ≡ form_in_shape shape }
 {
     match shape {
-        Shape::Numeric(digits, decimals) => zero(digits, decimals),
-        Shape::Alphanumeric(_) => ZERO,
+        Shape::Numeric(digits, decimals) => Form { digits, decimals },
+        Shape::Alphanumeric(_) => Form {
+            digits: 1,
+            decimals: 0,
+        },
     }
 }
 
-/// A zero for each field.
-fn zeros(alloc: Global, fields: &[Defined<Shape>]) -> Result<Vec<Dec>, AllocError>
+/// A zero for each field, and its form.
+fn zeros(alloc: Global, fields: &[Defined<Shape>]) -> Result<(Vec<i64>, Vec<Form>), AllocError>
     requires { are_fields_in_range fields.now ≡ true }
-    ensures { IfOk result (λ numbers. IsZeros fields.now numbers.items) }
+    ensures { IfOk result (λ zeros. IsZeros fields.now zeros.0.items zeros.1.items) }
 {
     let mut numbers = Vec::with_capacity(alloc, fields.len())?;
+    let mut forms = Vec::with_capacity(alloc, fields.len())?;
     for field in fields {
-        numbers.push(zero_in(field.meaning))?;
+        numbers.push(0)?;
+        forms.push(form_of(field.meaning))?;
     }
-    Ok(numbers)
+    Ok((numbers, forms))
 }
 
 /// The number that two bytes of a date write.
@@ -102,16 +91,6 @@ impl Values {
         self.put_number(program, DATE, whole(month * 10000 + day * 100 + year, 6));
     }
 
-    /// Blank after, of a number.
-    pub fn clear_number(&mut self, program: &Program, slot: usize)
-        requires sound { IsSound program.now self.old }
-        requires fits { is_number_field (Some (meaning_at (tables program.now) (Reference.Field slot))) ≡ true }
-        ensures { Changes program.now self.old self.new (λ source. put_number (name_of (tables program.now) (Reference.Field slot)) (pos 0)) }
-    {
-        let number = zero_in(program.fields[slot].meaning);
-        self.put_number(program, slot, number);
-    }
-
     /// The values at the start of a job, with its switches, U1 the highest bit, and its date, mmddyy in EBCDIC. All memory of
     /// a run is taken here.
     pub fn new(
@@ -123,9 +102,13 @@ impl Values {
         requires { IsDate date }
         ensures { IfOk result (Begins program.now switches date) }
     {
+        let (mut numbers, mut forms) = zeros(alloc, program.fields.as_slice())?;
+        add_constants(&mut numbers, &mut forms, program)?;
+        let texts = Texts::of(alloc, program)?;
         let mut values = Values {
-            numbers: zeros(alloc, program.fields.as_slice())?,
-            texts: Texts::blank(alloc, program.fields.as_slice())?,
+            numbers,
+            forms,
+            texts,
             indicators: Indicators::at_first(switches),
             division: None,
         };

@@ -1,9 +1,8 @@
 //! Indicators that the cycle turns by itself, and those that it asks for.
-ghost use Rattle.std.specs.Prelude.{◌≡◌, ◌||◌, true, if◌then◌else◌};
+ghost use Rattle.std.specs.Prelude.{◌≡◌, true, if◌then◌else◌};
 ghost use Rattle.s3_lines.specs.declared.indicator.Indicator.{Indicator};
 ghost use Rattle.s3_meaning.specs.Environment.{Environment, turn, turn_levels, with_last_record};
 ghost use Rattle.s3_meaning.specs.Selection.{is_level_to};
-ghost use Rattle.s3_meaning.specs.Output.{is_served};
 ghost use Rattle.s3_operations.specs.Inner.Held.{IsSound, Changes, held};
 ghost use Rattle.s3_operations.specs.Inner.Indicators.{on_in, is_settable};
 ghost use Rattle.s3_operations.specs.Inner.Indicating.{with_levels_to};
@@ -11,7 +10,6 @@ ghost use Rattle.s3_operations.specs.Inner.Indicating.{with_levels_to};
 use crate::indicators::Indicators;
 use crate::values::Values;
 use s3_lines::indicator::Indicator;
-use s3_lines::sheet::FileLine;
 use s3_program::program::Program;
 
 /// The highest control level.
@@ -34,16 +32,6 @@ impl Values {
         ensures { (rest : Environment) → result ≡ (held program.now self.now rest).on indicator }
     {
         self.indicators.is_on(indicator)
-    }
-
-    /// Whether a file is served: its condition in 71-72 is blank or on.
-    pub fn is_served(&self, program: &Program, file: &FileLine) -> bool
-        ensures { (rest : Environment) → result ≡ is_served (held program.now self.now rest) file.now }
-    {
-        match file.condition {
-            Some(indicator) => self.indicators.is_on(indicator),
-            None => true,
-        }
     }
 
     /// An indicator that is no switch goes on or off.

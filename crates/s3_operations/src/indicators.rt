@@ -1,32 +1,66 @@
 //! The indicators of a run.
+ghost use Rattle.s3_operations.specs.Inner.Mirrored.{IsMirrored, ShowsSwitches, StaysOff};
 
-use s3_lines::indicator::{Condition, Indicator};
+use s3_lines::indicator::Indicator;
 
-/// The indicators of a run: those that change, each at its number, and the switches.
+/// The indicators of a run, each at its number. Those that change stand beside the switches, which don't.
 #[derive(Clone, Copy)]
 pub struct Indicators {
-    /// By number.
-    pub on: [bool; 2048],
+    /// At twice the number of an indicator whether it is on, and behind that whether it is off.
+    pub on: [bool; 4096],
     /// U1 to U8, U1 the highest bit.
     pub switches: u8,
+    pub ghost mirrored: { IsMirrored on },
+    pub ghost shown: { ShowsSwitches switches on },
+    pub ghost unused: { StaysOff on },
 }
 
 impl Indicators {
-    ghost use Rattle.std.specs.Prelude.{◌≡◌, ◌<◌, ◌&&◌, false, true, if◌then◌else◌};
-    ghost use Rattle.std.specs.List.{list_all};
-    ghost use Rattle.s3_meaning.specs.Names.{same_indicator, is_indicator};
+    ghost use Rattle.std.specs.Prelude.{◌≡◌, ℕ, ◌+◌, ◌*◌, ◌==◌, ◌<◌, slice_set, true, not, length, if◌then◌else◌};
     ghost use Rattle.s3_lines.specs.declared.indicator.Indicator.{Indicator};
-    ghost use Rattle.s3_operations.specs.Inner.Indicators.{on_in, entry_holds, is_settable, is_settable_entry, are_settable, turned_all, shown_on, lowered, raised};
-    ghost use Rattle.s3_meaning.specs.Environment.{on_at_first};
+    ghost use Rattle.s3_lines.specs.Indicators.{indicator_number};
+    ghost use Rattle.s3_meaning.specs.Names.{same_indicator};
+    ghost use Rattle.s3_meaning.specs.Environment.{on_at_first, switch_on};
+    ghost use Rattle.s3_operations.specs.Inner.Indicators.{on_in, is_settable};
+    ghost use Rattle.s3_operations.specs.Inner.Mirrored.{is_first_on, is_turned, off_at, on_at};
+
+    /// Whether a switch is set.
+    fn is_set(switches: u8, number: u8) -> bool
+        ensures { result ≡ switch_on switches number }
+    {
+        (u16::from(switches) >> 8_u8.saturating_sub(number)) % 2 == 1
+    }
+
+    /// Whether the indicator of a number is on before 1P and L0 go on.
+    fn is_on_first(switches: u8, number: u16) -> bool
+        requires { number < 2048 }
+        ensures { result ≡ is_first_on switches number }
+    {
+        number % 8 == 7 && Indicators::is_set(switches, (number / 8) as u8)
+    }
+
+    /// The table before 1P and L0 go on.
+    fn first_table(switches: u8) -> [bool; 4096]
+        ensures size { length result ≡ 4096 }
+        ensures on { (number : ℕ) → number < 2048 → on_at result number ≡ is_first_on switches number }
+        ensures off { (number : ℕ) → number < 2048 → off_at result number ≡ not (is_first_on switches number) }
+    {
+        let mut on = [false; 4096];
+        for number in 0..2048_u16 {
+            let is_on = Indicators::is_on_first(switches, number);
+            let place = 2 * usize::from(number);
+            on[place] = is_on;
+            on[place + 1] = !is_on;
+        }
+        on
+    }
 
     /// 1P and L0 are on, and the switches as they are set.
     pub fn at_first(switches: u8) -> Indicators
         ensures { (other : Indicator) → on_in result other ≡ on_at_first switches other }
     {
-        let mut indicators = Indicators {
-            on: [false; 2048],
-            switches,
-        };
+        let on = Indicators::first_table(switches);
+        let mut indicators = Indicators { on, switches };
         indicators.turn(Indicator::Level(0), true);
         indicators.turn(Indicator::FirstPage, true);
         indicators
@@ -36,35 +70,18 @@ impl Indicators {
     pub fn is_on(&self, indicator: Indicator) -> bool
         ensures { result ≡ on_in self.now indicator }
     {
-        match indicator {
-            Indicator::Switch(number) => (u16::from(self.switches) >> 8u8.saturating_sub(number))
-                % 2
-                == 1,
-            _ => self.on[indicator.number()],
-        }
+        self.on[2 * indicator.number()]
     }
 
-    /// Whether a condition holds; a blank one does.
-    fn holds(&self, entry: Option<Condition>) -> bool
-        ensures { result ≡ entry_holds self.now entry }
-    {
-        match entry {
-            None => true,
-            Some(condition) => self.is_on(condition.indicator) != condition.negated,
-        }
-    }
-
-    /// Whether all conditions of a card hold.
+    /// The indicator of a number goes on or off. The number is no switch's, nor the one that no indicator has and that stays off.
     #[inline(always)]
-    pub fn all_hold(&self, conditions: &[Option<Condition>; 3]) -> bool
-        ensures { result ≡ list_all (entry_holds self.now) conditions.now }
+    pub fn set(&mut self, number: usize, to: bool)
+        requires { is_turned number ≡ true }
+        ensures on { (other : Indicator) → on_in self.new other ≡ (if indicator_number other == number then to else on_in self.old other) }
+        ensures table { self.new.on ≡ slice_set (slice_set self.old.on (2 * number) to) (2 * number + 1) (not to) }
     {
-        for entry in conditions {
-            if !self.holds(*entry) {
-                return false;
-            }
-        }
-        true
+        self.on[2 * number] = to;
+        self.on[2 * number + 1] = !to;
     }
 
     /// An indicator that is no switch goes on or off.
@@ -72,63 +89,6 @@ impl Indicators {
         requires { is_settable indicator ≡ true }
         ensures { (other : Indicator) → on_in self.new other ≡ (if same_indicator other indicator then to else on_in self.old other) }
     {
-        self.on[indicator.number()] = to;
-    }
-
-    /// An entry goes on or off, if it isn't blank.
-    pub fn turn_entry(&mut self, entry: Option<Indicator>, to: bool)
-        requires { is_settable_entry entry ≡ true }
-        ensures { (other : Indicator) → on_in self.new other ≡ (if is_indicator other entry then to else on_in self.old other) }
-    {
-        match entry {
-            None => {}
-            Some(indicator) => self.turn(indicator, to),
-        }
-    }
-
-    /// Entries that aren't blank go on or off.
-    pub fn turn_all(&mut self, entries: &[Option<Indicator>], to: bool)
-        requires { list_all is_settable_entry entries.now ≡ true }
-        ensures { (other : Indicator) → on_in self.new other ≡ turned_all to entries.now other (on_in self.old other) }
-    {
-        for entry in entries {
-            self.turn_entry(*entry, to);
-        }
-    }
-
-    fn lower(&mut self, marks: &[(Option<Indicator>, bool)])
-        requires { are_settable marks.now ≡ true }
-        ensures { (other : Indicator) → on_in self.new other ≡ lowered marks.now other (on_in self.old other) }
-    {
-        for mark in marks {
-            self.turn_entry(mark.0, false);
-        }
-    }
-
-    fn raise(&mut self, marks: &[(Option<Indicator>, bool)])
-        requires { are_settable marks.now ≡ true }
-        ensures { (other : Indicator) → on_in self.new other ≡ raised marks.now other (on_in self.old other) }
-    {
-        for mark in marks {
-            self.raise_one(*mark);
-        }
-    }
-
-    fn raise_one(&mut self, mark: (Option<Indicator>, bool))
-        requires { is_settable_entry mark.0 ≡ true }
-        ensures { (other : Indicator) → on_in self.new other ≡ (if is_indicator other mark.0 && mark.1 then true else on_in self.old other) }
-    {
-        if mark.1 {
-            self.turn_entry(mark.0, true);
-        }
-    }
-
-    /// Indicators with what each is to show; one that is named twice is on where one of its causes holds.
-    pub fn show(&mut self, marks: &[(Option<Indicator>, bool)])
-        requires { are_settable marks.now ≡ true }
-        ensures { (other : Indicator) → on_in self.new other ≡ shown_on marks.now (on_in self.old) other }
-    {
-        self.lower(marks);
-        self.raise(marks);
+        self.set(indicator.number(), to);
     }
 }

@@ -3,7 +3,6 @@ ghost use Rattle.std.specs.Prelude.{◌≡◌, ◌≤◌, ◌+◌, ◌-◌, ◌*
 ghost use Rattle.std.specs.List.{copy_within};
 
 /// So many characters of a text, from a place on.
-#[inline(always)]
 fn part<const N: usize>(text: &[u8], at: usize) -> [u8; N]
     requires { at + N ≤ length text.now }
     ensures { result ≡ take N (drop at text.now) }
@@ -79,7 +78,6 @@ fn lay_within_by_ends<const N: usize>(bytes: &mut [u8], from: usize, end: usize,
 }
 
 /// Lays bytes over others of the same text, which may have some of theirs.
-#[inline(always)]
 pub fn lay_within(bytes: &mut [u8], from: usize, end: usize, to: usize)
     requires source { from ≤ end }
     requires source_within { end ≤ length bytes.old }

@@ -1,23 +1,15 @@
-//! Calculation lines of a program, performed on the values of its fields and on its indicators, and what a CHAIN seeks by them.
+//! The values of a run: numbers and texts by slot, of fields and of literals, the indicators, and what the last division leaves.
 #![tactic(auto)]
 
-pub mod arithmetic;
 pub mod beginning;
 pub mod chaining;
 pub mod comparing;
-pub mod dividing;
+pub mod constants;
 pub mod division;
-pub mod fields;
-pub mod groups;
 pub mod indicating;
 pub mod indicators;
 pub mod laying;
-pub mod moves;
-pub mod moving;
 pub mod numbers;
-pub mod operand;
-pub mod performing;
 pub mod texts;
-pub mod turning;
 pub mod values;
 pub mod zoned;

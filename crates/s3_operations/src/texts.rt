@@ -1,14 +1,15 @@
 //! The texts of fields, by slot.
-ghost use Rattle.std.specs.Prelude.{◌≡◌, ◌≤◌, ◌+◌, ◌-◌, ◌++◌, List, ℕ, min, take, drop, IfOk, OnOk, length, replicate};
-ghost use Rattle.s3_meaning.specs.Calculating.{moved_right, moved_left, zoned};
-ghost use Rattle.s3_operations.specs.Inner.Texts.{IsCut, texts_on, blank_texts, length_of as length_of_spec};
+ghost use Rattle.std.specs.Prelude.{◌≡◌, ◌≤◌, ◌+◌, ◌-◌, ◌++◌, IfOk, OnOk, length, replicate};
+ghost use Rattle.s3_meaning.specs.Calculating.{moved_right, zoned};
+ghost use Rattle.s3_operations.specs.Inner.Texts.{Area, IsAdded, IsCut, length_of as length_of_spec};
 
+use crate::constants::text_of;
 use crate::laying::{lay, lay_within};
 use crate::zoned::write_zoned;
 use s3_cards::ebcdic::BLANK;
 use s3_decimal::Dec;
 use s3_lines::sheet::Shape;
-use s3_program::program::Defined;
+use s3_program::program::Program;
 use std::alloc::{AllocError, Global};
 use std::marker::Model;
 
@@ -24,6 +25,16 @@ pub struct Span {
     pub to: usize,
 }
 
+impl Span {
+    /// How many bytes it has.
+    pub fn len(self) -> usize
+        requires { self.from ≤ self.to }
+        ensures { result ≡ self.to - self.from }
+    {
+        self.to - self.from
+    }
+}
+
 /// The texts of fields, by slot, one behind the other; each keeps its length. A number has an empty text.
 #[derive(Drop)]
 pub struct Texts {
@@ -32,9 +43,9 @@ pub struct Texts {
 }
 
 impl Model for Texts {
-    ghost Value = { List (List ℕ) };
+    ghost Value = { Area };
 
-    ghost view = { λ t. texts_on t.spans.items t.bytes.items };
+    ghost view = { λ t. record { spans = t.spans.items; bytes = t.bytes.items } };
 
     ghost invariant = { λ t. IsCut t.spans.items t.bytes.items };
 }
@@ -58,6 +69,28 @@ fn add_blanks(bytes: &mut Vec<u8>, count: usize) -> Result<(), AllocError>
     Ok(())
 }
 
+/// Adds a blank text of so many characters behind the others.
+fn add_blank(bytes: &mut Vec<u8>, spans: &mut Vec<Span>, count: usize) -> Result<(), AllocError>
+    ensures { OnOk result (IsAdded spans.old.items bytes.old.items spans.new.items bytes.new.items (replicate count BLANK)) }
+{
+    let from = bytes.len();
+    add_blanks(bytes, count)?;
+    let to = bytes.len();
+    spans.push(Span { from, to })?;
+    Ok(())
+}
+
+/// Adds a text behind the others.
+fn add_text(bytes: &mut Vec<u8>, spans: &mut Vec<Span>, text: &[u8]) -> Result<(), AllocError>
+    ensures { OnOk result (IsAdded spans.old.items bytes.old.items spans.new.items bytes.new.items text.now) }
+{
+    let from = bytes.len();
+    bytes.extend_from_slice(text)?;
+    let to = bytes.len();
+    spans.push(Span { from, to })?;
+    Ok(())
+}
+
 /// Lays a text over another one of a fixed length, right to right.
 fn overlay_right(target: &mut [u8], text: &[u8])
     ensures { target.new ≡ moved_right text.now target.old }
@@ -65,14 +98,6 @@ fn overlay_right(target: &mut [u8], text: &[u8])
     let count = target.len().min(text.len());
     let kept = target.len() - count;
     lay(&mut target[kept..], &text[text.len() - count..]);
-}
-
-/// Lays a text over another one of a fixed length, left to left.
-fn overlay_left(target: &mut [u8], text: &[u8])
-    ensures { target.new ≡ moved_left text.now target.old }
-{
-    let count = target.len().min(text.len());
-    lay(&mut target[..count], &text[..count]);
 }
 
 /// Lays the zoned bytes of a number over a text that is shorter, right to right.
@@ -87,7 +112,6 @@ fn overlay_long_number(target: &mut [u8], number: Dec)
 }
 
 /// Lays the zoned bytes of a number over a text, right to right: where they fit, they are written into it.
-#[inline(always)]
 fn overlay_number(target: &mut [u8], number: Dec)
     ensures { target.new ≡ moved_right (zoned number.digits number.value) target.old }
 {
@@ -100,16 +124,6 @@ fn overlay_number(target: &mut [u8], number: Dec)
     }
 }
 
-/// How many characters of one text lie over another one.
-#[inline(always)]
-fn overlap(source: Span, target: Span) -> usize
-    requires source { source.from ≤ source.to }
-    requires target { target.from ≤ target.to }
-    ensures { result ≡ min (source.to - source.from) (target.to - target.from) }
-{
-    (source.to - source.from).min(target.to - target.from)
-}
-
 /// Makes a text blank.
 fn overlay_blanks(target: &mut [u8])
     ensures { target.new ≡ replicate (length target.old) BLANK }
@@ -118,105 +132,89 @@ fn overlay_blanks(target: &mut [u8])
 }
 
 impl Texts {
-    ghost use Rattle.std.specs.Prelude.{◌≡◌, ◌<◌, Some, length, replicate, slice_get, slice_set};
-    ghost use Rattle.s3_operations.specs.Inner.Texts.{text_at};
+    ghost use Rattle.std.specs.Prelude.{◌≡◌, ◌<◌, ◌++◌, Some, length, map, replicate, slice_get};
+    ghost use Rattle.std.specs.List.{copy_within};
+    ghost use Rattle.s3_operations.specs.Inner.Constants.{constants};
+    ghost use Rattle.s3_operations.specs.Inner.Held.{HasTexts};
+    ghost use Rattle.s3_operations.specs.Inner.Texts.{LiesIn, blank_texts, text_on, texts_of, with_part};
 
-    /// A blank text for each field.
-    pub fn blank(alloc: Global, fields: &[Defined<Shape>]) -> Result<Texts, AllocError>
-        ensures { IfOk result (λ texts. texts ≡ blank_texts fields.now) }
+    /// A blank text for each field of a program, and behind these the texts of its constants; refused only where memory runs out.
+    pub fn of(alloc: Global, program: &Program) -> Result<Texts, AllocError>
+        ensures texts { IfOk result (λ texts. texts_of texts ≡ blank_texts program.now.fields.items ++ map (λ constant. constant.text) (constants program.now)) }
+        ensures area { IfOk result (HasTexts program.now) }
     {
         let mut bytes = Vec::new(alloc);
-        let mut spans = Vec::with_capacity(alloc, fields.len())?;
-        for field in fields {
-            let from = bytes.len();
-            add_blanks(&mut bytes, length_of(field.meaning))?;
-            spans.push(Span {
-                from,
-                to: bytes.len(),
-            })?;
+        let mut spans = Vec::with_capacity(alloc, program.fields.len())?;
+        for field in &program.fields {
+            add_blank(&mut bytes, &mut spans, length_of(field.meaning))?;
+        }
+        add_text(&mut bytes, &mut spans, &[])?;
+        for card in &program.calculations {
+            add_text(&mut bytes, &mut spans, text_of(&card.factor1))?;
+            add_text(&mut bytes, &mut spans, text_of(&card.factor2))?;
         }
         Ok(Texts { bytes, spans })
     }
 
     /// The text of a slot.
     pub fn text(&self, slot: usize) -> &[u8]
-        requires { slot < length self.now }
-        ensures { slice_get self.now slot ≡ Some result.now }
+        requires { slot < length self.now.spans }
+        ensures { slice_get (texts_of self.now) slot ≡ Some result.now }
     {
         let span = self.spans[slot];
         &self.bytes[span.from..span.to]
     }
 
-    /// Moves a text into that of a slot, right to right.
-    pub fn move_right(&mut self, slot: usize, text: &[u8])
-        requires { slot < length self.old }
-        ensures { self.new ≡ slice_set self.old slot (moved_right text.now (text_at self.old slot)) }
+    /// Where the text of a slot lies.
+    pub fn span(&self, slot: usize) -> Span
+        requires { slot < length self.now.spans }
+        ensures there { slice_get self.now.spans slot ≡ Some result }
+        ensures lies { LiesIn self.now result }
     {
-        let span = self.spans[slot];
-        overlay_right(&mut self.bytes[span.from..span.to], text);
+        self.spans[slot]
     }
 
-    /// Moves the zoned bytes of a number into the text of a slot, right to right.
-    #[inline(never)]
-    pub fn move_number(&mut self, slot: usize, number: Dec)
-        requires { slot < length self.old }
-        ensures { self.new ≡ slice_set self.old slot (moved_right (zoned number.digits number.value) (text_at self.old slot)) }
+    /// The text that lies there.
+    pub fn part(&self, span: Span) -> &[u8]
+        requires { LiesIn self.now span }
+        ensures { result.now ≡ text_on self.now.bytes span }
     {
-        let span = self.spans[slot];
+        &self.bytes[span.from..span.to]
+    }
+
+    /// Lays a text over the one that lies there, which is as long.
+    #[inline(always)]
+    pub fn put(&mut self, span: Span, text: &[u8])
+        requires lies { LiesIn self.old span }
+        requires same { length text.now ≡ span.to - span.from }
+        ensures { self.new ≡ with_part self.old span text.now }
+    {
+        lay(&mut self.bytes[span.from..span.to], text);
+    }
+
+    /// Lays what lies there over what lies from a byte on, which is as long; it may be some of the same.
+    pub fn copy(&mut self, from: Span, to: usize)
+        requires lies { LiesIn self.old from }
+        requires room { to + (from.to - from.from) ≤ length self.old.bytes }
+        ensures { self.new ≡ record self.old { bytes = copy_within self.old.bytes from.from from.to to } }
+    {
+        lay_within(&mut self.bytes, from.from, from.to, to);
+    }
+
+    /// Moves the zoned bytes of a number into the text that lies there, right to right.
+    #[inline(never)]
+    pub fn put_number(&mut self, span: Span, number: Dec)
+        requires { LiesIn self.old span }
+        ensures { self.new ≡ with_part self.old span (moved_right (zoned number.digits number.value) (text_on self.old.bytes span)) }
+    {
         overlay_number(&mut self.bytes[span.from..span.to], number);
     }
 
-    /// Moves a text into that of a slot, left to left.
-    pub fn move_left(&mut self, slot: usize, text: &[u8])
-        requires { slot < length self.old }
-        ensures { self.new ≡ slice_set self.old slot (moved_left text.now (text_at self.old slot)) }
+    /// Makes the text that lies there blank.
+    pub fn clear(&mut self, span: Span)
+        requires { LiesIn self.old span }
+        ensures { self.new ≡ with_part self.old span (replicate (span.to - span.from) BLANK) }
     {
-        let span = self.spans[slot];
-        overlay_left(&mut self.bytes[span.from..span.to], text);
-    }
-
-    /// Moves the text of a slot into that of another one, or of the same, right to right.
-    #[inline(always)]
-    pub fn copy_right(&mut self, from: usize, to: usize)
-        requires from { from < length self.old }
-        requires to { to < length self.old }
-        ensures { self.new ≡ slice_set self.old to (moved_right (text_at self.old from) (text_at self.old to)) }
-    {
-        let source = self.spans[from];
-        let target = self.spans[to];
-        let count = overlap(source, target);
-        lay_within(
-            &mut self.bytes,
-            source.to - count,
-            source.to,
-            target.to - count,
-        );
-    }
-
-    /// Moves the text of a slot into that of another one, or of the same, left to left.
-    #[inline(always)]
-    pub fn copy_left(&mut self, from: usize, to: usize)
-        requires from { from < length self.old }
-        requires to { to < length self.old }
-        ensures { self.new ≡ slice_set self.old to (moved_left (text_at self.old from) (text_at self.old to)) }
-    {
-        let source = self.spans[from];
-        let target = self.spans[to];
-        let count = overlap(source, target);
-        lay_within(
-            &mut self.bytes,
-            source.from,
-            source.from + count,
-            target.from,
-        );
-    }
-
-    /// Makes the text of a slot blank.
-    pub fn clear(&mut self, slot: usize)
-        requires { slot < length self.old }
-        ensures { self.new ≡ slice_set self.old slot (replicate (length (text_at self.old slot)) BLANK) }
-    {
-        let span = self.spans[slot];
         overlay_blanks(&mut self.bytes[span.from..span.to]);
     }
 }

@@ -24,7 +24,6 @@ static PAIRS: [u8; 200] = [
 ];
 
 /// The digits of a number below 100.
-#[inline(always)]
 pub fn pair_of(number: u32) -> [u8; 2]
     requires { number < 100 }
     ensures tens { slice_index result 0 ≡ 0xf0 + number / 10 }
@@ -35,7 +34,6 @@ pub fn pair_of(number: u32) -> [u8; 2]
 }
 
 /// The last digit of a number, with its sign.
-#[inline(always)]
 fn signed_digit(number: Dec) -> u8
     ensures { result ≡ zoned_byte (is_negative number.value) 0 (unsigned_abs number.value) }
 {
@@ -44,7 +42,6 @@ fn signed_digit(number: Dec) -> u8
 }
 
 /// Writes two digits before those that are written, which are so many.
-#[inline(always)]
 fn write_pair(bytes: &mut [u8], place: usize, digits: [u8; 2])
     requires { place + 2 ≤ length bytes.old }
     ensures { (written : List ℕ) → drop (length bytes.old - place) bytes.old ≡ written → drop (length bytes.old - (place + 2)) bytes.new ≡ slice_index digits 0 ∷ slice_index digits 1 ∷ written }

@@ -29,7 +29,7 @@ use Rattle.s3_program.specs.Inner.Valid.{named, named_output}
 use Rattle.s3_program.proofs.SlotLemmas.{Kept, kept}
 use Rattle.s3_operations.specs.Inner.Fits.{tables}
 use Rattle.s3_output.specs.Inner.Lines.{IsLineAt, IsStart, file_of}
-use Rattle.s3_output.proofs.ComposeLemmas.{StartsAt, starts_at}
+use Rattle.s3_output.proofs.StartLemmas.{StartsAt, starts_at}
 
 pub line_starts : (p : Program) (start : OutputStart) → IsStart p start → is_some (output_at (tables p) p.outputs.items start) ≡ true
 line_starts p start is = ap (λ cards. is_some (output_on (tables p) start cards)) (starts_at p start is).there

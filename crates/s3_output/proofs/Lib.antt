@@ -1,11 +1,7 @@
 pub mod CompositionLemmas
 pub mod FilledLemmas
-pub mod GroupLemmas
 pub mod FitLemmas
-pub mod FieldLemmas
-pub mod ComposeLemmas
 pub mod LawLemmas
-pub mod GuardLemmas
-pub mod PreparedLemmas
+pub mod NumberLemmas
 pub mod AmountLemmas
-pub mod CardLemmas
+pub mod StartLemmas

@@ -7,8 +7,8 @@ ghost use Rattle.s3_edit.specs.declared.code.EditCode.TheVariants.{Edited};
 ghost use Rattle.s3_edit.specs.Inner.Passes.{whole_at};
 ghost use Rattle.s3_edit.specs.Picture.{amount_at, character_of, digit_character, digits_right, is_shown, place_kind, point_width, sign_at, sign_width as sign_width_of, suppressed_at, whole_digits, width_of};
 
+use crate::numbers::NumberForm;
 use s3_cards::ebcdic::{BLANK, COMMA, DIGIT_0, LETTER_C, LETTER_R, MINUS, PERIOD};
-use s3_decimal::Dec;
 use s3_edit::{Amount, Sign};
 use s3_operations::zoned::pair_of;
 
@@ -26,7 +26,6 @@ fn blank_ends(blanks: &[u8], text: &mut [u8])
 }
 
 /// Makes a text blank that has fewer than eight positions.
-#[inline(always)]
 fn blank_short(text: &mut [u8])
     requires some { 1 ≤ length text.old }
     requires few { length text.old < 8 }
@@ -60,7 +59,6 @@ fn blank(text: &mut [u8])
 }
 
 /// Writes the last digit of a number in front of `end`, and gives what is left of the number.
-#[inline(always)]
 fn put_digit(number: u32, end: usize, text: &mut [u8]) -> u32
     requires begins { 1 ≤ end }
     requires ends { end ≤ length text.old }
@@ -92,7 +90,6 @@ fn put_pair(number: u32, end: usize, text: &mut [u8]) -> u32
 }
 
 /// The hundreds of a number below 1,000, for which 41 of 4,096 are near enough to a hundredth.
-#[inline(always)]
 fn hundreds_of(number: u32) -> u32
     requires { number < 1000 }
     ensures { result ≡ number / 100 }
@@ -142,7 +139,6 @@ fn put_few_decimals(number: u32, count: usize, end: usize, text: &mut [u8]) -> u
 }
 
 /// Writes more than three decimals up to `end`, and gives the whole part.
-#[inline(always)]
 fn put_more_decimals(number: u32, count: usize, end: usize, text: &mut [u8]) -> u32
     requires more { 3 < count }
     requires few { count ≤ 6 }
@@ -159,7 +155,6 @@ fn put_more_decimals(number: u32, count: usize, end: usize, text: &mut [u8]) -> 
 }
 
 /// Writes up to six decimals up to `end`, and gives the whole part.
-#[inline(always)]
 fn put_decimals(number: u32, count: usize, end: usize, text: &mut [u8]) -> u32
     requires few { count ≤ 6 }
     requires begins { count ≤ end }
@@ -178,7 +173,6 @@ fn put_decimals(number: u32, count: usize, end: usize, text: &mut [u8]) -> u32
 }
 
 /// Writes the point in front of the decimals, and gives where the whole part ends.
-#[inline(always)]
 fn put_point(decimals: usize, end: usize, text: &mut [u8]) -> usize
     requires begins { point_width decimals ≤ end }
     requires ends { end ≤ length text.old }
@@ -238,7 +232,6 @@ fn put_many(number: u32, end: usize, text: &mut [u8])
 }
 
 /// Writes the digits of a number over blanks, up to `end`; none of a 0.
-#[inline(always)]
 fn put_suppressed(number: u32, end: usize, text: &mut [u8])
     requires ends { end ≤ length text.old }
     requires fits { number < 10 ^ end }
@@ -255,7 +248,6 @@ fn put_suppressed(number: u32, end: usize, text: &mut [u8])
 }
 
 /// Whether a comma stands in front of the last three digits of a whole part.
-#[inline(always)]
 fn has_comma(commas: bool, number: u32) -> bool
     ensures { result ≡ (commas && nat_lt 999 number) }
 {
@@ -284,7 +276,6 @@ fn put_threes(number: u32, commas: bool, end: usize, text: &mut [u8])
 }
 
 /// Writes a whole part of more than three digits, with commas, over blanks, up to `end`.
-#[inline(always)]
 fn put_parted(number: u32, end: usize, text: &mut [u8])
     requires many { 999 < number }
     requires ends { end ≤ length text.old }
@@ -304,7 +295,6 @@ fn put_parted(number: u32, end: usize, text: &mut [u8])
 }
 
 /// Writes a whole part over blanks, up to `end`.
-#[inline(always)]
 fn put_whole(number: u32, commas: bool, end: usize, text: &mut [u8])
     requires ends { end ≤ length text.old }
     requires fits { number < 10 ^ whole_digits commas end }
@@ -323,7 +313,6 @@ fn put_whole(number: u32, commas: bool, end: usize, text: &mut [u8])
 }
 
 /// Writes a number without its sign over blanks.
-#[inline(always)]
 fn put_body(magnitude: u32, decimals: usize, commas: bool, width: usize, text: &mut [u8])
     requires some { magnitude ≢ 0 }
     requires few { decimals ≤ 6 }
@@ -342,7 +331,6 @@ fn put_body(magnitude: u32, decimals: usize, commas: bool, width: usize, text: &
 }
 
 /// How many places a sign takes.
-#[inline(always)]
 fn sign_width(sign: Sign) -> usize
     ensures { result ≡ sign_width_of sign }
 {
@@ -354,7 +342,6 @@ fn sign_width(sign: Sign) -> usize
 }
 
 /// Writes a sign over blanks at `at`.
-#[inline(always)]
 fn put_sign(sign: Sign, is_negative: bool, at: usize, text: &mut [u8])
     requires room { at + sign_width_of sign ≤ length text.old }
     requires blanks { (i : ℕ) → at ≤ i → i < length text.old → slice_index text.old i ≡ BLANK }
@@ -372,19 +359,27 @@ fn put_sign(sign: Sign, is_negative: bool, at: usize, text: &mut [u8])
     }
 }
 
+/// Whether a number is below zero.
+fn is_below_zero(number: i64) -> bool
+    ensures { result ≡ is_negative number }
+{
+    number < 0
+}
+
 /// Writes an amount that isn't 0 and has up to six decimals, from its magnitude. The whole part comes last.
 #[inline(never)]
-pub fn put_amount(number: &Dec, magnitude: u32, style: &Amount, text: &mut [u8])
-    requires magnitude { magnitude ≡ unsigned_abs number.now.value }
+pub fn put_amount(number: i64, magnitude: u32, style: &Amount, form: &NumberForm, text: &mut [u8])
+    requires magnitude { magnitude ≡ unsigned_abs number }
     requires some { magnitude ≢ 0 }
-    requires few { number.now.decimals ≤ 6 }
-    requires room { width_of (Edited style.now) number.now.digits number.now.decimals ≡ Some (length text.old) }
+    requires below { magnitude < 10 ^ form.now.digits }
+    requires few { form.now.decimals ≤ 6 }
+    requires room { width_of (Edited style.now) form.now.digits form.now.decimals ≡ Some (length text.old) }
     ensures { (place : ℕ) → place < length text.old → slice_index text.new (length text.old - 1 - place)
-        ≡ amount_at style.now number.now.decimals (is_negative number.now.value) (unsigned_abs number.now.value) place }
+        ≡ amount_at style.now form.now.decimals (is_negative number) (unsigned_abs number) place }
 {
     blank(text);
     let body = text.len() - sign_width(style.sign);
-    let decimals = usize::from(number.decimals);
-    put_sign(style.sign, number.is_negative(), body, text);
+    let decimals = usize::from(form.decimals);
+    put_sign(style.sign, is_below_zero(number), body, text);
     put_body(magnitude, decimals, style.commas, body, text);
 }

@@ -72,7 +72,6 @@ fn is_blank(spacing: &Spacing) -> bool
 }
 
 /// The space after of a line whose other entries are blank, as most lines have it.
-#[inline(always)]
 fn space_after_alone(spacing: &Spacing) -> Option<u8>
     requires { spacing_in_range spacing.now ≡ true }
     ensures few { IfSome result (λ lines. lines ≤ 3) }
@@ -190,7 +189,6 @@ impl Carriage {
     }
 
     /// So many lines on from a place of print at which no overflow is set, if that sets none either, as mostly.
-    #[inline(always)]
     fn printed_above_overflow(self, spacing: &Spacing) -> Option<Printed>
         requires { spacing_in_range spacing.now ≡ true }
         ensures { IfSome result (IsPrinted spacing.now self) }
@@ -215,7 +213,6 @@ impl Carriage {
     }
 
     /// Prints a line, and goes on from there.
-    #[inline(always)]
     pub fn print(self, spacing: &Spacing) -> Printed
         requires { spacing_in_range spacing.now ≡ true }
         ensures { IsPrinted spacing.now self result }

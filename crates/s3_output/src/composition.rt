@@ -3,12 +3,10 @@ ghost use Rattle.std.specs.Prelude.{◌≡◌, ◌+◌, ◌-◌, ◌*◌, ◌≤
 ghost use Rattle.s3_cards.specs.declared.ebcdic.TheConstants.{BLANK};
 ghost use Rattle.s3_meaning.specs.Output.{filled, laid};
 ghost use Rattle.s3_output.specs.Inner.Compositions.{positions_in, are_filled, first_position};
-ghost use Rattle.s3_output.specs.Inner.Contents.{FitsNumber, number_of};
+ghost use Rattle.s3_output.specs.Inner.Numbers.{FitsNumber, number_of};
 
-use crate::numbers::put_number;
-use crate::preparing::SlotOutput;
+use crate::numbers::{NumberForm, put_number};
 use s3_cards::ebcdic::BLANK;
-use s3_decimal::Dec;
 use s3_operations::laying::lay;
 use std::marker::Model;
 
@@ -42,7 +40,6 @@ impl Model for Composition {
 }
 
 /// Lays a content over a text, up to an end position.
-#[inline(always)]
 fn overlay(text: &mut [u8], end: usize, content: &[u8])
     requires begins { length content.now ≤ end }
     requires ends { end ≤ length text.old }
@@ -51,19 +48,13 @@ fn overlay(text: &mut [u8], end: usize, content: &[u8])
     lay(&mut text[end - content.len()..end], content);
 }
 
-/// Writes a number over a text, as its field is put out.
-#[inline(always)]
-fn overlay_number(text: &mut [u8], number: &Dec, output: &SlotOutput)
-    requires fits { FitsNumber number.now output.now }
-    requires ends { output.now.end ≤ length text.old }
-    ensures { text.new ≡ take (output.now.end - length (number_of number.now output.now)) text.old ++ number_of number.now output.now ++ drop output.now.end text.old }
+/// Writes a number over a text, up to an end position, as its field is put out.
+fn overlay_number(text: &mut [u8], end: usize, number: i64, form: &NumberForm)
+    requires fits { FitsNumber number form.now end }
+    requires ends { end ≤ length text.old }
+    ensures { text.new ≡ take (end - length (number_of number form.now)) text.old ++ number_of number form.now ++ drop end text.old }
 {
-    put_number(
-        number,
-        &output.form,
-        &output.amount,
-        &mut text[output.end - output.width..output.end],
-    );
+    put_number(number, form, &mut text[end - form.width..end]);
 }
 
 /// Marks a field that is as long as some marks, or up to twice as long: they are laid at both of its ends.
@@ -89,7 +80,6 @@ fn mark_all(field: &mut [bool])
 
 /// Marks a field, in two steps where it has a usual length.
 #[tactic(auto, using(crate::proofs::CompositionLemmas::all_marked))]
-#[inline(always)]
 fn mark_field(field: &mut [bool])
     ensures { field.new ≡ replicate (length field.old) true }
 {
@@ -113,7 +103,6 @@ fn mark(put: &mut [bool], is_told: bool, end: usize, count: usize)
 }
 
 /// Makes the first positions of a text blank; as many as a printed line has are so in few steps.
-#[inline(always)]
 fn blank(codes: &mut [u8; LONGEST_RECORD], count: usize)
     requires { count ≤ length codes.old }
     ensures { take count codes.new ≡ replicate count BLANK }
@@ -126,7 +115,6 @@ fn blank(codes: &mut [u8; LONGEST_RECORD], count: usize)
 }
 
 /// Nothing is put at the first positions, if that is told.
-#[inline(always)]
 fn unmark(put: &mut [bool], is_told: bool, count: usize)
     requires { count ≤ length put.old }
     ensures { is_told ≡ true → take count put.new ≡ replicate count false }
@@ -150,7 +138,6 @@ impl Composition {
     }
 
     /// Begins a record of a length: one in which nothing is put yet, or, where that needn't be told, one of blanks.
-    #[inline(always)]
     pub fn clear(&mut self, length: usize, is_told: bool)
         requires { length ≤ 1024 }
         ensures { self.new ≡ replicate length (first_position is_told) }
@@ -173,16 +160,16 @@ impl Composition {
         mark(&mut self.put, self.is_told, end, content.len());
     }
 
-    /// Lays a number over the record, as its field is put out.
+    /// Lays a number over the record, up to an end position, as its field is put out.
     #[inline(always)]
-    pub fn lay_number(&mut self, number: &Dec, output: &SlotOutput)
-        requires fits { FitsNumber number.now output.now }
-        requires ends { output.now.end ≤ length self.old }
+    pub fn lay_number(&mut self, end: usize, number: i64, form: &NumberForm)
+        requires fits { FitsNumber number form.now end }
+        requires ends { end ≤ length self.old }
         ensures size { length self.new ≡ length self.old }
-        ensures value { self.new ≡ laid output.now.end (number_of number.now output.now) self.old }
+        ensures value { self.new ≡ laid end (number_of number form.now) self.old }
     {
-        overlay_number(&mut self.codes, number, output);
-        mark(&mut self.put, self.is_told, output.end, output.width);
+        overlay_number(&mut self.codes, end, number, form);
+        mark(&mut self.put, self.is_told, end, form.width);
     }
 
     /// How many positions the record has.

@@ -1,18 +1,11 @@
-//! What an output line puts out: whether it holds, the record that it composes, and how it moves the carriage.
+//! What an output line puts out: the bytes of its numbers, the record that is composed, how it moves the carriage, and its request.
 #![tactic(auto)]
 
 mod amounts;
 pub mod carriage;
-mod composing;
 pub mod composition;
 pub mod conditions;
-mod fields;
-pub mod guards;
 pub mod laws;
-mod numbers;
+pub mod numbers;
 mod pairs;
-pub mod preparing;
 pub mod requests;
-mod slots;
-
-pub use composing::compose;

@@ -21,7 +21,6 @@ const PLUS: u8 = 0xf;
 pub const SHORT_DIGITS: u8 = 9;
 
 /// The first digit of a date, blank where it is 0.
-#[inline(always)]
 fn lead_of(magnitude: u32, digit: u8) -> u8
     ensures { result ≡ (if nat_lt magnitude 100000 then BLANK else digit) }
 {
@@ -29,7 +28,6 @@ fn lead_of(magnitude: u32, digit: u8) -> u8
 }
 
 /// A date as it is put out: three pairs of digits with a slash between them, the first digit blank where it is 0.
-#[inline(always)]
 fn date_of(magnitude: u32) -> [u8; 8]
     requires { magnitude < 1000000 }
     ensures { result ≡ pictured Date 0 false magnitude 8 }
@@ -50,7 +48,6 @@ fn date_of(magnitude: u32) -> [u8; 8]
 }
 
 /// Writes a date.
-#[inline(always)]
 pub fn put_date(number: &Dec, bytes: &mut [u8])
     requires six { number.now.digits ≡ 6 }
     requires room { length bytes.old ≡ 8 }
@@ -60,7 +57,6 @@ pub fn put_date(number: &Dec, bytes: &mut [u8])
 }
 
 /// Two digits in a byte.
-#[inline(always)]
 fn packed_pair(number: u32) -> u8
     requires { number < 100 }
     ensures { result ≡ number / 10 * 16 + number % 10 }
@@ -69,7 +65,6 @@ fn packed_pair(number: u32) -> u8
 }
 
 /// The half of a byte that is the sign.
-#[inline(always)]
 fn sign_half(negative: bool) -> u8
     ensures { result ≡ sign_half_of negative }
 {
@@ -77,7 +72,6 @@ fn sign_half(negative: bool) -> u8
 }
 
 /// Writes a packed number of up to nine digits.
-#[inline(always)]
 pub fn put_packed(number: &Dec, bytes: &mut [u8])
     requires short { number.now.digits ≤ 9 }
     requires room { length bytes.old ≡ number.now.digits / 2 + 1 }
@@ -94,7 +88,6 @@ pub fn put_packed(number: &Dec, bytes: &mut [u8])
 }
 
 /// The last digit of a zoned number, with its sign.
-#[inline(always)]
 fn signed_digit(negative: bool, magnitude: u32) -> u8
     ensures { result ≡ zoned_byte negative 0 magnitude }
 {
@@ -103,7 +96,6 @@ fn signed_digit(negative: bool, magnitude: u32) -> u8
 }
 
 /// Writes two digits before those that are written, which are so many.
-#[inline(always)]
 fn write_pair(bytes: &mut [u8], place: usize, digits: [u8; 2])
     requires { place + 2 ≤ length bytes.old }
     ensures { (written : List ℕ) → drop (length bytes.old - place) bytes.old ≡ written → drop (length bytes.old - (place + 2)) bytes.new ≡ slice_index digits 0 ∷ slice_index digits 1 ∷ written }
@@ -114,7 +106,6 @@ fn write_pair(bytes: &mut [u8], place: usize, digits: [u8; 2])
 }
 
 /// Writes a zoned number of up to nine digits: the last one alone, for it has the sign, and the others by pairs.
-#[inline(always)]
 pub fn put_zoned(number: &Dec, bytes: &mut [u8])
     requires short { number.now.digits ≤ 9 }
     requires room { length bytes.old ≡ number.now.digits }

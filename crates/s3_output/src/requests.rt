@@ -8,9 +8,7 @@ ghost use Rattle.s3_output.specs.Inner.Lines.{IsLineAt};
 ghost use Rattle.s3_lines.specs.Inner.Ranges.{spacing_in_range};
 ghost use Rattle.s3_output.specs.Inner.Requests.{request_of};
 
-use s3_lines::sheet::{Designation, FileLine, FileUse, OutputLine, Spacing};
-use s3_program::program::Program;
-use s3_program::starts::OutputStart;
+use s3_lines::sheet::{Designation, FileLine, FileUse};
 
 /// What a line of a disk file asks for.
 #[derive(Clone, Copy, Debug, PartialEq, Eq)]
@@ -22,14 +20,6 @@ pub enum DiskRequest {
     /// A record goes behind the last one.
     Append,
 }
-
-/// The spacing of a line whose card isn't there.
-const NO_SPACING: Spacing = Spacing {
-    space_before: None,
-    space_after: None,
-    skip_before: None,
-    skip_after: None,
-};
 
 /// A line without ADD for it is an update.
 fn is_updated(file: &FileLine) -> bool
@@ -53,32 +43,5 @@ pub fn disk_request(file: &FileLine, is_addition: bool) -> DiskRequest
         DiskRequest::Add
     } else {
         DiskRequest::Append
-    }
-}
-
-/// Whether a line adds a record to its file.
-pub fn is_addition(program: &Program, start: &OutputStart) -> bool
-    ensures { (line : Output) → IsLineAt program.now start.now line → line.is_addition ≡ result }
-{
-    if start.place >= program.outputs.len() {
-        return false;
-    }
-    match &program.outputs[start.place] {
-        OutputLine::Line(card) => card.is_addition,
-        OutputLine::And(_) | OutputLine::Or(_) | OutputLine::Field(_) => false,
-    }
-}
-
-/// How the carriage moves for a line.
-pub fn spacing(program: &Program, start: &OutputStart) -> Spacing
-    ensures line { (line : Output) → IsLineAt program.now start.now line → line.spacing ≡ result }
-    ensures range { spacing_in_range result ≡ true }
-{
-    if start.place >= program.outputs.len() {
-        return NO_SPACING;
-    }
-    match &program.outputs[start.place] {
-        OutputLine::Line(card) => card.spacing,
-        OutputLine::And(_) | OutputLine::Or(_) | OutputLine::Field(_) => NO_SPACING,
     }
 }

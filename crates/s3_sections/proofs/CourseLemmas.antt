@@ -205,10 +205,6 @@ pub at_end : (p : Program) (anew : Anew) (go : Rest) (spot : Spot) → rest_of p
 unfolding calculated
 at_end p anew go spot none = ap (calculated (source_named p) anew (rest_of p spot.section spot.begin) go None) none
 
-pub left : (p : Program) (old new : List Spot) (here last : Spot) → old ≡ new ++ last ∷ [] → rest_of p here.section here.place ≡ [] → (anew : Anew) (go : Rest)
-    → goes_through p anew go (old ++ here ∷ []) ≡ goes_through p anew go (new ++ last ∷ [])
-left p old new here last items none anew go = goes_further p anew go old here ∙ (at_end p anew (goes_through p anew go old) here none ∙ ap (goes_through p anew go) items)
-
 pub left_last : (p : Program) (old : List Spot) (here : Spot) → (0 < length old → ⊥) → rest_of p here.section here.place ≡ [] → (anew : Anew) (go : Rest) → goes_through p anew go (old ++ here ∷ []) ≡ go
 left_last p [] here empty none anew go = at_end p anew go here none
 left_last p (spot ∷ spots) here empty none anew go = absurd (empty (omega arith))
@@ -274,3 +270,7 @@ entered_rest p new_returns returns new lines items sec all whole anew go =
 pub calls_moved : (p : Program) (subroutine : Option ℕ) (spots : List Spot) (here new : Spot) → AreCalls p subroutine spots here → subroutine_in new ≡ subroutine_in here → AreCalls p subroutine spots new
 calls_moved p subroutine [] here new calls same = same ∙ calls
 calls_moved p subroutine (spot ∷ spots) here new calls same = (calls.0, calls_moved p (Some calls.0.callee) spots here new calls.1 same)
+
+pub none_left : (spots : List Spot) → (0 < length spots → ⊥) → spots ≡ []
+none_left [] none = refl
+none_left (spot ∷ spots) none = absurd (none (omega arith))

@@ -119,6 +119,34 @@ clear_at p forbidden at (l ∷ ls) zero line all there = (
 )
 clear_at p forbidden at (l ∷ ls) (suc k) line all there = clear_at p forbidden (behind_calculation at l) ls k line (and_parts _ _ all).1 there
 
+-- a line behind one without an operation goes on with it
+uncut : (cut bare : Bool) → (cut || bare) ≡ false → cut ≡ false
+uncut true bare h = h
+uncut false bare h = refl
+
+going : (time : CalculationTime) → not (goes_on time) ≡ false → goes_on time ≡ true
+going time h = opposite (goes_on time) h
+
+uncut_line : (cut : Bool) (line : CalculationLine Meaning) → is_some line.operation ≡ false → calculation_unfit cut line ≡ false → cut ≡ false
+uncut_line cut line none fit = step line.operation none fit
+  where
+    step : (o : Option Operation) → is_some o ≡ false → calculation_unfit cut (record line { operation = o }) ≡ false → cut ≡ false
+    step None none fit = uncut cut _ fit
+    step (Some operation) none fit = absurd (true≢false none)
+
+pub fits_behind : (p : Program) (forbidden : Call → Bool) (at : CalculationStanding) (lines : List (CalculationLine Reference)) (k : ℕ) (line next : CalculationLine Reference)
+    → calculations_clear forbidden at (map (meant_line p) lines) ≡ true → slice_get lines k ≡ Some line → is_some line.operation ≡ false → slice_get lines (suc k) ≡ Some next → goes_on next.time ≡ true
+fits_behind p forbidden at [] k line next all there none behind = absurd (none_some line there)
+fits_behind p forbidden at (l ∷ []) zero line next all there none behind = absurd (none_some next behind)
+fits_behind p forbidden at (l ∷ m ∷ ms) zero line next all there none behind =
+    let later : List Verb = map verb_of (map (meant_line p) (m ∷ ms)) in
+    let parts : (is_clear (calculation_holds forbidden at later (meant_line p l)) ≡ true) × (calculations_clear forbidden (behind_calculation at (meant_line p l)) (map (meant_line p) (m ∷ ms)) ≡ true) =
+    and_parts (is_clear (calculation_holds forbidden at later (meant_line p l))) (calculations_clear forbidden (behind_calculation at (meant_line p l)) (map (meant_line p) (m ∷ ms))) all in
+    let c : ClearAt forbidden at later (meant_line p l) = clear forbidden at later (meant_line p l) parts.0 in
+    let bare : is_some l.operation ≡ false = ap (λ (x : CalculationLine Reference). is_some x.operation) (some_same l line there) ∙ none in
+    ap (λ (x : CalculationLine Reference). goes_on x.time) (sym (some_same m next behind)) ∙ going m.time (uncut_line (is_cut_by (map verb_of (map (meant_line p) (m ∷ ms)))) (meant_line p l) bare c.fit)
+fits_behind p forbidden at (l ∷ ls) (suc k) line next all there none behind = fits_behind p forbidden (behind_calculation at l) ls k line next (and_parts _ _ all).1 there none behind
+
 pub sits_drop : {N : Type 0} (at : CalculationStanding) (lines : List (CalculationLine N)) (k : ℕ) → AllSit at lines → AllSit (standing_behind at (take k lines)) (drop k lines)
 unfolding AllSit standing_behind
 sits_drop at lines zero all = all

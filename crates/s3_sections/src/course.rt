@@ -4,7 +4,6 @@ ghost use Rattle.s3_lines.specs.declared.sheet.Operation.TheVariants as op;
 ghost use Rattle.s3_meaning.specs.Calculations.{name_in};
 ghost use Rattle.s3_operations.specs.Inner.Fits.{named_line};
 ghost use Rattle.s3_sections.specs.Inner.Jumps.{IsSubroutineOf};
-ghost use Rattle.s3_sections.specs.Inner.Sections.{rest_of};
 ghost use Rattle.s3_sections.specs.Inner.Spots.{IsSpot, IsLineAt, IsOfSection, subroutine_in};
 ghost use Rattle.s3_sections.specs.Inner.Courses as spec;
 ghost use Rattle.s3_program.specs.declared.program.Program.{Program};
@@ -62,7 +61,6 @@ impl Course {
     }
 
     /// Goes to the subroutine that the EXSR at a place calls: behind its BEGSR.
-    #[inline(always)]
     pub fn enter(
         &mut self,
         program: &Program,
@@ -86,7 +84,7 @@ impl Course {
 
     /// At the end of a section, goes on behind the EXSR that called it; false where none did.
     pub fn leave(&mut self) -> bool
-        ensures { (program : Program) → spec.IsCourse program self.old → rest_of program self.old.here.section self.old.here.place ≡ [] → spec.Leaves program self.old self.new result }
+        ensures { (program : Program) → spec.IsCourse program self.old → spec.Leaves program self.old self.new result }
     {
         match self.returns.last() {
             Some(spot) => {

@@ -85,7 +85,6 @@ pub fn subroutine_of(program: &Program, line: &CalculationLine<Reference>) -> us
 
 impl Spot {
     /// Where the GOTO at a place goes, which is of this spot's section and names the tag at another place.
-    #[inline(always)]
     pub fn go_to(
         self,
         program: &Program,
@@ -112,7 +111,6 @@ impl Spot {
     }
 
     /// Where the subroutine begins that an EXSR calls: behind its BEGSR.
-    #[inline(always)]
     pub fn subroutine(program: &Program, line: &CalculationLine<Reference>, begsr: usize) -> Spot
         requires line { IsLineOf program.now line.now op.ExecuteSubroutine }
         requires begsr { spec.IsSubroutineOf program.now line.now begsr }

@@ -27,9 +27,9 @@ use Rattle.s3_match.specs.Inner.Heads.{file_at}
 use Rattle.s3_match.specs.Inner.Reading.{IsReading, IsUnreadAt, input_at}
 use Rattle.s3_match.specs.Inner.Types.{is_type_start}
 use Rattle.s3_sections.specs.Inner.Courses.{IsCourse}
-use Rattle.s3_prepared.specs.Inner.Prepared.{ArePrepared}
-use Rattle.s3_fields.specs.Inner.Inputs.{ArePreparedInputs}
-use Rattle.s3_output.specs.Inner.Guards.{AreGuarded}
+use Rattle.s3_instructions.specs.Inner.Calculations.{AreCalculations, IsTotalsGuard}
+use Rattle.s3_instructions.specs.Inner.Fields.{AreInputs}
+use Rattle.s3_instructions.specs.Inner.OutputLines.{AreOutputs}
 use Rattle.s3_cycle.specs.declared.progress.Progress.{Progress}
 use Rattle.s3_cycle.specs.declared.progress.Selection.{Selection}
 use Rattle.s3_cycle.specs.declared.progress.Time.{Time}
@@ -101,9 +101,10 @@ pub record IsRunning (c : Stepper) : Type 0 where
   pub state : AreSound c.program c.state
   pub reading : IsReading c.program c.progress.reading
   pub heads : All (IsHeadWithin c.program) c.progress.reading.files.items
-  pub prepared : ArePrepared c.program c.prepared.items
-  pub inputs : ArePreparedInputs c.program.inputs.items c.inputs.items
-  pub guards : AreGuarded c.program c.guards
+  pub calculations : AreCalculations c.program c.calculations.items
+  pub totals_guard : IsTotalsGuard c.program c.totals_guard
+  pub inputs : AreInputs c.program c.inputs.items
+  pub outputs : AreOutputs c.program c.outputs
 
 -- calculations go on
 pub record CanCalculate (program : Program) (progress : Progress) : Type 0 where

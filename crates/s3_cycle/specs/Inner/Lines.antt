@@ -1,24 +1,18 @@
 -- Lines of the O sheet that are put out, or passed over.
 use Rattle.std.specs.Prelude.{◌≡◌, ℕ, Bool, true, false, ◌&&◌, slice_get, Option, Some, None}
-use Rattle.s3_lines.specs.declared.sheet.FileLine.{FileLine}
-use Rattle.s3_meaning.specs.Environment.{Environment}
 use Rattle.s3_meaning.specs.Runs.{Rest}
 use Rattle.s3_meaning.specs.OutputLines.{Output}
-use Rattle.s3_meaning.specs.Output.{is_served, line_holds}
+use Rattle.s3_meaning.specs.Output.{line_holds}
 use Rattle.s3_program.specs.declared.starts.OutputStart.{OutputStart}
 use Rattle.s3_program.specs.declared.starts.Walk.{Walk}
 use Rattle.s3_program.specs.Inner.Started.{output_at}
 use Rattle.s3_operations.specs.Inner.Fits.{tables}
+use Rattle.s3_instructions.specs.Inner.OutputLines.{is_used}
 use Rattle.s3_cycle.specs.declared.stepper.Stepper.{Stepper}
 use Rattle.s3_cycle.specs.declared.went.Went.{Went}
 use Rattle.s3_cycle.specs.declared.went.Went.TheVariants as went
 use Rattle.s3_cycle.specs.Inner.Rest.{starts_of, is_at_overflow, lines_then, lines_from}
 use Rattle.s3_cycle.specs.Inner.Going.{own, held_by, here, GoesOn}
-
--- a file is there, and used
-abbrev pub is_used : Environment → Option FileLine → Bool
-is_used e None = false
-is_used e (Some file) = is_served e file
 
 -- a line is there, and holds
 abbrev pub is_held : Stepper → Walk → Option Output → Bool

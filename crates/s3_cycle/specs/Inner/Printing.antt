@@ -1,11 +1,15 @@
 -- The line that is composed, and the record that is put into its file.
-use Rattle.std.specs.Prelude.{◌≡◌, not, length, replicate}
+use Rattle.std.specs.Prelude.{◌≡◌, ℕ, List, Option, not, length, replicate}
+use Rattle.s3_meaning.specs.Environment.{Environment}
 use Rattle.s3_meaning.specs.OutputLines.{Output}
 use Rattle.s3_meaning.specs.Source.{is_printer}
-use Rattle.s3_meaning.specs.Output.{composed}
+use Rattle.s3_meaning.specs.Output.{composed, disk_request}
+use Rattle.s3_program.specs.declared.program.Program.{Program}
 use Rattle.s3_program.specs.declared.starts.OutputStart.{OutputStart}
+use Rattle.s3_output.specs.declared.requests.DiskRequest.{DiskRequest}
 use Rattle.s3_output.specs.Inner.Compositions.{first_position}
 use Rattle.s3_output.specs.Inner.Lines.{IsLineAt}
+use Rattle.s3_output.specs.Inner.Requests as disk
 use Rattle.s3_match.specs.Inner.Heads.{file_at}
 use Rattle.s3_cycle.specs.declared.stepper.Stepper.{Stepper}
 use Rattle.s3_cycle.specs.Inner.Requests.{IsDiskFile, TakesRecord}
@@ -21,8 +25,13 @@ pub record ComposesLine (old new : Stepper) (start : OutputStart) : Type 0 where
       → composed (own old) line.fields (record { positions = replicate (file_at old.program start.file).record_length (first_position (not (is_printer (file_at old.program start.file).device))); after = held_by old })
       ≡ record { positions = new.composition; after = environment old.program new.state }
 
--- the record of the line that starts there is composed, and its file takes it
-pub record CanStore (c : Stepper) (start : OutputStart) : Type 0 where
+-- what a line asks for is this request of the file at a slot
+abbrev pub AsksFor : Program → (file : ℕ) → Output → DiskRequest → Type 0
+AsksFor program file line request =
+    (positions : List (Option ℕ)) (e : Environment) → disk_request (file_at program file) line positions e ≡ disk.request_of request (file_at program file) positions e
+
+-- the record that is composed goes into the file at a slot, which takes it
+pub record CanStore (c : Stepper) (file : ℕ) (request : DiskRequest) : Type 0 where
   pub line : Output
-  pub is_line : IsLineAt c.program start line
-  pub fits : IsDiskFile c.program.files.items start.file (TakesRecord (length c.composition))
+  pub asks : AsksFor c.program file line request
+  pub fits : IsDiskFile c.program.files.items file (TakesRecord (length c.composition))

@@ -1,5 +1,5 @@
 -- Where a run that halts stands in its source, and what it holds there.
-use Rattle.std.specs.Prelude.{ℕ, ◌-◌, Bool, true, false, List, [], slice_get, Option, Some, None, option_map, if◌then◌else◌}
+use Rattle.std.specs.Prelude.{◌≡◌, ℕ, ◌-◌, Bool, true, false, List, [], slice_get, Option, Some, None, option_map, if◌then◌else◌}
 use Rattle.std.specs.Option.{option_and_then}
 use Rattle.s3_lines.specs.declared.sheet.CalculationLine.{CalculationLine}
 use Rattle.s3_lines.specs.declared.sheet.Factor.{Factor}
@@ -15,7 +15,11 @@ use Rattle.s3_program.specs.declared.program.Reference.TheVariants.{File}
 use Rattle.s3_program.specs.declared.starts.OutputStart.{OutputStart}
 use Rattle.s3_program.specs.declared.starts.Walk.{Walk}
 use Rattle.s3_operations.specs.Inner.Chaining.{file_sought}
-use Rattle.s3_operations.specs.Inner.Fits.{named_line}
+use Rattle.s3_operations.specs.Inner.Fits.{IsLineOf, named_line}
+use Rattle.s3_instructions.specs.declared.calculation.chained.Chained.{Chained}
+use Rattle.s3_instructions.specs.declared.calculation.work.Asked.{Asked}
+use Rattle.s3_instructions.specs.declared.calculation.work.Asked.TheVariants as asked
+use Rattle.s3_instructions.specs.Inner.Chains.{IsChained}
 use Rattle.s3_match.specs.declared.heads.InputFile.{InputFile}
 use Rattle.s3_cycle.specs.declared.progress.Progress.{Progress}
 use Rattle.s3_cycle.specs.declared.progress.Time.{Time}
@@ -98,6 +102,22 @@ chain_at program place = on (slice_get program.calculations.items place)
     on : Option (CalculationLine Reference) → Option (CalculationLine Reference)
     on None = None
     on (Some line) = if is_chain line.operation then Some line else None
+
+-- the same, as it is decoded
+pub record IsChainAt (program : Program) (place : ℕ) (chain : Chained) : Type 0 where
+  pub line : CalculationLine Reference
+  pub there : chain_at program place ≡ Some line
+  pub of_program : IsLineOf program line op.Chain
+  pub is : IsChained program line chain
+
+abbrev pub chained_in : Asked → Option Chained
+chained_in (asked.Chain chain) = Some chain
+chained_in request = None
+
+-- it is found, where one is there
+abbrev pub FindsChain : Program → (place : ℕ) → Option Chained → Type 0
+FindsChain program place (Some chain) = IsChainAt program place chain
+FindsChain program place None = chain_at program place ≡ None
 
 -- the one that it stands at
 abbrev pub chain_of : Program → Stand → Option (CalculationLine Reference)

@@ -1,7 +1,6 @@
 -- The match and control fields of record types, on the lines as they stand.
 use Rattle.std.specs.Prelude.{ℕ, ◌==◌, Bool, true, false, not, ◌||◌, ◌&&◌, List, [], ◌∷◌, Option, Some, None, is_some, find, if◌then◌else◌}
 use Rattle.std.specs.Option.{option_or}
-use Rattle.std.specs.List.{list_any}
 use Rattle.s3_cards.specs.declared.name.Name.{Name}
 use Rattle.s3_lines.specs.declared.indicator.Indicator.{Indicator}
 use Rattle.s3_lines.specs.declared.sheet.FieldLine.{FieldLine}
@@ -16,7 +15,6 @@ use Rattle.s3_program.specs.declared.program.Reference.{Reference}
 use Rattle.s3_program.specs.declared.starts.TypeStart.{TypeStart}
 use Rattle.s3_program.specs.Lines.{map_field}
 use Rattle.s3_program.specs.Inner.Tables.{name_of}
-use Rattle.s3_match.specs.declared.fields.NamedLevels.{NamedLevels}
 use Rattle.s3_match.specs.Inner.Types.{tables_in, kind_at}
 
 abbrev pub named_field : Program → FieldLine Reference → FieldLine Name
@@ -57,19 +55,6 @@ indicator_on (Record file indicator codes) = Some indicator
 indicator_on (AndCodes codes) = None
 indicator_on (OrCodes indicator codes) = Some indicator
 indicator_on (InputField field) = None
-
--- ---- whether any line has such a field
-abbrev pub names_level : Key → InputLine Reference → Bool
-names_level key (Record file indicator codes) = false
-names_level key (AndCodes codes) = false
-names_level key (OrCodes indicator codes) = false
-names_level key (InputField field) = is_some (level_of key field)
-
-abbrev pub some_names_level : Program → Key → Bool
-some_names_level program key = list_any (names_level key) program.inputs.items
-
-abbrev pub named_levels : Program → NamedLevels
-named_levels program = record { matches = some_names_level program key.Match; controls = some_names_level program key.Control }
 
 -- ---- by what the type's own fields are
 abbrev pub field_at : Program → TypeStart → Key → Option ℕ → Option (FieldLine Name)

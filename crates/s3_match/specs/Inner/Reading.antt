@@ -15,8 +15,9 @@ use Rattle.s3_program.specs.declared.starts.TypeStart.{TypeStart}
 use Rattle.s3_match.specs.declared.heads.InputFile.{InputFile}
 use Rattle.s3_match.specs.declared.reading.Reading.{Reading}
 use Rattle.s3_match.specs.Inner.Types.{IsOnlyType, kind_at}
-use Rattle.s3_match.specs.Inner.Fields.{indicator_on, named_levels}
+use Rattle.s3_match.specs.Inner.Fields.{indicator_on}
 use Rattle.s3_match.specs.Inner.Heads.{no_file, file_at, is_unread, IsInput}
+use Rattle.s3_match.specs.Inner.Levels.{AreLevels}
 use Rattle.s3_match.specs.Inner.Selecting.{reading_of}
 
 abbrev pub reading_in : Program → Reading → meaning.Reading
@@ -58,7 +59,7 @@ pub record AreLineNumbers (lines : List (InputLine Reference)) (numbers : List �
 pub record IsReading (program : Program) (reading : Reading) : Type 0 where
   pub inputs : All (IsInput program) reading.files.items
   pub slots : slots_of reading.files.items ≡ input_slots program
-  pub levels : reading.levels ≡ named_levels program
+  pub levels : AreLevels program reading.levels
   pub only_types : AreOnlyTypes program reading.only_types.items
   pub type_numbers : AreNumbersOf program.inputs.items reading.type_numbers.items
   pub line_numbers : AreLineNumbers program.inputs.items reading.line_numbers.items

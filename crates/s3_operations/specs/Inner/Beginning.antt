@@ -1,7 +1,7 @@
 -- The values at the start of a job.
-use Rattle.std.specs.Prelude.{◌≡◌, ℕ, ◌+◌, ◌*◌, ◌%◌, ◌<◌, nat_lt, Bool, ℤ, pos, List, map}
+use Rattle.std.specs.Prelude.{◌≡◌, ℕ, ◌+◌, ◌*◌, ◌%◌, ◌<◌, nat_lt, Bool, ℤ, pos, List, map, length, replicate}
 use Rattle.std.specs.List.{list_all}
-use Rattle.s3_decimal.specs.declared.number.Dec.{Dec}
+use Rattle.s3_decimal.specs.declared.number.Form.{Form}
 use Rattle.s3_lines.specs.declared.sheet.Shape.{Shape}
 use Rattle.s3_lines.specs.Ranges.{shape_in_range}
 use Rattle.s3_meaning.specs.Names.{udate, umonth, uday, uyear}
@@ -9,7 +9,7 @@ use Rattle.s3_meaning.specs.Environment.{Environment, put_number, date_part, at_
 use Rattle.s3_program.specs.declared.program.Defined.{Defined}
 use Rattle.s3_program.specs.declared.program.Program.{Program}
 use Rattle.s3_program.specs.Inner.Stands.{source_named}
-use Rattle.s3_operations.specs.Inner.Held.{form_of, form_in_shape, held, IsSound}
+use Rattle.s3_operations.specs.Inner.Held.{digits_and_decimals, form_in_shape, held, IsSound}
 use Rattle.s3_operations.specs.declared.values.Values.{Values}
 
 -- Each part of the date fits its field of two digits. Bytes whose low half is above 9 may write more, up to 165, which no
@@ -34,13 +34,10 @@ with_date date e =
 abbrev pub are_fields_in_range : List (Defined Shape) → Bool
 are_fields_in_range fields = list_all (λ field. shape_in_range field.meaning) fields
 
-abbrev pub no_number : Defined Shape → ℤ
-no_number field = pos 0
-
--- a zero in the form of each field
-pub record IsZeros (fields : List (Defined Shape)) (numbers : List Dec) : Type 0 where
-  pub forms : map form_of numbers ≡ map (λ field. form_in_shape field.meaning) fields
-  pub values : map (λ number. number.value) numbers ≡ map no_number fields
+-- a zero for each field, in its form
+pub record IsZeros (fields : List (Defined Shape)) (zeros : List ℤ) (of : List Form) : Type 0 where
+  pub numbers : zeros ≡ replicate (length fields) (pos 0)
+  pub forms : map digits_and_decimals of ≡ map (λ field. form_in_shape field.meaning) fields
 
 -- with the fields, the indicators and what a division leaves of another environment
 abbrev pub with_values : Environment → Environment → Environment

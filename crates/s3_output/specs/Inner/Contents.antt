@@ -1,5 +1,5 @@
 -- What a number is put out as.
-use Rattle.std.specs.Prelude.{◌≡◌, ℕ, ◌+◌, ◌/◌, ℤ, pos, Bool, true, false, unsigned_abs, List, replicate, nat_le, Option, Some, None, is_some, unwrap_or, if◌then◌else◌}
+use Rattle.std.specs.Prelude.{◌≡◌, ℕ, ◌+◌, ◌/◌, ℤ, pos, Bool, true, unsigned_abs, List, replicate, nat_le, Option, Some, None, is_some, unwrap_or, if◌then◌else◌}
 use Rattle.s3_decimal.specs.declared.number.Dec.{Dec}
 use Rattle.s3_decimal.specs.Exact.{is_negative}
 use Rattle.s3_decimal.specs.Records.{zoned_bytes, packed_bytes}
@@ -14,8 +14,6 @@ use Rattle.s3_cards.specs.declared.name.Name.{Name}
 use Rattle.s3_meaning.specs.Source.{Source, is_numeric, length_of}
 use Rattle.s3_meaning.specs.Environment.{Environment, put_number, put_text}
 use Rattle.s3_meaning.specs.Output.{edited}
-use Rattle.s3_program.specs.Operands.{number_fits}
-use Rattle.s3_output.specs.declared.preparing.SlotOutput.{SlotOutput}
 
 -- a number of so many digits and decimals; PAGE without an edit code as under Z
 abbrev pub number_put : OutputForm → (is_page : Bool) → (digits decimals : ℕ) → ℤ → List ℕ
@@ -46,15 +44,6 @@ has_width _ digits decimals = true
 abbrev pub amount_of : OutputForm → (decimals : ℕ) → Option Amount
 amount_of (Edited (EditedCode style)) decimals = if nat_le decimals 6 then Some style else None
 amount_of _ decimals = None
-
--- a number is put out as its field is prepared
-abbrev pub number_of : Dec → SlotOutput → List ℕ
-number_of number output = number_put output.form false number.digits number.decimals number.value
-
-pub record FitsNumber (number : Dec) (output : SlotOutput) : Type 0 where
-  pub fits : number_fits output.form number.digits number.decimals output.end ≡ true
-  pub width : output.width ≡ number_width output.form number.digits number.decimals
-  pub amount : output.amount ≡ amount_of output.form number.decimals
 
 -- PAGE has four digits
 pub record HasPageForm (number : Dec) : Type 0 where

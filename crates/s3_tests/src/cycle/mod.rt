@@ -2,11 +2,11 @@
 
 mod adding_rows;
 mod chaining_rows;
+mod decoding;
 mod fitting;
 mod job;
 mod list_file;
 mod matching_rows;
-mod preparing;
 mod reading_rows;
 mod rows;
 mod sequence_rows;

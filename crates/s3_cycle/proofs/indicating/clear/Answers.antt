@@ -8,7 +8,7 @@ use Rattle.s3_cycle.proofs.indicating.clear.Goals as goal
 
 pub returns : goal.returns
 returns c =
-    let cleared = types_cleared c.args.program.now c.args.values.now _ c.requires.sound refl refl refl c.turn_off.ensures in
+    let cleared = types_cleared c.args.program.now c.args.values.now _ c.requires.sound refl refl refl refl c.turn_off.ensures in
     record {
       sound = c.turn_levels.ensures.sound;
       held = λ rest.

@@ -18,5 +18,5 @@ turn_types_off-requires-clause-starts c =
 pub returns : goal.returns
 returns c =
     let starts = c.deref.ensures.value ∙ ap (λ v. v.items) c.index.ensures ∙ own_starts c.args.program.now c.args.file _ c.requires.file in
-    types_of_cleared c.args.program.now c.args.file c.args.values.now _ c.requires.sound c.requires.file refl refl refl
+    types_of_cleared c.args.program.now c.args.file c.args.values.now _ c.requires.sound c.requires.file refl refl refl refl
     (λ other. c.turn_types_off.ensures other ∙ (λ i. turned_off (shown_by c.args.program.now (starts i)) other (on_in c.args.values.now.indicators other)))

@@ -7,7 +7,7 @@ use Rattle.s3_match.proofs.keys.push_match_fields.Goals as goal
 
 pub loop-step-init : goal.loop-step-init
 loop-step-init c = record {
-  items = none_yet c.args.program.now c.args.start c.args.bytes.now c.args.compared.now.items c.requires.none;
+  items = none_yet c.args.fields.now c.args.bytes.now c.args.compared.now.items c.requires.none;
   room = no_room_taken c.args.compared.now.items c.requires.none;
 }
 
@@ -16,9 +16,9 @@ push_field-requires-clause-room c = omega (arith, c.loop-step.invariant.room)
 
 pub loop-step-preserved : goal.loop-step-preserved
 loop-step-preserved c = record {
-  items = values_more c.args.program.now c.args.start c.args.bytes.now c.loop-step.compared.items _ _ c.loop-step-test.true c.loop-step.invariant.items c.push_field.ensures.items;
+  items = values_more c.args.fields.now c.args.bytes.now c.loop-step.compared.items _ _ c.loop-step-test.true c.loop-step.invariant.items c.push_field.ensures.items;
   room = more_room _ _ _ c.loop-step.invariant.room c.push_field.ensures.bound;
 }
 
 pub returns : goal.returns
-returns c = at_end (match_values c.args.program.now c.args.start c.args.bytes.now) _ _ levels _ refl c.loop-step-test.false c.loop-step.invariant.items
+returns c = at_end (match_values c.args.fields.now c.args.bytes.now) _ _ levels _ refl c.loop-step-test.false c.loop-step.invariant.items

@@ -1,77 +1,57 @@
-use Rattle.std.proofs.Common.{◌≡◌, ap, sym, subst, ◌∙◌, arith, to_z, of_z, w64}
-use Rattle.std.proofs.lemmas.Int.{ints}
-use Rattle.std.specs.Option.{is_some}
-use Rattle.std.specs.Prelude.{Option}
-use Rattle.s3_lines.specs.declared.sheet.KeyField.{KeyField}
+use Rattle.std.proofs.Common.{ap, sym, ◌∙◌}
+use Rattle.std.specs.Prelude.{slice_get}
 use Rattle.s3_lines.specs.declared.sheet.FileLine.{FileLine}
-use Rattle.s3_lines.specs.declared.sheet.CalculationLine.{CalculationLine}
-use Rattle.s3_meaning.specs.Calculating.{bytes_in, number_in}
-use Rattle.s3_program.specs.declared.program.Reference.{Reference}
-use Rattle.s3_operations.specs.Inner.Chaining.{has_key}
-use Rattle.s3_operations.specs.Inner.Fits.{named_line}
-use Rattle.s3_match.specs.Inner.Heads.{file_at}
-use Rattle.s3_cycle.specs.declared.request.Sought.TheVariants.{Key, RecordNumber}
-use Rattle.s3_cycle.specs.Inner.Requests.{IsSoughtBy}
-use Rattle.s3_cycle.specs.Inner.Environment.{environment, others}
-use Rattle.s3_cycle.specs.Inner.Going.{own, held_by}
-use Rattle.s3_cycle.proofs.CalculatingLemmas.{line_read, performed_line, performed_within}
-use Rattle.s3_cycle.proofs.ChainingLemmas.{chain_named, file_is, file_within, key_sought, seeks_key, seeks_number, sought_read}
+use Rattle.s3_lines.specs.declared.sheet.Operation.TheVariants as op
+use Rattle.s3_meaning.specs.Calculating.{forgotten}
+use Rattle.s3_program.specs.declared.program.Program.{Program}
+use Rattle.s3_match.specs.Inner.Types.{name_of_file}
+use Rattle.s3_cycle.specs.Inner.Going.{CanCalculate, IsLineAt}
+use Rattle.s3_cycle.proofs.GoingLemmas.{changed_running, changed_stays, changed_program}
+use Rattle.s3_cycle.proofs.ChainingLemmas.{chain_in, chains_missing, chains_waiting, served_as}
+use Rattle.s3_cycle.proofs.SoughtLemmas.{file_as}
 use Rattle.s3_cycle.proofs.stepper.Stepper.chain.Goals as goal
 
-pub index-line-requires : goal.index-line-requires
-index-line-requires c = performed_within c.args.self.now c.args.place _ c.requires
+pub sought-sought-requires-clause-chained : goal.sought-sought-requires-clause-chained
+sought-sought-requires-clause-chained c = record {
+  line = c.requires.chain.line;
+  of_program = record { place = c.args.place; there = c.requires.chain.there; bears = c.requires.chain.operation };
+  is = c.requires.chained c.requires.chain.line c.requires.chain.there;
+}
 
-pub chained_file-file-requires : goal.chained_file-file-requires
-chained_file-file-requires c = performed_line c.args.self.now c.args.place _ c.index-line.result.now c.requires c.index-line.ensures
+pub forget-requires-clause-within : goal.forget-requires-clause-within
+forget-requires-clause-within c = (chain_in c.args.self.now.program c.args.place c.requires.chain.line c.args.chained c.requires.chain.there c.requires.chain.operation (c.requires.chained c.requires.chain.line c.requires.chain.there)).within
 
-pub index-requires : goal.index-requires
-index-requires c = file_within c.args.self.now.program c.chained_file-file.result c.chained_file-file.ensures.within
+pub miss-requires-clause-running : goal.miss-requires-clause-running
+miss-requires-clause-running c =
+    let s = c.args.self.now in changed_running s c.forget.new.self (λ source. forgotten source (name_of_file s.program c.args.chained.file)) c.forget.ensures c.requires.running
 
-pub key-key-requires-clause-sound : goal.key-key-requires-clause-sound
-key-key-requires-clause-sound c = c.requires.running.state.values
-
-pub key-key-requires-clause-line : goal.key-key-requires-clause-line
-key-key-requires-clause-line c = performed_line c.args.self.now c.args.place _ c.index-line.result.now c.requires c.index-line.ensures
-
-pub key-key-requires-clause-keyed : goal.key-key-requires-clause-keyed
-key-key-requires-clause-keyed c =
-    let chain = chain_named c.args.self.now c.args.place c.chained_file-file.result c.index-line.result.now c.requires c.index-line.ensures c.chained_file-file.ensures.names c.chained_file-file.ensures.within in
-    ap has_key (sought_read c.args.self.now.program c.args.place c.chained_file-file.result c.index-line.result.now c.index.result.now chain c.index-line.ensures c.index.ensures)
-    ∙ ap (λ (key : Option KeyField). is_some key) c.in-Some.is
-
-pub seek-requires-clause-value : goal.seek-requires-clause-value
-unfolding environment
-seek-requires-clause-value c = λ line there.
+pub miss-requires-clause-calculates : goal.miss-requires-clause-calculates
+miss-requires-clause-calculates c =
     let s = c.args.self.now in
-    let file = c.chained_file-file.result in
-    seeks_key (own s) (held_by s) (named_line s.program line) (file_at s.program file) _ _ (ap (λ (f : FileLine). f.key) (file_is s.program file c.index.result.now c.chained_file-file.ensures.within c.index.ensures) ∙ c.in-Some.is)
-    (c.key-key.ensures.bytes (others s.program s.state)
-    ∙ ap (λ (l : CalculationLine Reference). bytes_in (own s) (held_by s) (named_line s.program l).factor1) (line_read s.program c.args.place line c.index-line.result.now there c.index-line.ensures))
+    changed_stays (λ p progress. CanCalculate p progress) s c.forget.new.self (λ source. forgotten source (name_of_file s.program c.args.chained.file)) c.forget.ensures c.requires.calculates
 
-pub record_number-number-requires-clause-line : goal.record_number-number-requires-clause-line
-record_number-number-requires-clause-line c = performed_line c.args.self.now c.args.place _ c.index-line.result.now c.requires c.index-line.ensures
-
-pub record_number-number-requires-clause-unkeyed : goal.record_number-number-requires-clause-unkeyed
-record_number-number-requires-clause-unkeyed c =
-    let chain = chain_named c.args.self.now c.args.place c.chained_file-file.result c.index-line.result.now c.requires c.index-line.ensures c.chained_file-file.ensures.names c.chained_file-file.ensures.within in
-    ap has_key (sought_read c.args.self.now.program c.args.place c.chained_file-file.result c.index-line.result.now c.index.result.now chain c.index-line.ensures c.index.ensures)
-    ∙ ap (λ (key : Option KeyField). is_some key) c.in-None.is
-
-pub seek-requires-in-None-clause-chain : goal.seek-requires-in-None-clause-chain
-seek-requires-in-None-clause-chain c = chain_named c.args.self.now c.args.place c.chained_file-file.result c.index-line.result.now c.requires c.index-line.ensures c.chained_file-file.ensures.names c.chained_file-file.ensures.within
-
-pub seek-requires-in-None-clause-by : goal.seek-requires-in-None-clause-by
-seek-requires-in-None-clause-by c =
+pub miss-requires-clause-chain : goal.miss-requires-clause-chain
+miss-requires-clause-chain c =
     let s = c.args.self.now in
-    let P : Option KeyField → Type 0 = λ field. IsSoughtBy field (RecordNumber (to_z w64 (of_z w64 c.record_number-number.result))) in
-    subst P (sym (ap (λ (f : FileLine). f.key) (file_is s.program c.chained_file-file.result c.index.result.now c.chained_file-file.ensures.within c.index.ensures) ∙ c.in-None.is)) tt
+    changed_stays (λ p progress. IsLineAt p c.args.place op.Chain) s c.forget.new.self (λ source. forgotten source (name_of_file s.program c.args.chained.file)) c.forget.ensures c.requires.chain
 
-pub seek-requires-in-None-clause-value : goal.seek-requires-in-None-clause-value
-unfolding environment
-seek-requires-in-None-clause-value c = λ line there.
+pub returns-then-not-is_served : goal.returns-then-not-is_served
+returns-then-not-is_served c =
     let s = c.args.self.now in
-    let file = c.chained_file-file.result in
-    let back : to_z w64 (of_z w64 c.record_number-number.result) ≡ c.record_number-number.result = omega (arith, ints) in
-    seeks_number (own s) (held_by s) (named_line s.program line) (file_at s.program file) _ (ap (λ (f : FileLine). f.key) (file_is s.program file c.index.result.now c.chained_file-file.ensures.within c.index.ensures) ∙ c.in-None.is)
-    (back ∙ c.record_number-number.ensures (others s.program s.state)
-    ∙ ap (λ (l : CalculationLine Reference). (number_in (own s) (held_by s) (named_line s.program l).factor1).numerator) (line_read s.program c.args.place line c.index-line.result.now there c.index-line.ensures))
+    let line = c.requires.chain.line in
+    let is = c.requires.chained line c.requires.chain.there in
+    chains_missing s c.forget.new.self c.miss.new.self c.args.place c.args.chained.file line c.miss.result (chain_in s.program c.args.place line c.args.chained c.requires.chain.there c.requires.chain.operation is) c.forget.ensures
+    (sym c.if-not-is_served.true ∙ served_as s line c.args.chained c.holds-is_served.result is c.holds-is_served.ensures)
+    (c.miss.ensures line
+    (ap (λ (p : Program). slice_get p.calculations.items c.args.place) (changed_program s c.forget.new.self (λ source. forgotten source (name_of_file s.program c.args.chained.file)) c.forget.ensures) ∙ c.requires.chain.there))
+
+pub returns : goal.returns
+returns c =
+    let s = c.args.self.now in
+    let line = c.requires.chain.line in
+    let is = c.requires.chained line c.requires.chain.there in
+    chains_waiting s c.forget.new.self c.wait.new.self c.args.place c.args.chained.file c.args.chained.length line c.sought-sought.result c.requires.running c.requires.calculates
+    (chain_in s.program c.args.place line c.args.chained c.requires.chain.there c.requires.chain.operation is) c.forget.ensures
+    (sym c.if-not-is_served.false ∙ served_as s line c.args.chained c.holds-is_served.result is c.holds-is_served.ensures)
+    (is.size ∙ ap (λ (f : FileLine). f.record_length) (sym (file_as s.program line c.args.chained is)))
+    (c.sought-sought.ensures line (record { place = c.args.place; there = c.requires.chain.there; bears = c.requires.chain.operation }) is) c.wait.ensures

@@ -1,5 +1,10 @@
-use Rattle.s3_cycle.proofs.TotalLemmas.{last_totals}
+use Rattle.s3_cycle.proofs.TotalLemmas.{at_totals, last_totals}
 use Rattle.s3_cycle.proofs.stepper.Stepper.total_last.Goals as goal
+
+pub calculate_last-requires-clause-totals : goal.calculate_last-requires-clause-totals
+calculate_last-requires-clause-totals c =
+    at_totals _ c.totals.result c.restart.new.self
+    (record { is = c.restart.ensures.course _ c.totals.ensures.spot c.totals.ensures.outside; here = c.restart.ensures.here; returns = c.restart.ensures.returns; whole = c.totals.ensures.whole; all = c.totals.ensures.all })
 
 pub returns : goal.returns
 returns c =

@@ -1,7 +1,6 @@
 use Rattle.std.proofs.Common.{◌≤◌, ◌++◌, ◌∙◌, List, ℕ, length, sym, subst}
 use Rattle.s3_meaning.specs.Selection.{compared}
-use Rattle.s3_match.proofs.ComparedLemmas.{compared_short}
-use Rattle.s3_match.proofs.ControlFieldLemmas.{fits_first}
+use Rattle.s3_match.proofs.ComparedLemmas.{compared_short, fits_first}
 use Rattle.s3_match.proofs.keys.RecordKey.read_field.Goals as goal
 
 pub push_compared-requires : goal.push_compared-requires

@@ -5,4 +5,4 @@ use Rattle.s3_operations.proofs.IndicatingLemmas.{turned_by}
 use Rattle.s3_operations.proofs.values.Values.turn.Goals as goal
 
 pub returns : goal.returns
-returns c = turned_by (λ on other. if same_indicator other c.args.indicator then c.args.to else on other) c.args.program.now c.args.self.now _ c.requires.sound refl refl refl c.turn.ensures
+returns c = turned_by (λ on other. if same_indicator other c.args.indicator then c.args.to else on other) c.args.program.now c.args.self.now _ c.requires.sound refl refl refl refl c.turn.ensures

@@ -1,4 +1,0 @@
-use Rattle.s3_operations.proofs.values.Values.of_factor.Goals as goal
-
-pub returns-in-Named : goal.returns-in-Named
-returns-in-Named c = rw c.in-Named.is c.named.ensures
