@@ -15,6 +15,7 @@ use Rattle.s3_solo.specs.declared.action.Did.{Did}
 use Rattle.s3_solo.specs.declared.action.Did.TheVariants.{Acted, Idle}
 use Rattle.s3_level.specs.declared.job.OpenJob.{OpenJob}
 use Rattle.s3_level.specs.declared.level.Level.{Level}
+use Rattle.s3_level.specs.Inner.Calls.{CanServe}
 use Rattle.s3_level.specs.Inner.Holds.{Shown, HoldsParts, HoldsJob, HoldsAtWork, IsAtWorkReady, IsJobReady, IsReady, Stays, open_files, with_seen}
 use Rattle.s3_level.specs.Inner.Turning.{AtWorkBecomes, FileServed, FileThere, HasFile, KeepsPlace, Serves, ServesFile, on_files}
 use Rattle.s3_level.proofs.Running.{standing_same}
@@ -46,26 +47,29 @@ waits_there old job w meant of_job = waits_as meant.source w.switches w.date mea
 pub level_of : (old : Level) (job : OpenJob) (pack : Seen) → old.job ≡ Some job → IsReady old pack → job.files.level ≡ old.id
 level_of old job pack is_open ready = (subst (λ (o : Option OpenJob). IsAtWorkReady old.id o) is_open ready.job).level_of_files
 
-pub job_ready : (old : Level) (job : OpenJob) (pack : Seen) → old.job ≡ Some job → IsReady old pack → IsJobReady job.files.level job
+job_ready : (old : Level) (job : OpenJob) (pack : Seen) → old.job ≡ Some job → IsReady old pack → IsJobReady job.files.level job
 job_ready old job pack is_open ready =
     let at : IsJobReady old.id job = subst (λ (o : Option OpenJob). IsAtWorkReady old.id o) is_open ready.job in
     record { level_of_files = refl; switches = at.switches; lines = at.lines }
 
-pub files_ready : (old : Level) (job : OpenJob) (pack : Seen) → old.job ≡ Some job → IsReady old pack → AreFilesReady job.files.level job.files.files.items pack
+files_ready : (old : Level) (job : OpenJob) (pack : Seen) → old.job ≡ Some job → IsReady old pack → AreFilesReady job.files.level job.files.files.items pack
 files_ready old job pack is_open ready =
     subst (λ (level : LevelId). AreFilesReady level job.files.files.items pack) (sym (level_of old job pack is_open ready))
     (subst (λ (items : List OpenFile). AreFilesReady old.id items pack) (ap open_files is_open) ready.files)
 
+pub can_serve : (old : Level) (job : OpenJob) (pack : Seen) → old.job ≡ Some job → IsReady old pack → CanServe job pack
+can_serve old job pack is_open ready = record { files = files_ready old job pack is_open ready; job = job_ready old job pack is_open ready }
+
 -- so is the level with the job as it then is
 pub then_ready : {T E : Type 0} (result : Result T E) (old : Level) (job new_job : OpenJob) (before after : Seen) → old.job ≡ Some job → IsReady old before → KeepsPlace job new_job
-    → IsJobReady new_job.files.level new_job → OnOk result (AreFilesReady new_job.files.level new_job.files.files.items after) → OnOk result (IsReady (record old { job = Some new_job }) after)
-then_ready (Ok _) old job new_job before after is_open ready place job_is files =
+    → OnOk result (CanServe new_job after) → OnOk result (IsReady (record old { job = Some new_job }) after)
+then_ready (Ok _) old job new_job before after is_open ready place can =
     let level : new_job.files.level ≡ old.id = place.level ∙ level_of old job before is_open ready in
     record {
-      files = subst (λ (l : LevelId). AreFilesReady l new_job.files.files.items after) level files;
-      job = record { level_of_files = level; switches = job_is.switches; lines = job_is.lines };
+      files = subst (λ (l : LevelId). AreFilesReady l new_job.files.files.items after) level can.files;
+      job = record { level_of_files = level; switches = can.job.switches; lines = can.job.lines };
     }
-then_ready (Err _) old job new_job before after is_open ready place job_is files = tt
+then_ready (Err _) old job new_job before after is_open ready place can = tt
 
 -- ---- a request is served
 -- the world is then held with what served it

@@ -9,6 +9,7 @@ pub mod Starting
 pub mod Beginning
 pub mod Compiling
 pub mod Others
+pub mod Leaving
 pub mod Said
 pub mod Beside
 pub mod Printing

@@ -1,6 +1,6 @@
 -- Requests of an open job to its files: they are served as is meant, and their answers fit.
 use Rattle.std.proofs.Common.{◌≡◌, ◌<◌, ℕ, zero, suc, Bool, true, false, List, [], ◌∷◌, length, map, refl, sym, ap, ◌∙◌, subst, arith, IsTrue}
-use Rattle.std.specs.Prelude.{Option, Some, None, is_some, option_map, slice_get, Result, Ok, Err, IfOk, OnErr}
+use Rattle.std.specs.Prelude.{Option, Some, None, is_some, option_map, slice_get, Result, Ok, Err, IfOk}
 use Rattle.std.proofs.lemmas.Bool.Decides.{nat_tests}
 use Rattle.std.proofs.lemmas.Option.{none-some}
 use Rattle.s3_cards.specs.declared.name.Name.{Name}
@@ -183,11 +183,6 @@ has_file job before slot place ready within is_for found = by (asked job.cycle) 
     by asks.Jump is wrong = absurd wrong
     by (asks.Ask code) is wrong = absurd wrong
     by (asks.End at_once) is wrong = absurd wrong
-
--- so it does where a call fails
-pub has_where_fails : {T E : Type 0} (result : Result T E) (job : OpenJob) (before : Seen) → HasFile job before → OnErr result (HasFile job before)
-has_where_fails (Ok _) job before has = tt
-has_where_fails (Err _) job before has = has
 
 -- nothing serves a request that is not to a file
 pub serves_none : (job : OpenJob) (before : Seen)

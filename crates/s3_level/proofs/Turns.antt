@@ -1,6 +1,6 @@
 -- A turn: what each pending request makes of it.
 use Rattle.std.proofs.Common.{◌≡◌, ◌≢◌, ℕ, ◌≤◌, List, refl, sym, ◌∙◌, ap, subst, replicate, Bool, true, false, if◌then◌else◌, Option, Some, None, Result, Ok, Err, IfOk, OnOk, arith}
-use Rattle.std.specs.Prelude.{IfErr, OnErr}
+use Rattle.std.specs.Prelude.{OnErr}
 use Rattle.std.proofs.lemmas.Option.{none-some}
 use Rattle.s3_meaning.specs.Requests.{Request, Card, Print, End}
 use Rattle.s3_meaning.specs.Output.{filled}
@@ -10,7 +10,6 @@ use Rattle.s3_cycle.specs.declared.request.Request.TheVariants as asks
 use Rattle.s3_cycle.specs.declared.stepper.Stepper.{Stepper}
 use Rattle.s3_cycle.specs.Inner.Following.{asked, put, waits}
 use Rattle.s3_cycle.proofs.FollowLemmas.{waits_card, waits_read, waits_chain, waits_append, waits_add, waits_update, waits_print, waits_ask, waits_end}
-use Rattle.s3_store.specs.Inner.Failures.{failed_transfers}
 use Rattle.s3_store.specs.declared.pool_fault.PoolFault.{PoolFault}
 use Rattle.s3_solo.specs.declared.action.Action.{Action}
 use Rattle.s3_solo.specs.declared.action.Action.TheVariants.{Turn}
@@ -226,33 +225,12 @@ once_up_to most answer result is some = subst (λ (r : Result Taken PoolFault). 
     by (Ok did) = record { some = omega arith; few = some }
     by (Err fault) = tt
 
-pub once_on_ok : (A : Type 0) (answer : Result Did PoolFault) (result : Result Taken PoolFault) → result ≡ once answer → OnOk answer A → OnOk result A
-once_on_ok A answer result is all = subst (λ (r : Result Taken PoolFault). OnOk r A) (sym is) (by answer all)
-  where
-    by : (a : Result Did PoolFault) → OnOk a A → OnOk (once a) A
-    by (Ok did) it = it
-    by (Err fault) it = tt
-
 pub once_if_ok : (A : Did → Type 0) (answer : Result Did PoolFault) (result : Result Taken PoolFault) → result ≡ once answer → IfOk answer A → IfOk result (λ taken. A taken.did)
 once_if_ok A answer result is all = subst (λ (r : Result Taken PoolFault). IfOk r (λ taken. A taken.did)) (sym is) (by answer all)
   where
     by : (a : Result Did PoolFault) → IfOk a A → IfOk (once a) (λ taken. A taken.did)
     by (Ok did) it = it
     by (Err fault) it = tt
-
-pub once_if_err : (A : PoolFault → Type 0) (answer : Result Did PoolFault) (result : Result Taken PoolFault) → result ≡ once answer → IfErr answer A → IfErr result A
-once_if_err A answer result is all = subst (λ (r : Result Taken PoolFault). IfErr r A) (sym is) (by answer all)
-  where
-    by : (a : Result Did PoolFault) → IfErr a A → IfErr (once a) A
-    by (Ok did) it = tt
-    by (Err fault) it = it
-
-pub once_fails : (answer : Result Did PoolFault) (result : Result Taken PoolFault) → result ≡ once answer → failed_transfers answer ≡ failed_transfers result
-once_fails answer result is = by answer ∙ ap (λ (r : Result Taken PoolFault). failed_transfers r) (sym is)
-  where
-    by : (a : Result Did PoolFault) → failed_transfers a ≡ failed_transfers (once a)
-    by (Ok did) = refl
-    by (Err fault) = refl
 
 -- ---- what the parts do, the whole does
 pub turns_wholly : {E : Type 0} (result : Result Taken E) (old new : Level) (before after : Around) → new.id ≡ old.id

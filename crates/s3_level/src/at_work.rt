@@ -13,19 +13,18 @@ use std::alloc::AllocError;
 use std::num::NonZeroU16;
 
 impl Level {
-    ghost use Rattle.std.specs.Prelude.{◌≡◌, ◌≤◌, ◌+◌, None, IfOk, IsOk, OnOk, ◌≢◌, IfErr};
+    ghost use Rattle.std.specs.Prelude.{◌≡◌, ◌≤◌, None, IfOk, IsOk, OnOk, ◌≢◌};
     ghost use Rattle.std.specs.Int.NonZero.{non_zero_u16_get};
     ghost use Rattle.std.specs.Option.{option_copied};
-    ghost use Rattle.s3_store.specs.Inner.Failures.{failed_transfers};
-    ghost use Rattle.s3_labels.specs.Inner.Labelled.{KeepsSaid};
     ghost use Rattle.s3_store.specs.Inner.State.{KeepsContents};
     ghost use Rattle.s3_cycle.specs.declared.request.Request.TheVariants as asks;
     ghost use Rattle.s3_cycle.specs.Inner.Requests.{answer_of};
-    ghost use Rattle.s3_job_files.specs.Inner.Holds.{Seen, seen};
+    ghost use Rattle.s3_job_files.specs.Inner.Holds.{seen};
     ghost use Rattle.s3_solo.specs.declared.action.Did.TheVariants.{Acted};
     ghost use Rattle.s3_solo.specs.World.{World, JobAtWork};
     ghost use Rattle.s3_solo.specs.Serving.{answered, at_work, halting, job_ended, with_answer};
-    ghost use Rattle.s3_level.specs.Inner.Holds.{Shown, AreAll, around, shown, with_seen, HoldsParts, IsQuiet, IsReady, IsUpTo, Becomes, Stays, Spares, KeepsOthers};
+    ghost use Rattle.s3_level.specs.Inner.Calls.{KeepsJob, KeepsReady, Leaves, LeavesAll};
+    ghost use Rattle.s3_level.specs.Inner.Holds.{Shown, AreAll, around, shown, with_seen, HoldsParts, IsQuiet, IsReady, IsUpTo, Becomes};
     ghost use Rattle.s3_level.specs.Inner.Turning.{Pends, request_by, waits_by, FitsJob, Comes, AtWorkBecomes, JumpsBecome, TakesTurns};
 
     /// Takes turns, at most `most` of them and at least one: each performs the pending request of the job at work, or begins the
@@ -34,7 +33,7 @@ impl Level {
     /// The function is a few tests on the way to what is asked for, which are inlined where turns are repeated; what is large or
     /// rare is called, and not inlined.
     #[inline(always)]
-    #[tactic(auto, using(crate::proofs::Turns::none_open, crate::proofs::Turns::once_up_to, crate::proofs::Turns::once_on_ok, crate::proofs::Turns::once_if_ok, crate::proofs::Turns::once_if_err, crate::proofs::Turns::once_fails))]
+    #[tactic(auto, using(crate::proofs::Turns::none_open, crate::proofs::Turns::once_up_to, crate::proofs::Turns::once_if_ok))]
     pub(crate) fn step<P: Sectors>(
         &mut self,
         most: NonZeroU16,
@@ -45,14 +44,9 @@ impl Level {
         requires blocks { AreAll spool.old }
         ensures times { IfOk result (λ taken. IsUpTo (non_zero_u16_get most) taken) }
         ensures world { TakesTurns result (HoldsParts self.old (shown self.old.id (around pack.old.areas (P.state pack.old.pool) spool.old))) (HoldsParts self.new (shown self.old.id (around pack.new.areas (P.state pack.new.pool) spool.new))) }
-        ensures ready { OnOk result (IsReady self.new (seen pack.new.areas (P.state pack.new.pool).contents)) }
-        ensures spares { Spares self.old.id (around pack.old.areas (P.state pack.old.pool) spool.old) (around pack.new.areas (P.state pack.new.pool) spool.new) }
+        ensures leaves { LeavesAll result self.old self.new (around pack.old.areas (P.state pack.old.pool) spool.old) (around pack.new.areas (P.state pack.new.pool) spool.new) }
         ensures quiet { IfOk result (λ taken. IsQuiet taken.did pack.old.areas pack.new.areas (P.state pack.old.pool) (P.state pack.new.pool)) }
         ensures queues { IfOk result (λ taken. taken.did ≢ Acted → spool.new ≡ spool.old) }
-        ensures failures { (P.state pack.new.pool).failures ≡ (P.state pack.old.pool).failures + failed_transfers result }
-        ensures says { OnOk result (KeepsSaid self.old.id pack.old.areas (P.state pack.old.pool).contents pack.new.areas (P.state pack.new.pool).contents) }
-        ensures fault { IfErr result (λ fault. fault ≢ PoolFault.NoSector) }
-        ensures stays { Stays self.old self.new }
     {
         if self.halts.is_waiting() {
             return Taken::once(Ok(Did::Idle));
@@ -92,14 +86,9 @@ impl Level {
     pub(crate) fn end_job<P: Sectors>(&mut self, pack: &mut Pack<P>) -> Result<(), PoolFault>
         requires ready { IsReady self.old (seen pack.old.areas (P.state pack.old.pool).contents) }
         ensures world { (s : Shown) → OnOk result (Becomes job_ended (HoldsParts self.old (with_seen (seen pack.old.areas (P.state pack.old.pool).contents) s)) (HoldsParts self.new (with_seen (seen pack.new.areas (P.state pack.new.pool).contents) s))) }
-        ensures ready { OnOk result (IsReady self.new (seen pack.new.areas (P.state pack.new.pool).contents)) }
-        ensures others { KeepsOthers self.old.id pack.old.areas pack.new.areas (P.state pack.old.pool) (P.state pack.new.pool) }
+        ensures leaves { Leaves result self.old self.new pack.old.areas pack.new.areas (P.state pack.old.pool) (P.state pack.new.pool) }
         ensures rests { self.old.job ≡ None → (pack.new.areas ≡ pack.old.areas) × KeepsContents (P.state pack.old.pool) (P.state pack.new.pool) }
         ensures ends { self.old.job ≡ None → IsOk result }
-        ensures failures { (P.state pack.new.pool).failures ≡ (P.state pack.old.pool).failures + failed_transfers result }
-        ensures says { OnOk result (KeepsSaid self.old.id pack.old.areas (P.state pack.old.pool).contents pack.new.areas (P.state pack.new.pool).contents) }
-        ensures fault { IfErr result (λ fault. fault ≢ PoolFault.NoSector) }
-        ensures stays { Stays self.old self.new }
     {
         match self.job.take() {
             Some(job) => job.close(pack),
@@ -112,13 +101,8 @@ impl Level {
         requires ready { IsReady self.old (seen pack.old.areas (P.state pack.old.pool).contents) }
         ensures world { (s : Shown) → OnOk result (Becomes job_ended (HoldsParts self.old (with_seen (seen pack.old.areas (P.state pack.old.pool).contents) s)) (HoldsParts self.new (with_seen (seen pack.new.areas (P.state pack.new.pool).contents) s))) }
         ensures acted { IfOk result (λ did. did ≡ Acted) }
-        ensures ready { OnOk result (IsReady self.new (seen pack.new.areas (P.state pack.new.pool).contents)) }
-        ensures others { KeepsOthers self.old.id pack.old.areas pack.new.areas (P.state pack.old.pool) (P.state pack.new.pool) }
+        ensures leaves { Leaves result self.old self.new pack.old.areas pack.new.areas (P.state pack.old.pool) (P.state pack.new.pool) }
         ensures quiet { IfOk result (λ did. IsQuiet did pack.old.areas pack.new.areas (P.state pack.old.pool) (P.state pack.new.pool)) }
-        ensures failures { (P.state pack.new.pool).failures ≡ (P.state pack.old.pool).failures + failed_transfers result }
-        ensures says { OnOk result (KeepsSaid self.old.id pack.old.areas (P.state pack.old.pool).contents pack.new.areas (P.state pack.new.pool).contents) }
-        ensures fault { IfErr result (λ fault. fault ≢ PoolFault.NoSector) }
-        ensures stays { Stays self.old self.new }
     {
         self.end_job(pack)?;
         Ok(Did::Acted)
@@ -132,12 +116,7 @@ impl Level {
         ensures times { IfOk result (λ taken. IsUpTo most taken) }
         ensures acted { IfOk result (λ taken. taken.did ≡ Acted) }
         ensures world { (s : Shown) → IfOk result (λ taken. JumpsBecome taken.times at_work (HoldsParts self.old (with_seen (seen pack.old.areas (P.state pack.old.pool).contents) s)) (HoldsParts self.new (with_seen (seen pack.new.areas (P.state pack.new.pool).contents) s))) }
-        ensures ready { OnOk result (IsReady self.new (seen pack.new.areas (P.state pack.new.pool).contents)) }
-        ensures others { KeepsOthers self.old.id pack.old.areas pack.new.areas (P.state pack.old.pool) (P.state pack.new.pool) }
-        ensures failures { (P.state pack.new.pool).failures ≡ (P.state pack.old.pool).failures + failed_transfers result }
-        ensures says { OnOk result (KeepsSaid self.old.id pack.old.areas (P.state pack.old.pool).contents pack.new.areas (P.state pack.new.pool).contents) }
-        ensures fault { IfErr result (λ fault. fault ≢ PoolFault.NoSector) }
-        ensures stays { Stays self.old self.new }
+        ensures leaves { Leaves result self.old self.new pack.old.areas pack.new.areas (P.state pack.old.pool) (P.state pack.new.pool) }
     {
         let times = self.take_jumps(most);
         self.stand(pack)?;
@@ -155,8 +134,7 @@ impl Level {
         ensures some { 1 ≤ result }
         ensures few { result ≤ most }
         ensures world { (s : Shown) → JumpsBecome result (λ job w. record w { job = Some job }) (HoldsParts self.old s) (HoldsParts self.new s) }
-        ensures ready { (pack : Seen) → IsReady self.old pack → IsReady self.new pack }
-        ensures stays { Stays self.old self.new }
+        ensures keeps { KeepsReady self.old self.new }
     {
         match &mut self.job {
             Some(job) => job.pass_jumps(most),
@@ -175,12 +153,7 @@ impl Level {
         requires fits { FitsJob self.old.job answer }
         requires ready { IsReady self.old (seen pack.old.areas (P.state pack.old.pool).contents) }
         ensures world { (s : Shown) → OnOk result (AtWorkBecomes (answered (answer_of answer.entry)) (HoldsParts self.old (with_seen (seen pack.old.areas (P.state pack.old.pool).contents) s)) (HoldsParts self.new (with_seen (seen pack.new.areas (P.state pack.new.pool).contents) s))) }
-        ensures ready { OnOk result (IsReady self.new (seen pack.new.areas (P.state pack.new.pool).contents)) }
-        ensures others { KeepsOthers self.old.id pack.old.areas pack.new.areas (P.state pack.old.pool) (P.state pack.new.pool) }
-        ensures failures { (P.state pack.new.pool).failures ≡ (P.state pack.old.pool).failures + failed_transfers result }
-        ensures says { OnOk result (KeepsSaid self.old.id pack.old.areas (P.state pack.old.pool).contents pack.new.areas (P.state pack.new.pool).contents) }
-        ensures fault { IfErr result (λ fault. fault ≢ PoolFault.NoSector) }
-        ensures stays { Stays self.old self.new }
+        ensures leaves { Leaves result self.old self.new pack.old.areas pack.new.areas (P.state pack.old.pool) (P.state pack.new.pool) }
     {
         self.take_answer(answer);
         self.stand(pack)
@@ -191,8 +164,7 @@ impl Level {
     fn take_answer(&mut self, answer: Answer<'_>)
         requires { FitsJob self.old.job answer }
         ensures world { (s : Shown) → AtWorkBecomes (λ job w. record w { job = Some (with_answer (answer_of answer.entry) job) }) (HoldsParts self.old s) (HoldsParts self.new s) }
-        ensures ready { (pack : Seen) → IsReady self.old pack → IsReady self.new pack }
-        ensures stays { Stays self.old self.new }
+        ensures keeps { KeepsReady self.old self.new }
     {
         if let Some(job) = &mut self.job {
             job.resume(answer);
@@ -204,12 +176,7 @@ impl Level {
     pub(crate) fn stand<P: Sectors>(&mut self, pack: &mut Pack<P>) -> Result<(), PoolFault>
         requires ready { IsReady self.old (seen pack.old.areas (P.state pack.old.pool).contents) }
         ensures world { (s : Shown) → OnOk result (AtWorkBecomes at_work (HoldsParts self.old (with_seen (seen pack.old.areas (P.state pack.old.pool).contents) s)) (HoldsParts self.new (with_seen (seen pack.new.areas (P.state pack.new.pool).contents) s))) }
-        ensures ready { OnOk result (IsReady self.new (seen pack.new.areas (P.state pack.new.pool).contents)) }
-        ensures others { KeepsOthers self.old.id pack.old.areas pack.new.areas (P.state pack.old.pool) (P.state pack.new.pool) }
-        ensures failures { (P.state pack.new.pool).failures ≡ (P.state pack.old.pool).failures + failed_transfers result }
-        ensures says { OnOk result (KeepsSaid self.old.id pack.old.areas (P.state pack.old.pool).contents pack.new.areas (P.state pack.new.pool).contents) }
-        ensures fault { IfErr result (λ fault. fault ≢ PoolFault.NoSector) }
-        ensures stays { Stays self.old self.new }
+        ensures leaves { Leaves result self.old self.new pack.old.areas pack.new.areas (P.state pack.old.pool) (P.state pack.new.pool) }
     {
         match self.next() {
             Next::Halts(number, code) => Ok(self.show(number, code, Vec::new(self.alloc))?),
@@ -242,8 +209,7 @@ impl Level {
         details: Vec<(u16, u8)>,
     ) -> Result<(), AllocError>
         ensures world { (s : Shown) → OnOk result (Becomes (halting number code details.items) (HoldsParts self.old s) (HoldsParts self.new s)) }
-        ensures job { self.new.job ≡ self.old.job }
-        ensures stays { Stays self.old self.new }
+        ensures keeps { KeepsJob self.old self.new }
     {
         self.halts.show(number, code, details)
     }

@@ -1,22 +1,19 @@
 //! The job at work.
-ghost use Rattle.std.specs.Prelude.{◌≡◌, true, false, ◌+◌, ◌<◌, ◌≤◌, [], ◌∷◌, length, map, drop, slice_range, option_map, Some, IfOk, IfSome, IsTrue, OnOk, OnErr, MatchOption, ⊤, ◌≢◌, IfErr};
-ghost use Rattle.s3_store.specs.Inner.State.{KeepsContents, KeepsInStep};
-ghost use Rattle.s3_store.specs.Inner.Failures.{failed_transfers};
-ghost use Rattle.s3_labels.specs.Inner.Labelled.{KeepsSaid};
+ghost use Rattle.std.specs.Prelude.{◌≡◌, true, false, ◌+◌, ◌<◌, ◌≤◌, [], ◌∷◌, length, map, drop, slice_range, option_map, IfOk, IfSome, IsTrue, OnOk, MatchOption, ⊤};
 ghost use Rattle.s3_job_files.specs.Files.{FilesInUse, place_named};
 ghost use Rattle.s3_job_files.specs.Closing.{files_closed};
 ghost use Rattle.s3_job_files.specs.Inner.Calls.{found_answer, put_answer};
 ghost use Rattle.s3_job_files.specs.Requests.{record_chained, record_updated};
-ghost use Rattle.s3_job_files.specs.Inner.Holds.{seen, job_file_of, opened_as, AllAt, IsOutOfReach, Serves, Holds as HoldsInUse, IsReady as AreFilesReady, current_of as current_of_file};
+ghost use Rattle.s3_job_files.specs.Inner.Holds.{seen, job_file_of, AllAt, Serves, Holds as HoldsInUse, IsReady as AreFilesReady, current_of as current_of_file};
 ghost use Rattle.s3_match.specs.Inner.Types.{name_of_file};
-ghost use Rattle.s3_labels.specs.Inner.Areas.{IsReady as IsPackReady};
 ghost use Rattle.s3_meaning.specs.Inner.Requests.{fits, fits_done, refuses_update};
 ghost use Rattle.s3_cycle.specs.Inner.Following.{PassesJumps, Resumes, asked, is_fit, put, waits};
 ghost use Rattle.s3_cycle.specs.Inner.Requests.{answer_of, current_of, sought_of};
 ghost use Rattle.s3_cycle.specs.declared.request.Request.TheVariants as asks;
 ghost use Rattle.s3_solo.specs.Serving.{card_answer};
-ghost use Rattle.s3_level.specs.Inner.Holds.{IsJobReady, IsUntouched, KeepsOthers};
-ghost use Rattle.s3_level.specs.Inner.Turning.{HasFile, IsForFile, IsForRecord, IsPut, KeepsPlace, ServesAt, ServesFile, SuitsRequest, SuitsSought};
+ghost use Rattle.s3_level.specs.Inner.Calls.{CanServe, IsServable, KeepsOpened, LeavesPack, ServesJob};
+ghost use Rattle.s3_level.specs.Inner.Holds.{IsJobReady};
+ghost use Rattle.s3_level.specs.Inner.Turning.{IsForRecord, IsPut, KeepsPlace, ServesAt, SuitsRequest, SuitsSought};
 
 use s3_cards::{Card, Deck};
 use s3_cycle::{Answer, Current, Cycle, Request, Sought};
@@ -104,12 +101,8 @@ fn chain<P: Sectors>(
     requires long { AllAt job_files.old.files.items place (λ file. length bytes.old ≡ file.label.record_length) }
     ensures serves { IfOk result (λ found. Serves (record_chained (sought_of sought.now)) place (found_answer found bytes.new) (HoldsInUse job_files.old.level job_files.old.files.items (seen pack.old.areas (P.state pack.old.pool).contents)) (HoldsInUse job_files.new.level job_files.new.files.items (seen pack.new.areas (P.state pack.new.pool).contents))) }
     ensures ready { AreFilesReady job_files.new.level job_files.new.files.items (seen pack.new.areas (P.state pack.new.pool).contents) }
-    ensures opened { map opened_as job_files.new.files.items ≡ map opened_as job_files.old.files.items }
-    ensures keeps { KeepsContents (P.state pack.old.pool) (P.state pack.new.pool) }
-    ensures areas { pack.new.areas ≡ pack.old.areas }
-    ensures failures { (P.state pack.new.pool).failures ≡ (P.state pack.old.pool).failures + failed_transfers result }
-    ensures fault { IfErr result (λ fault. fault ≢ PoolFault.NoSector) }
-    ensures level { job_files.new.level ≡ job_files.old.level }
+    ensures opened { KeepsOpened job_files.old job_files.new }
+    ensures pack { LeavesPack job_files.old.level result pack.old.areas pack.new.areas (P.state pack.old.pool) (P.state pack.new.pool) }
 {
     match sought {
         Sought::Key(key) => job_files.chain_key(pack, place, key, bytes),
@@ -118,7 +111,6 @@ fn chain<P: Sectors>(
 }
 
 /// Reads the record that the pending request asks for in the file at a place, and answers whether there is one.
-#[tactic(auto, using(crate::proofs::Said::said_same))]
 fn find<P: Sectors>(
     cycle: &Cycle,
     job_files: &mut JobFiles,
@@ -133,12 +125,8 @@ fn find<P: Sectors>(
     ensures serves { IfOk result (λ found. ServesAt (asked cycle.now) (put cycle.now) place (found_answer found bytes.new) (HoldsInUse job_files.old.level job_files.old.files.items (seen pack.old.areas (P.state pack.old.pool).contents)) (HoldsInUse job_files.new.level job_files.new.files.items (seen pack.new.areas (P.state pack.new.pool).contents))) }
     ensures fits { IfOk result (λ found. fits (waits cycle.now) (found_answer found bytes.new) ≡ true) }
     ensures ready { AreFilesReady job_files.new.level job_files.new.files.items (seen pack.new.areas (P.state pack.new.pool).contents) }
-    ensures opened { map opened_as job_files.new.files.items ≡ map opened_as job_files.old.files.items }
-    ensures others { KeepsOthers job_files.old.level pack.old.areas pack.new.areas (P.state pack.old.pool) (P.state pack.new.pool) }
-    ensures failures { (P.state pack.new.pool).failures ≡ (P.state pack.old.pool).failures + failed_transfers result }
-    ensures says { OnOk result (KeepsSaid job_files.old.level pack.old.areas (P.state pack.old.pool).contents pack.new.areas (P.state pack.new.pool).contents) }
-    ensures fault { IfErr result (λ fault. fault ≢ PoolFault.NoSector) }
-    ensures level { job_files.new.level ≡ job_files.old.level }
+    ensures opened { KeepsOpened job_files.old job_files.new }
+    ensures pack { LeavesPack job_files.old.level result pack.old.areas pack.new.areas (P.state pack.old.pool) (P.state pack.new.pool) }
 {
     match cycle.pending() {
         Request::Read { .. } => job_files.read_next(pack, place, bytes),
@@ -161,12 +149,7 @@ fn change<P: Sectors>(
     ensures serves { IfOk result (λ put. Serves (record_updated (option_map current_of current) changes.now) place (put_answer put) (HoldsInUse job_files.now.level job_files.now.files.items (seen pack.old.areas (P.state pack.old.pool).contents)) (HoldsInUse job_files.now.level job_files.now.files.items (seen pack.new.areas (P.state pack.new.pool).contents))) }
     ensures fits { IfOk result (λ put. fits_done refuses_update (put_answer put) ≡ true) }
     ensures ready { OnOk result (AreFilesReady job_files.now.level job_files.now.files.items (seen pack.new.areas (P.state pack.new.pool).contents)) }
-    ensures pack { IsPackReady pack.new.areas (P.state pack.new.pool).contents }
-    ensures spares { KeepsInStep (IsOutOfReach job_files.now.level pack.old.areas.header) (P.state pack.old.pool) (P.state pack.new.pool) }
-    ensures areas { pack.new.areas ≡ pack.old.areas }
-    ensures failures { (P.state pack.new.pool).failures ≡ (P.state pack.old.pool).failures + failed_transfers result }
-    ensures says { OnOk result (KeepsSaid job_files.now.level pack.old.areas (P.state pack.old.pool).contents pack.new.areas (P.state pack.new.pool).contents) }
-    ensures fault { IfErr result (λ fault. fault ≢ PoolFault.NoSector) }
+    ensures pack { LeavesPack job_files.now.level result pack.old.areas pack.new.areas (P.state pack.old.pool) (P.state pack.new.pool) }
 {
     job_files.update(
         pack,
@@ -191,12 +174,8 @@ fn store<P: Sectors>(
     ensures serves { IfOk result (λ stored. ServesAt (asked cycle.now) (put cycle.now) place (put_answer stored) (HoldsInUse job_files.old.level job_files.old.files.items (seen pack.old.areas (P.state pack.old.pool).contents)) (HoldsInUse job_files.new.level job_files.new.files.items (seen pack.new.areas (P.state pack.new.pool).contents))) }
     ensures fits { IfOk result (λ stored. fits (waits cycle.now) (put_answer stored) ≡ true) }
     ensures ready { OnOk result (AreFilesReady job_files.new.level job_files.new.files.items (seen pack.new.areas (P.state pack.new.pool).contents)) }
-    ensures opened { map opened_as job_files.new.files.items ≡ map opened_as job_files.old.files.items }
-    ensures others { KeepsOthers job_files.old.level pack.old.areas pack.new.areas (P.state pack.old.pool) (P.state pack.new.pool) }
-    ensures failures { (P.state pack.new.pool).failures ≡ (P.state pack.old.pool).failures + failed_transfers result }
-    ensures says { OnOk result (KeepsSaid job_files.old.level pack.old.areas (P.state pack.old.pool).contents pack.new.areas (P.state pack.new.pool).contents) }
-    ensures fault { IfErr result (λ fault. fault ≢ PoolFault.NoSector) }
-    ensures level { job_files.new.level ≡ job_files.old.level }
+    ensures opened { KeepsOpened job_files.old job_files.new }
+    ensures pack { LeavesPack job_files.old.level result pack.old.areas pack.new.areas (P.state pack.old.pool) (P.state pack.new.pool) }
 {
     match cycle.pending() {
         Request::Append { .. } => job_files.append(pack, place, cycle.record()),
@@ -210,7 +189,7 @@ fn store<P: Sectors>(
 
 impl OpenJob {
     ghost use Rattle.s3_cycle.specs.Inner.Following.{files};
-    ghost use Rattle.s3_cycle.specs.Inner.Requests.{FitsFile, IsDiskFile};
+    ghost use Rattle.s3_cycle.specs.Inner.Requests.{IsDiskFile};
 
     /// Reads the next data card, if there is one, and goes on with it.
     #[inline(always)]
@@ -263,10 +242,7 @@ impl OpenJob {
         requires ready { AreFilesReady self.files.level self.files.files.items (seen pack.old.areas (P.state pack.old.pool).contents) }
         ensures closes { OnOk result ((in_use : FilesInUse) → HoldsInUse self.files.level self.files.files.items (seen pack.old.areas (P.state pack.old.pool).contents) in_use → HoldsInUse self.files.level [] (seen pack.new.areas (P.state pack.new.pool).contents) (record { files = files_closed in_use.job_files in_use.files; job_files = [] })) }
         ensures ready { OnOk result (AreFilesReady self.files.level [] (seen pack.new.areas (P.state pack.new.pool).contents)) }
-        ensures others { KeepsOthers self.files.level pack.old.areas pack.new.areas (P.state pack.old.pool) (P.state pack.new.pool) }
-        ensures failures { (P.state pack.new.pool).failures ≡ (P.state pack.old.pool).failures + failed_transfers result }
-        ensures says { OnOk result (KeepsSaid self.files.level pack.old.areas (P.state pack.old.pool).contents pack.new.areas (P.state pack.new.pool).contents) }
-        ensures fault { IfErr result (λ fault. fault ≢ PoolFault.NoSector) }
+        ensures pack { LeavesPack self.files.level result pack.old.areas pack.new.areas (P.state pack.old.pool) (P.state pack.new.pool) }
     {
         self.files.close(pack)
     }
@@ -276,18 +252,8 @@ impl OpenJob {
     /// It fails only where the job has the file. After a fault of the sectors no request is to be made.
     #[inline(always)]
     pub fn serve<P: Sectors>(&mut self, pack: &mut Pack<P>) -> Result<bool, PoolFault>
-        requires ready { AreFilesReady self.old.files.level self.old.files.files.items (seen pack.old.areas (P.state pack.old.pool).contents) }
-        requires job { IsJobReady self.old.files.level self.old }
-        ensures serves { IfOk result (λ served. ServesFile served self.old self.new (seen pack.old.areas (P.state pack.old.pool).contents) (seen pack.new.areas (P.state pack.new.pool).contents)) }
-        ensures fails { OnErr result (HasFile self.old (seen pack.old.areas (P.state pack.old.pool).contents)) }
-        ensures ready { OnOk result (AreFilesReady self.new.files.level self.new.files.files.items (seen pack.new.areas (P.state pack.new.pool).contents)) }
-        ensures job { IsJobReady self.new.files.level self.new }
-        ensures place { KeepsPlace self.old self.new }
-        ensures others { KeepsOthers self.old.files.level pack.old.areas pack.new.areas (P.state pack.old.pool) (P.state pack.new.pool) }
-        ensures untouched { IfOk result (λ served. served ≡ false → IsUntouched pack.old.areas pack.new.areas (P.state pack.old.pool) (P.state pack.new.pool)) }
-        ensures failures { (P.state pack.new.pool).failures ≡ (P.state pack.old.pool).failures + failed_transfers result }
-        ensures says { OnOk result (KeepsSaid self.old.files.level pack.old.areas (P.state pack.old.pool).contents pack.new.areas (P.state pack.new.pool).contents) }
-        ensures fault { IfErr result (λ fault. fault ≢ PoolFault.NoSector) }
+        requires { CanServe self.old (seen pack.old.areas (P.state pack.old.pool).contents) }
+        ensures { ServesJob result self.old self.new pack.old.areas pack.new.areas (P.state pack.old.pool) (P.state pack.new.pool) }
     {
         match self.cycle.pending() {
             Request::Read { file, length } => {
@@ -334,22 +300,10 @@ impl OpenJob {
         file: usize,
         length: u16,
     ) -> Result<bool, PoolFault>
-        requires asks { IsForFile file (asked self.old.cycle) }
+        requires able { IsServable file self.old (seen pack.old.areas (P.state pack.old.pool).contents) }
         requires long { IsForRecord length (asked self.old.cycle) }
         requires few { length ≤ 1024 }
-        requires fits { FitsFile (files self.old.cycle) (asked self.old.cycle) (put self.old.cycle) }
-        requires ready { AreFilesReady self.old.files.level self.old.files.files.items (seen pack.old.areas (P.state pack.old.pool).contents) }
-        requires job { IsJobReady self.old.files.level self.old }
-        ensures serves { IfOk result (λ served. ServesFile served self.old self.new (seen pack.old.areas (P.state pack.old.pool).contents) (seen pack.new.areas (P.state pack.new.pool).contents)) }
-        ensures fails { OnErr result (HasFile self.old (seen pack.old.areas (P.state pack.old.pool).contents)) }
-        ensures ready { OnOk result (AreFilesReady self.new.files.level self.new.files.files.items (seen pack.new.areas (P.state pack.new.pool).contents)) }
-        ensures job { IsJobReady self.new.files.level self.new }
-        ensures place { KeepsPlace self.old self.new }
-        ensures others { KeepsOthers self.old.files.level pack.old.areas pack.new.areas (P.state pack.old.pool) (P.state pack.new.pool) }
-        ensures untouched { IfOk result (λ served. served ≡ false → IsUntouched pack.old.areas pack.new.areas (P.state pack.old.pool) (P.state pack.new.pool)) }
-        ensures failures { (P.state pack.new.pool).failures ≡ (P.state pack.old.pool).failures + failed_transfers result }
-        ensures says { OnOk result (KeepsSaid self.old.files.level pack.old.areas (P.state pack.old.pool).contents pack.new.areas (P.state pack.new.pool).contents) }
-        ensures fault { IfErr result (λ fault. fault ≢ PoolFault.NoSector) }
+        ensures { ServesJob result self.old self.new pack.old.areas pack.new.areas (P.state pack.old.pool) (P.state pack.new.pool) }
     {
         if length <= SHORT_RECORD {
             let mut room = [0; SHORT_RECORD as usize];
@@ -366,22 +320,10 @@ impl OpenJob {
         file: usize,
         length: u16,
     ) -> Result<bool, PoolFault>
-        requires asks { IsForFile file (asked self.old.cycle) }
+        requires able { IsServable file self.old (seen pack.old.areas (P.state pack.old.pool).contents) }
         requires long { IsForRecord length (asked self.old.cycle) }
         requires few { length ≤ 1024 }
-        requires fits { FitsFile (files self.old.cycle) (asked self.old.cycle) (put self.old.cycle) }
-        requires ready { AreFilesReady self.old.files.level self.old.files.files.items (seen pack.old.areas (P.state pack.old.pool).contents) }
-        requires job { IsJobReady self.old.files.level self.old }
-        ensures serves { IfOk result (λ served. ServesFile served self.old self.new (seen pack.old.areas (P.state pack.old.pool).contents) (seen pack.new.areas (P.state pack.new.pool).contents)) }
-        ensures fails { OnErr result (HasFile self.old (seen pack.old.areas (P.state pack.old.pool).contents)) }
-        ensures ready { OnOk result (AreFilesReady self.new.files.level self.new.files.files.items (seen pack.new.areas (P.state pack.new.pool).contents)) }
-        ensures job { IsJobReady self.new.files.level self.new }
-        ensures place { KeepsPlace self.old self.new }
-        ensures others { KeepsOthers self.old.files.level pack.old.areas pack.new.areas (P.state pack.old.pool) (P.state pack.new.pool) }
-        ensures untouched { IfOk result (λ served. served ≡ false → IsUntouched pack.old.areas pack.new.areas (P.state pack.old.pool) (P.state pack.new.pool)) }
-        ensures failures { (P.state pack.new.pool).failures ≡ (P.state pack.old.pool).failures + failed_transfers result }
-        ensures says { OnOk result (KeepsSaid self.old.files.level pack.old.areas (P.state pack.old.pool).contents pack.new.areas (P.state pack.new.pool).contents) }
-        ensures fault { IfErr result (λ fault. fault ≢ PoolFault.NoSector) }
+        ensures { ServesJob result self.old self.new pack.old.areas pack.new.areas (P.state pack.old.pool) (P.state pack.new.pool) }
     {
         let mut room = [0; LONGEST_RECORD];
         self.read_into(pack, file, &mut room[..length as usize])
@@ -395,21 +337,9 @@ impl OpenJob {
         file: usize,
         bytes: &mut [u8],
     ) -> Result<bool, PoolFault>
-        requires asks { IsForFile file (asked self.old.cycle) }
+        requires able { IsServable file self.old (seen pack.old.areas (P.state pack.old.pool).contents) }
         requires long { IsForRecord (length bytes.old) (asked self.old.cycle) }
-        requires fits { FitsFile (files self.old.cycle) (asked self.old.cycle) (put self.old.cycle) }
-        requires ready { AreFilesReady self.old.files.level self.old.files.files.items (seen pack.old.areas (P.state pack.old.pool).contents) }
-        requires job { IsJobReady self.old.files.level self.old }
-        ensures serves { IfOk result (λ served. ServesFile served self.old self.new (seen pack.old.areas (P.state pack.old.pool).contents) (seen pack.new.areas (P.state pack.new.pool).contents)) }
-        ensures fails { OnErr result (HasFile self.old (seen pack.old.areas (P.state pack.old.pool).contents)) }
-        ensures ready { OnOk result (AreFilesReady self.new.files.level self.new.files.files.items (seen pack.new.areas (P.state pack.new.pool).contents)) }
-        ensures job { IsJobReady self.new.files.level self.new }
-        ensures place { KeepsPlace self.old self.new }
-        ensures others { KeepsOthers self.old.files.level pack.old.areas pack.new.areas (P.state pack.old.pool) (P.state pack.new.pool) }
-        ensures untouched { IfOk result (λ served. served ≡ false → IsUntouched pack.old.areas pack.new.areas (P.state pack.old.pool) (P.state pack.new.pool)) }
-        ensures failures { (P.state pack.new.pool).failures ≡ (P.state pack.old.pool).failures + failed_transfers result }
-        ensures says { OnOk result (KeepsSaid self.old.files.level pack.old.areas (P.state pack.old.pool).contents pack.new.areas (P.state pack.new.pool).contents) }
-        ensures fault { IfErr result (λ fault. fault ≢ PoolFault.NoSector) }
+        ensures { ServesJob result self.old self.new pack.old.areas pack.new.areas (P.state pack.old.pool) (P.state pack.new.pool) }
     {
         let Some(place) = self.place_of(file) else {
             return Ok(false);
@@ -422,21 +352,9 @@ impl OpenJob {
     /// Serves the pending request, one that puts a record into a file or changes one there.
     #[inline(never)]
     fn write<P: Sectors>(&mut self, pack: &mut Pack<P>, file: usize) -> Result<bool, PoolFault>
-        requires asks { IsForFile file (asked self.old.cycle) }
+        requires able { IsServable file self.old (seen pack.old.areas (P.state pack.old.pool).contents) }
         requires puts { IsPut (asked self.old.cycle) }
-        requires fits { FitsFile (files self.old.cycle) (asked self.old.cycle) (put self.old.cycle) }
-        requires ready { AreFilesReady self.old.files.level self.old.files.files.items (seen pack.old.areas (P.state pack.old.pool).contents) }
-        requires job { IsJobReady self.old.files.level self.old }
-        ensures serves { IfOk result (λ served. ServesFile served self.old self.new (seen pack.old.areas (P.state pack.old.pool).contents) (seen pack.new.areas (P.state pack.new.pool).contents)) }
-        ensures fails { OnErr result (HasFile self.old (seen pack.old.areas (P.state pack.old.pool).contents)) }
-        ensures ready { OnOk result (AreFilesReady self.new.files.level self.new.files.files.items (seen pack.new.areas (P.state pack.new.pool).contents)) }
-        ensures job { IsJobReady self.new.files.level self.new }
-        ensures place { KeepsPlace self.old self.new }
-        ensures others { KeepsOthers self.old.files.level pack.old.areas pack.new.areas (P.state pack.old.pool) (P.state pack.new.pool) }
-        ensures untouched { IfOk result (λ served. served ≡ false → IsUntouched pack.old.areas pack.new.areas (P.state pack.old.pool) (P.state pack.new.pool)) }
-        ensures failures { (P.state pack.new.pool).failures ≡ (P.state pack.old.pool).failures + failed_transfers result }
-        ensures says { OnOk result (KeepsSaid self.old.files.level pack.old.areas (P.state pack.old.pool).contents pack.new.areas (P.state pack.new.pool).contents) }
-        ensures fault { IfErr result (λ fault. fault ≢ PoolFault.NoSector) }
+        ensures { ServesJob result self.old self.new pack.old.areas pack.new.areas (P.state pack.old.pool) (P.state pack.new.pool) }
     {
         let Some(place) = self.place_of(file) else {
             return Ok(false);

@@ -17,36 +17,28 @@ use s3_store::{PoolFault, Sectors};
 use std::alloc::AllocError;
 
 impl Level {
-    ghost use Rattle.std.specs.Prelude.{◌≡◌, ◌≢◌, ◌<◌, ◌≤◌, ◌+◌, [], true, false, nat_lt, length, unwrap_or, None, IfOk, IsTrue, OnOk, IfErr};
-    ghost use Rattle.std.specs.List.{list_all};
-    ghost use Rattle.s3_store.specs.Inner.Failures.{failed_transfers};
-    ghost use Rattle.s3_labels.specs.Inner.Labelled.{KeepsSaid};
+    ghost use Rattle.std.specs.Prelude.{◌≡◌, ◌≢◌, ◌<◌, ◌≤◌, [], true, false, nat_lt, length, unwrap_or, None, IfOk, IsTrue, OnOk};
     ghost use Rattle.s3_meaning.specs.Source.{Source};
     ghost use Rattle.s3_program.specs.Inner.Stands.{Stands};
     ghost use Rattle.s3_ocl.specs.Jobs.{next_job};
-    ghost use Rattle.s3_ocl.specs.Inner.Sound.{is_sound_date, is_sound_file};
+    ghost use Rattle.s3_ocl.specs.Inner.Sound.{is_sound_date};
     ghost use Rattle.s3_ocl.specs.Streams.{jobs_from};
     ghost use Rattle.s3_job_files.specs.Files.{FilesInUse};
     ghost use Rattle.s3_job_files.specs.Inner.Holds.{Seen, seen, Holds as HoldsInUse, IsReady as AreFilesReady};
     ghost use Rattle.s3_opening.specs.Inner.OpenFiles.{AreOfLines};
     ghost use Rattle.s3_solo.specs.World.{World};
     ghost use Rattle.s3_solo.specs.Serving.{at_work, data_of, performed, run, started, switches_after, with_jobs};
-    ghost use Rattle.s3_level.specs.Inner.Holds.{Shown, with_seen, HoldsParts, IsQuiet, IsReady, Becomes, Stays, KeepsOthers};
+    ghost use Rattle.s3_level.specs.Inner.Calls.{IsJobOf, KeepsJob, Leaves, MayBegin};
+    ghost use Rattle.s3_level.specs.Inner.Holds.{Shown, with_seen, HoldsParts, IsQuiet, IsReady, Becomes, Stays};
     ghost use Rattle.s3_level.specs.Inner.Turning.{NextIs, Begins, Starts};
 
     /// Begins the next job, if there is one.
     #[inline(never)]
     pub(crate) fn begin<P: Sectors>(&mut self, pack: &mut Pack<P>) -> Result<Did, PoolFault>
-        requires ready { IsReady self.old (seen pack.old.areas (P.state pack.old.pool).contents) }
-        requires rests { self.old.job ≡ None }
+        requires free { MayBegin self.old (seen pack.old.areas (P.state pack.old.pool).contents) }
         ensures world { (s : Shown) → Begins result (HoldsParts self.old (with_seen (seen pack.old.areas (P.state pack.old.pool).contents) s)) (HoldsParts self.new (with_seen (seen pack.new.areas (P.state pack.new.pool).contents) s)) }
-        ensures ready { OnOk result (IsReady self.new (seen pack.new.areas (P.state pack.new.pool).contents)) }
-        ensures others { KeepsOthers self.old.id pack.old.areas pack.new.areas (P.state pack.old.pool) (P.state pack.new.pool) }
+        ensures leaves { Leaves result self.old self.new pack.old.areas pack.new.areas (P.state pack.old.pool) (P.state pack.new.pool) }
         ensures quiet { IfOk result (λ did. IsQuiet did pack.old.areas pack.new.areas (P.state pack.old.pool) (P.state pack.new.pool)) }
-        ensures failures { (P.state pack.new.pool).failures ≡ (P.state pack.old.pool).failures + failed_transfers result }
-        ensures says { OnOk result (KeepsSaid self.old.id pack.old.areas (P.state pack.old.pool).contents pack.new.areas (P.state pack.new.pool).contents) }
-        ensures fault { IfErr result (λ fault. fault ≢ PoolFault.NoSector) }
-        ensures stays { Stays self.old self.new }
     {
         if !self.has_job() {
             self.pass_over();
@@ -75,8 +67,7 @@ impl Level {
     fn pass_over(&mut self)
         requires { jobs_from self.old.deck self.old.next ≡ [] }
         ensures world { (s : Shown) → Becomes (λ w. w) (HoldsParts self.old s) (HoldsParts self.new s) }
-        ensures job { self.new.job ≡ self.old.job }
-        ensures stays { Stays self.old self.new }
+        ensures keeps { KeepsJob self.old self.new }
     {
         self.next = self.deck.len();
     }
@@ -86,9 +77,7 @@ impl Level {
     fn next_job(&self) -> Result<JobCards, OclFault>
         requires { next_job self.now.deck self.now.next < length self.now.deck }
         ensures job { NextIs self.now.deck self.now.next result }
-        ensures within { IfOk result (λ job. job.data_to ≤ length self.now.deck) }
-        ensures sound { IfOk result (λ job. IsTrue (list_all is_sound_file job.files)) }
-        ensures dated { IfOk result (λ job. IsTrue (is_sound_date job.date)) }
+        ensures sound { IfOk result (IsJobOf self.now.deck) }
     {
         split(self.alloc, &self.deck, self.next)
     }
@@ -97,8 +86,7 @@ impl Level {
     fn take_job(&mut self, after: usize) -> u16
         ensures number { result ≡ self.old.number }
         ensures world { (s : Shown) → Becomes (with_jobs (jobs_from self.old.deck after)) (HoldsParts self.old s) (HoldsParts self.new s) }
-        ensures job { self.new.job ≡ self.old.job }
-        ensures stays { Stays self.old self.new }
+        ensures keeps { KeepsJob self.old self.new }
     {
         self.next = after;
         self.number.take()
@@ -107,8 +95,7 @@ impl Level {
     /// Passes a faulty job over and shows its fault.
     fn refuse(&mut self, faulty: FaultyJob) -> Result<(), AllocError>
         ensures world { (s : Shown) → OnOk result (Starts (Err faulty) (jobs_from self.old.deck faulty.after) (HoldsParts self.old s) (HoldsParts self.new s)) }
-        ensures job { self.new.job ≡ self.old.job }
-        ensures stays { Stays self.old self.new }
+        ensures keeps { KeepsJob self.old self.new }
     {
         let number = self.take_job(faulty.after);
         self.show_fault(number, faulty)
@@ -117,8 +104,7 @@ impl Level {
     /// Shows the fault of a job's statements.
     fn show_fault(&mut self, number: u16, faulty: FaultyJob) -> Result<(), AllocError>
         ensures world { (s : Shown) → OnOk result (Becomes (started number (Err faulty)) (HoldsParts self.old s) (HoldsParts self.new s)) }
-        ensures job { self.new.job ≡ self.old.job }
-        ensures stays { Stays self.old self.new }
+        ensures keeps { KeepsJob self.old self.new }
     {
         let details = one_detail(self.alloc, faulty.card, faulty.fault.number())?;
         self.show(number, HaltCode::FaultyJob, details)
@@ -126,18 +112,10 @@ impl Level {
 
     /// Starts the next job.
     fn start<P: Sectors>(&mut self, job: &JobCards, pack: &mut Pack<P>) -> Result<(), PoolFault>
-        requires within { job.now.data_to ≤ length self.old.deck }
-        requires sound { IsTrue (list_all is_sound_file job.now.files) }
-        requires dated { IsTrue (is_sound_date job.now.date) }
-        requires ready { IsReady self.old (seen pack.old.areas (P.state pack.old.pool).contents) }
-        requires rests { self.old.job ≡ None }
+        requires sound { IsJobOf self.old.deck job.now }
+        requires free { MayBegin self.old (seen pack.old.areas (P.state pack.old.pool).contents) }
         ensures world { (s : Shown) → OnOk result (Starts (Ok job.now) (jobs_from self.old.deck job.now.after) (HoldsParts self.old (with_seen (seen pack.old.areas (P.state pack.old.pool).contents) s)) (HoldsParts self.new (with_seen (seen pack.new.areas (P.state pack.new.pool).contents) s))) }
-        ensures ready { OnOk result (IsReady self.new (seen pack.new.areas (P.state pack.new.pool).contents)) }
-        ensures others { KeepsOthers self.old.id pack.old.areas pack.new.areas (P.state pack.old.pool) (P.state pack.new.pool) }
-        ensures failures { (P.state pack.new.pool).failures ≡ (P.state pack.old.pool).failures + failed_transfers result }
-        ensures says { OnOk result (KeepsSaid self.old.id pack.old.areas (P.state pack.old.pool).contents pack.new.areas (P.state pack.new.pool).contents) }
-        ensures fault { IfErr result (λ fault. fault ≢ PoolFault.NoSector) }
-        ensures stays { Stays self.old self.new }
+        ensures leaves { Leaves result self.old self.new pack.old.areas pack.new.areas (P.state pack.old.pool) (P.state pack.new.pool) }
     {
         let number = self.take_job(job.after());
         self.set(job);
@@ -163,17 +141,10 @@ impl Level {
         job: &JobCards,
         pack: &mut Pack<P>,
     ) -> Result<(), PoolFault>
-        requires within { job.now.data_to ≤ length self.old.deck }
-        requires sound { IsTrue (list_all is_sound_file job.now.files) }
-        requires ready { IsReady self.old (seen pack.old.areas (P.state pack.old.pool).contents) }
-        requires rests { self.old.job ≡ None }
+        requires sound { IsJobOf self.old.deck job.now }
+        requires free { MayBegin self.old (seen pack.old.areas (P.state pack.old.pool).contents) }
         ensures world { (s : Shown) → OnOk result (Becomes (performed number job.now (data_of self.old.deck job.now)) (HoldsParts self.old (with_seen (seen pack.old.areas (P.state pack.old.pool).contents) s)) (HoldsParts self.new (with_seen (seen pack.new.areas (P.state pack.new.pool).contents) s))) }
-        ensures ready { OnOk result (IsReady self.new (seen pack.new.areas (P.state pack.new.pool).contents)) }
-        ensures others { KeepsOthers self.old.id pack.old.areas pack.new.areas (P.state pack.old.pool) (P.state pack.new.pool) }
-        ensures failures { (P.state pack.new.pool).failures ≡ (P.state pack.old.pool).failures + failed_transfers result }
-        ensures says { OnOk result (KeepsSaid self.old.id pack.old.areas (P.state pack.old.pool).contents pack.new.areas (P.state pack.new.pool).contents) }
-        ensures fault { IfErr result (λ fault. fault ≢ PoolFault.NoSector) }
-        ensures stays { Stays self.old self.new }
+        ensures leaves { Leaves result self.old self.new pack.old.areas pack.new.areas (P.state pack.old.pool) (P.state pack.new.pool) }
     {
         if job.is_compile() {
             Ok(self.compile(number, job.run_card(), job.data_from(), job.data_to())?)
@@ -183,23 +154,17 @@ impl Level {
     }
 
     /// Starts the program of a job over its files and data, or shows for what the job halts.
-    #[tactic(auto, using(crate::proofs::Starting::files_in_range, crate::proofs::Said::said_then, crate::proofs::Said::said_same))]
+    #[tactic(auto, using(crate::proofs::Starting::files_in_range))]
     fn run<P: Sectors>(
         &mut self,
         number: u16,
         job: &JobCards,
         pack: &mut Pack<P>,
     ) -> Result<(), PoolFault>
-        requires sound { IsTrue (list_all is_sound_file job.now.files) }
-        requires ready { IsReady self.old (seen pack.old.areas (P.state pack.old.pool).contents) }
-        requires rests { self.old.job ≡ None }
+        requires sound { IsJobOf self.old.deck job.now }
+        requires free { MayBegin self.old (seen pack.old.areas (P.state pack.old.pool).contents) }
         ensures world { (s : Shown) → OnOk result (Becomes (λ w. run number job.now.files (data_of self.old.deck job.now) (w.library job.now.program) w) (HoldsParts self.old (with_seen (seen pack.old.areas (P.state pack.old.pool).contents) s)) (HoldsParts self.new (with_seen (seen pack.new.areas (P.state pack.new.pool).contents) s))) }
-        ensures ready { OnOk result (IsReady self.new (seen pack.new.areas (P.state pack.new.pool).contents)) }
-        ensures others { KeepsOthers self.old.id pack.old.areas pack.new.areas (P.state pack.old.pool) (P.state pack.new.pool) }
-        ensures failures { (P.state pack.new.pool).failures ≡ (P.state pack.old.pool).failures + failed_transfers result }
-        ensures says { OnOk result (KeepsSaid self.old.id pack.old.areas (P.state pack.old.pool).contents pack.new.areas (P.state pack.new.pool).contents) }
-        ensures fault { IfErr result (λ fault. fault ≢ PoolFault.NoSector) }
-        ensures stays { Stays self.old self.new }
+        ensures leaves { Leaves result self.old self.new pack.old.areas pack.new.areas (P.state pack.old.pool) (P.state pack.new.pool) }
     {
         let Some(program) = self.library.get(&job.program()) else {
             return Ok(self.show(number, HaltCode::NoProgram, Vec::new(self.alloc))?);
@@ -236,12 +201,7 @@ impl Level {
         requires level { job_files.level ≡ self.old.id }
         requires lines { AreOfLines self.old.switches program.files.items job_files.files.items }
         ensures world { (s : Shown) (before : Seen) → OnOk result ((w : World) (source : Source) (in_use : FilesInUse) → Stands program source → HoldsParts self.old (with_seen before s) w → HoldsInUse self.old.id job_files.files.items (seen pack.old.areas (P.state pack.old.pool).contents) in_use → HoldsParts self.new (with_seen (seen pack.new.areas (P.state pack.new.pool).contents) s) (at_work (record { number = number; source = source; cards = data_of self.old.deck job.now; files = in_use.job_files; past = [] }) (record w { pack = in_use.files }))) }
-        ensures ready { OnOk result (IsReady self.new (seen pack.new.areas (P.state pack.new.pool).contents)) }
-        ensures others { KeepsOthers self.old.id pack.old.areas pack.new.areas (P.state pack.old.pool) (P.state pack.new.pool) }
-        ensures failures { (P.state pack.new.pool).failures ≡ (P.state pack.old.pool).failures + failed_transfers result }
-        ensures says { OnOk result (KeepsSaid self.old.id pack.old.areas (P.state pack.old.pool).contents pack.new.areas (P.state pack.new.pool).contents) }
-        ensures fault { IfErr result (λ fault. fault ≢ PoolFault.NoSector) }
-        ensures stays { Stays self.old self.new }
+        ensures leaves { Leaves result self.old self.new pack.old.areas pack.new.areas (P.state pack.old.pool) (P.state pack.new.pool) }
     {
         let cycle = Cycle::start(self.alloc, program, self.switches, self.date.digits())?;
         self.open(OpenJob {

@@ -8,15 +8,14 @@ use s3_operator::{HaltCode, ReplyFault, allowed};
 use s3_store::{PoolFault, Sectors};
 
 impl Level {
-    ghost use Rattle.std.specs.Prelude.{◌≡◌, ◌+◌, true, OnOk, OnErr, option_and_then, ◌≢◌, IfErr};
-    ghost use Rattle.s3_store.specs.Inner.Failures.{failed_transfers};
-    ghost use Rattle.s3_labels.specs.Inner.Labelled.{KeepsSaid};
+    ghost use Rattle.std.specs.Prelude.{◌≡◌, true, OnOk, OnErr, option_and_then};
     ghost use Rattle.s3_cycle.specs.declared.request.Answer.TheVariants as answers;
     ghost use Rattle.s3_job_files.specs.Inner.Holds.{seen};
     ghost use Rattle.s3_operator.specs.Halts.{answer_to, waiting, with_reply};
     ghost use Rattle.s3_solo.specs.World.{World, JobAtWork};
     ghost use Rattle.s3_solo.specs.Solo.{resumed};
-    ghost use Rattle.s3_level.specs.Inner.Holds.{Shown, with_seen, HoldsParts, IsReady, Becomes, Stays, KeepsOthers};
+    ghost use Rattle.s3_level.specs.Inner.Calls.{KeepsJob, Leaves};
+    ghost use Rattle.s3_level.specs.Inner.Holds.{Shown, with_seen, HoldsParts, IsReady, Becomes};
     ghost use Rattle.s3_level.specs.Inner.Turning.{code_asked, request_by, FitsJob, MayReply};
 
     /// Gives the halt that waits its reply.
@@ -24,8 +23,7 @@ impl Level {
         ensures answer { result ≡ answer_to digit (waiting self.old.halts) }
         ensures given { (s : Shown) → OnOk result (Becomes (λ w. record w { halts = with_reply digit w.halts }) (HoldsParts self.old s) (HoldsParts self.new s)) }
         ensures refused { OnErr result (self.new ≡ self.old) }
-        ensures job { self.new.job ≡ self.old.job }
-        ensures stays { Stays self.old self.new }
+        ensures keeps { KeepsJob self.old self.new }
     {
         self.halts.reply(digit)
     }
@@ -39,12 +37,7 @@ impl Level {
     ) -> Result<(), PoolFault>
         requires ready { IsReady self.old (seen pack.old.areas (P.state pack.old.pool).contents) }
         ensures world { (s : Shown) → OnOk result ((w : World) → MayReply digit w → HoldsParts self.old (with_seen (seen pack.old.areas (P.state pack.old.pool).contents) s) w → HoldsParts self.new (with_seen (seen pack.new.areas (P.state pack.new.pool).contents) s) (resumed digit w.job w)) }
-        ensures ready { OnOk result (IsReady self.new (seen pack.new.areas (P.state pack.new.pool).contents)) }
-        ensures others { KeepsOthers self.old.id pack.old.areas pack.new.areas (P.state pack.old.pool) (P.state pack.new.pool) }
-        ensures failures { (P.state pack.new.pool).failures ≡ (P.state pack.old.pool).failures + failed_transfers result }
-        ensures says { OnOk result (KeepsSaid self.old.id pack.old.areas (P.state pack.old.pool).contents pack.new.areas (P.state pack.new.pool).contents) }
-        ensures fault { IfErr result (λ fault. fault ≢ PoolFault.NoSector) }
-        ensures stays { Stays self.old self.new }
+        ensures leaves { Leaves result self.old self.new pack.old.areas pack.new.areas (P.state pack.old.pool) (P.state pack.new.pool) }
     {
         if self.takes(digit) {
             self.resume(Answer::Reply(digit), pack)

@@ -8,16 +8,15 @@ use s3_spool::{ComposedLine, Spool, SpoolFault};
 use s3_store::{PoolFault, Sectors};
 
 impl Level {
-    ghost use Rattle.std.specs.Prelude.{◌≡◌, ◌≢◌, ◌<◌, ◌+◌, ℕ, List, false, length, IfOk, OnOk, OnErr, IfErr};
-    ghost use Rattle.s3_store.specs.Inner.Failures.{failed_transfers};
-    ghost use Rattle.s3_labels.specs.Inner.Labelled.{KeepsSaid};
+    ghost use Rattle.std.specs.Prelude.{◌≡◌, ◌≢◌, ◌<◌, ℕ, List, false, length, IfOk, OnOk, OnErr};
     ghost use Rattle.s3_meaning.specs.Requests as Meant;
     ghost use Rattle.s3_cycle.specs.declared.request.Request.TheVariants as asks;
     ghost use Rattle.s3_spool.specs.Inner.Queues.{blocks_of, quota_of};
     ghost use Rattle.s3_solo.specs.declared.action.Did.TheVariants.{Acted};
-    ghost use Rattle.s3_job_files.specs.Inner.Holds.{Seen, seen};
+    ghost use Rattle.s3_job_files.specs.Inner.Holds.{seen};
     ghost use Rattle.s3_solo.specs.Serving.{card_answer, line_put, served, with_answer, with_card_read};
-    ghost use Rattle.s3_level.specs.Inner.Holds.{Shown, AreAll, around, shown, with_seen, HoldsParts, IsQuiet, IsReady, IsUntouched, Becomes, Stays, Spares, KeepsOthers};
+    ghost use Rattle.s3_level.specs.Inner.Calls.{KeepsReady, Leaves, LeavesAll};
+    ghost use Rattle.s3_level.specs.Inner.Holds.{Shown, AreAll, around, shown, with_seen, HoldsParts, IsQuiet, IsReady, IsUntouched, Becomes};
     ghost use Rattle.s3_level.specs.Inner.Turning.{request_by, waits_by, Acts, AtWorkBecomes, Serves, FileServed, FileThere, on_files};
 
     /// Reads a card for the job at work.
@@ -27,13 +26,8 @@ impl Level {
         requires asks { request_by self.old.job ≡ Some asks.Card }
         requires ready { IsReady self.old (seen pack.old.areas (P.state pack.old.pool).contents) }
         ensures served { (s : Shown) → Serves (served Meant.Card) result (HoldsParts self.old (with_seen (seen pack.old.areas (P.state pack.old.pool).contents) s)) (HoldsParts self.new (with_seen (seen pack.new.areas (P.state pack.new.pool).contents) s)) }
-        ensures ready { OnOk result (IsReady self.new (seen pack.new.areas (P.state pack.new.pool).contents)) }
-        ensures others { KeepsOthers self.old.id pack.old.areas pack.new.areas (P.state pack.old.pool) (P.state pack.new.pool) }
+        ensures leaves { Leaves result self.old self.new pack.old.areas pack.new.areas (P.state pack.old.pool) (P.state pack.new.pool) }
         ensures quiet { IfOk result (λ did. IsQuiet did pack.old.areas pack.new.areas (P.state pack.old.pool) (P.state pack.new.pool)) }
-        ensures failures { (P.state pack.new.pool).failures ≡ (P.state pack.old.pool).failures + failed_transfers result }
-        ensures says { OnOk result (KeepsSaid self.old.id pack.old.areas (P.state pack.old.pool).contents pack.new.areas (P.state pack.new.pool).contents) }
-        ensures fault { IfErr result (λ fault. fault ≢ PoolFault.NoSector) }
-        ensures stays { Stays self.old self.new }
     {
         self.take_card();
         self.stand(pack)?;
@@ -46,8 +40,7 @@ impl Level {
     fn take_card(&mut self)
         requires { request_by self.old.job ≡ Some asks.Card }
         ensures world { (s : Shown) → AtWorkBecomes (λ job w. record w { job = Some (with_answer (card_answer job.cards) (with_card_read job)) }) (HoldsParts self.old s) (HoldsParts self.new s) }
-        ensures ready { (pack : Seen) → IsReady self.old pack → IsReady self.new pack }
-        ensures stays { Stays self.old self.new }
+        ensures keeps { KeepsReady self.old self.new }
     {
         if let Some(job) = &mut self.job {
             job.read_card(&self.deck);
@@ -56,17 +49,11 @@ impl Level {
 
     /// Serves the pending request of the job at work, one to a file.
     #[inline(always)]
-    #[tactic(auto, using(crate::proofs::Said::said_then))]
     pub(crate) fn serve_file<P: Sectors>(&mut self, pack: &mut Pack<P>) -> Result<Did, PoolFault>
         requires ready { IsReady self.old (seen pack.old.areas (P.state pack.old.pool).contents) }
         ensures served { (s : Shown) → Serves on_files result (HoldsParts self.old (with_seen (seen pack.old.areas (P.state pack.old.pool).contents) s)) (HoldsParts self.new (with_seen (seen pack.new.areas (P.state pack.new.pool).contents) s)) }
-        ensures ready { OnOk result (IsReady self.new (seen pack.new.areas (P.state pack.new.pool).contents)) }
-        ensures others { KeepsOthers self.old.id pack.old.areas pack.new.areas (P.state pack.old.pool) (P.state pack.new.pool) }
+        ensures leaves { Leaves result self.old self.new pack.old.areas pack.new.areas (P.state pack.old.pool) (P.state pack.new.pool) }
         ensures quiet { IfOk result (λ did. IsQuiet did pack.old.areas pack.new.areas (P.state pack.old.pool) (P.state pack.new.pool)) }
-        ensures failures { (P.state pack.new.pool).failures ≡ (P.state pack.old.pool).failures + failed_transfers result }
-        ensures says { OnOk result (KeepsSaid self.old.id pack.old.areas (P.state pack.old.pool).contents pack.new.areas (P.state pack.new.pool).contents) }
-        ensures fault { IfErr result (λ fault. fault ≢ PoolFault.NoSector) }
-        ensures stays { Stays self.old self.new }
     {
         let took = self.take_file(pack)?;
         if took {
@@ -83,13 +70,8 @@ impl Level {
         requires ready { IsReady self.old (seen pack.old.areas (P.state pack.old.pool).contents) }
         ensures served { (s : Shown) → IfOk result (λ took. FileServed took (HoldsParts self.old (with_seen (seen pack.old.areas (P.state pack.old.pool).contents) s)) (HoldsParts self.new (with_seen (seen pack.new.areas (P.state pack.new.pool).contents) s))) }
         ensures fails { (s : Shown) → OnErr result (FileThere (HoldsParts self.old (with_seen (seen pack.old.areas (P.state pack.old.pool).contents) s))) }
-        ensures ready { OnOk result (IsReady self.new (seen pack.new.areas (P.state pack.new.pool).contents)) }
-        ensures others { KeepsOthers self.old.id pack.old.areas pack.new.areas (P.state pack.old.pool) (P.state pack.new.pool) }
+        ensures leaves { Leaves result self.old self.new pack.old.areas pack.new.areas (P.state pack.old.pool) (P.state pack.new.pool) }
         ensures untouched { IfOk result (λ took. took ≡ false → IsUntouched pack.old.areas pack.new.areas (P.state pack.old.pool) (P.state pack.new.pool)) }
-        ensures failures { (P.state pack.new.pool).failures ≡ (P.state pack.old.pool).failures + failed_transfers result }
-        ensures says { OnOk result (KeepsSaid self.old.id pack.old.areas (P.state pack.old.pool).contents pack.new.areas (P.state pack.new.pool).contents) }
-        ensures fault { IfErr result (λ fault. fault ≢ PoolFault.NoSector) }
-        ensures stays { Stays self.old self.new }
     {
         match &mut self.job {
             Some(job) => job.serve(pack),
@@ -99,7 +81,7 @@ impl Level {
 
     /// Prints the line of the job at work, unless the queue is full.
     #[inline(always)]
-    #[tactic(auto, using(crate::proofs::Printing::line_waits, crate::proofs::Beside::spares_none))]
+    #[tactic(auto, using(crate::proofs::Printing::line_waits))]
     pub(crate) fn print<P: Sectors>(
         &mut self,
         page: u16,
@@ -111,14 +93,9 @@ impl Level {
         requires ready { IsReady self.old (seen pack.old.areas (P.state pack.old.pool).contents) }
         requires blocks { AreAll spool.old }
         ensures served { (text : List ℕ) → waits_by self.old.job ≡ Some (Meant.Print page line text) → Serves (served (Meant.Print page line text)) result (HoldsParts self.old (shown self.old.id (around pack.old.areas (P.state pack.old.pool) spool.old))) (HoldsParts self.new (shown self.old.id (around pack.new.areas (P.state pack.new.pool) spool.new))) }
-        ensures ready { OnOk result (IsReady self.new (seen pack.new.areas (P.state pack.new.pool).contents)) }
-        ensures spares { Spares self.old.id (around pack.old.areas (P.state pack.old.pool) spool.old) (around pack.new.areas (P.state pack.new.pool) spool.new) }
+        ensures leaves { LeavesAll result self.old self.new (around pack.old.areas (P.state pack.old.pool) spool.old) (around pack.new.areas (P.state pack.new.pool) spool.new) }
         ensures quiet { IfOk result (λ did. IsQuiet did pack.old.areas pack.new.areas (P.state pack.old.pool) (P.state pack.new.pool)) }
         ensures queues { IfOk result (λ did. did ≢ Acted → spool.new ≡ spool.old) }
-        ensures failures { (P.state pack.new.pool).failures ≡ (P.state pack.old.pool).failures + failed_transfers result }
-        ensures says { OnOk result (KeepsSaid self.old.id pack.old.areas (P.state pack.old.pool).contents pack.new.areas (P.state pack.new.pool).contents) }
-        ensures fault { IfErr result (λ fault. fault ≢ PoolFault.NoSector) }
-        ensures stays { Stays self.old self.new }
     {
         if spool.is_full(self.id) {
             return Ok(Did::Idle);
@@ -129,7 +106,6 @@ impl Level {
 
     /// Prints the line of the job at work into a queue that has room for it.
     #[inline(never)]
-    #[tactic(auto, using(crate::proofs::Said::said_then))]
     fn print_line<P: Sectors>(
         &mut self,
         page: u16,
@@ -142,12 +118,7 @@ impl Level {
         requires blocks { AreAll spool.old }
         requires room { length (blocks_of self.old.id spool.old) < quota_of self.old.id spool.old }
         ensures served { OnOk result ((text : List ℕ) → waits_by self.old.job ≡ Some (Meant.Print page line text) → Acts (served (Meant.Print page line text)) (HoldsParts self.old (shown self.old.id (around pack.old.areas (P.state pack.old.pool) spool.old))) (HoldsParts self.new (shown self.old.id (around pack.new.areas (P.state pack.new.pool) spool.new)))) }
-        ensures ready { OnOk result (IsReady self.new (seen pack.new.areas (P.state pack.new.pool).contents)) }
-        ensures spares { Spares self.old.id (around pack.old.areas (P.state pack.old.pool) spool.old) (around pack.new.areas (P.state pack.new.pool) spool.new) }
-        ensures failures { (P.state pack.new.pool).failures ≡ (P.state pack.old.pool).failures + failed_transfers result }
-        ensures says { OnOk result (KeepsSaid self.old.id pack.old.areas (P.state pack.old.pool).contents pack.new.areas (P.state pack.new.pool).contents) }
-        ensures fault { IfErr result (λ fault. fault ≢ PoolFault.NoSector) }
-        ensures stays { Stays self.old self.new }
+        ensures leaves { LeavesAll result self.old self.new (around pack.old.areas (P.state pack.old.pool) spool.old) (around pack.new.areas (P.state pack.new.pool) spool.new) }
     {
         self.put_line(page, line, pack, spool)?;
         self.resume(Answer::Done, pack)?;
@@ -155,7 +126,7 @@ impl Level {
     }
 
     /// Puts the line of the job at work last in the queue, which has room for it.
-    #[tactic(auto, using(crate::proofs::Printing::line_last, crate::proofs::Beside::spares_none))]
+    #[tactic(auto, using(crate::proofs::Printing::line_last))]
     fn put_line<P: Sectors>(
         &self,
         page: u16,
@@ -168,11 +139,7 @@ impl Level {
         requires blocks { AreAll spool.old }
         requires room { length (blocks_of self.now.id spool.old) ≢ quota_of self.now.id spool.old }
         ensures world { OnOk result ((text : List ℕ) → waits_by self.now.job ≡ Some (Meant.Print page line text) → Becomes (line_put page line text) (HoldsParts self.now (shown self.now.id (around pack.old.areas (P.state pack.old.pool) spool.old))) (HoldsParts self.now (shown self.now.id (around pack.new.areas (P.state pack.new.pool) spool.new)))) }
-        ensures ready { OnOk result (IsReady self.now (seen pack.new.areas (P.state pack.new.pool).contents)) }
-        ensures spares { Spares self.now.id (around pack.old.areas (P.state pack.old.pool) spool.old) (around pack.new.areas (P.state pack.new.pool) spool.new) }
-        ensures failures { (P.state pack.new.pool).failures ≡ (P.state pack.old.pool).failures + failed_transfers result }
-        ensures says { OnOk result (KeepsSaid self.now.id pack.old.areas (P.state pack.old.pool).contents pack.new.areas (P.state pack.new.pool).contents) }
-        ensures fault { IfErr result (λ fault. fault ≢ PoolFault.NoSector) }
+        ensures leaves { LeavesAll result self.now self.now (around pack.old.areas (P.state pack.old.pool) spool.old) (around pack.new.areas (P.state pack.new.pool) spool.new) }
         ensures areas { pack.new.areas ≡ pack.old.areas }
     {
         let Some(job) = &self.job else {

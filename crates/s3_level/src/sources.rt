@@ -11,14 +11,15 @@ use s3_sheets::{SheetFault, read_sheets};
 use std::alloc::AllocError;
 
 impl Level {
-    ghost use Rattle.std.specs.Prelude.{◌≡◌, ◌≤◌, length, slice_range, IsTrue, OnOk};
+    ghost use Rattle.std.specs.Prelude.{◌≤◌, length, slice_range, IsTrue, OnOk};
     ghost use Rattle.s3_meaning.specs.Source.{Source};
     ghost use Rattle.s3_lines.specs.Inner.Ranges.{are_read};
     ghost use Rattle.s3_diagnose.specs.Diagnostics.{compile_diagnostics};
     ghost use Rattle.s3_program.specs.Inner.Stands.{Stands};
     ghost use Rattle.s3_operator.specs.declared.halt_code.HaltCode.TheVariants.{FaultySource};
     ghost use Rattle.s3_solo.specs.Serving.{compiled, compiled_data, details_of, halting, stocked};
-    ghost use Rattle.s3_level.specs.Inner.Holds.{Shown, HoldsParts, Becomes, Stays};
+    ghost use Rattle.s3_level.specs.Inner.Calls.{KeepsJob};
+    ghost use Rattle.s3_level.specs.Inner.Holds.{Shown, HoldsParts, Becomes};
 
     /// Compiles the source between two places into the library, or shows its diagnostics.
     pub(crate) fn compile(
@@ -31,8 +32,7 @@ impl Level {
         requires order { from ≤ to }
         requires within { to ≤ length self.old.deck }
         ensures world { (s : Shown) → OnOk result (Becomes (compiled_data number run_card from (slice_range self.old.deck from to)) (HoldsParts self.old s) (HoldsParts self.new s)) }
-        ensures job { self.new.job ≡ self.old.job }
-        ensures stays { Stays self.old self.new }
+        ensures keeps { KeepsJob self.old self.new }
     {
         let lines = match read_sheets(self.alloc, &self.deck, from, to) {
             Ok(lines) => lines,
@@ -53,8 +53,7 @@ impl Level {
     ) -> Result<(), AllocError>
         requires { IsTrue (are_read lines.now) }
         ensures world { (s : Shown) → OnOk result (Becomes (compiled number lines.now (compile_diagnostics run_card lines.now)) (HoldsParts self.old s) (HoldsParts self.new s)) }
-        ensures job { self.new.job ≡ self.old.job }
-        ensures stays { Stays self.old self.new }
+        ensures keeps { KeepsJob self.old self.new }
     {
         match compile(self.alloc, lines, run_card) {
             Ok(program) => self.stock(program),
@@ -66,8 +65,7 @@ impl Level {
     /// Shows the diagnostics of a source.
     fn show_diagnostics(&mut self, number: u16, found: &[Diagnostic]) -> Result<(), AllocError>
         ensures world { (s : Shown) → OnOk result (Becomes (halting number FaultySource (details_of found.now)) (HoldsParts self.old s) (HoldsParts self.new s)) }
-        ensures job { self.new.job ≡ self.old.job }
-        ensures stays { Stays self.old self.new }
+        ensures keeps { KeepsJob self.old self.new }
     {
         let details = details_of(self.alloc, found)?;
         self.show(number, HaltCode::FaultySource, details)
@@ -76,8 +74,7 @@ impl Level {
     /// Puts a program into the library, in place of an earlier one of its name.
     fn stock(&mut self, program: Program) -> Result<(), AllocError>
         ensures world { (s : Shown) → OnOk result ((source : Source) → Stands program source → Becomes (stocked program.name source) (HoldsParts self.old s) (HoldsParts self.new s)) }
-        ensures job { self.new.job ≡ self.old.job }
-        ensures stays { Stays self.old self.new }
+        ensures keeps { KeepsJob self.old self.new }
     {
         self.library.insert(program.name, program)?;
         Ok(())

@@ -17,7 +17,7 @@ use Rattle.s3_job_files.specs.Inner.Holds.{Seen, seen, HoldsFiles, IsOutOfReach,
 use Rattle.s3_meaning.specs.Source.{Source}
 use Rattle.s3_program.specs.Inner.Stands.{Stands}
 use Rattle.s3_program.specs.declared.program.Program.{Program}
-use Rattle.s3_cycle.specs.Inner.Following.{Follows, asked, files}
+use Rattle.s3_cycle.specs.Inner.Following.{Follows, files}
 use Rattle.s3_ocl.specs.Streams.{jobs_from}
 use Rattle.s3_opening.specs.Inner.OpenFiles.{AreOfLines}
 use Rattle.s3_solo.specs.declared.action.Action.{Action}

@@ -1,8 +1,8 @@
 use Rattle.std.proofs.Common.{length, sym, ◌∙◌}
 use Rattle.s3_job_files.specs.Inner.Calls.{found_answer}
 use Rattle.s3_cycle.specs.declared.request.Request.TheVariants as asks
-use Rattle.s3_level.proofs.Others.{others_kept}
 use Rattle.s3_level.proofs.Requests.{chain_long, found_if, read_long, serves_same, suits_same}
+use Rattle.s3_level.proofs.Leaving.{pack_read}
 use Rattle.s3_level.proofs.job.find.Goals as goal
 
 pub read_next-requires-clause-long : goal.read_next-requires-clause-long
@@ -31,8 +31,5 @@ returns-in-Read-clause-fits g c = found_if c.read_next.result c.args.cycle.now c
 pub returns-in-Chain-clause-fits : goal.returns-in-Chain-clause-fits
 returns-in-Chain-clause-fits g c = found_if c.chain.result c.args.cycle.now c.args.bytes.now c.chain.new.bytes c.chain.auto.bytes c.requires.asks
 
-pub returns-in-Read-clause-others : goal.returns-in-Read-clause-others
-returns-in-Read-clause-others g c = others_kept _ _ _ _ _ c.requires.ready.pack c.read_next.ensures.keeps c.read_next.ensures.areas
-
-pub returns-in-Chain-clause-others : goal.returns-in-Chain-clause-others
-returns-in-Chain-clause-others g c = others_kept _ _ _ _ _ c.requires.ready.pack c.chain.ensures.keeps c.chain.ensures.areas
+pub returns-in-Read-clause-pack : goal.returns-in-Read-clause-pack
+returns-in-Read-clause-pack g c = pack_read c.read_next.result c.requires.ready.pack c.read_next.ensures.keeps c.read_next.ensures.areas c.read_next.ensures.failures c.read_next.ensures.fault

@@ -1,7 +1,7 @@
 use Rattle.std.proofs.Common.{sym, ◌∙◌}
 use Rattle.s3_cycle.specs.declared.request.Request.TheVariants as asks
-use Rattle.s3_level.proofs.Others.{others_spared}
 use Rattle.s3_level.proofs.Requests.{add_if, add_takes, adds_same, append_if, append_takes, appends_same, puts_same, suits_same, update_if, updates_same}
+use Rattle.s3_level.proofs.Leaving.{pack_changed}
 use Rattle.s3_level.proofs.job.store.Goals as goal
 
 pub append-requires-clause-takes : goal.append-requires-clause-takes
@@ -41,11 +41,8 @@ returns-in-Add-clause-fits g c = add_if c.add.result c.args.cycle.now c.in-Add.f
 pub returns-in-Update-clause-fits : goal.returns-in-Update-clause-fits
 returns-in-Update-clause-fits g c = update_if c.change.result c.args.cycle.now c.in-Update.file c.in-Update.current (sym c.pending.ensures.request ∙ c.in-Update.is) c.change.ensures.fits
 
-pub returns-in-Append-clause-others : goal.returns-in-Append-clause-others
-returns-in-Append-clause-others g c = others_spared _ _ _ _ _ c.append.ensures.pack c.append.ensures.spares c.append.ensures.areas
+pub returns-in-Append-clause-pack : goal.returns-in-Append-clause-pack
+returns-in-Append-clause-pack g c = pack_changed c.append.result c.append.ensures.pack c.append.ensures.spares c.append.ensures.areas c.append.ensures.says c.append.ensures.failures c.append.ensures.fault
 
-pub returns-in-Add-clause-others : goal.returns-in-Add-clause-others
-returns-in-Add-clause-others g c = others_spared _ _ _ _ _ c.add.ensures.pack c.add.ensures.spares c.add.ensures.areas
-
-pub returns-in-Update-clause-others : goal.returns-in-Update-clause-others
-returns-in-Update-clause-others g c = others_spared _ _ _ _ _ c.change.ensures.pack c.change.ensures.spares c.change.ensures.areas
+pub returns-in-Add-clause-pack : goal.returns-in-Add-clause-pack
+returns-in-Add-clause-pack g c = pack_changed c.add.result c.add.ensures.pack c.add.ensures.spares c.add.ensures.areas c.add.ensures.says c.add.ensures.failures c.add.ensures.fault

@@ -2,6 +2,7 @@ use Rattle.s3_cycle.specs.Inner.Requests.{answer_of}
 use Rattle.s3_level.specs.Inner.Holds.{HoldsParts, with_seen}
 use Rattle.s3_job_files.specs.Inner.Holds.{seen}
 use Rattle.s3_level.proofs.Replies.{goes_on, stays_there}
+use Rattle.s3_level.proofs.Leaving.{leaves_same}
 use Rattle.s3_level.proofs.level.Level.go_on.Goals as goal
 
 pub returns-then-takes-clause-world : goal.returns-then-takes-clause-world
@@ -12,3 +13,6 @@ returns-then-takes-clause-world g c = λ s.
 pub returns-else-takes-clause-world : goal.returns-else-takes-clause-world
 returns-else-takes-clause-world g c = λ s.
     stays_there (with_seen (seen c.args.pack.now.areas (g.P.Sectors.state c.args.pack.now.pool).contents) s) c.args.digit c.takes.result c.args.self.now c.if-takes.false (c.takes.ensures.world (with_seen (seen c.args.pack.now.areas (g.P.Sectors.state c.args.pack.now.pool).contents) s))
+
+pub returns-else-takes-clause-leaves : goal.returns-else-takes-clause-leaves
+returns-else-takes-clause-leaves g c = leaves_same _ c.requires.ready

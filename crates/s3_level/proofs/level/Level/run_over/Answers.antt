@@ -3,6 +3,7 @@ use Rattle.s3_solo.specs.Serving.{data_of}
 use Rattle.s3_level.proofs.Starting.{at_beginning, ready_at_beginning}
 use Rattle.s3_level.specs.Inner.Holds.{HoldsParts, with_seen}
 use Rattle.s3_job_files.specs.Inner.Holds.{seen}
+use Rattle.s3_level.proofs.Leaving.{leaves_behind, leaves_memory, stays_with, still}
 use Rattle.s3_level.proofs.level.Level.run_over.Goals as goal
 
 pub stand-requires : goal.stand-requires
@@ -16,3 +17,9 @@ returns-clause-world g c = λ s before.
     at_beginning s c.stand.result c.args.number c.data_from.result c.data_to.result (data_of c.args.self.now.deck c.args.job.now) c.args.program c.in_ok-cycle.cycle c.args.job_files c.digits.result before (seen c.args.pack.now.areas (g.P.Sectors.state c.args.pack.now.pool).contents) c.args.self.now c.open.new.self
     (HoldsParts c.stand.new.self (with_seen (seen c.stand.new.pack.areas (g.P.Sectors.state c.stand.new.pack.pool).contents) s))
     (λ i. slice_range c.args.self.now.deck (c.data_from.ensures i) (c.data_to.ensures.value i)) c.digits.ensures.value c.in_ok-cycle.ensures c.open.ensures (c.stand.ensures.world s)
+
+pub returns-in_err-cycle-clause-leaves : goal.returns-in_err-cycle-clause-leaves
+returns-in_err-cycle-clause-leaves g c = leaves_memory c.from_residual.result c.from_residual.ensures.1 c.requires.ready.pack (still c.args.self.now)
+
+pub returns-clause-leaves : goal.returns-clause-leaves
+returns-clause-leaves g c = leaves_behind (stays_with c.open.ensures) c.stand.ensures.leaves

@@ -1,11 +1,10 @@
 use Rattle.std.proofs.Common.{subst}
-use Rattle.s3_cards.specs.declared.levels.LevelId.{LevelId}
 use Rattle.s3_store.specs.declared.pool_fault.PoolFault.{PoolFault}
 use Rattle.s3_job_files.specs.Inner.Holds.{seen}
-use Rattle.s3_level.specs.Inner.Holds.{HoldsParts, KeepsOthers, with_seen}
+use Rattle.s3_level.specs.Inner.Holds.{HoldsParts, with_seen}
 use Rattle.s3_level.specs.Inner.Turning.{FileServed}
-use Rattle.s3_level.proofs.Files.{file_acts, file_fails, file_idles, file_stops, stays_then}
-use Rattle.s3_level.proofs.Others.{others_then}
+use Rattle.s3_level.proofs.Files.{file_acts, file_fails, file_idles, file_stops}
+use Rattle.s3_level.proofs.Leaving.{leaves_err, leaves_ok, leaves_then}
 use Rattle.s3_level.proofs.level.Level.serve_file.Goals as goal
 
 pub returns-in_err-took-clause-served : goal.returns-in_err-took-clause-served
@@ -29,15 +28,6 @@ returns-in_ok-stand-clause-served g c = λ s.
     (HoldsParts c.take_file.new.self (with_seen (seen c.take_file.new.pack.areas (g.P.Sectors.state c.take_file.new.pack.pool).contents) s))) c.if-took.true (c.in_ok-took.ensures.served s))
     (c.in_ok-stand.ensures.world s)
 
-pub returns-in_ok-stand-clause-others : goal.returns-in_ok-stand-clause-others
-returns-in_ok-stand-clause-others g c =
-    others_then c.args.self.now.id c.args.pack.now.areas c.take_file.new.pack.areas c.stand.new.pack.areas (g.P.Sectors.state c.args.pack.now.pool) (g.P.Sectors.state c.take_file.new.pack.pool) (g.P.Sectors.state c.stand.new.pack.pool)
-    c.take_file.ensures.others
-    (subst (λ (level : LevelId). KeepsOthers level c.take_file.new.pack.areas c.stand.new.pack.areas (g.P.Sectors.state c.take_file.new.pack.pool) (g.P.Sectors.state c.stand.new.pack.pool)) c.take_file.ensures.stays.id c.stand.ensures.others)
-
-pub returns-in_ok-stand-clause-stays : goal.returns-in_ok-stand-clause-stays
-returns-in_ok-stand-clause-stays g c = stays_then c.args.self.now c.take_file.new.self c.stand.new.self c.take_file.ensures.stays c.stand.ensures.stays
-
 pub returns-in_err-stand-clause-served : goal.returns-in_err-stand-clause-served
 returns-in_err-stand-clause-served g c = λ s.
     file_stops c.from_residual-in_err-stand.result (HoldsParts c.args.self.now (with_seen (seen c.args.pack.now.areas (g.P.Sectors.state c.args.pack.now.pool).contents) s))
@@ -46,11 +36,14 @@ returns-in_err-stand-clause-served g c = λ s.
     (subst (λ took. FileServed took (HoldsParts c.args.self.now (with_seen (seen c.args.pack.now.areas (g.P.Sectors.state c.args.pack.now.pool).contents) s))
     (HoldsParts c.take_file.new.self (with_seen (seen c.take_file.new.pack.areas (g.P.Sectors.state c.take_file.new.pack.pool).contents) s))) c.if-took.true (c.in_ok-took.ensures.served s))
 
-pub returns-in_err-stand-clause-others : goal.returns-in_err-stand-clause-others
-returns-in_err-stand-clause-others g c =
-    others_then c.args.self.now.id c.args.pack.now.areas c.take_file.new.pack.areas c.stand.new.pack.areas (g.P.Sectors.state c.args.pack.now.pool) (g.P.Sectors.state c.take_file.new.pack.pool) (g.P.Sectors.state c.stand.new.pack.pool)
-    c.take_file.ensures.others
-    (subst (λ (level : LevelId). KeepsOthers level c.take_file.new.pack.areas c.stand.new.pack.areas (g.P.Sectors.state c.take_file.new.pack.pool) (g.P.Sectors.state c.stand.new.pack.pool)) c.take_file.ensures.stays.id c.stand.ensures.others)
+pub returns-in_err-took-clause-leaves : goal.returns-in_err-took-clause-leaves
+returns-in_err-took-clause-leaves g c = leaves_err c.from_residual.result c.from_residual.ensures.1 c.in_err-took.ensures.leaves
 
-pub returns-in_err-stand-clause-stays : goal.returns-in_err-stand-clause-stays
-returns-in_err-stand-clause-stays g c = stays_then c.args.self.now c.take_file.new.self c.stand.new.self c.take_file.ensures.stays c.stand.ensures.stays
+pub returns-else-took-clause-leaves : goal.returns-else-took-clause-leaves
+returns-else-took-clause-leaves g c = leaves_ok _ c.in_ok-took.ensures.leaves
+
+pub returns-in_ok-stand-clause-leaves : goal.returns-in_ok-stand-clause-leaves
+returns-in_ok-stand-clause-leaves g c = leaves_ok _ (leaves_then c.in_ok-took.ensures.leaves c.in_ok-stand.ensures.leaves)
+
+pub returns-in_err-stand-clause-leaves : goal.returns-in_err-stand-clause-leaves
+returns-in_err-stand-clause-leaves g c = leaves_err c.from_residual-in_err-stand.result c.from_residual-in_err-stand.ensures.1 (leaves_then c.in_ok-took.ensures.leaves c.in_err-stand.ensures.leaves)

@@ -1,0 +1,6 @@
+use Rattle.s3_cycle.specs.Inner.Requests.{answer_of}
+use Rattle.s3_level.proofs.Running.{answer_taken}
+use Rattle.s3_level.proofs.level.Level.take_answer.Goals as goal
+
+pub returns-in-Some-clause-world : goal.returns-in-Some-clause-world
+returns-in-Some-clause-world c = λ s. answer_taken s c.args.self.now c.in-Some.job c.resume.new.self (answer_of c.args.answer) c.in-Some.is c.resume.ensures.place c.resume.ensures.files c.resume.ensures.resumes
