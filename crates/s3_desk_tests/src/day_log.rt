@@ -45,59 +45,72 @@ fn begin(rt: &HostRuntime) -> Result<Event, Fail> {
     })
 }
 
-/// The text of a day with each event.
-fn whole_day(rt: &HostRuntime) -> Result<String, Fail> {
-    let mut text = String::new(rt.alloc());
-    let events = [
-        begin(rt)?,
+/// A reply to a halt.
+fn reply(level: LevelId, code: HaltCode, digit: u8, by: Replier) -> Event {
+    Event::Reply {
+        level,
+        code,
+        digit,
+        by,
+    }
+}
+
+/// What a job of level 1 does that is passed over at a halt, with the reply.
+fn job_passed_over(rt: &HostRuntime) -> Result<[Event; 4], Fail> {
+    let (level, job, code) = (LevelId::One, 5, HaltCode::RetainedFile);
+    Ok([
         Event::JobBegins {
-            level: LevelId::One,
-            job: 5,
+            level,
+            job,
             program: Some(text_of(rt, "CUSLD")?),
             card: 178,
         },
         Event::Halt {
-            level: LevelId::One,
-            job: 5,
-            code: HaltCode::RetainedFile,
+            level,
+            job,
+            code,
             card: None,
         },
-        Event::Reply {
-            level: LevelId::One,
-            code: HaltCode::RetainedFile,
-            digit: 3,
-            by: Replier::Operator,
-        },
+        reply(level, code, 3, Replier::Operator),
         Event::JobEnds {
-            level: LevelId::One,
-            job: 5,
+            level,
+            job,
             lines: 0,
             end: JobEnd::PassedOver,
         },
-        Event::Reply {
-            level: LevelId::Two,
-            code: HaltCode::HaltIndicator(1),
-            digit: 0,
-            by: Replier::Rule,
-        },
-        Event::Reply {
-            level: LevelId::One,
-            code: HaltCode::HaltIndicator(9),
-            digit: 2,
-            by: Replier::Line,
-        },
-        Event::Cut {
-            level: LevelId::Two,
-        },
+    ])
+}
+
+/// What follows: replies that no operator typed, and how the day ends.
+fn rest_of_the_day(rt: &HostRuntime) -> Result<[Event; 5], Fail> {
+    let (first, second) = (LevelId::One, LevelId::Two);
+    Ok([
+        reply(second, HaltCode::HaltIndicator(1), 0, Replier::Rule),
+        reply(first, HaltCode::HaltIndicator(9), 2, Replier::Line),
+        Event::Cut { level: second },
         Event::Stop,
         Event::End {
             status: 4,
             saved: Some(file(rt, "shop.pack", ONE)?),
         },
-    ];
-    for event in events {
-        let line = line_of(rt.alloc(), text_of(rt, "2026-01-31T08:00:41Z")?, event)?;
-        text.push_str(line.as_str())?;
+    ])
+}
+
+/// Adds the line of an event.
+fn add_line(rt: &HostRuntime, text: &mut String, event: Event) -> Result<(), Fail> {
+    let line = line_of(rt.alloc(), text_of(rt, "2026-01-31T08:00:41Z")?, event)?;
+    Ok(text.push_str(line.as_str())?)
+}
+
+/// The text of a day with each event.
+fn whole_day(rt: &HostRuntime) -> Result<String, Fail> {
+    let mut text = String::new(rt.alloc());
+    add_line(rt, &mut text, begin(rt)?)?;
+    for event in job_passed_over(rt)? {
+        add_line(rt, &mut text, event)?;
+    }
+    for event in rest_of_the_day(rt)? {
+        add_line(rt, &mut text, event)?;
     }
     Ok(text)
 }

@@ -11,14 +11,8 @@ const PAY: [u8; 3] = [0xD7, 0xC1, 0xE8];
 /// LIST in EBCDIC.
 const LIST: [u8; 4] = [0xD3, 0xC9, 0xE2, 0xE3];
 
-/// A halt of a level and a program, with the line of the rule that answers it and its digit.
-#[derive(Drop)]
-struct Row {
-    level: LevelId,
-    code: HaltCode,
-    program: Option<Name>,
-    want: Option<(usize, u8)>,
-}
+/// A level's halt, with the program at work.
+type Asked = (LevelId, HaltCode, Option<Name>);
 
 const RULES: &[u8] =
     b"# the night's rules\n2 UR 0\r\n\n* H1 0 PAY   # no check is written\n1 * 3 list\n* * 0\n* * 2";
@@ -30,58 +24,23 @@ fn the_first_that_fits(rt: HostRuntime) -> Result<(), Fail> {
         Ok(rules) => rules,
         Err(_fault) => panic!(rt; "the rules are refused"),
     };
-    let pay = Some(Name::of(&PAY));
-    let list = Some(Name::of(&LIST));
-    let rows = [
-        Row {
-            level: LevelId::Two,
-            code: HaltCode::UnidentifiedRecord,
-            program: pay,
-            want: Some((2, 0)),
-        },
-        Row {
-            level: LevelId::One,
-            code: HaltCode::HaltIndicator(1),
-            program: pay,
-            want: Some((4, 0)),
-        },
-        Row {
-            level: LevelId::One,
-            code: HaltCode::HaltIndicator(2),
-            program: list,
-            want: Some((5, 3)),
-        },
-        Row {
-            level: LevelId::One,
-            code: HaltCode::HaltIndicator(1),
-            program: list,
-            want: Some((5, 3)),
-        },
-        Row {
-            level: LevelId::Two,
-            code: HaltCode::HaltIndicator(1),
-            program: list,
-            want: Some((6, 0)),
-        },
-        Row {
-            level: LevelId::Two,
-            code: HaltCode::RetainedFile,
-            program: pay,
-            want: Some((7, 2)),
-        },
-        Row {
-            level: LevelId::One,
-            code: HaltCode::FaultyJob,
-            program: None,
-            want: Some((7, 2)),
-        },
+    let (first, second) = (LevelId::One, LevelId::Two);
+    let (pay, list) = (Some(Name::of(&PAY)), Some(Name::of(&LIST)));
+    // each with the line of the rule that answers it, and its digit
+    let rows: [(Asked, (usize, u8)); 7] = [
+        ((second, HaltCode::UnidentifiedRecord, pay), (2, 0)),
+        ((first, HaltCode::HaltIndicator(1), pay), (4, 0)),
+        ((first, HaltCode::HaltIndicator(2), list), (5, 3)),
+        ((first, HaltCode::HaltIndicator(1), list), (5, 3)),
+        ((second, HaltCode::HaltIndicator(1), list), (6, 0)),
+        ((second, HaltCode::RetainedFile, pay), (7, 2)),
+        ((first, HaltCode::FaultyJob, None), (7, 2)),
     ];
-    for row in &rows {
-        let given = match rules.reply_for(row.level, row.code, row.program) {
-            Some(rule) => Some((rule.line, rule.digit)),
-            None => None,
-        };
-        assert_eq!(rt; given, row.want);
+    for ((level, code, program), want) in rows {
+        match rules.reply_for(level, code, program) {
+            Some(rule) => assert_eq!(rt; (rule.line, rule.digit), want),
+            None => panic!(rt; "no rule fits"),
+        }
     }
     Ok(())
 }

@@ -146,6 +146,7 @@ fn push_trailer(text: &mut Vec<u8>, count: u64, at: u64) -> Result<(), AllocErro
     Ok(())
 }
 
+/// Writes all of the bytes; refused with `PaperFault::File` where the writer fails.
 pub fn write<W: Write>(writer: &mut W, bytes: &[u8]) -> Result<(), PaperFault>
     ensures wrote { OnOk result (Appends (W.contents writer.old) (W.contents writer.new) bytes.now) }
     ensures failed { OnErr result (result ≡ Err File) }
