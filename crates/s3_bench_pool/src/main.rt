@@ -8,8 +8,8 @@
 ghost use Rattle.std.specs.Prelude.{◌<◌};
 
 use anyhow::{Context, Result};
-use s3_pool::Pool;
-use s3_store::{MemoryStore, PackStore, PoolFault};
+use s3_pool::{Pool, PoolFault};
+use s3_store::{MemoryStore, PackStore};
 use std::alloc::{AllocError, Global};
 use std::env;
 

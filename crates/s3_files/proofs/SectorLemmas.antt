@@ -4,7 +4,7 @@ use Rattle.std.proofs.lemmas.List.{take-append-le}
 use Rattle.std.proofs.lemmas.Bool.{eq-eqb}
 use Rattle.std.specs.List.{flat_map, All, Contains, IsDistinct, AllByRecursion}
 use Rattle.std.proofs.Common.{Result, Ok, Err, OnOk, OnErr, slice_index_or}
-use Rattle.s3_store.specs.declared.pool_fault.PoolFault.{PoolFault}
+use Rattle.s3_store.specs.declared.sector_fault.SectorFault.{SectorFault}
 use Rattle.s3_store.proofs.SectorParts.{length-sector_bytes, sector_bytes-there, sector_bytes-same, length-with_part, part-with_part, outside-with_part, piece_there, piece_other}
 use Rattle.std.proofs.lemmas.List.Elements.{All-contains}
 use Rattle.s3_store.specs.Bytes.{sector_bytes, bytes_at, part}
@@ -126,7 +126,7 @@ module _ (sectors : List ℕ) (at n w : ℕ) (sector : List ℕ) (is : slice_get
       rw (before, after) placed
 
 -- a piece of a sector is read
-pub piece-read : {T : Type 0} (sectors : List ℕ) (at n w : ℕ) (contents : List (List ℕ)) (piece : List ℕ) (r : Result T PoolFault) → slice_get sectors (at / 256) ≡ Some n → at % 256 + w ≤ 256 → OnOk r (piece ≡ part (sector_bytes contents n) (at % 256) w) → OnOk r (piece ≡ part (bytes_at sectors contents) at w)
+pub piece-read : {T : Type 0} (sectors : List ℕ) (at n w : ℕ) (contents : List (List ℕ)) (piece : List ℕ) (r : Result T SectorFault) → slice_get sectors (at / 256) ≡ Some n → at % 256 + w ≤ 256 → OnOk r (piece ≡ part (sector_bytes contents n) (at % 256) w) → OnOk r (piece ≡ part (bytes_at sectors contents) at w)
 piece-read sectors at n w contents piece (Ok x) is fits read =
     read ∙ sym (part-read sectors at n w (sector_bytes contents n) is fits (length-sector_bytes contents n) contents refl)
 piece-read sectors at n w contents piece (Err fault) is fits read = tt
@@ -145,13 +145,13 @@ module _ (sectors : List ℕ) (at n : ℕ) (piece : List ℕ) (is : slice_get se
   there : new ≡ with_piece old n (at % 256) piece → slice_get new n ≡ Some changed
   there set = ap (λ l. slice_get l n) set ∙ piece_there old n (at % 256) piece below
 
-  pub piece-written : {T : Type 0} (r : Result T PoolFault) → OnOk r (new ≡ with_piece old n (at % 256) piece) → OnOk r (part (bytes_at sectors new) at (length piece) ≡ piece)
+  pub piece-written : {T : Type 0} (r : Result T SectorFault) → OnOk r (new ≡ with_piece old n (at % 256) piece) → OnOk r (part (bytes_at sectors new) at (length piece) ≡ piece)
   piece-written (Ok x) set =
       part-read sectors at n (length piece) changed is fits long new (sector_bytes-there new n changed (there set) long)
       ∙ part-with_part (sector_bytes old n) (at % 256) piece inside
   piece-written (Err fault) set = tt
 
-  pub piece-outside : {T : Type 0} (r : Result T PoolFault) → IsDistinct nat_eq sectors → OnOk r (new ≡ with_piece old n (at % 256) piece) → OnErr r (new ≡ old) → SameOutside at (length piece) (bytes_at sectors old) (bytes_at sectors new)
+  pub piece-outside : {T : Type 0} (r : Result T SectorFault) → IsDistinct nat_eq sectors → OnOk r (new ≡ with_piece old n (at % 256) piece) → OnErr r (new ≡ old) → SameOutside at (length piece) (bytes_at sectors old) (bytes_at sectors new)
   piece-outside (Ok x) distinct set same =
       part-written sectors at n (length piece) (sector_bytes old n) is fits (length-sector_bytes old n) old new changed distinct refl (there set)
       (λ m other. ap (λ l. slice_get l m) set ∙ piece_other old n (at % 256) m piece other) long (outside-with_part (sector_bytes old n) (at % 256) piece inside)

@@ -9,7 +9,7 @@ ghost use Rattle.s3_store.specs.Inner.Bytes.{SameOutside};
 ghost use Rattle.s3_files.specs.Inner.Files.{AreStored};
 
 use crate::file_sectors::FileSectors;
-use s3_store::{PoolFault, Sectors};
+use s3_store::{SectorFault, Sectors};
 
 /// Reads bytes that lie in sector `i` of a file, from 0, and begin at byte `start` of it.
 #[inline(always)]
@@ -19,7 +19,7 @@ pub fn read_in_sector<P: Sectors>(
     i: usize,
     start: usize,
     piece: &mut [u8],
-) -> Result<(), PoolFault>
+) -> Result<(), SectorFault>
     requires stored { AreStored sectors.now (P.state pool.old).contents }
     requires there { i < length sectors.now }
     requires inside { start < 256 }
@@ -27,7 +27,6 @@ pub fn read_in_sector<P: Sectors>(
     ensures ok { OnOk result (piece.new ≡ part (bytes_at sectors.now (P.state pool.old).contents) (256 * i + start) (length piece.old)) }
     ensures keeps { KeepsContents (P.state pool.old) (P.state pool.new) }
     ensures failures { (P.state pool.new).failures ≡ (P.state pool.old).failures + failed_transfers result }
-    ensures fault { IfErr result (λ e. e ≢ PoolFault.NoSector) }
 {
     pool.read_part(sectors.sector_at(i), start, piece)
 }
@@ -39,14 +38,13 @@ fn read_piece<P: Sectors>(
     sectors: &FileSectors,
     at: usize,
     piece: &mut [u8],
-) -> Result<(), PoolFault>
+) -> Result<(), SectorFault>
     requires stored { AreStored sectors.now (P.state pool.old).contents }
     requires within { at < 256 * length sectors.now }
     requires one { at % 256 + length piece.old ≤ 256 }
     ensures ok { OnOk result (piece.new ≡ part (bytes_at sectors.now (P.state pool.old).contents) at (length piece.old)) }
     ensures keeps { KeepsContents (P.state pool.old) (P.state pool.new) }
     ensures failures { (P.state pool.new).failures ≡ (P.state pool.old).failures + failed_transfers result }
-    ensures fault { IfErr result (λ e. e ≢ PoolFault.NoSector) }
 {
     read_in_sector(pool, sectors, at / 256, at % 256, piece)
 }
@@ -58,7 +56,7 @@ fn write_piece<P: Sectors>(
     sectors: &FileSectors,
     at: usize,
     piece: &[u8],
-) -> Result<(), PoolFault>
+) -> Result<(), SectorFault>
     requires stored { AreStored sectors.now (P.state pool.old).contents }
     requires within { at < 256 * length sectors.now }
     requires one { at % 256 + length piece.now ≤ 256 }
@@ -66,7 +64,6 @@ fn write_piece<P: Sectors>(
     ensures outside { SameOutside at (length piece.now) (bytes_at sectors.now (P.state pool.old).contents) (bytes_at sectors.now (P.state pool.new).contents) }
     ensures within { ChangesWithin (Contains sectors.now) (P.state pool.old) (P.state pool.new) }
     ensures failures { (P.state pool.new).failures ≡ (P.state pool.old).failures + failed_transfers result }
-    ensures fault { IfErr result (λ e. e ≢ PoolFault.NoSector) }
 {
     pool.change_sector(sectors.sector_at(at / 256), at % 256, piece)
 }
@@ -95,13 +92,12 @@ fn read_pieces<P: Sectors>(
     sectors: &FileSectors,
     at: u32,
     bytes: &mut [u8],
-) -> Result<(), PoolFault>
+) -> Result<(), SectorFault>
     requires stored { AreStored sectors.now (P.state pool.old).contents }
     requires within { at + length bytes.old ≤ 256 * length sectors.now }
     ensures ok { OnOk result (bytes.new ≡ part (bytes_at sectors.now (P.state pool.old).contents) at (length bytes.old)) }
     ensures keeps { KeepsContents (P.state pool.old) (P.state pool.new) }
     ensures failures { (P.state pool.new).failures ≡ (P.state pool.old).failures + failed_transfers result }
-    ensures fault { IfErr result (λ e. e ≢ PoolFault.NoSector) }
 {
     let at = at as usize;
     let mut done = 0;
@@ -120,13 +116,12 @@ pub fn read_bytes<P: Sectors>(
     sectors: &FileSectors,
     at: u32,
     bytes: &mut [u8],
-) -> Result<(), PoolFault>
+) -> Result<(), SectorFault>
     requires stored { AreStored sectors.now (P.state pool.old).contents }
     requires within { at + length bytes.old ≤ 256 * length sectors.now }
     ensures ok { OnOk result (bytes.new ≡ part (bytes_at sectors.now (P.state pool.old).contents) at (length bytes.old)) }
     ensures keeps { KeepsContents (P.state pool.old) (P.state pool.new) }
     ensures failures { (P.state pool.new).failures ≡ (P.state pool.old).failures + failed_transfers result }
-    ensures fault { IfErr result (λ e. e ≢ PoolFault.NoSector) }
 {
     if lies_in_one_sector(at, bytes.len()) {
         return read_piece(pool, sectors, at as usize, bytes);
@@ -141,14 +136,13 @@ fn write_pieces<P: Sectors>(
     sectors: &FileSectors,
     at: u32,
     bytes: &[u8],
-) -> Result<(), PoolFault>
+) -> Result<(), SectorFault>
     requires stored { AreStored sectors.now (P.state pool.old).contents }
     requires within { at + length bytes.now ≤ 256 * length sectors.now }
     ensures ok { OnOk result (part (bytes_at sectors.now (P.state pool.new).contents) at (length bytes.now) ≡ bytes.now) }
     ensures outside { SameOutside at (length bytes.now) (bytes_at sectors.now (P.state pool.old).contents) (bytes_at sectors.now (P.state pool.new).contents) }
     ensures within { ChangesWithin (Contains sectors.now) (P.state pool.old) (P.state pool.new) }
     ensures failures { (P.state pool.new).failures ≡ (P.state pool.old).failures + failed_transfers result }
-    ensures fault { IfErr result (λ e. e ≢ PoolFault.NoSector) }
 {
     let at = at as usize;
     let mut done = 0;
@@ -168,14 +162,13 @@ pub fn write_bytes<P: Sectors>(
     sectors: &FileSectors,
     at: u32,
     bytes: &[u8],
-) -> Result<(), PoolFault>
+) -> Result<(), SectorFault>
     requires stored { AreStored sectors.now (P.state pool.old).contents }
     requires within { at + length bytes.now ≤ 256 * length sectors.now }
     ensures ok { OnOk result (part (bytes_at sectors.now (P.state pool.new).contents) at (length bytes.now) ≡ bytes.now) }
     ensures outside { SameOutside at (length bytes.now) (bytes_at sectors.now (P.state pool.old).contents) (bytes_at sectors.now (P.state pool.new).contents) }
     ensures within { ChangesWithin (Contains sectors.now) (P.state pool.old) (P.state pool.new) }
     ensures failures { (P.state pool.new).failures ≡ (P.state pool.old).failures + failed_transfers result }
-    ensures fault { IfErr result (λ e. e ≢ PoolFault.NoSector) }
 {
     if lies_in_one_sector(at, bytes.len()) {
         return write_piece(pool, sectors, at as usize, bytes);

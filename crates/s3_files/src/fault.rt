@@ -2,7 +2,7 @@
 ghost use Rattle.std.specs.Prelude.{◌≡◌};
 ghost use Rattle.s3_files.specs.declared.fault.FileFault.TheVariants.{Pool};
 
-use s3_store::PoolFault;
+use s3_store::SectorFault;
 use thiserror::Error;
 
 /// Why a call on a file of records is refused.
@@ -16,13 +16,13 @@ pub enum FileFault {
     Full,
     /// A transfer failed, or memory was refused.
     #[error("{0}")]
-    Pool(PoolFault),
+    Pool(SectorFault),
 }
 
-impl From<PoolFault> for FileFault {
+impl From<SectorFault> for FileFault {
     ghost from_gives = { λ fault refusal. refusal ≡ Pool fault };
 
-    fn from(fault: PoolFault) -> Self {
+    fn from(fault: SectorFault) -> Self {
         FileFault::Pool(fault)
     }
 }

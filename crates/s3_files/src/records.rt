@@ -4,7 +4,7 @@ ghost use Rattle.std.specs.List.{Contains};
 ghost use Rattle.s3_store.specs.Inner.State.{KeepsContents};
 ghost use Rattle.s3_store.specs.Inner.State.{ChangesWithin};
 ghost use Rattle.s3_files.specs.Inner.Files.{AreStored, FileShape, records, ChangesRecord};
-ghost use Rattle.s3_files.specs.Inner.FileFault.{FindsSectors, failed_file_transfers};
+ghost use Rattle.s3_files.specs.Inner.FileFault.{failed_file_transfers};
 
 use crate::fault::FileFault;
 use s3_store::Sectors;
@@ -29,8 +29,7 @@ pub trait RecordFile {
         ensures unchanged { IsErrOf result FileFault.NoRecord → bytes.new ≡ bytes.old }
         ensures not_full { ¬ IsErrOf result FileFault.Full }
         ensures keeps { KeepsContents (P.state pool.old) (P.state pool.new) }
-        ensures failures { (P.state pool.new).failures ≡ (P.state pool.old).failures + failed_file_transfers result }
-        ensures fault { IfErr result FindsSectors };
+        ensures failures { (P.state pool.new).failures ≡ (P.state pool.old).failures + failed_file_transfers result };
 
     /// Writes a record over the one at place `i`, from 0. Refused with `NoRecord` exactly where there is none, where nothing
     /// changes, and with `Pool`, where that record may be changed in part. No other record changes.
@@ -43,8 +42,7 @@ pub trait RecordFile {
         ensures not_full { ¬ IsErrOf result FileFault.Full }
         ensures others { ChangesRecord (file self.now) i (P.state pool.old).contents (P.state pool.new).contents }
         ensures within { ChangesWithin (Contains (file self.now).sectors) (P.state pool.old) (P.state pool.new) }
-        ensures failures { (P.state pool.new).failures ≡ (P.state pool.old).failures + failed_file_transfers result }
-        ensures fault { IfErr result FindsSectors };
+        ensures failures { (P.state pool.new).failures ≡ (P.state pool.old).failures + failed_file_transfers result };
 
     /// Adds a record behind the last one. Refused with `Full` exactly where there are as many as there is room for, where
     /// nothing changes, and with `Pool`, where the list of records stays as it was.
@@ -59,6 +57,5 @@ pub trait RecordFile {
         ensures is_new { ¬ IsErrOf result FileFault.NoRecord }
         ensures others { ChangesRecord (file self.old) (file self.old).count (P.state pool.old).contents (P.state pool.new).contents }
         ensures within { ChangesWithin (Contains (file self.old).sectors) (P.state pool.old) (P.state pool.new) }
-        ensures failures { (P.state pool.new).failures ≡ (P.state pool.old).failures + failed_file_transfers result }
-        ensures fault { IfErr result FindsSectors };
+        ensures failures { (P.state pool.new).failures ≡ (P.state pool.old).failures + failed_file_transfers result };
 }

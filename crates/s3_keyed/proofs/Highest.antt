@@ -3,7 +3,7 @@ use Rattle.std.proofs.Common.{◌≡◌, ℕ, zero, suc, ◌+◌, ◌-◌, ◌<�
 use Rattle.std.proofs.lemmas.Bool.{ltb-true}
 use Rattle.std.proofs.lemmas.Option.{slice_get_within}
 use Rattle.std.specs.List.{list_all, range_with_len}
-use Rattle.s3_store.specs.declared.pool_fault.PoolFault.{PoolFault}
+use Rattle.s3_store.specs.declared.sector_fault.SectorFault.{SectorFault}
 use Rattle.s3_keyed.specs.KeyOrder.{Entry, key_order, insert_entries, ascends, keys_in}
 use Rattle.s3_keyed.specs.Index.{Layout, entry_at, index_in}
 use Rattle.s3_keyed.proofs.Order.{by_lt, below, In, In-from_get, get_from_In, In-key_order, In-key_order_back, In-inserts_left, In-inserts_right, In-inserts_cases}
@@ -105,6 +105,6 @@ unfolding index_in
 none_indexed layout n k bytes none = ap (λ m. list_all (λ other. nat_lt other k) (keys_in (map (entry_at layout bytes) (range_with_len 0 m)))) none
 
 -- an answer said of one list is said of another
-pub above_answer : (a b : Bool) (r : Result Bool PoolFault) → ((x : Bool) → a ≡ x → b ≡ x) → IfOk r (λ x. a ≡ x) → IfOk r (λ x. b ≡ x)
+pub above_answer : (a b : Bool) (r : Result Bool SectorFault) → ((x : Bool) → a ≡ x → b ≡ x) → IfOk r (λ x. a ≡ x) → IfOk r (λ x. b ≡ x)
 above_answer a b (Ok x) turn h = turn x h
 above_answer a b (Err fault) turn h = tt

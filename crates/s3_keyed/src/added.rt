@@ -6,7 +6,7 @@ ghost use Rattle.s3_keyed.specs.Inner.Shape.{entry_of};
 
 use crate::indexed::IndexEntry;
 use crate::keys::{Key, KeyNumber};
-use s3_store::PoolFault;
+use s3_store::SectorFault;
 use std::alloc::Global;
 use std::collections::BTreeMap;
 
@@ -82,11 +82,11 @@ impl AddedEntries {
     }
 
     /// Puts an entry whose key none has into its place.
-    pub fn insert(&mut self, entry: IndexEntry) -> Result<(), PoolFault>
+    pub fn insert(&mut self, entry: IndexEntry) -> Result<(), SectorFault>
         requires is_new { (i : ℕ) (other : Entry) → slice_get (entries_of self.old) i ≡ Some other → other.key ≢ number_of entry.key.bytes }
         ensures ok { OnOk result (entries_of self.new ≡ insert_entry (entry_of entry) (entries_of self.old)) }
         ensures err { OnErr result (entries_of self.new ≡ entries_of self.old) }
-        ensures fault { IfErr result (λ fault. fault ≡ PoolFault.NoMemory) }
+        ensures fault { IfErr result (λ fault. fault ≡ SectorFault.NoMemory) }
     {
         self.numbers.insert(entry.key.number(), entry.number)?;
         Ok(())

@@ -1,5 +1,5 @@
 //! Whether an index is that of the records.
-ghost use Rattle.std.specs.Prelude.{◌≡◌, ◌≢◌, ◌≤◌, ◌<◌, ◌+◌, ◌*◌, ◌/◌, ◌^◌, ℕ, IfOk, IfErr, MatchBool};
+ghost use Rattle.std.specs.Prelude.{◌≡◌, ◌≤◌, ◌<◌, ◌+◌, ◌*◌, ◌/◌, ◌^◌, ℕ, IfOk, MatchBool};
 ghost use Rattle.s3_store.specs.Inner.State.{KeepsContents};
 ghost use Rattle.s3_store.specs.Inner.Failures.{failed_transfers};
 ghost use Rattle.s3_files.specs.Inner.Files.{AreStored};
@@ -15,7 +15,7 @@ use crate::index_sector::{
 use crate::indexed::IndexedFile;
 use crate::keys::Key;
 use crate::record_sector::RecordSector;
-use s3_store::{PoolFault, Sectors};
+use s3_store::{SectorFault, Sectors};
 
 /// Whether the keys of the first so many entries of a sector, which have four to eight bytes, ascend.
 fn numbers_ascend(sector: &[u8; 256], entries: usize, key_length: usize) -> bool
@@ -80,12 +80,11 @@ pub fn is_good<P: Sectors>(
     file: &IndexedFile,
     pool: &mut P,
     guide: &mut Guide,
-) -> Result<bool, PoolFault>
+) -> Result<bool, SectorFault>
     requires stored { AreStored file.now.file.sectors (P.state pool.old).contents }
     ensures good { IfOk result (λ good. is_good_index (index_in (layout_in file.now) file.now.file.count (bytes_in file.now (P.state pool.old).contents)) (keys_on file.now (P.state pool.old).contents) ≡ good) }
     ensures keeps { KeepsContents (P.state pool.old) (P.state pool.new) }
     ensures failures { (P.state pool.new).failures ≡ (P.state pool.old).failures + failed_transfers result }
-    ensures fault { IfErr result (λ fault. fault ≢ PoolFault.NoSector) }
 {
     let count = file.file.count;
     if count == 0 {

@@ -1,5 +1,5 @@
 //! The added entries merged into the index.
-ghost use Rattle.std.specs.Prelude.{◌≡◌, ◌≢◌, ◌≤◌, ◌<◌, ◌+◌, ◌-◌, ◌^◌, ℕ, true, length, OnOk, IfOk, IfErr, MatchOption};
+ghost use Rattle.std.specs.Prelude.{◌≡◌, ◌≤◌, ◌<◌, ◌+◌, ◌-◌, ◌^◌, ℕ, true, length, OnOk, IfOk, MatchOption};
 ghost use Rattle.std.specs.List.{All, Contains};
 ghost use Rattle.s3_store.specs.Inner.State.{KeepsContents, ChangesWithin};
 ghost use Rattle.s3_store.specs.Inner.Failures.{failed_transfers};
@@ -16,7 +16,7 @@ use crate::entries::read_entry;
 use crate::indexed::{IndexEntry, IndexedFile};
 use crate::keys::Key;
 use crate::write::write_entry;
-use s3_store::{PoolFault, Sectors};
+use s3_store::{SectorFault, Sectors};
 
 /// The last of the first so many entries of the index, where its key is above this one.
 fn last_above<P: Sectors>(
@@ -24,7 +24,7 @@ fn last_above<P: Sectors>(
     pool: &mut P,
     entries: u32,
     key: &Key,
-) -> Result<Option<IndexEntry>, PoolFault>
+) -> Result<Option<IndexEntry>, SectorFault>
     requires stored { AreStored file.now.file.sectors (P.state pool.old).contents }
     requires few { entries ≤ file.now.file.capacity }
     ensures last { IfOk result (λ last. MatchOption last
@@ -32,7 +32,6 @@ fn last_above<P: Sectors>(
         (λ entry. (0 < entries) × (entry_of entry ≡ entry_at (layout_in file.now) (bytes_in file.now (P.state pool.old).contents) (entries - 1)) × (number_of key.now.bytes < number_of entry.key.bytes) × (number_of entry.key.bytes < 256 ^ file.now.key_length))) }
     ensures keeps { KeepsContents (P.state pool.old) (P.state pool.new) }
     ensures failures { (P.state pool.new).failures ≡ (P.state pool.old).failures + failed_transfers result }
-    ensures fault { IfErr result (λ fault. fault ≢ PoolFault.NoSector) }
 {
     if entries == 0 {
         return Ok(None);
@@ -51,7 +50,7 @@ pub fn merge<P: Sectors>(
     pool: &mut P,
     indexed: u32,
     added: &mut AddedEntries,
-) -> Result<(), PoolFault>
+) -> Result<(), SectorFault>
     requires stored { AreStored file.now.file.sectors (P.state pool.old).contents }
     requires room { indexed + length (entries_of added.old) ≤ file.now.file.capacity }
     requires ascending { IsAscending (entry_at (layout_in file.now) (bytes_in file.now (P.state pool.old).contents)) indexed }
@@ -61,7 +60,6 @@ pub fn merge<P: Sectors>(
     ensures records { (count : ℕ) → count ≤ file.now.file.capacity → records_in file.now.file.record_length count (bytes_in file.now (P.state pool.new).contents) ≡ records_in file.now.file.record_length count (bytes_in file.now (P.state pool.old).contents) }
     ensures within { ChangesWithin (Contains file.now.file.sectors) (P.state pool.old) (P.state pool.new) }
     ensures failures { (P.state pool.new).failures ≡ (P.state pool.old).failures + failed_transfers result }
-    ensures fault { IfErr result (λ fault. fault ≢ PoolFault.NoSector) }
 {
     let mut left = indexed;
     'highest: while let Some(top) = added.last() {

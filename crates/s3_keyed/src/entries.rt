@@ -1,5 +1,5 @@
 //! The entries of an index, and the keys of records.
-ghost use Rattle.std.specs.Prelude.{◌≡◌, ◌≢◌, ◌≤◌, ◌<◌, ◌+◌, ◌-◌, ◌*◌, ◌^◌, ◌==◌, ℕ, length, IfOk, IfErr};
+ghost use Rattle.std.specs.Prelude.{◌≡◌, ◌≤◌, ◌<◌, ◌+◌, ◌-◌, ◌*◌, ◌^◌, ◌==◌, ℕ, length, IfOk};
 ghost use Rattle.s3_store.specs.Inner.State.{KeepsContents};
 ghost use Rattle.s3_store.specs.Inner.Failures.{failed_transfers};
 ghost use Rattle.s3_store.specs.Bytes.{part};
@@ -14,7 +14,7 @@ use crate::indexed::{IndexEntry, IndexedFile};
 use crate::keys::Key;
 use byteorder::{BigEndian, ByteOrder};
 use s3_files::read_bytes;
-use s3_store::{PoolFault, Sectors};
+use s3_store::{SectorFault, Sectors};
 
 /// How many sectors of the file lie before its index.
 pub fn sectors_before(file: &IndexedFile) -> u32
@@ -39,14 +39,13 @@ pub fn read_entry<P: Sectors>(
     file: &IndexedFile,
     pool: &mut P,
     i: u32,
-) -> Result<IndexEntry, PoolFault>
+) -> Result<IndexEntry, SectorFault>
     requires stored { AreStored file.now.file.sectors (P.state pool.old).contents }
     requires within { i < file.now.file.capacity }
     ensures ok { IfOk result (λ entry. entry_of entry ≡ entry_at (layout_in file.now) (bytes_in file.now (P.state pool.old).contents) i) }
     ensures short { IfOk result (λ entry. number_of entry.key.bytes < 256 ^ file.now.key_length) }
     ensures keeps { KeepsContents (P.state pool.old) (P.state pool.new) }
     ensures failures { (P.state pool.new).failures ≡ (P.state pool.old).failures + failed_transfers result }
-    ensures fault { IfErr result (λ fault. fault ≢ PoolFault.NoSector) }
 {
     let key_length = usize::from(file.key_length);
     let mut buffer = [0; 33];
@@ -58,13 +57,12 @@ pub fn read_entry<P: Sectors>(
 }
 
 /// Reads the record number, from 1 in a good index, in entry `i` of the index, from 0.
-pub fn read_number<P: Sectors>(file: &IndexedFile, pool: &mut P, i: u32) -> Result<u32, PoolFault>
+pub fn read_number<P: Sectors>(file: &IndexedFile, pool: &mut P, i: u32) -> Result<u32, SectorFault>
     requires stored { AreStored file.now.file.sectors (P.state pool.old).contents }
     requires within { i < file.now.file.capacity }
     ensures ok { IfOk result (λ number. number ≡ (entry_at (layout_in file.now) (bytes_in file.now (P.state pool.old).contents) i).number) }
     ensures keeps { KeepsContents (P.state pool.old) (P.state pool.new) }
     ensures failures { (P.state pool.new).failures ≡ (P.state pool.old).failures + failed_transfers result }
-    ensures fault { IfErr result (λ fault. fault ≢ PoolFault.NoSector) }
 {
     let mut bytes = [0; 4];
     let at = place_of(file, i) + u32::from(file.key_length);
@@ -83,14 +81,13 @@ pub fn key_place(file: &IndexedFile, i: u32) -> u32
 }
 
 /// Reads the key of the record at a place, from 0.
-pub fn read_key<P: Sectors>(file: &IndexedFile, pool: &mut P, i: u32) -> Result<Key, PoolFault>
+pub fn read_key<P: Sectors>(file: &IndexedFile, pool: &mut P, i: u32) -> Result<Key, SectorFault>
     requires stored { AreStored file.now.file.sectors (P.state pool.old).contents }
     requires within { i < file.now.file.capacity }
     ensures ok { IfOk result (λ key. number_of key.bytes ≡ key_of (layout_in file.now).key (part (bytes_in file.now (P.state pool.old).contents) (i * file.now.file.record_length) file.now.file.record_length)) }
     ensures short { IfOk result (λ key. number_of key.bytes < 256 ^ file.now.key_length) }
     ensures keeps { KeepsContents (P.state pool.old) (P.state pool.new) }
     ensures failures { (P.state pool.new).failures ≡ (P.state pool.old).failures + failed_transfers result }
-    ensures fault { IfErr result (λ fault. fault ≢ PoolFault.NoSector) }
 {
     let mut buffer = [0; 29];
     let bytes = &mut buffer[..usize::from(file.key_length)];
@@ -105,14 +102,13 @@ pub fn has_key_of<P: Sectors>(
     pool: &mut P,
     i: u32,
     bytes: &[u8],
-) -> Result<bool, PoolFault>
+) -> Result<bool, SectorFault>
     requires stored { AreStored file.now.file.sectors (P.state pool.old).contents }
     requires within { i < file.now.file.capacity }
     requires long { length bytes.now ≡ file.now.file.record_length }
     ensures ok { IfOk result (λ same. same ≡ (key_of (layout_in file.now).key (part (bytes_in file.now (P.state pool.old).contents) (i * file.now.file.record_length) file.now.file.record_length) == key_of (layout_in file.now).key bytes.now)) }
     ensures keeps { KeepsContents (P.state pool.old) (P.state pool.new) }
     ensures failures { (P.state pool.new).failures ≡ (P.state pool.old).failures + failed_transfers result }
-    ensures fault { IfErr result (λ fault. fault ≢ PoolFault.NoSector) }
 {
     let key_length = usize::from(file.key_length);
     let start = usize::from(file.key_start - 1);

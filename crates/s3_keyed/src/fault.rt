@@ -2,7 +2,7 @@
 ghost use Rattle.std.specs.Prelude.{◌≡◌};
 ghost use Rattle.s3_keyed.specs.declared.fault.KeyedFault.TheVariants.{Pool};
 
-use s3_store::PoolFault;
+use s3_store::SectorFault;
 use thiserror::Error;
 
 /// Why a call on a file with keys is refused.
@@ -28,13 +28,13 @@ pub enum KeyedFault {
     NotAscending,
     /// A transfer failed, or memory was refused.
     #[error("{0}")]
-    Pool(PoolFault),
+    Pool(SectorFault),
 }
 
-impl From<PoolFault> for KeyedFault {
+impl From<SectorFault> for KeyedFault {
     ghost from_gives = { λ fault refusal. refusal ≡ Pool fault };
 
-    fn from(fault: PoolFault) -> Self {
+    fn from(fault: SectorFault) -> Self {
         KeyedFault::Pool(fault)
     }
 }

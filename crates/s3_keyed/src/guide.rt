@@ -4,7 +4,7 @@ ghost use Rattle.std.specs.Prelude.{◌≡◌, ◌≤◌, ◌<◌, ◌+◌, ◌/
 use crate::index_sector::{key_bytes, key_number, key_of_entry, number_in};
 use crate::keys::{Key, QuickKey, short_form};
 use crate::noted::NotedRecords;
-use s3_store::PoolFault;
+use s3_store::SectorFault;
 use std::alloc::Global;
 
 /// How many entries of a sector lie between two keys that are noted.
@@ -25,8 +25,8 @@ pub struct Guide {
 
 impl Guide {
     /// A guide without keys, but with room for those of so many entries.
-    pub fn new(alloc: Global, count: u32) -> Result<Self, PoolFault>
-        ensures { IfErr result (λ fault. fault ≡ PoolFault.NoMemory) }
+    pub fn new(alloc: Global, count: u32) -> Result<Self, SectorFault>
+        ensures { IfErr result (λ fault. fault ≡ SectorFault.NoMemory) }
     {
         Ok(Guide {
             numbers: Vec::new(alloc),
@@ -43,11 +43,11 @@ impl Guide {
         count: usize,
         key_length: u8,
         entry: u32,
-    ) -> Result<(), PoolFault>
+    ) -> Result<(), SectorFault>
         requires short { key_length ≤ 29 }
         requires some { 0 < count }
         requires inside { count ≤ 256 / (key_length + 4) }
-        ensures { IfErr result (λ fault. fault ≡ PoolFault.NoMemory) }
+        ensures { IfErr result (λ fault. fault ≡ SectorFault.NoMemory) }
     {
         match key_length {
             4..=8 => self.note_numbers(sector, count, key_length, entry),
@@ -81,11 +81,11 @@ impl Guide {
         count: usize,
         key_length: u8,
         entry: u32,
-    ) -> Result<(), PoolFault>
+    ) -> Result<(), SectorFault>
         requires long { 4 ≤ key_length }
         requires short { key_length ≤ 8 }
         requires inside { count ≤ 256 / (key_length + 4) }
-        ensures { IfErr result (λ fault. fault ≡ PoolFault.NoMemory) }
+        ensures { IfErr result (λ fault. fault ≡ SectorFault.NoMemory) }
     {
         let mut entry = entry;
         for j in 0..count {

@@ -1,5 +1,5 @@
 //! Sectors of an index, whose entries are looked at where they lie.
-ghost use Rattle.std.specs.Prelude.{◌≡◌, ◌≢◌, ◌≤◌, ◌<◌, ◌+◌, ◌*◌, ◌/◌, ◌^◌, ℕ, length, take, nat_lt, ◌==◌, OnOk, IfErr};
+ghost use Rattle.std.specs.Prelude.{◌≡◌, ◌≤◌, ◌<◌, ◌+◌, ◌*◌, ◌/◌, ◌^◌, ℕ, length, take, nat_lt, ◌==◌, OnOk};
 ghost use Rattle.std.specs.Ordering.{nat_cmp};
 ghost use Rattle.s3_store.specs.Inner.State.{KeepsContents};
 ghost use Rattle.s3_store.specs.Inner.Failures.{failed_transfers};
@@ -14,7 +14,7 @@ use crate::indexed::IndexedFile;
 use crate::keys::Key;
 use byteorder::{BigEndian, ByteOrder};
 use s3_files::read_bytes;
-use s3_store::{PoolFault, Sectors};
+use s3_store::{SectorFault, Sectors};
 use std::cmp::Ordering;
 
 /// How many entries lie in a sector of the index.
@@ -31,13 +31,12 @@ pub fn read_sector<P: Sectors>(
     pool: &mut P,
     place: u32,
     bytes: &mut [u8; 256],
-) -> Result<(), PoolFault>
+) -> Result<(), SectorFault>
     requires stored { AreStored file.now.file.sectors (P.state pool.old).contents }
     requires within { place < index_sectors file.now.file.capacity file.now.key_length }
     ensures ok { OnOk result (bytes.new ≡ index_sector file.now place (bytes_in file.now (P.state pool.old).contents)) }
     ensures keeps { KeepsContents (P.state pool.old) (P.state pool.new) }
     ensures failures { (P.state pool.new).failures ≡ (P.state pool.old).failures + failed_transfers result }
-    ensures fault { IfErr result (λ fault. fault ≢ PoolFault.NoSector) }
 {
     read_bytes(
         pool,

@@ -1,5 +1,5 @@
 //! A file with keys that is open.
-ghost use Rattle.std.specs.Prelude.{◌≡◌, ◌≢◌, ◌≤◌, ◌<◌, ◌+◌, ◌-◌, ◌^◌, ◌/◌, [], ◌∷◌, ◌++◌, true, nat_lt, Ok, Err, None, Some, length, slice_get, take, OnOk, IfOk, IfErr, IfSome, IsTrue, ◌↔◌};
+ghost use Rattle.std.specs.Prelude.{◌≡◌, ◌≤◌, ◌<◌, ◌+◌, ◌-◌, ◌^◌, ◌/◌, [], ◌∷◌, ◌++◌, true, nat_lt, Ok, Err, None, Some, length, slice_get, take, OnOk, IfOk, IfErr, IfSome, IsTrue, ◌↔◌};
 ghost use Rattle.std.specs.List.{Contains, list_all};
 ghost use Rattle.s3_store.specs.Inner.State.{KeepsContents, ChangesWithin};
 ghost use Rattle.s3_store.specs.Inner.Failures.{failed_transfers};
@@ -22,7 +22,7 @@ use crate::keys::{Key, are_same_keys, short_number_of};
 use crate::search::{is_above_index, search_from, search_index};
 use crate::write::{read_record, write_entry, write_record};
 use s3_slots::FileLabel;
-use s3_store::{PoolFault, Sectors};
+use s3_store::{SectorFault, Sectors};
 use std::alloc::Global;
 
 /// A file with keys that is open: what is added to it has its entry in memory until the close.
@@ -212,14 +212,13 @@ impl Keyed {
         &self,
         pool: &mut P,
         key: &Key,
-    ) -> Result<Option<u32>, PoolFault>
+    ) -> Result<Option<u32>, SectorFault>
         requires stored { AreStored (shown self.now).sectors (P.state pool.old).contents }
         requires ordered { HasKeyOrder (shown self.now) (P.state pool.old).contents }
         requires short { number_of key.now.bytes < 256 ^ (shown self.now).layout.key.length }
         ensures place { IfOk result (λ place. place_of_key (number_of key.now.bytes) (keys_now (shown self.now) (P.state pool.old).contents) ≡ place) }
         ensures keeps { KeepsContents (P.state pool.old) (P.state pool.new) }
         ensures failures { (P.state pool.new).failures ≡ (P.state pool.old).failures + failed_transfers result }
-        ensures fault { IfErr result (λ fault. fault ≢ PoolFault.NoSector) }
     {
         let guess = self.guess(key);
         if let Some(number) = search_index(&self.file, pool, self.indexed, key, guess)? {
@@ -234,14 +233,13 @@ impl Keyed {
     /// The place of the record with the key in these bytes, from 0, where they are four to eight and it stood at the check:
     /// no more of the index is read than a few entries.
     #[inline(never)]
-    fn quick_place<P: Sectors>(&self, pool: &mut P, key: &[u8]) -> Result<Option<u32>, PoolFault>
+    fn quick_place<P: Sectors>(&self, pool: &mut P, key: &[u8]) -> Result<Option<u32>, SectorFault>
         requires stored { AreStored (shown self.now).sectors (P.state pool.old).contents }
         requires ordered { HasKeyOrder (shown self.now) (P.state pool.old).contents }
         requires long { length key.now ≡ (shown self.now).layout.key.length }
         ensures place { IfOk result (λ place. IfSome place (λ place. place_of_key (number_of key.now) (keys_now (shown self.now) (P.state pool.old).contents) ≡ Some place)) }
         ensures keeps { KeepsContents (P.state pool.old) (P.state pool.new) }
         ensures failures { (P.state pool.new).failures ≡ (P.state pool.old).failures + failed_transfers result }
-        ensures fault { IfErr result (λ fault. fault ≢ PoolFault.NoSector) }
     {
         let Some(key) = short_number_of(key) else {
             return Ok(None);
@@ -280,7 +278,7 @@ impl Keyed {
         pool: &mut P,
         key: &[u8],
         bytes: &mut [u8],
-    ) -> Result<Option<u32>, PoolFault>
+    ) -> Result<Option<u32>, SectorFault>
         requires stored { AreStored (shown self.now).sectors (P.state pool.old).contents }
         requires ordered { HasKeyOrder (shown self.now) (P.state pool.old).contents }
         requires key { length key.now ≡ (shown self.now).layout.key.length }
@@ -289,7 +287,6 @@ impl Keyed {
         ensures got { IfOk result (λ place. IfSome place (λ place. slice_get (records_now (shown self.now) (P.state pool.old).contents) place ≡ Some bytes.new)) }
         ensures keeps { KeepsContents (P.state pool.old) (P.state pool.new) }
         ensures failures { (P.state pool.new).failures ≡ (P.state pool.old).failures + failed_transfers result }
-        ensures fault { IfErr result (λ fault. fault ≢ PoolFault.NoSector) }
     {
         let Some(place) = self.guide.record_of(key) else {
             return Ok(None);
@@ -395,13 +392,12 @@ impl Keyed {
     }
 
     /// Whether a key is above those of all records.
-    fn is_above_all<P: Sectors>(&self, pool: &mut P, key: &Key) -> Result<bool, PoolFault>
+    fn is_above_all<P: Sectors>(&self, pool: &mut P, key: &Key) -> Result<bool, SectorFault>
         requires stored { AreStored (shown self.now).sectors (P.state pool.old).contents }
         requires ordered { HasKeyOrder (shown self.now) (P.state pool.old).contents }
         ensures above { IfOk result (λ above. list_all (λ other. nat_lt other (number_of key.now.bytes)) (keys_now (shown self.now) (P.state pool.old).contents) ≡ above) }
         ensures keeps { KeepsContents (P.state pool.old) (P.state pool.new) }
         ensures failures { (P.state pool.new).failures ≡ (P.state pool.old).failures + failed_transfers result }
-        ensures fault { IfErr result (λ fault. fault ≢ PoolFault.NoSector) }
     {
         if !self.added.are_below(key) {
             return Ok(false);
@@ -415,7 +411,7 @@ impl Keyed {
         pool: &mut P,
         key: Key,
         bytes: &[u8],
-    ) -> Result<(), PoolFault>
+    ) -> Result<(), SectorFault>
         requires stored { AreStored (shown self.old).sectors (P.state pool.old).contents }
         requires ordered { HasKeyOrder (shown self.old) (P.state pool.old).contents }
         requires room { (shown self.old).count < (shown self.old).layout.capacity }
@@ -428,7 +424,6 @@ impl Keyed {
         ensures same { IsSameFile (shown self.old) (shown self.new) }
         ensures within { ChangesWithin (Contains (shown self.old).sectors) (P.state pool.old) (P.state pool.new) }
         ensures failures { (P.state pool.new).failures ≡ (P.state pool.old).failures + failed_transfers result }
-        ensures fault { IfErr result (λ fault. fault ≢ PoolFault.NoSector) }
     {
         let number = self.count + 1;
         self.added.insert(IndexEntry { key, number })?;
@@ -443,7 +438,7 @@ impl Keyed {
         pool: &mut P,
         key: Key,
         bytes: &[u8],
-    ) -> Result<(), PoolFault>
+    ) -> Result<(), SectorFault>
         requires stored { AreStored (shown self.old).sectors (P.state pool.old).contents }
         requires ordered { HasKeyOrder (shown self.old) (P.state pool.old).contents }
         requires room { (shown self.old).count < (shown self.old).layout.capacity }
@@ -457,7 +452,6 @@ impl Keyed {
         ensures same { IsSameFile (shown self.old) (shown self.new) }
         ensures within { ChangesWithin (Contains (shown self.old).sectors) (P.state pool.old) (P.state pool.new) }
         ensures failures { (P.state pool.new).failures ≡ (P.state pool.old).failures + failed_transfers result }
-        ensures fault { IfErr result (λ fault. fault ≢ PoolFault.NoSector) }
     {
         let number = self.count + 1;
         write_entry(&self.file, pool, self.indexed, &IndexEntry { key, number })?;

@@ -1,7 +1,7 @@
 //! Where the record of a key is, by a hash of the key. Who asks compares the record's key, so that nothing is proved of it.
 ghost use Rattle.std.specs.Prelude.{◌≡◌, ◌<◌, IfErr};
 
-use s3_store::PoolFault;
+use s3_store::SectorFault;
 use std::alloc::Global;
 
 /// How many slots a key may be in, one behind another.
@@ -36,8 +36,8 @@ fn hash_of(form: u64) -> u32 {
 
 impl NotedRecords {
     /// A table without records, but with room for those of so many keys.
-    pub fn new(alloc: Global, keys: u32) -> Result<Self, PoolFault>
-        ensures { IfErr result (λ fault. fault ≡ PoolFault.NoMemory) }
+    pub fn new(alloc: Global, keys: u32) -> Result<Self, SectorFault>
+        ensures { IfErr result (λ fault. fault ≡ SectorFault.NoMemory) }
     {
         let shift = keys.saturating_add(keys / 2).leading_zeros().min(31);
         let places = (u32::MAX >> shift) as usize + 1;

@@ -1,5 +1,5 @@
 //! A sector of a file that was read, out of which keys of records are taken.
-ghost use Rattle.std.specs.Prelude.{◌≡◌, ◌≢◌, ◌≤◌, ◌<◌, ◌+◌, ◌*◌, ◌/◌, ◌==◌, ℕ, length, OnOk, IfOk, IfErr, MatchBool};
+ghost use Rattle.std.specs.Prelude.{◌≡◌, ◌≤◌, ◌<◌, ◌+◌, ◌*◌, ◌/◌, ◌==◌, ℕ, length, OnOk, IfOk, MatchBool};
 ghost use Rattle.s3_store.specs.Inner.State.{KeepsContents};
 ghost use Rattle.s3_store.specs.Inner.Failures.{failed_transfers};
 ghost use Rattle.s3_store.specs.Bytes.{part};
@@ -11,7 +11,7 @@ use crate::entries::{key_place, read_key};
 use crate::index_sector::{is_key_at, is_key_of, number_in};
 use crate::indexed::IndexedFile;
 use s3_files::read_bytes;
-use s3_store::{PoolFault, Sectors};
+use s3_store::{SectorFault, Sectors};
 
 /// A sector of a file that was read.
 #[derive(Clone, Copy)]
@@ -37,14 +37,13 @@ impl RecordSector {
         file: &IndexedFile,
         pool: &mut P,
         place: u32,
-    ) -> Result<(), PoolFault>
+    ) -> Result<(), SectorFault>
         requires stored { AreStored file.now.file.sectors (P.state pool.old).contents }
         requires within { place < length file.now.file.sectors }
         ensures ok { OnOk result (self.new.bytes ≡ part (bytes_in file.now (P.state pool.old).contents) (256 * self.new.place) 256) }
         ensures place { OnOk result (self.new.place ≡ place) }
         ensures keeps { KeepsContents (P.state pool.old) (P.state pool.new) }
         ensures failures { (P.state pool.new).failures ≡ (P.state pool.old).failures + failed_transfers result }
-        ensures fault { IfErr result (λ fault. fault ≢ PoolFault.NoSector) }
     {
         read_bytes(pool, &file.file.sectors, 256 * place, &mut self.bytes)?;
         self.place = place;
@@ -57,7 +56,7 @@ impl RecordSector {
         file: &IndexedFile,
         pool: &mut P,
         place: u32,
-    ) -> Result<(), PoolFault>
+    ) -> Result<(), SectorFault>
         requires stored { AreStored file.now.file.sectors (P.state pool.old).contents }
         requires within { place < length file.now.file.sectors }
         requires here { self.old.bytes ≡ part (bytes_in file.now (P.state pool.old).contents) (256 * self.old.place) 256 }
@@ -65,7 +64,6 @@ impl RecordSector {
         ensures ok { OnOk result (self.new.bytes ≡ part (bytes_in file.now (P.state pool.old).contents) (256 * self.new.place) 256) }
         ensures keeps { KeepsContents (P.state pool.old) (P.state pool.new) }
         ensures failures { (P.state pool.new).failures ≡ (P.state pool.old).failures + failed_transfers result }
-        ensures fault { IfErr result (λ fault. fault ≢ PoolFault.NoSector) }
     {
         if self.place == place {
             return Ok(());
@@ -82,7 +80,7 @@ impl RecordSector {
         i: u32,
         index: &[u8; 256],
         j: usize,
-    ) -> Result<bool, PoolFault>
+    ) -> Result<bool, SectorFault>
         requires stored { AreStored file.now.file.sectors (P.state pool.old).contents }
         requires within { i < file.now.file.capacity }
         requires inside { j < 256 / (file.now.key_length + 4) }
@@ -91,7 +89,6 @@ impl RecordSector {
         ensures here { IfOk result (λ _. self.new.bytes ≡ part (bytes_in file.now (P.state pool.old).contents) (256 * self.new.place) 256) }
         ensures keeps { KeepsContents (P.state pool.old) (P.state pool.new) }
         ensures failures { (P.state pool.new).failures ≡ (P.state pool.old).failures + failed_transfers result }
-        ensures fault { IfErr result (λ fault. fault ≢ PoolFault.NoSector) }
     {
         let at = key_place(file, i);
         let start = (at % 256) as usize;
@@ -111,7 +108,7 @@ impl RecordSector {
         pool: &mut P,
         index: &[u8; 256],
         entries: usize,
-    ) -> Result<bool, PoolFault>
+    ) -> Result<bool, SectorFault>
         requires stored { AreStored file.now.file.sectors (P.state pool.old).contents }
         requires inside { entries ≤ 256 / (file.now.key_length + 4) }
         requires here { self.old.bytes ≡ part (bytes_in file.now (P.state pool.old).contents) (256 * self.old.place) 256 }
@@ -121,7 +118,6 @@ impl RecordSector {
         ensures here { IfOk result (λ _. self.new.bytes ≡ part (bytes_in file.now (P.state pool.old).contents) (256 * self.new.place) 256) }
         ensures keeps { KeepsContents (P.state pool.old) (P.state pool.new) }
         ensures failures { (P.state pool.new).failures ≡ (P.state pool.old).failures + failed_transfers result }
-        ensures fault { IfErr result (λ fault. fault ≢ PoolFault.NoSector) }
     {
         let key_length = usize::from(file.key_length);
         for j in 0..entries {

@@ -1,5 +1,5 @@
 //! An entry found by its key.
-ghost use Rattle.std.specs.Prelude.{◌≡◌, ◌≢◌, ◌≤◌, ◌<◌, ◌+◌, ◌^◌, ℕ, true, nat_lt, IfOk, IfErr, IfSome, MatchOption};
+ghost use Rattle.std.specs.Prelude.{◌≡◌, ◌≢◌, ◌≤◌, ◌<◌, ◌+◌, ◌^◌, ℕ, true, nat_lt, IfOk, IfSome, MatchOption};
 ghost use Rattle.std.specs.List.{list_all};
 ghost use Rattle.s3_store.specs.Inner.State.{KeepsContents};
 ghost use Rattle.s3_store.specs.Inner.Failures.{failed_transfers};
@@ -16,7 +16,7 @@ use crate::indexed::IndexedFile;
 use crate::keys::Key;
 use crate::sector_search::{Standing, find_entry, number_with};
 use s3_files::read_in_sector;
-use s3_store::{PoolFault, Sectors};
+use s3_store::{SectorFault, Sectors};
 
 /// The most bytes of the entries that are read at once, where keys have four to eight bytes.
 const STEP_BYTES: usize = 48;
@@ -29,7 +29,7 @@ pub fn search_from<P: Sectors>(
     entries: u32,
     key: u64,
     first: u32,
-) -> Result<Option<u32>, PoolFault>
+) -> Result<Option<u32>, SectorFault>
     requires stored { AreStored file.now.file.sectors (P.state pool.old).contents }
     requires few { entries ≤ file.now.file.capacity }
     requires long { 4 ≤ file.now.key_length }
@@ -37,7 +37,6 @@ pub fn search_from<P: Sectors>(
     ensures found { IfOk result (λ found. IfSome found (λ number. (i : ℕ) × (i < entries) × (entry_at (layout_in file.now) (bytes_in file.now (P.state pool.old).contents) i ≡ record { key = key; number = number }))) }
     ensures keeps { KeepsContents (P.state pool.old) (P.state pool.new) }
     ensures failures { (P.state pool.new).failures ≡ (P.state pool.old).failures + failed_transfers result }
-    ensures fault { IfErr result (λ fault. fault ≢ PoolFault.NoSector) }
 {
     if first >= entries {
         return Ok(None);
@@ -78,7 +77,7 @@ pub fn search_index<P: Sectors>(
     entries: u32,
     key: &Key,
     guess: u32,
-) -> Result<Option<u32>, PoolFault>
+) -> Result<Option<u32>, SectorFault>
     requires stored { AreStored file.now.file.sectors (P.state pool.old).contents }
     requires few { entries ≤ file.now.file.capacity }
     requires short { number_of key.now.bytes < 256 ^ file.now.key_length }
@@ -88,7 +87,6 @@ pub fn search_index<P: Sectors>(
         (λ number. (i : ℕ) × (i < entries) × (entry_at (layout_in file.now) (bytes_in file.now (P.state pool.old).contents) i ≡ record { key = number_of key.now.bytes; number = number }))) }
     ensures keeps { KeepsContents (P.state pool.old) (P.state pool.new) }
     ensures failures { (P.state pool.new).failures ≡ (P.state pool.old).failures + failed_transfers result }
-    ensures fault { IfErr result (λ fault. fault ≢ PoolFault.NoSector) }
 {
     let per_sector = entries_per_sector(file);
     let key_length = usize::from(file.key_length);
@@ -114,14 +112,13 @@ pub fn is_above_index<P: Sectors>(
     pool: &mut P,
     entries: u32,
     key: &Key,
-) -> Result<bool, PoolFault>
+) -> Result<bool, SectorFault>
     requires stored { AreStored file.now.file.sectors (P.state pool.old).contents }
     requires few { entries ≤ file.now.file.capacity }
     requires ascending { ascends (keys_in (index_in (layout_in file.now) entries (bytes_in file.now (P.state pool.old).contents))) ≡ true }
     ensures above { IfOk result (λ above. list_all (λ other. nat_lt other (number_of key.now.bytes)) (keys_in (index_in (layout_in file.now) entries (bytes_in file.now (P.state pool.old).contents))) ≡ above) }
     ensures keeps { KeepsContents (P.state pool.old) (P.state pool.new) }
     ensures failures { (P.state pool.new).failures ≡ (P.state pool.old).failures + failed_transfers result }
-    ensures fault { IfErr result (λ fault. fault ≢ PoolFault.NoSector) }
 {
     if entries == 0 {
         return Ok(true);

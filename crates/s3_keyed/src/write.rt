@@ -1,5 +1,5 @@
 //! Records and entries written.
-ghost use Rattle.std.specs.Prelude.{◌≡◌, ◌≢◌, ◌≤◌, ◌<◌, ◌+◌, ◌-◌, ◌*◌, ◌^◌, ℕ, length, OnOk, IfErr};
+ghost use Rattle.std.specs.Prelude.{◌≡◌, ◌≢◌, ◌≤◌, ◌<◌, ◌+◌, ◌-◌, ◌*◌, ◌^◌, ℕ, length, OnOk};
 ghost use Rattle.std.specs.List.{Contains};
 ghost use Rattle.s3_store.specs.Bytes.{part};
 ghost use Rattle.s3_store.specs.Inner.Bytes.{SameOutside};
@@ -14,7 +14,7 @@ use crate::entries::place_of;
 use crate::indexed::{IndexEntry, IndexedFile};
 use byteorder::{BigEndian, ByteOrder};
 use s3_files::{read_bytes, write_bytes};
-use s3_store::{PoolFault, Sectors};
+use s3_store::{SectorFault, Sectors};
 
 /// Where a record begins in the bytes of the file.
 fn record_place(file: &IndexedFile, i: u32) -> u32
@@ -33,14 +33,13 @@ pub fn read_record<P: Sectors>(
     pool: &mut P,
     i: u32,
     bytes: &mut [u8],
-) -> Result<(), PoolFault>
+) -> Result<(), SectorFault>
     requires stored { AreStored file.now.file.sectors (P.state pool.old).contents }
     requires within { i < file.now.file.capacity }
     requires long { length bytes.old ≡ file.now.file.record_length }
     ensures ok { OnOk result (bytes.new ≡ part (bytes_in file.now (P.state pool.old).contents) (i * file.now.file.record_length) file.now.file.record_length) }
     ensures keeps { KeepsContents (P.state pool.old) (P.state pool.new) }
     ensures failures { (P.state pool.new).failures ≡ (P.state pool.old).failures + failed_transfers result }
-    ensures fault { IfErr result (λ fault. fault ≢ PoolFault.NoSector) }
 {
     read_bytes(pool, &file.file.sectors, record_place(file, i), bytes)
 }
@@ -51,7 +50,7 @@ pub fn write_record<P: Sectors>(
     pool: &mut P,
     i: u32,
     bytes: &[u8],
-) -> Result<(), PoolFault>
+) -> Result<(), SectorFault>
     requires stored { AreStored file.now.file.sectors (P.state pool.old).contents }
     requires within { i < file.now.file.capacity }
     requires long { length bytes.now ≡ file.now.file.record_length }
@@ -60,7 +59,6 @@ pub fn write_record<P: Sectors>(
     ensures records { i * file.now.file.record_length + file.now.file.record_length ≤ file.now.file.capacity * file.now.file.record_length }
     ensures within { ChangesWithin (Contains file.now.file.sectors) (P.state pool.old) (P.state pool.new) }
     ensures failures { (P.state pool.new).failures ≡ (P.state pool.old).failures + failed_transfers result }
-    ensures fault { IfErr result (λ fault. fault ≢ PoolFault.NoSector) }
 {
     write_bytes(pool, &file.file.sectors, record_place(file, i), bytes)
 }
@@ -83,7 +81,7 @@ pub fn write_entry<P: Sectors>(
     pool: &mut P,
     i: u32,
     entry: &IndexEntry,
-) -> Result<(), PoolFault>
+) -> Result<(), SectorFault>
     requires stored { AreStored file.now.file.sectors (P.state pool.old).contents }
     requires within { i < file.now.file.capacity }
     requires short { number_of entry.now.key.bytes < 256 ^ file.now.key_length }
@@ -92,7 +90,6 @@ pub fn write_entry<P: Sectors>(
     ensures others { (j : ℕ) → j ≢ i → entry_at (layout_in file.now) (bytes_in file.now (P.state pool.new).contents) j ≡ entry_at (layout_in file.now) (bytes_in file.now (P.state pool.old).contents) j }
     ensures within { ChangesWithin (Contains file.now.file.sectors) (P.state pool.old) (P.state pool.new) }
     ensures failures { (P.state pool.new).failures ≡ (P.state pool.old).failures + failed_transfers result }
-    ensures fault { IfErr result (λ fault. fault ≢ PoolFault.NoSector) }
 {
     let key_length = usize::from(file.key_length);
     let mut buffer = [0; 33];

@@ -1,10 +1,10 @@
 -- Refusals of new packs and of changes.
-use Rattle.std.proofs.Common.{◌≡◌, ◌≢◌, ℕ, ◌+◌, ◌/◌, List, Result, Ok, Err, refl, sym, ap, ◌∙◌, subst, arith, inl, inr, ◌⊎◌}
+use Rattle.std.proofs.Common.{◌≡◌, ℕ, ◌+◌, ◌/◌, List, Result, Ok, Err, refl, sym, ap, ◌∙◌, subst, arith, inl, inr, ◌⊎◌}
 use Rattle.std.specs.Prelude.{IfErr, OnErr}
 use Rattle.std.specs.Result.{IsErrAnd}
 use Rattle.s3_store.specs.Inner.Failures.{failed_transfers}
-use Rattle.s3_store.specs.declared.pool_fault.PoolFault.{PoolFault}
-use Rattle.s3_store.specs.declared.pool_fault.PoolFault.TheVariants.{Device, NoMemory as NoMemoryForSectors, NoSector}
+use Rattle.s3_store.specs.declared.sector_fault.SectorFault.{SectorFault}
+use Rattle.s3_store.specs.declared.sector_fault.SectorFault.TheVariants.{Device, NoMemory as NoMemoryForSectors}
 use Rattle.s3_slots.specs.declared.making.LabelFault.{LabelFault}
 use Rattle.s3_slots.specs.declared.slot.Slot.{Slot}
 use Rattle.s3_labels.specs.Inner.Areas.{IsChangeRefusal, IsOfSectors, failed_change}
@@ -35,17 +35,17 @@ pub label_refused : {T : Type 0} (result : Result T ChangeFault) (outcome : Resu
 label_refused (Ok x) outcome fault gives h = tt
 label_refused (Err f) outcome fault gives h = subst (λ (f : ChangeFault). IsChangeRefusal outcome f) (sym gives) h
 
-pub sectors_refused : {T : Type 0} (result : Result T ChangeFault) (outcome : Result (List Slot) LabelFault) (fault : PoolFault) → IsErrAnd result (λ f. f ≡ ChangedSectors fault) → fault ≢ NoSector
+pub sectors_refused : {T : Type 0} (result : Result T ChangeFault) (outcome : Result (List Slot) LabelFault) (fault : SectorFault) → IsErrAnd result (λ f. f ≡ ChangedSectors fault)
     → IfErr result (IsChangeRefusal outcome)
-sectors_refused (Ok x) outcome fault gives h = tt
-sectors_refused (Err f) outcome fault gives h = subst (λ (f : ChangeFault). IsChangeRefusal outcome f) (sym gives) h
+sectors_refused (Ok x) outcome fault gives = tt
+sectors_refused (Err f) outcome fault gives = subst (λ (f : ChangeFault). IsChangeRefusal outcome f) (sym gives) tt
 
 -- nothing has changed
 pub label_same : {T : Type 0} (result : Result T ChangeFault) (IsSame : Type 0) → IsSame → IfErr result (λ f. IsOfSectors f ⊎ IsSame)
 label_same (Ok x) IsSame same = tt
 label_same (Err f) IsSame same = inr same
 
-pub sectors_same : {T : Type 0} (result : Result T ChangeFault) (fault : PoolFault) (IsSame : Type 0) → IsErrAnd result (λ f. f ≡ ChangedSectors fault) → IfErr result (λ f. IsOfSectors f ⊎ IsSame)
+pub sectors_same : {T : Type 0} (result : Result T ChangeFault) (fault : SectorFault) (IsSame : Type 0) → IsErrAnd result (λ f. f ≡ ChangedSectors fault) → IfErr result (λ f. IsOfSectors f ⊎ IsSame)
 sectors_same (Ok x) fault IsSame gives = tt
 sectors_same (Err f) fault IsSame gives = inl (subst (λ (f : ChangeFault). IsOfSectors f) (sym gives) tt)
 
@@ -53,13 +53,12 @@ pub label_failed : {T : Type 0} (result : Result T ChangeFault) (n : ℕ) (fault
 label_failed (Ok x) n fault gives = absurd gives
 label_failed (Err f) n fault gives = rw gives (omega arith)
 
-failures_same : {T U : Type 0} (result : Result T ChangeFault) (transfer : Result U PoolFault) (fault : PoolFault) → IsErrAnd result (λ f. f ≡ ChangedSectors fault) → transfer ≡ Err fault → failed_transfers transfer ≡ failed_change result
+failures_same : {T U : Type 0} (result : Result T ChangeFault) (transfer : Result U SectorFault) (fault : SectorFault) → IsErrAnd result (λ f. f ≡ ChangedSectors fault) → transfer ≡ Err fault → failed_transfers transfer ≡ failed_change result
 failures_same (Ok x) transfer fault gives is = absurd gives
 failures_same (Err f) transfer Device gives is = rw (gives, is) refl
 failures_same (Err f) transfer NoMemoryForSectors gives is = rw (gives, is) refl
-failures_same (Err f) transfer NoSector gives is = rw (gives, is) refl
 
-pub sectors_failed : {T U : Type 0} (result : Result T ChangeFault) (transfer : Result U PoolFault) (fault : PoolFault) (old new : ℕ) → IsErrAnd result (λ f. f ≡ ChangedSectors fault) → transfer ≡ Err fault
+pub sectors_failed : {T U : Type 0} (result : Result T ChangeFault) (transfer : Result U SectorFault) (fault : SectorFault) (old new : ℕ) → IsErrAnd result (λ f. f ≡ ChangedSectors fault) → transfer ≡ Err fault
     → new ≡ old + failed_transfers transfer → new ≡ old + failed_change result
 sectors_failed result transfer fault old new gives is h = h ∙ ap (λ n. old + n) (failures_same result transfer fault gives is)
 

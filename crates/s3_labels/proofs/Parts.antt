@@ -8,7 +8,7 @@ use Rattle.s3_labels.specs.Areas.{IsLabelSector}
 use Rattle.s3_labels.specs.Inner.Areas.{with_count_bytes}
 use Rattle.s3_store.specs.Bytes.{sector_bytes, part}
 use Rattle.s3_store.specs.Inner.Bytes.{with_piece}
-use Rattle.s3_store.specs.declared.pool_fault.PoolFault.{PoolFault}
+use Rattle.s3_store.specs.declared.sector_fault.SectorFault.{SectorFault}
 use Rattle.s3_slots.specs.Slots.{slot_bytes, labels_at}
 use Rattle.s3_slots.proofs.Ranges.{take_all}
 use Rattle.s3_labels.proofs.Ways.{sector_read}
@@ -137,11 +137,11 @@ is_rewritten area i at old new bytes there width e set = record { there = there;
 
 -- what a change of a slot's part of its sector leaves, refused or not
 module _ (area i at : ℕ) (old new : List (List ℕ)) (bytes : List ℕ) (there : labels_at area + i / 4 < length old) (width : length bytes ≡ 64) (e : at ≡ i % 4) where
-  pub slot_changed : {T : Type 0} (r : Result T PoolFault) → OnOk r (new ≡ with_piece old (labels_at area + i / 4) (at * 64) bytes) → OnOk r (slot_bytes area new i ≡ bytes)
+  pub slot_changed : {T : Type 0} (r : Result T SectorFault) → OnOk r (new ≡ with_piece old (labels_at area + i / 4) (at * 64) bytes) → OnOk r (slot_bytes area new i ≡ bytes)
   slot_changed (Ok x) set = rewritten area i old new bytes (is_rewritten area i at old new bytes there width e set)
   slot_changed (Err fault) set = tt
 
-  pub others_stay : {T : Type 0} (r : Result T PoolFault) → OnOk r (new ≡ with_piece old (labels_at area + i / 4) (at * 64) bytes) → OnErr r (new ≡ old)
+  pub others_stay : {T : Type 0} (r : Result T SectorFault) → OnOk r (new ≡ with_piece old (labels_at area + i / 4) (at * 64) bytes) → OnErr r (new ≡ old)
       → (j : ℕ) → j ≢ i → slot_bytes area new j ≡ slot_bytes area old j
   others_stay (Ok x) set same j differ = others_kept area i old new bytes (is_rewritten area i at old new bytes there width e set) j differ
   others_stay (Err fault) set same j differ = ap (λ contents. slot_bytes area contents j) same

@@ -1,6 +1,6 @@
 //! Why calls on a pack are refused.
 use s3_slots::{LabelFault, MountFault};
-use s3_store::PoolFault;
+use s3_store::SectorFault;
 use std::alloc::{AllocError, AllocFailed};
 use thiserror::Error;
 
@@ -12,16 +12,16 @@ pub enum Refusal {
     BadPack(MountFault),
     /// The pack's sectors couldn't be read, or memory was refused.
     #[error("its sectors can't be read")]
-    Sectors(PoolFault),
+    Sectors(SectorFault),
 }
 
-impl From<PoolFault> for Refusal {
+impl From<SectorFault> for Refusal {
     ghost use Rattle.std.specs.Prelude.{◌≡◌};
     ghost use Rattle.s3_labels.specs.declared.fault.Refusal.TheVariants.{Sectors as SectorsVariant};
 
     ghost from_gives = { λ fault refusal. refusal ≡ SectorsVariant fault };
 
-    fn from(fault: PoolFault) -> Self {
+    fn from(fault: SectorFault) -> Self {
         Refusal::Sectors(fault)
     }
 }
@@ -34,7 +34,7 @@ pub enum ChangeFault {
     Label(LabelFault),
     /// The pack's sectors couldn't be read or written.
     #[error("its sectors can't be read or written")]
-    Sectors(PoolFault),
+    Sectors(SectorFault),
 }
 
 impl From<LabelFault> for ChangeFault {
@@ -48,13 +48,13 @@ impl From<LabelFault> for ChangeFault {
     }
 }
 
-impl From<PoolFault> for ChangeFault {
+impl From<SectorFault> for ChangeFault {
     ghost use Rattle.std.specs.Prelude.{◌≡◌};
     ghost use Rattle.s3_labels.specs.declared.fault.ChangeFault.TheVariants.{Sectors as SectorsVariant};
 
     ghost from_gives = { λ fault refusal. refusal ≡ SectorsVariant fault };
 
-    fn from(fault: PoolFault) -> Self {
+    fn from(fault: SectorFault) -> Self {
         ChangeFault::Sectors(fault)
     }
 }

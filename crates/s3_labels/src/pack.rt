@@ -25,7 +25,7 @@ use s3_slots::{
     FileLabel, Header, LabelFault, MountFault, NewFile, Slot, Standing, accept, make_in,
     standing_of,
 };
-use s3_store::{PackStore, PoolFault, Sectors};
+use s3_store::{PackStore, SectorFault, Sectors};
 use std::alloc::{AllocFailed, Global};
 
 /// Sectors that aren't mounted as a pack, with the cause.
@@ -108,7 +108,7 @@ impl<S: PackStore> Pack<Pool<S>> {
             Err(AllocFailed { value }) => {
                 return Err(RefusedStore {
                     store: value,
-                    fault: Refusal::Sectors(PoolFault::NoMemory),
+                    fault: Refusal::Sectors(SectorFault::NoMemory),
                 });
             }
         };

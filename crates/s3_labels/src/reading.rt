@@ -1,22 +1,21 @@
 //! The labels of a pack, read.
-ghost use Rattle.std.specs.Prelude.{◌≡◌, ◌≢◌, ◌≤◌, ◌<◌, ◌+◌, length, IfOk, IfErr};
+ghost use Rattle.std.specs.Prelude.{◌≡◌, ◌≤◌, ◌<◌, ◌+◌, length, IfOk};
 ghost use Rattle.s3_store.specs.Inner.State.{KeepsContents};
 ghost use Rattle.s3_store.specs.Inner.Failures.{failed_transfers};
 ghost use Rattle.s3_store.specs.Bytes.{sector_bytes};
 ghost use Rattle.s3_slots.specs.Slots.{slot_bytes, slots_of};
 
 use s3_slots::{Format, Slot, judge};
-use s3_store::{PoolFault, Sectors, Stretch};
+use s3_store::{SectorFault, Sectors, Stretch};
 use std::alloc::Global;
 
 /// Reads sector `n`.
 #[tactic(auto, using(crate::proofs::Ways::sector_read))]
-pub fn read_at<P: Sectors>(pool: &mut P, n: u16) -> Result<[u8; 256], PoolFault>
+pub fn read_at<P: Sectors>(pool: &mut P, n: u16) -> Result<[u8; 256], SectorFault>
     requires { n < length (P.state pool.old).contents }
     ensures ok { IfOk result (λ bytes. bytes ≡ sector_bytes (P.state pool.old).contents n) }
     ensures keeps { KeepsContents (P.state pool.old) (P.state pool.new) }
     ensures failures { (P.state pool.new).failures ≡ (P.state pool.old).failures + failed_transfers result }
-    ensures fault { IfErr result (λ fault. fault ≢ PoolFault.NoSector) }
 {
     let mut bytes = [0; 256];
     pool.read_sector(n, &mut bytes)?;
@@ -24,14 +23,13 @@ pub fn read_at<P: Sectors>(pool: &mut P, n: u16) -> Result<[u8; 256], PoolFault>
 }
 
 /// Reads the 64 bytes of slot `i`, 0 to 31, of an area: 0 for the masters, 1 and 2 for the levels.
-pub fn read_slot<P: Sectors>(pool: &mut P, area: u16, i: u16) -> Result<[u8; 64], PoolFault>
+pub fn read_slot<P: Sectors>(pool: &mut P, area: u16, i: u16) -> Result<[u8; 64], SectorFault>
     requires area { area < 3 }
     requires slot { i < 32 }
     requires room { 25 ≤ length (P.state pool.old).contents }
     ensures ok { IfOk result (λ bytes. bytes ≡ slot_bytes area (P.state pool.old).contents i) }
     ensures keeps { KeepsContents (P.state pool.old) (P.state pool.new) }
     ensures failures { (P.state pool.new).failures ≡ (P.state pool.old).failures + failed_transfers result }
-    ensures fault { IfErr result (λ fault. fault ≢ PoolFault.NoSector) }
 {
     let sector = read_at(pool, 1 + 8 * area + i / 4)?;
     let at = usize::from(i % 4) * 64;
@@ -47,14 +45,13 @@ pub fn read_slots<P: Sectors>(
     format: Format,
     region: Stretch,
     area: u16,
-) -> Result<Vec<Slot>, PoolFault>
+) -> Result<Vec<Slot>, SectorFault>
     requires area { area < 3 }
     requires room { 25 ≤ length (P.state pool.old).contents }
     ensures slots { IfOk result (λ slots. slots.items ≡ slots_of format region area (P.state pool.old).contents) }
     ensures count { IfOk result (λ slots. length slots.items ≡ 32) }
     ensures keeps { KeepsContents (P.state pool.old) (P.state pool.new) }
     ensures failures { (P.state pool.new).failures ≡ (P.state pool.old).failures + failed_transfers result }
-    ensures fault { IfErr result (λ fault. fault ≢ PoolFault.NoSector) }
 {
     let mut slots = Vec::new(alloc);
     for i in 0..32u16 {

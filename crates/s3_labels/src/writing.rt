@@ -1,5 +1,5 @@
 //! The labels of a pack, written.
-ghost use Rattle.std.specs.Prelude.{◌≡◌, ◌≢◌, ◌≤◌, ◌<◌, ◌+◌, ◌*◌, ◌/◌, ◌++◌, ℕ, length, take, drop, replicate, slice_get, Some, true, OnOk, IfErr, IfSome};
+ghost use Rattle.std.specs.Prelude.{◌≡◌, ◌≢◌, ◌≤◌, ◌<◌, ◌+◌, ◌*◌, ◌/◌, ◌++◌, ℕ, length, take, drop, replicate, slice_get, Some, true, OnOk, IfSome};
 ghost use Rattle.s3_store.specs.Inner.State.{ChangesWithin};
 ghost use Rattle.s3_store.specs.Inner.Failures.{failed_transfers};
 ghost use Rattle.s3_slots.specs.Slots.{slot_bytes};
@@ -15,7 +15,7 @@ use crate::reading::read_slot;
 use byteorder::{BigEndian, ByteOrder};
 use s3_cards::ebcdic::BLANK;
 use s3_slots::{FileLabel, Made, Organization, bytes_of};
-use s3_store::{PoolFault, Sectors, Stretch, put_part};
+use s3_store::{SectorFault, Sectors, Stretch, put_part};
 
 /// Writes the 64 bytes of slot `i`, 0 to 31, of an area: 0 for the masters, 1 and 2 for the levels.
 pub fn write_slot<P: Sectors>(
@@ -23,7 +23,7 @@ pub fn write_slot<P: Sectors>(
     area: u16,
     i: u16,
     bytes: &[u8; 64],
-) -> Result<(), PoolFault>
+) -> Result<(), SectorFault>
     requires area { area < 3 }
     requires slot { i < 32 }
     requires room { 25 ≤ length (P.state pool.old).contents }
@@ -31,7 +31,6 @@ pub fn write_slot<P: Sectors>(
     ensures others { (j : ℕ) → j ≢ i → slot_bytes area (P.state pool.new).contents j ≡ slot_bytes area (P.state pool.old).contents j }
     ensures within { ChangesWithin (λ n. n ≡ 1 + 8 * area + i / 4) (P.state pool.old) (P.state pool.new) }
     ensures failures { (P.state pool.new).failures ≡ (P.state pool.old).failures + failed_transfers result }
-    ensures fault { IfErr result (λ fault. fault ≢ PoolFault.NoSector) }
 {
     pool.change_sector(1 + 8 * area + i / 4, usize::from(i % 4) * 64, bytes)
 }
@@ -43,7 +42,7 @@ fn clear_freed<P: Sectors>(
     area: u16,
     freed: Option<usize>,
     at: usize,
-) -> Result<(), PoolFault>
+) -> Result<(), SectorFault>
     requires area { area < 3 }
     requires freed { IfSome freed (λ i. i < 32) }
     requires room { 25 ≤ length (P.state pool.old).contents }
@@ -51,7 +50,6 @@ fn clear_freed<P: Sectors>(
     ensures others { (j : ℕ) → freed ≢ Some j → slot_bytes area (P.state pool.new).contents j ≡ slot_bytes area (P.state pool.old).contents j }
     ensures within { ChangesWithin (IsLabelSector area) (P.state pool.old) (P.state pool.new) }
     ensures failures { (P.state pool.new).failures ≡ (P.state pool.old).failures + failed_transfers result }
-    ensures fault { IfErr result (λ fault. fault ≢ PoolFault.NoSector) }
 {
     match freed {
         Some(i) if i != at => write_slot(pool, area, i as u16, &[0; 64]),
@@ -61,7 +59,7 @@ fn clear_freed<P: Sectors>(
 
 /// Writes zeros to slot `i`, 0 to 31, of an area, which so is free.
 #[tactic(auto, using(crate::proofs::Parts::slot_within))]
-pub fn clear_slot<P: Sectors>(pool: &mut P, area: u16, i: u16) -> Result<(), PoolFault>
+pub fn clear_slot<P: Sectors>(pool: &mut P, area: u16, i: u16) -> Result<(), SectorFault>
     requires area { area < 3 }
     requires slot { i < 32 }
     requires room { 25 ≤ length (P.state pool.old).contents }
@@ -69,14 +67,18 @@ pub fn clear_slot<P: Sectors>(pool: &mut P, area: u16, i: u16) -> Result<(), Poo
     ensures others { (j : ℕ) → j ≢ i → slot_bytes area (P.state pool.new).contents j ≡ slot_bytes area (P.state pool.old).contents j }
     ensures within { ChangesWithin (IsLabelSector area) (P.state pool.old) (P.state pool.new) }
     ensures failures { (P.state pool.new).failures ≡ (P.state pool.old).failures + failed_transfers result }
-    ensures fault { IfErr result (λ fault. fault ≢ PoolFault.NoSector) }
 {
     write_slot(pool, area, i, &[0; 64])
 }
 
 /// Writes the count of records into slot `i`, 0 to 31, of an area.
 #[tactic(auto, using(crate::proofs::Parts::count_written))]
-pub fn write_count<P: Sectors>(pool: &mut P, area: u16, i: u16, count: u32) -> Result<(), PoolFault>
+pub fn write_count<P: Sectors>(
+    pool: &mut P,
+    area: u16,
+    i: u16,
+    count: u32,
+) -> Result<(), SectorFault>
     requires area { area < 3 }
     requires slot { i < 32 }
     requires room { 25 ≤ length (P.state pool.old).contents }
@@ -84,7 +86,6 @@ pub fn write_count<P: Sectors>(pool: &mut P, area: u16, i: u16, count: u32) -> R
     ensures others { (j : ℕ) → j ≢ i → slot_bytes area (P.state pool.new).contents j ≡ slot_bytes area (P.state pool.old).contents j }
     ensures within { ChangesWithin (IsLabelSector area) (P.state pool.old) (P.state pool.new) }
     ensures failures { (P.state pool.new).failures ≡ (P.state pool.old).failures + failed_transfers result }
-    ensures fault { IfErr result (λ fault. fault ≢ PoolFault.NoSector) }
 {
     let mut bytes = read_slot(pool, area, i)?;
     let mut number = [0; 4];
@@ -94,13 +95,12 @@ pub fn write_count<P: Sectors>(pool: &mut P, area: u16, i: u16, count: u32) -> R
 }
 
 /// Fills the sectors of a run with blanks.
-fn blank_run<P: Sectors>(pool: &mut P, run: Stretch) -> Result<(), PoolFault>
+fn blank_run<P: Sectors>(pool: &mut P, run: Stretch) -> Result<(), SectorFault>
     requires there { end_of run ≤ length (P.state pool.old).contents }
     requires few { end_of run ≤ 65535 }
     ensures blank { OnOk result ((n : ℕ) → IsIn run n → slice_get (P.state pool.new).contents n ≡ Some (replicate 256 BLANK)) }
     ensures within { ChangesWithin (IsIn run) (P.state pool.old) (P.state pool.new) }
     ensures failures { (P.state pool.new).failures ≡ (P.state pool.old).failures + failed_transfers result }
-    ensures fault { IfErr result (λ fault. fault ≢ PoolFault.NoSector) }
 {
     for n in run.start..run.start + run.sectors {
         pool.write_sector(n, &[BLANK; 256])?;
@@ -109,13 +109,12 @@ fn blank_run<P: Sectors>(pool: &mut P, run: Stretch) -> Result<(), PoolFault>
 }
 
 /// Fills the sectors of runs with blanks.
-fn blank_runs<P: Sectors>(pool: &mut P, runs: &[Stretch]) -> Result<(), PoolFault>
+fn blank_runs<P: Sectors>(pool: &mut P, runs: &[Stretch]) -> Result<(), SectorFault>
     requires there { All (λ run. end_of run ≤ length (P.state pool.old).contents) runs.now }
     requires few { All (λ run. end_of run ≤ 65535) runs.now }
     ensures blank { OnOk result (AreFilled BLANK (sectors_in runs.now) (P.state pool.new).contents) }
     ensures within { ChangesWithin (Contains (sectors_in runs.now)) (P.state pool.old) (P.state pool.new) }
     ensures failures { (P.state pool.new).failures ≡ (P.state pool.old).failures + failed_transfers result }
-    ensures fault { IfErr result (λ fault. fault ≢ PoolFault.NoSector) }
 {
     match runs.split_first() {
         None => Ok(()),
@@ -128,13 +127,12 @@ fn blank_runs<P: Sectors>(pool: &mut P, runs: &[Stretch]) -> Result<(), PoolFaul
 
 /// Writes the records that a new file has from the start: those of a direct file, which are blank.
 #[tactic(auto, using(s3_store::proofs::Frames::within_refl), unfolding(s3_slots::specs::Labels::sectors_of))]
-pub fn write_records<P: Sectors>(pool: &mut P, label: &FileLabel) -> Result<(), PoolFault>
+pub fn write_records<P: Sectors>(pool: &mut P, label: &FileLabel) -> Result<(), SectorFault>
     requires there { All (λ run. end_of run ≤ length (P.state pool.old).contents) label.now.extents }
     requires few { All (λ run. end_of run ≤ 65535) label.now.extents }
     ensures blank { OnOk result (is_direct label.now.organization ≡ true → AreFilled BLANK (sectors_of label.now) (P.state pool.new).contents) }
     ensures within { ChangesWithin (IsRecordOfDirect label.now) (P.state pool.old) (P.state pool.new) }
     ensures failures { (P.state pool.new).failures ≡ (P.state pool.old).failures + failed_transfers result }
-    ensures fault { IfErr result (λ fault. fault ≢ PoolFault.NoSector) }
 {
     match label.organization {
         Organization::Direct => blank_runs(pool, label.extents.as_slice()),
@@ -144,7 +142,7 @@ pub fn write_records<P: Sectors>(pool: &mut P, label: &FileLabel) -> Result<(), 
 
 /// Writes the slots that the making of a file has changed.
 #[tactic(auto, using(crate::proofs::Parts::slot_within, s3_store::proofs::Frames::within_trans))]
-pub fn write_made<P: Sectors>(pool: &mut P, area: u16, made: &Made) -> Result<(), PoolFault>
+pub fn write_made<P: Sectors>(pool: &mut P, area: u16, made: &Made) -> Result<(), SectorFault>
     requires area { area < 3 }
     requires freed { IfSome made.now.freed (λ i. i < 32) }
     requires at { made.now.at < 32 }
@@ -154,7 +152,6 @@ pub fn write_made<P: Sectors>(pool: &mut P, area: u16, made: &Made) -> Result<()
     ensures others { (j : ℕ) → made.now.freed ≢ Some j → j ≢ made.now.at → slot_bytes area (P.state pool.new).contents j ≡ slot_bytes area (P.state pool.old).contents j }
     ensures within { ChangesWithin (IsLabelSector area) (P.state pool.old) (P.state pool.new) }
     ensures failures { (P.state pool.new).failures ≡ (P.state pool.old).failures + failed_transfers result }
-    ensures fault { IfErr result (λ fault. fault ≢ PoolFault.NoSector) }
 {
     clear_freed(pool, area, made.freed, made.at)?;
     write_slot(pool, area, made.at as u16, &bytes_of(&made.label))

@@ -14,7 +14,7 @@ use Rattle.s3_listing.specs.declared.fault.ListFault.{ListFault}
 refused_by : (contents : List (List ℕ)) (found : Result Header MountFault) (refusal : Refusal) → IsRefusal found refusal
     → IsRefused (text_if contents found) (fault_of refusal)
 refused_by contents found (BadPack fault) is_err = ap (text_if contents) is_err
-refused_by contents found (Sectors fault) not_missing = tt
+refused_by contents found (Sectors fault) refused = tt
 
 -- the store in memory has the sectors of the pack's bytes
 pub refused_list : (pack items : List ℕ) (store : List (List ℕ)) (refusal : Refusal) (fault : ListFault) → items ≡ pack → store ≡ contents_of items

@@ -54,7 +54,7 @@ told_by pack items store pool areas wrongs same is_store is_mounted on kept is =
 
 refused_by : (contents : List (List ℕ)) (found : Result Header MountFault) (refusal : Refusal) → IsRefusal found refusal → IsRefused (told_if contents found) (fault_of refusal)
 refused_by contents found (BadPack fault) is_err = ap (told_if contents) is_err
-refused_by contents found (Sectors fault) not_missing = tt
+refused_by contents found (Sectors fault) refused = tt
 
 pub refused_told : (pack items : List ℕ) (store : List (List ℕ)) (refusal : Refusal) (fault : CheckFault) → items ≡ pack → store ≡ contents_of items
     → IsRefusal (mounted store) refusal → fault ≡ fault_of refusal → IsRefused (told pack) fault

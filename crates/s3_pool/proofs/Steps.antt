@@ -2,9 +2,7 @@
 use Rattle.std.proofs.Common.{◌≡◌, ◌≢◌, ℕ, ◌+◌, ◌<◌, ◌≤◌, true, false, List, [], length, slice_get, slice_set, Option, Result, Ok, Err, OnOk, OnErr, IsErrOf, ◌↔◌, Some, None, IsSomeAnd, MatchOption, refl, sym, ap, ◌∙◌, subst, arith, length-set, ◌⊎◌, inl, inr}
 use Rattle.std.proofs.lemmas.Option.{slice_get_within}
 use Rattle.std.proofs.lemmas.Bool.Decides.{eqb_tells}
-use Rattle.s3_store.specs.declared.pool_fault.PoolFault.{PoolFault}
-use Rattle.s3_store.specs.declared.pool_fault.PoolFault.TheVariants.{NoSector}
-use Rattle.s3_store.specs.Inner.Failures.{failed_transfers}
+use Rattle.s3_store.specs.declared.sector_fault.SectorFault.{SectorFault}
 use Rattle.s3_store.specs.Inner.State.{PoolState, KeepsContents, ChangesWithin}
 use Rattle.s3_store.proofs.Frames.{keeps_trans, within_from_keeps}
 use Rattle.s3_store.proofs.SectorLists.{slice_get_set_same, slice_get_set_other, slice_set_known, slice_set_set_same}
@@ -14,6 +12,9 @@ use Rattle.s3_pool.specs.Inner.Buffers.{laid, IsAt, IsMissed, IsSound, KeepsLaid
 use Rattle.s3_pool.specs.Inner.BufferLending.{dirty, with_buffer, place, with_taken, IsInStep}
 use Rattle.s3_pool.specs.Inner.Places.{IsPlaced, IsIndexed}
 use Rattle.s3_pool.specs.Inner.Lending.{ChangesSector, KeepsAll}
+use Rattle.s3_pool.specs.Inner.Loads.{failed_loads}
+use Rattle.s3_pool.specs.declared.pool_fault.PoolFault.{PoolFault}
+use Rattle.s3_pool.specs.declared.pool_fault.PoolFault.TheVariants.{NoSector}
 use Rattle.s3_pool.proofs.Laid.{but, but_missed, length_laid, laid_missed, laid_written, laid_append, IsElsewhere, laid_over, laid_held, set_tells, append_tells, laid_set, laid_nothing}
 
 -- ---- steps together
@@ -293,7 +294,7 @@ overwritten_within {b} {b'} f f' m m' n w o = record {
 pub keeps_contents : {b b' : List (List ℕ)} (f f' : Buffers) (m m' : ℕ) → KeepsLaid b f.slots.items b' f'.slots.items → KeepsContents (pool_state b m f) (pool_state b' m' f')
 keeps_contents f f' m m' k = record { contents = k.contents; stored = k.stored }
 
-pub changes_one : {T : Type 0} (b b' : List (List ℕ)) (f f' : Buffers) (m m' : ℕ) (n : ℕ) (w : List ℕ) (r : Result T PoolFault) → OnOk r (Overwrites n w b f.slots.items b' f'.slots.items) → OnErr r (KeepsLaid b f.slots.items b' f'.slots.items) → ChangesWithin (λ i. i ≡ n) (pool_state b m f) (pool_state b' m' f')
+pub changes_one : {T : Type 0} (b b' : List (List ℕ)) (f f' : Buffers) (m m' : ℕ) (n : ℕ) (w : List ℕ) (r : Result T SectorFault) → OnOk r (Overwrites n w b f.slots.items b' f'.slots.items) → OnErr r (KeepsLaid b f.slots.items b' f'.slots.items) → ChangesWithin (λ i. i ≡ n) (pool_state b m f) (pool_state b' m' f')
 changes_one b b' f f' m m' n w (Ok x) o k = overwritten_within f f' m m' n w o
 changes_one b b' f f' m m' n w (Err fault) o k = within_from_keeps _ _ _ (keeps_contents f f' m m' k)
 
@@ -314,8 +315,12 @@ held_contents {b} {b'} {f} {f'} n k x keeps within at on =
 
 -- ---- the ends of the calls
 
-pub kept : {b b' : List (List ℕ)} {T : Type 0} (f f' : Buffers) (m m' : ℕ) (result : Result T PoolFault) → KeepsLaid b f.slots.items b' f'.slots.items → m' ≡ m + failed_transfers result → KeepsAll (pool_state b m f) result (pool_state b' m' f')
+pub kept : {b b' : List (List ℕ)} {T : Type 0} (f f' : Buffers) (m m' : ℕ) (result : Result T PoolFault) → KeepsLaid b f.slots.items b' f'.slots.items → m' ≡ m + failed_loads result → KeepsAll (pool_state b m f) result (pool_state b' m' f')
 kept f f' m m' result keeps failures = record { contents = keeps_contents f f' m m' keeps; failures = failures }
+
+-- a number below the count of the contents is one below the store's
+pub inside : (n : ℕ) (b : List (List ℕ)) (f : List Buffer) → n < length (laid f b) → n < length b
+inside n b f within = omega (arith, within, length_laid f b)
 
 -- a refusal for the store's count of sectors is one for that of the contents
 pub no_sector_err : {T U : Type 0} (n : ℕ) (b : List (List ℕ)) (f : List Buffer) (fault : PoolFault) → (IsErrOf {T = U} (Err fault) NoSector ↔ (length b ≤ n)) → IsErrOf {T = T} (Err fault) NoSector ↔ (length (laid f b) ≤ n)

@@ -2,4 +2,5 @@
 pub mod BufferLending
 pub mod Buffers
 pub mod Lending
+pub mod Loads
 pub mod Places

@@ -1,14 +1,16 @@
 //! Up to 16 sectors in memory, and the transfers between them and a store.
-ghost use Rattle.std.specs.Prelude.{◌≡◌, ◌≢◌, ◌<◌, ◌≤◌, ◌+◌, ◌++◌, ◌↔◌, [], ◌∷◌, length, slice_get, slice_set, Some, OnOk, OnErr, IfOk, IfErr, IsErrOf, IsTrue, MatchOption, false};
+ghost use Rattle.std.specs.Prelude.{◌≡◌, ◌<◌, ◌≤◌, ◌+◌, ◌++◌, ◌↔◌, [], ◌∷◌, length, slice_get, slice_set, Some, OnOk, OnErr, IfOk, IfErr, IsErrOf, IsTrue, MatchOption, false};
 ghost use Rattle.std.specs.Borrow.{sem};
 ghost use Rattle.s3_store.specs.Inner.Failures.{failed_calls, failed_transfers};
 ghost use Rattle.s3_pool.specs.Inner.Buffers.{IsAt, IsMissed, IsSound, KeepsLaid, Overwrites};
 ghost use Rattle.s3_pool.specs.Inner.BufferLending.{LendsBytes, LendsBuffer, IsInStep, place, with_taken};
+ghost use Rattle.s3_pool.specs.Inner.Loads.{failed_loads};
 ghost use Rattle.s3_pool.specs.Inner.Places.{IsPlaced, IsIndexed};
 
+use crate::pool_fault::PoolFault;
 use crate::slot_hash::SlotHash;
 use lru::LruCache;
-use s3_store::{PackStore, PoolFault, StoreFault};
+use s3_store::{PackStore, SectorFault, StoreFault};
 use std::alloc::{AllocError, Global};
 use std::mem;
 use std::num::NonZeroUsize;
@@ -161,7 +163,7 @@ impl Buffers {
 
     /// A new slot gets the spare bytes as those of sector `n`. Few calls come here, so that it stands apart.
     #[inline(never)]
-    fn add(&mut self, n: u16, is_dirty: bool) -> Result<u8, PoolFault>
+    fn add(&mut self, n: u16, is_dirty: bool) -> Result<u8, SectorFault>
         requires room { length self.old.slots.items < 16 }
         requires in_range { n < length self.old.places.items }
         ensures added { IfOk result (λ slot. slot ≡ length self.old.slots.items) }
@@ -169,7 +171,7 @@ impl Buffers {
         ensures places { OnOk result (self.new.places.items ≡ slice_set self.old.places.items n (length self.old.slots.items)) }
         ensures err { OnErr result (self.new.slots.items ≡ self.old.slots.items) }
         ensures err_places { OnErr result (self.new.places.items ≡ self.old.places.items) }
-        ensures fault { IfErr result (λ fault. fault ≡ PoolFault.NoMemory) }
+        ensures fault { IfErr result (λ fault. fault ≡ SectorFault.NoMemory) }
     {
         let slot = self.slots.len() as u8;
         let next = Box::new(*self.order.allocator(), [0; 256])?;
@@ -200,7 +202,7 @@ impl Buffers {
 
     /// Sector `n` goes into a slot, or into a new one, with the spare bytes as its own.
     #[inline(always)]
-    fn take_in(&mut self, slot: Option<u8>, n: u16, is_dirty: bool) -> Result<u8, PoolFault>
+    fn take_in(&mut self, slot: Option<u8>, n: u16, is_dirty: bool) -> Result<u8, SectorFault>
         requires in_range { n < length self.old.places.items }
         requires slot { MatchOption slot (length self.old.slots.items < 16) (λ slot. slot < length self.old.slots.items) }
         ensures ok { OnOk result (self.new.slots.items ≡ with_taken self.old.slots.items slot (record { sector = n; bytes = self.old.spare; is_dirty = is_dirty })) }
@@ -208,7 +210,7 @@ impl Buffers {
         ensures places { OnOk result (self.new.places.items ≡ slice_set self.old.places.items n (place self.old.slots.items slot)) }
         ensures err { OnErr result (self.new.slots.items ≡ self.old.slots.items) }
         ensures err_places { OnErr result (self.new.places.items ≡ self.old.places.items) }
-        ensures fault { IfErr result (λ fault. fault ≡ PoolFault.NoMemory) }
+        ensures fault { IfErr result (λ fault. fault ≡ SectorFault.NoMemory) }
     {
         match slot {
             Some(slot) => {
@@ -270,7 +272,7 @@ fn read_in<S: PackStore>(
     buffers: &mut Buffers,
     way: Option<u8>,
     n: u16,
-) -> Result<u8, PoolFault>
+) -> Result<u8, SectorFault>
     requires sound { IsSound (S.contents store.old) buffers.old.slots.items }
     requires indexed { IsIndexed (S.contents store.old) buffers.old }
     requires way { MatchOption way (length buffers.old.slots.items < 16) (λ slot. IsInStep (S.contents store.old) buffers.old.slots.items slot) }
@@ -280,7 +282,6 @@ fn read_in<S: PackStore>(
     ensures at { IfOk result (λ slot. IsAt n slot buffers.new.slots.items) }
     ensures indexed { IsIndexed (S.contents store.new) buffers.new }
     ensures failures { S.failures store.new ≡ S.failures store.old + failed_transfers result }
-    ensures fault { IfErr result (λ fault. fault ≢ PoolFault.NoSector) }
 {
     store.read(n, &mut buffers.spare)?;
     let slot = buffers.take_in(way, n, false)?;
@@ -290,7 +291,7 @@ fn read_in<S: PackStore>(
 
 /// Reads sector `n`, which no buffer holds, into a new slot. Few calls come here, so that it stands apart.
 #[inline(never)]
-fn fetch_more<S: PackStore>(store: &mut S, buffers: &mut Buffers, n: u16) -> Result<u8, PoolFault>
+fn fetch_more<S: PackStore>(store: &mut S, buffers: &mut Buffers, n: u16) -> Result<u8, SectorFault>
     requires sound { IsSound (S.contents store.old) buffers.old.slots.items }
     requires indexed { IsIndexed (S.contents store.old) buffers.old }
     requires room { length buffers.old.slots.items < 16 }
@@ -300,7 +301,6 @@ fn fetch_more<S: PackStore>(store: &mut S, buffers: &mut Buffers, n: u16) -> Res
     ensures at { IfOk result (λ slot. IsAt n slot buffers.new.slots.items) }
     ensures indexed { IsIndexed (S.contents store.new) buffers.new }
     ensures failures { S.failures store.new ≡ S.failures store.old + failed_transfers result }
-    ensures fault { IfErr result (λ fault. fault ≢ PoolFault.NoSector) }
 {
     read_in(store, buffers, None, n)
 }
@@ -308,7 +308,7 @@ fn fetch_more<S: PackStore>(store: &mut S, buffers: &mut Buffers, n: u16) -> Res
 /// Reads sector `n`, which no buffer holds, into a slot, which is used. It stands apart, so that a sector that is held is found
 /// in the caller.
 #[inline(never)]
-fn fetch<S: PackStore>(store: &mut S, buffers: &mut Buffers, n: u16) -> Result<u8, PoolFault>
+fn fetch<S: PackStore>(store: &mut S, buffers: &mut Buffers, n: u16) -> Result<u8, SectorFault>
     requires sound { IsSound (S.contents store.old) buffers.old.slots.items }
     requires indexed { IsIndexed (S.contents store.old) buffers.old }
     requires in_range { n < length (S.contents store.old) }
@@ -317,7 +317,6 @@ fn fetch<S: PackStore>(store: &mut S, buffers: &mut Buffers, n: u16) -> Result<u
     ensures at { IfOk result (λ slot. IsAt n slot buffers.new.slots.items) }
     ensures indexed { IsIndexed (S.contents store.new) buffers.new }
     ensures failures { S.failures store.new ≡ S.failures store.old + failed_transfers result }
-    ensures fault { IfErr result (λ fault. fault ≢ PoolFault.NoSector) }
 {
     if buffers.has_room() {
         return fetch_more(store, buffers, n);
@@ -326,9 +325,32 @@ fn fetch<S: PackStore>(store: &mut S, buffers: &mut Buffers, n: u16) -> Result<u
     read_in(store, buffers, Some(slot), n)
 }
 
-/// Has sector `n` in the slot that is given, as the one that was used last.
+/// Has sector `n`, which must be there, in the slot that is given, as the one that was used last.
 #[inline(always)]
 pub(crate) fn load<S: PackStore>(
+    store: &mut S,
+    buffers: &mut Buffers,
+    n: u16,
+) -> Result<u8, SectorFault>
+    requires sound { IsSound (S.contents store.old) buffers.old.slots.items }
+    requires indexed { IsIndexed (S.contents store.old) buffers.old }
+    requires in_range { n < length (S.contents store.old) }
+    ensures keeps { KeepsLaid (S.contents store.old) buffers.old.slots.items (S.contents store.new) buffers.new.slots.items }
+    ensures at { IfOk result (λ slot. IsAt n slot buffers.new.slots.items) }
+    ensures indexed { IsIndexed (S.contents store.new) buffers.new }
+    ensures failures { S.failures store.new ≡ S.failures store.old + failed_transfers result }
+{
+    let Some(slot) = buffers.slot_of(n) else {
+        return fetch(store, buffers, n);
+    };
+    buffers.note_use(slot);
+    Ok(slot)
+}
+
+/// Has sector `n` in the slot that is given, as the one that was used last. Refused with `NoSector` exactly where there is no
+/// such sector.
+#[inline(always)]
+pub(crate) fn load_if_there<S: PackStore>(
     store: &mut S,
     buffers: &mut Buffers,
     n: u16,
@@ -339,16 +361,13 @@ pub(crate) fn load<S: PackStore>(
     ensures in_range { OnOk result (n < length (S.contents store.old)) }
     ensures at { IfOk result (λ slot. IsAt n slot buffers.new.slots.items) }
     ensures indexed { IsIndexed (S.contents store.new) buffers.new }
-    ensures failures { S.failures store.new ≡ S.failures store.old + failed_transfers result }
+    ensures failures { S.failures store.new ≡ S.failures store.old + failed_loads result }
     ensures no_sector { (IsErrOf result PoolFault.NoSector) ↔ (length (S.contents store.old) ≤ n) }
 {
     if n >= store.sectors() {
         return Err(PoolFault::NoSector);
     }
-    let Some(slot) = buffers.slot_of(n) else {
-        return fetch(store, buffers, n);
-    };
-    buffers.note_use(slot);
+    let slot = load(store, buffers, n)?;
     Ok(slot)
 }
 
@@ -358,7 +377,7 @@ fn cover<S: PackStore>(
     buffers: &mut Buffers,
     n: u16,
     bytes: &[u8; 256],
-) -> Result<(), PoolFault>
+) -> Result<(), SectorFault>
     requires sound { IsSound (S.contents store.old) buffers.old.slots.items }
     requires indexed { IsIndexed (S.contents store.old) buffers.old }
     requires in_range { n < length (S.contents store.old) }
@@ -367,7 +386,6 @@ fn cover<S: PackStore>(
     ensures err { OnErr result (KeepsLaid (S.contents store.old) buffers.old.slots.items (S.contents store.new) buffers.new.slots.items) }
     ensures indexed { IsIndexed (S.contents store.new) buffers.new }
     ensures failures { S.failures store.new ≡ S.failures store.old + failed_transfers result }
-    ensures fault { IfErr result (λ fault. fault ≢ PoolFault.NoSector) }
 {
     let way = make_way(store, buffers)?;
     *buffers.spare = *bytes;
@@ -383,7 +401,7 @@ fn overlay<S: PackStore>(
     buffers: &mut Buffers,
     n: u16,
     bytes: &[u8; 256],
-) -> Result<(), PoolFault>
+) -> Result<(), SectorFault>
     requires sound { IsSound (S.contents store.old) buffers.old.slots.items }
     requires indexed { IsIndexed (S.contents store.old) buffers.old }
     requires in_range { n < length (S.contents store.old) }
@@ -391,7 +409,6 @@ fn overlay<S: PackStore>(
     ensures err { OnErr result (KeepsLaid (S.contents store.old) buffers.old.slots.items (S.contents store.new) buffers.new.slots.items) }
     ensures indexed { IsIndexed (S.contents store.new) buffers.new }
     ensures failures { S.failures store.new ≡ S.failures store.old + failed_transfers result }
-    ensures fault { IfErr result (λ fault. fault ≢ PoolFault.NoSector) }
 {
     let Some(slot) = buffers.slot_of(n) else {
         return cover(store, buffers, n, bytes);
@@ -409,7 +426,7 @@ pub(crate) fn overwrite<S: PackStore>(
     buffers: &mut Buffers,
     n: u16,
     bytes: &[u8; 256],
-) -> Result<(), PoolFault>
+) -> Result<(), SectorFault>
     requires sound { IsSound (S.contents store.old) buffers.old.slots.items }
     requires indexed { IsIndexed (S.contents store.old) buffers.old }
     requires in_range { n < length (S.contents store.old) }
@@ -417,7 +434,6 @@ pub(crate) fn overwrite<S: PackStore>(
     ensures err { OnErr result (KeepsLaid (S.contents store.old) buffers.old.slots.items (S.contents store.new) buffers.new.slots.items) }
     ensures indexed { IsIndexed (S.contents store.new) buffers.new }
     ensures failures { S.failures store.new ≡ S.failures store.old + failed_transfers result }
-    ensures fault { IfErr result (λ fault. fault ≢ PoolFault.NoSector) }
 {
     if buffers.has_room() || !buffers.is_unheld_block(n) {
         return overlay(store, buffers, n, bytes);

@@ -12,6 +12,8 @@
 
 mod buffers;
 mod pool;
+mod pool_fault;
 mod slot_hash;
 
 pub use pool::Pool;
+pub use pool_fault::PoolFault;

@@ -4,8 +4,9 @@ ghost use Rattle.std.specs.Borrow.{sem};
 ghost use Rattle.s3_store.specs.Inner.Failures.{failed_transfers};
 ghost use Rattle.s3_store.specs.Inner.State.{KeepsContents};
 
-use crate::buffers::{Buffers, give_up_all, load, overwrite};
-use s3_store::{PackStore, PoolFault, Sectors, put_part, take_part};
+use crate::buffers::{Buffers, give_up_all, load, load_if_there, overwrite};
+use crate::pool_fault::PoolFault;
+use s3_store::{PackStore, SectorFault, Sectors, put_part, take_part};
 use std::alloc::{AllocFailed, Global};
 use std::marker::Model;
 
@@ -47,34 +48,35 @@ impl<S: PackStore> Pool<S> {
     }
 
     /// The bytes of sector `n`, to read. Refused with `NoSector` exactly where `n` isn't below the count of sectors, and
-    /// with `Device` or `NoMemory`. No sector changes, refused or not.
+    /// with `Sectors` where a transfer or a growth failed. No sector changes, refused or not.
     pub fn sector(&mut self, n: u16) -> Result<&[u8; 256], PoolFault>
         ensures* keeps { sem 𝓛 (EndsKept S.row S.PackStore self.entry result) }
         ensures value { IfOk result (λ bytes. slice_get self.old.contents n ≡ Some bytes.now) }
         ensures no_sector { (IsErrOf result PoolFault.NoSector) ↔ (length self.old.contents ≤ n) }
     {
-        let slot = load(&mut self.store, &mut self.buffers, n)?;
+        let slot = load_if_there(&mut self.store, &mut self.buffers, n)?;
         Ok(self.buffers.buffer(slot).bytes())
     }
 
     /// The bytes of sector `n`, to write to. Refused with `NoSector` exactly where `n` isn't below the count of sectors, and
-    /// with `Device` or `NoMemory`. The other sectors stay as they were, and all of them where it is refused.
+    /// with `Sectors` where a transfer or a growth failed. The other sectors stay as they were, and all of them where it is
+    /// refused.
     pub fn sector_mut(&mut self, n: u16) -> Result<&mut [u8; 256], PoolFault>
         ensures* writes_back { sem 𝓛 (LendsSector S.row S.PackStore self.entry n result) }
         ensures value { IfOk result (λ bytes. slice_get self.old.contents n ≡ Some bytes.now) }
         ensures no_sector { (IsErrOf result PoolFault.NoSector) ↔ (length self.old.contents ≤ n) }
     {
-        let slot = load(&mut self.store, &mut self.buffers, n)?;
+        let slot = load_if_there(&mut self.store, &mut self.buffers, n)?;
         Ok(self.buffers.buffer_mut(slot).bytes_mut())
     }
 
     /// Writes every buffer that was written to, so that the store has what the pool shows; afterwards no sector is in memory.
     /// Refused with `Device` alone, where what the pool shows stays.
-    pub fn flush(&mut self) -> Result<(), PoolFault>
+    pub fn flush(&mut self) -> Result<(), SectorFault>
         ensures flushed { OnOk result (self.new.stored ≡ self.old.contents) }
         ensures keeps { KeepsContents self.old self.new }
         ensures failures { self.new.failures ≡ self.old.failures + failed_transfers result }
-        ensures fault { IfErr result (λ fault. fault ≡ PoolFault.Device) }
+        ensures fault { IfErr result (λ fault. fault ≡ SectorFault.Device) }
     {
         give_up_all(&mut self.store, &mut self.buffers)?;
         Ok(())
@@ -98,29 +100,29 @@ impl<S: PackStore> Sectors for Pool<S> {
     }
 
     #[inline(always)]
-    fn read_sector(&mut self, n: u16, bytes: &mut [u8; 256]) -> Result<(), PoolFault> {
+    fn read_sector(&mut self, n: u16, bytes: &mut [u8; 256]) -> Result<(), SectorFault> {
         if self.buffers.is_unheld_block(n) {
             self.store.read(n, bytes)?;
             return Ok(());
         }
-        let sector = self.sector(n)?;
-        *bytes = *sector;
+        let slot = load(&mut self.store, &mut self.buffers, n)?;
+        *bytes = *self.buffers.buffer(slot).bytes();
         Ok(())
     }
 
-    fn read_part(&mut self, n: u16, at: usize, piece: &mut [u8]) -> Result<(), PoolFault> {
-        let sector = self.sector(n)?;
-        take_part(sector, at, piece);
+    fn read_part(&mut self, n: u16, at: usize, piece: &mut [u8]) -> Result<(), SectorFault> {
+        let slot = load(&mut self.store, &mut self.buffers, n)?;
+        take_part(self.buffers.buffer(slot).bytes(), at, piece);
         Ok(())
     }
 
-    fn write_sector(&mut self, n: u16, bytes: &[u8; 256]) -> Result<(), PoolFault> {
+    fn write_sector(&mut self, n: u16, bytes: &[u8; 256]) -> Result<(), SectorFault> {
         overwrite(&mut self.store, &mut self.buffers, n, bytes)
     }
 
-    fn change_sector(&mut self, n: u16, at: usize, piece: &[u8]) -> Result<(), PoolFault> {
-        let sector = self.sector_mut(n)?;
-        put_part(sector, at, piece);
+    fn change_sector(&mut self, n: u16, at: usize, piece: &[u8]) -> Result<(), SectorFault> {
+        let slot = load(&mut self.store, &mut self.buffers, n)?;
+        put_part(self.buffers.buffer_mut(slot).bytes_mut(), at, piece);
         Ok(())
     }
 }

@@ -2,7 +2,7 @@
 ghost use Rattle.std.specs.Prelude.{◌≡◌};
 ghost use Rattle.s3_spool.specs.declared.fault.SpoolFault.TheVariants.{Sectors as SectorsFault};
 
-use s3_store::PoolFault;
+use s3_store::SectorFault;
 use thiserror::Error;
 
 /// Why a queue of printed lines refuses a call.
@@ -16,13 +16,13 @@ pub enum SpoolFault {
     Empty,
     /// A transfer failed, or memory was refused.
     #[error("{0}")]
-    Sectors(PoolFault),
+    Sectors(SectorFault),
 }
 
-impl From<PoolFault> for SpoolFault {
+impl From<SectorFault> for SpoolFault {
     ghost from_gives = { λ fault e. e ≡ SectorsFault fault };
 
-    fn from(fault: PoolFault) -> Self {
+    fn from(fault: SectorFault) -> Self {
         SpoolFault::Sectors(fault)
     }
 }

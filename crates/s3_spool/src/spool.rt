@@ -12,7 +12,7 @@ use crate::composed_line::ComposedLine;
 use crate::fault::SpoolFault;
 use circular_buffer::HeapCircularBuffer;
 use s3_cards::{LevelId, PrintLine};
-use s3_store::{PoolFault, Sectors};
+use s3_store::{SectorFault, Sectors};
 use std::alloc::{AllocError, Global};
 use std::marker::Model;
 
@@ -69,7 +69,7 @@ fn put_line<P: Sectors>(
     sectors: &mut P,
     block: u8,
     line: &ComposedLine<'_>,
-) -> Result<(), PoolFault>
+) -> Result<(), SectorFault>
     requires { block_sector block < length (P.state sectors.old).contents }
     ensures ok { OnOk result ((P.state sectors.new).contents ≡ slice_set (P.state sectors.old).contents (block_sector block) (block_bytes_spec line.now)) }
     ensures err { OnErr result ((P.state sectors.new).contents ≡ (P.state sectors.old).contents) }
@@ -77,7 +77,6 @@ fn put_line<P: Sectors>(
     ensures whole { length (block_bytes_spec line.now) ≡ 256 }
     ensures within { ChangesWithin (λ i. i ≡ block_sector block) (P.state sectors.old) (P.state sectors.new) }
     ensures failures { (P.state sectors.new).failures ≡ (P.state sectors.old).failures + failed_transfers result }
-    ensures fault { IfErr result (λ fault. fault ≢ PoolFault.NoSector) }
 {
     let mut bytes = [0; 256];
     lay_line(&mut bytes, line);
@@ -87,12 +86,11 @@ fn put_line<P: Sectors>(
 /// The line in a block.
 #[tactic(auto, using(crate::proofs::BlocksLemmas::read_sector_bytes))]
 #[inline(always)]
-fn read_line<P: Sectors>(sectors: &mut P, block: u8) -> Result<PrintLine, PoolFault>
+fn read_line<P: Sectors>(sectors: &mut P, block: u8) -> Result<PrintLine, SectorFault>
     requires { block_sector block < length (P.state sectors.old).contents }
     ensures ok { IfOk result (λ line. line ≡ line_of_block_spec (sector_bytes (P.state sectors.old).contents (block_sector block))) }
     ensures keeps { KeepsContents (P.state sectors.old) (P.state sectors.new) }
     ensures failures { (P.state sectors.new).failures ≡ (P.state sectors.old).failures + failed_transfers result }
-    ensures fault { IfErr result (λ fault. fault ≢ PoolFault.NoSector) }
 {
     let mut bytes = [0; 256];
     sectors.read_sector(FIRST_BLOCK + u16::from(block), &mut bytes)?;
@@ -209,7 +207,6 @@ impl Spool {
         ensures blocks { AreBlocks self.new.free self.new.one self.new.two }
         ensures within { ChangesWithin (IsFreeSector self.old) (P.state sectors.old) (P.state sectors.new) }
         ensures failures { (P.state sectors.new).failures ≡ (P.state sectors.old).failures + failed_by result }
-        ensures fault { result ≢ Err (SpoolFault.Sectors PoolFault.NoSector) }
     {
         self.put_composed(level, &ComposedLine::of(line), sectors)
     }
@@ -239,7 +236,6 @@ impl Spool {
         ensures blocks { AreBlocks self.new.free self.new.one self.new.two }
         ensures within { ChangesWithin (IsFreeSector self.old) (P.state sectors.old) (P.state sectors.new) }
         ensures failures { (P.state sectors.new).failures ≡ (P.state sectors.old).failures + failed_by result }
-        ensures fault { result ≢ Err (SpoolFault.Sectors PoolFault.NoSector) }
     {
         // for what is always true of the blocks
         let _ = &self.free;
@@ -272,7 +268,6 @@ impl Spool {
         ensures blocks { AreBlocks self.new.free self.new.one self.new.two }
         ensures keeps { KeepsContents (P.state sectors.old) (P.state sectors.new) }
         ensures failures { (P.state sectors.new).failures ≡ (P.state sectors.old).failures + failed_by result }
-        ensures fault { result ≢ Err (SpoolFault.Sectors PoolFault.NoSector) }
     {
         // for what is always true of the blocks
         let _ = &self.free;

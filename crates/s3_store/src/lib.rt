@@ -17,7 +17,7 @@ mod fuse;
 mod memory;
 mod pack_store;
 mod part;
-mod pool_fault;
+mod sector_fault;
 mod sectors;
 mod stretch;
 
@@ -26,6 +26,6 @@ pub use fuse::FuseStore;
 pub use memory::MemoryStore;
 pub use pack_store::{PackStore, StoreFault};
 pub use part::{put_part, take_part};
-pub use pool_fault::PoolFault;
+pub use sector_fault::SectorFault;
 pub use sectors::Sectors;
 pub use stretch::Stretch;

@@ -1,7 +1,6 @@
 -- What a refusal of a file says of the store under it.
-use Rattle.std.specs.Prelude.{◌≢◌, ℕ, Result, Ok, Err, ⊤}
+use Rattle.std.specs.Prelude.{ℕ, Result, Ok, Err}
 use Rattle.s3_store.specs.Inner.Failures.{failed_transfers}
-use Rattle.s3_store.specs.declared.pool_fault.PoolFault.TheVariants.{NoSector}
 use Rattle.s3_files.specs.declared.fault.FileFault.{FileFault}
 use Rattle.s3_files.specs.declared.fault.FileFault.TheVariants.{NoRecord, Full, Pool}
 
@@ -11,9 +10,3 @@ failed_file_transfers {T} (Err (Pool fault)) = failed_transfers {T = T} (Err fau
 failed_file_transfers (Err NoRecord) = 0
 failed_file_transfers (Err Full) = 0
 failed_file_transfers (Ok _) = 0
-
--- each sector that it asked for is there
-abbrev pub FindsSectors : FileFault → Type 0
-FindsSectors (Pool fault) = fault ≢ NoSector
-FindsSectors NoRecord = ⊤
-FindsSectors Full = ⊤

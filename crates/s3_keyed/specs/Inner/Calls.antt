@@ -1,7 +1,6 @@
 -- What the calls on an indexed file may answer, by what is meant and by its sectors.
-use Rattle.std.specs.Prelude.{◌≡◌, ◌≢◌, ℕ, List, Option, Some, None, Result, Ok, Err, if◌then◌else◌}
+use Rattle.std.specs.Prelude.{◌≡◌, ⊤, ℕ, List, Option, Some, None, Result, Ok, Err, if◌then◌else◌}
 use Rattle.s3_store.specs.Inner.Failures.{failed_transfers}
-use Rattle.s3_store.specs.declared.pool_fault.PoolFault.TheVariants.{NoSector}
 use Rattle.s3_keyed.specs.KeyOrder.{Entry, is_good_index}
 use Rattle.s3_keyed.specs.declared.fault.KeyedFault.{KeyedFault}
 use Rattle.s3_keyed.specs.declared.fault.KeyedFault.TheVariants.{NoKey, BadIndex, Pool}
@@ -9,7 +8,7 @@ use Rattle.s3_keyed.specs.declared.fault.KeyedFault.TheVariants.{NoKey, BadIndex
 -- ---- what a call answers
 -- it refuses as is meant, or its sectors refuse
 abbrev pub Refuses : {T : Type 0} → Result T KeyedFault → KeyedFault → Type 0
-Refuses meant (Pool fault) = fault ≢ NoSector
+Refuses meant (Pool fault) = ⊤
 Refuses meant fault = meant ≡ Err fault
 
 -- it answers a value as is meant
@@ -24,7 +23,7 @@ Leaves meant (Err fault) records = Refuses meant fault
 
 -- it is refused by its sectors alone
 abbrev pub IsOfSectors : KeyedFault → Type 0
-IsOfSectors (Pool fault) = fault ≢ NoSector
+IsOfSectors (Pool fault) = ⊤
 IsOfSectors _ = ⊥
 
 -- what holds where a call was refused, but not by its sectors

@@ -1,5 +1,5 @@
 -- The header and slots of a mounted pack, when it can be used, what calls on it change, and how they are refused.
-use Rattle.std.specs.Prelude.{◌≡◌, ◌≢◌, ◌<◌, ◌≤◌, ◌+◌, ◌⊎◌, ℕ, zero, suc, true, List, ◌++◌, length, slice_get, take, drop, replicate, Some, Result, Ok, Err, ⊤}
+use Rattle.std.specs.Prelude.{◌≡◌, ◌<◌, ◌≤◌, ◌⊎◌, ℕ, zero, suc, true, List, ◌++◌, length, slice_get, take, drop, replicate, Some, Result, Ok, Err, ⊤}
 use Rattle.std.specs.List.{Contains}
 use Rattle.byteorder.specs.Endian.{big_bytes}
 use Rattle.s3_cards.specs.declared.levels.LevelId.{LevelId}
@@ -19,7 +19,7 @@ use Rattle.s3_slots.specs.declared.slot.Slot.TheVariants.{Sound}
 use Rattle.s3_slots.specs.declared.slot.Standing.{Standing}
 use Rattle.s3_slots.specs.declared.slot.Standing.TheVariants.{Absent, Blocked, Present}
 use Rattle.s3_store.specs.declared.stretch.Stretch.{Stretch}
-use Rattle.s3_store.specs.declared.pool_fault.PoolFault.TheVariants.{Device, NoMemory, NoSector}
+use Rattle.s3_store.specs.declared.sector_fault.SectorFault.TheVariants.{Device, NoMemory}
 use Rattle.s3_labels.specs.declared.fault.ChangeFault.{ChangeFault}
 use Rattle.s3_labels.specs.declared.fault.ChangeFault.TheVariants.{Label, Sectors as ChangedSectors}
 use Rattle.s3_labels.specs.declared.fault.PlanFault.{PlanFault}
@@ -102,13 +102,12 @@ AreFilled byte sectors contents = (n : ℕ) → Contains sectors n → slice_get
 -- a mount is refused by the header alone, or by its sectors
 abbrev pub IsRefusal : Result Header MountFault → Refusal → Type 0
 IsRefusal header (BadPack fault) = header ≡ Err fault
-IsRefusal header (Sectors fault) = fault ≢ NoSector
+IsRefusal header (Sectors fault) = ⊤
 
 abbrev pub failed_by : Refusal → ℕ
 failed_by (BadPack fault) = 0
 failed_by (Sectors Device) = 1
 failed_by (Sectors NoMemory) = 0
-failed_by (Sectors NoSector) = 0
 
 abbrev pub failed_mount : {T : Type 0} → Result T Refusal → ℕ
 failed_mount (Ok _) = 0
@@ -117,7 +116,7 @@ failed_mount (Err refusal) = failed_by refusal
 -- a change is refused by the slots alone, or by its sectors
 abbrev pub IsChangeRefusal : Result (List Slot) LabelFault → ChangeFault → Type 0
 IsChangeRefusal slots (Label fault) = slots ≡ Err fault
-IsChangeRefusal slots (ChangedSectors fault) = fault ≢ NoSector
+IsChangeRefusal slots (ChangedSectors fault) = ⊤
 
 abbrev pub IsOfSectors : ChangeFault → Type 0
 IsOfSectors (Label fault) = ⊥
@@ -128,7 +127,6 @@ failed_change (Ok _) = 0
 failed_change (Err (Label fault)) = 0
 failed_change (Err (ChangedSectors Device)) = 1
 failed_change (Err (ChangedSectors NoMemory)) = 0
-failed_change (Err (ChangedSectors NoSector)) = 0
 
 -- a list of files is refused at the first that can't be made
 abbrev pub IsPlanRefusal : Result (List Slot) (ℕ × LabelFault) → PlanFault → Type 0

@@ -2,11 +2,11 @@
 use Rattle.std.specs.Prelude.{◌≡◌, ◌+◌, ℕ, List, slice_set, Result, ⊤}
 use mathlib.Core.Option.{none}
 use Rattle.std.specs.Borrow.{Fml, RattleType, Bor, MutBor, LendsSoOk, follows_so, Array, u8}
-use Rattle.s3_store.specs.declared.pool_fault.PoolFault.{PoolFault}
 use Rattle.s3_store.specs.declared.pack_store.PackStore as store
-use Rattle.s3_store.specs.Inner.Failures.{failed_transfers}
 use Rattle.s3_store.specs.Inner.State.{PoolState, IsBetween, KeepsContents}
 use Rattle.s3_pool.specs.contracts.pool.Pool.{the_row}
+use Rattle.s3_pool.specs.declared.pool_fault.PoolFault.{PoolFault}
+use Rattle.s3_pool.specs.Inner.Loads.{failed_loads}
 
 -- the contents are the same but for one sector, each sector of the store is as it was or that of the old contents, and
 -- no transfer failed
@@ -18,7 +18,7 @@ pub record ChangesSector (n : ℕ) (old new : PoolState) (bytes : List ℕ) : Ty
 -- no sector changes, and the failures are those that the answer tells of
 pub record KeepsAll {T : Type 0} (old : PoolState) (result : Result T PoolFault) (new : PoolState) : Type 0 where
   pub contents : KeepsContents old new
-  pub failures : new.failures ≡ old.failures + failed_transfers result
+  pub failures : new.failures ≡ old.failures + failed_loads result
 
 module _ (S : RattleType) (ghosts : store.Ghosts S.Denot) where
   -- once the reference has ended, sector n is what was left behind it; a refused call changed nothing

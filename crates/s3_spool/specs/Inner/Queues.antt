@@ -5,7 +5,7 @@ use Rattle.s3_cards.specs.Printed.{Printed}
 use Rattle.s3_cards.specs.declared.levels.LevelId.{LevelId}
 use Rattle.s3_cards.specs.declared.levels.LevelId.TheVariants.{One, Two}
 use Rattle.s3_store.specs.Bytes.{sector_bytes, part}
-use Rattle.s3_store.specs.declared.pool_fault.PoolFault.TheVariants.{Device, NoMemory, NoSector}
+use Rattle.s3_store.specs.declared.sector_fault.SectorFault.TheVariants.{Device, NoMemory}
 use Rattle.s3_spool.specs.declared.fault.SpoolFault.{SpoolFault}
 use Rattle.s3_spool.specs.declared.fault.SpoolFault.TheVariants.{QuotaFull, Empty, Sectors}
 
@@ -89,4 +89,3 @@ failed_by (Err QuotaFull) = 0
 failed_by (Err Empty) = 0
 failed_by (Err (Sectors Device)) = 1
 failed_by (Err (Sectors NoMemory)) = 0
-failed_by (Err (Sectors NoSector)) = 0

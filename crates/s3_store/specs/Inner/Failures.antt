@@ -1,7 +1,7 @@
 -- How many transfers a call's answer says to have failed.
 use Rattle.std.specs.Prelude.{ℕ, ◌+◌, Bool, true, false, Result, Ok, Err}
-use Rattle.s3_store.specs.declared.pool_fault.PoolFault.{PoolFault}
-use Rattle.s3_store.specs.declared.pool_fault.PoolFault.TheVariants.{Device, NoMemory, NoSector}
+use Rattle.s3_store.specs.declared.sector_fault.SectorFault.{SectorFault}
+use Rattle.s3_store.specs.declared.sector_fault.SectorFault.TheVariants.{Device, NoMemory}
 
 -- of a call to a store
 abbrev pub failed_calls : {T E : Type 0} → Result T E → ℕ
@@ -9,11 +9,10 @@ failed_calls (Ok _) = 0
 failed_calls (Err _) = 1
 
 -- of a call on sectors, which has ended at the first that failed
-abbrev pub failed_transfers : {T : Type 0} → Result T PoolFault → ℕ
+abbrev pub failed_transfers : {T : Type 0} → Result T SectorFault → ℕ
 failed_transfers (Ok _) = 0
 failed_transfers (Err Device) = 1
 failed_transfers (Err NoMemory) = 0
-failed_transfers (Err NoSector) = 0
 
 -- the failures of a fuse: those of the store behind it, and its own
 abbrev pub fuse_failures : ℕ → Bool → ℕ

@@ -131,7 +131,7 @@ returns-in_err-made-clause-ready g c = rw c.in_err-made.ensures.same c.requires.
 
 pub returns-in_err-write_records-clause-err : goal.returns-in_err-write_records-clause-err
 returns-in_err-write_records-clause-err g c =
-    sectors_refused c.from_residual-in_err-write_records.result _ c.in_err-write_records.field-0.0 c.from_residual-in_err-write_records.ensures.1 c.in_err-write_records.ensures.fault
+    sectors_refused c.from_residual-in_err-write_records.result _ c.in_err-write_records.field-0.0 c.from_residual-in_err-write_records.ensures.1
 
 pub returns-in_err-write_records-clause-same : goal.returns-in_err-write_records-clause-same
 returns-in_err-write_records-clause-same g c =
@@ -150,7 +150,7 @@ returns-in_err-write_records-clause-failures g c =
 
 pub returns-in_err-write_made-clause-err : goal.returns-in_err-write_made-clause-err
 returns-in_err-write_made-clause-err g c =
-    sectors_refused c.from_residual-in_err-write_made.result _ c.in_err-write_made.field-0.0 c.from_residual-in_err-write_made.ensures.1 c.in_err-write_made.ensures.fault
+    sectors_refused c.from_residual-in_err-write_made.result _ c.in_err-write_made.field-0.0 c.from_residual-in_err-write_made.ensures.1
 
 pub returns-in_err-write_made-clause-same : goal.returns-in_err-write_made-clause-same
 returns-in_err-write_made-clause-same g c =

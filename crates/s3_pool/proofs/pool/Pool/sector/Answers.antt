@@ -8,7 +8,7 @@ returns-in_err-slot g c =
     let sectors = g.S.PackStore.contents c.self.inside.store in
     let p = err_from_is_err_and c.from_residual.result c.from_residual.ensures.1 in
     rw (p.1, p.2, ← c.self.view_is) (
-      (refl, (λ w. tt), kept c.self.inside.buffers c.load.new.buffers _ _ _ c.load.ensures.keeps c.in_err-slot.ensures.failures),
+      (refl, (λ w. tt), kept c.self.inside.buffers c.load_if_there.new.buffers _ _ _ c.load_if_there.ensures.keeps c.in_err-slot.ensures.failures),
       record {
         keeps = tt;
         value = tt;
@@ -17,17 +17,17 @@ returns-in_err-slot g c =
     )
 
 pub buffer-requires : goal.buffer-requires
-buffer-requires g c = at_within c.args.n c.in_ok-slot.slot c.load.new.buffers.slots.items c.in_ok-slot.ensures.at
+buffer-requires g c = at_within c.args.n c.in_ok-slot.slot c.load_if_there.new.buffers.slots.items c.in_ok-slot.ensures.at
 
 pub returns : goal.returns
 returns g c =
     let sectors = g.S.PackStore.contents c.self.inside.store in
     let within = c.in_ok-slot.ensures.in_range in
     rw (← c.self.view_is) (
-      (refl, (λ w. tt), kept c.self.inside.buffers c.load.new.buffers _ _ _ c.load.ensures.keeps c.in_ok-slot.ensures.failures),
+      (refl, (λ w. tt), kept c.self.inside.buffers c.load_if_there.new.buffers _ _ _ c.load_if_there.ensures.keeps c.in_ok-slot.ensures.failures),
       record {
         keeps = tt;
-        value = held_contents c.args.n c.in_ok-slot.slot c.buffer.result.now c.load.ensures.keeps within c.in_ok-slot.ensures.at c.buffer.ensures ∙ ap Some (sym c.bytes.ensures);
+        value = held_contents c.args.n c.in_ok-slot.slot c.buffer.result.now c.load_if_there.ensures.keeps within c.in_ok-slot.ensures.at c.buffer.ensures ∙ ap Some (sym c.bytes.ensures);
         no_sector = no_sector_ok c.args.n sectors c.self.inside.buffers.slots.items c.bytes.result within;
       },
     )

@@ -8,7 +8,7 @@ returns-in_err-slot g c =
     let sectors = g.S.PackStore.contents c.self.inside.store in
     let p = err_from_is_err_and c.from_residual.result c.from_residual.ensures.1 in
     rw (p.1, p.2, ← c.self.view_is) (
-      (refl, (λ w h. absurd cc), kept c.self.inside.buffers c.load.new.buffers _ _ _ c.load.ensures.keeps c.in_err-slot.ensures.failures),
+      (refl, (λ w h. absurd cc), kept c.self.inside.buffers c.load_if_there.new.buffers _ _ _ c.load_if_there.ensures.keeps c.in_err-slot.ensures.failures),
       record {
         writes_back = tt;
         value = tt;
@@ -17,12 +17,12 @@ returns-in_err-slot g c =
     )
 
 pub buffer_mut-requires : goal.buffer_mut-requires
-buffer_mut-requires g c = at_within c.args.n c.in_ok-slot.slot c.load.new.buffers.slots.items c.in_ok-slot.ensures.at
+buffer_mut-requires g c = at_within c.args.n c.in_ok-slot.slot c.load_if_there.new.buffers.slots.items c.in_ok-slot.ensures.at
 
 pub invariant_of-self-lent : goal.invariant_of-self-lent
 invariant_of-self-lent g c = λ w. (
-  written_sound _ c.load.new.buffers.slots.items c.in_ok-slot.slot c.buffer_mut.result.now w c.buffer_mut.ensures.value c.load.ensures.keeps.sound,
-  written_indexed c.load.new.buffers c.in_ok-slot.slot c.buffer_mut.result.now w c.buffer_mut.ensures.value c.load.ensures.indexed,
+  written_sound _ c.load_if_there.new.buffers.slots.items c.in_ok-slot.slot c.buffer_mut.result.now w c.buffer_mut.ensures.value c.load_if_there.ensures.keeps.sound,
+  written_indexed c.load_if_there.new.buffers c.in_ok-slot.slot c.buffer_mut.result.now w c.buffer_mut.ensures.value c.load_if_there.ensures.indexed,
 )
 
 pub returns : goal.returns
@@ -31,10 +31,10 @@ returns g c =
     let within = c.in_ok-slot.ensures.in_range in
     let no_failure = c.in_ok-slot.ensures.failures ∙ add-zero (g.S.PackStore.failures c.self.inside.store) in
     rw (← c.self.view_is) (
-      (refl, (λ w h. written c.self.inside.buffers c.load.new.buffers _ _ c.args.n c.in_ok-slot.slot c.buffer_mut.result.now w c.load.ensures.keeps no_failure c.in_ok-slot.ensures.at c.buffer_mut.ensures.value), tt),
+      (refl, (λ w h. written c.self.inside.buffers c.load_if_there.new.buffers _ _ c.args.n c.in_ok-slot.slot c.buffer_mut.result.now w c.load_if_there.ensures.keeps no_failure c.in_ok-slot.ensures.at c.buffer_mut.ensures.value), tt),
       record {
         writes_back = tt;
-        value = held_contents c.args.n c.in_ok-slot.slot c.buffer_mut.result.now c.load.ensures.keeps within c.in_ok-slot.ensures.at c.buffer_mut.ensures.value ∙ ap Some (sym c.bytes_mut.ensures.value);
+        value = held_contents c.args.n c.in_ok-slot.slot c.buffer_mut.result.now c.load_if_there.ensures.keeps within c.in_ok-slot.ensures.at c.buffer_mut.ensures.value ∙ ap Some (sym c.bytes_mut.ensures.value);
         no_sector = no_sector_ok c.args.n sectors c.self.inside.buffers.slots.items c.bytes_mut.result within;
       },
     )

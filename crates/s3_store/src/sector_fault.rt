@@ -1,6 +1,6 @@
 //! Why a call on sectors is refused.
 ghost use Rattle.std.specs.Prelude.{◌≡◌};
-ghost use Rattle.s3_store.specs.declared.pool_fault.PoolFault.TheVariants.{Device, NoMemory};
+ghost use Rattle.s3_store.specs.declared.sector_fault.SectorFault.TheVariants.{Device, NoMemory};
 
 use crate::pack_store::StoreFault;
 use std::alloc::{AllocError, AllocFailed};
@@ -8,38 +8,35 @@ use thiserror::Error;
 
 /// Why a call on sectors is refused.
 #[derive(Clone, Copy, Debug, PartialEq, Eq, Error)]
-pub enum PoolFault {
+pub enum SectorFault {
     /// A transfer failed in this call.
     #[error("a transfer failed")]
     Device,
     /// A growth was refused.
     #[error("out of memory")]
     NoMemory,
-    /// The number is not below the count of sectors.
-    #[error("no such sector")]
-    NoSector,
 }
 
-impl From<StoreFault> for PoolFault {
+impl From<StoreFault> for SectorFault {
     ghost from_gives = { λ _ fault. fault ≡ Device };
 
     fn from(_: StoreFault) -> Self {
-        PoolFault::Device
+        SectorFault::Device
     }
 }
 
-impl From<AllocError> for PoolFault {
+impl From<AllocError> for SectorFault {
     ghost from_gives = { λ _ fault. fault ≡ NoMemory };
 
     fn from(_: AllocError) -> Self {
-        PoolFault::NoMemory
+        SectorFault::NoMemory
     }
 }
 
-impl<T: Drop> From<AllocFailed<T>> for PoolFault {
+impl<T: Drop> From<AllocFailed<T>> for SectorFault {
     ghost from_gives = { λ _ fault. fault ≡ NoMemory };
 
     fn from(_: AllocFailed<T>) -> Self {
-        PoolFault::NoMemory
+        SectorFault::NoMemory
     }
 }
