@@ -1,4 +1,4 @@
 pub mod Halts
-pub mod Letters
 pub mod Replies
+pub mod Table
 pub mod Inner

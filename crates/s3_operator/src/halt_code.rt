@@ -48,3 +48,37 @@ pub enum HaltCode {
     /// IX: the index of a file isn't good.
     BadIndex,
 }
+
+/// Every halt, by which a halt is found by its letters.
+pub(crate) const HALTS: [HaltCode; 30] = [
+    HaltCode::HaltIndicator(1),
+    HaltCode::HaltIndicator(2),
+    HaltCode::HaltIndicator(3),
+    HaltCode::HaltIndicator(4),
+    HaltCode::HaltIndicator(5),
+    HaltCode::HaltIndicator(6),
+    HaltCode::HaltIndicator(7),
+    HaltCode::HaltIndicator(8),
+    HaltCode::HaltIndicator(9),
+    HaltCode::UnidentifiedRecord,
+    HaltCode::ZeroDivisor,
+    HaltCode::BadDigit,
+    HaltCode::NoRecordFound,
+    HaltCode::DuplicateKey,
+    HaltCode::OutOfSequence,
+    HaltCode::KeyChanged,
+    HaltCode::NothingToUpdate,
+    HaltCode::FileFull,
+    HaltCode::KeyNotAscending,
+    HaltCode::FaultyJob,
+    HaltCode::NoProgram,
+    HaltCode::FaultySource,
+    HaltCode::NoLabel,
+    HaltCode::DamagedLabel,
+    HaltCode::MasterForUpdate,
+    HaltCode::NoSpace,
+    HaltCode::RetainedFile,
+    HaltCode::DuplicateLabel,
+    HaltCode::LabelMismatch,
+    HaltCode::BadIndex,
+];

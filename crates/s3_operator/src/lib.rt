@@ -11,8 +11,9 @@
 
 mod halt;
 mod halt_code;
-mod halt_letters;
+mod halt_kind;
 mod halt_log;
+mod halt_table;
 mod laws;
 mod replies;
 mod reply_fault;
@@ -20,8 +21,9 @@ mod words;
 
 pub use halt::Halt;
 pub use halt_code::HaltCode;
-pub use halt_letters::{code_of, letters};
+pub use halt_kind::HaltKind;
 pub use halt_log::HaltLog;
+pub use halt_table::{code_of, letters};
 pub use laws::{a_reply_is_kept_once, replies_are_by_table};
 pub use replies::allowed;
 pub use reply_fault::ReplyFault;

@@ -6,7 +6,7 @@ use Rattle.s3_cards.specs.declared.levels.LevelId.{LevelId}
 use Rattle.s3_cards.specs.declared.levels.LevelId.TheVariants.{One, Two}
 use Rattle.s3_cards.specs.declared.name.Name.{Name}
 use Rattle.s3_operator.specs.declared.halt_code.HaltCode.{HaltCode}
-use Rattle.s3_operator.specs.Letters.{letters_of}
+use Rattle.s3_operator.specs.Table.{letters_of}
 use Rattle.s3_operator.specs.Replies.{is_allowed}
 use Rattle.s3_replies.specs.declared.rule.Rule.{Rule}
 
