@@ -5,11 +5,11 @@ use Rattle.s3_cards.specs.declared.name.Name.{Name}
 use Rattle.s3_cards.specs.Names.{same_name}
 use Rattle.s3_lines.specs.declared.indicator.Indicator.{Indicator}
 use Rattle.s3_lines.specs.declared.sheet.FieldLine.{FieldLine}
+use Rattle.s3_meaning.specs.declared.current.Current.{Current}
+use Rattle.s3_meaning.specs.declared.current.Current.TheVariants.{LastChained}
 use Rattle.s3_meaning.specs.Source.{Source}
-use Rattle.s3_operator.specs.declared.halt_code.HaltCode.TheVariants.{BadDigit}
 use Rattle.s3_meaning.specs.Environment.{Environment, put_current, turn}
-use Rattle.s3_meaning.specs.Requests as Meant
-use Rattle.s3_meaning.specs.Runs.{Rest, halted}
+use Rattle.s3_meaning.specs.Runs.{Rest}
 use Rattle.s3_meaning.specs.Moving.{fields_moved}
 use Rattle.s3_meaning.specs.Selection.{type_of}
 use Rattle.s3_meaning.specs.Calculating.{chained_to}
@@ -23,21 +23,16 @@ use Rattle.s3_match.specs.Inner.Heads.{file_at}
 use Rattle.s3_match.specs.Inner.Types.{is_type_start, kind_at, name_of_file}
 use Rattle.s3_match.proofs.ReadingLemmas.{file_named}
 use Rattle.s3_sections.specs.Inner.Courses.{goes_through, spots_of}
-use Rattle.s3_instructions.specs.declared.input.instruction.InputInstruction.{InputInstruction}
-use Rattle.s3_cycle.specs.declared.request.Current.{Current}
-use Rattle.s3_cycle.specs.declared.request.Current.TheVariants.{LastChained}
 use Rattle.s3_cycle.specs.declared.progress.Progress.{Progress}
 use Rattle.s3_cycle.specs.declared.progress.Time.{Time}
 use Rattle.s3_cycle.specs.declared.progress.Time.TheVariants as time
 use Rattle.s3_cycle.specs.declared.progress.Moves.TheVariants as moves
 use Rattle.s3_cycle.specs.declared.stepper.Stepper.{Stepper}
-use Rattle.s3_cycle.specs.Inner.Rest.{after_calculations, calculating, details_done, field_then, fields_at, fields_from, record_moved, totals_done}
+use Rattle.s3_cycle.specs.Inner.Rest.{after_calculations, calculating, details_done, fields_at, fields_from, record_moved, totals_done}
 use Rattle.s3_cycle.specs.Inner.Environment.{current_in, environment}
-use Rattle.s3_cycle.specs.Inner.Chaining.{KeepsRecord}
-use Rattle.s3_cycle.specs.Inner.Fields.{IsMovedBy, MovesAll, StopsAt, found_from}
-use Rattle.s3_cycle.specs.Inner.Going.{AreWithin, CanCalculate, CanMove, Changes, GoesOn, IsField, IsRunning, IsTime, held_by, here, own}
+use Rattle.s3_cycle.specs.Inner.Fields.{found_from}
+use Rattle.s3_cycle.specs.Inner.Going.{AreWithin, CanCalculate, CanMove, Changes, GoesOn, IsRunning, IsTime, held_by, here, own}
 use Rattle.s3_cycle.proofs.CurrentLemmas.{current_set}
-use Rattle.s3_cycle.proofs.FieldLemmas.{stays_running}
 use Rattle.s3_cycle.proofs.GoingLemmas.{goes_as, goes_changed, goes_then}
 use Rattle.s3_cycle.proofs.HeadLemmas.{EndWithin, at_most, file_there, kind_fields}
 
@@ -52,17 +47,17 @@ chained_within p file start bytes within starts typed long =
     long)
 
 pub chained_put : (c : Stepper) (file : ℕ) (current : Vec (Option Current) Global) → IsRunning c → file < length c.program.files.items → current.items ≡ slice_set c.state.current.items file (Some LastChained)
-    → Changes c (record c { state = record c.state { current = current } }) (λ source. put_current (name_of_file c.program file) (Some Meant.LastChained))
+    → Changes c (record c { state = record c.state { current = current } }) (λ source. put_current (name_of_file c.program file) (Some LastChained))
 unfolding environment held
 chained_put c file current running within is =
     let old : Environment = environment c.program c.state in
-    let named : (name : Name) → current_in c.program current.items name ≡ (if same_name name (name_of_file c.program file) then Some Meant.LastChained else current_in c.program c.state.current.items name) =
+    let named : (name : Name) → current_in c.program current.items name ≡ (if same_name name (name_of_file c.program file) then Some LastChained else current_in c.program c.state.current.items name) =
     λ name. ap (λ (items : List (Option Current)). current_in c.program items name) is
     ∙ current_set c.program c.state.current.items file (Some LastChained) name within running.state.current in
     record {
       stays = refl;
       sound = record { values = running.state.values; current = ap (λ (items : List (Option Current)). length items) is ∙ (length-set c.state.current.items file (Some LastChained) ∙ running.state.current) };
-      held = ap (λ (currents : Name → Option Meant.Current). record old { current = currents }) (fun_ext named);
+      held = ap (λ (currents : Name → Option Current). record old { current = currents }) (fun_ext named);
     }
 
 -- ---- the record is kept
@@ -89,52 +84,30 @@ still_behind source p progress other time.Last = refl
 still_calculating : (source : Source) (p : Program) (progress other : Progress) → calculating source p (with_record progress other) ≡ calculating source p progress
 still_calculating source p progress other = ap (λ (go : Rest). goes_through p (again source) go (spots_of progress.course)) (still_behind source p progress other progress.time)
 
--- ---- fields of a record that isn't kept
--- it is moved as one that is
+-- a run with the record that CHAIN found
 abbrev pub kept : Stepper → List ℕ → Stepper
-kept c bytes = record c { progress = record c.progress { «record» = record { items = bytes } } }
+kept c bytes = record c { progress = record c.progress { «record» = bytes } }
 
-kept_running : (c : Stepper) (bytes : List ℕ) → IsRunning c → IsRunning (kept c bytes)
+pub kept_running : (c : Stepper) (bytes : List ℕ) → IsRunning c → IsRunning (kept c bytes)
 kept_running c bytes running = record { overflow = running.overflow; state = running.state; reading = running.reading; heads = running.heads; calculations = running.calculations; totals_guard = running.totals_guard; inputs = running.inputs; outputs = running.outputs }
 
-pub unkept_running : (c : Stepper) (bytes : List ℕ) → IsRunning (kept c bytes) → IsRunning c
-unkept_running c bytes running = record { overflow = running.overflow; state = running.state; reading = running.reading; heads = running.heads; calculations = running.calculations; totals_guard = running.totals_guard; inputs = running.inputs; outputs = running.outputs }
-
-kept_calculates : (c : Stepper) (bytes : List ℕ) → CanCalculate c.program c.progress → CanCalculate c.program (kept c bytes).progress
-kept_calculates c bytes calculates = record { time = still_time c.program c.progress (kept c bytes).progress c.progress.time calculates.time; course = calculates.course }
-
-pub found_moved : (c : Stepper) (place : ℕ) (bytes : List ℕ) → IsRunning c → CanCalculate c.program c.progress → AreWithin c.program bytes place → (inputs : List InputInstruction) → inputs ≡ c.inputs.items → IsMovedBy (kept c bytes) moves.Chained inputs place bytes c.state.values
-found_moved c place bytes running calculates within inputs same =
-    record { running = kept_running c bytes running; instructions = same; can = record { moves = kept_calculates c bytes calculates; within = within }; same = refl }
+-- ---- its fields are moved from there
+pub kept_moves : (c : Stepper) (place : ℕ) (found bytes : List ℕ) → found ≡ bytes → CanCalculate c.program c.progress → AreWithin c.program bytes place → CanMove c.program (kept c found).progress moves.Chained place
+kept_moves c place found bytes same calculates within = record {
+  moves = record { time = still_time c.program c.progress (kept c found).progress c.progress.time calculates.time; course = calculates.course };
+  within = subst (λ (xs : List ℕ). AreWithin c.program xs place) (sym same) within;
+}
 
 found_begun : (c : Stepper) (place : ℕ) (bytes : List ℕ) → here c (found_from bytes place) ≡ here (kept c bytes) (λ source program progress. fields_from source program progress moves.Chained place)
 unfolding fields_from
 found_begun c place bytes =
     ap (λ (go : Rest). fields_moved (again (own c)) (fields_at c.program place) bytes go (held_by c)) (sym (still_calculating (own c) c.program c.progress (kept c bytes).progress))
 
--- all are moved, and the calculations go on
-pub found_all : (old mid new : Stepper) (place : ℕ) (bytes : List ℕ) → mid.program ≡ old.program → MovesAll (kept old bytes) (kept mid bytes) moves.Chained place → GoesOn mid new (here mid calculating)
-    → GoesOn old new (here old (found_from bytes place))
-found_all old mid new place bytes program moved goes =
-    goes_then old mid new _ _ program
-    (found_begun old place bytes ∙ (moved.runs ∙ ap (λ (rest : Rest). rest (held_by mid)) (still_calculating (own mid) mid.program mid.progress (kept mid bytes).progress))) goes
-
--- one has bad digits: the record is kept while a reply is waited for
-pub keeps_all : (old new : Stepper) (bytes : List ℕ) → KeepsRecord old new bytes → new ≡ kept old bytes
-keeps_all old new bytes keeps = keeps.same ∙ ap (kept old) keeps.kept
-
-pub found_stops : (old mid keeps new : Stepper) (place bad : ℕ) (bytes : List ℕ) → mid.program ≡ old.program → keeps ≡ kept mid bytes → StopsAt (kept old bytes) (kept mid bytes) moves.Chained place bad
-    → GoesOn keeps new (here keeps (λ source program progress. halted (again source) BadDigit (field_then source program progress moves.Chained bad)))
-    → GoesOn old new (here old (found_from bytes place))
-found_stops old mid keeps new place bad bytes program same stops goes =
-    goes_then old keeps new _ _ (ap (λ (c : Stepper). c.program) same ∙ program)
-    (found_begun old place bytes ∙ (stops.runs ∙ ap (λ (c : Stepper). here c (λ source program progress. halted (again source) BadDigit (field_then source program progress moves.Chained bad))) (sym same))) goes
-
-pub stop_continues : (old mid keeps : Stepper) (place bad : ℕ) (bytes : List ℕ) → keeps ≡ kept mid bytes → StopsAt (kept old bytes) (kept mid bytes) moves.Chained place bad → IsField keeps.program bad × CanMove keeps.program keeps.progress moves.Chained bad
-stop_continues old mid keeps place bad bytes same stops = subst (λ (c : Stepper). IsField c.program bad × CanMove c.program c.progress moves.Chained bad) (sym same) (stops.field, stops.moves)
-
-pub stop_running : (old mid keeps : Stepper) (place bad : ℕ) (bytes : List ℕ) → keeps ≡ kept mid bytes → StopsAt (kept old bytes) (kept mid bytes) moves.Chained place bad → IsRunning old → IsRunning keeps
-stop_running old mid keeps place bad bytes same stops running = subst IsRunning (sym same) (stays_running (kept old bytes) (kept mid bytes) stops.stays (kept_running old bytes running))
+pub found_moved : (old new : Stepper) (place : ℕ) (found bytes : List ℕ) → found ≡ bytes
+    → GoesOn (kept old found) new (here (kept old found) (λ source program progress. fields_from source program progress moves.Chained place)) → GoesOn old new (here old (found_from bytes place))
+found_moved old new place found bytes same goes =
+    goes_then old (kept old found) new _ _ refl
+    (found_begun old place bytes ∙ ap (λ (xs : List ℕ). here (kept old xs) (λ source program progress. fields_from source program progress moves.Chained place)) (sym same)) goes
 
 -- its fields end within it
 pub ends_within : (old current : Stepper) (start : TypeStart) (bytes : List ℕ) → current.program ≡ old.program → EndWithin bytes (fields_at old.program start.fields) → AreWithin current.program bytes start.fields
@@ -150,14 +123,14 @@ goes_found old new start bytes starts goes =
 
 pub takes_chained : (old turned current new : Stepper) (file : ℕ) (start : TypeStart) (bytes : List ℕ) (indicator : Indicator) → is_type_start old.program start ≡ true → indicator ≡ (kind_at old.program start).indicator
     → turned.program ≡ old.program → current.program ≡ turned.program
-    → Changes old turned (λ source. turn indicator true) → Changes turned current (λ source. put_current (name_of_file turned.program file) (Some Meant.LastChained))
+    → Changes old turned (λ source. turn indicator true) → Changes turned current (λ source. put_current (name_of_file turned.program file) (Some LastChained))
     → GoesOn current new (here current (found_from bytes start.fields))
     → GoesOn old new (here old (λ source program progress. chained_to (again source) (name_of_file program file) bytes (Some (kind_at program start)) (calculating source program progress)))
 unfolding chained_to
 takes_chained old turned current new file start bytes indicator starts is program program' turns puts goes =
     let starts' : is_type_start current.program start ≡ true = subst (λ (p : Program). is_type_start p start ≡ true) (sym (program' ∙ program)) starts in
-    let behind : GoesOn turned new (here turned (λ source program progress e. moved_then start bytes source program progress (put_current (name_of_file turned.program file) (Some Meant.LastChained) e))) =
-    goes_changed turned current new (λ source. put_current (name_of_file turned.program file) (Some Meant.LastChained)) (moved_then start bytes) puts (goes_found current new start bytes starts' goes) in
+    let behind : GoesOn turned new (here turned (λ source program progress e. moved_then start bytes source program progress (put_current (name_of_file turned.program file) (Some LastChained) e))) =
+    goes_changed turned current new (λ source. put_current (name_of_file turned.program file) (Some LastChained)) (moved_then start bytes) puts (goes_found current new start bytes starts' goes) in
     goes_as old new _ _
-    (ap (λ (i : Indicator). moved_then start bytes (own old) old.program old.progress (put_current (name_of_file old.program file) (Some Meant.LastChained) (turn i true (held_by old)))) (sym is))
-    (goes_changed old turned new (λ source. turn indicator true) (λ source program progress e. moved_then start bytes source program progress (put_current (name_of_file program file) (Some Meant.LastChained) e)) turns behind)
+    (ap (λ (i : Indicator). moved_then start bytes (own old) old.program old.progress (put_current (name_of_file old.program file) (Some LastChained) (turn i true (held_by old)))) (sym is))
+    (goes_changed old turned new (λ source. turn indicator true) (λ source program progress e. moved_then start bytes source program progress (put_current (name_of_file program file) (Some LastChained) e)) turns behind)

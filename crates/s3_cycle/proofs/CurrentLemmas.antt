@@ -6,8 +6,9 @@ use Rattle.std.proofs.lemmas.Option.{slice_get-map, slice_get-get_or, slice_get_
 use Rattle.s3_cards.specs.declared.name.Name.{Name}
 use Rattle.s3_cards.specs.Names.{same_name}
 use Rattle.s3_lines.specs.declared.sheet.FileLine.{FileLine}
+use Rattle.s3_meaning.specs.declared.current.Current.{Current}
+use Rattle.s3_meaning.specs.declared.current.Current.TheVariants.{NthRead}
 use Rattle.s3_meaning.specs.Environment.{Environment, put_current}
-use Rattle.s3_meaning.specs.Requests as Meant
 use Rattle.s3_program.specs.declared.program.Program.{Program}
 use Rattle.s3_program.specs.Inner.Stands.{parts_of}
 use Rattle.s3_program.specs.Inner.Tables.{slot_in}
@@ -20,10 +21,7 @@ use Rattle.s3_match.specs.Inner.Heads.{no_file, file_at}
 use Rattle.s3_match.specs.Inner.Types.{name_of_file}
 use Rattle.s3_match.proofs.ReadingLemmas.{file_named, input_slot}
 use Rattle.s3_cycle.specs.declared.progress.Selection.{Selection}
-use Rattle.s3_cycle.specs.declared.request.Current.{Current}
-use Rattle.s3_cycle.specs.declared.request.Current.TheVariants.{NthRead}
 use Rattle.s3_cycle.specs.declared.stepper.Stepper.{Stepper}
-use Rattle.s3_cycle.specs.Inner.Requests.{current_of}
 use Rattle.s3_cycle.specs.Inner.Rest.{selected_of}
 use Rattle.s3_cycle.specs.Inner.Environment.{current_in, environment}
 use Rattle.s3_cycle.specs.Inner.Going.{Changes, IsRunning, IsTaken}
@@ -58,26 +56,26 @@ number_not m n h = λ (e : m ≡ n). absurd (grind (arith, nat_tests, h))
 
 -- that of one file is put, or it has none any more
 pub current_set : (p : Program) (current : List (Option Current)) (file : ℕ) (to : Option Current) (name : Name) → file < length p.files.items → length current ≡ length p.files.items
-    → current_in p (slice_set current file to) name ≡ (if same_name name (name_of_file p file) then option_map current_of to else current_in p current name)
+    → current_in p (slice_set current file to) name ≡ (if same_name name (name_of_file p file) then to else current_in p current name)
 current_set p current file to name within size = step (same_name name (name_of_file p file)) refl
   where
     at : (b : Bool) → same_name name (name_of_file p file) ≡ b → (slot_in (tables p).files name == file) ≡ b
     at b is = own_name p file name within ∙ is
 
     value : (o : Option (Option Current)) → slice_get (slice_set current file to) (slot_in (tables p).files name) ≡ o
-        → current_in p (slice_set current file to) name ≡ option_map current_of (option_and_then (λ (entry : Option Current). entry) o)
-    value o is = ap (λ (found : Option (Option Current)). option_map current_of (option_and_then (λ (entry : Option Current). entry) found)) is
+        → current_in p (slice_set current file to) name ≡ option_and_then (λ (entry : Option Current). entry) o
+    value o is = ap (λ (found : Option (Option Current)). option_and_then (λ (entry : Option Current). entry) found) is
 
     step : (b : Bool) → same_name name (name_of_file p file) ≡ b
-        → current_in p (slice_set current file to) name ≡ (if same_name name (name_of_file p file) then option_map current_of to else current_in p current name)
+        → current_in p (slice_set current file to) name ≡ (if same_name name (name_of_file p file) then to else current_in p current name)
     step true is =
         let slot : slot_in (tables p).files name ≡ file = number_is _ _ (at true is) in
         let here : slice_get (slice_set current file to) (slot_in (tables p).files name) ≡ Some to =
         ap (slice_get (slice_set current file to)) slot ∙ get_same current file to (omega (arith, within, size)) in
-        value (Some to) here ∙ sym (ap (λ (b : Bool). if b then option_map current_of to else current_in p current name) is)
+        value (Some to) here ∙ sym (ap (λ (b : Bool). if b then to else current_in p current name) is)
     step false is =
         value (slice_get current (slot_in (tables p).files name)) (get_other current file (slot_in (tables p).files name) to (number_not _ _ (at false is)))
-        ∙ sym (ap (λ (b : Bool). if b then option_map current_of to else current_in p current name) is)
+        ∙ sym (ap (λ (b : Bool). if b then to else current_in p current name) is)
 
 -- ---- the record that is selected
 pub slot_within : (c : Stepper) (selection : Selection) (x : InputFile) → IsRunning c → IsTaken c.program c.progress selection → x ≡ get_or c.progress.reading.files.items selection.place x → x.file < length c.program.files.items
@@ -94,19 +92,19 @@ selected_file c selection x taken found =
 
 pub current_put : (c : Stepper) (selection : Selection) (x : InputFile) (current : Vec (Option Current) Global) → IsRunning c → IsTaken c.program c.progress selection → x ≡ get_or c.progress.reading.files.items selection.place x
     → current.items ≡ slice_set c.state.current.items x.file (Some (NthRead selection.number))
-    → Changes c (record c { state = record c.state { current = current } }) (λ source. put_current (selected_of c.program c.progress selection).file.name (Some (Meant.NthRead selection.number)))
+    → Changes c (record c { state = record c.state { current = current } }) (λ source. put_current (selected_of c.program c.progress selection).file.name (Some (NthRead selection.number)))
 unfolding environment held
 current_put c selection x current running taken found is =
     let old : Environment = environment c.program c.state in
     let within : x.file < length c.program.files.items = slot_within c selection x running taken found in
     let named : (name : Name) → current_in c.program current.items name
-    ≡ (if same_name name (selected_of c.program c.progress selection).file.name then Some (Meant.NthRead selection.number) else current_in c.program c.state.current.items name) =
+    ≡ (if same_name name (selected_of c.program c.progress selection).file.name then Some (NthRead selection.number) else current_in c.program c.state.current.items name) =
     λ name. ap (λ (items : List (Option Current)). current_in c.program items name) is
     ∙ (current_set c.program c.state.current.items x.file (Some (NthRead selection.number)) name within running.state.current
-    ∙ ap (λ (other : Name). if same_name name other then Some (Meant.NthRead selection.number) else current_in c.program c.state.current.items name)
+    ∙ ap (λ (other : Name). if same_name name other then Some (NthRead selection.number) else current_in c.program c.state.current.items name)
     (file_named c.program x.file within ∙ ap (λ (file : FileLine). file.name) (sym (selected_file c selection x taken found)))) in
     record {
       stays = refl;
       sound = record { values = running.state.values; current = ap (λ (items : List (Option Current)). length items) is ∙ (length-set c.state.current.items x.file (Some (NthRead selection.number)) ∙ running.state.current) };
-      held = ap (λ (currents : Name → Option Meant.Current). record old { current = currents }) (fun_ext named);
+      held = ap (λ (currents : Name → Option Current). record old { current = currents }) (fun_ext named);
     }

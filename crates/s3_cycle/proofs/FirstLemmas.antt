@@ -1,12 +1,13 @@
 -- A run begins: nothing is read yet, and no file has a current record.
 use Rattle.std.proofs.Common.{◌≡◌, ℕ, ◌<◌, length, get_or, map, replicate, List, [], ◌∷◌, Bool, true, false, not, ◌||◌, refl, sym, ◌∙◌, ap, subst, zero, suc, arith}
-use Rattle.std.specs.Prelude.{Option, None, is_some, option_map, slice_get, filter, if◌then◌else◌}
+use Rattle.std.specs.Prelude.{Option, None, is_some, slice_get, filter, if◌then◌else◌}
 use Rattle.std.specs.Option.{option_and_then}
 use Rattle.std.specs.List.{All, list_all, list_any}
 use Rattle.std.proofs.Math.Path.{fun_ext}
 use Rattle.std.proofs.lemmas.List.{length-replicate}
 use Rattle.s3_cards.specs.declared.name.Name.{Name}
 use Rattle.s3_lines.specs.declared.sheet.FileLine.{FileLine}
+use Rattle.s3_meaning.specs.declared.current.Current.{Current}
 use Rattle.s3_meaning.specs.Source.{is_input}
 use Rattle.s3_meaning.specs.Environment.{Environment, at_first}
 use Rattle.s3_meaning.specs.Output.{is_served}
@@ -21,9 +22,7 @@ use Rattle.s3_match.specs.Inner.BeginningEnvironment.{BeginsWith}
 use Rattle.s3_match.specs.Inner.Controls.{held_in}
 use Rattle.s3_match.specs.Inner.Reading.{IsReading, reading_in}
 use Rattle.s3_cycle.specs.declared.progress.Progress.{Progress}
-use Rattle.s3_cycle.specs.declared.request.Current.{Current}
 use Rattle.s3_cycle.specs.declared.state.State.{State}
-use Rattle.s3_cycle.specs.Inner.Requests.{current_of}
 use Rattle.s3_cycle.specs.Inner.Environment.{environment, others}
 use Rattle.s3_cycle.specs.Inner.Starting.{BeginsState, BeginsProgress}
 use Rattle.s3_cycle.proofs.HeadLemmas.{IsWithin, none_within, heads_kept}
@@ -84,5 +83,5 @@ begins_state program switches date state begins none_current none_held due page 
   where
     no_current : (name : Name) → (others program state).current name ≡ None
     no_current name =
-        ap (λ (current : List (Option Current)). option_map current_of (option_and_then (λ entry. entry) (slice_get current (slot_in (tables program).files name)))) none_current
-        ∙ ap (option_map current_of) (none_there (length program.files.items) (slot_in (tables program).files name))
+        ap (λ (current : List (Option Current)). option_and_then (λ entry. entry) (slice_get current (slot_in (tables program).files name))) none_current
+        ∙ none_there (length program.files.items) (slot_in (tables program).files name)

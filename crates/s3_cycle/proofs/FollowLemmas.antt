@@ -3,6 +3,7 @@ use Rattle.std.proofs.Common.{◌≡◌, ◌≤◌, length, Bool, ℕ, Some, unw
 use Rattle.std.specs.Prelude.{slice_get}
 use Rattle.std.proofs.lemmas.List.{length-map}
 use Rattle.s3_lines.specs.declared.sheet.FileLine.{FileLine}
+use Rattle.s3_meaning.specs.declared.current.Current.{Current}
 use Rattle.s3_meaning.specs.Source.{Source}
 use Rattle.s3_meaning.specs.Requests as Meant
 use Rattle.s3_meaning.specs.Requests.{Answer}
@@ -16,12 +17,11 @@ use Rattle.s3_program.specs.declared.program.Program.{Program}
 use Rattle.s3_program.specs.Inner.Stands.{Stands, source_named}
 use Rattle.s3_program.specs.Inner.Valid.{named}
 use Rattle.s3_cycle.specs.declared.request.Answer as Code
-use Rattle.s3_cycle.specs.declared.request.Current.{Current}
 use Rattle.s3_cycle.specs.declared.request.Request.{Request}
 use Rattle.s3_cycle.specs.declared.request.Request.TheVariants as asks
 use Rattle.s3_cycle.specs.declared.request.Sought.{Sought}
 use Rattle.s3_cycle.specs.declared.stepper.Stepper.{Stepper}
-use Rattle.s3_cycle.specs.Inner.Requests.{FitsFile, IsDiskFile, TakesRecord, TakesAddition, TakesChanges, IsLine, answer_of, current_of, request_of, sought_of}
+use Rattle.s3_cycle.specs.Inner.Requests.{FitsFile, IsDiskFile, TakesRecord, TakesAddition, TakesChanges, IsLine, answer_of, request_of, sought_of}
 use Rattle.s3_cycle.specs.Inner.Rest.{rest, answered}
 use Rattle.s3_cycle.specs.Inner.Following.{Follows, Resumes, StandsFor, asked, files, put, waits}
 use Rattle.s3_cycle.specs.Inner.Going.{own, held_by, here, GoesOn}
@@ -97,7 +97,7 @@ pub waits_add : (c : Stepper) (file : ℕ) → asked c ≡ asks.Add file → wai
 unfolding request_of put
 waits_add c file is = as_asked c (asks.Add file) is
 
-pub waits_update : (c : Stepper) (file : ℕ) (current : Option Current) → asked c ≡ asks.Update file current → waits c ≡ Meant.Update (name_of_file c.program file) (option_map current_of current) (put c)
+pub waits_update : (c : Stepper) (file : ℕ) (current : Option Current) → asked c ≡ asks.Update file current → waits c ≡ Meant.Update (name_of_file c.program file) current (put c)
 unfolding request_of put
 waits_update c file current is = as_asked c (asks.Update file current) is
 

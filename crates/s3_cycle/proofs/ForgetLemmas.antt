@@ -3,13 +3,12 @@ use Rattle.std.proofs.Common.{◌≡◌, ℕ, ◌<◌, List, length, Option, Non
 use Rattle.std.proofs.Math.Path.{fun_ext}
 use Rattle.s3_cards.specs.declared.name.Name.{Name}
 use Rattle.s3_cards.specs.Names.{same_name}
+use Rattle.s3_meaning.specs.declared.current.Current.{Current}
 use Rattle.s3_meaning.specs.Environment.{Environment}
 use Rattle.s3_meaning.specs.Calculating.{forgotten}
-use Rattle.s3_meaning.specs.Requests as Meant
 use Rattle.s3_operations.specs.declared.values.Values.{Values}
 use Rattle.s3_operations.specs.Inner.Held.{held, Changes as ChangesValues}
 use Rattle.s3_match.specs.Inner.Types.{name_of_file}
-use Rattle.s3_cycle.specs.declared.request.Current.{Current}
 use Rattle.s3_cycle.specs.declared.stepper.Stepper.{Stepper}
 use Rattle.s3_cycle.specs.Inner.Clearing.{without_types_of}
 use Rattle.s3_cycle.specs.Inner.Environment.{current_in, environment, others}
@@ -27,6 +26,6 @@ forgets c file current values sound within is changes =
     record {
       stays = refl;
       sound = record { values = changes.sound; current = ap (λ (items : List (Option Current)). length items) is ∙ (length-set c.state.current.items file None ∙ sound.current) };
-      held = ap (λ (currents : Name → Option Meant.Current). record cleared { current = currents }) (fun_ext named)
+      held = ap (λ (currents : Name → Option Current). record cleared { current = currents }) (fun_ext named)
           ∙ ap (λ (e : Environment). record e { current = λ name. if same_name name (name_of_file c.program file) then None else current_in c.program c.state.current.items name }) (changes.held (others c.program c.state));
     }

@@ -72,18 +72,18 @@ shown : (program : Program) (x : InputFile) → IsInput program x → IsHeadWith
 unfolding head_on
 shown program x sound within head e = by x.standing refl e
   where
-    by : (standing : Standing) → x.standing ≡ standing → standing_as program x.reads x.bytes.items standing ≡ meaning.Stands head → EndWithin head.bytes head.kind.fields
+    by : (standing : Standing) → x.standing ≡ standing → standing_as program x.reads x.bytes standing ≡ meaning.Stands head → EndWithin head.bytes head.kind.fields
     by at.Unread same e = absurd (no_head meaning.Unread head refl e)
     by at.Ended same e = absurd (no_head meaning.Ended head refl e)
     by (at.Stands start) same e =
-        subst (λ (h : meaning.Head). EndWithin h.bytes h.kind.fields) (same_head (record { number = x.reads; bytes = x.bytes.items; kind = kind_at program start }) head e)
-        (subst (EndWithin x.bytes.items) (sym (kind_fields program start (sound.head start same).starts)) (within.within start same))
+        subst (λ (h : meaning.Head). EndWithin h.bytes h.kind.fields) (same_head (record { number = x.reads; bytes = x.bytes; kind = kind_at program start }) head e)
+        (subst (EndWithin x.bytes) (sym (kind_fields program start (sound.head start same).starts)) (within.within start same))
 
 kept_within : (program : Program) (x : InputFile) → IsInput program x → IsWithin (input_of program x) → IsHeadWithin program x
 kept_within program x sound within = record {
   within = λ start e.
-      subst (EndWithin x.bytes.items) (kind_fields program start (sound.head start e).starts)
-      (within (record { number = x.reads; bytes = x.bytes.items; kind = kind_at program start }) (ap (standing_as program x.reads x.bytes.items) e));
+      subst (EndWithin x.bytes) (kind_fields program start (sound.head start e).starts)
+      (within (record { number = x.reads; bytes = x.bytes; kind = kind_at program start }) (ap (standing_as program x.reads x.bytes) e));
 }
 
 pub heads_meant : (program : Program) (files : List InputFile) → All (IsInput program) files → All (IsHeadWithin program) files

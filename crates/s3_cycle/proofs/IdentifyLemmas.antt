@@ -52,10 +52,10 @@ kind_settable program start starts = by (drop start.place program.inputs.items) 
     by (InputField field ∷ lines) all h = absurd (true≢false (sym h))
 
 -- ---- the break
-pub bytes_there : (files : List InputFile) (place : ℕ) (x : InputFile) → place < length files → x ≡ get_or files place x → x.bytes.items ≡ bytes_at files place
+pub bytes_there : (files : List InputFile) (place : ℕ) (x : InputFile) → place < length files → x ≡ get_or files place x → x.bytes ≡ bytes_at files place
 bytes_there files place x within there =
-    ap (λ (y : InputFile). y.bytes.items) there
-    ∙ sym (ap (λ (o : Option InputFile). unwrap_or (option_map (λ (input : InputFile). input.bytes.items) o) []) (slice_get-get_or files place x within))
+    ap (λ (y : InputFile). y.bytes) there
+    ∙ sym (ap (λ (o : Option InputFile). unwrap_or (option_map (λ (input : InputFile). input.bytes) o) []) (slice_get-get_or files place x within))
 
 breaks : (program : Program) (s : State) (values : Values) (controls : Controls) (head : Head) (level : ℕ) → level ≡ break_of (held_in s.controls.held) head.kind head.bytes → ChangesValues program s.values values (λ source. with_levels_to level)
     → ((n : ℕ) → held_in controls.held n ≡ option_or (control_value head.kind head.bytes n) (held_in s.controls.held n)) → environment program (record s { values = values; controls = controls }) ≡ broken head (environment program s)

@@ -15,6 +15,7 @@ use Rattle.s3_lines.specs.declared.sheet.Device.{Device}
 use Rattle.s3_lines.specs.declared.sheet.Device.TheVariants.{CardReader, Printer, Disk}
 use Rattle.s3_lines.specs.declared.sheet.FileLine.{FileLine}
 use Rattle.s3_lines.specs.declared.sheet.Spacing.{Spacing}
+use Rattle.s3_meaning.specs.declared.current.Current.{Current}
 use Rattle.s3_meaning.specs.Source.{Source, overflow_of, is_printer, is_updated}
 use Rattle.s3_meaning.specs.Environment.{Environment}
 use Rattle.s3_meaning.specs.OutputLines.{Output}
@@ -59,10 +60,9 @@ use Rattle.s3_match.specs.Inner.Types.{name_of_file}
 use Rattle.s3_cycle.specs.declared.progress.Point.TheVariants as at
 use Rattle.s3_cycle.specs.declared.request.Request.{Request}
 use Rattle.s3_cycle.specs.declared.request.Request.TheVariants as asks
-use Rattle.s3_cycle.specs.declared.request.Current.{Current}
 use Rattle.s3_cycle.specs.declared.state.State.{State}
 use Rattle.s3_cycle.specs.declared.stepper.Stepper.{Stepper}
-use Rattle.s3_cycle.specs.Inner.Requests.{IsLine, FitsFile, IsDiskFile, TakesRecord, request_of, current_of}
+use Rattle.s3_cycle.specs.Inner.Requests.{IsLine, FitsFile, IsDiskFile, TakesRecord, request_of}
 use Rattle.s3_cycle.specs.Inner.Rest.{lines_from, starts_of}
 use Rattle.s3_cycle.specs.Inner.Environment.{environment, others}
 use Rattle.s3_cycle.specs.Inner.Going.{own, held_by, here, AreSound, IsRunning, IsWalk, GoesOn, Changes, is_record_request}
@@ -180,13 +180,13 @@ file_within p k within =
 
 -- the current record of a file stands in its slot
 current_there : (c : Stepper) (k : ℕ) (current : Option Current) → k < length c.program.files.items → slice_get c.state.current.items k ≡ Some current
-    → (held_by c).current (file_at c.program k).name ≡ option_map current_of current
+    → (held_by c).current (file_at c.program k).name ≡ current
 unfolding environment held
 current_there c k current within there =
     let entry : slice_get (tables c.program).files k ≡ Some (file_entry (file_at c.program k)) = slice_get-map file_entry c.program.files.items k ∙ ap (option_map file_entry) (file_within c.program k within) in
     let slot : slot_in (tables c.program).files (file_at c.program k).name ≡ k = own_slot (tables c.program).files k _ (kept (parts_of c.program) c.program.valid).files_distinct entry in
-    ap (λ n. option_map current_of (option_and_then (λ (o : Option Current). o) (slice_get c.state.current.items n))) slot
-    ∙ ap (λ (o : Option (Option Current)). option_map current_of (option_and_then (λ (o : Option Current). o) o)) there
+    ap (λ n. option_and_then (λ (o : Option Current). o) (slice_get c.state.current.items n)) slot
+    ∙ ap (λ (o : Option (Option Current)). option_and_then (λ (o : Option Current). o) o) there
 
 -- what a line asks for
 asks_as : (c : Stepper) (file : ℕ) (asked kind : DiskRequest) (request : Request) → asked ≡ kind
@@ -217,7 +217,7 @@ updates c file asked current sound within stands is =
     let inside : file < length c.state.current.items = omega (arith, sound.current, within) in
     let there : slice_get c.state.current.items file ≡ Some current = slice_get_read c.state.current.items (length c.state.current.items) file current refl inside stands in
     asks_as c file asked disk.Update (asks.Update file current) is
-    (ap (λ name. Meant.Update name (option_map current_of current) c.composition) (file_name c.program file)
+    (ap (λ name. Meant.Update name current c.composition) (file_name c.program file)
     ∙ ap (λ o. Meant.Update (file_at c.program file).name o c.composition) (sym (current_there c file current within there)))
 
 -- ---- what its file allows
@@ -443,13 +443,11 @@ pub record IsComposed (old mid : Stepper) (w : Walk) (place : ℕ) (start : Outp
   pub whole : IsWhole old.program start instruction
 
 pub is_composed : (old mid : Stepper) (w : Walk) (place : ℕ) (instructions : List OutputInstruction) (instruction : OutputInstruction) → IsRunning old → (due : IsDue old w place)
-    → ((start : OutputStart) → slice_get (starts_of old.program.starts w) place ≡ Some start → ComposesLine old mid start) → instructions ≡ lines_of mid.outputs w
+    → ((start : OutputStart) → slice_get (starts_of old.program.starts w) place ≡ Some start → ComposesLine old mid start) → instructions ≡ lines_of old.outputs w
     → instruction ≡ get_or instructions place instruction → (line : Output) × IsComposed old mid w place due.start line instruction
 is_composed old mid w place instructions instruction running due composing same read =
-    let composes = composing due.start due.there in
-    let outputs : mid.outputs ≡ old.outputs = ap (λ (k : Stepper). k.outputs) composes.same in
-    let is = due_line old w place instructions instruction due.start running due (same ∙ ap (λ sheet. lines_of sheet w) outputs) read due.there in
-    (is.line, record { put = is.put; composes = composes; slot = is.slot; whole = is.whole })
+    let is = due_line old w place instructions instruction due.start running due same read due.there in
+    (is.line, record { put = is.put; composes = composing due.start due.there; slot = is.slot; whole = is.whole })
 
 whole_file : (old : Stepper) (start : OutputStart) (instruction : OutputInstruction) (whole : IsWhole old.program start instruction) → whole.file ≡ file_at old.program start.file
 whole_file old start instruction whole = sym (ap (λ o. unwrap_or o no_file) whole.there)

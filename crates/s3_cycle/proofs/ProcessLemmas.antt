@@ -35,7 +35,7 @@ head_there : (program : Program) (files : List InputFile) (place : ℕ) → has_
 head_there program [] place h = absurd (true≢false (sym h))
 head_there program (x ∷ xs) zero h = by x.standing h
   where
-    by : (standing : Standing) → is_head_standing standing ≡ true → is_some (meaning.selectable (record (input_of program x) { standing = standing_as program x.reads x.bytes.items standing })) ≡ true
+    by : (standing : Standing) → is_head_standing standing ≡ true → is_some (meaning.selectable (record (input_of program x) { standing = standing_as program x.reads x.bytes standing })) ≡ true
     by at.Unread h = absurd (true≢false (sym h))
     by (at.Stands start) h = refl
     by at.Ended h = absurd (true≢false (sym h))

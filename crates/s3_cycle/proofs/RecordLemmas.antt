@@ -4,7 +4,7 @@ use Rattle.s3_cards.specs.declared.name.Name.{Name}
 use Rattle.s3_lines.specs.declared.indicator.Indicator.TheVariants.{Matching}
 use Rattle.s3_lines.specs.declared.sheet.FieldLine.{FieldLine}
 use Rattle.s3_meaning.specs.Environment.{Environment, put_current, turn}
-use Rattle.s3_meaning.specs.Requests.{NthRead}
+use Rattle.s3_meaning.specs.declared.current.Current.TheVariants.{NthRead}
 use Rattle.s3_meaning.specs.Cycle.{again, detail_time}
 use Rattle.s3_meaning.specs.Moving.{fields_moved}
 use Rattle.s3_meaning.specs.Source.{Source}

@@ -47,13 +47,13 @@ pub taken_fields : (program : Program) (old : Reading) (bytes : List ℕ) (place
     → All (IsHeadWithin program) old.files.items → is_type_start program start ≡ true → selected_at program old.files.items place ≡ Some (head_with program x start) → bytes ≡ bytes_at old.files.items place → EndWithin bytes (fields_at program start.fields)
 taken_fields program old bytes place x start within there sound heads starts selected same =
     subst (λ (bytes : List ℕ). EndWithin bytes (fields_at program start.fields)) (sym (same ∙ bytes_there))
-    (subst (EndWithin x.bytes.items) (kind_fields program start starts)
+    (subst (EndWithin x.bytes) (kind_fields program start starts)
     (is_within (head_with program x start).head (selectable_stands (input_of program x) (head_with program x start) (sym (selected_there program old.files.items place x within there) ∙ selected))))
   where
-    bytes_there : bytes_at old.files.items place ≡ x.bytes.items
+    bytes_there : bytes_at old.files.items place ≡ x.bytes
     bytes_there =
-        ap (λ (o : Option InputFile). unwrap_or (option_map (λ (input : InputFile). input.bytes.items) o) []) (slice_get-get_or old.files.items place x within)
-        ∙ ap (λ (y : InputFile). y.bytes.items) (sym there)
+        ap (λ (o : Option InputFile). unwrap_or (option_map (λ (input : InputFile). input.bytes) o) []) (slice_get-get_or old.files.items place x within)
+        ∙ ap (λ (y : InputFile). y.bytes) (sym there)
 
     as_many : place < length (inputs_of program old.files.items)
     as_many = subst (λ (n : ℕ). place < n) (sym (length-map old.files.items _)) within
@@ -98,10 +98,10 @@ takes old reading place x start matched running head there starts selected is_ma
         ∙ ap (λ (slots : List ℕ). unwrap_or (slice_get slots place) 0) (running.reading.slots ∙ sym sound.slots)
         ∙ ap (λ (o : Option ℕ). unwrap_or o 0) (slice_get-map (λ (input : InputFile). input.file) reading.files.items place)
 
-    same_bytes : x.bytes.items ≡ bytes_at reading.files.items place
+    same_bytes : x.bytes ≡ bytes_at reading.files.items place
     same_bytes =
-        ap (λ (y : InputFile). y.bytes.items) there
-        ∙ sym (ap (λ (o : Option InputFile). unwrap_or (option_map (λ (input : InputFile). input.bytes.items) o) []) (slice_get-get_or old.progress.reading.files.items place x head.within))
+        ap (λ (y : InputFile). y.bytes) there
+        ∙ sym (ap (λ (o : Option InputFile). unwrap_or (option_map (λ (input : InputFile). input.bytes) o) []) (slice_get-get_or old.progress.reading.files.items place x head.within))
         ∙ sym bytes
 
     own_head : selected_at old.program old.progress.reading.files.items place ≡ Some (selected_of old.program (record old.progress { reading = reading }) (record { place = place; start = start; number = x.reads; is_matched = matched }))

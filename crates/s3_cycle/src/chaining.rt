@@ -3,7 +3,8 @@ ghost use Rattle.std.specs.Prelude.{◌≡◌, ◌<◌, true, None, Some, IsTrue
 ghost use Rattle.s3_lines.specs.declared.sheet.CalculationLine.{CalculationLine};
 ghost use Rattle.s3_program.specs.declared.program.Reference.{Reference};
 ghost use Rattle.s3_lines.specs.declared.sheet.Operation.TheVariants as op;
-ghost use Rattle.s3_meaning.specs.Requests.{Found, LastChained, Nothing};
+ghost use Rattle.s3_meaning.specs.Requests.{Found, Nothing};
+ghost use Rattle.s3_meaning.specs.declared.current.Current.TheVariants.{LastChained};
 ghost use Rattle.s3_meaning.specs.Environment.{put_current};
 ghost use Rattle.s3_meaning.specs.Selection.{type_of as type_of_spec};
 ghost use Rattle.s3_meaning.specs.Cycle.{again};
@@ -21,11 +22,12 @@ ghost use Rattle.s3_cycle.specs.Inner.Chaining.{ChainsAt, DoesChain, Seeks};
 
 use crate::indicating::clear_types_of;
 use crate::progress::{Continuation, Point};
-use crate::request::{Current, Request, Sought};
+use crate::request::{Request, Sought};
 use crate::stepper::Stepper;
 use crate::went::Calculated;
 use s3_instructions::calculation::{Chained, Sought as SoughtBy};
 use s3_lines::indicator::Indicator;
+use s3_meaning::Current;
 use s3_operations::chaining::{key_of, zoned_key};
 use s3_operator::HaltCode;
 use s3_program::starts::TypeStart;
@@ -154,7 +156,8 @@ impl Stepper {
     {
         self.identify_type(start);
         self.make_chained_current(file);
-        self.move_found(start.fields, bytes);
+        self.progress.record.put(bytes);
+        self.move_chained(start.fields);
     }
 
     /// The record that is found is the current one of its file.

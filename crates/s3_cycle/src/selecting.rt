@@ -81,7 +81,8 @@ impl Stepper {
         ensures { Changes self.old self.new (λ source. identified (selected_of self.old.program self.old.progress selection)) }
     {
         self.identify_type(selection.start);
-        let bytes = &self.progress.reading.files[selection.place].bytes;
+        let files = &self.progress.reading.files;
+        let bytes = files[selection.place].bytes.as_slice();
         let controls = &mut self.state.controls;
         let levels = &self.progress.reading.levels;
         let level = controls.break_and_hold(&self.program, selection.start, levels, bytes);

@@ -162,7 +162,7 @@ impl Stepper {
             return &[];
         };
         match self.progress.reading.files.get(selection.place) {
-            Some(input) => &input.bytes,
+            Some(input) => input.bytes.as_slice(),
             None => &[],
         }
     }
@@ -173,7 +173,7 @@ impl Stepper {
     {
         match self.stand() {
             Stand::Field { .. } => self.processed(),
-            Stand::ChainedField { .. } => &self.progress.record,
+            Stand::ChainedField { .. } => self.progress.record.as_slice(),
             Stand::Output { .. } => self.composition.codes(),
             Stand::Nowhere | Stand::Head { .. } | Stand::Calculation { .. } => &[],
         }

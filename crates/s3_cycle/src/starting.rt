@@ -4,20 +4,21 @@ ghost use Rattle.s3_operations.specs.Inner.Beginning.{IsDate};
 ghost use Rattle.s3_cycle.specs.Inner.Starting.{BeginsProgress, Starts};
 
 use crate::progress::{Point, Progress, Time};
-use crate::request::{Current, Request};
+use crate::request::Request;
 use crate::state::State;
 use crate::stepper::Stepper;
-use arrayvec::ArrayVec;
 use s3_instructions::calculation::{calculations, totals_guard};
 use s3_instructions::input::inputs;
 use s3_instructions::output::OutputSheet;
 use s3_match::controls::Controls;
 use s3_match::reading::Reading;
+use s3_meaning::Current;
 use s3_operations::values::Values;
 use s3_output::carriage::Carriage;
 use s3_output::composition::Composition;
 use s3_output::conditions::overflow_of;
 use s3_program::program::Program;
+use s3_records::Record;
 use s3_sections::course::Course;
 use s3_sections::spot::Spot;
 use std::alloc::{AllocError, Global};
@@ -42,7 +43,7 @@ impl Progress {
             reading: Reading::first(alloc, program, switches)?,
             time: Time::Last,
             course: Course::new(Spot::detail(program)),
-            record: ArrayVec::new(),
+            record: Record::new(),
         })
     }
 }
@@ -80,7 +81,7 @@ impl Stepper {
             state: State {
                 values,
                 current,
-                controls: Controls::none(),
+                controls: Controls::none(alloc)?,
                 is_totals_due: false,
                 carriage: Carriage { page: 1, line: 1 },
             },

@@ -4,16 +4,16 @@ ghost use Rattle.s3_meaning.specs.Cycle.{again, last_time, totals as totals_spec
 ghost use Rattle.s3_program.specs.declared.starts.Walk.TheVariants as walk;
 ghost use Rattle.s3_cycle.specs.declared.progress.Time.TheVariants as time;
 ghost use Rattle.s3_cycle.specs.Inner.Rest.{calculating, lines_from, record_moved, selected_of, totals_done, totals_end};
-ghost use Rattle.s3_meaning.specs.Requests.{NthRead};
+ghost use Rattle.s3_meaning.specs.declared.current.Current.TheVariants.{NthRead};
 ghost use Rattle.s3_meaning.specs.Environment.{put_current};
 ghost use Rattle.s3_cycle.specs.Inner.Calculating.{IsAtTotals};
 ghost use Rattle.s3_cycle.specs.Inner.Going.{CanCalculate, Changes, GoesOn, IsOverflowTime, IsRunning, IsTaken, here};
 
 use crate::progress::{Selection, Time};
-use crate::request::Current;
 use crate::stepper::Stepper;
 use crate::went::Went;
 use s3_lines::indicator::Indicator;
+use s3_meaning::Current;
 use s3_program::starts::Walk;
 use s3_sections::spot::Spot;
 

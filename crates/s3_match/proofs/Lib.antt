@@ -4,6 +4,7 @@ pub mod TypeLemmas
 pub mod FieldLemmas
 pub mod KeyLemmas
 pub mod LevelLemmas
+pub mod NamedLemmas
 pub mod LawLemmas
 pub mod ControlLemmas
 pub mod SelectLemmas

@@ -95,15 +95,15 @@ still_unread files new k y within e unread = record {
 }
 
 -- ---- its bytes
-bytes_here : (files : List InputFile) (k : ℕ) (d : InputFile) → k < length files → bytes_at files k ≡ (get_or files k d).bytes.items
-bytes_here files k d within = ap (λ (o : Option InputFile). unwrap_or (option_map (λ (input : InputFile). input.bytes.items) o) []) (slice_get-get_or files k d within)
+bytes_here : (files : List InputFile) (k : ℕ) (d : InputFile) → k < length files → bytes_at files k ≡ (get_or files k d).bytes
+bytes_here files k d within = ap (λ (o : Option InputFile). unwrap_or (option_map (λ (input : InputFile). input.bytes) o) []) (slice_get-get_or files k d within)
 
 pub bytes_stay : (files : List InputFile) (k : ℕ) (x y : InputFile) → k < length files → x ≡ get_or files k x → y.bytes ≡ x.bytes → bytes_at (set files k y) k ≡ bytes_at files k
 bytes_stay files k x y within there same =
     bytes_here (set files k y) k y (omega (arith, length-set files k y, within))
-    ∙ ap (λ (input : InputFile). input.bytes.items) (get_or-set_same files k y y within)
-    ∙ ap (λ bytes. bytes.items) same
-    ∙ ap (λ (input : InputFile). input.bytes.items) there
+    ∙ ap (λ (input : InputFile). input.bytes) (get_or-set_same files k y y within)
+    ∙ same
+    ∙ ap (λ (input : InputFile). input.bytes) there
     ∙ sym (bytes_here files k x within)
 
 -- ---- the slots of a reading

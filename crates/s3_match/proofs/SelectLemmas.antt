@@ -35,7 +35,7 @@ same_some : {X : Type 0} (a b : X) → Some a ≡ Some b → a ≡ b
 same_some a b e = cc
 
 abbrev pub with_standing : Program → InputFile → Standing → meaning.InputFile
-with_standing program input standing = record { file = file_at program input.file; standing = standing_as program input.reads input.bytes.items standing; reads = input.reads; last_key = key_in input.last_key }
+with_standing program input standing = record { file = file_at program input.file; standing = standing_as program input.reads input.bytes standing; reads = input.reads; last_key = key_in input.last_key }
 
 seen_by : (program : Program) (input : InputFile) (standing : Standing) → IsInput program input → input.standing ≡ standing → Seen program input standing (selectable (with_standing program input standing))
 seen_by program input at.Unread sound e = record { head = refl; key = λ s h. cc; file = λ s h. cc }

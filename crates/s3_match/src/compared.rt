@@ -2,17 +2,13 @@
 
 ghost use Rattle.std.specs.Prelude.{◌≡◌, ◌-◌, ◌+◌, ◌≤◌, ◌++◌, length, slice_range, nat_eq};
 ghost use Rattle.std.specs.Cmp.Lexicographic.{pointwise};
-ghost use Rattle.arrayvec.specs.ArrayVec.{array_vec_len};
 ghost use Rattle.s3_decimal.specs.Records.{halves, zoned_digits, packed_digits};
 ghost use Rattle.s3_meaning.specs.Selection as meaning;
 
+use crate::key_bytes::{KEY_BYTES, KeyBytes};
 use crate::levels::LevelField;
-use arrayvec::ArrayVec;
 use s3_lines::sheet::FieldForm;
 use std::cmp::min;
-
-/// The most bytes that the match fields of a record compare: nine fields of 256 characters.
-pub const KEY_BYTES: usize = 2_304;
 
 /// The bytes of a record that a field lies in.
 pub fn field_bytes<'a>(field: &LevelField, bytes: &'a [u8]) -> &'a [u8]
@@ -23,18 +19,18 @@ pub fn field_bytes<'a>(field: &LevelField, bytes: &'a [u8]) -> &'a [u8]
     &bytes[begin..end]
 }
 
-fn push_zoned(compared: &mut ArrayVec<u8, KEY_BYTES>, bytes: &[u8])
-    requires { array_vec_len compared.old + length bytes.now ≤ KEY_BYTES }
-    ensures { compared.new.items ≡ compared.old.items ++ zoned_digits bytes.now }
+fn push_zoned(compared: &mut KeyBytes, bytes: &[u8])
+    requires { length compared.old + length bytes.now ≤ KEY_BYTES }
+    ensures { compared.new ≡ compared.old ++ zoned_digits bytes.now }
 {
     for byte in bytes {
         compared.push(byte % 16);
     }
 }
 
-fn push_halves(compared: &mut ArrayVec<u8, KEY_BYTES>, bytes: &[u8])
-    requires { array_vec_len compared.old + length (halves bytes.now) ≤ KEY_BYTES }
-    ensures { compared.new.items ≡ compared.old.items ++ halves bytes.now }
+fn push_halves(compared: &mut KeyBytes, bytes: &[u8])
+    requires { length compared.old + length (halves bytes.now) ≤ KEY_BYTES }
+    ensures { compared.new ≡ compared.old ++ halves bytes.now }
 {
     for byte in bytes {
         compared.push(byte / 16);
@@ -43,9 +39,9 @@ fn push_halves(compared: &mut ArrayVec<u8, KEY_BYTES>, bytes: &[u8])
 }
 
 /// The last byte of a packed number has a digit and the sign.
-fn push_packed(compared: &mut ArrayVec<u8, KEY_BYTES>, bytes: &[u8])
-    requires { array_vec_len compared.old + length (packed_digits bytes.now) ≤ KEY_BYTES }
-    ensures { compared.new.items ≡ compared.old.items ++ packed_digits bytes.now }
+fn push_packed(compared: &mut KeyBytes, bytes: &[u8])
+    requires { length compared.old + length (packed_digits bytes.now) ≤ KEY_BYTES }
+    ensures { compared.new ≡ compared.old ++ packed_digits bytes.now }
 {
     let front = bytes.len().saturating_sub(1);
     let last = if front < bytes.len() { bytes[front] } else { 0 };
@@ -53,19 +49,17 @@ fn push_packed(compared: &mut ArrayVec<u8, KEY_BYTES>, bytes: &[u8])
     compared.push(last / 16);
 }
 
-fn push_characters(compared: &mut ArrayVec<u8, KEY_BYTES>, bytes: &[u8])
-    requires { array_vec_len compared.old + length bytes.now ≤ KEY_BYTES }
-    ensures { compared.new.items ≡ compared.old.items ++ bytes.now }
+fn push_characters(compared: &mut KeyBytes, bytes: &[u8])
+    requires { length compared.old + length bytes.now ≤ KEY_BYTES }
+    ensures { compared.new ≡ compared.old ++ bytes.now }
 {
-    if compared.try_extend_from_slice(bytes).is_err() {
-        unreachable!()
-    }
+    compared.extend(bytes);
 }
 
 /// Puts the bytes that a field of this form compares behind those of the other fields.
-pub fn push_compared(compared: &mut ArrayVec<u8, KEY_BYTES>, form: FieldForm, bytes: &[u8])
-    requires { array_vec_len compared.old + length (meaning.compared form bytes.now) ≤ KEY_BYTES }
-    ensures { compared.new.items ≡ compared.old.items ++ meaning.compared form bytes.now }
+pub fn push_compared(compared: &mut KeyBytes, form: FieldForm, bytes: &[u8])
+    requires { length compared.old + length (meaning.compared form bytes.now) ≤ KEY_BYTES }
+    ensures { compared.new ≡ compared.old ++ meaning.compared form bytes.now }
 {
     match form {
         FieldForm::Alphanumeric | FieldForm::PackedText => push_characters(compared, bytes),

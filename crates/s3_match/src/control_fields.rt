@@ -21,7 +21,7 @@ fn hold_field(held: &mut HeldField, value: &mut RecordKey, field: &LevelField, b
         return false;
     }
     value.read_field(field, bytes);
-    held.hold(&value.bytes);
+    held.hold(value.bytes.as_slice());
     true
 }
 

@@ -1,6 +1,7 @@
 //! Finds the match and control fields of a record type.
 
 ghost use Rattle.std.specs.Prelude.{◌≡◌, drop, IsTrue, IfSome, option_map};
+ghost use Rattle.std.specs.List.{list_any};
 ghost use Rattle.s3_lines.specs.Inner.Ranges.{field_in_range};
 ghost use Rattle.s3_program.specs.Inner.Starts.{is_type};
 ghost use Rattle.s3_match.specs.Inner.Types.{is_type_start, kind_at};
@@ -42,6 +43,23 @@ fn level_of(key: Key, field: &FieldLine<Reference>) -> Option<u8>
         Key::Control => field.control_level,
         Key::Match => field.match_level,
     }
+}
+
+/// Whether a line has a match field, or a control field.
+fn names_level(line: &InputLine<Reference>, key: Key) -> bool
+    ensures { result ≡ spec.names_level key line.now }
+{
+    match line {
+        InputLine::Field(field) => level_of(key, field).is_some(),
+        InputLine::Record(..) | InputLine::And(_) | InputLine::Or(..) => false,
+    }
+}
+
+/// Whether any of some lines has a match field, or a control field.
+pub(crate) fn some_names_level(lines: &[InputLine<Reference>], key: Key) -> bool
+    ensures { result ≡ list_any (spec.names_level key) lines.now }
+{
+    lines.iter().any(|line| names_level(line, key))
 }
 
 /// The field on a line, if the type with that indicator has it at the level.

@@ -1,6 +1,6 @@
 //! The primary and secondary files, each with the record at its head.
 
-ghost use Rattle.std.specs.Prelude.{◌≡◌, ◌≤◌, ◌<◌, length, not, true, false, IsTrue, if◌then◌else◌};
+ghost use Rattle.std.specs.Prelude.{◌≡◌, ◌≤◌, ◌<◌, length, not, true, false, IfOk, IsTrue, if◌then◌else◌};
 ghost use Rattle.s3_meaning.specs.Cycle.{counted_read};
 ghost use Rattle.s3_meaning.specs.Selection as meaning;
 ghost use Rattle.s3_program.specs.declared.program.Program.{Program};
@@ -10,12 +10,10 @@ ghost use Rattle.s3_match.specs.Inner.Heads as spec;
 
 use crate::keys::RecordKey;
 use crate::levels::Levels;
-use arrayvec::ArrayVec;
 use s3_program::program::Program;
 use s3_program::starts::TypeStart;
-
-/// The most bytes of a record.
-pub const RECORD_BYTES: usize = 1_024;
+use s3_records::{RECORD_BYTES, Record};
+use std::alloc::{AllocError, Global};
 
 /// The most records that a file has: the bytes of the largest pack.
 const MOST_READS: u32 = 16_776_960;
@@ -41,44 +39,28 @@ pub struct InputFile {
     /// How many of its records were read; the one at its head is the last of them.
     pub reads: u32,
     /// The bytes of the record at its head, and of the last one once that is taken.
-    pub bytes: ArrayVec<u8, RECORD_BYTES>,
+    pub bytes: Record,
     /// The key of the record at its head.
     pub key: RecordKey,
     /// The key of the last head that had match fields and wasn't passed over.
     pub last_key: RecordKey,
 }
 
-/// Keeps the bytes of a record in place of those that were kept. Mostly a record of the same length is there, and they are laid
-/// over it.
-pub fn keep_record(kept: &mut ArrayVec<u8, RECORD_BYTES>, bytes: &[u8])
-    requires { length bytes.now ≤ RECORD_BYTES }
-    ensures { kept.new.items ≡ bytes.now }
-{
-    if kept.len() == bytes.len() {
-        kept.as_mut_slice().copy_from_slice(bytes);
-        return;
-    }
-    kept.clear();
-    if kept.try_extend_from_slice(bytes).is_err() {
-        unreachable!()
-    }
-}
-
 impl InputFile {
-    /// A file of which nothing was read.
-    pub fn unread(file: usize) -> InputFile
-        ensures input { (program : Program) → spec.input_of program result ≡ spec.unread program file }
-        ensures slot { result.file ≡ file }
-        ensures unread { spec.is_unread result ≡ true }
+    /// A file of which nothing was read; refused only where memory runs out.
+    pub fn unread(alloc: Global, file: usize) -> Result<InputFile, AllocError>
+        ensures input { IfOk result (λ input. (program : Program) → spec.input_of program input ≡ spec.unread program file) }
+        ensures slot { IfOk result (λ input. input.file ≡ file) }
+        ensures unread { IfOk result (λ input. spec.is_unread input ≡ true) }
     {
-        InputFile {
+        Ok(InputFile {
             file,
             standing: Standing::Unread,
             reads: 0,
-            bytes: ArrayVec::new(),
-            key: RecordKey::none(),
-            last_key: RecordKey::none(),
-        }
+            bytes: Record::new(),
+            key: RecordKey::none(alloc)?,
+            last_key: RecordKey::none(alloc)?,
+        })
     }
 
     /// Whether its next record is to be read.
@@ -170,6 +152,6 @@ impl InputFile {
         requires { length bytes.now ≤ RECORD_BYTES }
         ensures { spec.Keeps self.old self.new bytes.now }
     {
-        keep_record(&mut self.bytes, bytes);
+        self.bytes.put(bytes);
     }
 }

@@ -69,7 +69,7 @@ impl HeldField {
             FieldForm::Zoned(_) => are_zoned_digits(field_bytes(field, bytes), &self.bytes),
             FieldForm::Packed(_) => {
                 value.read_field(field, bytes);
-                self.is_same(&value.bytes)
+                self.is_same(value.bytes.as_slice())
             }
         }
     }

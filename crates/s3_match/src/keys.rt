@@ -1,18 +1,18 @@
 //! Keys: what the match fields of a record compare, and the control field of a level.
 
-ghost use Rattle.std.specs.Prelude.{◌≡◌, ◌+◌, ◌≤◌, ◌++◌, [], None, IsTrue, length, unwrap_or, option_map};
-ghost use Rattle.arrayvec.specs.ArrayVec.{array_vec_len};
+ghost use Rattle.std.specs.Prelude.{◌≡◌, ◌+◌, ◌≤◌, ◌++◌, [], None, IfOk, IsTrue, length, unwrap_or, option_map};
 ghost use Rattle.s3_meaning.specs.Selection as meaning;
 ghost use Rattle.s3_match.specs.Inner.Keys as spec;
 ghost use Rattle.s3_match.specs.Inner.Types.{is_type_start, kind_at};
 ghost use Rattle.s3_match.specs.Inner.Levels.{AreLevels, AreRanged, compared_at, field_in, is_ranged};
 
-use crate::compared::{KEY_BYTES, field_bytes, is_below, push_compared};
+use crate::compared::{field_bytes, is_below, push_compared};
+use crate::key_bytes::{KEY_BYTES, KeyBytes};
 use crate::levels::{LEVELS, LevelField, LevelFields, Levels};
-use arrayvec::ArrayVec;
 use s3_program::mark::Key;
 use s3_program::program::Program;
 use s3_program::starts::TypeStart;
+use std::alloc::{AllocError, Global};
 
 /// The key of a record: what its match fields compare, if its type has any. It serves for single control fields too.
 #[derive(Drop)]
@@ -20,17 +20,17 @@ pub struct RecordKey {
     /// Whether the type has such fields, so that there is a key.
     pub is_given: bool,
     /// The bytes that they compare, one field behind another, the highest level first.
-    pub bytes: ArrayVec<u8, KEY_BYTES>,
+    pub bytes: KeyBytes,
 }
 
 /// Puts what the field of a level compares, if there is one, behind the others.
-fn push_field(compared: &mut ArrayVec<u8, KEY_BYTES>, fields: &LevelFields, level: u8, bytes: &[u8])
+fn push_field(compared: &mut KeyBytes, fields: &LevelFields, level: u8, bytes: &[u8])
     requires from_one { 1 ≤ level }
     requires to_nine { level ≤ 9 }
     requires ranged { AreRanged fields.now.fields }
-    requires room { array_vec_len compared.old + 256 ≤ KEY_BYTES }
-    ensures items { compared.new.items ≡ compared.old.items ++ unwrap_or (option_map (compared_at bytes.now) (field_in fields.now.fields level)) [] }
-    ensures bound { array_vec_len compared.new ≤ array_vec_len compared.old + 256 }
+    requires room { length compared.old + 256 ≤ KEY_BYTES }
+    ensures items { compared.new ≡ compared.old ++ unwrap_or (option_map (compared_at bytes.now) (field_in fields.now.fields level)) [] }
+    ensures bound { length compared.new ≤ length compared.old + 256 }
 {
     if let Some(field) = fields.at(level) {
         push_compared(compared, field.form, field_bytes(&field, bytes));
@@ -38,10 +38,10 @@ fn push_field(compared: &mut ArrayVec<u8, KEY_BYTES>, fields: &LevelFields, leve
 }
 
 /// Puts what the match fields compare one behind another, M9 first.
-fn push_match_fields(compared: &mut ArrayVec<u8, KEY_BYTES>, fields: &LevelFields, bytes: &[u8])
+fn push_match_fields(compared: &mut KeyBytes, fields: &LevelFields, bytes: &[u8])
     requires ranged { AreRanged fields.now.fields }
-    requires none { compared.old.items ≡ [] }
-    ensures { compared.new.items ≡ spec.match_values fields.now bytes.now meaning.levels }
+    requires none { compared.old ≡ [] }
+    ensures { compared.new ≡ spec.match_values fields.now bytes.now meaning.levels }
 {
     for step in 0..LEVELS {
         push_field(compared, fields, LEVELS - step, bytes);
@@ -49,14 +49,14 @@ fn push_match_fields(compared: &mut ArrayVec<u8, KEY_BYTES>, fields: &LevelField
 }
 
 impl RecordKey {
-    /// No key.
-    pub fn none() -> RecordKey
-        ensures { spec.key_in result ≡ None }
+    /// No key; refused only where memory runs out.
+    pub fn none(alloc: Global) -> Result<RecordKey, AllocError>
+        ensures { IfOk result (λ key. spec.key_in key ≡ None) }
     {
-        RecordKey {
+        Ok(RecordKey {
             is_given: false,
-            bytes: ArrayVec::new(),
-        }
+            bytes: KeyBytes::none(alloc)?,
+        })
     }
 
     /// Becomes the key of a record of a type; none where the type has no match fields.
@@ -65,12 +65,24 @@ impl RecordKey {
         requires prepared { AreLevels program.now levels.now }
         ensures { spec.key_in self.new ≡ meaning.match_key (kind_at program.now start) bytes.now }
     {
-        if !levels.has_any(program, start, Key::Match) {
+        if levels.names(Key::Match) {
+            self.read_named(program, start, levels, bytes);
+        } else {
             self.is_given = false;
-            return;
         }
-        let fields = levels.fields_of(program, start, Key::Match);
-        self.read_fields(&fields, bytes);
+    }
+
+    /// The same, in a program that has match fields.
+    #[inline(never)]
+    fn read_named(&mut self, program: &Program, start: TypeStart, levels: &Levels, bytes: &[u8])
+        requires starts { IsTrue (is_type_start program.now start) }
+        requires prepared { AreLevels program.now levels.now }
+        ensures { spec.key_in self.new ≡ meaning.match_key (kind_at program.now start) bytes.now }
+    {
+        match levels.prepared(start, Key::Match) {
+            Some(fields) => self.read_fields(fields, bytes),
+            None => self.read_fields(&LevelFields::of(program, start, Key::Match), bytes),
+        }
     }
 
     /// Becomes the key of a record whose type has these match fields; none where it has none.
@@ -89,8 +101,8 @@ impl RecordKey {
     /// Becomes what one control field of a record compares.
     pub fn read_field(&mut self, field: &LevelField, bytes: &[u8])
         requires { IsTrue (is_ranged field.now) }
-        ensures value { self.new.bytes.items ≡ compared_at bytes.now field.now }
-        ensures short { length self.new.bytes.items ≤ 256 }
+        ensures value { self.new.bytes ≡ compared_at bytes.now field.now }
+        ensures short { length self.new.bytes ≤ 256 }
     {
         self.bytes.clear();
         self.is_given = true;
@@ -98,21 +110,20 @@ impl RecordKey {
     }
 
     /// Becomes the same key as another.
+    #[inline(never)]
     pub fn copy_from(&mut self, other: &RecordKey)
         ensures { spec.key_in self.new ≡ spec.key_in other.now }
     {
         self.bytes.clear();
         self.is_given = other.is_given;
-        if self.bytes.try_extend_from_slice(&other.bytes).is_err() {
-            unreachable!()
-        }
+        self.bytes.extend(other.bytes.as_slice());
     }
 
     /// Whether both records have a key, and this one is the lower.
     pub fn is_less(&self, other: &RecordKey) -> bool
         ensures { result ≡ meaning.is_less (spec.key_in self.now) (spec.key_in other.now) }
     {
-        self.is_given && other.is_given && is_below(&self.bytes, &other.bytes)
+        self.is_given && other.is_given && is_below(self.bytes.as_slice(), other.bytes.as_slice())
     }
 
     /// Whether both records have a key, and the keys are the same.

@@ -27,6 +27,7 @@ pub mod controls;
 pub mod fields;
 pub mod heads;
 pub mod held;
+pub mod key_bytes;
 pub mod keys;
 pub mod laws;
 pub mod levels;

@@ -26,7 +26,7 @@ ghost use Rattle.s3_match.specs.Inner.Selecting.{inputs_of, selected_at};
 ghost use Rattle.s3_match.specs.Inner.Types.{is_type_start, kind_at, name_of_file};
 
 use crate::fields::indicator_on;
-use crate::heads::{InputFile, RECORD_BYTES, Standing};
+use crate::heads::{InputFile, Standing};
 use crate::keys::RecordKey;
 use crate::levels::Levels;
 use crate::selection::is_primary;
@@ -35,6 +35,7 @@ use s3_lines::indicator::Indicator;
 use s3_lines::sheet::{Designation, FileLine, InputLine};
 use s3_program::program::{Program, Reference};
 use s3_program::starts::TypeStart;
+use s3_records::RECORD_BYTES;
 use std::alloc::{AllocError, Global};
 
 /// The primary and secondary files of a run as far as they are read, and what their keys are matched with. A file is called by its
@@ -95,19 +96,25 @@ fn is_served_at_first(switches: u8, file: &FileLine) -> bool
 }
 
 /// A primary or secondary file as a job begins: one whose condition is off has ended.
-fn first_input(program: &Program, slot: usize, switches: u8) -> InputFile
+fn first_input(
+    alloc: Global,
+    program: &Program,
+    slot: usize,
+    switches: u8,
+) -> Result<InputFile, AllocError>
     requires { slot < length program.now.files.items }
-    ensures { IsFirst program.now switches slot result }
+    ensures { IfOk result (IsFirst program.now switches slot) }
 {
-    let mut input = InputFile::unread(slot);
+    let mut input = InputFile::unread(alloc, slot)?;
     if !is_served_at_first(switches, &program.files[slot]) {
         input.end();
     }
-    input
+    Ok(input)
 }
 
 /// Puts the file of a slot behind the others, if it is a primary or secondary one.
 fn add_first(
+    alloc: Global,
     files: &mut Vec<InputFile>,
     program: &Program,
     slot: usize,
@@ -118,7 +125,7 @@ fn add_first(
     ensures { IfOk result (λ done. AreFirst program.now switches (slot + 1) files.new.items) }
 {
     if is_selected(&program.files[slot]) {
-        files.push(first_input(program, slot, switches))?;
+        files.push(first_input(alloc, program, slot, switches)?)?;
     }
     Ok(())
 }
@@ -203,11 +210,11 @@ impl Reading {
         // A file has long rooms, so that the list isn't to grow.
         let mut files = Vec::with_capacity(alloc, program.files.len())?;
         for slot in 0..program.files.len() {
-            add_first(&mut files, program, slot, switches)?;
+            add_first(alloc, &mut files, program, slot, switches)?;
         }
         Ok(Reading {
             files,
-            primary_key: RecordKey::none(),
+            primary_key: RecordKey::none(alloc)?,
             levels: Levels::of(alloc, program)?,
             only_types: only_types(alloc, program)?,
             type_numbers: type_numbers(alloc, program)?,

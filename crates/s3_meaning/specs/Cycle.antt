@@ -9,7 +9,8 @@ use Rattle.s3_lines.specs.declared.sheet.FileLine.{FileLine}
 use Rattle.s3_meaning.specs.Names.{same_indicator}
 use Rattle.s3_meaning.specs.RecordTypes.{RecordType}
 use Rattle.s3_meaning.specs.Source.{Source, detail_calculations, total_calculations, is_input, is_card_reader, overflow_of, has_control_fields, has_levels}
-use Rattle.s3_meaning.specs.Requests.{NthRead, Request, Card, Read, Answer, Found}
+use Rattle.s3_meaning.specs.Requests.{Request, Card, Read, Answer, Found}
+use Rattle.s3_meaning.specs.declared.current.Current.TheVariants.{NthRead}
 use Rattle.s3_meaning.specs.Environment.{Environment, turn, turn_levels, with_last_record, put_current, at_first}
 use Rattle.s3_meaning.specs.Selection.{type_of, Head, Unread, Stands, Ended, InputFile, Reading, head_key, is_unread, Selected, select, is_matched, taken, in_sequence, broken}
 use Rattle.s3_meaning.specs.Runs.{Run, Rest, Anew, ask, ended, halted}

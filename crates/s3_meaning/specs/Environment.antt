@@ -10,7 +10,7 @@ use Rattle.s3_lines.specs.Ranges.{is_between}
 use Rattle.s3_meaning.specs.Names.{same_indicator, is_indicator, udate, umonth, uday, uyear}
 use Rattle.s3_cards.specs.Names.{same_name}
 use Rattle.s3_meaning.specs.Source.{Source, length_of}
-use Rattle.s3_meaning.specs.Requests.{Current}
+use Rattle.s3_meaning.specs.declared.current.Current.{Current}
 
 pub record Environment : Type 0 where
   -- the values of numeric and of alphanumeric fields

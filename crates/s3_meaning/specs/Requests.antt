@@ -2,16 +2,12 @@
 use Rattle.std.specs.Prelude.{ℕ, ℤ, Bool, List, Option}
 use Rattle.s3_cards.specs.declared.name.Name.{Name}
 use Rattle.s3_operator.specs.declared.halt_code.HaltCode.{HaltCode}
+use Rattle.s3_meaning.specs.declared.current.Current.{Current}
 
 -- what CHAIN looks for: a key, or a record number from 1
 pub data Sought : Type 0 where
   Key : List ℕ → Sought
   RecordNumber : ℤ → Sought
-
--- the record of a file that an update changes: the n-th that was read, or the one that CHAIN found last
-pub data Current : Type 0 where
-  NthRead : ℕ → Current
-  LastChained : Current
 
 pub data Request : Type 0 where
   Card : Request

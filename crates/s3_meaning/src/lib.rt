@@ -1,7 +1,8 @@
 //! What an RPG II source means: in specs/ the run of a job over the typed lines of its sheets.
 //!
-//! The crate has definitions and laws of them, and no code that runs. `Req` of specs/Cycle.antt is the request that stands after a
-//! list of answers; the twelve steps of a cycle are each a function of what follows it (docs/LANGUAGE.md, "The cycle").
+//! The crate has definitions, laws of them, and one type that runs, `Current`. `Req` of specs/Cycle.antt is the request that
+//! stands after a list of answers; the twelve steps of a cycle are each a function of what follows it (docs/LANGUAGE.md, "The
+//! cycle").
 //!
 //! What is proved of the definitions:
 //! - what a run can begin anew, cycles and jumps, is bounded by nothing (`nothing_is_bounded`); the one bound is on the count of
@@ -17,8 +18,10 @@
 
 #![tactic(auto)]
 
+mod current;
 mod laws;
 
+pub use current::Current;
 pub use laws::{
     answers_fit_their_requests, calculations_come_out, cards_are_listed, files_come_out,
     levels_come_out, lines_come_out, matching_comes_out, nothing_is_bounded,

@@ -46,11 +46,15 @@ impl Indicators {
         ensures off { (number : ℕ) → number < 2048 → off_at result number ≡ not (is_first_on switches number) }
     {
         let mut on = [false; 4096];
-        for number in 0..2048_u16 {
-            let is_on = Indicators::is_on_first(switches, number);
-            let place = 2 * usize::from(number);
-            on[place] = is_on;
-            on[place + 1] = !is_on;
+        // eight numbers a round, of which only the last can be a switch's
+        for group in 0..256_u16 {
+            for kind in 0..8_u16 {
+                let number = 8 * group + kind;
+                let is_on = Indicators::is_on_first(switches, number);
+                let place = 2 * usize::from(number);
+                on[place] = is_on;
+                on[place + 1] = !is_on;
+            }
         }
         on
     }

@@ -1,5 +1,5 @@
--- CHAIN: what it seeks, what follows it, and the record that it found, which is kept.
-use Rattle.std.specs.Prelude.{◌≡◌, ℕ, true, List, Option, Some, None}
+-- CHAIN: what it seeks, and what follows it.
+use Rattle.std.specs.Prelude.{◌≡◌, ℕ, true, Option, Some, None}
 use Rattle.s3_cards.specs.declared.name.Name.{Name}
 use Rattle.s3_lines.specs.declared.sheet.CalculationLine.{CalculationLine}
 use Rattle.s3_lines.specs.declared.sheet.Operation.TheVariants as op
@@ -54,8 +54,3 @@ pub record PassesChain (old new : Stepper) (place : ℕ) : Type 0 where
 abbrev pub DoesChain : Stepper → Stepper → (place : ℕ) → Calculated → Type 0
 DoesChain old new place one.GoesOn = PassesChain old new place
 DoesChain old new place one.Waits = GoesOn old new (here old (chaining place))
-
--- ---- the record
-pub record KeepsRecord (old new : Stepper) (bytes : List ℕ) : Type 0 where
-  pub same : new ≡ record old { progress = record old.progress { «record» = new.progress.«record» } }
-  pub kept : new.progress.«record».items ≡ bytes

@@ -1,20 +1,18 @@
 -- What a suspended run holds: its environment by names.
-use Rattle.std.specs.Prelude.{pos, false, List, [], Option, option_and_then, option_map, slice_get}
+use Rattle.std.specs.Prelude.{pos, false, List, [], Option, option_and_then, slice_get}
 use Rattle.s3_cards.specs.declared.name.Name.{Name}
+use Rattle.s3_meaning.specs.declared.current.Current.{Current}
 use Rattle.s3_meaning.specs.Environment.{Environment, no_remainder}
-use Rattle.s3_meaning.specs.Requests as Meant
 use Rattle.s3_program.specs.declared.program.Program.{Program}
 use Rattle.s3_program.specs.Inner.Tables.{slot_in}
 use Rattle.s3_operations.specs.Inner.Fits.{tables}
 use Rattle.s3_operations.specs.Inner.Held.{held}
 use Rattle.s3_match.specs.Inner.Controls.{held_in}
-use Rattle.s3_cycle.specs.declared.request.Current.{Current}
 use Rattle.s3_cycle.specs.declared.state.State.{State}
-use Rattle.s3_cycle.specs.Inner.Requests.{current_of}
 
 -- the current record of each file, by its name
-abbrev pub current_in : Program → List (Option Current) → Name → Option Meant.Current
-current_in program current name = option_map current_of (option_and_then (λ entry. entry) (slice_get current (slot_in (tables program).files name)))
+abbrev pub current_in : Program → List (Option Current) → Name → Option Current
+current_in program current name = option_and_then (λ entry. entry) (slice_get current (slot_in (tables program).files name))
 
 -- all but the values
 abbrev pub others : Program → State → Environment

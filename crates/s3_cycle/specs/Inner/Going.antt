@@ -93,7 +93,7 @@ IsTime program progress time.Last = Unit {0}
 
 -- the fields of the record at a head stand within it
 pub record IsHeadWithin (program : Program) (input : InputFile) : Type 0 where
-  pub within : (start : TypeStart) → input.standing ≡ Stands start → AreWithin program input.bytes.items start.fields
+  pub within : (start : TypeStart) → input.standing ≡ Stands start → AreWithin program input.bytes start.fields
 
 -- a run between two requests
 pub record IsRunning (c : Stepper) : Type 0 where

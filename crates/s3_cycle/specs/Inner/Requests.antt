@@ -1,5 +1,5 @@
 -- Requests and answers as the meaning of a source has them.
-use Rattle.std.specs.Prelude.{◌≡◌, ℕ, ◌≤◌, Bool, true, false, not, ◌&&◌, List, length, slice_get, Option, Some, None, is_some, option_map}
+use Rattle.std.specs.Prelude.{◌≡◌, ℕ, ◌≤◌, Bool, true, false, not, ◌&&◌, List, length, slice_get, Option, Some, None, is_some}
 use Rattle.s3_lines.specs.declared.sheet.Device.TheVariants.{Disk}
 use Rattle.s3_lines.specs.declared.sheet.FileLine.{FileLine}
 use Rattle.s3_lines.specs.declared.sheet.KeyField.{KeyField}
@@ -9,18 +9,12 @@ use Rattle.s3_meaning.specs.Source.{is_input, is_updated}
 use Rattle.s3_program.specs.FileTable.{is_chained, is_input_use}
 use Rattle.s3_program.specs.declared.program.Program.{Program}
 use Rattle.s3_match.specs.Inner.Types.{name_of_file}
-use Rattle.s3_cycle.specs.declared.request.Current.{Current}
-use Rattle.s3_cycle.specs.declared.request.Current.TheVariants.{NthRead, LastChained}
 use Rattle.s3_cycle.specs.declared.request.Request.{Request}
 use Rattle.s3_cycle.specs.declared.request.Request.TheVariants.{Card, Read, Chain, Append, Add, Update, Print, Jump, Ask, End}
 use Rattle.s3_cycle.specs.declared.request.Answer.{Answer}
 use Rattle.s3_cycle.specs.declared.request.Answer.TheVariants.{Found, Nothing, Done, Refused, Reply}
 use Rattle.s3_cycle.specs.declared.request.Sought.{Sought}
 use Rattle.s3_cycle.specs.declared.request.Sought.TheVariants.{Key, RecordNumber}
-
-abbrev pub current_of : Current → Meant.Current
-current_of (NthRead n) = Meant.NthRead n
-current_of LastChained = Meant.LastChained
 
 abbrev pub sought_of : Sought → Meant.Sought
 sought_of (Key key) = Meant.Key key.items
@@ -33,7 +27,7 @@ request_of program positions (Read file length) = Meant.Read (name_of_file progr
 request_of program positions (Chain file length sought) = Meant.Chain (name_of_file program file) length (sought_of sought)
 request_of program positions (Append file) = Meant.Append (name_of_file program file) (filled positions)
 request_of program positions (Add file) = Meant.Add (name_of_file program file) (filled positions)
-request_of program positions (Update file current) = Meant.Update (name_of_file program file) (option_map current_of current) positions
+request_of program positions (Update file current) = Meant.Update (name_of_file program file) current positions
 request_of program positions (Print page line) = Meant.Print page line (filled positions)
 request_of program positions Jump = Meant.Jump
 request_of program positions (Ask code) = Meant.Ask code

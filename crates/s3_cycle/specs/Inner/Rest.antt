@@ -50,7 +50,7 @@ abbrev pub selected_input : Progress → Selection → Option code.InputFile
 selected_input progress selection = slice_get progress.reading.files.items selection.place
 
 abbrev pub selected_bytes : Progress → Selection → List ℕ
-selected_bytes progress selection = unwrap_or (option_map (λ input. input.bytes.items) (selected_input progress selection)) []
+selected_bytes progress selection = unwrap_or (option_map (λ input. input.bytes) (selected_input progress selection)) []
 
 abbrev pub selected_of : Program → Progress → Selection → Selected
 selected_of program progress selection = record {
@@ -180,7 +180,7 @@ processed_bytes progress time.Last = []
 
 abbrev pub moved_bytes : Progress → Moves → List ℕ
 moved_bytes progress moves.Selected = processed_bytes progress progress.time
-moved_bytes progress moves.Chained = progress.record.items
+moved_bytes progress moves.Chained = progress.«record»
 
 -- the detail calculations of a record from their first line
 abbrev pub first_details : Source → Program → Progress → Selection → Rest

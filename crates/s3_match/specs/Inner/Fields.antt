@@ -1,6 +1,7 @@
 -- The match and control fields of record types, on the lines as they stand.
 use Rattle.std.specs.Prelude.{ℕ, ◌==◌, Bool, true, false, not, ◌||◌, ◌&&◌, List, [], ◌∷◌, Option, Some, None, is_some, find, if◌then◌else◌}
 use Rattle.std.specs.Option.{option_or}
+use Rattle.std.specs.List.{list_any}
 use Rattle.s3_cards.specs.declared.name.Name.{Name}
 use Rattle.s3_lines.specs.declared.indicator.Indicator.{Indicator}
 use Rattle.s3_lines.specs.declared.sheet.FieldLine.{FieldLine}
@@ -55,6 +56,16 @@ indicator_on (Record file indicator codes) = Some indicator
 indicator_on (AndCodes codes) = None
 indicator_on (OrCodes indicator codes) = Some indicator
 indicator_on (InputField field) = None
+
+-- ---- whether any line has such a field
+abbrev pub names_level : Key → InputLine Reference → Bool
+names_level key (Record file indicator codes) = false
+names_level key (AndCodes codes) = false
+names_level key (OrCodes indicator codes) = false
+names_level key (InputField field) = is_some (level_of key field)
+
+abbrev pub some_names_level : Program → Key → Bool
+some_names_level program key = list_any (names_level key) program.inputs.items
 
 -- ---- by what the type's own fields are
 abbrev pub field_at : Program → TypeStart → Key → Option ℕ → Option (FieldLine Name)

@@ -61,7 +61,7 @@ standing_as program reads bytes at.Ended = meaning.Ended
 abbrev pub input_of : Program → InputFile → meaning.InputFile
 input_of program input = record {
   file = file_at program input.file;
-  standing = standing_as program input.reads input.bytes.items input.standing;
+  standing = standing_as program input.reads input.bytes input.standing;
   reads = input.reads;
   last_key = key_in input.last_key;
 }
@@ -69,7 +69,7 @@ input_of program input = record {
 -- a key is kept with each head
 pub record IsHead (program : Program) (input : InputFile) (start : TypeStart) : Type 0 where
   pub starts : is_type_start program start ≡ true
-  pub key : key_in input.key ≡ match_key (kind_at program start) input.bytes.items
+  pub key : key_in input.key ≡ match_key (kind_at program start) input.bytes
 
 pub record IsInput (program : Program) (input : InputFile) : Type 0 where
   pub head : (start : TypeStart) → input.standing ≡ at.Stands start → IsHead program input start
@@ -94,7 +94,7 @@ put program start bytes input =
 
 -- the bytes are kept, and nothing else changes
 pub record Keeps (old new : InputFile) (bytes : List ℕ) : Type 0 where
-  pub contents : new.bytes.items ≡ bytes
+  pub contents : new.bytes ≡ bytes
   pub file : new.file ≡ old.file
   pub stands : new.standing ≡ old.standing
   pub reads : new.reads ≡ old.reads

@@ -7,7 +7,7 @@ use Rattle.s3_match.specs.declared.levels.LevelFields.{LevelFields}
 use Rattle.s3_match.specs.Inner.Levels.{compared_at, field_in}
 
 abbrev pub key_in : RecordKey → Option (List ℕ)
-key_in key = if key.is_given then Some key.bytes.items else None
+key_in key = if key.is_given then Some key.bytes else None
 
 abbrev pub held_key : HeldField → Option (List ℕ)
 held_key held = if held.is_given then Some held.bytes.items else None

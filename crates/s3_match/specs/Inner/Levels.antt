@@ -12,7 +12,7 @@ use Rattle.s3_match.specs.declared.levels.LevelField.{LevelField}
 use Rattle.s3_match.specs.declared.levels.LevelFields.{LevelFields}
 use Rattle.s3_match.specs.declared.levels.TypeLevels.{TypeLevels}
 use Rattle.s3_match.specs.declared.levels.Levels.{Levels}
-use Rattle.s3_match.specs.Inner.Fields.{field_at}
+use Rattle.s3_match.specs.Inner.Fields.{field_at, some_names_level}
 
 -- what is kept of the line of a field
 abbrev pub prepared : {N : Type 0} → FieldLine N → LevelField
@@ -54,5 +54,11 @@ pub record IsPreparedAt (program : Program) (start : TypeStart) (levels : TypeLe
 abbrev pub IsPrepared : Program → TypeLevels → Type 0
 IsPrepared program levels = IsPreparedAt program levels.start levels
 
-abbrev pub AreLevels : Program → Levels → Type 0
-AreLevels program levels = All (IsPrepared program) levels.types.items
+-- whether any line of the program has a match field, or a control field
+abbrev pub is_named : Key → Levels → Bool
+is_named key.Control levels = levels.names_control
+is_named key.Match levels = levels.names_match
+
+pub record AreLevels (program : Program) (levels : Levels) : Type 0 where
+  pub types : All (IsPrepared program) levels.types.items
+  pub named : (key : Key) → is_named key levels ≡ some_names_level program key

@@ -81,7 +81,7 @@ is_unread_at files place = unwrap_or (option_map is_unread (slice_get files plac
 
 -- the bytes of the record at the head of the file there, and of the last one once that is taken
 abbrev pub bytes_at : List InputFile → (place : ℕ) → List ℕ
-bytes_at files place = unwrap_or (option_map (λ input. input.bytes.items) (slice_get files place)) []
+bytes_at files place = unwrap_or (option_map (λ input. input.bytes) (slice_get files place)) []
 
 -- a file stands at the place, and its next record is to be read
 pub record IsUnreadAt (files : List InputFile) (place : ℕ) : Type 0 where
@@ -92,7 +92,7 @@ pub record IsUnreadAt (files : List InputFile) (place : ℕ) : Type 0 where
 abbrev pub head_with : Program → InputFile → TypeStart → meaning.Selected
 head_with program input start = record {
   file = file_at program input.file;
-  head = record { number = input.reads; bytes = input.bytes.items; kind = kind_at program start };
+  head = record { number = input.reads; bytes = input.bytes; kind = kind_at program start };
 }
 
 -- ---- reading on

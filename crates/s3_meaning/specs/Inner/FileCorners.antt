@@ -14,7 +14,8 @@ use Rattle.s3_lines.specs.declared.sheet.OutputForm.TheVariants.{Plain, Packed}
 use Rattle.s3_lines.specs.declared.sheet.SheetLine.{SheetLine}
 use Rattle.s3_lines.specs.declared.sheet.SheetLine.TheVariants.{File}
 use Rattle.s3_operator.specs.declared.halt_code.HaltCode.TheVariants.{NothingToUpdate, DuplicateKey}
-use Rattle.s3_meaning.specs.Requests.{Request, Card, Chain as ChainRequest, Append, Add, Update as UpdateRequest, Key, RecordNumber, NthRead, LastChained, Ask, End, Nothing, Done, Refused, Reply}
+use Rattle.s3_meaning.specs.Requests.{Request, Card, Chain as ChainRequest, Append, Add, Update as UpdateRequest, Key, RecordNumber, Ask, End, Nothing, Done, Refused, Reply}
+use Rattle.s3_meaning.specs.declared.current.Current.TheVariants.{NthRead, LastChained}
 use Rattle.s3_meaning.specs.Inner.SheetWords.{Corner, name, on, unless, resulting, file, card_file, print_file, chained_file, keyed_file, load_file, keyed_load_file, one_type, type_of_all, field_at, calculation, digit, field_named, line, disk_line, addition, constant, value, value_cleared, card_of, record_of, read_from, printed_at}
 
 -- ---- CHAIN

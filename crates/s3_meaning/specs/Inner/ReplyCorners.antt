@@ -13,7 +13,8 @@ use Rattle.s3_lines.specs.declared.sheet.OutputKind.TheVariants.{Detail, Total, 
 use Rattle.s3_lines.specs.declared.sheet.OutputForm.TheVariants.{Plain}
 use Rattle.s3_lines.specs.declared.sheet.SheetLine.{SheetLine}
 use Rattle.s3_operator.specs.declared.halt_code.HaltCode.TheVariants.{HaltIndicator, UnidentifiedRecord, ZeroDivisor, BadDigit, NoRecordFound, DuplicateKey, OutOfSequence, KeyChanged, NothingToUpdate, FileFull, KeyNotAscending}
-use Rattle.s3_meaning.specs.Requests.{Request, Card, Chain as ChainRequest, Append, Add as AddRequest, Update as UpdateRequest, Key, RecordNumber, LastChained, Jump, Ask, End, Answer, Found, Nothing, Done, Refused, Reply}
+use Rattle.s3_meaning.specs.Requests.{Request, Card, Chain as ChainRequest, Append, Add as AddRequest, Update as UpdateRequest, Key, RecordNumber, Jump, Ask, End, Answer, Found, Nothing, Done, Refused, Reply}
+use Rattle.s3_meaning.specs.declared.current.Current.TheVariants.{LastChained}
 use Rattle.s3_meaning.specs.Inner.Samples.{padded_to}
 use Rattle.s3_meaning.specs.Inner.SheetWords.{Corner, name, unless, on, card_file, print_file, disk_file, chained_file, keyed_file, load_file, keyed_load_file, one_type, type_of_all, type_by, field_at, match_field_at, calculation, digit, field_named, set_on, line, disk_line, addition, constant, value, card_of, record_of, read_from, printed_at}
 

@@ -7,8 +7,8 @@ use Rattle.s3_match.proofs.keys.push_match_fields.Goals as goal
 
 pub loop-step-init : goal.loop-step-init
 loop-step-init c = record {
-  items = none_yet c.args.fields.now c.args.bytes.now c.args.compared.now.items c.requires.none;
-  room = no_room_taken c.args.compared.now.items c.requires.none;
+  items = none_yet c.args.fields.now c.args.bytes.now c.args.compared.now c.requires.none;
+  room = no_room_taken c.args.compared.now c.requires.none;
 }
 
 pub push_field-requires-clause-room : goal.push_field-requires-clause-room
@@ -16,7 +16,7 @@ push_field-requires-clause-room c = omega (arith, c.loop-step.invariant.room)
 
 pub loop-step-preserved : goal.loop-step-preserved
 loop-step-preserved c = record {
-  items = values_more c.args.fields.now c.args.bytes.now c.loop-step.compared.items _ _ c.loop-step-test.true c.loop-step.invariant.items c.push_field.ensures.items;
+  items = values_more c.args.fields.now c.args.bytes.now c.loop-step.compared _ _ c.loop-step-test.true c.loop-step.invariant.items c.push_field.ensures.items;
   room = more_room _ _ _ c.loop-step.invariant.room c.push_field.ensures.bound;
 }
 

@@ -5,7 +5,7 @@ use Rattle.s3_match.proofs.keys.RecordKey.read_field.Goals as goal
 
 pub push_compared-requires : goal.push_compared-requires
 push_compared-requires c =
-    fits_first c.clear.new.self.items _ c.clear.ensures
+    fits_first c.clear.new.self _ c.clear.ensures
     (subst (λ (xs : List ℕ). length (compared c.args.field.now.form xs) ≤ 256) (sym c.field_bytes.ensures)
     (compared_short c.args.field.now c.args.bytes.now c.requires))
 
