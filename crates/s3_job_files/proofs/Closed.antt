@@ -8,7 +8,7 @@ use Rattle.s3_cards.specs.declared.name.Name.{Name}
 use Rattle.s3_cards.specs.Names.{same_name}
 use Rattle.s3_cards.proofs.NameLemmas.{same_name-equal}
 use Rattle.s3_store.specs.Inner.State.{PoolState, ChangesWithin, KeepsInStep}
-use Rattle.s3_store.specs.declared.pool_fault.PoolFault.{PoolFault}
+use Rattle.s3_store.specs.declared.sector_fault.SectorFault.{SectorFault}
 use Rattle.s3_store.proofs.Frames.{step_from_within, step_trans}
 use Rattle.s3_slots.specs.Header.{region_of}
 use Rattle.s3_slots.specs.Labels.{sectors_of}
@@ -190,7 +190,7 @@ dropped_closed level file areas new_areas s t pack stands is slots alone within 
   here = λ label after same. absurd (dropped_none _ file.label.name (slots_at level areas) file.label label (pack.own level) stands (sym (ap (standing label.name) slots) ∙ after) same);
 }
 
-pub closes_dropped : (level : LevelId) (file : OpenFile) (areas new_areas : Areas) (s t : PoolState) (result : Result (Unit {0}) PoolFault) → IsPackReady areas s.contents → Stands level (seen areas s.contents) file
+pub closes_dropped : (level : LevelId) (file : OpenFile) (areas new_areas : Areas) (s t : PoolState) (result : Result (Unit {0}) SectorFault) → IsPackReady areas s.contents → Stands level (seen areas s.contents) file
     → file.is_master ≡ false → (file.is_made && is_kept_for_job file.label.retention) ≡ true → OnOk result (slots_at level new_areas ≡ dropped file.label.name (slots_at level areas))
     → new_areas ≡ with_slots level (slots_at level new_areas) areas → ChangesWithin (IsLabelSector (area_of level)) s t → IsPackReady new_areas t.contents
     → OnOk result (Closes level file (seen areas s.contents) (seen new_areas t.contents))
@@ -226,7 +226,7 @@ counted_closed level file areas new_areas s u t pack stands is kept first slots 
       (all_contained (SameAt u.contents t.contents) (sectors_of file.label) (λ n inside. second.contents n (not_label level n (high_by false level areas s.contents file.label n pack stands inside))))) ∙ kept;
 }
 
-pub closes_counted : (level : LevelId) (file : OpenFile) (n : ℕ) (areas new_areas : Areas) (s u t : PoolState) (result : Result (Unit {0}) PoolFault) → IsPackReady areas s.contents
+pub closes_counted : (level : LevelId) (file : OpenFile) (n : ℕ) (areas new_areas : Areas) (s u t : PoolState) (result : Result (Unit {0}) SectorFault) → IsPackReady areas s.contents
     → Stands level (seen areas s.contents) file → file.is_master ≡ false → (file.is_made && is_kept_for_job file.label.retention) ≡ false → n ≡ count_of file.records
     → kept_on (record file.label { count = count_of file.records }) u.contents ≡ record { records = records_of file.records s.contents; has_good_index = true }
     → ChangesWithin (Contains (sectors_of file.label)) s u → OnOk result (slots_at level new_areas ≡ counted file.label.name n (slots_at level areas))

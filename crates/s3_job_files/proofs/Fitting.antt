@@ -2,7 +2,7 @@
 use Rattle.std.proofs.Common.{◌≡◌, ℕ, Bool, true, false, nat_lt, ◌==◌, nat_eq, List, [], ◌∷◌, ◌++◌, length, refl, ap, sym, ◌∙◌}
 use Rattle.std.specs.Prelude.{slice_get, slice_set, Option, Some, None, Result, Ok, Err, IfOk, if◌then◌else◌}
 use Rattle.std.specs.List.{list_all, list_any}
-use Rattle.s3_store.specs.declared.pool_fault.PoolFault.{PoolFault}
+use Rattle.s3_store.specs.declared.sector_fault.SectorFault.{SectorFault}
 use Rattle.s3_slots.specs.Labels.{is_indexed}
 use Rattle.s3_slots.specs.declared.label.FileLabel.{FileLabel}
 use Rattle.s3_operator.specs.declared.halt_code.HaltCode.{HaltCode}
@@ -97,7 +97,7 @@ updated_within label changes (Some i) records = by (slice_get records i)
     by None = by_code refuses_update NothingToUpdate refl
     by (Some old) = updated_at_within label i (overlaid changes old) records
 
-pub fits_puts : (refuses : HaltCode → Bool) (meant : Result (List (List ℕ)) HaltCode) (old new : List (List ℕ)) (result : Result Put PoolFault) → Within refuses meant → IfOk result (λ put. Puts meant put old new)
+pub fits_puts : (refuses : HaltCode → Bool) (meant : Result (List (List ℕ)) HaltCode) (old new : List (List ℕ)) (result : Result Put SectorFault) → Within refuses meant → IfOk result (λ put. Puts meant put old new)
     → IfOk result (λ put. fits_done refuses (put_answer put) ≡ true)
 fits_puts refuses meant old new (Ok Done) within puts = refl
 fits_puts refuses meant old new (Ok (Refused code)) within puts = within code puts.0

@@ -3,8 +3,8 @@ use Rattle.std.proofs.Common.{◌≡◌, ℕ, List, ap, sym, ◌∙◌}
 use Rattle.std.specs.Prelude.{Option, None, Result, Ok, Err, IfErr, OnOk}
 use Rattle.s3_cards.specs.declared.name.Name.{Name}
 use Rattle.s3_store.specs.Inner.Failures.{failed_transfers}
-use Rattle.s3_store.specs.declared.pool_fault.PoolFault.{PoolFault}
-use Rattle.s3_store.specs.declared.pool_fault.PoolFault.TheVariants.{Device, NoMemory, NoSector}
+use Rattle.s3_store.specs.declared.sector_fault.SectorFault.{SectorFault}
+use Rattle.s3_store.specs.declared.sector_fault.SectorFault.TheVariants.{Device, NoMemory}
 use Rattle.s3_slots.specs.Making.{counted, dropped}
 use Rattle.s3_slots.specs.Inner.Making.{refusal, unless_refused, with_count, without_label}
 use Rattle.s3_slots.specs.Slots.{standing}
@@ -32,7 +32,7 @@ drop_refused name slots change there is = if_sectors (without_label name slots) 
 pub count_refused : (name : Name) (n : ℕ) (slots : List Slot) (change : Result (Unit {0}) ChangeFault) → refusal (standing name slots) ≡ None → IfErr change (IsChangeRefusal (with_count name n slots)) → IfErr change IsOfSectors
 count_refused name n slots change there is = if_sectors (with_count name n slots) (counted name n slots) change (allowed (refusal (standing name slots)) (counted name n slots) there) is
 
-is_changed : (meant : Result (List Slot) LabelFault) (slots after : List Slot) (change : Result (Unit {0}) ChangeFault) (answer : Result (Unit {0}) PoolFault) → meant ≡ Ok slots → IfErr change IsOfSectors
+is_changed : (meant : Result (List Slot) LabelFault) (slots after : List Slot) (change : Result (Unit {0}) ChangeFault) (answer : Result (Unit {0}) SectorFault) → meant ≡ Ok slots → IfErr change IsOfSectors
     → OnOk change (meant ≡ Ok after) → answer ≡ sectors_answer change → OnOk answer (after ≡ slots)
 is_changed meant slots after (Ok _) (Ok _) ok of is same = let both : Ok after ≡ Ok slots = sym is ∙ ok in cc
 is_changed meant slots after (Ok _) (Err fault) ok of is same = tt
@@ -40,19 +40,18 @@ is_changed meant slots after (Err (Label fault)) answer ok of is same = absurd o
 is_changed meant slots after (Err (Sectors fault)) (Ok _) ok of is same = absurd cc
 is_changed meant slots after (Err (Sectors fault)) (Err other) ok of is same = tt
 
-pub dropped_by : (name : Name) (slots after : List Slot) (change : Result (Unit {0}) ChangeFault) (answer : Result (Unit {0}) PoolFault) → refusal (standing name slots) ≡ None → IfErr change (IsChangeRefusal (without_label name slots))
+pub dropped_by : (name : Name) (slots after : List Slot) (change : Result (Unit {0}) ChangeFault) (answer : Result (Unit {0}) SectorFault) → refusal (standing name slots) ≡ None → IfErr change (IsChangeRefusal (without_label name slots))
     → OnOk change (without_label name slots ≡ Ok after) → answer ≡ sectors_answer change → OnOk answer (after ≡ dropped name slots)
 dropped_by name slots after change answer there refused is same =
     is_changed (without_label name slots) (dropped name slots) after change answer (allowed (refusal (standing name slots)) (dropped name slots) there) (drop_refused name slots change there refused) is same
 
-pub counted_by : (name : Name) (n : ℕ) (slots after : List Slot) (change : Result (Unit {0}) ChangeFault) (answer : Result (Unit {0}) PoolFault) → refusal (standing name slots) ≡ None
+pub counted_by : (name : Name) (n : ℕ) (slots after : List Slot) (change : Result (Unit {0}) ChangeFault) (answer : Result (Unit {0}) SectorFault) → refusal (standing name slots) ≡ None
     → IfErr change (IsChangeRefusal (with_count name n slots)) → OnOk change (with_count name n slots ≡ Ok after) → answer ≡ sectors_answer change → OnOk answer (after ≡ counted name n slots)
 counted_by name n slots after change answer there refused is same =
     is_changed (with_count name n slots) (counted name n slots) after change answer (allowed (refusal (standing name slots)) (counted name n slots) there) (count_refused name n slots change there refused) is same
 
-pub failed_same : (change : Result (Unit {0}) ChangeFault) (answer : Result (Unit {0}) PoolFault) → IfErr change IsOfSectors → answer ≡ sectors_answer change → failed_transfers answer ≡ failed_change change
+pub failed_same : (change : Result (Unit {0}) ChangeFault) (answer : Result (Unit {0}) SectorFault) → IfErr change IsOfSectors → answer ≡ sectors_answer change → failed_transfers answer ≡ failed_change change
 failed_same (Ok _) answer of same = ap failed_transfers same
 failed_same (Err (Label fault)) answer of same = absurd of
 failed_same (Err (Sectors Device)) answer of same = ap failed_transfers same
 failed_same (Err (Sectors NoMemory)) answer of same = ap failed_transfers same
-failed_same (Err (Sectors NoSector)) answer of same = ap failed_transfers same

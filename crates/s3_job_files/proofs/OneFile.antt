@@ -3,7 +3,7 @@ use Rattle.std.proofs.Common.{◌≡◌, ◌<◌, ◌≤◌, ℕ, zero, suc, ari
 use Rattle.std.specs.Prelude.{ℤ, pos, negsuc, ◌≤ℤ◌, slice_get, Option, Some, None, IfOk, IfSome, OnOk, Result, Ok, Err, if◌then◌else◌}
 use Rattle.std.proofs.lemmas.Bool.{true≢false}
 use Rattle.std.proofs.lemmas.List.{take-map}
-use Rattle.s3_store.specs.declared.pool_fault.PoolFault.{PoolFault}
+use Rattle.s3_store.specs.declared.sector_fault.SectorFault.{SectorFault}
 use Rattle.s3_slots.specs.Labels.{file_bytes, is_direct, is_indexed, sectors_of}
 use Rattle.s3_slots.specs.Slots.{is_count_of}
 use Rattle.s3_slots.specs.declared.label.Organization.{Organization}
@@ -64,7 +64,7 @@ read_by_key contents label records file n place usable is below nth =
     ∙ ap (λ (l : Layout). take (shown file).started (keys_of l.key rs)) (sym of_label.layout))
     ∙ nth
 
-pub read_by_key_if : (contents : List (List ℕ)) (label : FileLabel) (records : OpenRecords) (file : Keyed) (n : ℕ) (result : Result (Option ℕ) PoolFault) → IsUsable contents label records → records ≡ ByKey file → n < label.count
+pub read_by_key_if : (contents : List (List ℕ)) (label : FileLabel) (records : OpenRecords) (file : Keyed) (n : ℕ) (result : Result (Option ℕ) SectorFault) → IsUsable contents label records → records ≡ ByKey file → n < label.count
     → IfOk result (λ place. nth_by_key (take (shown file).started (keys_now (shown file) contents)) n ≡ place) → IfOk result (λ place. place_read label (records_of records contents) n ≡ place)
 read_by_key_if contents label records file n (Ok place) usable is below nth = read_by_key contents label records file n place usable is below nth
 read_by_key_if contents label records file n (Err fault) usable is below nth = tt
@@ -100,13 +100,13 @@ key_sought contents label records file key place usable is found =
     ∙ key_found contents label file key (subst (IsUsable contents label) is usable) ∙ found
 
 -- the record of a key that is told at once
-pub noted_sought : (contents : List (List ℕ)) (label : FileLabel) (records : OpenRecords) (file : Keyed) (key : List ℕ) (result : Result (Option ℕ) PoolFault) → IsUsable contents label records → records ≡ ByKey file
+pub noted_sought : (contents : List (List ℕ)) (label : FileLabel) (records : OpenRecords) (file : Keyed) (key : List ℕ) (result : Result (Option ℕ) SectorFault) → IsUsable contents label records → records ≡ ByKey file
     → IfOk result (λ place. IfSome place (λ place. place_of_key (number_of key) (keys_now (shown file) contents) ≡ Some place)) → IfOk result (λ place. IfSome place (λ place. place_sought label (records_of records contents) (Key key) ≡ Some place))
 noted_sought contents label records file key (Ok (Some place)) usable is found = key_sought contents label records file key (Some place) usable is found
 noted_sought contents label records file key (Ok None) usable is found = tt
 noted_sought contents label records file key (Err fault) usable is found = tt
 
-pub noted_there : (contents : List (List ℕ)) (records : OpenRecords) (file : Keyed) (bytes : List ℕ) (result : Result (Option ℕ) PoolFault) → records ≡ ByKey file
+pub noted_there : (contents : List (List ℕ)) (records : OpenRecords) (file : Keyed) (bytes : List ℕ) (result : Result (Option ℕ) SectorFault) → records ≡ ByKey file
     → IfOk result (λ place. IfSome place (λ place. slice_get (records_now (shown file) contents) place ≡ Some bytes)) → IfOk result (λ place. IfSome place (λ place. slice_get (records_of records contents) place ≡ Some bytes))
 noted_there contents records file bytes result is found = subst (λ (r : OpenRecords). IfOk result (λ place. IfSome place (λ place. slice_get (records_of r contents) place ≡ Some bytes))) (sym is) found
 
@@ -231,7 +231,7 @@ count_allowed contents label (ByKey file) usable = allowed label.organization re
     allowed Indexed e = at_most (shown file).count label.capacity few
     allowed Direct e = absurd (true≢false (sym of_label.indexed ∙ ap is_indexed e))
 
-pub kept_by_key_if : (old new : List (List ℕ)) (label : FileLabel) (records : OpenRecords) (file : Keyed) (result : Result (Unit {0}) PoolFault) → IsUsable old label records → records ≡ ByKey file
+pub kept_by_key_if : (old new : List (List ℕ)) (label : FileLabel) (records : OpenRecords) (file : Keyed) (result : Result (Unit {0}) SectorFault) → IsUsable old label records → records ≡ ByKey file
     → OnOk result (is_good_index (index_in (shown file).layout (shown file).count (bytes_now (shown file) new)) (keys_now (shown file) new) ≡ true)
     → records_now (shown file) new ≡ records_now (shown file) old
     → OnOk result (kept_on (record label { count = count_of records }) new ≡ record { records = records_of records old; has_good_index = true })
@@ -249,7 +249,7 @@ pub nothing_to_update : (label : FileLabel) (changes : List (Option ℕ)) (recor
     → Puts (updated label changes place (records_of records old)) (PutRefused NothingToUpdate) (records_of records old) (records_of records new)
 nothing_to_update label changes records place old new is same = (ap (λ p. updated label changes p (records_of records old)) is, ap (records_of records) same)
 
-pub updated_after : (label : FileLabel) (changes : List (Option ℕ)) (records : OpenRecords) (place : Option ℕ) (i : ℕ) (old mid new : List (List ℕ)) (result : Result Put PoolFault) → place ≡ Some i → mid ≡ old
+pub updated_after : (label : FileLabel) (changes : List (Option ℕ)) (records : OpenRecords) (place : Option ℕ) (i : ℕ) (old mid new : List (List ℕ)) (result : Result Put SectorFault) → place ≡ Some i → mid ≡ old
     → IfOk result (λ put. Puts (updated label changes (Some i) (records_of records mid)) put (records_of records mid) (records_of records new))
     → IfOk result (λ put. Puts (updated label changes place (records_of records old)) put (records_of records old) (records_of records new))
 updated_after label changes records place i old mid new result is same puts =
@@ -260,7 +260,7 @@ pub found_there : (records : OpenRecords) (i : ℕ) (found : Bool) (bytes : List
     → slice_get (records_of records mid) i ≡ Some bytes
 found_there records i found bytes old mid is there same = ap (λ c. slice_get (records_of records c) i) same ∙ sym there ∙ ap (λ b. found_record b bytes) is
 
-pub updated_found : (label : FileLabel) (changes : List (Option ℕ)) (records : OpenRecords) (i : ℕ) (found : Bool) (bytes laid : List ℕ) (old mid new : List (List ℕ)) (result : Result Put PoolFault) → found ≡ true
+pub updated_found : (label : FileLabel) (changes : List (Option ℕ)) (records : OpenRecords) (i : ℕ) (found : Bool) (bytes laid : List ℕ) (old mid new : List (List ℕ)) (result : Result Put SectorFault) → found ≡ true
     → found_record found bytes ≡ slice_get (records_of records old) i → laid ≡ overlaid changes bytes → mid ≡ old
     → IfOk result (λ put. Puts (updated_at label i laid (records_of records mid)) put (records_of records mid) (records_of records new))
     → IfOk result (λ put. Puts (updated label changes (Some i) (records_of records old)) put (records_of records old) (records_of records new))

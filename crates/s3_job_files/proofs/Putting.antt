@@ -7,7 +7,7 @@ use Rattle.s3_cards.specs.declared.levels.LevelId.{LevelId}
 use Rattle.s3_cards.specs.declared.name.Name.{Name}
 use Rattle.s3_cards.specs.Names.{same_name}
 use Rattle.s3_cards.proofs.NameLemmas.{same_name-self, same_name-equal}
-use Rattle.s3_store.specs.declared.pool_fault.PoolFault.{PoolFault}
+use Rattle.s3_store.specs.declared.sector_fault.SectorFault.{SectorFault}
 use Rattle.s3_store.specs.Inner.State.{PoolState, ChangesWithin, KeepsInStep}
 use Rattle.s3_store.proofs.Frames.{step_from_within}
 use Rattle.s3_store.proofs.SectorLists.{slice_set_known}
@@ -250,7 +250,7 @@ put_meets level items areas old new p file changed meant (Refused code) ready th
           (put_none file.label.name (records_of changed.records new) in_use.files (own_kept level items areas old p file in_use there own held ∙ sym puts.1)) held,
     ))
 
-pub put_serves : (level : LevelId) (items : List OpenFile) (areas : Areas) (s t : PoolState) (p : ℕ) (file changed : OpenFile) (meant : FileAtWork → Result (List (List ℕ)) HaltCode) (result : Result Put PoolFault)
+pub put_serves : (level : LevelId) (items : List OpenFile) (areas : Areas) (s t : PoolState) (p : ℕ) (file changed : OpenFile) (meant : FileAtWork → Result (List (List ℕ)) HaltCode) (result : Result Put SectorFault)
     → IsReady level items (seen areas s.contents) → slice_get items p ≡ Some file → file.is_master ≡ false → IsPut file changed → ChangesWithin (Contains (sectors_of file.label)) s t
     → IfOk result (λ put. Puts (meant (standing_file p file s.contents)) put (records_of file.records s.contents) (records_of changed.records t.contents))
     → IfOk result (λ put. Serves (λ at. record_put (meant at) at) p (put_answer put) (Holds level items (seen areas s.contents)) (Holds level (slice_set items p changed) (seen areas t.contents)))
@@ -258,7 +258,7 @@ put_serves level items areas s t p file changed meant (Ok put) ready there own i
     put_meets level items areas s.contents t.contents p file changed meant put ready there own is (λ n high out. within.contents n out) puts
 put_serves level items areas s t p file changed meant (Err fault) ready there own is within puts = tt
 
-pub put_ready_if : (level : LevelId) (items : List OpenFile) (areas : Areas) (s t : PoolState) (p : ℕ) (file changed : OpenFile) (result : Result Put PoolFault)
+pub put_ready_if : (level : LevelId) (items : List OpenFile) (areas : Areas) (s t : PoolState) (p : ℕ) (file changed : OpenFile) (result : Result Put SectorFault)
     → IsReady level items (seen areas s.contents) → slice_get items p ≡ Some file → file.is_master ≡ false → IsPut file changed → ChangesWithin (Contains (sectors_of file.label)) s t
     → OnOk result (AreOf file.label t.contents changed.records) → OnOk result (IsReady level (slice_set items p changed) (seen areas t.contents))
 put_ready_if level items areas s t p file changed (Ok put) ready there own is within of_label =
@@ -269,7 +269,7 @@ put_ready_if level items areas s t p file changed (Err fault) ready there own is
 put_itself : (file : OpenFile) → IsPut file file
 put_itself file = record { like = record { label = refl; master = refl }; job_file = refl }
 
-pub update_serves : (level : LevelId) (items : List OpenFile) (areas : Areas) (s t : PoolState) (p : ℕ) (file : OpenFile) (meant : FileAtWork → Result (List (List ℕ)) HaltCode) (result : Result Put PoolFault)
+pub update_serves : (level : LevelId) (items : List OpenFile) (areas : Areas) (s t : PoolState) (p : ℕ) (file : OpenFile) (meant : FileAtWork → Result (List (List ℕ)) HaltCode) (result : Result Put SectorFault)
     → IsReady level items (seen areas s.contents) → slice_get items p ≡ Some file → file.is_master ≡ false → ChangesWithin (Contains (sectors_of file.label)) s t
     → IfOk result (λ put. Puts (meant (standing_file p file s.contents)) put (records_of file.records s.contents) (records_of file.records t.contents))
     → IfOk result (λ put. Serves (λ at. record_put (meant at) at) p (put_answer put) (Holds level items (seen areas s.contents)) (Holds level items (seen areas t.contents)))
@@ -277,7 +277,7 @@ update_serves level items areas s t p file meant result ready there own within p
     subst (λ (l : List OpenFile). IfOk result (λ put. Serves (λ at. record_put (meant at) at) p (put_answer put) (Holds level items (seen areas s.contents)) (Holds level l (seen areas t.contents))))
     (slice_set_known items p file there) (put_serves level items areas s t p file file meant result ready there own (put_itself file) within puts)
 
-pub update_ready_if : (level : LevelId) (items : List OpenFile) (areas : Areas) (s t : PoolState) (p : ℕ) (file : OpenFile) (result : Result Put PoolFault)
+pub update_ready_if : (level : LevelId) (items : List OpenFile) (areas : Areas) (s t : PoolState) (p : ℕ) (file : OpenFile) (result : Result Put SectorFault)
     → IsReady level items (seen areas s.contents) → slice_get items p ≡ Some file → file.is_master ≡ false → ChangesWithin (Contains (sectors_of file.label)) s t
     → OnOk result (AreOf file.label t.contents file.records) → OnOk result (IsReady level items (seen areas t.contents))
 update_ready_if level items areas s t p file result ready there own within of_label =

@@ -2,7 +2,7 @@
 use Rattle.std.proofs.Common.{◌≡◌, ℕ, inl, inr, Bool, List, map, subst, ap, sym, ◌∙◌}
 use Rattle.std.specs.Prelude.{slice_get, slice_set, Some, Result, Ok, Err, IfOk, OnOk}
 use Rattle.s3_cards.specs.declared.levels.LevelId.{LevelId}
-use Rattle.s3_store.specs.declared.pool_fault.PoolFault.{PoolFault}
+use Rattle.s3_store.specs.declared.sector_fault.SectorFault.{SectorFault}
 use Rattle.s3_slots.specs.Slots.{standing}
 use Rattle.s3_slots.specs.declared.label.FileLabel.{FileLabel}
 use Rattle.s3_slots.specs.declared.slot.Standing.TheVariants.{Present}
@@ -90,7 +90,7 @@ read_meets level items areas old new p file changed answer ready there read same
           (set_held level items (seen areas old) p file changed _ in_use there read is held),
     )
 
-pub read_serves : (level : LevelId) (items : List OpenFile) (areas : Areas) (old new : List (List ℕ)) (p : ℕ) (file changed : OpenFile) (bytes : List ℕ) (result : Result Bool PoolFault)
+pub read_serves : (level : LevelId) (items : List OpenFile) (areas : Areas) (old new : List (List ℕ)) (p : ℕ) (file changed : OpenFile) (bytes : List ℕ) (result : Result Bool SectorFault)
     → IsReady level items (seen areas old) → slice_get items p ≡ Some file → changed ≡ record file { read = changed.read } → new ≡ old
     → IfOk result (λ found. found_answer found bytes ≡ answer_at (records_of file.records old) (place_read file.label (records_of file.records old) file.read))
     → OnOk result (job_file_of changed ≡ with_read (place_read file.label (records_of file.records old) file.read) (job_file_of file))
@@ -113,7 +113,7 @@ chain_meets level items areas old new p file changed sought answer ready there r
           (set_held level items (seen areas old) p file changed _ in_use there read is held),
     )
 
-pub chain_serves : (level : LevelId) (items : List OpenFile) (areas : Areas) (old new : List (List ℕ)) (p : ℕ) (file changed : OpenFile) (sought : Sought) (bytes : List ℕ) (result : Result Bool PoolFault)
+pub chain_serves : (level : LevelId) (items : List OpenFile) (areas : Areas) (old new : List (List ℕ)) (p : ℕ) (file changed : OpenFile) (sought : Sought) (bytes : List ℕ) (result : Result Bool SectorFault)
     → IsReady level items (seen areas old) → slice_get items p ≡ Some file → changed ≡ record file { chained = changed.chained } → new ≡ old
     → IfOk result (λ found. found_answer found bytes ≡ answer_at (records_of file.records old) (place_sought file.label (records_of file.records old) sought))
     → OnOk result (job_file_of changed ≡ with_chained (place_sought file.label (records_of file.records old) sought) (job_file_of file))

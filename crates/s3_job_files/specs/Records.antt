@@ -4,7 +4,9 @@ use Rattle.s3_slots.specs.Labels.{is_indexed}
 use Rattle.s3_slots.specs.declared.label.FileLabel.{FileLabel}
 use Rattle.s3_operator.specs.declared.halt_code.HaltCode.{HaltCode}
 use Rattle.s3_operator.specs.declared.halt_code.HaltCode.TheVariants.{DuplicateKey, FileFull, KeyChanged as KeyChangedHalt, KeyNotAscending, NothingToUpdate}
-use Rattle.s3_meaning.specs.Requests.{Sought, Key, RecordNumber, Current, NthRead, LastChained}
+use Rattle.s3_meaning.specs.Requests.{Sought, Key, RecordNumber}
+use Rattle.s3_meaning.specs.declared.current.Current.{Current}
+use Rattle.s3_meaning.specs.declared.current.Current.TheVariants.{NthRead, LastChained}
 use Rattle.s3_files.specs.declared.fault.FileFault.{FileFault}
 use Rattle.s3_files.specs.Records.{with_record, with_last}
 use Rattle.s3_keyed.specs.declared.fault.KeyedFault.{KeyedFault}

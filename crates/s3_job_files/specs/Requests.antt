@@ -2,7 +2,8 @@
 use Rattle.std.specs.Prelude.{ℕ, ◌+◌, List, slice_get, Option, Some, None, Result, Ok, Err}
 use Rattle.s3_cards.specs.declared.name.Name.{Name}
 use Rattle.s3_operator.specs.declared.halt_code.HaltCode.{HaltCode}
-use Rattle.s3_meaning.specs.Requests.{Sought, Current, Request, Card, Read, Chain, Append, Add, Update, Print, Jump, Ask, End, Answer, Found, Nothing, Done, Refused}
+use Rattle.s3_meaning.specs.Requests.{Sought, Request, Card, Read, Chain, Append, Add, Update, Print, Jump, Ask, End, Answer, Found, Nothing, Done, Refused}
+use Rattle.s3_meaning.specs.declared.current.Current.{Current}
 use Rattle.s3_job_files.specs.Files.{Files, JobFile, FilesInUse, FileAtWork, file_at_work, with_job_file, put_records}
 use Rattle.s3_job_files.specs.Records.{place_read, place_sought, place_current, appended, added, updated}
 

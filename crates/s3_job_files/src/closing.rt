@@ -1,5 +1,5 @@
 //! The end of a job: its files are closed.
-ghost use Rattle.std.specs.Prelude.{◌≡◌, ◌≢◌, ◌+◌, [], map, None, IfErr, OnOk};
+ghost use Rattle.std.specs.Prelude.{◌≡◌, ◌+◌, [], map, None, IfErr, OnOk};
 ghost use Rattle.s3_store.specs.Inner.State.{ChangesWithin, KeepsInStep};
 ghost use Rattle.s3_store.specs.Inner.Failures.{failed_transfers};
 ghost use Rattle.s3_slots.specs.Making.{counted, dropped};
@@ -16,10 +16,10 @@ ghost use Rattle.s3_job_files.specs.Inner.Holds.{seen, job_file_of, Closes, Hold
 use crate::file::OpenFile;
 use s3_cards::{LevelId, Name};
 use s3_labels::{ChangeFault, Pack};
-use s3_store::{PoolFault, Sectors};
+use s3_store::{SectorFault, Sectors};
 
 /// What a change of a label that is there answers.
-fn changed(change: Result<(), ChangeFault>) -> Result<(), PoolFault>
+fn changed(change: Result<(), ChangeFault>) -> Result<(), SectorFault>
     requires { IfErr change IsOfSectors }
     ensures { result ≡ sectors_answer change }
 {
@@ -32,7 +32,7 @@ fn changed(change: Result<(), ChangeFault>) -> Result<(), PoolFault>
 
 /// Drops the label of a file that a level has.
 #[tactic(auto, using(crate::proofs::Labels::dropped_by, crate::proofs::Labels::drop_refused, crate::proofs::Labels::failed_same))]
-fn drop_label<P: Sectors>(level: LevelId, name: Name, pack: &mut Pack<P>) -> Result<(), PoolFault>
+fn drop_label<P: Sectors>(level: LevelId, name: Name, pack: &mut Pack<P>) -> Result<(), SectorFault>
     requires ready { IsPackReady pack.old.areas (P.state pack.old.pool).contents }
     requires there { refusal (standing name (slots_at level pack.old.areas)) ≡ None }
     ensures dropped { OnOk result (slots_at level pack.new.areas ≡ dropped name (slots_at level pack.old.areas)) }
@@ -41,7 +41,6 @@ fn drop_label<P: Sectors>(level: LevelId, name: Name, pack: &mut Pack<P>) -> Res
     ensures says { OnOk result (KeepsSaid level pack.old.areas (P.state pack.old.pool).contents pack.new.areas (P.state pack.new.pool).contents) }
     ensures ready { IsPackReady pack.new.areas (P.state pack.new.pool).contents }
     ensures failures { (P.state pack.new.pool).failures ≡ (P.state pack.old.pool).failures + failed_transfers result }
-    ensures fault { IfErr result (λ fault. fault ≢ PoolFault.NoSector) }
 {
     changed(pack.drop_label(level, name))
 }
@@ -53,7 +52,7 @@ fn set_count<P: Sectors>(
     name: Name,
     count: u32,
     pack: &mut Pack<P>,
-) -> Result<(), PoolFault>
+) -> Result<(), SectorFault>
     requires ready { IsPackReady pack.old.areas (P.state pack.old.pool).contents }
     requires there { refusal (standing name (slots_at level pack.old.areas)) ≡ None }
     requires room { MayHave count (standing name (slots_at level pack.old.areas)) }
@@ -63,7 +62,6 @@ fn set_count<P: Sectors>(
     ensures says { OnOk result (KeepsSaid level pack.old.areas (P.state pack.old.pool).contents pack.new.areas (P.state pack.new.pool).contents) }
     ensures ready { IsPackReady pack.new.areas (P.state pack.new.pool).contents }
     ensures failures { (P.state pack.new.pool).failures ≡ (P.state pack.old.pool).failures + failed_transfers result }
-    ensures fault { IfErr result (λ fault. fault ≢ PoolFault.NoSector) }
 {
     changed(pack.set_count(level, name, count))
 }
@@ -73,7 +71,7 @@ fn close_file<P: Sectors>(
     level: LevelId,
     file: OpenFile,
     pack: &mut Pack<P>,
-) -> Result<(), PoolFault>
+) -> Result<(), SectorFault>
     requires ready { IsPackReady pack.old.areas (P.state pack.old.pool).contents }
     requires stands { Stands level (seen pack.old.areas (P.state pack.old.pool).contents) file }
     ensures closes { OnOk result (Closes level file (seen pack.old.areas (P.state pack.old.pool).contents) (seen pack.new.areas (P.state pack.new.pool).contents)) }
@@ -82,7 +80,6 @@ fn close_file<P: Sectors>(
     ensures says { OnOk result (KeepsSaid level pack.old.areas (P.state pack.old.pool).contents pack.new.areas (P.state pack.new.pool).contents) }
     ensures ready { IsPackReady pack.new.areas (P.state pack.new.pool).contents }
     ensures failures { (P.state pack.new.pool).failures ≡ (P.state pack.old.pool).failures + failed_transfers result }
-    ensures fault { IfErr result (λ fault. fault ≢ PoolFault.NoSector) }
 {
     if file.is_master {
         return Ok(());
@@ -101,7 +98,7 @@ pub fn close_all<P: Sectors>(
     level: LevelId,
     files: Vec<OpenFile>,
     pack: &mut Pack<P>,
-) -> Result<(), PoolFault>
+) -> Result<(), SectorFault>
     requires ready { IsReady level files.items (seen pack.old.areas (P.state pack.old.pool).contents) }
     ensures closes { OnOk result ((held : Files) → HoldsFiles level files.items (seen pack.old.areas (P.state pack.old.pool).contents) held → HoldsFiles level [] (seen pack.new.areas (P.state pack.new.pool).contents) (files_closed (map job_file_of files.items) held)) }
     ensures ready { OnOk result (IsReady level [] (seen pack.new.areas (P.state pack.new.pool).contents)) }
@@ -110,7 +107,6 @@ pub fn close_all<P: Sectors>(
     ensures spares { KeepsInStep (IsOutOfReach level pack.old.areas.header) (P.state pack.old.pool) (P.state pack.new.pool) }
     ensures says { OnOk result (KeepsSaid level pack.old.areas (P.state pack.old.pool).contents pack.new.areas (P.state pack.new.pool).contents) }
     ensures failures { (P.state pack.new.pool).failures ≡ (P.state pack.old.pool).failures + failed_transfers result }
-    ensures fault { IfErr result (λ fault. fault ≢ PoolFault.NoSector) }
 {
     for file in files {
         close_file(level, file, pack)?;

@@ -1,12 +1,12 @@
 //! A file of the job at work.
-ghost use Rattle.std.specs.Prelude.{◌≡◌, ◌≢◌, ◌<◌, ◌+◌, ◌-◌, ◌&&◌, length, option_map, slice_get, is_some, Some, None, true, false, IfOk, IfErr, IfSome, OnOk, if◌then◌else◌};
-ghost use Rattle.std.specs.List.{Contains};
-ghost use Rattle.s3_store.specs.Inner.State.{KeepsContents, ChangesWithin};
+ghost use Rattle.std.specs.Prelude.{◌≡◌, ◌<◌, ◌+◌, ◌&&◌, length, slice_get, is_some, Some, None, true, IfOk, IfSome, OnOk, if◌then◌else◌};
+ghost use Rattle.s3_store.specs.Inner.State.{KeepsContents};
 ghost use Rattle.s3_store.specs.Inner.Failures.{failed_transfers};
 ghost use Rattle.s3_slots.specs.Labels.{is_indexed as is_indexed_spec, sectors_of};
 ghost use Rattle.s3_meaning.specs.Requests.{Key, RecordNumber};
 ghost use Rattle.s3_slots.specs.Inner.Kept.{IsOfPack};
 ghost use Rattle.s3_job_files.specs.Kept.{kept_on};
+ghost use Rattle.s3_job_files.specs.Inner.Calls.{Reads};
 ghost use Rattle.s3_job_files.specs.Inner.Records.{changes_of};
 ghost use Rattle.s3_job_files.specs.Records.{overlaid};
 ghost use Rattle.s3_job_files.specs.Inner.Holds.{AreOf, HoldsRecords, count_of, records_of};
@@ -15,9 +15,10 @@ use crate::records::{OpenRecords, Put};
 use crate::{by_key, in_order};
 use s3_cards::{Name, Retention};
 use s3_files::Sequential;
+use s3_meaning::Current;
 use s3_operator::HaltCode;
 use s3_slots::{FileLabel, Organization};
-use s3_store::{PoolFault, Sectors};
+use s3_store::{SectorFault, Sectors};
 use std::alloc::Global;
 
 /// The most bytes of a record.
@@ -46,21 +47,12 @@ pub struct OpenFile {
     pub chained: Option<u32>,
 }
 
-/// The record of a file that an update changes.
-#[derive(Clone, Copy)]
-pub enum Current {
-    /// The record that was read as the n-th, from 1.
-    NthRead(u32),
-    /// The record that was chained last.
-    LastChained,
-}
-
 impl OpenFile {
     ghost use Rattle.s3_job_files.specs.Records.{place_read as place_read_spec, place_sought, place_current as place_current_spec, place_numbered as place_numbered_spec, appended, added, updated, updated_at};
     ghost use Rattle.s3_job_files.specs.Requests.{answer_at, with_read, with_chained};
-    ghost use Rattle.s3_job_files.specs.Inner.Holds.{IsUsable, job_file_of, current_of};
+    ghost use Rattle.s3_job_files.specs.Inner.Holds.{IsUsable, job_file_of};
     ghost use Rattle.s3_job_files.specs.Closing.{is_kept_for_job};
-    ghost use Rattle.s3_job_files.specs.Inner.Calls.{found_record, found_answer, Puts};
+    ghost use Rattle.s3_job_files.specs.Inner.Calls.{found_record, found_answer, Puts, Changes};
 
     /// Opens the file of a label that the pack has, known to the program by a name; none where it is indexed and its index isn't
     /// good.
@@ -71,7 +63,7 @@ impl OpenFile {
         label: FileLabel,
         is_master: bool,
         is_made: bool,
-    ) -> Result<Option<Self>, PoolFault>
+    ) -> Result<Option<Self>, SectorFault>
         requires { IsOfPack (length (P.state pool.old).contents) label }
         ensures good { IfOk result (λ opened. (kept_on label (P.state pool.old).contents).has_good_index ≡ is_some opened) }
         ensures opened { IfOk result (λ opened. IfSome opened (λ file. file ≡ record file { name = name; label = label; is_master = is_master; is_made = is_made; read = 0; chained = None })) }
@@ -80,7 +72,6 @@ impl OpenFile {
         ensures count { IfOk result (λ opened. IfSome opened (λ file. count_of file.records ≡ label.count)) }
         ensures keeps { KeepsContents (P.state pool.old) (P.state pool.new) }
         ensures failures { (P.state pool.new).failures ≡ (P.state pool.old).failures + failed_transfers result }
-        ensures fault { IfErr result (λ fault. fault ≢ PoolFault.NoSector) }
     {
         let Some(records) = records_of_label(alloc, pool, &label)? else {
             return Ok(None);
@@ -97,13 +88,11 @@ impl OpenFile {
     }
 
     /// Reads the record at a place, from 0, and answers whether there is one.
-    fn get<P: Sectors>(&self, pool: &mut P, i: u32, bytes: &mut [u8]) -> Result<bool, PoolFault>
+    fn get<P: Sectors>(&self, pool: &mut P, i: u32, bytes: &mut [u8]) -> Result<bool, SectorFault>
         requires usable { IsUsable (P.state pool.old).contents self.now.label self.now.records }
         requires long { length bytes.old ≡ self.now.label.record_length }
         ensures found { IfOk result (λ found. found_record found bytes.new ≡ slice_get (records_of self.now.records (P.state pool.old).contents) i) }
-        ensures keeps { KeepsContents (P.state pool.old) (P.state pool.new) }
-        ensures failures { (P.state pool.new).failures ≡ (P.state pool.old).failures + failed_transfers result }
-        ensures fault { IfErr result (λ fault. fault ≢ PoolFault.NoSector) }
+        ensures reads { Reads result (P.state pool.old) (P.state pool.new) }
     {
         match &self.records {
             OpenRecords::InOrder(file) => in_order::get(file, pool, i, bytes),
@@ -113,13 +102,11 @@ impl OpenFile {
 
     /// The place of the n-th of the records that stood at the start of the job, both from 0.
     #[tactic(auto, using(crate::proofs::OneFile::read_by_key))]
-    fn place_read<P: Sectors>(&self, pool: &mut P, n: u32) -> Result<Option<u32>, PoolFault>
+    fn place_read<P: Sectors>(&self, pool: &mut P, n: u32) -> Result<Option<u32>, SectorFault>
         requires usable { IsUsable (P.state pool.old).contents self.now.label self.now.records }
         ensures place { IfOk result (λ place. place_read_spec self.now.label (records_of self.now.records (P.state pool.old).contents) n ≡ place) }
         ensures within { IfOk result (λ place. IfSome place (λ _. n < u32.MAX)) }
-        ensures keeps { KeepsContents (P.state pool.old) (P.state pool.new) }
-        ensures failures { (P.state pool.new).failures ≡ (P.state pool.old).failures + failed_transfers result }
-        ensures fault { IfErr result (λ fault. fault ≢ PoolFault.NoSector) }
+        ensures reads { Reads result (P.state pool.old) (P.state pool.new) }
     {
         if n >= self.label.count {
             return Ok(None);
@@ -135,15 +122,13 @@ impl OpenFile {
         &mut self,
         pool: &mut P,
         bytes: &mut [u8],
-    ) -> Result<bool, PoolFault>
+    ) -> Result<bool, SectorFault>
         requires usable { IsUsable (P.state pool.old).contents self.old.label self.old.records }
         requires long { length bytes.old ≡ self.old.label.record_length }
         ensures answer { IfOk result (λ found. found_answer found bytes.new ≡ answer_at (records_of self.old.records (P.state pool.old).contents) (place_read_spec self.old.label (records_of self.old.records (P.state pool.old).contents) self.old.read)) }
         ensures read { OnOk result (job_file_of self.new ≡ with_read (place_read_spec self.old.label (records_of self.old.records (P.state pool.old).contents) self.old.read) (job_file_of self.old)) }
         ensures alone { self.new ≡ record self.old { read = self.new.read } }
-        ensures keeps { KeepsContents (P.state pool.old) (P.state pool.new) }
-        ensures failures { (P.state pool.new).failures ≡ (P.state pool.old).failures + failed_transfers result }
-        ensures fault { IfErr result (λ fault. fault ≢ PoolFault.NoSector) }
+        ensures reads { Reads result (P.state pool.old) (P.state pool.new) }
     {
         let Some(place) = self.place_read(pool, self.read)? else {
             return Ok(false);
@@ -159,15 +144,13 @@ impl OpenFile {
         pool: &mut P,
         place: Option<u32>,
         bytes: &mut [u8],
-    ) -> Result<bool, PoolFault>
+    ) -> Result<bool, SectorFault>
         requires usable { IsUsable (P.state pool.old).contents self.old.label self.old.records }
         requires long { length bytes.old ≡ self.old.label.record_length }
         ensures answer { IfOk result (λ found. found_answer found bytes.new ≡ answer_at (records_of self.old.records (P.state pool.old).contents) place) }
         ensures alone { OnOk result (self.new ≡ record self.old { chained = place }) }
         ensures same { self.new ≡ record self.old { chained = self.new.chained } }
-        ensures keeps { KeepsContents (P.state pool.old) (P.state pool.new) }
-        ensures failures { (P.state pool.new).failures ≡ (P.state pool.old).failures + failed_transfers result }
-        ensures fault { IfErr result (λ fault. fault ≢ PoolFault.NoSector) }
+        ensures reads { Reads result (P.state pool.old) (P.state pool.new) }
     {
         self.chained = place;
         match place {
@@ -178,14 +161,12 @@ impl OpenFile {
 
     /// The place of the record with the key in these bytes, from 0.
     #[tactic(auto, using(crate::proofs::OneFile::key_sought))]
-    fn place_of_key<P: Sectors>(&self, pool: &mut P, key: &[u8]) -> Result<Option<u32>, PoolFault>
+    fn place_of_key<P: Sectors>(&self, pool: &mut P, key: &[u8]) -> Result<Option<u32>, SectorFault>
         requires usable { IsUsable (P.state pool.old).contents self.now.label self.now.records }
         requires indexed { is_indexed_spec self.now.label.organization ≡ true }
         requires long { length key.now ≡ self.now.label.key_length }
         ensures place { IfOk result (λ place. place_sought self.now.label (records_of self.now.records (P.state pool.old).contents) (Key key.now) ≡ place) }
-        ensures keeps { KeepsContents (P.state pool.old) (P.state pool.new) }
-        ensures failures { (P.state pool.new).failures ≡ (P.state pool.old).failures + failed_transfers result }
-        ensures fault { IfErr result (λ fault. fault ≢ PoolFault.NoSector) }
+        ensures reads { Reads result (P.state pool.old) (P.state pool.new) }
     {
         match &self.records {
             OpenRecords::InOrder(_) => unreachable!(),
@@ -200,16 +181,14 @@ impl OpenFile {
         pool: &mut P,
         key: &[u8],
         bytes: &mut [u8],
-    ) -> Result<Option<u32>, PoolFault>
+    ) -> Result<Option<u32>, SectorFault>
         requires usable { IsUsable (P.state pool.old).contents self.now.label self.now.records }
         requires indexed { is_indexed_spec self.now.label.organization ≡ true }
         requires key { length key.now ≡ self.now.label.key_length }
         requires long { length bytes.old ≡ self.now.label.record_length }
         ensures place { IfOk result (λ place. IfSome place (λ place. place_sought self.now.label (records_of self.now.records (P.state pool.old).contents) (Key key.now) ≡ Some place)) }
         ensures got { IfOk result (λ place. IfSome place (λ place. slice_get (records_of self.now.records (P.state pool.old).contents) place ≡ Some bytes.new)) }
-        ensures keeps { KeepsContents (P.state pool.old) (P.state pool.new) }
-        ensures failures { (P.state pool.new).failures ≡ (P.state pool.old).failures + failed_transfers result }
-        ensures fault { IfErr result (λ fault. fault ≢ PoolFault.NoSector) }
+        ensures reads { Reads result (P.state pool.old) (P.state pool.new) }
     {
         match &self.records {
             OpenRecords::InOrder(_) => unreachable!(),
@@ -225,7 +204,7 @@ impl OpenFile {
         pool: &mut P,
         key: &[u8],
         bytes: &mut [u8],
-    ) -> Result<bool, PoolFault>
+    ) -> Result<bool, SectorFault>
         requires usable { IsUsable (P.state pool.old).contents self.old.label self.old.records }
         requires indexed { is_indexed_spec self.old.label.organization ≡ true }
         requires key { length key.now ≡ self.old.label.key_length }
@@ -233,9 +212,7 @@ impl OpenFile {
         ensures answer { IfOk result (λ found. found_answer found bytes.new ≡ answer_at (records_of self.old.records (P.state pool.old).contents) (place_sought self.old.label (records_of self.old.records (P.state pool.old).contents) (Key key.now))) }
         ensures chained { OnOk result (job_file_of self.new ≡ with_chained (place_sought self.old.label (records_of self.old.records (P.state pool.old).contents) (Key key.now)) (job_file_of self.old)) }
         ensures alone { self.new ≡ record self.old { chained = self.new.chained } }
-        ensures keeps { KeepsContents (P.state pool.old) (P.state pool.new) }
-        ensures failures { (P.state pool.new).failures ≡ (P.state pool.old).failures + failed_transfers result }
-        ensures fault { IfErr result (λ fault. fault ≢ PoolFault.NoSector) }
+        ensures reads { Reads result (P.state pool.old) (P.state pool.new) }
     {
         let place = self.place_of_key(pool, key)?;
         self.chain(pool, place, bytes)
@@ -248,7 +225,7 @@ impl OpenFile {
         pool: &mut P,
         key: &[u8],
         bytes: &mut [u8],
-    ) -> Result<bool, PoolFault>
+    ) -> Result<bool, SectorFault>
         requires usable { IsUsable (P.state pool.old).contents self.old.label self.old.records }
         requires indexed { is_indexed_spec self.old.label.organization ≡ true }
         requires key { length key.now ≡ self.old.label.key_length }
@@ -256,9 +233,7 @@ impl OpenFile {
         ensures answer { IfOk result (λ found. found_answer found bytes.new ≡ answer_at (records_of self.old.records (P.state pool.old).contents) (place_sought self.old.label (records_of self.old.records (P.state pool.old).contents) (Key key.now))) }
         ensures chained { OnOk result (job_file_of self.new ≡ with_chained (place_sought self.old.label (records_of self.old.records (P.state pool.old).contents) (Key key.now)) (job_file_of self.old)) }
         ensures alone { self.new ≡ record self.old { chained = self.new.chained } }
-        ensures keeps { KeepsContents (P.state pool.old) (P.state pool.new) }
-        ensures failures { (P.state pool.new).failures ≡ (P.state pool.old).failures + failed_transfers result }
-        ensures fault { IfErr result (λ fault. fault ≢ PoolFault.NoSector) }
+        ensures reads { Reads result (P.state pool.old) (P.state pool.new) }
     {
         if let Some(place) = self.get_noted(pool, key, bytes)? {
             self.chained = Some(place);
@@ -287,15 +262,13 @@ impl OpenFile {
         pool: &mut P,
         number: i64,
         bytes: &mut [u8],
-    ) -> Result<bool, PoolFault>
+    ) -> Result<bool, SectorFault>
         requires usable { IsUsable (P.state pool.old).contents self.old.label self.old.records }
         requires long { length bytes.old ≡ self.old.label.record_length }
         ensures answer { IfOk result (λ found. found_answer found bytes.new ≡ answer_at (records_of self.old.records (P.state pool.old).contents) (place_sought self.old.label (records_of self.old.records (P.state pool.old).contents) (RecordNumber number))) }
         ensures chained { OnOk result (job_file_of self.new ≡ with_chained (place_sought self.old.label (records_of self.old.records (P.state pool.old).contents) (RecordNumber number)) (job_file_of self.old)) }
         ensures alone { self.new ≡ record self.old { chained = self.new.chained } }
-        ensures keeps { KeepsContents (P.state pool.old) (P.state pool.new) }
-        ensures failures { (P.state pool.new).failures ≡ (P.state pool.old).failures + failed_transfers result }
-        ensures fault { IfErr result (λ fault. fault ≢ PoolFault.NoSector) }
+        ensures reads { Reads result (P.state pool.old) (P.state pool.new) }
     {
         let place = self.place_numbered(number);
         self.chain(pool, place, bytes)
@@ -303,15 +276,13 @@ impl OpenFile {
 
     /// Puts a record behind the last one. It is refused in an indexed file where its key isn't above all others, and in any file
     /// that is full.
-    pub fn append<P: Sectors>(&mut self, pool: &mut P, bytes: &[u8]) -> Result<Put, PoolFault>
+    pub fn append<P: Sectors>(&mut self, pool: &mut P, bytes: &[u8]) -> Result<Put, SectorFault>
         requires usable { IsUsable (P.state pool.old).contents self.old.label self.old.records }
         requires long { length bytes.now ≡ self.old.label.record_length }
         ensures puts { IfOk result (λ put. Puts (appended self.old.label bytes.now (records_of self.old.records (P.state pool.old).contents)) put (records_of self.old.records (P.state pool.old).contents) (records_of self.new.records (P.state pool.new).contents)) }
         ensures of_label { OnOk result (AreOf self.old.label (P.state pool.new).contents self.new.records) }
         ensures alone { self.new ≡ record self.old { records = self.new.records } }
-        ensures within { ChangesWithin (Contains (sectors_of self.old.label)) (P.state pool.old) (P.state pool.new) }
-        ensures failures { (P.state pool.new).failures ≡ (P.state pool.old).failures + failed_transfers result }
-        ensures fault { IfErr result (λ fault. fault ≢ PoolFault.NoSector) }
+        ensures changes { Changes (sectors_of self.old.label) result (P.state pool.old) (P.state pool.new) }
     {
         match &mut self.records {
             OpenRecords::InOrder(file) => in_order::append(file, pool, bytes),
@@ -321,16 +292,14 @@ impl OpenFile {
 
     /// Puts a record behind the last one of an indexed file. It is refused where another record has its key, and where the file
     /// is full.
-    pub fn add<P: Sectors>(&mut self, pool: &mut P, bytes: &[u8]) -> Result<Put, PoolFault>
+    pub fn add<P: Sectors>(&mut self, pool: &mut P, bytes: &[u8]) -> Result<Put, SectorFault>
         requires usable { IsUsable (P.state pool.old).contents self.old.label self.old.records }
         requires indexed { is_indexed_spec self.old.label.organization ≡ true }
         requires long { length bytes.now ≡ self.old.label.record_length }
         ensures puts { IfOk result (λ put. Puts (added self.old.label bytes.now (records_of self.old.records (P.state pool.old).contents)) put (records_of self.old.records (P.state pool.old).contents) (records_of self.new.records (P.state pool.new).contents)) }
         ensures of_label { OnOk result (AreOf self.old.label (P.state pool.new).contents self.new.records) }
         ensures alone { self.new ≡ record self.old { records = self.new.records } }
-        ensures within { ChangesWithin (Contains (sectors_of self.old.label)) (P.state pool.old) (P.state pool.new) }
-        ensures failures { (P.state pool.new).failures ≡ (P.state pool.old).failures + failed_transfers result }
-        ensures fault { IfErr result (λ fault. fault ≢ PoolFault.NoSector) }
+        ensures changes { Changes (sectors_of self.old.label) result (P.state pool.old) (P.state pool.new) }
     {
         match &mut self.records {
             OpenRecords::InOrder(_) => unreachable!(),
@@ -345,16 +314,14 @@ impl OpenFile {
         i: u32,
         old: &[u8],
         bytes: &[u8],
-    ) -> Result<Put, PoolFault>
+    ) -> Result<Put, SectorFault>
         requires usable { IsUsable (P.state pool.old).contents self.now.label self.now.records }
         requires there { slice_get (records_of self.now.records (P.state pool.old).contents) i ≡ Some old.now }
         requires old { length old.now ≡ self.now.label.record_length }
         requires long { length bytes.now ≡ self.now.label.record_length }
         ensures puts { IfOk result (λ put. Puts (updated_at self.now.label i bytes.now (records_of self.now.records (P.state pool.old).contents)) put (records_of self.now.records (P.state pool.old).contents) (records_of self.now.records (P.state pool.new).contents)) }
         ensures of_label { OnOk result (AreOf self.now.label (P.state pool.new).contents self.now.records) }
-        ensures within { ChangesWithin (Contains (sectors_of self.now.label)) (P.state pool.old) (P.state pool.new) }
-        ensures failures { (P.state pool.new).failures ≡ (P.state pool.old).failures + failed_transfers result }
-        ensures fault { IfErr result (λ fault. fault ≢ PoolFault.NoSector) }
+        ensures changes { Changes (sectors_of self.now.label) result (P.state pool.old) (P.state pool.new) }
     {
         match &self.records {
             OpenRecords::InOrder(file) => in_order::put(file, pool, i, bytes),
@@ -371,15 +338,13 @@ impl OpenFile {
         marks: &[bool],
         old: &mut [u8],
         bytes: &mut [u8],
-    ) -> Result<Put, PoolFault>
+    ) -> Result<Put, SectorFault>
         requires usable { IsUsable (P.state pool.old).contents self.now.label self.now.records }
         requires old { length old.old ≡ self.now.label.record_length }
         requires long { length bytes.old ≡ self.now.label.record_length }
         ensures puts { IfOk result (λ put. Puts (updated self.now.label (changes_of codes.now marks.now) (Some i) (records_of self.now.records (P.state pool.old).contents)) put (records_of self.now.records (P.state pool.old).contents) (records_of self.now.records (P.state pool.new).contents)) }
         ensures of_label { OnOk result (AreOf self.now.label (P.state pool.new).contents self.now.records) }
-        ensures within { ChangesWithin (Contains (sectors_of self.now.label)) (P.state pool.old) (P.state pool.new) }
-        ensures failures { (P.state pool.new).failures ≡ (P.state pool.old).failures + failed_transfers result }
-        ensures fault { IfErr result (λ fault. fault ≢ PoolFault.NoSector) }
+        ensures changes { Changes (sectors_of self.now.label) result (P.state pool.old) (P.state pool.new) }
     {
         if !self.get(pool, i, old)? {
             return Ok(Put::Refused(HaltCode::NothingToUpdate));
@@ -396,13 +361,11 @@ impl OpenFile {
         i: u32,
         codes: &[u8],
         marks: &[bool],
-    ) -> Result<Put, PoolFault>
+    ) -> Result<Put, SectorFault>
         requires usable { IsUsable (P.state pool.old).contents self.now.label self.now.records }
         ensures puts { IfOk result (λ put. Puts (updated self.now.label (changes_of codes.now marks.now) (Some i) (records_of self.now.records (P.state pool.old).contents)) put (records_of self.now.records (P.state pool.old).contents) (records_of self.now.records (P.state pool.new).contents)) }
         ensures of_label { OnOk result (AreOf self.now.label (P.state pool.new).contents self.now.records) }
-        ensures within { ChangesWithin (Contains (sectors_of self.now.label)) (P.state pool.old) (P.state pool.new) }
-        ensures failures { (P.state pool.new).failures ≡ (P.state pool.old).failures + failed_transfers result }
-        ensures fault { IfErr result (λ fault. fault ≢ PoolFault.NoSector) }
+        ensures changes { Changes (sectors_of self.now.label) result (P.state pool.old) (P.state pool.new) }
     {
         let length = usize::from(self.label.record_length);
         if length <= SHORT_RECORD {
@@ -432,12 +395,10 @@ impl OpenFile {
         &self,
         pool: &mut P,
         current: Option<Current>,
-    ) -> Result<Option<u32>, PoolFault>
+    ) -> Result<Option<u32>, SectorFault>
         requires usable { IsUsable (P.state pool.old).contents self.now.label self.now.records }
-        ensures place { IfOk result (λ place. place_current_spec self.now.label (records_of self.now.records (P.state pool.old).contents) self.now.chained (option_map current_of current) ≡ place) }
-        ensures keeps { KeepsContents (P.state pool.old) (P.state pool.new) }
-        ensures failures { (P.state pool.new).failures ≡ (P.state pool.old).failures + failed_transfers result }
-        ensures fault { IfErr result (λ fault. fault ≢ PoolFault.NoSector) }
+        ensures place { IfOk result (λ place. place_current_spec self.now.label (records_of self.now.records (P.state pool.old).contents) self.now.chained current ≡ place) }
+        ensures reads { Reads result (P.state pool.old) (P.state pool.new) }
     {
         match current {
             None => Ok(None),
@@ -454,13 +415,11 @@ impl OpenFile {
         current: Option<Current>,
         codes: &[u8],
         marks: &[bool],
-    ) -> Result<Put, PoolFault>
+    ) -> Result<Put, SectorFault>
         requires usable { IsUsable (P.state pool.old).contents self.now.label self.now.records }
-        ensures puts { IfOk result (λ put. Puts (updated self.now.label (changes_of codes.now marks.now) (place_current_spec self.now.label (records_of self.now.records (P.state pool.old).contents) self.now.chained (option_map current_of current)) (records_of self.now.records (P.state pool.old).contents)) put (records_of self.now.records (P.state pool.old).contents) (records_of self.now.records (P.state pool.new).contents)) }
+        ensures puts { IfOk result (λ put. Puts (updated self.now.label (changes_of codes.now marks.now) (place_current_spec self.now.label (records_of self.now.records (P.state pool.old).contents) self.now.chained current) (records_of self.now.records (P.state pool.old).contents)) put (records_of self.now.records (P.state pool.old).contents) (records_of self.now.records (P.state pool.new).contents)) }
         ensures of_label { OnOk result (AreOf self.now.label (P.state pool.new).contents self.now.records) }
-        ensures within { ChangesWithin (Contains (sectors_of self.now.label)) (P.state pool.old) (P.state pool.new) }
-        ensures failures { (P.state pool.new).failures ≡ (P.state pool.old).failures + failed_transfers result }
-        ensures fault { IfErr result (λ fault. fault ≢ PoolFault.NoSector) }
+        ensures changes { Changes (sectors_of self.now.label) result (P.state pool.old) (P.state pool.new) }
     {
         match self.place_current(pool, current)? {
             None => Ok(Put::Refused(HaltCode::NothingToUpdate)),
@@ -476,12 +435,10 @@ impl OpenFile {
     }
 
     /// Closes the file: the index of an indexed file on the pack then has the keys of all its records.
-    pub fn close<P: Sectors>(self, pool: &mut P) -> Result<(), PoolFault>
+    pub fn close<P: Sectors>(self, pool: &mut P) -> Result<(), SectorFault>
         requires usable { IsUsable (P.state pool.old).contents self.label self.records }
         ensures kept { OnOk result (kept_on (record self.label { count = count_of self.records }) (P.state pool.new).contents ≡ record { records = records_of self.records (P.state pool.old).contents; has_good_index = true }) }
-        ensures within { ChangesWithin (Contains (sectors_of self.label)) (P.state pool.old) (P.state pool.new) }
-        ensures failures { (P.state pool.new).failures ≡ (P.state pool.old).failures + failed_transfers result }
-        ensures fault { IfErr result (λ fault. fault ≢ PoolFault.NoSector) }
+        ensures changes { Changes (sectors_of self.label) result (P.state pool.old) (P.state pool.new) }
     {
         match self.records {
             OpenRecords::InOrder(_) => Ok(()),
@@ -503,15 +460,13 @@ fn records_of_label<P: Sectors>(
     alloc: Global,
     pool: &mut P,
     label: &FileLabel,
-) -> Result<Option<OpenRecords>, PoolFault>
+) -> Result<Option<OpenRecords>, SectorFault>
     requires { IsOfPack (length (P.state pool.old).contents) label.now }
     ensures good { IfOk result (λ opened. (kept_on label.now (P.state pool.old).contents).has_good_index ≡ is_some opened) }
     ensures of_label { IfOk result (λ opened. IfSome opened (AreOf label.now (P.state pool.old).contents)) }
     ensures kept { IfOk result (λ opened. IfSome opened (λ records. (kept_on label.now (P.state pool.old).contents).records ≡ records_of records (P.state pool.old).contents)) }
     ensures count { IfOk result (λ opened. IfSome opened (λ records. count_of records ≡ label.now.count)) }
-    ensures keeps { KeepsContents (P.state pool.old) (P.state pool.new) }
-    ensures failures { (P.state pool.new).failures ≡ (P.state pool.old).failures + failed_transfers result }
-    ensures fault { IfErr result (λ fault. fault ≢ PoolFault.NoSector) }
+    ensures reads { Reads result (P.state pool.old) (P.state pool.new) }
 {
     if is_indexed(label.organization) {
         match by_key::check(alloc, pool, label)? {

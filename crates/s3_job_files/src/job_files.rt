@@ -1,5 +1,5 @@
 //! The files of a job at work.
-ghost use Rattle.std.specs.Prelude.{◌≡◌, ◌≢◌, ◌<◌, ◌+◌, ◌++◌, [], ◌∷◌, true, false, length, map, option_map, slice_get, nat_eq, IfOk, IfErr, IfSome, OnOk};
+ghost use Rattle.std.specs.Prelude.{◌≡◌, ◌<◌, ◌+◌, ◌++◌, [], ◌∷◌, true, false, length, map, slice_get, nat_eq, IfOk, IfSome, OnOk};
 ghost use Rattle.std.specs.List.{list_any, position_from};
 ghost use Rattle.std.specs.Cmp.Lexicographic.{pointwise};
 ghost use Rattle.s3_cards.specs.Names.{same_name};
@@ -15,11 +15,12 @@ ghost use Rattle.s3_job_files.specs.Inner.Calls.{found_answer, put_answer};
 ghost use Rattle.s3_job_files.specs.Inner.Records.{changes_of};
 
 use crate::closing::close_all;
-use crate::file::{Current, OpenFile};
+use crate::file::OpenFile;
 use crate::records::Put;
 use s3_cards::{LevelId, Name};
 use s3_labels::Pack;
-use s3_store::{PoolFault, Sectors};
+use s3_meaning::Current;
+use s3_store::{SectorFault, Sectors};
 use std::alloc::{AllocError, Global};
 
 /// The files of the job at work in a level, in the order in which they were opened.
@@ -51,7 +52,7 @@ fn position_of(files: &Vec<OpenFile>, name: Name) -> Option<usize>
 impl JobFiles {
     ghost use Rattle.s3_job_files.specs.Files.{FilesInUse, area_by, place_named};
     ghost use Rattle.s3_job_files.specs.Closing.{files_closed};
-    ghost use Rattle.s3_job_files.specs.Inner.Holds.{AllAt, HoldsRecords, Seen, Stands, seen, IsReady, IsOutOfReach, Holds, Serves, TakesRecord, current_of, job_file_of, opened_as};
+    ghost use Rattle.s3_job_files.specs.Inner.Holds.{AllAt, HoldsRecords, Seen, Stands, seen, IsReady, IsOutOfReach, Holds, Serves, TakesRecord, job_file_of, opened_as};
 
     /// The files of a job before any is opened: none.
     pub fn new(alloc: Global, level: LevelId) -> Self
@@ -104,7 +105,7 @@ impl JobFiles {
         pack: &mut Pack<P>,
         place: usize,
         bytes: &mut [u8],
-    ) -> Result<bool, PoolFault>
+    ) -> Result<bool, SectorFault>
         requires ready { IsReady self.old.level self.old.files.items (seen pack.old.areas (P.state pack.old.pool).contents) }
         requires there { place < length self.old.files.items }
         requires long { AllAt self.old.files.items place (λ file. length bytes.old ≡ file.label.record_length) }
@@ -113,7 +114,6 @@ impl JobFiles {
         ensures keeps { KeepsContents (P.state pack.old.pool) (P.state pack.new.pool) }
         ensures areas { pack.new.areas ≡ pack.old.areas }
         ensures failures { (P.state pack.new.pool).failures ≡ (P.state pack.old.pool).failures + failed_transfers result }
-        ensures fault { IfErr result (λ fault. fault ≢ PoolFault.NoSector) }
         ensures level { self.new.level ≡ self.old.level }
         ensures opened { map opened_as self.new.files.items ≡ map opened_as self.old.files.items }
     {
@@ -127,7 +127,7 @@ impl JobFiles {
         place: usize,
         key: &[u8],
         bytes: &mut [u8],
-    ) -> Result<bool, PoolFault>
+    ) -> Result<bool, SectorFault>
         requires ready { IsReady self.old.level self.old.files.items (seen pack.old.areas (P.state pack.old.pool).contents) }
         requires there { place < length self.old.files.items }
         requires indexed { AllAt self.old.files.items place (λ file. is_indexed file.label.organization ≡ true) }
@@ -138,7 +138,6 @@ impl JobFiles {
         ensures keeps { KeepsContents (P.state pack.old.pool) (P.state pack.new.pool) }
         ensures areas { pack.new.areas ≡ pack.old.areas }
         ensures failures { (P.state pack.new.pool).failures ≡ (P.state pack.old.pool).failures + failed_transfers result }
-        ensures fault { IfErr result (λ fault. fault ≢ PoolFault.NoSector) }
         ensures level { self.new.level ≡ self.old.level }
         ensures opened { map opened_as self.new.files.items ≡ map opened_as self.old.files.items }
     {
@@ -152,7 +151,7 @@ impl JobFiles {
         place: usize,
         number: i64,
         bytes: &mut [u8],
-    ) -> Result<bool, PoolFault>
+    ) -> Result<bool, SectorFault>
         requires ready { IsReady self.old.level self.old.files.items (seen pack.old.areas (P.state pack.old.pool).contents) }
         requires there { place < length self.old.files.items }
         requires long { AllAt self.old.files.items place (λ file. length bytes.old ≡ file.label.record_length) }
@@ -161,7 +160,6 @@ impl JobFiles {
         ensures keeps { KeepsContents (P.state pack.old.pool) (P.state pack.new.pool) }
         ensures areas { pack.new.areas ≡ pack.old.areas }
         ensures failures { (P.state pack.new.pool).failures ≡ (P.state pack.old.pool).failures + failed_transfers result }
-        ensures fault { IfErr result (λ fault. fault ≢ PoolFault.NoSector) }
         ensures level { self.new.level ≡ self.old.level }
         ensures opened { map opened_as self.new.files.items ≡ map opened_as self.old.files.items }
     {
@@ -177,7 +175,7 @@ impl JobFiles {
         pack: &mut Pack<P>,
         place: usize,
         bytes: &[u8],
-    ) -> Result<Put, PoolFault>
+    ) -> Result<Put, SectorFault>
         requires ready { IsReady self.old.level self.old.files.items (seen pack.old.areas (P.state pack.old.pool).contents) }
         requires there { place < length self.old.files.items }
         requires takes { AllAt self.old.files.items place (TakesRecord bytes.now) }
@@ -189,7 +187,6 @@ impl JobFiles {
         ensures says { KeepsSaid self.old.level pack.old.areas (P.state pack.old.pool).contents pack.new.areas (P.state pack.new.pool).contents }
         ensures areas { pack.new.areas ≡ pack.old.areas }
         ensures failures { (P.state pack.new.pool).failures ≡ (P.state pack.old.pool).failures + failed_transfers result }
-        ensures fault { IfErr result (λ fault. fault ≢ PoolFault.NoSector) }
         ensures level { self.new.level ≡ self.old.level }
         ensures opened { map opened_as self.new.files.items ≡ map opened_as self.old.files.items }
     {
@@ -205,7 +202,7 @@ impl JobFiles {
         pack: &mut Pack<P>,
         place: usize,
         bytes: &[u8],
-    ) -> Result<Put, PoolFault>
+    ) -> Result<Put, SectorFault>
         requires ready { IsReady self.old.level self.old.files.items (seen pack.old.areas (P.state pack.old.pool).contents) }
         requires there { place < length self.old.files.items }
         requires indexed { AllAt self.old.files.items place (λ file. is_indexed file.label.organization ≡ true) }
@@ -218,7 +215,6 @@ impl JobFiles {
         ensures says { KeepsSaid self.old.level pack.old.areas (P.state pack.old.pool).contents pack.new.areas (P.state pack.new.pool).contents }
         ensures areas { pack.new.areas ≡ pack.old.areas }
         ensures failures { (P.state pack.new.pool).failures ≡ (P.state pack.old.pool).failures + failed_transfers result }
-        ensures fault { IfErr result (λ fault. fault ≢ PoolFault.NoSector) }
         ensures level { self.new.level ≡ self.old.level }
         ensures opened { map opened_as self.new.files.items ≡ map opened_as self.old.files.items }
     {
@@ -236,11 +232,11 @@ impl JobFiles {
         current: Option<Current>,
         codes: &[u8],
         marks: &[bool],
-    ) -> Result<Put, PoolFault>
+    ) -> Result<Put, SectorFault>
         requires ready { IsReady self.now.level self.now.files.items (seen pack.old.areas (P.state pack.old.pool).contents) }
         requires there { place < length self.now.files.items }
         requires own { AllAt self.now.files.items place (λ file. file.is_master ≡ false) }
-        ensures serves { IfOk result (λ put. Serves (record_updated (option_map current_of current) (changes_of codes.now marks.now)) place (put_answer put) (Holds self.now.level self.now.files.items (seen pack.old.areas (P.state pack.old.pool).contents)) (Holds self.now.level self.now.files.items (seen pack.new.areas (P.state pack.new.pool).contents))) }
+        ensures serves { IfOk result (λ put. Serves (record_updated current (changes_of codes.now marks.now)) place (put_answer put) (Holds self.now.level self.now.files.items (seen pack.old.areas (P.state pack.old.pool).contents)) (Holds self.now.level self.now.files.items (seen pack.new.areas (P.state pack.new.pool).contents))) }
         ensures fits { IfOk result (λ put. fits_done refuses_update (put_answer put) ≡ true) }
         ensures ready { OnOk result (IsReady self.now.level self.now.files.items (seen pack.new.areas (P.state pack.new.pool).contents)) }
         ensures pack { IsPackReady pack.new.areas (P.state pack.new.pool).contents }
@@ -248,7 +244,6 @@ impl JobFiles {
         ensures says { KeepsSaid self.now.level pack.old.areas (P.state pack.old.pool).contents pack.new.areas (P.state pack.new.pool).contents }
         ensures areas { pack.new.areas ≡ pack.old.areas }
         ensures failures { (P.state pack.new.pool).failures ≡ (P.state pack.old.pool).failures + failed_transfers result }
-        ensures fault { IfErr result (λ fault. fault ≢ PoolFault.NoSector) }
     {
         self.files[place].update(&mut pack.pool, current, codes, marks)
     }
@@ -256,7 +251,7 @@ impl JobFiles {
     /// Closes all files: the count of each of the level's own is set, and the scratch files that the job made go.
     ///
     /// After a fault of the sectors no call on the pack is to be made.
-    pub fn close<P: Sectors>(self, pack: &mut Pack<P>) -> Result<(), PoolFault>
+    pub fn close<P: Sectors>(self, pack: &mut Pack<P>) -> Result<(), SectorFault>
         requires ready { IsReady self.level self.files.items (seen pack.old.areas (P.state pack.old.pool).contents) }
         ensures closes { OnOk result ((in_use : FilesInUse) → Holds self.level self.files.items (seen pack.old.areas (P.state pack.old.pool).contents) in_use → Holds self.level [] (seen pack.new.areas (P.state pack.new.pool).contents) (record { files = files_closed in_use.job_files in_use.files; job_files = [] })) }
         ensures ready { OnOk result (IsReady self.level [] (seen pack.new.areas (P.state pack.new.pool).contents)) }
@@ -265,7 +260,6 @@ impl JobFiles {
         ensures spares { KeepsInStep (IsOutOfReach self.level pack.old.areas.header) (P.state pack.old.pool) (P.state pack.new.pool) }
         ensures says { OnOk result (KeepsSaid self.level pack.old.areas (P.state pack.old.pool).contents pack.new.areas (P.state pack.new.pool).contents) }
         ensures failures { (P.state pack.new.pool).failures ≡ (P.state pack.old.pool).failures + failed_transfers result }
-        ensures fault { IfErr result (λ fault. fault ≢ PoolFault.NoSector) }
     {
         close_all(self.level, self.files, pack)
     }

@@ -4,7 +4,8 @@ ghost use Rattle.std.specs.Prelude.{◌≡◌, pos, negsuc, [], ◌∷◌, ◌++
 ghost use Rattle.s3_operator.specs.declared.halt_code.HaltCode.TheVariants.{DuplicateKey, FileFull, KeyChanged, KeyNotAscending, NothingToUpdate};
 ghost use Rattle.s3_slots.specs.Inner.Samples.{named};
 ghost use Rattle.s3_keyed.specs.Inner.Samples.{b_and_a, letter};
-ghost use Rattle.s3_meaning.specs.Requests.{Read, Chain, Append, Add, Update, Card, Key, RecordNumber, NthRead, LastChained, Found, Nothing, Done, Refused};
+ghost use Rattle.s3_meaning.specs.Requests.{Read, Chain, Append, Add, Update, Card, Key, RecordNumber, Found, Nothing, Done, Refused};
+ghost use Rattle.s3_meaning.specs.declared.current.Current.TheVariants.{NthRead, LastChained};
 ghost use Rattle.s3_job_files.specs.Records.{place_read, place_sought, appended, added, updated, overlaid};
 ghost use Rattle.s3_job_files.specs.Inner.Samples.{two_keys, b_a_and_c, fifth_byte, other_key, answer_behind, count_at_end};
 

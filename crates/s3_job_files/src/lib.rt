@@ -8,8 +8,8 @@
 //! - `JobFiles::read_next`, `chain_key`, `chain_number`, `append`, `add` and `update` answer what the definition answers, and
 //!   leave the files that it leaves; a refusal is one that the request allows;
 //! - `JobFiles::close` sets the count of each file and drops the scratch files that the job made;
-//! - reads change no sector, and all other calls none out of the level's reach, in the store itself too; labels that said the
-//!   slots still say them; and no call names a sector that isn't there.
+//! - reads change no sector, and all other calls none out of the level's reach, in the store itself too; and labels that said
+//!   the slots still say them.
 //!
 //! Worked rows are computed: `added_records_are_found_but_not_read`, `a_duplicate_is_told_before_a_full_file`,
 //! `an_update_keeps_the_key`, `the_end_of_a_job_sets_counts`.
@@ -27,7 +27,7 @@ mod job_files;
 mod laws;
 mod records;
 
-pub use file::{Current, OpenFile};
+pub use file::OpenFile;
 pub use job_files::JobFiles;
 pub use laws::{
     a_duplicate_is_told_before_a_full_file, added_records_are_found_but_not_read,

@@ -50,7 +50,7 @@ level_of old job pack is_open ready = (subst (λ (o : Option OpenJob). IsAtWorkR
 job_ready : (old : Level) (job : OpenJob) (pack : Seen) → old.job ≡ Some job → IsReady old pack → IsJobReady job.files.level job
 job_ready old job pack is_open ready =
     let at : IsJobReady old.id job = subst (λ (o : Option OpenJob). IsAtWorkReady old.id o) is_open ready.job in
-    record { level_of_files = refl; switches = at.switches; lines = at.lines }
+    record { level_of_files = refl; switches = at.switches; lines = at.lines; places = at.places }
 
 files_ready : (old : Level) (job : OpenJob) (pack : Seen) → old.job ≡ Some job → IsReady old pack → AreFilesReady job.files.level job.files.files.items pack
 files_ready old job pack is_open ready =
@@ -67,7 +67,7 @@ then_ready (Ok _) old job new_job before after is_open ready place can =
     let level : new_job.files.level ≡ old.id = place.level ∙ level_of old job before is_open ready in
     record {
       files = subst (λ (l : LevelId). AreFilesReady l new_job.files.files.items after) level can.files;
-      job = record { level_of_files = level; switches = can.job.switches; lines = can.job.lines };
+      job = record { level_of_files = level; switches = can.job.switches; lines = can.job.lines; places = can.job.places };
     }
 then_ready (Err _) old job new_job before after is_open ready place can = tt
 

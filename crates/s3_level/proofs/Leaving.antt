@@ -1,12 +1,12 @@
 -- What calls leave as it was and tell: past an answer or a fault, and one behind the other.
 use Rattle.std.proofs.Common.{◌≡◌, ◌≢◌, ◌+◌, ℕ, [], refl, sym, ap, subst, ◌∙◌, Bool, true, false, true≢false, Option, Some, None, Result, Ok, Err, arith}
-use Rattle.std.specs.Prelude.{IfErr, OnOk}
+use Rattle.std.specs.Prelude.{OnOk}
 use Rattle.std.specs.Result.{IsErrAnd}
 use Rattle.s3_cards.specs.declared.levels.LevelId.{LevelId}
 use Rattle.s3_store.specs.Inner.Failures.{failed_transfers}
 use Rattle.s3_store.specs.Inner.State.{PoolState, KeepsContents, KeepsInStep}
-use Rattle.s3_store.specs.declared.pool_fault.PoolFault.{PoolFault}
-use Rattle.s3_store.specs.declared.pool_fault.PoolFault.TheVariants.{NoMemory, NoSector}
+use Rattle.s3_store.specs.declared.sector_fault.SectorFault.{SectorFault}
+use Rattle.s3_store.specs.declared.sector_fault.SectorFault.TheVariants.{NoMemory}
 use Rattle.s3_labels.specs.Inner.Areas.{Areas, slots_at, with_slots, IsReady as IsPackReady}
 use Rattle.s3_labels.specs.Inner.Labelled.{KeepsSaid}
 use Rattle.s3_spool.specs.Inner.Queues.{Blocks}
@@ -37,49 +37,48 @@ on_ok (Err fault) it = tt
 -- ---- the pack
 -- past an answer another one is given
 pub pack_ok : {T U : Type 0} {level : LevelId} {first : T} {old new : Areas} {s t : PoolState} (answer : U) → LeavesPack level (Ok first) old new s t → LeavesPack level (Ok answer) old new s t
-pack_ok answer leaves = record { others = leaves.others; says = leaves.says; failures = leaves.failures; fault = tt }
+pack_ok answer leaves = record { others = leaves.others; says = leaves.says; failures = leaves.failures }
 
 -- a fault is passed on
-pub pack_err : {T U : Type 0} {level : LevelId} {fault : PoolFault} {old new : Areas} {s t : PoolState} (result : Result U PoolFault) → IsErrAnd result (λ f. f ≡ fault) → LeavesPack {T = T} level (Err fault) old new s t
+pub pack_err : {T U : Type 0} {level : LevelId} {fault : SectorFault} {old new : Areas} {s t : PoolState} (result : Result U SectorFault) → IsErrAnd result (λ f. f ≡ fault) → LeavesPack {T = T} level (Err fault) old new s t
     → LeavesPack level result old new s t
 pack_err (Ok answer) is leaves = absurd is
 pack_err {U = U} {s = s} {t = t} (Err f) is leaves = record {
   others = leaves.others;
   says = tt;
-  failures = subst (λ (g : PoolFault). t.failures ≡ s.failures + failed_transfers {T = U} (Err g)) (sym is) leaves.failures;
-  fault = rw is leaves.fault;
+  failures = subst (λ (g : SectorFault). t.failures ≡ s.failures + failed_transfers {T = U} (Err g)) (sym is) leaves.failures;
 }
 
 -- nothing was done
 pub pack_kept : {T : Type 0} (level : LevelId) (areas : Areas) (s : PoolState) (answer : T) → IsPackReady areas s.contents → LeavesPack level (Ok answer) areas areas s s
-pack_kept level areas s answer ready = record { others = others_same level areas s ready; says = λ said. said; failures = omega arith; fault = tt }
+pack_kept level areas s answer ready = record { others = others_same level areas s ready; says = λ said. said; failures = omega arith }
 
 -- memory ran out behind what was done
-pub pack_spent : {T U : Type 0} {level : LevelId} {first : T} {old new : Areas} {s t : PoolState} (result : Result U PoolFault) → IsErrAnd result (λ f. f ≡ NoMemory) → LeavesPack level (Ok first) old new s t → LeavesPack level result old new s t
+pub pack_spent : {T U : Type 0} {level : LevelId} {first : T} {old new : Areas} {s t : PoolState} (result : Result U SectorFault) → IsErrAnd result (λ f. f ≡ NoMemory) → LeavesPack level (Ok first) old new s t → LeavesPack level result old new s t
 pack_spent (Ok answer) is leaves = absurd is
-pack_spent (Err f) is leaves = rw is (record { others = leaves.others; says = tt; failures = leaves.failures; fault = λ clash. cc })
+pack_spent (Err f) is leaves = rw is (record { others = leaves.others; says = tt; failures = leaves.failures })
 
 -- slots of the level's own were set
-pub pack_closed : {T : Type 0} {level : LevelId} {old new : Areas} {s t : PoolState} (result : Result T PoolFault) → IsPackReady new t.contents → new ≡ with_slots level (slots_at level new) old → KeepsInStep (IsOutOfReach level old.header) s t
-    → OnOk result (KeepsSaid level old s.contents new t.contents) → t.failures ≡ s.failures + failed_transfers result → IfErr result (λ f. f ≢ NoSector) → LeavesPack level result old new s t
-pack_closed {level = level} {old = old} {new = new} {s = s} {t = t} result pack alone spares says failures fault = record { others = others_closed level old new s t pack alone spares; says = says; failures = failures; fault = fault }
+pub pack_closed : {T : Type 0} {level : LevelId} {old new : Areas} {s t : PoolState} (result : Result T SectorFault) → IsPackReady new t.contents → new ≡ with_slots level (slots_at level new) old → KeepsInStep (IsOutOfReach level old.header) s t
+    → OnOk result (KeepsSaid level old s.contents new t.contents) → t.failures ≡ s.failures + failed_transfers result → LeavesPack level result old new s t
+pack_closed {level = level} {old = old} {new = new} {s = s} {t = t} result pack alone spares says failures = record { others = others_closed level old new s t pack alone spares; says = says; failures = failures }
 
 -- no slot was set
-pub pack_changed : {T : Type 0} {level : LevelId} {old new : Areas} {s t : PoolState} (result : Result T PoolFault) → IsPackReady new t.contents → KeepsInStep (IsOutOfReach level old.header) s t → new ≡ old
-    → KeepsSaid level old s.contents new t.contents → t.failures ≡ s.failures + failed_transfers result → IfErr result (λ f. f ≢ NoSector) → LeavesPack level result old new s t
-pack_changed {level = level} {old = old} {new = new} {s = s} {t = t} result pack spares same says failures fault = record { others = others_spared level old new s t pack spares same; says = on_ok result says; failures = failures; fault = fault }
+pub pack_changed : {T : Type 0} {level : LevelId} {old new : Areas} {s t : PoolState} (result : Result T SectorFault) → IsPackReady new t.contents → KeepsInStep (IsOutOfReach level old.header) s t → new ≡ old
+    → KeepsSaid level old s.contents new t.contents → t.failures ≡ s.failures + failed_transfers result → LeavesPack level result old new s t
+pack_changed {level = level} {old = old} {new = new} {s = s} {t = t} result pack spares same says failures = record { others = others_spared level old new s t pack spares same; says = on_ok result says; failures = failures }
 
 -- no sector changed either
-pub pack_read : {T : Type 0} {level : LevelId} {old new : Areas} {s t : PoolState} (result : Result T PoolFault) → IsPackReady old s.contents → KeepsContents s t → new ≡ old → t.failures ≡ s.failures + failed_transfers result → IfErr result (λ f. f ≢ NoSector)
+pub pack_read : {T : Type 0} {level : LevelId} {old new : Areas} {s t : PoolState} (result : Result T SectorFault) → IsPackReady old s.contents → KeepsContents s t → new ≡ old → t.failures ≡ s.failures + failed_transfers result
     → LeavesPack level result old new s t
-pack_read {level = level} {old = old} {new = new} {s = s} {t = t} result pack keeps same failures fault =
-    record { others = others_kept level old new s t pack keeps same; says = on_ok result (said_same level old new s t keeps same); failures = failures; fault = fault }
+pack_read {level = level} {old = old} {new = new} {s = s} {t = t} result pack keeps same failures =
+    record { others = others_kept level old new s t pack keeps same; says = on_ok result (said_same level old new s t keeps same); failures = failures }
 
 -- ---- the files at the start of a job
 -- they were opened
 pub pack_opened : (job_files : JobFiles) {level : LevelId} {old new : Areas} {s t : PoolState} → IsPackReady new t.contents → new ≡ with_slots level (slots_at level new) old → KeepsInStep (IsOutOfReach level old.header) s t
     → KeepsSaid level old s.contents new t.contents → t.failures ≡ s.failures + failed_opening (Ok job_files) → LeavesPack level (Ok job_files) old new s t
-pack_opened job_files pack alone spares says failures = pack_closed (Ok job_files) pack alone spares says failures tt
+pack_opened job_files pack alone spares says failures = pack_closed (Ok job_files) pack alone spares says failures
 
 -- what is so where a job halts
 pub if_halted : {A : Type 0} {fault : OpeningFault} {code : HaltCode} → fault ≡ Halted code → IfHalted fault A → A
@@ -89,17 +88,16 @@ if_halted {fault = Sectors stop} is it = cc
 -- the job halts, and nothing was done
 pub pack_halted : {level : LevelId} {fault : OpeningFault} {code : HaltCode} {old new : Areas} {s t : PoolState} → fault ≡ Halted code → IsPackReady old s.contents → IfHalted fault (new ≡ old) → IfHalted fault (KeepsContents s t)
     → t.failures ≡ s.failures + failed_opening {T = JobFiles} (Err fault) → LeavesPack level (Ok (tt {0})) old new s t
-pack_halted {fault = Halted code} is pack same keeps failures = pack_read (Ok (tt {0})) pack keeps same failures tt
+pack_halted {fault = Halted code} is pack same keeps failures = pack_read (Ok (tt {0})) pack keeps same failures
 pack_halted {fault = Sectors fault} is pack same keeps failures = cc
 
 -- ---- one call behind another
-pub pack_then : {T U : Type 0} {level : LevelId} {first : T} {old middle new : Areas} {s t u : PoolState} (result : Result U PoolFault) → LeavesPack level (Ok first) old middle s t → LeavesPack level result middle new t u
+pub pack_then : {T U : Type 0} {level : LevelId} {first : T} {old middle new : Areas} {s t u : PoolState} (result : Result U SectorFault) → LeavesPack level (Ok first) old middle s t → LeavesPack level result middle new t u
     → LeavesPack level result old new s u
 pack_then {level = level} {old = old} {middle = middle} {new = new} {s = s} {t = t} {u = u} result first second = record {
   others = others_then level old middle new s t u first.others second.others;
   says = said_then result level level old middle new s.contents t.contents u.contents refl first.says second.says;
   failures = second.failures ∙ ap (λ (n : ℕ). n + failed_transfers result) (let same : t.failures ≡ s.failures = omega (arith, first.failures) in same);
-  fault = second.fault;
 }
 
 -- ---- the job at work
@@ -120,7 +118,7 @@ job_passed {job = job} {areas = areas} {s = s} passes ready = record {
 }
 
 -- the file failed
-pub job_failed : {T : Type 0} {fault : PoolFault} {old new : OpenJob} {before after : Areas} {s t : PoolState} (result : Result Bool PoolFault) → IsErrAnd result (λ f. f ≡ fault) → HasFile old (seen before s.contents) → KeepsPlace old new
+pub job_failed : {T : Type 0} {fault : SectorFault} {old new : OpenJob} {before after : Areas} {s t : PoolState} (result : Result Bool SectorFault) → IsErrAnd result (λ f. f ≡ fault) → HasFile old (seen before s.contents) → KeepsPlace old new
     → LeavesPack {T = T} old.files.level (Err fault) before after s t → ServesJob result old new before after s t
 job_failed (Ok answer) is has place leaves = absurd is
 job_failed (Err f) is has place leaves = record { serves = tt; fails = has; untouched = tt; ready = tt; place = place; pack = pack_err (Err f) is leaves }
@@ -145,7 +143,7 @@ ready_kept {old = old} {new = new} {pack = pack} keeps ready = record {
 pub leaves_ok : {T U : Type 0} {first : T} {old new : Level} {before after : Areas} {s t : PoolState} (answer : U) → Leaves (Ok first) old new before after s t → Leaves (Ok answer) old new before after s t
 leaves_ok answer leaves = record { stays = leaves.stays; ready = leaves.ready; pack = pack_ok answer leaves.pack }
 
-pub leaves_err : {T U : Type 0} {fault : PoolFault} {old new : Level} {before after : Areas} {s t : PoolState} (result : Result U PoolFault) → IsErrAnd result (λ f. f ≡ fault) → Leaves {T = T} (Err fault) old new before after s t
+pub leaves_err : {T U : Type 0} {fault : SectorFault} {old new : Level} {before after : Areas} {s t : PoolState} (result : Result U SectorFault) → IsErrAnd result (λ f. f ≡ fault) → Leaves {T = T} (Err fault) old new before after s t
     → Leaves result old new before after s t
 leaves_err (Ok answer) is leaves = absurd is
 leaves_err (Err f) is leaves = record { stays = leaves.stays; ready = tt; pack = pack_err (Err f) is leaves.pack }
@@ -158,16 +156,16 @@ pub leaves_same : {T : Type 0} {level : Level} {areas : Areas} {s : PoolState} (
 leaves_same {level = level} answer ready = leaves_kept answer ready (record { stays = still level; job = refl })
 
 -- memory ran out, and of the pack that is left which was
-pub leaves_spent : {T U : Type 0} {old new : Level} {first : T} {before after : Areas} {s t : PoolState} (result : Result U PoolFault) → IsErrAnd result (λ f. f ≡ NoMemory) → Stays old new → LeavesPack old.id (Ok first) before after s t
+pub leaves_spent : {T U : Type 0} {old new : Level} {first : T} {before after : Areas} {s t : PoolState} (result : Result U SectorFault) → IsErrAnd result (λ f. f ≡ NoMemory) → Stays old new → LeavesPack old.id (Ok first) before after s t
     → Leaves result old new before after s t
 leaves_spent (Ok answer) is stays pack = absurd is
 leaves_spent (Err f) is stays pack = record { stays = stays; ready = tt; pack = pack_spent (Err f) is pack }
 
-pub leaves_memory : {T : Type 0} {old new : Level} {areas : Areas} {s : PoolState} (result : Result T PoolFault) → IsErrAnd result (λ f. f ≡ NoMemory) → IsPackReady areas s.contents → Stays old new → Leaves result old new areas areas s s
+pub leaves_memory : {T : Type 0} {old new : Level} {areas : Areas} {s : PoolState} (result : Result T SectorFault) → IsErrAnd result (λ f. f ≡ NoMemory) → IsPackReady areas s.contents → Stays old new → Leaves result old new areas areas s s
 leaves_memory {old = old} {areas = areas} {s = s} result is ready stays = leaves_spent result is stays (pack_kept old.id areas s (tt {0}) ready)
 
 -- a call behind one that left the pack as it was
-pub leaves_behind : {T : Type 0} {result : Result T PoolFault} {old middle new : Level} {before after : Areas} {s t : PoolState} → Stays old middle → Leaves result middle new before after s t → Leaves result old new before after s t
+pub leaves_behind : {T : Type 0} {result : Result T SectorFault} {old middle new : Level} {before after : Areas} {s t : PoolState} → Stays old middle → Leaves result middle new before after s t → Leaves result old new before after s t
 leaves_behind {result = result} {old = old} {middle = middle} {new = new} {before = before} {after = after} {s = s} {t = t} stays leaves = record {
   stays = stays_then old middle new stays leaves.stays;
   ready = leaves.ready;
@@ -175,7 +173,7 @@ leaves_behind {result = result} {old = old} {middle = middle} {new = new} {befor
 }
 
 -- and behind one that didn't
-pub leaves_then : {T U : Type 0} {first : T} {result : Result U PoolFault} {old middle new : Level} {before between after : Areas} {s t u : PoolState} → Leaves (Ok first) old middle before between s t → Leaves result middle new between after t u
+pub leaves_then : {T U : Type 0} {first : T} {result : Result U SectorFault} {old middle new : Level} {before between after : Areas} {s t u : PoolState} → Leaves (Ok first) old middle before between s t → Leaves result middle new between after t u
     → Leaves result old new before after s u
 leaves_then {result = result} {old = old} {middle = middle} {new = new} {between = between} {after = after} {t = t} {u = u} first second = record {
   stays = stays_then old middle new first.stays second.stays;
@@ -184,7 +182,7 @@ leaves_then {result = result} {old = old} {middle = middle} {new = new} {between
 }
 
 -- the job at work had its request served
-pub leaves_served : {result : Result Bool PoolFault} {old : Level} {job new_job : OpenJob} {before after : Areas} {s t : PoolState} → old.job ≡ Some job → IsReady old (seen before s.contents) → ServesJob result job new_job before after s t
+pub leaves_served : {result : Result Bool SectorFault} {old : Level} {job new_job : OpenJob} {before after : Areas} {s t : PoolState} → old.job ≡ Some job → IsReady old (seen before s.contents) → ServesJob result job new_job before after s t
     → Leaves result old (record old { job = Some new_job }) before after s t
 leaves_served {result = result} {old = old} {job = job} {new_job = new_job} {before = before} {after = after} {s = s} {t = t} is_open ready serves = record {
   stays = stays_with refl;
@@ -193,7 +191,7 @@ leaves_served {result = result} {old = old} {job = job} {new_job = new_job} {bef
 }
 
 -- it was closed
-pub leaves_closed : {T : Type 0} (result : Result T PoolFault) {old new : Level} {job : OpenJob} {before after : Areas} {s t : PoolState} → old.job ≡ Some job → IsReady old (seen before s.contents) → new ≡ record old { job = None }
+pub leaves_closed : {T : Type 0} (result : Result T SectorFault) {old new : Level} {job : OpenJob} {before after : Areas} {s t : PoolState} → old.job ≡ Some job → IsReady old (seen before s.contents) → new ≡ record old { job = None }
     → OnOk result (AreFilesReady job.files.level [] (seen after t.contents)) → LeavesPack job.files.level result before after s t → Leaves result old new before after s t
 leaves_closed {T = T} result {old = old} {new = new} {job = job} {before = before} {after = after} {s = s} {t = t} is_open ready is files leaves = record {
   stays = stays_with is;
@@ -204,23 +202,22 @@ leaves_closed {T = T} result {old = old} {new = new} {job = job} {before = befor
     same : job.files.level ≡ old.id
     same = level_of old job (seen before s.contents) is_open ready
 
-    by : (r : Result T PoolFault) → OnOk r (AreFilesReady job.files.level [] (seen after t.contents)) → OnOk r (IsReady new (seen after t.contents))
+    by : (r : Result T SectorFault) → OnOk r (AreFilesReady job.files.level [] (seen after t.contents)) → OnOk r (IsReady new (seen after t.contents))
     by (Ok answer) it = ready_over old new (seen after t.contents) is (subst (λ (level : LevelId). AreFilesReady level [] (seen after t.contents)) same it)
     by (Err fault) it = tt
 
 -- ---- the level beside the queues
 pub all_ok : {T U : Type 0} {first : T} {old new : Level} {before after : Around} (answer : U) → LeavesAll (Ok first) old new before after → LeavesAll (Ok answer) old new before after
-all_ok answer leaves = record { stays = leaves.stays; ready = leaves.ready; spares = leaves.spares; says = leaves.says; failures = leaves.failures; fault = tt }
+all_ok answer leaves = record { stays = leaves.stays; ready = leaves.ready; spares = leaves.spares; says = leaves.says; failures = leaves.failures }
 
-pub all_err : {T U : Type 0} {fault : PoolFault} {old new : Level} {before after : Around} (result : Result U PoolFault) → IsErrAnd result (λ f. f ≡ fault) → LeavesAll {T = T} (Err fault) old new before after → LeavesAll result old new before after
+pub all_err : {T U : Type 0} {fault : SectorFault} {old new : Level} {before after : Around} (result : Result U SectorFault) → IsErrAnd result (λ f. f ≡ fault) → LeavesAll {T = T} (Err fault) old new before after → LeavesAll result old new before after
 all_err (Ok answer) is leaves = absurd is
 all_err {U = U} {before = before} {after = after} (Err f) is leaves = record {
   stays = leaves.stays;
   ready = tt;
   spares = leaves.spares;
   says = tt;
-  failures = subst (λ (g : PoolFault). after.state.failures ≡ before.state.failures + failed_transfers {T = U} (Err g)) (sym is) leaves.failures;
-  fault = rw is leaves.fault;
+  failures = subst (λ (g : SectorFault). after.state.failures ≡ before.state.failures + failed_transfers {T = U} (Err g)) (sym is) leaves.failures;
 }
 
 -- nothing was done
@@ -231,11 +228,10 @@ all_same {level = level} {beside = beside} answer ready are = record {
   spares = spares_none level.id beside ready.files.pack are;
   says = λ said. said;
   failures = omega arith;
-  fault = tt;
 }
 
 -- a call on the files leaves the queues
-pub all_files : {T : Type 0} {result : Result T PoolFault} {old new : Level} {before after : Areas} {s t : PoolState} (blocks : Blocks) → IsPackReady before s.contents → AreAll blocks → Leaves result old new before after s t
+pub all_files : {T : Type 0} {result : Result T SectorFault} {old new : Level} {before after : Areas} {s t : PoolState} (blocks : Blocks) → IsPackReady before s.contents → AreAll blocks → Leaves result old new before after s t
     → LeavesAll result old new (around before s blocks) (around after t blocks)
 all_files {old = old} {before = before} {after = after} {s = s} {t = t} blocks pack are leaves = record {
   stays = leaves.stays;
@@ -243,19 +239,18 @@ all_files {old = old} {before = before} {after = after} {s = s} {t = t} blocks p
   spares = spares_files old.id before after blocks s t pack are leaves.pack.others;
   says = leaves.pack.says;
   failures = leaves.pack.failures;
-  fault = leaves.pack.fault;
 }
 
 -- one entry alone
-pub all_once : {old new : Level} {before after : Around} (answer : Result Did PoolFault) (result : Result Taken PoolFault) → result ≡ once answer → LeavesAll answer old new before after → LeavesAll result old new before after
-all_once {old = old} {new = new} {before = before} {after = after} answer result is leaves = subst (λ (r : Result Taken PoolFault). LeavesAll r old new before after) (sym is) (by answer leaves)
+pub all_once : {old new : Level} {before after : Around} (answer : Result Did SectorFault) (result : Result Taken SectorFault) → result ≡ once answer → LeavesAll answer old new before after → LeavesAll result old new before after
+all_once {old = old} {new = new} {before = before} {after = after} answer result is leaves = subst (λ (r : Result Taken SectorFault). LeavesAll r old new before after) (sym is) (by answer leaves)
   where
-    by : (a : Result Did PoolFault) → LeavesAll a old new before after → LeavesAll (once a) old new before after
-    by (Ok did) l = record { stays = l.stays; ready = l.ready; spares = l.spares; says = l.says; failures = l.failures; fault = tt }
-    by (Err fault) l = record { stays = l.stays; ready = tt; spares = l.spares; says = tt; failures = l.failures; fault = l.fault }
+    by : (a : Result Did SectorFault) → LeavesAll a old new before after → LeavesAll (once a) old new before after
+    by (Ok did) l = record { stays = l.stays; ready = l.ready; spares = l.spares; says = l.says; failures = l.failures }
+    by (Err fault) l = record { stays = l.stays; ready = tt; spares = l.spares; says = tt; failures = l.failures }
 
 -- one call behind another
-pub all_then : {T U : Type 0} {first : T} {result : Result U PoolFault} {old middle new : Level} {before between after : Around} → LeavesAll (Ok first) old middle before between → LeavesAll result middle new between after
+pub all_then : {T U : Type 0} {first : T} {result : Result U SectorFault} {old middle new : Level} {before between after : Around} → LeavesAll (Ok first) old middle before between → LeavesAll result middle new between after
     → LeavesAll result old new before after
 all_then {result = result} {old = old} {middle = middle} {new = new} {before = before} {between = between} {after = after} first second = record {
   stays = stays_then old middle new first.stays second.stays;
@@ -263,5 +258,4 @@ all_then {result = result} {old = old} {middle = middle} {new = new} {before = b
   spares = spares_then old.id before between after first.spares (subst (λ (level : LevelId). Spares level between after) first.stays.id second.spares);
   says = said_then result old.id middle.id before.areas between.areas after.areas before.state.contents between.state.contents after.state.contents first.stays.id first.says second.says;
   failures = second.failures ∙ ap (λ (n : ℕ). n + failed_transfers result) (let same : between.state.failures ≡ before.state.failures = omega (arith, first.failures) in same);
-  fault = second.fault;
 }

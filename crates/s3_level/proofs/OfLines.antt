@@ -1,9 +1,11 @@
 -- The open file of a request: it is that of the F line that allows the request.
-use Rattle.std.proofs.Common.{◌≡◌, ◌≤◌, ℕ, zero, suc, Bool, true, false, not, ◌&&◌, List, [], ◌∷◌, length, map, filter, refl, sym, ap, ◌∙◌, subst, arith}
-use Rattle.std.specs.Prelude.{slice_get, Option, Some, None, is_some, nat_le, cond, ⊤}
-use Rattle.std.specs.List.{list_all}
+use Rattle.std.proofs.Common.{◌≡◌, ◌<◌, ◌≤◌, ◌+◌, ℕ, zero, suc, Bool, true, false, not, ◌&&◌, List, [], ◌∷◌, length, map, filter, get_or, refl, sym, ap, ◌∙◌, subst, arith}
+use Rattle.std.specs.Prelude.{slice_get, Option, Some, None, is_some, nat_le, cond}
+use Rattle.std.specs.List.{list_all, position_from}
 use Rattle.std.proofs.lemmas.Bool.{and_parts}
 use Rattle.std.proofs.lemmas.Bool.Decides.{nat_tests}
+use Rattle.std.proofs.lemmas.Option.{slice_get-get_or}
+use Rattle.s3_cards.specs.declared.name.Name.{Name}
 use Rattle.s3_cards.specs.Names.{same_name}
 use Rattle.s3_cards.proofs.NameLemmas.{same_name-equal}
 use Rattle.s3_cards.specs.declared.levels.LevelId.{LevelId}
@@ -22,14 +24,15 @@ use Rattle.s3_program.specs.FileEntries.{file_entry}
 use Rattle.s3_program.proofs.SlotLemmas.{kept, own_slot}
 use Rattle.s3_program.specs.Inner.Tables.{slot_in}
 use Rattle.s3_match.specs.Inner.Types.{name_of_file}
-use Rattle.s3_job_files.specs.Files.{place_named}
+use Rattle.s3_job_files.specs.Files.{JobFile, place_named}
 use Rattle.s3_job_files.specs.Inner.Holds.{AllAt, OpenedAs, TakesRecord as Takes, job_file_of, opened_as}
 use Rattle.s3_job_files.specs.declared.file.OpenFile.{OpenFile}
-use Rattle.s3_job_files.proofs.Lists.{found_passes, get_mapped}
+use Rattle.s3_job_files.proofs.Lists.{found_passes, get_mapped, position_map, within_get}
+use Rattle.s3_slots.specs.Labels.{is_indexed}
 use Rattle.s3_opening.specs.Asked.{is_input, is_only_read as is_only_read_by, is_used, key_length_of}
 use Rattle.s3_opening.specs.Inner.OpenFiles.{AreOfEach, IsLaidOutAs, IsOfLine}
-use Rattle.s3_meaning.specs.Output.{filled}
 use Rattle.s3_meaning.specs.Source.{Source}
+use Rattle.s3_meaning.specs.declared.current.Current.{Current}
 use Rattle.s3_cycle.specs.declared.request.Request.{Request as ProgramRequest}
 use Rattle.s3_cycle.specs.declared.request.Request.TheVariants as asks
 use Rattle.s3_cycle.specs.declared.request.Sought.{Sought}
@@ -37,10 +40,10 @@ use Rattle.s3_cycle.specs.declared.request.Sought.TheVariants.{Key, RecordNumber
 use Rattle.s3_cycle.specs.declared.stepper.Stepper.{Stepper}
 use Rattle.s3_cycle.specs.Inner.Following.{StandsFor, asked, files, put}
 use Rattle.s3_cycle.specs.Inner.Requests.{FitsFile, IsDiskFile, IsReadInOrder, IsChainedBy, IsSoughtBy, TakesRecord, TakesAddition, TakesChanges, is_only_read}
-use Rattle.s3_cycle.proofs.FollowLemmas.{file_filled, files_stay, slot_named}
+use Rattle.s3_cycle.proofs.FollowLemmas.{files_stay, slot_named}
 use Rattle.s3_level.specs.declared.job.OpenJob.{OpenJob}
-use Rattle.s3_level.specs.Inner.Holds.{IsJobReady}
-use Rattle.s3_level.specs.Inner.Turning.{IsForFile, IsForRecord, SuitsRequest, SuitsSought}
+use Rattle.s3_level.specs.Inner.Holds.{IsJobReady, places_of}
+use Rattle.s3_level.specs.Inner.Turning.{SuitsSought}
 
 -- ---- lists
 some_same : {X : Type 0} (x y : X) → Some x ≡ Some y → x ≡ y
@@ -108,6 +111,41 @@ file_of_line level job slot place line file ready there found at =
     let among = in_filtered (is_used ready.switches) (files job.cycle) place is.0 is.1 in
     subst (λ (one : FileLine). IsOfLine one file) (line_named job.cycle among.0 slot is.0 line among.1 there (sym is.2.name ∙ named)) is.2
 
+-- the place that stands at a slot is that of the file of its name
+named_at : (level : LevelId) (job : OpenJob) (slot : ℕ) (line : FileLine) → IsJobReady level job → slice_get (files job.cycle) slot ≡ Some line
+    → slice_get job.places.items slot ≡ Some (place_named line.name (map job_file_of job.files.files.items))
+named_at level job slot line ready there =
+    ap (λ (places : List (Option ℕ)). slice_get places slot) ready.places ∙ get_mapped (λ (one : FileLine). place_named one.name (map job_file_of job.files.files.items)) (files job.cycle) slot line there
+
+pub slot_there : (level : LevelId) (job : OpenJob) (slot : ℕ) (Suits : FileLine → Type 0) → IsJobReady level job → IsDiskFile (files job.cycle) slot Suits → slot < length job.places.items
+slot_there level job slot Suits ready is = within_get job.places.items slot _ (named_at level job slot is.line ready is.there)
+
+-- what was read there is this place
+abbrev pub IsPlace : (job : OpenJob) (slot : ℕ) (place : Option ℕ) → Type 0
+IsPlace job slot place = (read : Option ℕ) × (read ≡ get_or job.places.items slot read) × (read ≡ place)
+
+pub place_at : (level : LevelId) (job : OpenJob) (slot : ℕ) (place : Option ℕ) (Suits : FileLine → Type 0) → IsJobReady level job → IsDiskFile (files job.cycle) slot Suits
+    → IsPlace job slot place → place_named (name_of_file job.cycle.program slot) (map job_file_of job.files.files.items) ≡ place
+place_at level job slot place Suits ready is there =
+    ap (λ (name : Name). place_named name (map job_file_of job.files.files.items)) (slot_named job.cycle slot is.line is.there)
+    ∙ some_same _ _ (sym (named_at level job slot is.line ready is.there)
+    ∙ slice_get-get_or job.places.items slot there.0 (slot_there level job slot Suits ready is) ∙ ap Some (sym there.1 ∙ there.2))
+
+-- a place that was found is one of a file
+found_within : {X : Type 0} (t : X → Bool) (i : ℕ) (xs : List X) (p : ℕ) → position_from t i xs ≡ Some p → p < i + length xs
+found_within t i [] p found = absurd cc
+found_within {X} t i (x ∷ xs) p found = by (t x) found (found_within t (i + 1) xs p)
+  where
+    by : (b : Bool) → cond b (Some i) (position_from t (i + 1) xs) ≡ Some p → (position_from t (i + 1) xs ≡ Some p → p < i + 1 + length xs) → p < i + length (x ∷ xs)
+    by true here behind = let same : i ≡ p = cc in omega (arith, same)
+    by false there behind = omega (arith, behind there)
+
+pub place_within : (name : Name) (items : List OpenFile) (place : ℕ) → place_named name (map job_file_of items) ≡ Some place → place < length items
+place_within name items place found =
+    let within : place < 0 + length items =
+    found_within (λ (file : OpenFile). same_name file.name name) 0 items place (sym (position_map job_file_of (λ (file : JobFile). same_name file.name name) 0 items) ∙ found) in
+    omega (arith, within)
+
 -- ---- what a request asks of it
 -- what a file on disk is asked, and the line that its open file is of
 record IsOpenAs (Suits : FileLine → Type 0) (file : OpenFile) : Type 0 where
@@ -116,9 +154,9 @@ record IsOpenAs (Suits : FileLine → Type 0) (file : OpenFile) : Type 0 where
   of_line : IsOfLine line file
 
 open_as : (level : LevelId) (job : OpenJob) (slot place : ℕ) (Suits : FileLine → Type 0) → IsJobReady level job → IsDiskFile (files job.cycle) slot Suits
-    → place_named (name_of_file job.cycle.program slot) (map job_file_of job.files.files.items) ≡ Some place → AllAt job.files.files.items place (IsOpenAs Suits)
-open_as level job slot place Suits ready fits found file at =
-    record { line = fits.line; suits = fits.suits; of_line = file_of_line level job slot place fits.line file ready fits.there found at }
+    → IsPlace job slot (Some place) → AllAt job.files.files.items place (IsOpenAs Suits)
+open_as level job slot place Suits ready fits there file at =
+    record { line = fits.line; suits = fits.suits; of_line = file_of_line level job slot place fits.line file ready fits.there (place_at level job slot (Some place) Suits ready fits there) at }
 
 -- its keys are as long as the one that is sought
 sought_by : (key : Option KeyField) (what : Sought) (line : FileLine) (file : OpenFile) → line.key ≡ key → IsSoughtBy key what → IsOfLine line file → SuitsSought what file
@@ -139,75 +177,67 @@ not_only_read line is = by line.usage is
 takes_record : (line : FileLine) (file : OpenFile) (bytes : List ℕ) → TakesRecord (length bytes) line → IsOfLine line file → Takes bytes file
 takes_record line file bytes takes of_line = record { own = of_line.own (not_only_read line takes.put_out); long = takes.long ∙ sym of_line.layout.record_length }
 
--- the file that is open under the name of its slot suits the pending request
-pub suits : (level : LevelId) (job : OpenJob) (slot place : ℕ) → IsJobReady level job → IsForFile slot (asked job.cycle) → FitsFile (files job.cycle) (asked job.cycle) (put job.cycle)
-    → place_named (name_of_file job.cycle.program slot) (map job_file_of job.files.files.items) ≡ Some place → AllAt job.files.files.items place (SuitsRequest (asked job.cycle) (put job.cycle))
-suits level job slot place ready for_file fits found = by (asked job.cycle) for_file fits (file_filled (files job.cycle) (asked job.cycle) (put job.cycle) fits)
-  where
-    open_at : (Suits : FileLine → Type 0) (file : ℕ) → file ≡ slot → IsDiskFile (files job.cycle) file Suits → AllAt job.files.files.items place (IsOpenAs Suits)
-    open_at Suits file same is = open_as level job slot place Suits ready (subst (λ k. IsDiskFile (files job.cycle) k Suits) same is) found
+-- its F line allows the request
+pub allows : {X : Type 0} (c : Stepper) (request : ProgramRequest) (positions : List X) → asked c ≡ request → FitsFile (files c) (asked c) positions → FitsFile (files c) request positions
+allows c request positions is fits = subst (λ (r : ProgramRequest). FitsFile (files c) r positions) is fits
 
-    by : (request : ProgramRequest) → IsForFile slot request → FitsFile (files job.cycle) request (put job.cycle) → FitsFile (files job.cycle) request (filled (put job.cycle))
-        → AllAt job.files.files.items place (SuitsRequest request (put job.cycle))
-    by (asks.Read file size) same is whole = λ one at.
-        let it = open_at (IsReadInOrder size) file same is one at in
-        it.suits.long ∙ sym it.of_line.layout.record_length
-    by (asks.Chain file size what) same is whole = λ one at.
-        let it = open_at (IsChainedBy size what) file same is one at in
-        (it.suits.long ∙ sym it.of_line.layout.record_length, sought_by it.line.key what it.line one refl it.suits.sought_by it.of_line)
-    by (asks.Append file) same is whole = λ one at.
-        let it = open_at (TakesRecord (length (filled (put job.cycle)))) file same whole one at in
-        takes_record it.line one (filled (put job.cycle)) it.suits it.of_line
-    by (asks.Add file) same is whole = λ one at.
-        let it = open_at (TakesAddition (length (filled (put job.cycle)))) file same whole one at in
-        (it.of_line.layout.indexed ∙ it.suits.keyed, takes_record it.line one (filled (put job.cycle)) it.suits.takes it.of_line)
-    by (asks.Update file current) same is whole = λ one at.
-        let it = open_at (TakesChanges (length (put job.cycle))) file same is one at in
-        it.of_line.own (not_only_read it.line it.suits.takes.put_out)
-    by asks.Card wrong is whole = absurd wrong
-    by (asks.Print page line) wrong is whole = absurd wrong
-    by asks.Jump wrong is whole = absurd wrong
-    by (asks.Ask code) wrong is whole = absurd wrong
-    by (asks.End at_once) wrong is whole = absurd wrong
+-- the file whose place stands at a slot has records of the length that is read
+pub read_long : (level : LevelId) (job : OpenJob) (slot place size n : ℕ) → IsJobReady level job → asked job.cycle ≡ asks.Read slot size → FitsFile (files job.cycle) (asked job.cycle) (put job.cycle)
+    → IsPlace job slot (Some place) → n ≡ size → AllAt job.files.files.items place (λ one. n ≡ one.label.record_length)
+read_long level job slot place size n ready is fits there same = λ one at.
+    let it = open_as level job slot place (IsReadInOrder size) ready (allows job.cycle (asks.Read slot size) (put job.cycle) is fits) there one at in
+    same ∙ it.suits.long ∙ sym it.of_line.layout.record_length
 
--- ---- the line of a request
--- its file is on disk
-pub on_disk : (c : Stepper) (slot : ℕ) → IsForFile slot (asked c) → FitsFile (files c) (asked c) (put c) → IsDiskFile (files c) slot (λ line. ⊤)
-on_disk c slot for_file fits = by (asked c) for_file fits
-  where
-    some_line : (Suits : FileLine → Type 0) (file : ℕ) → file ≡ slot → IsDiskFile (files c) file Suits → IsDiskFile (files c) slot (λ line. ⊤)
-    some_line Suits file same is = subst (λ k. IsDiskFile (files c) k (λ line. ⊤)) same (record { line = is.line; there = is.there; on_disk = is.on_disk; suits = tt })
+pub chain_long : (level : LevelId) (job : OpenJob) (slot place size n : ℕ) (what : Sought) → IsJobReady level job → asked job.cycle ≡ asks.Chain slot size what → FitsFile (files job.cycle) (asked job.cycle) (put job.cycle)
+    → IsPlace job slot (Some place) → n ≡ size → AllAt job.files.files.items place (λ one. n ≡ one.label.record_length)
+chain_long level job slot place size n what ready is fits there same = λ one at.
+    let it = open_as level job slot place (IsChainedBy size what) ready (allows job.cycle (asks.Chain slot size what) (put job.cycle) is fits) there one at in
+    same ∙ it.suits.long ∙ sym it.of_line.layout.record_length
 
-    by : (request : ProgramRequest) → IsForFile slot request → FitsFile (files c) request (put c) → IsDiskFile (files c) slot (λ line. ⊤)
-    by (asks.Read file size) same is = some_line (IsReadInOrder size) file same is
-    by (asks.Chain file size what) same is = some_line (IsChainedBy size what) file same is
-    by (asks.Append file) same is = some_line (TakesRecord (length (put c))) file same is
-    by (asks.Add file) same is = some_line (TakesAddition (length (put c))) file same is
-    by (asks.Update file current) same is = some_line (TakesChanges (length (put c))) file same is
-    by asks.Card wrong is = absurd wrong
-    by (asks.Print page line) wrong is = absurd wrong
-    by asks.Jump wrong is = absurd wrong
-    by (asks.Ask code) wrong is = absurd wrong
-    by (asks.End at_once) wrong is = absurd wrong
+-- it can be sought there
+pub chain_suits : (level : LevelId) (job : OpenJob) (slot place size : ℕ) (what : Sought) → IsJobReady level job → asked job.cycle ≡ asks.Chain slot size what → FitsFile (files job.cycle) (asked job.cycle) (put job.cycle)
+    → IsPlace job slot (Some place) → AllAt job.files.files.items place (SuitsSought what)
+chain_suits level job slot place size what ready is fits there = λ one at.
+    let it = open_as level job slot place (IsChainedBy size what) ready (allows job.cycle (asks.Chain slot size what) (put job.cycle) is fits) there one at in
+    sought_by it.line.key what it.line one refl it.suits.sought_by it.of_line
 
-few_of : (c : Stepper) (slot size n : ℕ) (Suits : FileLine → Type 0) (is : IsDiskFile (files c) slot Suits) → size ≡ is.line.record_length → size ≡ n → n ≤ 1024
-few_of c slot size n Suits is long same = subst (λ k. k ≤ 1024) (sym long ∙ same) (few_bytes c slot is.line is.there is.on_disk)
+-- it takes the record
+pub append_takes : (level : LevelId) (job : OpenJob) (slot place : ℕ) (bytes : List ℕ) → IsJobReady level job → asked job.cycle ≡ asks.Append slot → FitsFile (files job.cycle) (asked job.cycle) bytes
+    → IsPlace job slot (Some place) → AllAt job.files.files.items place (Takes bytes)
+append_takes level job slot place bytes ready is fits there = λ one at.
+    let it = open_as level job slot place (TakesRecord (length bytes)) ready (allows job.cycle (asks.Append slot) bytes is fits) there one at in
+    takes_record it.line one bytes it.suits it.of_line
+
+pub add_takes : (level : LevelId) (job : OpenJob) (slot place : ℕ) (bytes : List ℕ) → IsJobReady level job → asked job.cycle ≡ asks.Add slot → FitsFile (files job.cycle) (asked job.cycle) bytes
+    → IsPlace job slot (Some place) → AllAt job.files.files.items place (Takes bytes)
+add_takes level job slot place bytes ready is fits there = λ one at.
+    let it = open_as level job slot place (TakesAddition (length bytes)) ready (allows job.cycle (asks.Add slot) bytes is fits) there one at in
+    takes_record it.line one bytes it.suits.takes it.of_line
+
+-- by its key
+pub add_indexed : (level : LevelId) (job : OpenJob) (slot place : ℕ) → IsJobReady level job → asked job.cycle ≡ asks.Add slot → FitsFile (files job.cycle) (asked job.cycle) (put job.cycle)
+    → IsPlace job slot (Some place) → AllAt job.files.files.items place (λ one. is_indexed one.label.organization ≡ true)
+add_indexed level job slot place ready is fits there = λ one at.
+    let it = open_as level job slot place (TakesAddition (length (put job.cycle))) ready (allows job.cycle (asks.Add slot) (put job.cycle) is fits) there one at in
+    it.of_line.layout.indexed ∙ it.suits.keyed
+
+-- it is the level's own
+pub update_own : (level : LevelId) (job : OpenJob) (slot place : ℕ) (current : Option Current) → IsJobReady level job → asked job.cycle ≡ asks.Update slot current → FitsFile (files job.cycle) (asked job.cycle) (put job.cycle)
+    → IsPlace job slot (Some place) → AllAt job.files.files.items place (λ one. one.is_master ≡ false)
+update_own level job slot place current ready is fits there = λ one at.
+    let it = open_as level job slot place (TakesChanges (length (put job.cycle))) ready (allows job.cycle (asks.Update slot current) (put job.cycle) is fits) there one at in
+    it.of_line.own (not_only_read it.line it.suits.takes.put_out)
 
 -- its records have 1,024 bytes at most
-pub few_asked : (c : Stepper) (size : ℕ) → IsForRecord size (asked c) → FitsFile (files c) (asked c) (put c) → size ≤ 1024
-few_asked c size for_record fits = by (asked c) for_record fits
-  where
-    by : (request : ProgramRequest) → IsForRecord size request → FitsFile (files c) request (put c) → size ≤ 1024
-    by (asks.Read file n) same is = few_of c file n size (IsReadInOrder n) is is.suits.long same
-    by (asks.Chain file n what) same is = few_of c file n size (IsChainedBy n what) is is.suits.long same
-    by (asks.Append file) wrong is = absurd wrong
-    by (asks.Add file) wrong is = absurd wrong
-    by (asks.Update file current) wrong is = absurd wrong
-    by asks.Card wrong is = absurd wrong
-    by (asks.Print page line) wrong is = absurd wrong
-    by asks.Jump wrong is = absurd wrong
-    by (asks.Ask code) wrong is = absurd wrong
-    by (asks.End at_once) wrong is = absurd wrong
+pub few_read : (c : Stepper) (slot size : ℕ) → asked c ≡ asks.Read slot size → FitsFile (files c) (asked c) (put c) → size ≤ 1024
+few_read c slot size is fits =
+    let line = allows c (asks.Read slot size) (put c) is fits in
+    subst (λ k. k ≤ 1024) (sym line.suits.long) (few_bytes c slot line.line line.there line.on_disk)
+
+pub few_chained : (c : Stepper) (slot size : ℕ) (what : Sought) → asked c ≡ asks.Chain slot size what → FitsFile (files c) (asked c) (put c) → size ≤ 1024
+few_chained c slot size what is fits =
+    let line = allows c (asks.Chain slot size what) (put c) is fits in
+    subst (λ k. k ≤ 1024) (sym line.suits.long) (few_bytes c slot line.line line.there line.on_disk)
 
 -- ---- behind a request
 still_of_line : (line : FileLine) (old new : OpenFile) → opened_as new ≡ opened_as old → IsOfLine line old → IsOfLine line new
@@ -241,10 +271,25 @@ was_open (a ∷ old) (b ∷ new) (suc i) file same there =
     let rest : map opened_as new ≡ map opened_as old = cc in
     was_open old new i file rest there
 
--- the files of the job are still those of its lines
-pub job_stays : (level : LevelId) (old new : OpenJob) → IsJobReady level old → map opened_as new.files.files.items ≡ map opened_as old.files.files.items
+-- the place of a name
+name_stays : (name : Name) (i : ℕ) (old new : List OpenFile) → map opened_as new ≡ map opened_as old
+    → position_from (λ (file : JobFile). same_name file.name name) i (map job_file_of new) ≡ position_from (λ (file : JobFile). same_name file.name name) i (map job_file_of old)
+name_stays name i [] [] same = refl
+name_stays name i [] (b ∷ new) same = absurd cc
+name_stays name i (a ∷ old) [] same = absurd cc
+name_stays name i (a ∷ old) (b ∷ new) same =
+    let first : opened_as b ≡ opened_as a = cc in
+    let rest : map opened_as new ≡ map opened_as old = cc in
+    (λ k. cond (same_name (first k).name name) (Some i) (name_stays name (i + 1) old new rest k))
+
+places_stay : (lines : List FileLine) (old new : List OpenFile) → map opened_as new ≡ map opened_as old → places_of lines new ≡ places_of lines old
+places_stay [] old new same = refl
+places_stay (line ∷ lines) old new same = (λ k. name_stays line.name 0 old new same k ∷ places_stay lines old new same k)
+
+-- the files of the job are still those of its lines, and at the same places
+pub job_stays : (level : LevelId) (old new : OpenJob) → IsJobReady level old → map opened_as new.files.files.items ≡ map opened_as old.files.files.items → new.places.items ≡ old.places.items
     → ((source : Source) → StandsFor old.cycle source → StandsFor new.cycle source) → IsJobReady new.files.level new
-job_stays level old new ready same stays = record {
+job_stays level old new ready same same_places stays = record {
   level_of_files = refl;
   switches = ready.switches;
   lines = record {
@@ -256,4 +301,6 @@ job_stays level old new ready same stays = record {
         ready.lines.distinct i j a.0 b.0 a.1 b.1
         (ap (λ (o : OpenedAs). same_name o.name b.0.name) (sym a.2) ∙ ap (λ (o : OpenedAs). same_name first.name o.name) (sym b.2) ∙ named);
   };
+  places = same_places ∙ ready.places ∙ ap (λ (lines : List FileLine). places_of lines old.files.files.items) (sym (files_stay old.cycle new.cycle stays))
+      ∙ sym (places_stay (files new.cycle) old.files.files.items new.files.files.items same);
 }

@@ -10,9 +10,8 @@ use Rattle.s3_cards.specs.declared.name.Name.{Name}
 use Rattle.s3_cards.specs.Names.{same_name}
 use Rattle.s3_meaning.specs.Requests.{Answer}
 use Rattle.s3_meaning.specs.Cycle.{Req}
-use Rattle.s3_cycle.specs.declared.stepper.Stepper.{Stepper}
 use Rattle.s3_cycle.specs.Inner.Rest.{rest}
-use Rattle.s3_cycle.specs.Inner.Following.{StandsFor as RunsFor}
+use Rattle.s3_cycle.specs.Inner.Following.{StandsFor as RunsFor, files as files_of}
 use Rattle.s3_solo.specs.World.{World, JobAtWork}
 use Rattle.s3_meaning.specs.Source.{Source}
 use Rattle.s3_program.specs.declared.program.Program.{Program}
@@ -52,7 +51,7 @@ use Rattle.s3_job_files.specs.Inner.Holds.{seen}
 use Rattle.s3_job_files.proofs.Starting.{holds_mounted}
 use Rattle.s3_spool.specs.Inner.Queues.{lines_in, queue_of}
 use Rattle.s3_solo.specs.World.{at_start}
-use Rattle.s3_level.specs.Inner.Holds.{Around, Holds, IsFresh, Shown, HoldsParts, HoldsAtWork, IsReady, Stocks, Becomes, open_files, with_seen}
+use Rattle.s3_level.specs.Inner.Holds.{Around, Holds, IsFresh, Shown, HoldsParts, HoldsAtWork, IsReady, Stocks, Becomes, open_files, places_of, with_seen}
 use Rattle.s3_level.specs.Inner.Turning.{AtWorkBecomes, NextIs, Starts}
 use Rattle.s3_level.proofs.Running.{standing_same}
 
@@ -264,27 +263,25 @@ files_opened s (Ok _) job_files number job cards date program copy before after 
 files_opened s (Err _) job_files number job cards date program copy before after old new found copies is_date rests starts goes = tt
 
 -- its cycle is at the beginning of the whole run
-pub at_beginning : (s : Shown) {T E : Type 0} (result : Result T E) (number first end : ℕ) (cards : List (List ℕ)) (program : Program) (cycle : Stepper) (job_files : JobFiles) (date : List ℕ) (before after : Seen) (old middle : Level)
-    (new : World → Type 0)
-    → slice_range old.deck first end ≡ cards
+pub at_beginning : (s : Shown) {T E : Type 0} (result : Result T E) (job : OpenJob) (cards : List (List ℕ)) (program : Program) (date : List ℕ) (before after : Seen) (old middle : Level) (new : World → Type 0)
+    → slice_range old.deck job.next job.end ≡ cards
     → date ≡ old.date
-    → ((source : Source) → Stands program source → RunsFor cycle source × ((answers : List Answer) → rest source cycle answers ≡ Req source old.switches date answers))
-    → middle ≡ record old { job = Some (record { number = number; cycle = cycle; files = job_files; next = first; end = end }) }
+    → ((source : Source) → Stands program source → RunsFor job.cycle source × ((answers : List Answer) → rest source job.cycle answers ≡ Req source old.switches date answers))
+    → middle ≡ record old { job = Some job }
     → OnOk result (AtWorkBecomes at_work (HoldsParts middle (with_seen after s)) new)
-    → OnOk result ((w : World) (source : Source) (in_use : FilesInUse) → Stands program source → HoldsParts old (with_seen before s) w → HoldsInUse old.id job_files.files.items after in_use
-    → new (at_work (record { number = number; source = source; cards = cards; files = in_use.job_files; past = [] }) (record w { pack = in_use.files })))
-at_beginning s (Ok _) number first end cards program cycle job_files date before after old middle new are_cards is_date starts opens stands_then = λ w source in_use stands held in_files.
+    → OnOk result ((w : World) (source : Source) (in_use : FilesInUse) → Stands program source → HoldsParts old (with_seen before s) w → HoldsInUse old.id job.files.files.items after in_use
+    → new (at_work (record { number = job.number; source = source; cards = cards; files = in_use.job_files; past = [] }) (record w { pack = in_use.files })))
+at_beginning s (Ok _) job cards program date before after old middle new are_cards is_date starts opens stands_then = λ w source in_use stands held in_files.
     let meant : JobAtWork = at source in_use in
     let there : World = record w { pack = in_use.files; job = Some meant } in
     subst new (standing_same (pending meant w) meant (record w { pack = in_use.files }) (Some meant))
     (stands_then there meant refl (subst (λ (level : Level). HoldsParts level (with_seen after s) there) (sym opens) (begun w source in_use stands held in_files)))
   where
     at : Source → FilesInUse → JobAtWork
-    at source in_use = record { number = number; source = source; cards = cards; files = in_use.job_files; past = [] }
+    at source in_use = record { number = job.number; source = source; cards = cards; files = in_use.job_files; past = [] }
 
-    begun : (w : World) (source : Source) (in_use : FilesInUse) → Stands program source → HoldsParts old (with_seen before s) w → HoldsInUse old.id job_files.files.items after in_use
-        → HoldsParts (record old { job = Some (record { number = number; cycle = cycle; files = job_files; next = first; end = end }) }) (with_seen after s)
-        (record w { pack = in_use.files; job = Some (at source in_use) })
+    begun : (w : World) (source : Source) (in_use : FilesInUse) → Stands program source → HoldsParts old (with_seen before s) w → HoldsInUse old.id job.files.files.items after in_use
+        → HoldsParts (record old { job = Some job }) (with_seen after s) (record w { pack = in_use.files; job = Some (at source in_use) })
     begun w source in_use stands held in_files =
         let runs = starts source stands in
         record {
@@ -307,25 +304,27 @@ at_beginning s (Ok _) number first end cards program cycle job_files date before
           lines = record { printed = held.lines.printed; drained_lines = held.lines.drained_lines; quota = held.lines.quota };
           halts = held.halts;
         }
-at_beginning s (Err _) number first end cards program cycle job_files date before after old middle new are_cards is_date starts opens stands_then = tt
+at_beginning s (Err _) job cards program date before after old middle new are_cards is_date starts opens stands_then = tt
 
 -- ---- what is true of it whatever it holds
-pub ready_at_beginning : (number first end : ℕ) (program : Program) (cycle : Stepper) (job_files : JobFiles) (pack : Seen) (old middle : Level)
-    → ((source : Source) → Stands program source → RunsFor cycle source)
-    → middle ≡ record old { job = Some (record { number = number; cycle = cycle; files = job_files; next = first; end = end }) }
-    → AreFilesReady old.id job_files.files.items pack
-    → job_files.level ≡ old.id
-    → AreOfLines old.switches program.files.items job_files.files.items
+pub ready_at_beginning : (job : OpenJob) (program : Program) (pack : Seen) (old middle : Level)
+    → ((source : Source) → Stands program source → RunsFor job.cycle source)
+    → middle ≡ record old { job = Some job }
+    → AreFilesReady old.id job.files.files.items pack
+    → job.files.level ≡ old.id
+    → AreOfLines old.switches program.files.items job.files.files.items
+    → job.places.items ≡ places_of program.files.items job.files.files.items
     → IsReady middle pack
-ready_at_beginning number first end program cycle job_files pack old middle stands is ready level lines =
+ready_at_beginning job program pack old middle stands is ready level lines places =
+    let same : program.files.items ≡ files_of job.cycle = sym (files_stand job.cycle (source_named program) (stands (source_named program) refl) ∙ files_of_source program (source_named program) refl) in
     subst (λ (l : Level). IsReady l pack) (sym is)
     (record {
       files = ready;
       job = record {
         level_of_files = level;
         switches = old.switches;
-        lines = subst (λ (all : List FileLine). AreOfLines old.switches all job_files.files.items)
-            (sym (files_stand cycle (source_named program) (stands (source_named program) refl) ∙ files_of_source program (source_named program) refl)) lines;
+        lines = subst (λ (all : List FileLine). AreOfLines old.switches all job.files.files.items) same lines;
+        places = places ∙ ap (λ (all : List FileLine). places_of all job.files.files.items) same;
       };
     })
 

@@ -10,7 +10,7 @@ use Rattle.s3_cycle.specs.declared.request.Request.TheVariants as asks
 use Rattle.s3_cycle.specs.declared.stepper.Stepper.{Stepper}
 use Rattle.s3_cycle.specs.Inner.Following.{asked, put, waits}
 use Rattle.s3_cycle.proofs.FollowLemmas.{waits_card, waits_read, waits_chain, waits_append, waits_add, waits_update, waits_print, waits_ask, waits_end}
-use Rattle.s3_store.specs.declared.pool_fault.PoolFault.{PoolFault}
+use Rattle.s3_store.specs.declared.sector_fault.SectorFault.{SectorFault}
 use Rattle.s3_solo.specs.declared.action.Action.{Action}
 use Rattle.s3_solo.specs.declared.action.Action.TheVariants.{Turn}
 use Rattle.s3_solo.specs.declared.action.Did.{Did}
@@ -210,25 +210,25 @@ one_step action taken old new up_to repeats w held =
     let here = repeats w held in
     (here.0 0 (omega (arith, some)), subst (λ (n : ℕ). new (solo w (replicate n action))) one here.1)
 
-pub once_turns : (answer : Result Did PoolFault) (result : Result Taken PoolFault) (old new : World → Type 0) → result ≡ once answer → Turns answer old new → TakesTurns result old new
-once_turns answer result old new is turns = subst (λ (r : Result Taken PoolFault). TakesTurns r old new) (sym is) (by answer turns)
+pub once_turns : (answer : Result Did SectorFault) (result : Result Taken SectorFault) (old new : World → Type 0) → result ≡ once answer → Turns answer old new → TakesTurns result old new
+once_turns answer result old new is turns = subst (λ (r : Result Taken SectorFault). TakesTurns r old new) (sym is) (by answer turns)
   where
-    by : (a : Result Did PoolFault) → Turns a old new → TakesTurns (once a) old new
+    by : (a : Result Did SectorFault) → Turns a old new → TakesTurns (once a) old new
     by (Ok did) steps = steps_once Turn did old new steps
     by (Err fault) acts = acts
 
 -- what is said of the answer
-pub once_up_to : (most : ℕ) (answer : Result Did PoolFault) (result : Result Taken PoolFault) → result ≡ once answer → 1 ≤ most → IfOk result (λ taken. IsUpTo most taken)
-once_up_to most answer result is some = subst (λ (r : Result Taken PoolFault). IfOk r (λ taken. IsUpTo most taken)) (sym is) (by answer)
+pub once_up_to : (most : ℕ) (answer : Result Did SectorFault) (result : Result Taken SectorFault) → result ≡ once answer → 1 ≤ most → IfOk result (λ taken. IsUpTo most taken)
+once_up_to most answer result is some = subst (λ (r : Result Taken SectorFault). IfOk r (λ taken. IsUpTo most taken)) (sym is) (by answer)
   where
-    by : (a : Result Did PoolFault) → IfOk (once a) (λ taken. IsUpTo most taken)
+    by : (a : Result Did SectorFault) → IfOk (once a) (λ taken. IsUpTo most taken)
     by (Ok did) = record { some = omega arith; few = some }
     by (Err fault) = tt
 
-pub once_if_ok : (A : Did → Type 0) (answer : Result Did PoolFault) (result : Result Taken PoolFault) → result ≡ once answer → IfOk answer A → IfOk result (λ taken. A taken.did)
-once_if_ok A answer result is all = subst (λ (r : Result Taken PoolFault). IfOk r (λ taken. A taken.did)) (sym is) (by answer all)
+pub once_if_ok : (A : Did → Type 0) (answer : Result Did SectorFault) (result : Result Taken SectorFault) → result ≡ once answer → IfOk answer A → IfOk result (λ taken. A taken.did)
+once_if_ok A answer result is all = subst (λ (r : Result Taken SectorFault). IfOk r (λ taken. A taken.did)) (sym is) (by answer all)
   where
-    by : (a : Result Did PoolFault) → IfOk a A → IfOk (once a) (λ taken. A taken.did)
+    by : (a : Result Did SectorFault) → IfOk a A → IfOk (once a) (λ taken. A taken.did)
     by (Ok did) it = it
     by (Err fault) it = tt
 

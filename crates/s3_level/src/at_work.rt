@@ -8,7 +8,7 @@ use s3_labels::Pack;
 use s3_operator::HaltCode;
 use s3_solo::Did;
 use s3_spool::Spool;
-use s3_store::{PoolFault, Sectors};
+use s3_store::{SectorFault, Sectors};
 use std::alloc::AllocError;
 use std::num::NonZeroU16;
 
@@ -39,7 +39,7 @@ impl Level {
         most: NonZeroU16,
         pack: &mut Pack<P>,
         spool: &mut Spool,
-    ) -> Result<Taken, PoolFault>
+    ) -> Result<Taken, SectorFault>
         requires ready { IsReady self.old (seen pack.old.areas (P.state pack.old.pool).contents) }
         requires blocks { AreAll spool.old }
         ensures times { IfOk result (λ taken. IsUpTo (non_zero_u16_get most) taken) }
@@ -83,7 +83,7 @@ impl Level {
 
     /// Ends the job at work: its files are closed.
     #[inline(never)]
-    pub(crate) fn end_job<P: Sectors>(&mut self, pack: &mut Pack<P>) -> Result<(), PoolFault>
+    pub(crate) fn end_job<P: Sectors>(&mut self, pack: &mut Pack<P>) -> Result<(), SectorFault>
         requires ready { IsReady self.old (seen pack.old.areas (P.state pack.old.pool).contents) }
         ensures world { (s : Shown) → OnOk result (Becomes job_ended (HoldsParts self.old (with_seen (seen pack.old.areas (P.state pack.old.pool).contents) s)) (HoldsParts self.new (with_seen (seen pack.new.areas (P.state pack.new.pool).contents) s))) }
         ensures leaves { Leaves result self.old self.new pack.old.areas pack.new.areas (P.state pack.old.pool) (P.state pack.new.pool) }
@@ -97,7 +97,7 @@ impl Level {
     }
 
     /// Ends the job at work at its request.
-    fn end<P: Sectors>(&mut self, pack: &mut Pack<P>) -> Result<Did, PoolFault>
+    fn end<P: Sectors>(&mut self, pack: &mut Pack<P>) -> Result<Did, SectorFault>
         requires ready { IsReady self.old (seen pack.old.areas (P.state pack.old.pool).contents) }
         ensures world { (s : Shown) → OnOk result (Becomes job_ended (HoldsParts self.old (with_seen (seen pack.old.areas (P.state pack.old.pool).contents) s)) (HoldsParts self.new (with_seen (seen pack.new.areas (P.state pack.new.pool).contents) s))) }
         ensures acted { IfOk result (λ did. did ≡ Acted) }
@@ -109,7 +109,11 @@ impl Level {
     }
 
     /// Lets the job at work go on behind the jump that pends and those behind it, so many at most.
-    fn pass_jumps<P: Sectors>(&mut self, most: u16, pack: &mut Pack<P>) -> Result<Taken, PoolFault>
+    fn pass_jumps<P: Sectors>(
+        &mut self,
+        most: u16,
+        pack: &mut Pack<P>,
+    ) -> Result<Taken, SectorFault>
         requires asks { request_by self.old.job ≡ Some asks.Jump }
         requires some { 1 ≤ most }
         requires ready { IsReady self.old (seen pack.old.areas (P.state pack.old.pool).contents) }
@@ -149,7 +153,7 @@ impl Level {
         &mut self,
         answer: Answer<'_>,
         pack: &mut Pack<P>,
-    ) -> Result<(), PoolFault>
+    ) -> Result<(), SectorFault>
         requires fits { FitsJob self.old.job answer }
         requires ready { IsReady self.old (seen pack.old.areas (P.state pack.old.pool).contents) }
         ensures world { (s : Shown) → OnOk result (AtWorkBecomes (answered (answer_of answer.entry)) (HoldsParts self.old (with_seen (seen pack.old.areas (P.state pack.old.pool).contents) s)) (HoldsParts self.new (with_seen (seen pack.new.areas (P.state pack.new.pool).contents) s))) }
@@ -173,7 +177,7 @@ impl Level {
 
     /// Where the job at work asks for a reply, shows that halt; where a reply has ended it, it is over.
     #[tactic(auto, using(crate::proofs::Running::halt_shown, crate::proofs::Running::job_over, crate::proofs::Running::job_goes_on))]
-    pub(crate) fn stand<P: Sectors>(&mut self, pack: &mut Pack<P>) -> Result<(), PoolFault>
+    pub(crate) fn stand<P: Sectors>(&mut self, pack: &mut Pack<P>) -> Result<(), SectorFault>
         requires ready { IsReady self.old (seen pack.old.areas (P.state pack.old.pool).contents) }
         ensures world { (s : Shown) → OnOk result (AtWorkBecomes at_work (HoldsParts self.old (with_seen (seen pack.old.areas (P.state pack.old.pool).contents) s)) (HoldsParts self.new (with_seen (seen pack.new.areas (P.state pack.new.pool).contents) s))) }
         ensures leaves { Leaves result self.old self.new pack.old.areas pack.new.areas (P.state pack.old.pool) (P.state pack.new.pool) }

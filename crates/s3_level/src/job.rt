@@ -1,30 +1,28 @@
 //! The job at work.
-ghost use Rattle.std.specs.Prelude.{◌≡◌, true, false, ◌+◌, ◌<◌, ◌≤◌, [], ◌∷◌, length, map, drop, slice_range, option_map, IfOk, IfSome, IsTrue, OnOk, MatchOption, ⊤};
-ghost use Rattle.s3_job_files.specs.Files.{FilesInUse, place_named};
+ghost use Rattle.std.specs.Prelude.{◌≡◌, true, false, ◌+◌, ◌<◌, ◌≤◌, [], ◌∷◌, length, drop, slice_range, IfOk, IsTrue, OnOk, MatchOption};
+ghost use Rattle.s3_job_files.specs.Files.{FilesInUse};
 ghost use Rattle.s3_job_files.specs.Closing.{files_closed};
 ghost use Rattle.s3_job_files.specs.Inner.Calls.{found_answer, put_answer};
 ghost use Rattle.s3_job_files.specs.Requests.{record_chained, record_updated};
-ghost use Rattle.s3_job_files.specs.Inner.Holds.{seen, job_file_of, AllAt, Serves, Holds as HoldsInUse, IsReady as AreFilesReady, current_of as current_of_file};
-ghost use Rattle.s3_match.specs.Inner.Types.{name_of_file};
-ghost use Rattle.s3_meaning.specs.Inner.Requests.{fits, fits_done, refuses_update};
-ghost use Rattle.s3_cycle.specs.Inner.Following.{PassesJumps, Resumes, asked, is_fit, put, waits};
-ghost use Rattle.s3_cycle.specs.Inner.Requests.{answer_of, current_of, sought_of};
+ghost use Rattle.s3_job_files.specs.Inner.Holds.{seen, AllAt, Serves, Holds as HoldsInUse, IsReady as AreFilesReady};
+ghost use Rattle.s3_meaning.specs.Inner.Requests.{fits_done, refuses_update};
+ghost use Rattle.s3_cycle.specs.Inner.Following.{PassesJumps, Resumes, asked, is_fit};
+ghost use Rattle.s3_cycle.specs.Inner.Requests.{answer_of, sought_of};
 ghost use Rattle.s3_cycle.specs.declared.request.Request.TheVariants as asks;
 ghost use Rattle.s3_solo.specs.Serving.{card_answer};
-ghost use Rattle.s3_level.specs.Inner.Calls.{CanServe, IsServable, KeepsOpened, LeavesPack, ServesJob};
-ghost use Rattle.s3_level.specs.Inner.Holds.{IsJobReady};
-ghost use Rattle.s3_level.specs.Inner.Turning.{IsForRecord, IsPut, KeepsPlace, ServesAt, SuitsRequest, SuitsSought};
+ghost use Rattle.s3_level.specs.Inner.Calls.{CanServe, KeepsOpened, LeavesPack, ServesJob};
+ghost use Rattle.s3_level.specs.Inner.Holds.{IsJobReady, places_of};
+ghost use Rattle.s3_level.specs.Inner.Turning.{KeepsPlace, SuitsSought};
 
 use s3_cards::{Card, Deck};
-use s3_cycle::{Answer, Current, Cycle, Request, Sought};
+use s3_cycle::{Answer, Cycle, Request, Sought};
 use s3_job_files::{JobFiles, Put};
 use s3_labels::Pack;
+use s3_lines::sheet::FileLine;
+use s3_meaning::Current;
 use s3_output::composition::{Composition, LONGEST_RECORD};
-use s3_store::{PoolFault, Sectors};
-
-/// The most bytes of a record that is read into a short room on the stack. A longer one is read into a room for the longest
-/// record, which takes longer to make ready.
-const SHORT_RECORD: u16 = 128;
+use s3_store::{SectorFault, Sectors};
+use std::alloc::{AllocError, Global};
 
 /// A job at work: its number, its program's cycle, its files, and the places of its data cards that are not yet read.
 #[derive(Drop)]
@@ -35,10 +33,29 @@ pub struct OpenJob {
     pub cycle: Cycle,
     /// Its files on the pack.
     pub files: JobFiles,
+    /// For each slot of its F sheet the place of the file among those; none where the job doesn't use it.
+    pub places: Vec<Option<usize>>,
+    /// The room into which a record is read.
+    pub room: Box<[u8; LONGEST_RECORD]>,
     /// The place of the next data card in the deck.
     pub next: usize,
     /// The place behind the last data card in the deck.
     pub end: usize,
+}
+
+/// For each of these F lines the place of its file among those that a job has in use. Refused only where memory runs out.
+pub fn places_of(
+    alloc: Global,
+    lines: &[FileLine],
+    job_files: &JobFiles,
+) -> Result<Vec<Option<usize>>, AllocError>
+    ensures { IfOk result (λ places. places.items ≡ places_of lines.now job_files.now.files.items) }
+{
+    let mut places = Vec::with_capacity(alloc, lines.len())?;
+    for line in lines {
+        places.push(job_files.place_of(line.name))?;
+    }
+    Ok(places)
 }
 
 /// The first card from one place of a deck up to another, if there is one.
@@ -76,17 +93,6 @@ fn answer_of_put(put: Put) -> Answer<'static>
     }
 }
 
-/// The current record, as the files of a job name it.
-fn file_current(current: Option<Current>) -> Option<s3_job_files::Current>
-    ensures { option_map current_of_file result ≡ option_map current_of current }
-{
-    match current {
-        None => None,
-        Some(Current::NthRead(n)) => Some(s3_job_files::Current::NthRead(n)),
-        Some(Current::LastChained) => Some(s3_job_files::Current::LastChained),
-    }
-}
-
 /// Reads the record with a key or a number in the file at a place, and answers whether there is one.
 fn chain<P: Sectors>(
     job_files: &mut JobFiles,
@@ -94,7 +100,7 @@ fn chain<P: Sectors>(
     place: usize,
     sought: &Sought,
     bytes: &mut [u8],
-) -> Result<bool, PoolFault>
+) -> Result<bool, SectorFault>
     requires ready { AreFilesReady job_files.old.level job_files.old.files.items (seen pack.old.areas (P.state pack.old.pool).contents) }
     requires there { place < length job_files.old.files.items }
     requires suits { AllAt job_files.old.files.items place (SuitsSought sought.now) }
@@ -110,31 +116,6 @@ fn chain<P: Sectors>(
     }
 }
 
-/// Reads the record that the pending request asks for in the file at a place, and answers whether there is one.
-fn find<P: Sectors>(
-    cycle: &Cycle,
-    job_files: &mut JobFiles,
-    pack: &mut Pack<P>,
-    place: usize,
-    bytes: &mut [u8],
-) -> Result<bool, PoolFault>
-    requires asks { IsForRecord (length bytes.old) (asked cycle.now) }
-    requires ready { AreFilesReady job_files.old.level job_files.old.files.items (seen pack.old.areas (P.state pack.old.pool).contents) }
-    requires there { place < length job_files.old.files.items }
-    requires suits { AllAt job_files.old.files.items place (SuitsRequest (asked cycle.now) (put cycle.now)) }
-    ensures serves { IfOk result (λ found. ServesAt (asked cycle.now) (put cycle.now) place (found_answer found bytes.new) (HoldsInUse job_files.old.level job_files.old.files.items (seen pack.old.areas (P.state pack.old.pool).contents)) (HoldsInUse job_files.new.level job_files.new.files.items (seen pack.new.areas (P.state pack.new.pool).contents))) }
-    ensures fits { IfOk result (λ found. fits (waits cycle.now) (found_answer found bytes.new) ≡ true) }
-    ensures ready { AreFilesReady job_files.new.level job_files.new.files.items (seen pack.new.areas (P.state pack.new.pool).contents) }
-    ensures opened { KeepsOpened job_files.old job_files.new }
-    ensures pack { LeavesPack job_files.old.level result pack.old.areas pack.new.areas (P.state pack.old.pool) (P.state pack.new.pool) }
-{
-    match cycle.pending() {
-        Request::Read { .. } => job_files.read_next(pack, place, bytes),
-        Request::Chain { sought, .. } => chain(job_files, pack, place, sought, bytes),
-        _ => unreachable!(),
-    }
-}
-
 /// Changes the current record of the file at a place.
 fn change<P: Sectors>(
     job_files: &JobFiles,
@@ -142,55 +123,19 @@ fn change<P: Sectors>(
     place: usize,
     current: Option<Current>,
     changes: &Composition,
-) -> Result<Put, PoolFault>
+) -> Result<Put, SectorFault>
     requires ready { AreFilesReady job_files.now.level job_files.now.files.items (seen pack.old.areas (P.state pack.old.pool).contents) }
     requires there { place < length job_files.now.files.items }
     requires own { AllAt job_files.now.files.items place (λ file. file.is_master ≡ false) }
-    ensures serves { IfOk result (λ put. Serves (record_updated (option_map current_of current) changes.now) place (put_answer put) (HoldsInUse job_files.now.level job_files.now.files.items (seen pack.old.areas (P.state pack.old.pool).contents)) (HoldsInUse job_files.now.level job_files.now.files.items (seen pack.new.areas (P.state pack.new.pool).contents))) }
+    ensures serves { IfOk result (λ put. Serves (record_updated current changes.now) place (put_answer put) (HoldsInUse job_files.now.level job_files.now.files.items (seen pack.old.areas (P.state pack.old.pool).contents)) (HoldsInUse job_files.now.level job_files.now.files.items (seen pack.new.areas (P.state pack.new.pool).contents))) }
     ensures fits { IfOk result (λ put. fits_done refuses_update (put_answer put) ≡ true) }
     ensures ready { OnOk result (AreFilesReady job_files.now.level job_files.now.files.items (seen pack.new.areas (P.state pack.new.pool).contents)) }
     ensures pack { LeavesPack job_files.now.level result pack.old.areas pack.new.areas (P.state pack.old.pool) (P.state pack.new.pool) }
 {
-    job_files.update(
-        pack,
-        place,
-        file_current(current),
-        changes.codes(),
-        changes.marks(),
-    )
-}
-
-/// Puts the record that the cycle lends into the file at a place, or changes one there, as the pending request asks.
-fn store<P: Sectors>(
-    cycle: &Cycle,
-    job_files: &mut JobFiles,
-    pack: &mut Pack<P>,
-    place: usize,
-) -> Result<Put, PoolFault>
-    requires asks { IsPut (asked cycle.now) }
-    requires ready { AreFilesReady job_files.old.level job_files.old.files.items (seen pack.old.areas (P.state pack.old.pool).contents) }
-    requires there { place < length job_files.old.files.items }
-    requires suits { AllAt job_files.old.files.items place (SuitsRequest (asked cycle.now) (put cycle.now)) }
-    ensures serves { IfOk result (λ stored. ServesAt (asked cycle.now) (put cycle.now) place (put_answer stored) (HoldsInUse job_files.old.level job_files.old.files.items (seen pack.old.areas (P.state pack.old.pool).contents)) (HoldsInUse job_files.new.level job_files.new.files.items (seen pack.new.areas (P.state pack.new.pool).contents))) }
-    ensures fits { IfOk result (λ stored. fits (waits cycle.now) (put_answer stored) ≡ true) }
-    ensures ready { OnOk result (AreFilesReady job_files.new.level job_files.new.files.items (seen pack.new.areas (P.state pack.new.pool).contents)) }
-    ensures opened { KeepsOpened job_files.old job_files.new }
-    ensures pack { LeavesPack job_files.old.level result pack.old.areas pack.new.areas (P.state pack.old.pool) (P.state pack.new.pool) }
-{
-    match cycle.pending() {
-        Request::Append { .. } => job_files.append(pack, place, cycle.record()),
-        Request::Add { .. } => job_files.add(pack, place, cycle.record()),
-        Request::Update { current, .. } => {
-            change(job_files, pack, place, *current, cycle.changes())
-        }
-        _ => unreachable!(),
-    }
+    job_files.update(pack, place, current, changes.codes(), changes.marks())
 }
 
 impl OpenJob {
-    ghost use Rattle.s3_cycle.specs.Inner.Following.{files};
-    ghost use Rattle.s3_cycle.specs.Inner.Requests.{IsDiskFile};
-
     /// Reads the next data card, if there is one, and goes on with it.
     #[inline(always)]
     pub fn read_card(&mut self, deck: &Deck)
@@ -238,7 +183,7 @@ impl OpenJob {
     /// Closes the files of the job: counts are set, and scratch files that it made are dropped.
     ///
     /// After a fault of the sectors no call on the pack is to be made.
-    pub fn close<P: Sectors>(self, pack: &mut Pack<P>) -> Result<(), PoolFault>
+    pub fn close<P: Sectors>(self, pack: &mut Pack<P>) -> Result<(), SectorFault>
         requires ready { AreFilesReady self.files.level self.files.files.items (seen pack.old.areas (P.state pack.old.pool).contents) }
         ensures closes { OnOk result ((in_use : FilesInUse) → HoldsInUse self.files.level self.files.files.items (seen pack.old.areas (P.state pack.old.pool).contents) in_use → HoldsInUse self.files.level [] (seen pack.new.areas (P.state pack.new.pool).contents) (record { files = files_closed in_use.job_files in_use.files; job_files = [] })) }
         ensures ready { OnOk result (AreFilesReady self.files.level [] (seen pack.new.areas (P.state pack.new.pool).contents)) }
@@ -250,117 +195,55 @@ impl OpenJob {
     /// Serves the pending request, one to a file, and goes on with the answer; answers whether the job has that file in use.
     ///
     /// It fails only where the job has the file. After a fault of the sectors no request is to be made.
-    #[inline(always)]
-    pub fn serve<P: Sectors>(&mut self, pack: &mut Pack<P>) -> Result<bool, PoolFault>
+    #[inline(never)]
+    pub fn serve<P: Sectors>(&mut self, pack: &mut Pack<P>) -> Result<bool, SectorFault>
         requires { CanServe self.old (seen pack.old.areas (P.state pack.old.pool).contents) }
         ensures { ServesJob result self.old self.new pack.old.areas pack.new.areas (P.state pack.old.pool) (P.state pack.new.pool) }
     {
         match self.cycle.pending() {
             Request::Read { file, length } => {
-                let file = *file;
-                let length = *length;
-                self.read(pack, file, length)
+                let Some(place) = self.places[*file] else {
+                    return Ok(false);
+                };
+                let bytes = &mut self.room[..usize::from(*length)];
+                let found = self.files.read_next(pack, place, bytes)?;
+                self.cycle.resume(record_answer(found, bytes));
             }
-            Request::Chain { file, length, .. } => {
-                let file = *file;
-                let length = *length;
-                self.read(pack, file, length)
+            Request::Chain {
+                file,
+                length,
+                sought,
+            } => {
+                let Some(place) = self.places[*file] else {
+                    return Ok(false);
+                };
+                let bytes = &mut self.room[..usize::from(*length)];
+                let found = chain(&mut self.files, pack, place, sought, bytes)?;
+                self.cycle.resume(record_answer(found, bytes));
             }
             Request::Append { file } => {
-                let file = *file;
-                self.write(pack, file)
+                let Some(place) = self.places[*file] else {
+                    return Ok(false);
+                };
+                let put = self.files.append(pack, place, self.cycle.record())?;
+                self.cycle.resume(answer_of_put(put));
             }
             Request::Add { file } => {
-                let file = *file;
-                self.write(pack, file)
+                let Some(place) = self.places[*file] else {
+                    return Ok(false);
+                };
+                let put = self.files.add(pack, place, self.cycle.record())?;
+                self.cycle.resume(answer_of_put(put));
             }
-            Request::Update { file, .. } => {
-                let file = *file;
-                self.write(pack, file)
+            Request::Update { file, current } => {
+                let Some(place) = self.places[*file] else {
+                    return Ok(false);
+                };
+                let put = change(&self.files, pack, place, *current, self.cycle.changes())?;
+                self.cycle.resume(answer_of_put(put));
             }
-            _ => Ok(false),
+            _ => return Ok(false),
         }
-    }
-
-    /// The place of the file at a slot among those that the job has in use.
-    fn place_of(&self, file: usize) -> Option<usize>
-        requires there { IsDiskFile (files self.now.cycle) file (λ line. ⊤) }
-        ensures place { result ≡ place_named (name_of_file self.now.cycle.program file) (map job_file_of self.now.files.files.items) }
-        ensures within { IfSome result (λ place. place < length self.now.files.files.items) }
-    {
-        let line = self.cycle.file_line(file)?;
-        self.files.place_of(line.name)
-    }
-
-    /// Serves the pending request, one for a record of a file.
-    #[inline(always)]
-    fn read<P: Sectors>(
-        &mut self,
-        pack: &mut Pack<P>,
-        file: usize,
-        length: u16,
-    ) -> Result<bool, PoolFault>
-        requires able { IsServable file self.old (seen pack.old.areas (P.state pack.old.pool).contents) }
-        requires long { IsForRecord length (asked self.old.cycle) }
-        requires few { length ≤ 1024 }
-        ensures { ServesJob result self.old self.new pack.old.areas pack.new.areas (P.state pack.old.pool) (P.state pack.new.pool) }
-    {
-        if length <= SHORT_RECORD {
-            let mut room = [0; SHORT_RECORD as usize];
-            return self.read_into(pack, file, &mut room[..length as usize]);
-        }
-        self.read_long(pack, file, length)
-    }
-
-    /// Serves the pending request, one for a long record of a file. It stands apart, so that the room isn't made ready for others.
-    #[inline(never)]
-    fn read_long<P: Sectors>(
-        &mut self,
-        pack: &mut Pack<P>,
-        file: usize,
-        length: u16,
-    ) -> Result<bool, PoolFault>
-        requires able { IsServable file self.old (seen pack.old.areas (P.state pack.old.pool).contents) }
-        requires long { IsForRecord length (asked self.old.cycle) }
-        requires few { length ≤ 1024 }
-        ensures { ServesJob result self.old self.new pack.old.areas pack.new.areas (P.state pack.old.pool) (P.state pack.new.pool) }
-    {
-        let mut room = [0; LONGEST_RECORD];
-        self.read_into(pack, file, &mut room[..length as usize])
-    }
-
-    /// Serves the pending request, one for a record of a file of so many bytes.
-    #[inline(never)]
-    fn read_into<P: Sectors>(
-        &mut self,
-        pack: &mut Pack<P>,
-        file: usize,
-        bytes: &mut [u8],
-    ) -> Result<bool, PoolFault>
-        requires able { IsServable file self.old (seen pack.old.areas (P.state pack.old.pool).contents) }
-        requires long { IsForRecord (length bytes.old) (asked self.old.cycle) }
-        ensures { ServesJob result self.old self.new pack.old.areas pack.new.areas (P.state pack.old.pool) (P.state pack.new.pool) }
-    {
-        let Some(place) = self.place_of(file) else {
-            return Ok(false);
-        };
-        let found = find(&self.cycle, &mut self.files, pack, place, bytes)?;
-        self.cycle.resume(record_answer(found, bytes));
-        Ok(true)
-    }
-
-    /// Serves the pending request, one that puts a record into a file or changes one there.
-    #[inline(never)]
-    fn write<P: Sectors>(&mut self, pack: &mut Pack<P>, file: usize) -> Result<bool, PoolFault>
-        requires able { IsServable file self.old (seen pack.old.areas (P.state pack.old.pool).contents) }
-        requires puts { IsPut (asked self.old.cycle) }
-        ensures { ServesJob result self.old self.new pack.old.areas pack.new.areas (P.state pack.old.pool) (P.state pack.new.pool) }
-    {
-        let Some(place) = self.place_of(file) else {
-            return Ok(false);
-        };
-        let stored = store(&self.cycle, &mut self.files, pack, place)?;
-        self.cycle.resume(answer_of_put(stored));
         Ok(true)
     }
 }

@@ -2,7 +2,7 @@
 
 use crate::date::Date;
 use crate::details::one_detail;
-use crate::job::OpenJob;
+use crate::job::{OpenJob, places_of};
 use crate::level::Level;
 use crate::switches::switches_after;
 use s3_cycle::Cycle;
@@ -11,9 +11,10 @@ use s3_labels::Pack;
 use s3_ocl::{FaultyJob, JobCards, OclFault, job_at, split};
 use s3_opening::{JobSettings, OpeningFault, open_files};
 use s3_operator::HaltCode;
+use s3_output::composition::LONGEST_RECORD;
 use s3_program::program::Program;
 use s3_solo::Did;
-use s3_store::{PoolFault, Sectors};
+use s3_store::{SectorFault, Sectors};
 use std::alloc::AllocError;
 
 impl Level {
@@ -34,7 +35,7 @@ impl Level {
 
     /// Begins the next job, if there is one.
     #[inline(never)]
-    pub(crate) fn begin<P: Sectors>(&mut self, pack: &mut Pack<P>) -> Result<Did, PoolFault>
+    pub(crate) fn begin<P: Sectors>(&mut self, pack: &mut Pack<P>) -> Result<Did, SectorFault>
         requires free { MayBegin self.old (seen pack.old.areas (P.state pack.old.pool).contents) }
         ensures world { (s : Shown) → Begins result (HoldsParts self.old (with_seen (seen pack.old.areas (P.state pack.old.pool).contents) s)) (HoldsParts self.new (with_seen (seen pack.new.areas (P.state pack.new.pool).contents) s)) }
         ensures leaves { Leaves result self.old self.new pack.old.areas pack.new.areas (P.state pack.old.pool) (P.state pack.new.pool) }
@@ -46,7 +47,7 @@ impl Level {
         }
         match self.next_job() {
             Ok(job) => self.start(&job, pack)?,
-            Err(OclFault::NoMemory) => return Err(PoolFault::NoMemory),
+            Err(OclFault::NoMemory) => return Err(SectorFault::NoMemory),
             Err(OclFault::Faulty(faulty)) => self.refuse(faulty)?,
         }
         Ok(Did::Acted)
@@ -111,7 +112,7 @@ impl Level {
     }
 
     /// Starts the next job.
-    fn start<P: Sectors>(&mut self, job: &JobCards, pack: &mut Pack<P>) -> Result<(), PoolFault>
+    fn start<P: Sectors>(&mut self, job: &JobCards, pack: &mut Pack<P>) -> Result<(), SectorFault>
         requires sound { IsJobOf self.old.deck job.now }
         requires free { MayBegin self.old (seen pack.old.areas (P.state pack.old.pool).contents) }
         ensures world { (s : Shown) → OnOk result (Starts (Ok job.now) (jobs_from self.old.deck job.now.after) (HoldsParts self.old (with_seen (seen pack.old.areas (P.state pack.old.pool).contents) s)) (HoldsParts self.new (with_seen (seen pack.new.areas (P.state pack.new.pool).contents) s))) }
@@ -140,7 +141,7 @@ impl Level {
         number: u16,
         job: &JobCards,
         pack: &mut Pack<P>,
-    ) -> Result<(), PoolFault>
+    ) -> Result<(), SectorFault>
         requires sound { IsJobOf self.old.deck job.now }
         requires free { MayBegin self.old (seen pack.old.areas (P.state pack.old.pool).contents) }
         ensures world { (s : Shown) → OnOk result (Becomes (performed number job.now (data_of self.old.deck job.now)) (HoldsParts self.old (with_seen (seen pack.old.areas (P.state pack.old.pool).contents) s)) (HoldsParts self.new (with_seen (seen pack.new.areas (P.state pack.new.pool).contents) s))) }
@@ -160,7 +161,7 @@ impl Level {
         number: u16,
         job: &JobCards,
         pack: &mut Pack<P>,
-    ) -> Result<(), PoolFault>
+    ) -> Result<(), SectorFault>
         requires sound { IsJobOf self.old.deck job.now }
         requires free { MayBegin self.old (seen pack.old.areas (P.state pack.old.pool).contents) }
         ensures world { (s : Shown) → OnOk result (Becomes (λ w. run number job.now.files (data_of self.old.deck job.now) (w.library job.now.program) w) (HoldsParts self.old (with_seen (seen pack.old.areas (P.state pack.old.pool).contents) s)) (HoldsParts self.new (with_seen (seen pack.new.areas (P.state pack.new.pool).contents) s))) }
@@ -195,7 +196,7 @@ impl Level {
         program: Program,
         job_files: JobFiles,
         pack: &mut Pack<P>,
-    ) -> Result<(), PoolFault>
+    ) -> Result<(), SectorFault>
         requires rests { self.old.job ≡ None }
         requires ready { AreFilesReady self.old.id job_files.files.items (seen pack.old.areas (P.state pack.old.pool).contents) }
         requires level { job_files.level ≡ self.old.id }
@@ -203,11 +204,15 @@ impl Level {
         ensures world { (s : Shown) (before : Seen) → OnOk result ((w : World) (source : Source) (in_use : FilesInUse) → Stands program source → HoldsParts self.old (with_seen before s) w → HoldsInUse self.old.id job_files.files.items (seen pack.old.areas (P.state pack.old.pool).contents) in_use → HoldsParts self.new (with_seen (seen pack.new.areas (P.state pack.new.pool).contents) s) (at_work (record { number = number; source = source; cards = data_of self.old.deck job.now; files = in_use.job_files; past = [] }) (record w { pack = in_use.files }))) }
         ensures leaves { Leaves result self.old self.new pack.old.areas pack.new.areas (P.state pack.old.pool) (P.state pack.new.pool) }
     {
+        let places = places_of(self.alloc, &program.files, &job_files)?;
+        let room = Box::new(self.alloc, [0; LONGEST_RECORD])?;
         let cycle = Cycle::start(self.alloc, program, self.switches, self.date.digits())?;
         self.open(OpenJob {
             number,
             cycle,
             files: job_files,
+            places,
+            room,
             next: job.data_from(),
             end: job.data_to(),
         });

@@ -11,7 +11,7 @@ use s3_operator::{Halt, HaltLog};
 use s3_program::program::Program;
 use s3_solo::Did;
 use s3_spool::{Spool, SpoolFault};
-use s3_store::{PoolFault, Sectors};
+use s3_store::{SectorFault, Sectors};
 use std::alloc::Global;
 use std::num::NonZeroU16;
 
@@ -35,7 +35,7 @@ pub struct Level {
 }
 
 impl Level {
-    ghost use Rattle.std.specs.Prelude.{◌≡◌, ◌≢◌, ◌+◌, ℕ, [], map, None, Ok, IfOk, IsOk, OnOk, OnErr, IfErr};
+    ghost use Rattle.std.specs.Prelude.{◌≡◌, ◌≢◌, ◌+◌, ℕ, [], map, None, Ok, IfOk, IsOk, OnOk, OnErr};
     ghost use Rattle.std.specs.Int.NonZero.{non_zero_u16_get};
     ghost use Rattle.s3_store.specs.Inner.Failures.{failed_transfers};
     ghost use Rattle.s3_labels.specs.Inner.Labelled.{KeepsSaid};
@@ -90,7 +90,7 @@ impl Level {
         &mut self,
         pack: &mut Pack<P>,
         spool: &mut Spool,
-    ) -> Result<Did, PoolFault>
+    ) -> Result<Did, SectorFault>
         requires ready { IsReady self.old (seen pack.old.areas (P.state pack.old.pool).contents) }
         requires blocks { AreAll spool.old }
         ensures step { IfOk result (λ did. Steps Turn did (Holds self.old (around pack.old.areas (P.state pack.old.pool) spool.old)) (Holds self.new (around pack.new.areas (P.state pack.new.pool) spool.new))) }
@@ -101,7 +101,6 @@ impl Level {
         ensures queues { IfOk result (λ did. did ≢ Acted → spool.new ≡ spool.old) }
         ensures failures { (P.state pack.new.pool).failures ≡ (P.state pack.old.pool).failures + failed_transfers result }
         ensures says { OnOk result (KeepsSaid self.old.id pack.old.areas (P.state pack.old.pool).contents pack.new.areas (P.state pack.new.pool).contents) }
-        ensures fault { IfErr result (λ fault. fault ≢ PoolFault.NoSector) }
         ensures stays { Stays self.old self.new }
     {
         Ok(self.turns(NonZeroU16::MIN, pack, spool)?.did)
@@ -120,7 +119,7 @@ impl Level {
         most: NonZeroU16,
         pack: &mut Pack<P>,
         spool: &mut Spool,
-    ) -> Result<Taken, PoolFault>
+    ) -> Result<Taken, SectorFault>
         requires ready { IsReady self.old (seen pack.old.areas (P.state pack.old.pool).contents) }
         requires blocks { AreAll spool.old }
         ensures times { IfOk result (λ taken. IsUpTo (non_zero_u16_get most) taken) }
@@ -132,7 +131,6 @@ impl Level {
         ensures queues { IfOk result (λ taken. taken.did ≢ Acted → spool.new ≡ spool.old) }
         ensures failures { (P.state pack.new.pool).failures ≡ (P.state pack.old.pool).failures + failed_transfers result }
         ensures says { OnOk result (KeepsSaid self.old.id pack.old.areas (P.state pack.old.pool).contents pack.new.areas (P.state pack.new.pool).contents) }
-        ensures fault { IfErr result (λ fault. fault ≢ PoolFault.NoSector) }
         ensures stays { Stays self.old self.new }
     {
         let all = most.get();
@@ -156,7 +154,7 @@ impl Level {
     /// the level holds, and no entry may follow.
     #[inline(never)]
     #[tactic(auto, using(crate::proofs::Replies::reply_refused, crate::proofs::Replies::reply_taken))]
-    pub fn answer<P: Sectors>(&mut self, digit: u8, pack: &mut Pack<P>) -> Result<Did, PoolFault>
+    pub fn answer<P: Sectors>(&mut self, digit: u8, pack: &mut Pack<P>) -> Result<Did, SectorFault>
         requires ready { IsReady self.old (seen pack.old.areas (P.state pack.old.pool).contents) }
         ensures step { (blocks : Blocks) → AreAll blocks → IfOk result (λ did. Steps (Reply digit) did (Holds self.old (around pack.old.areas (P.state pack.old.pool) blocks)) (Holds self.new (around pack.new.areas (P.state pack.new.pool) blocks))) }
         ensures refused { (blocks : Blocks) (w : World) (number : ℕ) → Holds self.old (around pack.old.areas (P.state pack.old.pool) blocks) w → (step_of w (Reply digit)).did ≡ Refused number → result ≡ Ok (Refused number) }
@@ -166,7 +164,6 @@ impl Level {
         ensures quiet { IfOk result (λ did. IsQuiet did pack.old.areas pack.new.areas (P.state pack.old.pool) (P.state pack.new.pool)) }
         ensures failures { (P.state pack.new.pool).failures ≡ (P.state pack.old.pool).failures + failed_transfers result }
         ensures says { OnOk result (KeepsSaid self.old.id pack.old.areas (P.state pack.old.pool).contents pack.new.areas (P.state pack.new.pool).contents) }
-        ensures fault { IfErr result (λ fault. fault ≢ PoolFault.NoSector) }
         ensures stays { Stays self.old self.new }
     {
         if let Err(fault) = self.reply(digit) {
@@ -182,7 +179,7 @@ impl Level {
         &mut self,
         pack: &mut Pack<P>,
         spool: &mut Spool,
-    ) -> Result<Did, PoolFault>
+    ) -> Result<Did, SectorFault>
         requires ready { IsReady self.old (seen pack.old.areas (P.state pack.old.pool).contents) }
         requires blocks { AreAll spool.old }
         ensures step { IfOk result (λ did. Steps Drain did (Holds self.old (around pack.old.areas (P.state pack.old.pool) spool.old)) (Holds self.new (around pack.new.areas (P.state pack.new.pool) spool.new))) }
@@ -195,7 +192,6 @@ impl Level {
         ensures quiet { IfOk result (λ did. IsQuiet did pack.old.areas pack.new.areas (P.state pack.old.pool) (P.state pack.new.pool)) }
         ensures queues { IfOk result (λ did. did ≢ Acted → spool.new ≡ spool.old) }
         ensures failures { (P.state pack.new.pool).failures ≡ (P.state pack.old.pool).failures + failed_transfers result }
-        ensures fault { IfErr result (λ fault. fault ≢ PoolFault.NoSector) }
         ensures id { self.new.id ≡ self.old.id }
     {
         match spool.take(self.id, &mut pack.pool) {
@@ -210,7 +206,7 @@ impl Level {
     }
 
     /// Ends the job at work without its pending request: its files are closed. A halt that waits keeps no reply.
-    pub fn close<P: Sectors>(&mut self, pack: &mut Pack<P>) -> Result<(), PoolFault>
+    pub fn close<P: Sectors>(&mut self, pack: &mut Pack<P>) -> Result<(), SectorFault>
         requires ready { IsReady self.old (seen pack.old.areas (P.state pack.old.pool).contents) }
         ensures world { (blocks : Blocks) → AreAll blocks → OnOk result (Becomes job_ended (Holds self.old (around pack.old.areas (P.state pack.old.pool) blocks)) (Holds self.new (around pack.new.areas (P.state pack.new.pool) blocks))) }
         ensures ready { OnOk result (IsReady self.new (seen pack.new.areas (P.state pack.new.pool).contents)) }
@@ -219,7 +215,6 @@ impl Level {
         ensures ends { self.old.job ≡ None → IsOk result }
         ensures failures { (P.state pack.new.pool).failures ≡ (P.state pack.old.pool).failures + failed_transfers result }
         ensures says { OnOk result (KeepsSaid self.old.id pack.old.areas (P.state pack.old.pool).contents pack.new.areas (P.state pack.new.pool).contents) }
-        ensures fault { IfErr result (λ fault. fault ≢ PoolFault.NoSector) }
         ensures stays { Stays self.old self.new }
     {
         self.end_job(pack)
@@ -230,7 +225,7 @@ impl Level {
         &mut self,
         pack: &mut Pack<P>,
         spool: &mut Spool,
-    ) -> Result<(), PoolFault>
+    ) -> Result<(), SectorFault>
         requires ready { IsReady self.old (seen pack.old.areas (P.state pack.old.pool).contents) }
         requires blocks { AreAll spool.old }
         ensures world { OnOk result (Becomes (λ w. record w { lines = all_drained w.lines }) (Holds self.old (around pack.old.areas (P.state pack.old.pool) spool.old)) (Holds self.new (around pack.new.areas (P.state pack.new.pool) spool.new))) }
@@ -240,7 +235,6 @@ impl Level {
         ensures keeps { KeepsContents (P.state pack.old.pool) (P.state pack.new.pool) }
         ensures none { blocks_of self.old.id spool.old ≡ [] → IsOk result }
         ensures failures { (P.state pack.new.pool).failures ≡ (P.state pack.old.pool).failures + failed_transfers result }
-        ensures fault { IfErr result (λ fault. fault ≢ PoolFault.NoSector) }
         ensures id { self.new.id ≡ self.old.id }
     {
         for _line in 0..spool.queued(self.id) {

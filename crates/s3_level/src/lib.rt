@@ -15,7 +15,7 @@
 //!   none (`ends`, `none`);
 //! - whatever a call answers, the masters, the other level's slots, label sectors, region and queue stay, and all sectors but the
 //!   spool blocks and the level's own, in the store too (`spares`, `others`); labels that say the level's slots still do after an
-//!   answer (`says`); transfers that failed are counted (`failures`), and no call names a sector that isn't there (`fault`);
+//!   answer (`says`); transfers that failed are counted (`failures`);
 //! - `lines` and `halts` are the drained lines and the halts;
 //! - what is asked of a level (`waits`, `has_work`, `place`, `job_number`, `unread`, `files`, `cycle` and others) is so in each world
 //!   that is held.

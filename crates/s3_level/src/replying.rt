@@ -5,7 +5,7 @@ use crate::next::code_asked;
 use s3_cycle::Answer;
 use s3_labels::Pack;
 use s3_operator::{HaltCode, ReplyFault, allowed};
-use s3_store::{PoolFault, Sectors};
+use s3_store::{SectorFault, Sectors};
 
 impl Level {
     ghost use Rattle.std.specs.Prelude.{◌≡◌, true, OnOk, OnErr, option_and_then};
@@ -34,7 +34,7 @@ impl Level {
         &mut self,
         digit: u8,
         pack: &mut Pack<P>,
-    ) -> Result<(), PoolFault>
+    ) -> Result<(), SectorFault>
         requires ready { IsReady self.old (seen pack.old.areas (P.state pack.old.pool).contents) }
         ensures world { (s : Shown) → OnOk result ((w : World) → MayReply digit w → HoldsParts self.old (with_seen (seen pack.old.areas (P.state pack.old.pool).contents) s) w → HoldsParts self.new (with_seen (seen pack.new.areas (P.state pack.new.pool).contents) s) (resumed digit w.job w)) }
         ensures leaves { Leaves result self.old self.new pack.old.areas pack.new.areas (P.state pack.old.pool) (P.state pack.new.pool) }

@@ -5,7 +5,7 @@ use s3_cycle::Answer;
 use s3_labels::Pack;
 use s3_solo::Did;
 use s3_spool::{ComposedLine, Spool, SpoolFault};
-use s3_store::{PoolFault, Sectors};
+use s3_store::{SectorFault, Sectors};
 
 impl Level {
     ghost use Rattle.std.specs.Prelude.{◌≡◌, ◌≢◌, ◌<◌, ℕ, List, false, length, IfOk, OnOk, OnErr};
@@ -22,7 +22,7 @@ impl Level {
     /// Reads a card for the job at work.
     #[inline(always)]
     #[tactic(auto, using(crate::proofs::Running::card_served))]
-    pub(crate) fn read_card<P: Sectors>(&mut self, pack: &mut Pack<P>) -> Result<Did, PoolFault>
+    pub(crate) fn read_card<P: Sectors>(&mut self, pack: &mut Pack<P>) -> Result<Did, SectorFault>
         requires asks { request_by self.old.job ≡ Some asks.Card }
         requires ready { IsReady self.old (seen pack.old.areas (P.state pack.old.pool).contents) }
         ensures served { (s : Shown) → Serves (served Meant.Card) result (HoldsParts self.old (with_seen (seen pack.old.areas (P.state pack.old.pool).contents) s)) (HoldsParts self.new (with_seen (seen pack.new.areas (P.state pack.new.pool).contents) s)) }
@@ -49,7 +49,7 @@ impl Level {
 
     /// Serves the pending request of the job at work, one to a file.
     #[inline(always)]
-    pub(crate) fn serve_file<P: Sectors>(&mut self, pack: &mut Pack<P>) -> Result<Did, PoolFault>
+    pub(crate) fn serve_file<P: Sectors>(&mut self, pack: &mut Pack<P>) -> Result<Did, SectorFault>
         requires ready { IsReady self.old (seen pack.old.areas (P.state pack.old.pool).contents) }
         ensures served { (s : Shown) → Serves on_files result (HoldsParts self.old (with_seen (seen pack.old.areas (P.state pack.old.pool).contents) s)) (HoldsParts self.new (with_seen (seen pack.new.areas (P.state pack.new.pool).contents) s)) }
         ensures leaves { Leaves result self.old self.new pack.old.areas pack.new.areas (P.state pack.old.pool) (P.state pack.new.pool) }
@@ -66,7 +66,7 @@ impl Level {
 
     /// Gives the pending request of the job at work the answer of its files, if it has that file in use.
     #[inline(always)]
-    fn take_file<P: Sectors>(&mut self, pack: &mut Pack<P>) -> Result<bool, PoolFault>
+    fn take_file<P: Sectors>(&mut self, pack: &mut Pack<P>) -> Result<bool, SectorFault>
         requires ready { IsReady self.old (seen pack.old.areas (P.state pack.old.pool).contents) }
         ensures served { (s : Shown) → IfOk result (λ took. FileServed took (HoldsParts self.old (with_seen (seen pack.old.areas (P.state pack.old.pool).contents) s)) (HoldsParts self.new (with_seen (seen pack.new.areas (P.state pack.new.pool).contents) s))) }
         ensures fails { (s : Shown) → OnErr result (FileThere (HoldsParts self.old (with_seen (seen pack.old.areas (P.state pack.old.pool).contents) s))) }
@@ -88,7 +88,7 @@ impl Level {
         line: u8,
         pack: &mut Pack<P>,
         spool: &mut Spool,
-    ) -> Result<Did, PoolFault>
+    ) -> Result<Did, SectorFault>
         requires asks { request_by self.old.job ≡ Some (asks.Print page line) }
         requires ready { IsReady self.old (seen pack.old.areas (P.state pack.old.pool).contents) }
         requires blocks { AreAll spool.old }
@@ -112,7 +112,7 @@ impl Level {
         line: u8,
         pack: &mut Pack<P>,
         spool: &mut Spool,
-    ) -> Result<(), PoolFault>
+    ) -> Result<(), SectorFault>
         requires asks { request_by self.old.job ≡ Some (asks.Print page line) }
         requires ready { IsReady self.old (seen pack.old.areas (P.state pack.old.pool).contents) }
         requires blocks { AreAll spool.old }
@@ -133,7 +133,7 @@ impl Level {
         line: u8,
         pack: &mut Pack<P>,
         spool: &mut Spool,
-    ) -> Result<(), PoolFault>
+    ) -> Result<(), SectorFault>
         requires asks { request_by self.now.job ≡ Some (asks.Print page line) }
         requires ready { IsReady self.now (seen pack.old.areas (P.state pack.old.pool).contents) }
         requires blocks { AreAll spool.old }

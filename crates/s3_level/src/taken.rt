@@ -4,7 +4,7 @@ ghost use Rattle.s3_solo.specs.declared.action.Did.TheVariants.{Acted};
 ghost use Rattle.s3_level.specs.Inner.Holds.{once as once_spec};
 
 use s3_solo::Did;
-use s3_store::PoolFault;
+use s3_store::SectorFault;
 
 /// So many entries of a level, one after the other, that did the same.
 #[derive(Clone, Copy)]
@@ -39,7 +39,7 @@ impl Taken {
 
     /// One entry with this answer, or its fault.
     #[inline(always)]
-    pub fn once(answer: Result<Did, PoolFault>) -> Result<Taken, PoolFault>
+    pub fn once(answer: Result<Did, SectorFault>) -> Result<Taken, SectorFault>
         ensures { result ≡ once_spec answer }
     {
         match answer {

@@ -11,7 +11,7 @@ use Rattle.s3_cards.specs.Names.{same_name}
 use Rattle.s3_cards.proofs.NameLemmas.{same_name-self}
 use Rattle.s3_operator.specs.declared.halt_code.HaltCode.{HaltCode}
 use Rattle.s3_store.specs.Inner.State.{PoolState, KeepsContents}
-use Rattle.s3_store.specs.declared.pool_fault.PoolFault.{PoolFault}
+use Rattle.s3_store.specs.declared.sector_fault.SectorFault.{SectorFault}
 use Rattle.s3_store.specs.declared.stretch.Stretch.{Stretch}
 use Rattle.s3_slots.specs.Inner.Making.{and_then, planned, IsNewFile}
 use Rattle.s3_slots.specs.Making.{made, made as made_by, new_label}
@@ -246,7 +246,7 @@ readies_made level name new label areas new_areas old t u file is keeps opened =
     subst (λ contents. Readies level (ToMake name new) file (seen areas old) (seen new_areas contents)) (sym keeps.contents)
     (readies_fresh level name new label areas new_areas old t.contents file is opened)
 
-pub readies_if_made : (level : LevelId) (name : Name) (new : NewFile) (label : FileLabel) (areas new_areas : Areas) (old : List (List ℕ)) (t u : PoolState) (result : Result OpenFile PoolFault)
+pub readies_if_made : (level : LevelId) (name : Name) (new : NewFile) (label : FileLabel) (areas new_areas : Areas) (old : List (List ℕ)) (t u : PoolState) (result : Result OpenFile SectorFault)
     → IsMade level new label areas new_areas old t.contents → KeepsContents t u → IfOk result (IsOpenedNew name label t.contents)
     → IfOk result (λ file. Readies level (ToMake name new) file (seen areas old) (seen new_areas u.contents))
 readies_if_made level name new label areas new_areas old t u (Ok file) is keeps opened = readies_made level name new label areas new_areas old t u file is keeps opened
@@ -256,7 +256,7 @@ readies_if_made level name new label areas new_areas old t u (Err fault) is keep
 pub readies_open : (level : LevelId) (start : Start) (file : OpenFile) (s : Seen) → start ≡ Opened file → IsRight level s start → Readies level start file s s
 readies_open level start file s is right = subst (λ one. Readies level one file s s) (sym is) (readies_opened level file s (subst (IsRight level s) is right))
 
-pub readies_make : (level : LevelId) (start : Start) (name : Name) (new : NewFile) (old later : Seen) (result : Result OpenFile PoolFault) → start ≡ ToMake name new
+pub readies_make : (level : LevelId) (start : Start) (name : Name) (new : NewFile) (old later : Seen) (result : Result OpenFile SectorFault) → start ≡ ToMake name new
     → IfOk result (λ file. Readies level (ToMake name new) file old later) → IfOk result (λ file. Readies level start file old later)
 readies_make level start name new old later result is readies = subst (λ one. IfOk result (λ file. Readies level one file old later)) (sym is) readies
 

@@ -9,8 +9,8 @@ use Rattle.s3_slots.specs.declared.making.LabelFault.{LabelFault}
 use Rattle.s3_slots.specs.declared.slot.Slot.{Slot}
 use Rattle.s3_store.specs.Inner.State.{PoolState, KeepsContents, KeepsInStep}
 use Rattle.s3_store.specs.Inner.Failures.{failed_transfers}
-use Rattle.s3_store.specs.declared.pool_fault.PoolFault.{PoolFault}
-use Rattle.s3_store.specs.declared.pool_fault.PoolFault.TheVariants.{Device, NoMemory, NoSector}
+use Rattle.s3_store.specs.declared.sector_fault.SectorFault.{SectorFault}
+use Rattle.s3_store.specs.declared.sector_fault.SectorFault.TheVariants.{Device, NoMemory}
 use Rattle.s3_store.proofs.Frames.{step_from_keeps, step_trans}
 use Rattle.s3_labels.specs.Inner.Areas.{Areas, region_at, slots_at, with_slots, IsReady as IsPackReady}
 use Rattle.s3_job_files.specs.Files.{Files, FilesInUse}
@@ -79,10 +79,9 @@ module _ (level : LevelId) (areas now : Areas) (contents : List (List ℕ)) (set
   are_starts = starts_of_lines level (seen areas contents) settings lines starts right all_passed
 
 -- only a transfer of the tests has failed: the plan transfers nothing
-transfers_same : (T U : Type 0) (fault : PoolFault) → failed_transfers {T = T} (Err fault) ≡ failed_transfers {T = U} (Err fault)
+transfers_same : (T U : Type 0) (fault : SectorFault) → failed_transfers {T = T} (Err fault) ≡ failed_transfers {T = U} (Err fault)
 transfers_same T U Device = refl
 transfers_same T U NoMemory = refl
-transfers_same T U NoSector = refl
 
 failed_same : (T : Type 0) (value : T) (meant : Result (List Slot) (ℕ × LabelFault)) (tested plan : Result (Unit {0}) OpeningFault) → PlansTo meant plan
     → failed_opening (with_value value (first_refusal tested plan)) ≡ failed_opening tested
@@ -134,7 +133,7 @@ pub halts_result : {T : Type 0} (level : LevelId) (old pack : Seen) (settings : 
 halts_result level old pack settings lines shown fault result is meant files held =
     subst (StartsAs level pack (opened settings lines files)) (sym is) (halts_as level old pack settings lines shown fault meant files held)
 
-pub faults_as : (level : LevelId) (old pack : Seen) (settings : Settings) (lines : List FileLine) (fault : PoolFault) (refusal : OpeningFault) → refusal ≡ Sectors fault
+pub faults_as : (level : LevelId) (old pack : Seen) (settings : Settings) (lines : List FileLine) (fault : SectorFault) (refusal : OpeningFault) → refusal ≡ Sectors fault
     → (files : Files) → HoldsFiles level [] old files → StartsAs level pack (opened settings lines files) (Err refusal)
 faults_as level old pack settings lines fault refusal is files held = subst (λ r. StartsAs level pack (opened settings lines files) (Err r)) (sym is) tt
 
@@ -142,7 +141,7 @@ pub if_halted : (fault : OpeningFault) (P : Type 0) → P → IfHalted fault P
 if_halted (Halted code) P p = p
 if_halted (Sectors fault) P p = tt
 
-pub not_halted : (fault : PoolFault) (refusal : OpeningFault) (P : Type 0) → refusal ≡ Sectors fault → IfHalted refusal P
+pub not_halted : (fault : SectorFault) (refusal : OpeningFault) (P : Type 0) → refusal ≡ Sectors fault → IfHalted refusal P
 not_halted fault refusal P is = subst (λ r. IfHalted r P) (sym is) tt
 
 same_slots : (level : LevelId) (areas : Areas) → areas ≡ with_slots level (slots_at level areas) areas

@@ -7,8 +7,8 @@
 //! - it makes and opens the files of a job, or says for which halt the job doesn't start, exactly as the definition's table does;
 //!   nothing is made unless all files pass their tests, and a halt changes nothing;
 //! - the open files are those of the F lines that the job uses, with their record lengths and keys, and a master's is only read;
-//! - no sector out of the level's reach changes, in the store itself too; labels that said the slots say those with the made
-//!   files; and no call names a sector that isn't there.
+//! - no sector out of the level's reach changes, in the store itself too; and labels that said the slots say those with the
+//!   made files.
 //!
 //! The table is computed over worked rows: `each_file_has_its_own_label`, `a_made_file_is_refused_in_order`,
 //! `an_opened_file_is_refused_in_order`, `files_are_tested_one_after_another`.

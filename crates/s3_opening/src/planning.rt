@@ -1,5 +1,5 @@
 //! Whether the files of a job can be had: all tests, and the plan of what is made, with nothing changed.
-ghost use Rattle.std.specs.Prelude.{◌≡◌, ◌+◌, [], true, filter, filter_map, map, IfOk, IfErr};
+ghost use Rattle.std.specs.Prelude.{◌≡◌, ◌+◌, [], true, filter, filter_map, map, IfOk};
 ghost use Rattle.std.specs.List.{list_all};
 ghost use Rattle.s3_lines.specs.Inner.Ranges.{file_in_range};
 ghost use Rattle.s3_ocl.specs.Inner.Sound.{is_sound_file};
@@ -9,7 +9,6 @@ ghost use Rattle.s3_labels.specs.Inner.Areas.{slots_at, region_at, IsReady as Is
 ghost use Rattle.s3_job_files.specs.Files.{Files};
 ghost use Rattle.s3_job_files.specs.Inner.Holds.{seen, HoldsFiles};
 ghost use Rattle.s3_opening.specs.Asked.{is_used};
-ghost use Rattle.s3_opening.specs.Inner.OpenFiles.{FindsSectors};
 ghost use Rattle.s3_opening.specs.Opening.{halt_of_make as halt_of_make_spec, none_in_use, opened};
 ghost use Rattle.s3_opening.specs.Inner.Tests.{news_of as news_of_spec, new_of};
 ghost use Rattle.s3_opening.specs.Inner.Starts.{settings_of, step_in, failed_opening, fault_of_plan, first_refusal as first_refusal_spec, AreRight, Comes, PlansTo};
@@ -24,7 +23,7 @@ use s3_labels::{Pack, PlanFault};
 use s3_lines::sheet::FileLine;
 use s3_operator::HaltCode;
 use s3_slots::{LabelFault, NewFile};
-use s3_store::{PoolFault, Sectors};
+use s3_store::{SectorFault, Sectors};
 use std::alloc::{AllocError, Global};
 
 /// The files that are to be made.
@@ -73,7 +72,7 @@ fn refused_plan(fault: PlanFault) -> OpeningFault
 {
     match fault {
         PlanFault::File(_, fault) => OpeningFault::Halted(halt_of_make(fault)),
-        PlanFault::NoMemory => OpeningFault::Sectors(PoolFault::NoMemory),
+        PlanFault::NoMemory => OpeningFault::Sectors(SectorFault::NoMemory),
     }
 }
 
@@ -114,7 +113,6 @@ pub fn test_files<P: Sectors>(
     ensures keeps { KeepsContents (P.state pack.old.pool) (P.state pack.new.pool) }
     ensures areas { pack.new.areas ≡ pack.old.areas }
     ensures failures { (P.state pack.new.pool).failures ≡ (P.state pack.old.pool).failures + failed_opening result }
-    ensures fault { IfErr result FindsSectors }
 {
     let mut starts = Vec::new(alloc);
     let tested = test_lines(alloc, level, pack, settings, lines, &mut starts);

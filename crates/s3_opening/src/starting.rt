@@ -1,5 +1,5 @@
 //! The start of a job: its files are made and opened, once all tests have passed.
-ghost use Rattle.std.specs.Prelude.{◌≡◌, ◌≢◌, ◌+◌, [], ◌∷◌, true, length, map, IfOk, IfErr, IsOk, OnOk};
+ghost use Rattle.std.specs.Prelude.{◌≡◌, ◌+◌, [], ◌∷◌, true, length, map, IfOk, IfErr, IsOk, OnOk};
 ghost use Rattle.std.specs.List.{list_all};
 ghost use Rattle.s3_lines.specs.Inner.Ranges.{file_in_range};
 ghost use Rattle.s3_ocl.specs.Inner.Sound.{is_sound_file};
@@ -14,7 +14,7 @@ ghost use Rattle.s3_job_files.specs.Files.{Files, FilesInUse};
 ghost use Rattle.s3_job_files.specs.Inner.Holds.{seen, Holds, HoldsFiles, IsOutOfReach, IsReady};
 ghost use Rattle.s3_job_files.specs.Kept.{kept_on};
 ghost use Rattle.s3_opening.specs.Opening.{opened};
-ghost use Rattle.s3_opening.specs.Inner.OpenFiles.{AreOfLines, FindsSectors, HoldsStarted, IfHalted, StartsAs};
+ghost use Rattle.s3_opening.specs.Inner.OpenFiles.{AreOfLines, HoldsStarted, IfHalted, StartsAs};
 ghost use Rattle.s3_opening.specs.Inner.Starting.{AddsFiles, CanStart, IsMade, IsOpenedNew, Readies, Starts};
 ghost use Rattle.s3_opening.specs.Inner.Starts.{settings_of, step_in, failed_opening, IsPlanned, IsRight};
 ghost use Rattle.s3_opening.specs.Inner.Tests.{taken};
@@ -29,7 +29,7 @@ use s3_job_files::{JobFiles, OpenFile};
 use s3_labels::{ChangeFault, Pack};
 use s3_lines::sheet::FileLine;
 use s3_slots::{FileLabel, NewFile};
-use s3_store::{PoolFault, Sectors};
+use s3_store::{SectorFault, Sectors};
 use std::alloc::Global;
 
 /// Makes a file that can be made. It answers the label.
@@ -37,7 +37,7 @@ fn make_label<P: Sectors>(
     level: LevelId,
     new: &NewFile,
     pack: &mut Pack<P>,
-) -> Result<FileLabel, PoolFault>
+) -> Result<FileLabel, SectorFault>
     requires ready { IsPackReady pack.old.areas (P.state pack.old.pool).contents }
     requires proper { IsNewFile new.now }
     requires planned { IsOk (made pack.old.areas.header.format (region_at level pack.old.areas) pack.old.areas.masters new.now (slots_at level pack.old.areas)) }
@@ -48,7 +48,6 @@ fn make_label<P: Sectors>(
     ensures spares { KeepsInStep (IsOutOfReach level pack.old.areas.header) (P.state pack.old.pool) (P.state pack.new.pool) }
     ensures says { OnOk result (KeepsSaid level pack.old.areas (P.state pack.old.pool).contents pack.new.areas (P.state pack.new.pool).contents) }
     ensures failures { (P.state pack.new.pool).failures ≡ (P.state pack.old.pool).failures + failed_transfers result }
-    ensures fault { IfErr result (λ fault. fault ≢ PoolFault.NoSector) }
 {
     match pack.make(level, new) {
         Ok(label) => Ok(label),
@@ -63,13 +62,12 @@ fn open_made<P: Sectors>(
     pool: &mut P,
     name: Name,
     label: FileLabel,
-) -> Result<OpenFile, PoolFault>
+) -> Result<OpenFile, SectorFault>
     requires on_pack { IsOfPack (length (P.state pool.old).contents) label }
     requires good { (kept_on label (P.state pool.old).contents).has_good_index ≡ true }
     ensures opened { IfOk result (IsOpenedNew name label (P.state pool.old).contents) }
     ensures keeps { KeepsContents (P.state pool.old) (P.state pool.new) }
     ensures failures { (P.state pool.new).failures ≡ (P.state pool.old).failures + failed_transfers result }
-    ensures fault { IfErr result (λ fault. fault ≢ PoolFault.NoSector) }
 {
     match OpenFile::open(alloc, pool, name, label, false, true)? {
         Some(file) => Ok(file),
@@ -84,7 +82,7 @@ fn make_file<P: Sectors>(
     pack: &mut Pack<P>,
     name: Name,
     new: &NewFile,
-) -> Result<OpenFile, PoolFault>
+) -> Result<OpenFile, SectorFault>
     requires ready { IsPackReady pack.old.areas (P.state pack.old.pool).contents }
     requires proper { IsNewFile new.now }
     requires planned { IsOk (made pack.old.areas.header.format (region_at level pack.old.areas) pack.old.areas.masters new.now (slots_at level pack.old.areas)) }
@@ -94,7 +92,6 @@ fn make_file<P: Sectors>(
     ensures spares { KeepsInStep (IsOutOfReach level pack.old.areas.header) (P.state pack.old.pool) (P.state pack.new.pool) }
     ensures says { OnOk result (KeepsSaid level pack.old.areas (P.state pack.old.pool).contents pack.new.areas (P.state pack.new.pool).contents) }
     ensures failures { (P.state pack.new.pool).failures ≡ (P.state pack.old.pool).failures + failed_transfers result }
-    ensures fault { IfErr result (λ fault. fault ≢ PoolFault.NoSector) }
 {
     let label = make_label(level, new, pack)?;
     open_made(alloc, &mut pack.pool, name, label)
@@ -106,7 +103,7 @@ fn file_of<P: Sectors>(
     level: LevelId,
     pack: &mut Pack<P>,
     start: Start,
-) -> Result<OpenFile, PoolFault>
+) -> Result<OpenFile, SectorFault>
     requires ready { IsPackReady pack.old.areas (P.state pack.old.pool).contents }
     requires right { IsRight level (seen pack.old.areas (P.state pack.old.pool).contents) start }
     requires planned { IsPlanned level pack.old.areas (step_in start ∷ []) }
@@ -116,7 +113,6 @@ fn file_of<P: Sectors>(
     ensures spares { KeepsInStep (IsOutOfReach level pack.old.areas.header) (P.state pack.old.pool) (P.state pack.new.pool) }
     ensures says { OnOk result (KeepsSaid level pack.old.areas (P.state pack.old.pool).contents pack.new.areas (P.state pack.new.pool).contents) }
     ensures failures { (P.state pack.new.pool).failures ≡ (P.state pack.old.pool).failures + failed_transfers result }
-    ensures fault { IfErr result (λ fault. fault ≢ PoolFault.NoSector) }
 {
     match start {
         Start::Opened(file) => Ok(file),
@@ -131,7 +127,7 @@ fn start_file<P: Sectors>(
     pack: &mut Pack<P>,
     start: Start,
     files: &mut Vec<OpenFile>,
-) -> Result<(), PoolFault>
+) -> Result<(), SectorFault>
     requires can { CanStart level files.old.items (seen pack.old.areas (P.state pack.old.pool).contents) (start ∷ []) }
     ensures starts { OnOk result (Starts level start files.old.items files.new.items (seen pack.old.areas (P.state pack.old.pool).contents) (seen pack.new.areas (P.state pack.new.pool).contents)) }
     ensures pack { IsPackReady pack.new.areas (P.state pack.new.pool).contents }
@@ -139,7 +135,6 @@ fn start_file<P: Sectors>(
     ensures spares { KeepsInStep (IsOutOfReach level pack.old.areas.header) (P.state pack.old.pool) (P.state pack.new.pool) }
     ensures says { OnOk result (KeepsSaid level pack.old.areas (P.state pack.old.pool).contents pack.new.areas (P.state pack.new.pool).contents) }
     ensures failures { (P.state pack.new.pool).failures ≡ (P.state pack.old.pool).failures + failed_transfers result }
-    ensures fault { IfErr result (λ fault. fault ≢ PoolFault.NoSector) }
 {
     let file = file_of(alloc, level, pack, start)?;
     files.push(file)?;
@@ -153,7 +148,7 @@ fn start_all<P: Sectors>(
     pack: &mut Pack<P>,
     starts: Vec<Start>,
     files: &mut Vec<OpenFile>,
-) -> Result<(), PoolFault>
+) -> Result<(), SectorFault>
     requires can { CanStart level files.old.items (seen pack.old.areas (P.state pack.old.pool).contents) starts.items }
     ensures holds { OnOk result ((in_use : FilesInUse) → Holds level files.old.items (seen pack.old.areas (P.state pack.old.pool).contents) in_use → HoldsStarted level files.new.items (seen pack.new.areas (P.state pack.new.pool).contents) (taken (map step_in starts.items) in_use)) }
     ensures ready { OnOk result (IsReady level files.new.items (seen pack.new.areas (P.state pack.new.pool).contents)) }
@@ -163,7 +158,6 @@ fn start_all<P: Sectors>(
     ensures spares { KeepsInStep (IsOutOfReach level pack.old.areas.header) (P.state pack.old.pool) (P.state pack.new.pool) }
     ensures says { OnOk result (KeepsSaid level pack.old.areas (P.state pack.old.pool).contents pack.new.areas (P.state pack.new.pool).contents) }
     ensures failures { (P.state pack.new.pool).failures ≡ (P.state pack.old.pool).failures + failed_transfers result }
-    ensures fault { IfErr result (λ fault. fault ≢ PoolFault.NoSector) }
 {
     for start in starts {
         start_file(alloc, level, pack, start, files)?;
@@ -196,7 +190,6 @@ pub fn open_files<P: Sectors>(
     ensures spares { KeepsInStep (IsOutOfReach level pack.old.areas.header) (P.state pack.old.pool) (P.state pack.new.pool) }
     ensures says { OnOk result (KeepsSaid level pack.old.areas (P.state pack.old.pool).contents pack.new.areas (P.state pack.new.pool).contents) }
     ensures failures { (P.state pack.new.pool).failures ≡ (P.state pack.old.pool).failures + failed_opening result }
-    ensures fault { IfErr result FindsSectors }
 {
     let starts = test_files(alloc, level, pack, settings, lines)?;
     let mut files = Vec::new(alloc);

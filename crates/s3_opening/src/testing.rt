@@ -1,5 +1,5 @@
 //! The tests of a job's files, which change nothing.
-ghost use Rattle.std.specs.Prelude.{◌≡◌, ◌+◌, [], ◌∷◌, true, length, map, IfOk, IfErr};
+ghost use Rattle.std.specs.Prelude.{◌≡◌, ◌+◌, [], ◌∷◌, true, length, map, IfOk};
 ghost use Rattle.std.specs.List.{list_all};
 ghost use Rattle.s3_lines.specs.Inner.Ranges.{file_in_range};
 ghost use Rattle.s3_ocl.specs.Inner.Sound.{is_sound_file};
@@ -8,7 +8,6 @@ ghost use Rattle.s3_store.specs.Inner.State.{KeepsContents};
 ghost use Rattle.s3_labels.specs.Inner.Areas.{IsReady as IsPackReady};
 ghost use Rattle.s3_job_files.specs.Inner.Holds.{seen, job_file_of};
 ghost use Rattle.s3_opening.specs.Asked.{is_disk};
-ghost use Rattle.s3_opening.specs.Inner.OpenFiles.{FindsSectors};
 ghost use Rattle.s3_opening.specs.Inner.Tests.{line_refusal as line_refusal_spec, halt_of_find as halt_of_find_spec, tested_standing, tested_file, step_of, tested_lines};
 ghost use Rattle.s3_opening.specs.Inner.Starts.{settings_of, step_in, Gives, TestsTo, failed_opening, IsOpened, IsRight, AreRight, IsKeptFile};
 
@@ -54,7 +53,6 @@ fn open_standing<P: Sectors>(
     ensures kept { IfOk result (λ file. IsKeptFile (P.state pool.old).contents label file.records) }
     ensures keeps { KeepsContents (P.state pool.old) (P.state pool.new) }
     ensures failures { (P.state pool.new).failures ≡ (P.state pool.old).failures + failed_opening result }
-    ensures fault { IfErr result FindsSectors }
 {
     if let Some(code) = line_refusal(line, is_master, &label) {
         return Err(OpeningFault::Halted(code));
@@ -79,7 +77,6 @@ fn open_file<P: Sectors>(
     ensures keeps { KeepsContents (P.state pack.old.pool) (P.state pack.new.pool) }
     ensures areas { pack.new.areas ≡ pack.old.areas }
     ensures failures { (P.state pack.new.pool).failures ≡ (P.state pack.old.pool).failures + failed_opening result }
-    ensures fault { IfErr result FindsSectors }
 {
     match pack.find(level, name) {
         Ok((label, is_master)) => open_standing(alloc, &mut pack.pool, line, label, is_master),
@@ -120,7 +117,6 @@ fn start_of<P: Sectors>(
     ensures keeps { KeepsContents (P.state pack.old.pool) (P.state pack.new.pool) }
     ensures areas { pack.new.areas ≡ pack.old.areas }
     ensures failures { (P.state pack.new.pool).failures ≡ (P.state pack.old.pool).failures + failed_opening result }
-    ensures fault { IfErr result FindsSectors }
 {
     let Some(statement) = statement_of(line.name, settings.statements) else {
         return Err(OpeningFault::Halted(HaltCode::NoLabel));
@@ -155,7 +151,6 @@ fn test_line<P: Sectors>(
     ensures keeps { KeepsContents (P.state pack.old.pool) (P.state pack.new.pool) }
     ensures areas { pack.new.areas ≡ pack.old.areas }
     ensures failures { (P.state pack.new.pool).failures ≡ (P.state pack.old.pool).failures + failed_opening result }
-    ensures fault { IfErr result FindsSectors }
 {
     if !is_used(settings.switches, line) {
         return Ok(());
@@ -188,7 +183,6 @@ pub fn test_lines<P: Sectors>(
     ensures keeps { KeepsContents (P.state pack.old.pool) (P.state pack.new.pool) }
     ensures areas { pack.new.areas ≡ pack.old.areas }
     ensures failures { (P.state pack.new.pool).failures ≡ (P.state pack.old.pool).failures + failed_opening result }
-    ensures fault { IfErr result FindsSectors }
 {
     for line in lines {
         match test_line(alloc, level, pack, settings, line, starts) {

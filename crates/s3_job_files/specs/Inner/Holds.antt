@@ -21,11 +21,8 @@ use Rattle.s3_files.specs.Inner.Files.{FileShape, records as records_on}
 use Rattle.s3_keyed.specs.Index.{layout_of}
 use Rattle.s3_keyed.specs.Inner.Keyed.{KeyedFile, records_now, HasKeyOrder, shown as keyed_file}
 use Rattle.s3_meaning.specs.Requests.{Answer}
-use Rattle.s3_meaning.specs.Requests as Meant
 use Rattle.s3_job_files.specs.declared.records.OpenRecords.{OpenRecords}
 use Rattle.s3_job_files.specs.declared.records.OpenRecords.TheVariants.{InOrder, ByKey}
-use Rattle.s3_job_files.specs.declared.file.Current.{Current}
-use Rattle.s3_job_files.specs.declared.file.Current.TheVariants.{NthRead, LastChained}
 use Rattle.s3_job_files.specs.declared.file.OpenFile.{OpenFile}
 use Rattle.s3_job_files.specs.Kept.{Kept, kept_on}
 use Rattle.s3_job_files.specs.Files.{Area, Files, JobFile, FilesInUse, FileAtWork, area_by, file_at}
@@ -76,10 +73,6 @@ AreOf label contents (ByKey file) = IsByKey label (keyed_file file) contents
 pub record IsUsable (contents : List (List ℕ)) (label : FileLabel) (records : OpenRecords) : Type 0 where
   pub on_pack : IsOfPack (length contents) label
   pub of_label : AreOf label contents records
-
-abbrev pub current_of : Current → Meant.Current
-current_of (NthRead n) = Meant.NthRead n
-current_of LastChained = Meant.LastChained
 
 -- ---- whatever they hold
 abbrev pub slots_by : (is_master : Bool) → LevelId → Areas → List Slot

@@ -1,6 +1,6 @@
 -- What a refused call on files or labels answers a job, and a file that has grown.
 use Rattle.std.specs.Prelude.{◌≡◌, ◌≤◌, Result, Ok, Err}
-use Rattle.s3_store.specs.declared.pool_fault.PoolFault.{PoolFault}
+use Rattle.s3_store.specs.declared.sector_fault.SectorFault.{SectorFault}
 use Rattle.s3_labels.specs.declared.fault.ChangeFault.{ChangeFault}
 use Rattle.s3_labels.specs.declared.fault.ChangeFault.TheVariants.{Label, Sectors}
 use Rattle.s3_files.specs.Inner.Files.{FileShape}
@@ -15,12 +15,12 @@ pub record IsGrown (old new : FileShape) : Type 0 where
   pub more : old.count ≤ new.count
 
 -- a refusal of the sectors is passed on
-abbrev pub pool_refusal : KeyedFault → Result (Unit {0}) PoolFault
+abbrev pub pool_refusal : KeyedFault → Result (Unit {0}) SectorFault
 pool_refusal (Pool fault) = Err fault
 pool_refusal _ = Ok tt
 
 -- a change of a label that is there is refused by the sectors alone
-abbrev pub sectors_answer : Result (Unit {0}) ChangeFault → Result (Unit {0}) PoolFault
+abbrev pub sectors_answer : Result (Unit {0}) ChangeFault → Result (Unit {0}) SectorFault
 sectors_answer (Ok done) = Ok done
 sectors_answer (Err (Sectors fault)) = Err fault
 sectors_answer (Err (Label fault)) = Ok tt

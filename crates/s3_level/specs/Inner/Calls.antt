@@ -1,32 +1,28 @@
 -- What calls on the parts of a level leave as it was and tell, refused or not. These words serve the contracts of private functions alone.
-use Rattle.std.specs.Prelude.{◌≡◌, ◌≢◌, ◌≤◌, ◌+◌, ℕ, Bool, false, List, length, map, None, Result, IfErr, IfOk, IsTrue, OnErr, OnOk}
+use Rattle.std.specs.Prelude.{◌≡◌, ◌≤◌, ◌+◌, ℕ, Bool, false, List, length, map, None, Result, IfOk, IsTrue, OnErr, OnOk}
 use Rattle.std.specs.List.{list_all}
 use Rattle.s3_cards.specs.declared.levels.LevelId.{LevelId}
 use Rattle.s3_store.specs.Inner.Failures.{failed_transfers}
 use Rattle.s3_store.specs.Inner.State.{PoolState}
-use Rattle.s3_store.specs.declared.pool_fault.PoolFault.{PoolFault}
-use Rattle.s3_store.specs.declared.pool_fault.PoolFault.TheVariants.{NoSector}
+use Rattle.s3_store.specs.declared.sector_fault.SectorFault.{SectorFault}
 use Rattle.s3_labels.specs.Inner.Areas.{Areas}
 use Rattle.s3_labels.specs.Inner.Labelled.{KeepsSaid}
 use Rattle.s3_job_files.specs.Inner.Holds.{Seen, seen, opened_as, IsReady as AreFilesReady}
 use Rattle.s3_job_files.specs.declared.job_files.JobFiles.{JobFiles}
 use Rattle.s3_ocl.specs.Inner.Sound.{is_sound_date, is_sound_file}
 use Rattle.s3_ocl.specs.Jobs.{Job}
-use Rattle.s3_cycle.specs.Inner.Following.{asked, files, put}
-use Rattle.s3_cycle.specs.Inner.Requests.{FitsFile}
 use Rattle.s3_level.specs.declared.job.OpenJob.{OpenJob}
 use Rattle.s3_level.specs.declared.level.Level.{Level}
 use Rattle.s3_level.specs.Inner.Holds.{Around, IsJobReady, IsReady, IsUntouched, KeepsOthers, Spares, Stays}
-use Rattle.s3_level.specs.Inner.Turning.{HasFile, IsForFile, KeepsPlace, ServesFile}
+use Rattle.s3_level.specs.Inner.Turning.{HasFile, KeepsPlace, ServesFile}
 
 -- ---- the pack
--- The masters and the other level are as they were, each transfer that failed is counted, and no sector is named that isn't there.
--- Labels that said the level's slots still do after an answer.
-pub record LeavesPack {T : Type 0} (level : LevelId) (result : Result T PoolFault) (old new : Areas) (s t : PoolState) : Type 0 where
+-- The masters and the other level are as they were, and each transfer that failed is counted. Labels that said the level's slots still
+-- do after an answer.
+pub record LeavesPack {T : Type 0} (level : LevelId) (result : Result T SectorFault) (old new : Areas) (s t : PoolState) : Type 0 where
   pub others : KeepsOthers level old new s t
   pub says : OnOk result (KeepsSaid level old s.contents new t.contents)
   pub failures : t.failures ≡ s.failures + failed_transfers result
-  pub fault : IfErr result (λ fault. fault ≢ NoSector)
 
 -- ---- the job at work
 -- the level of a job's files, and what they were opened as
@@ -39,15 +35,9 @@ pub record CanServe (at_work : OpenJob) (pack : Seen) : Type 0 where
   pub files : AreFilesReady at_work.files.level at_work.files.files.items pack
   pub job : IsJobReady at_work.files.level at_work
 
--- so can its pending one, which is for the file at this slot
-pub record IsServable (slot : ℕ) (job : OpenJob) (pack : Seen) : Type 0 where
-  pub ready : CanServe job pack
-  pub asks : IsForFile slot (asked job.cycle)
-  pub fits : FitsFile (files job.cycle) (asked job.cycle) (put job.cycle)
-
 -- The pending request of an open job is served by its files, or the job doesn't have the file, and then all is as it was; it fails only
 -- where the job has the file.
-pub record ServesJob (result : Result Bool PoolFault) (old new : OpenJob) (before after : Areas) (s t : PoolState) : Type 0 where
+pub record ServesJob (result : Result Bool SectorFault) (old new : OpenJob) (before after : Areas) (s t : PoolState) : Type 0 where
   pub serves : IfOk result (λ served. ServesFile served old new (seen before s.contents) (seen after t.contents))
   pub fails : OnErr result (HasFile old (seen before s.contents))
   pub untouched : IfOk result (λ served. served ≡ false → IsUntouched before after s t)
@@ -78,16 +68,15 @@ pub record KeepsReady (old new : Level) : Type 0 where
   pub ready : (pack : Seen) → IsReady old pack → IsReady new pack
 
 -- it stays what it is, and is ready for the next call after an answer
-pub record Leaves {T : Type 0} (result : Result T PoolFault) (old new : Level) (before after : Areas) (s t : PoolState) : Type 0 where
+pub record Leaves {T : Type 0} (result : Result T SectorFault) (old new : Level) (before after : Areas) (s t : PoolState) : Type 0 where
   pub stays : Stays old new
   pub ready : OnOk result (IsReady new (seen after t.contents))
   pub pack : LeavesPack old.id result before after s t
 
 -- the same beside the queues, of which it spares the other level's
-pub record LeavesAll {T : Type 0} (result : Result T PoolFault) (old new : Level) (before after : Around) : Type 0 where
+pub record LeavesAll {T : Type 0} (result : Result T SectorFault) (old new : Level) (before after : Around) : Type 0 where
   pub stays : Stays old new
   pub ready : OnOk result (IsReady new (seen after.areas after.state.contents))
   pub spares : Spares old.id before after
   pub says : OnOk result (KeepsSaid old.id before.areas before.state.contents after.areas after.state.contents)
   pub failures : after.state.failures ≡ before.state.failures + failed_transfers result
-  pub fault : IfErr result (λ fault. fault ≢ NoSector)

@@ -7,17 +7,19 @@ use Rattle.s3_cards.specs.declared.name.Name.{Name}
 use Rattle.s3_cards.specs.Names.{same_name}
 use Rattle.s3_cards.specs.Printed.{Printed}
 use Rattle.s3_store.specs.Inner.State.{PoolState, KeepsInStep}
-use Rattle.s3_store.specs.declared.pool_fault.PoolFault.{PoolFault}
+use Rattle.s3_store.specs.declared.sector_fault.SectorFault.{SectorFault}
 use Rattle.s3_slots.specs.declared.header.Header.{Header}
 use Rattle.s3_slots.specs.Header.{quota_of as header_quota}
 use Rattle.s3_labels.specs.Inner.Areas.{Areas, areas_on, slots_at, with_slots, IsReady as IsPackReady}
 use Rattle.s3_spool.specs.Inner.Queues.{Blocks, AreBlocks, block_sector, blocks_of, queue_of, quota_of, times}
+use Rattle.s3_job_files.specs.Files.{place_named}
 use Rattle.s3_job_files.specs.declared.file.OpenFile.{OpenFile}
 use Rattle.s3_job_files.specs.Inner.Holds.{Seen, seen, HoldsFiles, IsOutOfReach, job_file_of, IsReady as AreFilesReady}
 use Rattle.s3_meaning.specs.Source.{Source}
 use Rattle.s3_program.specs.Inner.Stands.{Stands}
 use Rattle.s3_program.specs.declared.program.Program.{Program}
 use Rattle.s3_cycle.specs.Inner.Following.{Follows, files}
+use Rattle.s3_lines.specs.declared.sheet.FileLine.{FileLine}
 use Rattle.s3_ocl.specs.Streams.{jobs_from}
 use Rattle.s3_opening.specs.Inner.OpenFiles.{AreOfLines}
 use Rattle.s3_solo.specs.declared.action.Action.{Action}
@@ -119,12 +121,17 @@ pub record Holds (level : Level) (beside : Around) (w : World) : Type 0 where
   pub asked : IsAsked w
 
 -- ---- whatever it holds
--- the files of an open job are those of its program's F lines, as far as the job uses them
+-- the places of the files of F lines among those that are open
+abbrev pub places_of : List FileLine → List OpenFile → List (Option ℕ)
+places_of lines open_files = map (λ line. place_named line.name (map job_file_of open_files)) lines
+
+-- the files of an open job are those of its program's F lines, as far as the job uses them, and each slot has the place of its file
 pub record IsJobReady (level : LevelId) (job : OpenJob) : Type 0 where
   pub level_of_files : job.files.level ≡ level
   -- those that were set when it started
   pub switches : ℕ
   pub lines : AreOfLines switches (files job.cycle) job.files.files.items
+  pub places : job.places.items ≡ places_of (files job.cycle) job.files.files.items
 
 abbrev pub IsAtWorkReady : LevelId → Option OpenJob → Type 0
 IsAtWorkReady level None = Unit {0}
@@ -153,7 +160,7 @@ Repeats action times did old new =
     (w : World) → old w → ((n : ℕ) → n < times → did ≡ (step_of (solo w (replicate n action)) action).did) × new (solo w (replicate times action))
 
 -- one entry with this answer
-abbrev pub once : Result Did PoolFault → Result Taken PoolFault
+abbrev pub once : Result Did SectorFault → Result Taken SectorFault
 once (Ok did) = Ok (record { did = did; times = 1 })
 once (Err fault) = Err fault
 

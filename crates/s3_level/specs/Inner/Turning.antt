@@ -1,9 +1,9 @@
 -- How a turn goes on, step by step. These words serve the contracts of private functions alone: what a turn does to a world
 -- is said in Serving and Solo, and what it is to hold one in Holds.
-use Rattle.std.specs.Prelude.{◌≡◌, ◌<◌, ℕ, length, Bool, List, ◌∷◌, ◌++◌, replicate, true, false, IsTrue, Option, Some, None, option_map, Result, Ok, Err}
+use Rattle.std.specs.Prelude.{◌≡◌, ◌<◌, ℕ, length, Bool, List, ◌∷◌, ◌++◌, replicate, true, false, IsTrue, Option, Some, None, Result, Ok, Err}
 use Rattle.s3_operator.specs.declared.halt_code.HaltCode.{HaltCode}
 use Rattle.s3_operator.specs.Replies.{is_allowed}
-use Rattle.s3_meaning.specs.Requests.{Request, Ask, End, Jump, Answer, Done}
+use Rattle.s3_meaning.specs.Requests.{Request, Ask, End, Jump, Done}
 use Rattle.s3_cycle.specs.Inner.Following.{Resumes, asked, waits, is_fit}
 use Rattle.s3_cycle.specs.declared.request.Request.{Request as ProgramRequest}
 use Rattle.s3_cycle.specs.declared.request.Request.TheVariants as asks
@@ -23,11 +23,9 @@ use Rattle.s3_level.specs.declared.next.Next.TheVariants.{Halts, IsOver, GoesOn}
 use Rattle.s3_solo.specs.World.{World, JobAtWork}
 use Rattle.s3_solo.specs.Serving.{Outcome, pending, standing_at, started, with_jobs, begun, with_answer, in_use, file_served}
 use Rattle.s3_job_files.specs.Files.{FilesInUse}
-use Rattle.s3_job_files.specs.Inner.Holds.{Seen, TakesRecord, Holds as HoldsInUse, Serves as Serving}
+use Rattle.s3_job_files.specs.Inner.Holds.{Seen, Holds as HoldsInUse}
 use Rattle.s3_job_files.specs.declared.file.OpenFile.{OpenFile}
 use Rattle.s3_slots.specs.Labels.{is_indexed}
-use Rattle.s3_meaning.specs.Output.{filled}
-use Rattle.s3_cycle.specs.Inner.Requests.{current_of, sought_of}
 use Rattle.s3_cycle.specs.declared.request.Sought.{Sought}
 use Rattle.s3_cycle.specs.declared.request.Sought.TheVariants as sought
 use Rattle.s3_job_files.specs.Requests as files
@@ -109,50 +107,10 @@ abbrev pub HasFile : OpenJob → Seen → Type 0
 HasFile job pack =
     (in_use : FilesInUse) → HoldsInUse job.files.level job.files.files.items pack in_use → (one : Served) × (files.served (waits job.cycle) in_use ≡ Some one)
 
--- a request for the file at a slot
-abbrev pub IsForFile : (slot : ℕ) → ProgramRequest → Type 0
-IsForFile slot (asks.Read file size) = file ≡ slot
-IsForFile slot (asks.Chain file size what) = file ≡ slot
-IsForFile slot (asks.Append file) = file ≡ slot
-IsForFile slot (asks.Add file) = file ≡ slot
-IsForFile slot (asks.Update file current) = file ≡ slot
-IsForFile slot _ = ⊥
-
--- a record of so many bytes is asked for
-abbrev pub IsForRecord : (size : ℕ) → ProgramRequest → Type 0
-IsForRecord size (asks.Read file length) = length ≡ size
-IsForRecord size (asks.Chain file length what) = length ≡ size
-IsForRecord size _ = ⊥
-
--- a record is put into a file, or changed
-abbrev pub IsPut : ProgramRequest → Type 0
-IsPut (asks.Append file) = Unit {0}
-IsPut (asks.Add file) = Unit {0}
-IsPut (asks.Update file current) = Unit {0}
-IsPut _ = ⊥
-
 -- what a CHAIN looks for is a key of the file, or a record number
 abbrev pub SuitsSought : Sought → OpenFile → Type 0
 SuitsSought (sought.Key key) file = (is_indexed file.label.organization ≡ true) × (length key.items ≡ file.label.key_length)
 SuitsSought (sought.RecordNumber number) file = Unit {0}
-
--- an open file suits a request, which puts out these positions
-abbrev pub SuitsRequest : ProgramRequest → List (Option ℕ) → OpenFile → Type 0
-SuitsRequest (asks.Read file size) positions one = size ≡ one.label.record_length
-SuitsRequest (asks.Chain file size what) positions one = (size ≡ one.label.record_length) × SuitsSought what one
-SuitsRequest (asks.Append file) positions one = TakesRecord (filled positions) one
-SuitsRequest (asks.Add file) positions one = (is_indexed one.label.organization ≡ true) × TakesRecord (filled positions) one
-SuitsRequest (asks.Update file current) positions one = one.is_master ≡ false
-SuitsRequest _ positions one = ⊥
-
--- whatever files were held, the request, which puts out these positions, is served with this answer by the file at this place
-abbrev pub ServesAt : ProgramRequest → List (Option ℕ) → (place : ℕ) → Answer → (old new : FilesInUse → Type 0) → Type 0
-ServesAt (asks.Read file size) positions place answer old new = Serving files.record_read place answer old new
-ServesAt (asks.Chain file size what) positions place answer old new = Serving (files.record_chained (sought_of what)) place answer old new
-ServesAt (asks.Append file) positions place answer old new = Serving (files.record_appended (filled positions)) place answer old new
-ServesAt (asks.Add file) positions place answer old new = Serving (files.record_added (filled positions)) place answer old new
-ServesAt (asks.Update file current) positions place answer old new = Serving (files.record_updated (option_map current_of current) positions) place answer old new
-ServesAt _ positions place answer old new = ⊥
 
 -- which job it is, and the places of its cards
 pub record KeepsPlace (old new : OpenJob) : Type 0 where

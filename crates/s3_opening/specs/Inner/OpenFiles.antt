@@ -1,10 +1,9 @@
 -- The open files that a start comes to: what they hold, and that they are those of the F lines.
-use Rattle.std.specs.Prelude.{◌≡◌, ◌≢◌, ℕ, true, false, List, [], ◌∷◌, filter, slice_get, is_some, Some, Result, Ok, Err, ⊤}
+use Rattle.std.specs.Prelude.{◌≡◌, ℕ, true, false, List, [], ◌∷◌, filter, slice_get, is_some, Some, Result, Ok, Err, ⊤}
 use Rattle.s3_cards.specs.declared.levels.LevelId.{LevelId}
 use Rattle.s3_cards.specs.Names.{same_name}
 use Rattle.s3_lines.specs.declared.sheet.FileLine.{FileLine}
 use Rattle.s3_operator.specs.declared.halt_code.HaltCode.{HaltCode}
-use Rattle.s3_store.specs.declared.pool_fault.PoolFault.TheVariants.{NoSector}
 use Rattle.s3_slots.specs.Labels.{is_indexed}
 use Rattle.s3_slots.specs.declared.label.FileLabel.{FileLabel}
 use Rattle.s3_job_files.specs.Files.{FilesInUse}
@@ -31,11 +30,6 @@ StartsAs level pack meant (Err (Sectors fault)) = ⊤
 abbrev pub IfHalted : OpeningFault → Type 0 → Type 0
 IfHalted (Halted code) P = P
 IfHalted (Sectors fault) P = ⊤
-
--- each sector that it asked for is there
-abbrev pub FindsSectors : OpeningFault → Type 0
-FindsSectors (Halted code) = ⊤
-FindsSectors (Sectors fault) = fault ≢ NoSector
 
 -- ---- of which lines they are
 -- what a file is to its F line, before any request to it and after

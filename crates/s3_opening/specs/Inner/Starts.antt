@@ -15,7 +15,7 @@ use Rattle.s3_slots.specs.declared.slot.Slot.{Slot}
 use Rattle.s3_labels.specs.Inner.Areas.{Areas, region_at, slots_at}
 use Rattle.s3_labels.specs.declared.fault.PlanFault.{PlanFault}
 use Rattle.s3_labels.specs.declared.fault.PlanFault.TheVariants.{File, NoMemory as NoMemoryToPlan}
-use Rattle.s3_store.specs.declared.pool_fault.PoolFault.TheVariants.{NoMemory}
+use Rattle.s3_store.specs.declared.sector_fault.SectorFault.TheVariants.{NoMemory}
 use Rattle.s3_job_files.specs.declared.file.OpenFile.{OpenFile}
 use Rattle.s3_opening.specs.declared.fault.OpeningFault.{OpeningFault}
 use Rattle.s3_opening.specs.declared.fault.OpeningFault.TheVariants.{Halted, Sectors}

@@ -20,7 +20,7 @@ close-requires g c = record { usable = usable_alone c.args.level c.args.pack.now
 
 pub returns-in_err-close-clause-spares : goal.returns-in_err-close-clause-spares
 returns-in_err-close-clause-spares g c =
-    file_spares c.args.level c.args.pack.now.areas _ _ c.args.file.label c.requires.ready (own_sound c.args.level _ c.args.file c.requires.stands c.if-file.false) c.close.ensures.within
+    file_spares c.args.level c.args.pack.now.areas _ _ c.args.file.label c.requires.ready (own_sound c.args.level _ c.args.file c.requires.stands c.if-file.false) c.close.ensures.changes.within
 
 pub set_count-requires-clause-room : goal.set_count-requires-clause-room
 set_count-requires-clause-room g c = room_for c.args.level c.args.pack.now.areas _ c.args.file c.len-count.result c.requires.ready c.requires.stands c.if-file.false c.len-count.ensures
@@ -28,15 +28,15 @@ set_count-requires-clause-room g c = room_for c.args.level c.args.pack.now.areas
 pub returns-clause-closes : goal.returns-clause-closes
 returns-clause-closes g c =
     closes_counted c.args.level c.args.file c.len-count.result c.args.pack.now.areas c.set_count.new.pack.areas _ _ _ c.set_count.result c.requires.ready c.requires.stands
-    c.if-file.false (sym c.goes_at_end.ensures ∙ c.if-goes_at_end.false) c.len-count.ensures c.in_ok-close.ensures.kept c.close.ensures.within
+    c.if-file.false (sym c.goes_at_end.ensures ∙ c.if-goes_at_end.false) c.len-count.ensures c.in_ok-close.ensures.kept c.close.ensures.changes.within
     c.set_count.ensures.counted c.set_count.ensures.others c.set_count.ensures.within c.set_count.ensures.ready
 
 pub returns-clause-spares : goal.returns-clause-spares
 returns-clause-spares g c =
-    close_spares c.args.level c.args.pack.now.areas _ _ _ c.args.file c.requires.ready c.requires.stands c.if-file.false c.close.ensures.within c.set_count.ensures.within
+    close_spares c.args.level c.args.pack.now.areas _ _ _ c.args.file c.requires.ready c.requires.stands c.if-file.false c.close.ensures.changes.within c.set_count.ensures.within
 
 pub returns-clause-says : goal.returns-clause-says
 returns-clause-says g c =
     says_on c.args.level c.args.pack.now.areas c.args.pack.now.areas c.set_count.new.pack.areas _ (g.P.Sectors.state c.close.new.pool).contents _ c.set_count.result
-    (own_says c.args.level c.args.pack.now.areas (g.P.Sectors.state c.args.pack.now.pool) (g.P.Sectors.state c.close.new.pool) c.args.file c.requires.ready c.requires.stands c.if-file.false c.close.ensures.within)
+    (own_says c.args.level c.args.pack.now.areas (g.P.Sectors.state c.args.pack.now.pool) (g.P.Sectors.state c.close.new.pool) c.args.file c.requires.ready c.requires.stands c.if-file.false c.close.ensures.changes.within)
     c.set_count.ensures.says

@@ -24,7 +24,7 @@ returns-in-RecordNumber-clause-serves g c =
     (ap RecordNumber (search rules) ∙ sym (ap sought_of c.in-RecordNumber.is)) c.chain_number.ensures.serves
 
 pub returns-in-Key-clause-pack : goal.returns-in-Key-clause-pack
-returns-in-Key-clause-pack g c = pack_read c.chain_key.result c.requires.ready.pack c.chain_key.ensures.keeps c.chain_key.ensures.areas c.chain_key.ensures.failures c.chain_key.ensures.fault
+returns-in-Key-clause-pack g c = pack_read c.chain_key.result c.requires.ready.pack c.chain_key.ensures.keeps c.chain_key.ensures.areas c.chain_key.ensures.failures
 
 pub returns-in-RecordNumber-clause-pack : goal.returns-in-RecordNumber-clause-pack
-returns-in-RecordNumber-clause-pack g c = pack_read c.chain_number.result c.requires.ready.pack c.chain_number.ensures.keeps c.chain_number.ensures.areas c.chain_number.ensures.failures c.chain_number.ensures.fault
+returns-in-RecordNumber-clause-pack g c = pack_read c.chain_number.result c.requires.ready.pack c.chain_number.ensures.keeps c.chain_number.ensures.areas c.chain_number.ensures.failures

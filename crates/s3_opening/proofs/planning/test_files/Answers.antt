@@ -2,7 +2,6 @@ use Rattle.std.proofs.Common.{map, refl, sym, ◌∙◌}
 use Rattle.std.specs.Prelude.{Ok, Err}
 use Rattle.s3_opening.proofs.Started.{are_starts, can_start, comes_of, failures_none, failures_of}
 use Rattle.s3_opening.specs.Inner.Starts.{settings_of, step_in}
-use Rattle.s3_opening.proofs.Said.{fault_found}
 use Rattle.s3_opening.proofs.planning.test_files.Goals as goal
 
 pub returns-in-Ok-clause-comes : goal.returns-in-Ok-clause-comes
@@ -31,6 +30,3 @@ returns-in-Err-clause-comes g c =
 pub returns-in-Err-clause-failures : goal.returns-in-Err-clause-failures
 returns-in-Err-clause-failures g c =
     failures_of _ c.test_lines-tested.new.starts _ c.test_lines-tested.result c.plan_makes-planned.result c.in-Err.fault (g.P.Sectors.state c.args.pack.now.pool) (g.P.Sectors.state c.test_lines-tested.new.pack.pool) c.plan_makes-planned.ensures (sym c.in-Err.is ∙ c.first_refusal.ensures) c.test_lines-tested.ensures.failures
-
-pub returns-in-Err-clause-fault : goal.returns-in-Err-clause-fault
-returns-in-Err-clause-fault g c = fault_found _ c.test_lines-tested.result c.plan_makes-planned.result c.in-Err.fault c.test_lines-tested.ensures.fault c.plan_makes-planned.ensures (sym c.in-Err.is ∙ c.first_refusal.ensures)

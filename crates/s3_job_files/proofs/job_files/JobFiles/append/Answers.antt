@@ -23,14 +23,14 @@ returns-clause-serves g c =
     put_serves c.args.self.now.level c.args.self.now.files.items c.args.pack.now.areas _ _ c.args.place c.index_mut.result.now c.append.new.self (λ at. appended at.label c.args.bytes.now at.records) c.append.result
     c.requires.ready (slice_get_read _ _ c.args.place c.index_mut.result.now refl c.requires.there c.index_mut.ensures.value)
     (c.requires.takes c.index_mut.result.now (slice_get_read _ _ c.args.place c.index_mut.result.now refl c.requires.there c.index_mut.ensures.value)).own
-    (of_put c.index_mut.result.now c.append.new.self c.append.ensures.alone) c.append.ensures.within c.append.ensures.puts
+    (of_put c.index_mut.result.now c.append.new.self c.append.ensures.alone) c.append.ensures.changes.within c.append.ensures.puts
 
 pub returns-clause-ready : goal.returns-clause-ready
 returns-clause-ready g c =
     put_ready_if c.args.self.now.level c.args.self.now.files.items c.args.pack.now.areas _ _ c.args.place c.index_mut.result.now c.append.new.self c.append.result
     c.requires.ready (slice_get_read _ _ c.args.place c.index_mut.result.now refl c.requires.there c.index_mut.ensures.value)
     (c.requires.takes c.index_mut.result.now (slice_get_read _ _ c.args.place c.index_mut.result.now refl c.requires.there c.index_mut.ensures.value)).own
-    (of_put c.index_mut.result.now c.append.new.self c.append.ensures.alone) c.append.ensures.within c.append.ensures.of_label
+    (of_put c.index_mut.result.now c.append.new.self c.append.ensures.alone) c.append.ensures.changes.within c.append.ensures.of_label
 
 pub returns-clause-spares : goal.returns-clause-spares
 returns-clause-spares g c =
@@ -38,7 +38,7 @@ returns-clause-spares g c =
     (own_sound c.args.self.now.level _ c.index_mut.result.now
     (c.requires.ready.files.stands c.args.place c.index_mut.result.now (slice_get_read _ _ c.args.place c.index_mut.result.now refl c.requires.there c.index_mut.ensures.value))
     (c.requires.takes c.index_mut.result.now (slice_get_read _ _ c.args.place c.index_mut.result.now refl c.requires.there c.index_mut.ensures.value)).own)
-    c.append.ensures.within
+    c.append.ensures.changes.within
 
 pub returns-clause-fits : goal.returns-clause-fits
 returns-clause-fits g c = fits_puts refuses_append _ _ _ c.append.result (appended_within c.index_mut.result.now.label c.args.bytes.now _) c.append.ensures.puts
@@ -53,4 +53,4 @@ returns-clause-says g c =
     own_says c.args.self.now.level c.args.pack.now.areas (g.P.Sectors.state c.args.pack.now.pool) (g.P.Sectors.state c.append.new.pool) c.index_mut.result.now c.requires.ready.pack
     (c.requires.ready.files.stands c.args.place c.index_mut.result.now (slice_get_read _ _ c.args.place c.index_mut.result.now refl c.requires.there c.index_mut.ensures.value))
     (c.requires.takes c.index_mut.result.now (slice_get_read _ _ c.args.place c.index_mut.result.now refl c.requires.there c.index_mut.ensures.value)).own
-    c.append.ensures.within
+    c.append.ensures.changes.within

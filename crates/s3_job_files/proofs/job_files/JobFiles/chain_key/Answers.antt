@@ -19,13 +19,13 @@ pub returns-clause-serves : goal.returns-clause-serves
 returns-clause-serves g c =
     chain_serves c.args.self.now.level c.args.self.now.files.items c.args.pack.now.areas _ _ c.args.place c.index_mut.result.now c.chain_key.new.self (Key c.args.key.now) c.chain_key.new.bytes c.chain_key.result
     c.requires.ready (slice_get_read _ _ c.args.place c.index_mut.result.now refl c.requires.there c.index_mut.ensures.value)
-    c.chain_key.ensures.alone c.chain_key.ensures.keeps.contents c.chain_key.ensures.answer c.chain_key.ensures.chained
+    c.chain_key.ensures.alone c.chain_key.ensures.reads.keeps.contents c.chain_key.ensures.answer c.chain_key.ensures.chained
 
 pub returns-clause-ready : goal.returns-clause-ready
 returns-clause-ready g c =
     read_ready c.args.self.now.level c.args.self.now.files.items c.args.pack.now.areas _ _ c.args.place c.index_mut.result.now c.chain_key.new.self
     c.requires.ready (slice_get_read _ _ c.args.place c.index_mut.result.now refl c.requires.there c.index_mut.ensures.value)
-    (of_chained c.index_mut.result.now c.chain_key.new.self c.chain_key.ensures.alone) c.chain_key.ensures.keeps.contents
+    (of_chained c.index_mut.result.now c.chain_key.new.self c.chain_key.ensures.alone) c.chain_key.ensures.reads.keeps.contents
 
 pub chain_key-requires-clause-indexed : goal.chain_key-requires-clause-indexed
 chain_key-requires-clause-indexed g c = c.requires.indexed c.index_mut.result.now (slice_get_read _ _ c.args.place c.index_mut.result.now refl c.requires.there c.index_mut.ensures.value)

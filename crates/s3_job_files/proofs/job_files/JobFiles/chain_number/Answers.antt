@@ -25,7 +25,7 @@ pub returns-clause-serves : goal.returns-clause-serves
 returns-clause-serves g c =
     chain_serves c.args.self.now.level c.args.self.now.files.items c.args.pack.now.areas _ _ c.args.place c.index_mut.result.now c.chain_number.new.self (RecordNumber c.args.number) c.chain_number.new.bytes c.chain_number.result
     c.requires.ready (slice_get_read _ _ c.args.place c.index_mut.result.now refl c.requires.there c.index_mut.ensures.value)
-    c.chain_number.ensures.alone c.chain_number.ensures.keeps.contents
+    c.chain_number.ensures.alone c.chain_number.ensures.reads.keeps.contents
     (subst (λ n. IfOk c.chain_number.result (λ found. found_answer found c.chain_number.new.bytes ≡ answer_at (records_of c.index_mut.result.now.records (g.P.Sectors.state c.args.pack.now.pool).contents)
     (place_numbered (length (records_of c.index_mut.result.now.records (g.P.Sectors.state c.args.pack.now.pool).contents)) n))) (to_z-of_z w64 c.args.number c.ranges.number) c.chain_number.ensures.answer)
     (subst (λ n. OnOk c.chain_number.result (job_file_of c.chain_number.new.self ≡ with_chained
@@ -35,7 +35,7 @@ pub returns-clause-ready : goal.returns-clause-ready
 returns-clause-ready g c =
     read_ready c.args.self.now.level c.args.self.now.files.items c.args.pack.now.areas _ _ c.args.place c.index_mut.result.now c.chain_number.new.self
     c.requires.ready (slice_get_read _ _ c.args.place c.index_mut.result.now refl c.requires.there c.index_mut.ensures.value)
-    (of_chained c.index_mut.result.now c.chain_number.new.self c.chain_number.ensures.alone) c.chain_number.ensures.keeps.contents
+    (of_chained c.index_mut.result.now c.chain_number.new.self c.chain_number.ensures.alone) c.chain_number.ensures.reads.keeps.contents
 
 pub returns-clause-opened : goal.returns-clause-opened
 returns-clause-opened g c =

@@ -18,13 +18,13 @@ pub returns-clause-serves : goal.returns-clause-serves
 returns-clause-serves g c =
     read_serves c.args.self.now.level c.args.self.now.files.items c.args.pack.now.areas _ _ c.args.place c.index_mut.result.now c.read_next.new.self c.read_next.new.bytes c.read_next.result
     c.requires.ready (slice_get_read _ _ c.args.place c.index_mut.result.now refl c.requires.there c.index_mut.ensures.value)
-    c.read_next.ensures.alone c.read_next.ensures.keeps.contents c.read_next.ensures.answer c.read_next.ensures.read
+    c.read_next.ensures.alone c.read_next.ensures.reads.keeps.contents c.read_next.ensures.answer c.read_next.ensures.read
 
 pub returns-clause-ready : goal.returns-clause-ready
 returns-clause-ready g c =
     read_ready c.args.self.now.level c.args.self.now.files.items c.args.pack.now.areas _ _ c.args.place c.index_mut.result.now c.read_next.new.self
     c.requires.ready (slice_get_read _ _ c.args.place c.index_mut.result.now refl c.requires.there c.index_mut.ensures.value)
-    (of_read c.index_mut.result.now c.read_next.new.self c.read_next.ensures.alone) c.read_next.ensures.keeps.contents
+    (of_read c.index_mut.result.now c.read_next.new.self c.read_next.ensures.alone) c.read_next.ensures.reads.keeps.contents
 
 pub returns-clause-opened : goal.returns-clause-opened
 returns-clause-opened g c =

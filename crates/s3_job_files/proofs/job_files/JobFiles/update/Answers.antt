@@ -1,9 +1,8 @@
 use Rattle.std.proofs.Common.{refl}
 use Rattle.std.proofs.lemmas.Option.{slice_get_read}
-use Rattle.std.specs.Prelude.{option_map}
 use Rattle.s3_job_files.specs.Inner.Records.{changes_of}
 use Rattle.s3_job_files.specs.Records.{place_current, updated}
-use Rattle.s3_job_files.specs.Inner.Holds.{current_of, records_of}
+use Rattle.s3_job_files.specs.Inner.Holds.{records_of}
 use Rattle.s3_meaning.specs.Inner.Requests.{refuses_update}
 use Rattle.s3_job_files.proofs.Fitting.{updated_within, fits_puts}
 use Rattle.s3_job_files.proofs.Held.{usable_at}
@@ -20,17 +19,17 @@ update-requires g c = record {
 pub returns-clause-serves : goal.returns-clause-serves
 returns-clause-serves g c =
     update_serves c.args.self.now.level c.args.self.now.files.items c.args.pack.now.areas _ _ c.args.place c.index.result.now
-    (λ at. updated at.label (changes_of c.args.codes.now c.args.marks.now) (place_current at.label at.records at.file.chained (option_map current_of c.args.current)) at.records) c.update.result
+    (λ at. updated at.label (changes_of c.args.codes.now c.args.marks.now) (place_current at.label at.records at.file.chained c.args.current) at.records) c.update.result
     c.requires.ready (slice_get_read _ _ c.args.place c.index.result.now refl c.requires.there c.index.ensures)
     (c.requires.own c.index.result.now (slice_get_read _ _ c.args.place c.index.result.now refl c.requires.there c.index.ensures))
-    c.update.ensures.within c.update.ensures.puts
+    c.update.ensures.changes.within c.update.ensures.puts
 
 pub returns-clause-ready : goal.returns-clause-ready
 returns-clause-ready g c =
     update_ready_if c.args.self.now.level c.args.self.now.files.items c.args.pack.now.areas _ _ c.args.place c.index.result.now c.update.result
     c.requires.ready (slice_get_read _ _ c.args.place c.index.result.now refl c.requires.there c.index.ensures)
     (c.requires.own c.index.result.now (slice_get_read _ _ c.args.place c.index.result.now refl c.requires.there c.index.ensures))
-    c.update.ensures.within c.update.ensures.of_label
+    c.update.ensures.changes.within c.update.ensures.of_label
 
 pub returns-clause-spares : goal.returns-clause-spares
 returns-clause-spares g c =
@@ -38,13 +37,13 @@ returns-clause-spares g c =
     (own_sound c.args.self.now.level _ c.index.result.now
     (c.requires.ready.files.stands c.args.place c.index.result.now (slice_get_read _ _ c.args.place c.index.result.now refl c.requires.there c.index.ensures))
     (c.requires.own c.index.result.now (slice_get_read _ _ c.args.place c.index.result.now refl c.requires.there c.index.ensures)))
-    c.update.ensures.within
+    c.update.ensures.changes.within
 
 pub returns-clause-fits : goal.returns-clause-fits
 returns-clause-fits g c =
     fits_puts refuses_update _ (records_of c.index.result.now.records (g.P.Sectors.state c.args.pack.now.pool).contents) (records_of c.index.result.now.records (g.P.Sectors.state c.update.new.pool).contents) c.update.result
     (updated_within c.index.result.now.label (changes_of c.args.codes.now c.args.marks.now)
-    (place_current c.index.result.now.label (records_of c.index.result.now.records (g.P.Sectors.state c.args.pack.now.pool).contents) c.index.result.now.chained (option_map current_of c.args.current))
+    (place_current c.index.result.now.label (records_of c.index.result.now.records (g.P.Sectors.state c.args.pack.now.pool).contents) c.index.result.now.chained c.args.current)
     (records_of c.index.result.now.records (g.P.Sectors.state c.args.pack.now.pool).contents))
     c.update.ensures.puts
 
@@ -53,4 +52,4 @@ returns-clause-says g c =
     own_says c.args.self.now.level c.args.pack.now.areas (g.P.Sectors.state c.args.pack.now.pool) (g.P.Sectors.state c.update.new.pool) c.index.result.now c.requires.ready.pack
     (c.requires.ready.files.stands c.args.place c.index.result.now (slice_get_read _ _ c.args.place c.index.result.now refl c.requires.there c.index.ensures))
     (c.requires.own c.index.result.now (slice_get_read _ _ c.args.place c.index.result.now refl c.requires.there c.index.ensures))
-    c.update.ensures.within
+    c.update.ensures.changes.within

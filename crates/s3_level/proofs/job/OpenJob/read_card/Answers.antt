@@ -22,7 +22,7 @@ unfolding answer_of
 returns-in-None-clause-resumes c = subst (λ (a : Answer). Resumes c.args.self.now.cycle c.resume-in-None.new.self a) (sym (ap card_answer c.in-None.ensures)) c.resume-in-None.ensures
 
 pub returns-in-Some-clause-ready : goal.returns-in-Some-clause-ready
-returns-in-Some-clause-ready c = λ ready. job_stays c.args.self.now.files.level c.args.self.now _ ready refl (λ source stands. (c.resume.ensures source stands).0)
+returns-in-Some-clause-ready c = λ ready. job_stays c.args.self.now.files.level c.args.self.now _ ready refl refl (λ source stands. (c.resume.ensures source stands).0)
 
 pub returns-in-None-clause-ready : goal.returns-in-None-clause-ready
-returns-in-None-clause-ready c = λ ready. job_stays c.args.self.now.files.level c.args.self.now _ ready refl (λ source stands. (c.resume-in-None.ensures source stands).0)
+returns-in-None-clause-ready c = λ ready. job_stays c.args.self.now.files.level c.args.self.now _ ready refl refl (λ source stands. (c.resume-in-None.ensures source stands).0)

@@ -3,4 +3,4 @@ use Rattle.s3_level.proofs.OfLines.{job_stays}
 use Rattle.s3_level.proofs.job.OpenJob.resume.Goals as goal
 
 pub returns-clause-ready : goal.returns-clause-ready
-returns-clause-ready c = λ ready. job_stays c.args.self.now.files.level c.args.self.now _ ready refl (λ source stands. (c.resume.ensures source stands).0)
+returns-clause-ready c = λ ready. job_stays c.args.self.now.files.level c.args.self.now _ ready refl refl (λ source stands. (c.resume.ensures source stands).0)

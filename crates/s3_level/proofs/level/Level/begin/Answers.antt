@@ -1,5 +1,5 @@
 use Rattle.std.proofs.Common.{Ok, Err, subst, rules, refl}
-use Rattle.s3_store.specs.declared.pool_fault.PoolFault.{PoolFault}
+use Rattle.s3_store.specs.declared.sector_fault.SectorFault.{SectorFault}
 use Rattle.s3_ocl.specs.Streams.{jobs_from}
 use Rattle.s3_level.specs.Inner.Holds.{HoldsParts, with_seen}
 use Rattle.s3_level.specs.Inner.Turning.{NextIs}
@@ -10,16 +10,16 @@ use Rattle.s3_level.proofs.level.Level.begin.Goals as goal
 
 pub returns-then-not-has_job-clause-world : goal.returns-then-not-has_job-clause-world
 returns-then-not-has_job-clause-world g c = λ s.
-    nothing_begins (with_seen (seen c.args.pack.now.areas (g.P.Sectors.state c.args.pack.now.pool).contents) s) PoolFault c.args.self.now (HoldsParts c.pass_over.new.self (with_seen (seen c.args.pack.now.areas (g.P.Sectors.state c.args.pack.now.pool).contents) s)) (c.has_job.ensures.none (search rules)) (c.pass_over.ensures.world (with_seen (seen c.args.pack.now.areas (g.P.Sectors.state c.args.pack.now.pool).contents) s))
+    nothing_begins (with_seen (seen c.args.pack.now.areas (g.P.Sectors.state c.args.pack.now.pool).contents) s) SectorFault c.args.self.now (HoldsParts c.pass_over.new.self (with_seen (seen c.args.pack.now.areas (g.P.Sectors.state c.args.pack.now.pool).contents) s)) (c.has_job.ensures.none (search rules)) (c.pass_over.ensures.world (with_seen (seen c.args.pack.now.areas (g.P.Sectors.state c.args.pack.now.pool).contents) s))
 
 pub returns-in_ok-start-in-Ok-clause-world : goal.returns-in_ok-start-in-Ok-clause-world
 returns-in_ok-start-in-Ok-clause-world g c = λ s.
-    one_begins (with_seen (seen c.args.pack.now.areas (g.P.Sectors.state c.args.pack.now.pool).contents) s) PoolFault c.args.self.now (HoldsParts c.start.new.self (with_seen (seen c.start.new.pack.areas (g.P.Sectors.state c.start.new.pack.pool).contents) s)) (Ok c.in-Ok.job) (jobs_from c.args.self.now.deck c.in-Ok.job.after)
+    one_begins (with_seen (seen c.args.pack.now.areas (g.P.Sectors.state c.args.pack.now.pool).contents) s) SectorFault c.args.self.now (HoldsParts c.start.new.self (with_seen (seen c.start.new.pack.areas (g.P.Sectors.state c.start.new.pack.pool).contents) s)) (Ok c.in-Ok.job) (jobs_from c.args.self.now.deck c.in-Ok.job.after)
     (subst (NextIs c.args.self.now.deck c.args.self.now.next) c.in-Ok.is c.next_job.ensures.job) (c.in_ok-start-in-Ok.ensures.world s)
 
 pub returns-in_ok-refuse-in-Err-Faulty-clause-world : goal.returns-in_ok-refuse-in-Err-Faulty-clause-world
 returns-in_ok-refuse-in-Err-Faulty-clause-world g c = λ s.
-    one_begins (with_seen (seen c.args.pack.now.areas (g.P.Sectors.state c.args.pack.now.pool).contents) s) PoolFault c.args.self.now (HoldsParts c.refuse.new.self (with_seen (seen c.args.pack.now.areas (g.P.Sectors.state c.args.pack.now.pool).contents) s)) (Err c.in-Err-Faulty.faulty) (jobs_from c.args.self.now.deck c.in-Err-Faulty.faulty.after)
+    one_begins (with_seen (seen c.args.pack.now.areas (g.P.Sectors.state c.args.pack.now.pool).contents) s) SectorFault c.args.self.now (HoldsParts c.refuse.new.self (with_seen (seen c.args.pack.now.areas (g.P.Sectors.state c.args.pack.now.pool).contents) s)) (Err c.in-Err-Faulty.faulty) (jobs_from c.args.self.now.deck c.in-Err-Faulty.faulty.after)
     (search rules) (c.in_ok-refuse-in-Err-Faulty.ensures.world (with_seen (seen c.args.pack.now.areas (g.P.Sectors.state c.args.pack.now.pool).contents) s))
 
 pub returns-then-not-has_job-clause-leaves : goal.returns-then-not-has_job-clause-leaves

@@ -21,7 +21,6 @@ returns-in-Ok-clause-leaves g c = record {
       c.requires.ready.files.pack c.put_composed.ensures.within c.put_composed.ensures.other c.put_composed.ensures.other_blocks c.put_composed.ensures.quotas c.put_composed.ensures.blocks;
   says = said_put c.args.self.now.id c.args.pack.now.areas c.args.spool.now (g.P.Sectors.state c.args.pack.now.pool) (g.P.Sectors.state c.put_composed.new.sectors) c.put_composed.ensures.within;
   failures = c.in-Ok.ensures.failures;
-  fault = tt;
 }
 
 pub returns-in-Err-Sectors-clause-leaves : goal.returns-in-Err-Sectors-clause-leaves
@@ -32,7 +31,6 @@ returns-in-Err-Sectors-clause-leaves g c = record {
       c.requires.ready.files.pack c.put_composed.ensures.within c.put_composed.ensures.other c.put_composed.ensures.other_blocks c.put_composed.ensures.quotas c.put_composed.ensures.blocks;
   says = tt;
   failures = search rules;
-  fault = search rules;
 }
 
 pub returns-in_default-clause-leaves : goal.returns-in_default-clause-leaves

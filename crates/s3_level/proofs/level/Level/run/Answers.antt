@@ -86,6 +86,5 @@ returns-in-Err-Sectors-clause-leaves g c = record {
     others = others_closed c.args.self.now.id c.args.pack.now.areas c.open_files.new.pack.areas (g.P.Sectors.state c.args.pack.now.pool) (g.P.Sectors.state c.open_files.new.pack.pool) c.open_files.ensures.pack c.open_files.ensures.others c.open_files.ensures.spares;
     says = tt;
     failures = search rules;
-    fault = search rules;
   };
 }

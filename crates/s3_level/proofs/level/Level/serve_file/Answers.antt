@@ -1,5 +1,5 @@
 use Rattle.std.proofs.Common.{subst}
-use Rattle.s3_store.specs.declared.pool_fault.PoolFault.{PoolFault}
+use Rattle.s3_store.specs.declared.sector_fault.SectorFault.{SectorFault}
 use Rattle.s3_job_files.specs.Inner.Holds.{seen}
 use Rattle.s3_level.specs.Inner.Holds.{HoldsParts, with_seen}
 use Rattle.s3_level.specs.Inner.Turning.{FileServed}
@@ -14,14 +14,14 @@ returns-in_err-took-clause-served g c = λ s.
 
 pub returns-else-took-clause-served : goal.returns-else-took-clause-served
 returns-else-took-clause-served g c = λ s.
-    file_idles PoolFault (HoldsParts c.args.self.now (with_seen (seen c.args.pack.now.areas (g.P.Sectors.state c.args.pack.now.pool).contents) s))
+    file_idles SectorFault (HoldsParts c.args.self.now (with_seen (seen c.args.pack.now.areas (g.P.Sectors.state c.args.pack.now.pool).contents) s))
     (HoldsParts c.take_file.new.self (with_seen (seen c.take_file.new.pack.areas (g.P.Sectors.state c.take_file.new.pack.pool).contents) s))
     (subst (λ took. FileServed took (HoldsParts c.args.self.now (with_seen (seen c.args.pack.now.areas (g.P.Sectors.state c.args.pack.now.pool).contents) s))
     (HoldsParts c.take_file.new.self (with_seen (seen c.take_file.new.pack.areas (g.P.Sectors.state c.take_file.new.pack.pool).contents) s))) c.if-took.false (c.in_ok-took.ensures.served s))
 
 pub returns-in_ok-stand-clause-served : goal.returns-in_ok-stand-clause-served
 returns-in_ok-stand-clause-served g c = λ s.
-    file_acts PoolFault (HoldsParts c.args.self.now (with_seen (seen c.args.pack.now.areas (g.P.Sectors.state c.args.pack.now.pool).contents) s))
+    file_acts SectorFault (HoldsParts c.args.self.now (with_seen (seen c.args.pack.now.areas (g.P.Sectors.state c.args.pack.now.pool).contents) s))
     (HoldsParts c.take_file.new.self (with_seen (seen c.take_file.new.pack.areas (g.P.Sectors.state c.take_file.new.pack.pool).contents) s))
     (HoldsParts c.stand.new.self (with_seen (seen c.stand.new.pack.areas (g.P.Sectors.state c.stand.new.pack.pool).contents) s))
     (subst (λ took. FileServed took (HoldsParts c.args.self.now (with_seen (seen c.args.pack.now.areas (g.P.Sectors.state c.args.pack.now.pool).contents) s))

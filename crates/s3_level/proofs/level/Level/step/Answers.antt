@@ -1,6 +1,6 @@
 use Rattle.std.proofs.Common.{rules, refl, sym, ◌∙◌, ap, Ok, Some}
 use Rattle.std.specs.Option.{option_copied}
-use Rattle.s3_store.specs.declared.pool_fault.PoolFault.{PoolFault}
+use Rattle.s3_store.specs.declared.sector_fault.SectorFault.{SectorFault}
 use Rattle.s3_solo.specs.declared.action.Did.TheVariants.{Idle}
 use Rattle.s3_job_files.specs.Inner.Holds.{seen}
 use Rattle.s3_level.proofs.Beside.{turns_moved}
@@ -35,10 +35,10 @@ returns-in-Print-clause-world g c = once_turns c.print.result c.once-in-Print.re
 
 pub returns-in-Ask-clause-world : goal.returns-in-Ask-clause-world
 returns-in-Ask-clause-world g c =
-    once_turns (Ok Idle) c.once-in-Ask.result _ _ c.once-in-Ask.ensures (asking_turn _ {E = PoolFault} c.args.self.now (Ok Idle) _ (sym c.is_waiting.ensures ∙ c.if-is_waiting.false) (sym c.pending.ensures.request ∙ ap option_copied c.in-Some.is ∙ ap (λ r. Some r) c.in-Ask.is) refl)
+    once_turns (Ok Idle) c.once-in-Ask.result _ _ c.once-in-Ask.ensures (asking_turn _ {E = SectorFault} c.args.self.now (Ok Idle) _ (sym c.is_waiting.ensures ∙ c.if-is_waiting.false) (sym c.pending.ensures.request ∙ ap option_copied c.in-Some.is ∙ ap (λ r. Some r) c.in-Ask.is) refl)
 
 pub returns-then-is_waiting-clause-world : goal.returns-then-is_waiting-clause-world
-returns-then-is_waiting-clause-world g c = once_turns (Ok Idle) c.once.result _ _ c.once.ensures (halted_turn _ {E = PoolFault} c.args.self.now (Ok Idle) (sym c.is_waiting.ensures ∙ c.if-is_waiting.true) refl)
+returns-then-is_waiting-clause-world g c = once_turns (Ok Idle) c.once.result _ _ c.once.ensures (halted_turn _ {E = SectorFault} c.args.self.now (Ok Idle) (sym c.is_waiting.ensures ∙ c.if-is_waiting.true) refl)
 
 pub returns-in_default-clause-world : goal.returns-in_default-clause-world
 returns-in_default-clause-world g c =

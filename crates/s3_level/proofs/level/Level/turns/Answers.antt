@@ -1,5 +1,5 @@
 use Rattle.std.proofs.Common.{ℕ, Ok, ◌-◌, ◌≡◌, ap, subst, sym, ◌∙◌, arith}
-use Rattle.s3_store.specs.declared.pool_fault.PoolFault.{PoolFault}
+use Rattle.s3_store.specs.declared.sector_fault.SectorFault.{SectorFault}
 use Rattle.s3_solo.specs.declared.action.Action.TheVariants.{Turn}
 use Rattle.s3_solo.specs.declared.action.Did.TheVariants.{Acted}
 use Rattle.s3_level.specs.declared.taken.Taken.{Taken}
@@ -28,7 +28,7 @@ returns-in_default-did-clause-steps g c =
     ends_idle (c.get-all.result - c.loop-most.left) c.in_ok-taken.taken c.behind.result c.args.self.now c.loop-most.self c.step.new.self (around c.args.pack.now.areas (g.P.Sectors.state c.args.pack.now.pool) c.args.spool.now)
     (around c.loop-most.pack.areas (g.P.Sectors.state c.loop-most.pack.pool) c.loop-most.spool) (around c.step.new.pack.areas (g.P.Sectors.state c.step.new.pack.pool) c.step.new.spool) c.behind.ensures.none c.behind.ensures.some c.loop-most.invariant.0
     c.in_ok-taken.ensures.times.some c.in_default-did.not-Acted
-    (turns_wholly {E = PoolFault} (Ok c.in_ok-taken.taken) c.loop-most.self c.step.new.self (around c.loop-most.pack.areas (g.P.Sectors.state c.loop-most.pack.pool) c.loop-most.spool) (around c.step.new.pack.areas (g.P.Sectors.state c.step.new.pack.pool) c.step.new.spool) c.step.ensures.leaves.stays.id c.in_ok-taken.ensures.world)
+    (turns_wholly {E = SectorFault} (Ok c.in_ok-taken.taken) c.loop-most.self c.step.new.self (around c.loop-most.pack.areas (g.P.Sectors.state c.loop-most.pack.pool) c.loop-most.spool) (around c.step.new.pack.areas (g.P.Sectors.state c.step.new.pack.pool) c.step.new.spool) c.step.ensures.leaves.stays.id c.in_ok-taken.ensures.world)
 
 pub returns-in_default-did-clause-quiet : goal.returns-in_default-did-clause-quiet
 returns-in_default-did-clause-quiet g c = λ idles.
@@ -47,7 +47,7 @@ loop-most-preserved g c =
       then_turned (c.get-all.result - c.loop-most.left) (c.get-all.result - (c.loop-most.left - c.in_ok-taken.taken.times)) c.in_ok-taken.taken c.args.self.now c.loop-most.self c.step.new.self
           (around c.args.pack.now.areas (g.P.Sectors.state c.args.pack.now.pool) c.args.spool.now) (around c.loop-most.pack.areas (g.P.Sectors.state c.loop-most.pack.pool) c.loop-most.spool)
           (around c.step.new.pack.areas (g.P.Sectors.state c.step.new.pack.pool) c.step.new.spool) (omega (arith, few, within)) c.loop-most.invariant.0 c.in-Acted.is c.in_ok-taken.ensures.times.some
-          (turns_wholly {E = PoolFault} (Ok c.in_ok-taken.taken) c.loop-most.self c.step.new.self (around c.loop-most.pack.areas (g.P.Sectors.state c.loop-most.pack.pool) c.loop-most.spool) (around c.step.new.pack.areas (g.P.Sectors.state c.step.new.pack.pool) c.step.new.spool) c.step.ensures.leaves.stays.id c.in_ok-taken.ensures.world)
+          (turns_wholly {E = SectorFault} (Ok c.in_ok-taken.taken) c.loop-most.self c.step.new.self (around c.loop-most.pack.areas (g.P.Sectors.state c.loop-most.pack.pool) c.loop-most.spool) (around c.step.new.pack.areas (g.P.Sectors.state c.step.new.pack.pool) c.step.new.spool) c.step.ensures.leaves.stays.id c.in_ok-taken.ensures.world)
           c.in_ok-taken.ensures.leaves.ready c.step.ensures.leaves.spares c.in_ok-taken.ensures.leaves.failures c.in_ok-taken.ensures.leaves.says c.step.ensures.leaves.stays,
       omega (arith, few, within),
     )
@@ -61,7 +61,7 @@ returns-then-is_none-clause-steps g c =
     (then_turned (c.get-all.result - c.loop-most.left) (c.get-all.result - (c.loop-most.left - c.in_ok-taken.taken.times)) c.in_ok-taken.taken c.args.self.now c.loop-most.self c.step.new.self
     (around c.args.pack.now.areas (g.P.Sectors.state c.args.pack.now.pool) c.args.spool.now) (around c.loop-most.pack.areas (g.P.Sectors.state c.loop-most.pack.pool) c.loop-most.spool)
     (around c.step.new.pack.areas (g.P.Sectors.state c.step.new.pack.pool) c.step.new.spool) (omega (arith, few, within)) c.loop-most.invariant.0 c.in-Acted.is c.in_ok-taken.ensures.times.some
-    (turns_wholly {E = PoolFault} (Ok c.in_ok-taken.taken) c.loop-most.self c.step.new.self (around c.loop-most.pack.areas (g.P.Sectors.state c.loop-most.pack.pool) c.loop-most.spool) (around c.step.new.pack.areas (g.P.Sectors.state c.step.new.pack.pool) c.step.new.spool) c.step.ensures.leaves.stays.id c.in_ok-taken.ensures.world)
+    (turns_wholly {E = SectorFault} (Ok c.in_ok-taken.taken) c.loop-most.self c.step.new.self (around c.loop-most.pack.areas (g.P.Sectors.state c.loop-most.pack.pool) c.loop-most.spool) (around c.step.new.pack.areas (g.P.Sectors.state c.step.new.pack.pool) c.step.new.spool) c.step.ensures.leaves.stays.id c.in_ok-taken.ensures.world)
     c.in_ok-taken.ensures.leaves.ready c.step.ensures.leaves.spares c.in_ok-taken.ensures.leaves.failures c.in_ok-taken.ensures.leaves.says c.step.ensures.leaves.stays).worlds
 
 pub returns-then-is_none-clause-spares : goal.returns-then-is_none-clause-spares
