@@ -1,11 +1,10 @@
 -- What the calls of a level come to, with what is beside it.
 use Rattle.std.proofs.Common.{◌≡◌, ℕ, ◌≤◌, ◌+◌, Result, Ok, Err, refl, arith}
-use Rattle.std.specs.Prelude.{IfErr, IfOk, OnOk, OnErr, ◌≢◌}
+use Rattle.std.specs.Prelude.{IfOk, OnOk, OnErr, ◌≢◌}
 use Rattle.s3_store.specs.Inner.Failures.{failed_transfers}
 use Rattle.s3_store.specs.Inner.State.{PoolState}
-use Rattle.s3_store.specs.declared.pool_fault.PoolFault.{PoolFault}
+use Rattle.s3_store.specs.declared.sector_fault.SectorFault.{SectorFault}
 use Rattle.s3_store.specs.Inner.State.{KeepsContents}
-use Rattle.s3_store.specs.declared.pool_fault.PoolFault.TheVariants.{NoSector}
 use Rattle.s3_labels.specs.Inner.Areas.{Areas, IsReady as IsPackReady}
 use Rattle.s3_labels.specs.Inner.Labelled.{KeepsSaid}
 use Rattle.s3_level.proofs.Said.{said_same}
@@ -29,7 +28,7 @@ beside_same : (before after : Around) → IsUntouched before.areas after.areas b
 beside_same before after untouched queues = λ i. record { areas = untouched.0 i; state = untouched.1 i; blocks = queues i }
 
 -- so many turns
-pub turned : (most : ℕ) (result : Result Taken PoolFault) (old new : Level) (before after : Around)
+pub turned : (most : ℕ) (result : Result Taken SectorFault) (old new : Level) (before after : Around)
     → IfOk result (λ taken. IsUpTo most taken)
     → IfOk result (λ taken. Repeats Turn taken.times taken.did (Holds old before) (Holds new after))
     → OnErr result ((w : World) → Holds old before w → (step_of w Turn).did ≡ Acted)
@@ -40,14 +39,13 @@ pub turned : (most : ℕ) (result : Result Taken PoolFault) (old new : Level) (b
     → OnOk result (KeepsSaid old.id before.areas before.state.contents after.areas after.state.contents)
     → IfOk result (λ taken. IsQuiet taken.did before.areas after.areas before.state after.state)
     → IfOk result (λ taken. taken.did ≢ Acted → after.blocks ≡ before.blocks)
-    → IfErr result (λ fault. fault ≢ NoSector)
     → Acts Turn most result old new before after
-turned most (Ok taken) old new before after times steps acts ready spares failures stays says quiet queues fault =
-    record { id = stays.id; spares = spares; says = says; quiet = λ idles. beside_same before after (quiet idles) (queues idles); times = times; fault = fault; failures = failures; comes = (ready, steps) }
-turned most (Err fault) old new before after times steps acts ready spares failures stays says quiet queues finds =
-    record { id = stays.id; spares = spares; says = says; quiet = tt; times = tt; fault = finds; failures = failures; comes = (stays.drained, acts) }
+turned most (Ok taken) old new before after times steps acts ready spares failures stays says quiet queues =
+    record { id = stays.id; spares = spares; says = says; quiet = λ idles. beside_same before after (quiet idles) (queues idles); times = times; failures = failures; comes = (ready, steps) }
+turned most (Err fault) old new before after times steps acts ready spares failures stays says quiet queues =
+    record { id = stays.id; spares = spares; says = says; quiet = tt; times = tt; failures = failures; comes = (stays.drained, acts) }
 
-pub replied : (most digit : ℕ) (result : Result Did PoolFault) (old new : Level) (areas new_areas : Areas) (s t : PoolState) (blocks : Blocks)
+pub replied : (most digit : ℕ) (result : Result Did SectorFault) (old new : Level) (areas new_areas : Areas) (s t : PoolState) (blocks : Blocks)
     → 1 ≤ most
     → IsPackReady areas s.contents
     → AreAll blocks
@@ -59,17 +57,16 @@ pub replied : (most digit : ℕ) (result : Result Did PoolFault) (old new : Leve
     → Stays old new
     → OnOk result (KeepsSaid old.id areas s.contents new_areas t.contents)
     → IfOk result (λ did. IsQuiet did areas new_areas s t)
-    → IfErr result (λ fault. fault ≢ NoSector)
     → Acts (Reply digit) most (once result) old new (around areas s blocks) (around new_areas t blocks)
-replied most digit (Ok did) old new areas new_areas s t blocks some pack are steps refused ready others failures stays says quiet fault =
-    record { id = stays.id; spares = spares_files old.id areas new_areas blocks s t pack are others; says = says; quiet = λ refuses. beside_same (around areas s blocks) (around new_areas t blocks) (quiet refuses) refl; fault = fault; failures = failures; times = record { some = omega arith; few = some }; comes = (ready, steps_once (Reply digit) did (Holds old (around areas s blocks)) (Holds new (around new_areas t blocks)) (steps blocks are)) }
-replied most digit (Err fault) old new areas new_areas s t blocks some pack are steps refused ready others failures stays says quiet finds =
-    record { id = stays.id; spares = spares_files old.id areas new_areas blocks s t pack are others; says = says; quiet = tt; times = tt; fault = finds; failures = failures; comes = (stays.drained, λ w held. reply_acts digit w (never w held)) }
+replied most digit (Ok did) old new areas new_areas s t blocks some pack are steps refused ready others failures stays says quiet =
+    record { id = stays.id; spares = spares_files old.id areas new_areas blocks s t pack are others; says = says; quiet = λ refuses. beside_same (around areas s blocks) (around new_areas t blocks) (quiet refuses) refl; failures = failures; times = record { some = omega arith; few = some }; comes = (ready, steps_once (Reply digit) did (Holds old (around areas s blocks)) (Holds new (around new_areas t blocks)) (steps blocks are)) }
+replied most digit (Err fault) old new areas new_areas s t blocks some pack are steps refused ready others failures stays says quiet =
+    record { id = stays.id; spares = spares_files old.id areas new_areas blocks s t pack are others; says = says; quiet = tt; times = tt; failures = failures; comes = (stays.drained, λ w held. reply_acts digit w (never w held)) }
   where
     never : (w : World) → Holds old (around areas s blocks) w → (number : ℕ) → (step_of w (Reply digit)).did ≡ Refused number → ⊥
     never w held number is = let same : Err fault ≡ Ok (Refused number) = refused blocks w number held is in cc
 
-pub drained : (most : ℕ) (result : Result Did PoolFault) (old new : Level) (before after : Around)
+pub drained : (most : ℕ) (result : Result Did SectorFault) (old new : Level) (before after : Around)
     → 1 ≤ most
     → IfOk result (λ did. Steps Drain did (Holds old before) (Holds new after))
     → ((w : World) (number : ℕ) → Holds old before w → (step_of w Drain).did ≡ Refused number → result ≡ Ok (Refused number))
@@ -82,12 +79,11 @@ pub drained : (most : ℕ) (result : Result Did PoolFault) (old new : Level) (be
     → KeepsContents before.state after.state
     → IfOk result (λ did. IsQuiet did before.areas after.areas before.state after.state)
     → IfOk result (λ did. did ≢ Acted → after.blocks ≡ before.blocks)
-    → IfErr result (λ fault. fault ≢ NoSector)
     → Acts Drain most (once result) old new before after
-drained most (Ok did) old new before after some steps refused lines ready spares failures id same keeps quiet queues fault =
-    record { id = id; spares = spares; says = said_same old.id before.areas after.areas before.state after.state keeps same; quiet = λ refuses. beside_same before after (quiet refuses) (queues refuses); fault = fault; failures = failures; times = record { some = omega arith; few = some }; comes = (ready, steps_once Drain did (Holds old before) (Holds new after) steps) }
-drained most (Err fault) old new before after some steps refused lines ready spares failures id same keeps quiet queues finds =
-    record { id = id; spares = spares; says = tt; quiet = tt; times = tt; fault = finds; failures = failures; comes = (lines, λ w held. drain_acts w (never w held)) }
+drained most (Ok did) old new before after some steps refused lines ready spares failures id same keeps quiet queues =
+    record { id = id; spares = spares; says = said_same old.id before.areas after.areas before.state after.state keeps same; quiet = λ refuses. beside_same before after (quiet refuses) (queues refuses); failures = failures; times = record { some = omega arith; few = some }; comes = (ready, steps_once Drain did (Holds old before) (Holds new after) steps) }
+drained most (Err fault) old new before after some steps refused lines ready spares failures id same keeps quiet queues =
+    record { id = id; spares = spares; says = tt; quiet = tt; times = tt; failures = failures; comes = (lines, λ w held. drain_acts w (never w held)) }
   where
     never : (w : World) → Holds old before w → (number : ℕ) → (step_of w Drain).did ≡ Refused number → ⊥
     never w held number is = let same : Err fault ≡ Ok (Refused number) = refused w number held is in cc

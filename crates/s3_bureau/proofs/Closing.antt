@@ -5,8 +5,8 @@ use Rattle.s3_cards.specs.declared.levels.LevelId.{LevelId}
 use Rattle.s3_cards.specs.declared.levels.LevelId.TheVariants.{One, Two}
 use Rattle.s3_store.specs.Inner.Failures.{failed_transfers}
 use Rattle.s3_store.specs.Inner.State.{PoolState, KeepsContents, KeepsInStep}
-use Rattle.s3_store.specs.declared.pool_fault.PoolFault.{PoolFault}
-use Rattle.s3_store.specs.declared.pool_fault.PoolFault.TheVariants.{Device, NoMemory, NoSector}
+use Rattle.s3_store.specs.declared.sector_fault.SectorFault.{SectorFault}
+use Rattle.s3_store.specs.declared.sector_fault.SectorFault.TheVariants.{Device, NoMemory}
 use Rattle.s3_store.proofs.Frames.{keeps_refl, keeps_trans, step_from_keeps, step_trans}
 use Rattle.s3_slots.specs.declared.header.Header.{Header}
 use Rattle.s3_labels.specs.Inner.Areas.{Areas, slots_at, IsReady as IsPackReady}
@@ -39,28 +39,26 @@ lines_stay w = by w.job
     by (Some job) = refl
 
 -- its files couldn't be closed
-pub level_stopped : (fault : PoolFault) (old new : Level) (areas new_areas : Areas) (s t : PoolState) (blocks : Blocks)
+pub level_stopped : (fault : SectorFault) (old new : Level) (areas new_areas : Areas) (s t : PoolState) (blocks : Blocks)
     → IsPackReady areas s.contents → AreAll blocks
     → KeepsOthers old.id areas new_areas s t
     → (old.job ≡ None → (new_areas ≡ areas) × KeepsContents s t)
     → (old.job ≡ None → IsOk {T = Unit {0}} (Err fault))
     → t.failures ≡ s.failures + failed_transfers {T = Unit {0}} (Err fault)
     → Stays old new
-    → fault ≢ NoSector
     → ClosesLevel (Err fault) old new (around areas s blocks) (around new_areas t blocks)
-level_stopped fault old new areas new_areas s t blocks pack are others rests ends failures stays finds = record {
+level_stopped fault old new areas new_areas s t blocks pack are others rests ends failures stays = record {
   id = stays.id;
   spares = spares_files old.id areas new_areas blocks s t pack are others;
   rests = λ none. (rests none).1;
   ends = λ done. ends done.0;
   says = tt;
-  fault = finds;
   failures = failures;
   comes = tt;
 }
 
 -- they were closed, and then its lines drained, or it stopped at that
-pub level_closed : (result : Result (Unit {0}) PoolFault) (old middle new : Level) (areas middle_areas : Areas) (s t : PoolState) (blocks : Blocks) (after : Around)
+pub level_closed : (result : Result (Unit {0}) SectorFault) (old middle new : Level) (areas middle_areas : Areas) (s t : PoolState) (blocks : Blocks) (after : Around)
     → IsPackReady areas s.contents → AreAll blocks
     → ((blocks : Blocks) → AreAll blocks → Becomes job_ended (Holds old (around areas s blocks)) (Holds middle (around middle_areas t blocks)))
     → KeepsOthers old.id areas middle_areas s t
@@ -76,9 +74,8 @@ pub level_closed : (result : Result (Unit {0}) PoolFault) (old middle new : Leve
     → KeepsSaid old.id areas s.contents middle_areas t.contents
     → after.areas ≡ middle_areas
     → (blocks_of middle.id blocks ≡ [] → IsOk result)
-    → IfErr result (λ fault. fault ≢ NoSector)
     → ClosesLevel result old new (around areas s blocks) after
-level_closed result old middle new areas middle_areas s t blocks after pack are ends others rests first stays drains ready spares keeps second id says same none_queued fault = record {
+level_closed result old middle new areas middle_areas s t blocks after pack are ends others rests first stays drains ready spares keeps second id says same none_queued = record {
   id = id ∙ stays.id;
   spares = spares_then old.id (around areas s blocks) (around middle_areas t blocks) after
       (spares_files old.id areas middle_areas blocks s t pack are others)
@@ -86,16 +83,15 @@ level_closed result old middle new areas middle_areas s t blocks after pack are 
   rests = λ none. keeps_trans s t after.state (rests none).1 keeps;
   ends = λ done. none_queued (ap (λ (l : LevelId). blocks_of l blocks) stays.id ∙ done.1);
   says = said result;
-  fault = fault;
   failures = omega (arith, first, second);
   comes = by result drains ready;
 }
   where
-    said : (result : Result (Unit {0}) PoolFault) → OnOk result (KeepsSaid old.id areas s.contents after.areas after.state.contents)
+    said : (result : Result (Unit {0}) SectorFault) → OnOk result (KeepsSaid old.id areas s.contents after.areas after.state.contents)
     said (Ok done) = λ before. said_same old.id middle_areas after.areas t after.state keeps same (says before)
     said (Err fault) = tt
 
-    by : (result : Result (Unit {0}) PoolFault) → OnOk result (Becomes (λ w. record w { lines = all_drained w.lines }) (Holds middle (around middle_areas t blocks)) (Holds new after))
+    by : (result : Result (Unit {0}) SectorFault) → OnOk result (Becomes (λ w. record w { lines = all_drained w.lines }) (Holds middle (around middle_areas t blocks)) (Holds new after))
         → OnOk result (IsReady new (seen after.areas after.state.contents)) → ClosesTo result old new (around areas s blocks) after
     by (Ok done) drains ready = (
       ready,
@@ -106,7 +102,7 @@ level_closed result old middle new areas middle_areas s t blocks after pack are 
 
 -- ---- both levels
 -- what the first level spares as it is closed, whether it stops or not
-pub first_stopped : (fault : PoolFault) (one two new_one : Level) (before after : Around) → IsReadyFor one two before
+pub first_stopped : (fault : SectorFault) (one two new_one : Level) (before after : Around) → IsReadyFor one two before
     → ClosesLevel (Err fault) one new_one before after → ClosesBoth (Err fault) one two new_one two before after
 first_stopped fault one two new_one before after ready first = record {
   header = header_spared One before after spares;
@@ -116,7 +112,6 @@ first_stopped fault one two new_one before after ready first = record {
   one_mounts = tt;
   two_mounts = tt;
   memory = λ done_one done_two same. true≢false (sym (first.ends (done_one.0, ap (λ (l : LevelId). blocks_of l before.blocks) ready.one_is ∙ done_one.1)));
-  fault = first.fault;
   failures = first.failures;
   comes = tt;
 }
@@ -134,17 +129,16 @@ pub second_blocks : (one two new_one : Level) (before middle : Around) → Close
 second_blocks one two new_one before middle first = first.spares.blocks
 
 -- what both spare, whatever it comes to
-both_spared : (result both : Result (Unit {0}) PoolFault) (one two new_one new_two : Level) (before middle after last : Around) → IsReadyFor one two before
+both_spared : (result both : Result (Unit {0}) SectorFault) (one two new_one new_two : Level) (before middle after last : Around) → IsReadyFor one two before
     → ClosesLevel (Ok tt) one new_one before middle → ClosesLevel result two new_two middle after
     → last.areas ≡ after.areas → KeepsContents after.state last.state
     → last.state.failures ≡ before.state.failures + failed_transfers both
     → OnOk both (MountsAs One before new_one last)
     → OnOk both (MountsAs Two before new_two last)
     → (IsDone Two two before → both ≢ Err NoMemory)
-    → IfErr both (λ fault. fault ≢ NoSector)
     → BothTo both one two new_one new_two before last
     → ClosesBoth both one two new_one new_two before last
-both_spared result both one two new_one new_two before middle after last ready first second areas flushed failures one_mounts two_mounts memory fault comes = record {
+both_spared result both one two new_one new_two before middle after last ready first second areas flushed failures one_mounts two_mounts memory comes = record {
   header = ap (λ (a : Areas). a.header) areas ∙ header_spared Two middle after spares_two ∙ header_spared One before middle spares_one;
   common = along IsCommon (common_spared One before middle ready.one_ready.files.pack spares_one) (common_spared Two middle after spares_one.pack spares_two);
   one_rests = λ none. along (IsOwn One) (step_from_keeps (IsOwn One before.areas.header) before.state middle.state (first.rests none)) (other_spared Two middle after spares_one.pack spares_two);
@@ -152,7 +146,6 @@ both_spared result both one two new_one new_two before middle after last ready f
   one_mounts = one_mounts;
   two_mounts = two_mounts;
   memory = λ done_one done_two. memory done_two;
-  fault = fault;
   failures = failures;
   comes = comes;
 }
@@ -183,11 +176,11 @@ still_done two before middle spares done = (
       (omega (arith, ap length spares.queue, ap length done.1, queue_length Two middle.blocks middle.state.contents, queue_length Two before.blocks before.state.contents)),
 )
 
-pub second_stopped : (fault : PoolFault) (one two new_one new_two : Level) (before middle after : Around) → IsReadyFor one two before
+pub second_stopped : (fault : SectorFault) (one two new_one new_two : Level) (before middle after : Around) → IsReadyFor one two before
     → ClosesLevel (Ok tt) one new_one before middle → ClosesLevel (Err fault) two new_two middle after → ClosesBoth (Err fault) one two new_one new_two before after
 second_stopped fault one two new_one new_two before middle after ready first second =
     both_spared (Err fault) (Err fault) one two new_one new_two before middle after after ready first second refl (keeps_refl after.state) (omega (arith, first.failures, second.failures)) tt tt
-    (λ done same. true≢false (sym (second.ends (let still = still_done two before middle (subst (λ (l : LevelId). Spares l before middle) ready.one_is first.spares) done in (still.0, ap (λ (l : LevelId). blocks_of l middle.blocks) ready.two_is ∙ still.1))))) second.fault tt
+    (λ done same. true≢false (sym (second.ends (let still = still_done two before middle (subst (λ (l : LevelId). Spares l before middle) ready.one_is first.spares) done in (still.0, ap (λ (l : LevelId). blocks_of l middle.blocks) ready.two_is ∙ still.1))))) tt
 
 -- a flush leaves what levels hold
 flush_holds : (level : Level) (areas : Areas) (s t : PoolState) (blocks : Blocks) (w : World) → KeepsContents s t → Holds level (around areas s blocks) w → Holds level (around areas t blocks) w
@@ -206,7 +199,7 @@ mounts_as level his before after id pack keeps = λ said. (
 )
 
 -- both levels were closed, and the pool flushed, or it stopped at that
-pub both_closed : (result : Result (Unit {0}) PoolFault) (one two new_one new_two : Level) (before middle : Around) (areas : Areas) (s t : PoolState) (blocks : Blocks) → IsReadyFor one two before
+pub both_closed : (result : Result (Unit {0}) SectorFault) (one two new_one new_two : Level) (before middle : Around) (areas : Areas) (s t : PoolState) (blocks : Blocks) → IsReadyFor one two before
     → ClosesLevel (Ok tt) one new_one before middle → ClosesLevel (Ok tt) two new_two middle (around areas s blocks)
     → OnOk result (t.stored ≡ s.contents)
     → KeepsContents s t
@@ -217,7 +210,7 @@ both_closed result one two new_one new_two before middle areas s t blocks ready 
     both_spared (Ok tt) result one two new_one new_two before middle (around areas s blocks) (around areas t blocks) ready first second refl keeps (omega (arith, first.failures, second.failures, failures))
     (always result (mounts_as One new_one before (around areas t blocks) (first.id ∙ ready.one_is) pack said_one))
     (always result (mounts_as Two new_two before (around areas t blocks) (second.id ∙ ready.two_is) pack said_two))
-    (λ done. device_alone result fails) (finds result fails) (by result flushed)
+    (λ done. device_alone result fails) (by result flushed)
   where
     spares_one : Spares One before middle
     spares_one = subst (λ (l : LevelId). Spares l before middle) ready.one_is first.spares
@@ -241,15 +234,11 @@ both_closed result one two new_one new_two before middle areas s t blocks ready 
         flushed_said Two (subst (λ (l : LevelId). KeepsSaid l middle.areas middle.state.contents areas s.contents) ready.two_is second.says
         (other_said One before middle ready.one_ready.files.pack spares_one said))
 
-    always : {X : Type 0} (result : Result (Unit {0}) PoolFault) → X → OnOk result X
+    always : {X : Type 0} (result : Result (Unit {0}) SectorFault) → X → OnOk result X
     always (Ok done) x = x
     always (Err fault) x = tt
 
-    finds : (result : Result (Unit {0}) PoolFault) → IfErr result (λ fault. fault ≡ Device) → IfErr result (λ fault. fault ≢ NoSector)
-    finds (Ok done) is = tt
-    finds (Err fault) is = λ same. let clash : Device ≡ NoSector = sym is ∙ same in absurd cc
-
-    device_alone : (result : Result (Unit {0}) PoolFault) → IfErr result (λ fault. fault ≡ Device) → result ≢ Err NoMemory
+    device_alone : (result : Result (Unit {0}) SectorFault) → IfErr result (λ fault. fault ≡ Device) → result ≢ Err NoMemory
     device_alone (Ok done) is = λ same. cc
     device_alone (Err fault) is = λ same. let clash : Device ≡ NoMemory = sym is ∙ (let both : fault ≡ NoMemory = cc in both) in absurd cc
 
@@ -261,6 +250,6 @@ both_closed result one two new_one new_two before middle areas s t blocks ready 
     two_held = λ w held. flush_holds new_two areas s t blocks (closed w) keeps
         (second.comes.1 w (worlds_stay One two before middle w ready.two_is ready.two_ready spares_one held))
 
-    by : (result : Result (Unit {0}) PoolFault) → OnOk result (t.stored ≡ s.contents) → BothTo result one two new_one new_two before (around areas t blocks)
+    by : (result : Result (Unit {0}) SectorFault) → OnOk result (t.stored ≡ s.contents) → BothTo result one two new_one new_two before (around areas t blocks)
     by (Ok done) flushed = (flushed ∙ sym keeps.contents, (one_held, two_held))
     by (Err fault) flushed = tt

@@ -4,8 +4,8 @@ use Rattle.s3_cards.specs.Inner.Levels.{other}
 use Rattle.s3_cards.specs.declared.levels.LevelId.{LevelId}
 use Rattle.s3_cards.specs.declared.levels.LevelId.TheVariants.{One, Two}
 use Rattle.s3_store.specs.Inner.State.{KeepsInStep}
-use Rattle.s3_store.specs.declared.pool_fault.PoolFault.{PoolFault}
-use Rattle.s3_store.specs.declared.pool_fault.PoolFault.TheVariants.{Device, NoMemory, NoSector}
+use Rattle.s3_store.specs.declared.sector_fault.SectorFault.{SectorFault}
+use Rattle.s3_store.specs.declared.sector_fault.SectorFault.TheVariants.{Device, NoMemory}
 use Rattle.s3_labels.specs.Inner.Labelled.{KeepsSaid}
 use Rattle.s3_job_files.specs.Inner.Holds.{seen}
 use Rattle.s3_solo.specs.declared.action.Action.{Action}
@@ -18,7 +18,7 @@ use Rattle.s3_bureau.specs.declared.bureau.Phase.{Phase}
 use Rattle.s3_bureau.specs.declared.bureau.Phase.TheVariants.{Open, Finished, Stopped}
 use Rattle.s3_bureau.specs.declared.stop.Stop.{Stop}
 use Rattle.s3_bureau.specs.declared.stop.Stop.TheVariants.{NoMemory as StopNoMemory, Device as StopDevice, Stopped as StoppedBefore}
-use Rattle.s3_bureau.specs.Inner.Stops.{StopsBy, failed_stop}
+use Rattle.s3_bureau.specs.Inner.Stops.{failed_stop, stop_of}
 use Rattle.s3_bureau.specs.Inner.Held.{HoldsFor, IsForeign, IsReadyFor, State, has_worlds, header_of, is_open, level_of, lines_at, rests, takes_entries}
 use Rattle.s3_bureau.specs.Sharing.{IsOwn}
 use Rattle.s3_bureau.specs.Inner.Calls.{Acts, Closes, ClosesBoth, Enters, MountsAs}
@@ -77,7 +77,6 @@ entered_one level action most taken old now new_one after same is takes ready ac
       says = said_one action most taken old.one old.two new_one old.beside after ready acts;
       quiet = acts.quiet;
       times = acts.times;
-      fault = tt;
       failures = acts.failures;
       comes = (is_phase_open old.phase takes, acts.comes.1);
     }))
@@ -94,13 +93,12 @@ entered_two level action most taken old now new_two after same is takes ready ac
       says = said_two action most taken old.one old.two new_two old.beside after ready acts;
       quiet = acts.quiet;
       times = acts.times;
-      fault = tt;
       failures = acts.failures;
       comes = (is_phase_open old.phase takes, acts.comes.1);
     }))
 
 -- or the bureau stopped
-pub stopped_one : (level : LevelId) (action : Action) (most : ℕ) (fault : PoolFault) (old now : State) (new_one : Level) (after : Around) → old ≡ now → level ≡ One → takes_entries old.phase ≡ true
+pub stopped_one : (level : LevelId) (action : Action) (most : ℕ) (fault : SectorFault) (old now : State) (new_one : Level) (after : Around) → old ≡ now → level ≡ One → takes_entries old.phase ≡ true
     → IsReadyFor old.one old.two old.beside → Acts action most (Err fault) old.one new_one old.beside after
     → Enters level action most (Err fault) now (record { beside = after; one = new_one; two = old.two; phase = Stopped })
 stopped_one level action most fault old now new_one after same is takes ready acts =
@@ -113,12 +111,11 @@ stopped_one level action most fault old now new_one after same is takes ready ac
       says = tt;
       quiet = tt;
       times = tt;
-      fault = acts.fault;
       failures = acts.failures;
       comes = (refl, acts.comes.0, acts.comes.1);
     }))
 
-pub stopped_two : (level : LevelId) (action : Action) (most : ℕ) (fault : PoolFault) (old now : State) (new_two : Level) (after : Around) → old ≡ now → level ≡ Two → takes_entries old.phase ≡ true
+pub stopped_two : (level : LevelId) (action : Action) (most : ℕ) (fault : SectorFault) (old now : State) (new_two : Level) (after : Around) → old ≡ now → level ≡ Two → takes_entries old.phase ≡ true
     → IsReadyFor old.one old.two old.beside → Acts action most (Err fault) old.two new_two old.beside after
     → Enters level action most (Err fault) now (record { beside = after; one = old.one; two = new_two; phase = Stopped })
 stopped_two level action most fault old now new_two after same is takes ready acts =
@@ -131,7 +128,6 @@ stopped_two level action most fault old now new_two after same is takes ready ac
       says = tt;
       quiet = tt;
       times = tt;
-      fault = acts.fault;
       failures = acts.failures;
       comes = (refl, acts.comes.0, acts.comes.1);
     }))
@@ -155,7 +151,7 @@ own_repeats level action most taken old new e w held =
     (here.0, record { goes_on = open_has new.phase e.comes.0; world = here.1 })
 
 -- where it stopped, no line was drained
-pub lines_stay : (level : LevelId) (action : Action) (most : ℕ) (fault : PoolFault) (old new : State) → Enters level action most (Err fault) old new → (one_or_two : LevelId) → lines_at one_or_two new ≡ lines_at one_or_two old
+pub lines_stay : (level : LevelId) (action : Action) (most : ℕ) (fault : SectorFault) (old new : State) → Enters level action most (Err fault) old new → (one_or_two : LevelId) → lines_at one_or_two new ≡ lines_at one_or_two old
 lines_stay One action most fault old new e One = e.comes.1
 lines_stay One action most fault old new e Two = ap (λ (l : Level). l.lines.items) e.stays
 lines_stay Two action most fault old new e One = ap (λ (l : Level). l.lines.items) e.stays
@@ -179,11 +175,11 @@ other_kept level action most taken old new e w held = record {
     was Stopped is = absurd cc
 
 -- ---- a step, performed or not
-pub foreign_unchanged : (level : LevelId) (action : Action) (most : ℕ) (result : Result Taken PoolFault) (old new : State) → Enters level action most result old new
+pub foreign_unchanged : (level : LevelId) (action : Action) (most : ℕ) (result : Result Taken SectorFault) (old new : State) → Enters level action most result old new
     → KeepsInStep (IsForeign level (header_of old)) old.beside.state new.beside.state
 foreign_unchanged level action most result old new e = foreign_spared level old.beside new.beside e.ready.one_ready.files.pack e.spares
 
-pub header_stays : (level : LevelId) (action : Action) (most : ℕ) (result : Result Taken PoolFault) (old new : State) → Enters level action most result old new → header_of new ≡ header_of old
+pub header_stays : (level : LevelId) (action : Action) (most : ℕ) (result : Result Taken SectorFault) (old new : State) → Enters level action most result old new → header_of new ≡ header_of old
 header_stays level action most result old new e = header_spared level old.beside new.beside e.spares
 
 pub stays_open : (level : LevelId) (action : Action) (most : ℕ) (taken : Taken) (old new : State) → Enters level action most (Ok taken) old new → is_open new ≡ true
@@ -193,32 +189,30 @@ stays_open level action most taken old new e = open_takes new.phase e.comes.0
     open_takes phase is = rw is refl
 
 -- a bureau that was open isn't stopped already
-pub was_open : (P : Type 0) (level : LevelId) (action : Action) (most : ℕ) (result : Result Taken PoolFault) (old new : State) → Enters level action most result old new → is_open old ≡ false → P
+pub was_open : (P : Type 0) (level : LevelId) (action : Action) (most : ℕ) (result : Result Taken SectorFault) (old new : State) → Enters level action most result old new → is_open old ≡ false → P
 was_open P level action most result old new e closed = absurd (true≢false (sym e.was_open ∙ closed))
 
-pub is_stopped : (level : LevelId) (action : Action) (most : ℕ) (fault : PoolFault) (old new : State) → Enters level action most (Err fault) old new → is_open new ≡ false
+pub is_stopped : (level : LevelId) (action : Action) (most : ℕ) (fault : SectorFault) (old new : State) → Enters level action most (Err fault) old new → is_open new ≡ false
 is_stopped level action most fault old new e = stopped_takes new.phase e.comes.0
   where
     stopped_takes : (phase : Phase) → phase ≡ Stopped → takes_entries phase ≡ false
     stopped_takes phase is = rw is refl
 
-pub has_none : (level : LevelId) (action : Action) (most : ℕ) (fault : PoolFault) (old new : State) → Enters level action most (Err fault) old new → has_worlds new.phase ≡ false
+pub has_none : (level : LevelId) (action : Action) (most : ℕ) (fault : SectorFault) (old new : State) → Enters level action most (Err fault) old new → has_worlds new.phase ≡ false
 has_none level action most fault old new e = stopped_has new.phase e.comes.0
   where
     stopped_has : (phase : Phase) → phase ≡ Stopped → has_worlds phase ≡ false
     stopped_has phase is = rw is refl
 
 -- the cause for which a fault stops it
-pub is_cause : (fault : PoolFault) (stop : Stop) → StopsBy fault stop → {T : Type 0} (answer : Result T Stop) → answer ≡ Err stop → answer ≢ Err StoppedBefore
-is_cause Device stop by answer made is = let same : stop ≡ StopDevice = by in cc
-is_cause NoMemory stop by answer made is = let same : stop ≡ StopNoMemory = by in cc
-is_cause NoSector stop by answer made is = absurd by
+pub is_cause : (fault : SectorFault) (answer : Result Taken Stop) → answer ≡ Err (stop_of fault) → answer ≢ Err StoppedBefore
+is_cause Device answer made is = let same : answer ≡ Err StopDevice = made in cc
+is_cause NoMemory answer made is = let same : answer ≡ Err StopNoMemory = made in cc
 
-pub cause_failed : (level : LevelId) (action : Action) (most : ℕ) (fault : PoolFault) (stop : Stop) (old new : State) → Enters level action most (Err fault) old new → StopsBy fault stop
-    → new.beside.state.failures ≡ old.beside.state.failures + failed_stop {T = Taken} (Err stop)
-cause_failed level action most Device stop old new e by = let same : stop ≡ StopDevice = by in rw same e.failures
-cause_failed level action most NoMemory stop old new e by = let same : stop ≡ StopNoMemory = by in rw same e.failures
-cause_failed level action most NoSector stop old new e by = absurd by
+pub cause_failed : (level : LevelId) (action : Action) (most : ℕ) (fault : SectorFault) (old new : State) → Enters level action most (Err fault) old new
+    → new.beside.state.failures ≡ old.beside.state.failures + failed_stop {T = Taken} (Err (stop_of fault))
+cause_failed level action most Device old new e = e.failures
+cause_failed level action most NoMemory old new e = e.failures
 
 -- ---- the end
 pub ends : (old : State) (new_one new_two : Level) (after : Around) → ClosesBoth (Ok tt) old.one old.two new_one new_two old.beside after
@@ -229,7 +223,6 @@ ends old new_one new_two after both = record {
   rest = rest;
   mounts = mounts;
   memory = λ done same. let clash : Ok tt ≡ Err NoMemory = same in cc;
-  fault = tt;
   failures = both.failures;
   comes = (refl, both.comes.0, worlds);
 }
@@ -247,7 +240,7 @@ ends old new_one new_two after both = record {
     worlds Two = both.comes.1.1
 
 -- or they stopped
-pub stops_closing : (fault : PoolFault) (old : State) (new_one new_two : Level) (after : Around) → ClosesBoth (Err fault) old.one old.two new_one new_two old.beside after
+pub stops_closing : (fault : SectorFault) (old : State) (new_one new_two : Level) (after : Around) → ClosesBoth (Err fault) old.one old.two new_one new_two old.beside after
     → Closes (Err fault) old (record { beside = after; one = new_one; two = new_two; phase = Stopped })
 stops_closing fault old new_one new_two after both = record {
   header = both.header;
@@ -255,7 +248,6 @@ stops_closing fault old new_one new_two after both = record {
   rest = rest;
   mounts = tt;
   memory = λ done. both.memory (done One) (done Two);
-  fault = both.fault;
   failures = both.failures;
   comes = refl;
 }

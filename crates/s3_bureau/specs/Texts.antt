@@ -5,7 +5,7 @@ use Rattle.std.specs.Fmt.{decimal}
 use Rattle.s3_cards.specs.Codes.{host_of}
 use Rattle.s3_cards.specs.Printed.{Printed}
 use Rattle.s3_operator.specs.Halts.{ShownHalt}
-use Rattle.s3_operator.specs.Letters.{letters_of}
+use Rattle.s3_operator.specs.Table.{letters_of}
 
 -- a number in at least so many decimal digits
 abbrev pub in_digits : ℕ → ℕ → List ℕ

@@ -4,7 +4,6 @@ ghost use Rattle.std.specs.Int.NonZero.{non_zero_u16_get};
 ghost use Rattle.s3_job_files.specs.Inner.Holds.{seen};
 ghost use Rattle.s3_level.specs.Inner.Holds.{AreAll, IsReady, around};
 ghost use Rattle.s3_bureau.specs.Inner.Held.{IsReadyFor};
-ghost use Rattle.s3_bureau.specs.Inner.Stops.{StopsBy};
 ghost use Rattle.s3_bureau.specs.Inner.Calls.{Acts, ClosesLevel, ClosesBoth};
 
 use crate::entry::Entry;
@@ -14,7 +13,7 @@ use s3_labels::{AreaSlots, Pack, Refusal, RefusedStore};
 use s3_level::{Action, Did, Halt, Level, Taken};
 use s3_pool::Pool;
 use s3_spool::Spool;
-use s3_store::{PackStore, PoolFault, Sectors};
+use s3_store::{PackStore, SectorFault, Sectors};
 use std::alloc::{AllocError, Global};
 use std::marker::Model;
 use std::num::NonZeroU16;
@@ -56,18 +55,6 @@ impl<S: PackStore> Model for Bureau<S> {
     ghost invariant = { λ b. IsLaidOut (record { beside = around b.pack.areas b.pack.pool b.spool; one = b.one; two = b.two; phase = b.phase }) };
 }
 
-/// Why a bureau stops.
-fn stop_of(fault: PoolFault) -> Stop
-    requires { fault ≢ PoolFault.NoSector }
-    ensures { StopsBy fault result }
-{
-    match fault {
-        PoolFault::Device => Stop::Device,
-        PoolFault::NoMemory => Stop::NoMemory,
-        PoolFault::NoSector => unreachable!(),
-    }
-}
-
 /// An entry of a level, so many times at most and at least once. It is proved once, for either level.
 #[inline(always)]
 fn act<S: PackStore>(
@@ -76,7 +63,7 @@ fn act<S: PackStore>(
     spool: &mut Spool,
     action: Action,
     most: NonZeroU16,
-) -> Result<Taken, PoolFault>
+) -> Result<Taken, SectorFault>
     requires ready { IsReady level.old (seen pack.old.areas pack.old.pool.contents) }
     requires blocks { AreAll spool.old }
     ensures { Acts action (non_zero_u16_get most) result level.old level.new (around pack.old.areas pack.old.pool spool.old) (around pack.new.areas pack.new.pool spool.new) }
@@ -93,7 +80,7 @@ fn close_level<S: PackStore>(
     level: &mut Level,
     pack: &mut Pack<Pool<S>>,
     spool: &mut Spool,
-) -> Result<(), PoolFault>
+) -> Result<(), SectorFault>
     requires ready { IsReady level.old (seen pack.old.areas pack.old.pool.contents) }
     requires blocks { AreAll spool.old }
     ensures { ClosesLevel result level.old level.new (around pack.old.areas pack.old.pool spool.old) (around pack.new.areas pack.new.pool spool.new) }
@@ -108,7 +95,7 @@ fn close_both<S: PackStore>(
     two: &mut Level,
     pack: &mut Pack<Pool<S>>,
     spool: &mut Spool,
-) -> Result<(), PoolFault>
+) -> Result<(), SectorFault>
     requires { IsReadyFor one.old two.old (around pack.old.areas pack.old.pool spool.old) }
     ensures { ClosesBoth result one.old two.old one.new two.new (around pack.old.areas pack.old.pool spool.old) (around pack.new.areas pack.new.pool spool.new) }
 {
@@ -199,7 +186,7 @@ impl<S: PackStore> Bureau<S> {
         ensures two { IfOk result (λ bureau. HoldsFor LevelId.Two bureau (at_start LevelId.Two pack.areas.header pack.pool.contents deck2)) }
         ensures rest { IfOk result (λ bureau. (level : LevelId) → rests level bureau) }
         ensures entries { IfOk result (λ bureau. is_open bureau ≡ true) }
-        ensures fault { IfErr result (λ refused. refused.fault ≡ Refusal.Sectors PoolFault.NoMemory) }
+        ensures fault { IfErr result (λ refused. refused.fault ≡ Refusal.Sectors SectorFault.NoMemory) }
         ensures back { IfErr result (λ refused. S.contents refused.store ≡ pack.pool.stored) }
         ensures failed { IfErr result (λ refused. S.failures refused.store ≡ pack.pool.failures) }
     {
@@ -217,7 +204,7 @@ impl<S: PackStore> Bureau<S> {
             }),
             Err(AllocError) => Err(RefusedStore {
                 store: store_of(pack),
-                fault: Refusal::Sectors(PoolFault::NoMemory),
+                fault: Refusal::Sectors(SectorFault::NoMemory),
             }),
         }
     }
@@ -295,14 +282,12 @@ impl<S: PackStore> Bureau<S> {
         if self.phase != Phase::Open {
             return Err(Stop::Stopped);
         }
-        match self.enter(entry, most) {
-            Ok(taken) => Ok(taken),
-            Err(fault) => Err(stop_of(fault)),
-        }
+        let taken = self.enter(entry, most)?;
+        Ok(taken)
     }
 
     /// Performs an entry in its level, or stops.
-    fn enter(&mut self, entry: Entry, most: NonZeroU16) -> Result<Taken, PoolFault>
+    fn enter(&mut self, entry: Entry, most: NonZeroU16) -> Result<Taken, SectorFault>
         requires { is_open self.old ≡ true }
         ensures { Enters entry.level entry.action (non_zero_u16_get most) result self.old self.new }
     {
@@ -365,14 +350,12 @@ impl<S: PackStore> Bureau<S> {
         if self.phase != Phase::Open {
             return Err(Stop::Stopped);
         }
-        match self.close() {
-            Ok(()) => Ok(()),
-            Err(fault) => Err(stop_of(fault)),
-        }
+        self.close()?;
+        Ok(())
     }
 
     /// Closes both levels, or stops.
-    fn close(&mut self) -> Result<(), PoolFault>
+    fn close(&mut self) -> Result<(), SectorFault>
         requires { is_open self.old ≡ true }
         ensures { Closes result self.old self.new }
     {
@@ -463,14 +446,12 @@ impl<S: PackStore> Bureau<S> {
         if self.phase != Phase::Open {
             return Err(Stop::Stopped);
         }
-        match self.fetch(n, bytes) {
-            Ok(found) => Ok(found),
-            Err(fault) => Err(stop_of(fault)),
-        }
+        let found = self.fetch(n, bytes)?;
+        Ok(found)
     }
 
     /// Reads a sector, if there is one of this number, or stops.
-    fn fetch(&mut self, n: u16, bytes: &mut [u8; 256]) -> Result<bool, PoolFault>
+    fn fetch(&mut self, n: u16, bytes: &mut [u8; 256]) -> Result<bool, SectorFault>
         requires { is_open self.old ≡ true }
         ensures { Fetches n result bytes.new self.old self.new }
     {

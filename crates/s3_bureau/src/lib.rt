@@ -11,9 +11,9 @@
 //!   with its queue and its slots stays (`stays`, `spares`), and so do the sectors of the header, the masters and the other
 //!   level, and those that nobody uses, in the store as far as it had them in step (`unchanged`); an entry that is idle or
 //!   refused leaves the pack, the queues and the store as they are (`quiet`);
-//! - `step` stops only where the entry acts in each world held (`memory`); the drained lines stay then (`lines`), a failed
-//!   transfer is counted exactly where it answers `Device` (`failures`), and none is reported for a sector that isn't there;
-//!   labels that say a level's slots still do (`said`), as they do at the opening where no slot is entangled;
+//! - `step` stops only where the entry acts in each world held (`memory`); the drained lines stay then (`lines`), and a failed
+//!   transfer is counted exactly where it answers `Device` (`failures`); labels that say a level's slots still do (`said`), as
+//!   they do at the opening where no slot is entangled;
 //! - `repeat`: an entry so many times, at least once and no more often than asked, each time with that answer (`own`, `times`),
 //!   and all else as for `step`;
 //! - `finish`: where it answers `Ok`, each world is closed (`closes`), the store has what the pool has (`flushed`), and a mount

@@ -1,7 +1,7 @@
 //! A run: a pack, two decks and a script, from bytes to texts and the pack.
 ghost use Rattle.std.specs.Prelude.{◌≡◌, ◌≢◌, ◌≤◌, ◌<◌, ◌+◌, Ok, Err, IfOk, OnOk, replicate, true};
 ghost use Rattle.std.specs.List.{flat_map};
-ghost use Rattle.s3_bureau.specs.Inner.Faults.{TellsRefusal, fault_of_stop};
+ghost use Rattle.s3_bureau.specs.Inner.Faults.{fault_of_stop, told_as};
 ghost use Rattle.s3_bureau.specs.Script.{entries_by};
 ghost use Rattle.s3_bureau.specs.declared.stop.Stop.TheVariants.{Stopped};
 ghost use Rattle.s3_bureau.specs.Inner.Stops.{failed_stop};
@@ -33,7 +33,7 @@ use crate::unwritten::Unwritten;
 use s3_cards::{Deck, LevelId};
 use s3_labels::{Refusal, RefusedStore};
 use s3_level::{Did, Taken};
-use s3_store::{MemoryStore, PackStore, PoolFault};
+use s3_store::{MemoryStore, PackStore, SectorFault};
 use std::alloc::{AllocError, Global};
 use std::num::NonZeroU16;
 
@@ -118,16 +118,14 @@ fn unwritten(
     }
 }
 
-/// What the refusal of a pack is to a run. No refusal names a sector that isn't there.
+/// What the refusal of a pack is to a run.
 pub fn fault_of_refusal(refusal: Refusal) -> RunFault
-    requires { refusal ≢ Refusal.Sectors PoolFault.NoSector }
-    ensures { TellsRefusal refusal result }
+    ensures { result ≡ told_as refusal }
 {
     match refusal {
         Refusal::BadPack(fault) => RunFault::Mount(fault),
-        Refusal::Sectors(PoolFault::Device) => RunFault::Device,
-        Refusal::Sectors(PoolFault::NoMemory) => RunFault::NoMemory,
-        Refusal::Sectors(PoolFault::NoSector) => unreachable!(),
+        Refusal::Sectors(SectorFault::Device) => RunFault::Device,
+        Refusal::Sectors(SectorFault::NoMemory) => RunFault::NoMemory,
     }
 }
 

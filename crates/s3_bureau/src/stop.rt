@@ -1,5 +1,6 @@
 //! Why an entry did nothing.
 
+use s3_store::SectorFault;
 use std::alloc::AllocError;
 use thiserror::Error;
 
@@ -25,5 +26,19 @@ impl From<AllocError> for Stop {
 
     fn from(_: AllocError) -> Stop {
         Stop::NoMemory
+    }
+}
+
+impl From<SectorFault> for Stop {
+    ghost use Rattle.std.specs.Prelude.{◌≡◌};
+    ghost use Rattle.s3_bureau.specs.Inner.Stops.{stop_of};
+
+    ghost from_gives = { λ fault stop. stop ≡ stop_of fault };
+
+    fn from(fault: SectorFault) -> Stop {
+        match fault {
+            SectorFault::Device => Stop::Device,
+            SectorFault::NoMemory => Stop::NoMemory,
+        }
     }
 }

@@ -1,8 +1,8 @@
 -- What a script's fault, a mount's refusal and a stop are to a run, and the number of a mount's.
-use Rattle.std.specs.Prelude.{◌≡◌, ℕ}
+use Rattle.std.specs.Prelude.{ℕ}
 use Rattle.s3_slots.specs.declared.header.MountFault.{MountFault}
 use Rattle.s3_slots.specs.declared.header.MountFault.TheVariants.{BadHeader, BadRegions, Short}
-use Rattle.s3_store.specs.declared.pool_fault.PoolFault.TheVariants.{Device as DeviceFault, NoMemory as NoMemoryFault, NoSector}
+use Rattle.s3_store.specs.declared.sector_fault.SectorFault.TheVariants.{Device as DeviceFault, NoMemory as NoMemoryFault}
 use Rattle.s3_labels.specs.declared.fault.Refusal.{Refusal}
 use Rattle.s3_labels.specs.declared.fault.Refusal.TheVariants.{BadPack, Sectors}
 use Rattle.s3_bureau.specs.declared.script.ScriptFault.{ScriptFault}
@@ -16,12 +16,11 @@ abbrev pub fault_of_script : ScriptFault → RunFault
 fault_of_script ScriptNoMemory = NoMemory
 fault_of_script (Line n) = Script n
 
--- no mount names a sector that isn't there
-abbrev pub TellsRefusal : Refusal → RunFault → Type 0
-TellsRefusal (BadPack fault) told = told ≡ Mount fault
-TellsRefusal (Sectors DeviceFault) told = told ≡ Device
-TellsRefusal (Sectors NoMemoryFault) told = told ≡ NoMemory
-TellsRefusal (Sectors NoSector) told = ⊥
+-- what a mount's refusal is told as
+abbrev pub told_as : Refusal → RunFault
+told_as (BadPack fault) = Mount fault
+told_as (Sectors DeviceFault) = Device
+told_as (Sectors NoMemoryFault) = NoMemory
 
 abbrev pub fault_of_stop : Stop → RunFault
 fault_of_stop StopDevice = Device

@@ -1,9 +1,8 @@
 -- How many printed lines of a level are queued, and what it is to read a sector of the pack.
-use Rattle.std.specs.Prelude.{◌≡◌, ◌≢◌, ◌+◌, ℕ, ◌-◌, Bool, true, false, List, length, slice_get, Option, Some, None, Result, IfOk, IfErr, OnOk, OnErr}
+use Rattle.std.specs.Prelude.{◌≡◌, ◌+◌, ℕ, ◌-◌, Bool, true, false, List, length, slice_get, Option, Some, None, Result, IfOk, OnOk, OnErr}
 use Rattle.s3_store.specs.Inner.Failures.{failed_transfers}
 use Rattle.s3_store.specs.Inner.State.{KeepsContents}
-use Rattle.s3_store.specs.declared.pool_fault.PoolFault.{PoolFault}
-use Rattle.s3_store.specs.declared.pool_fault.PoolFault.TheVariants.{NoSector}
+use Rattle.s3_store.specs.declared.sector_fault.SectorFault.{SectorFault}
 use Rattle.s3_solo.specs.Lines.{Lines}
 use Rattle.s3_bureau.specs.declared.bureau.Phase.TheVariants.{Stopped}
 use Rattle.s3_bureau.specs.Inner.Held.{State, is_open}
@@ -18,7 +17,7 @@ IsFound true sector bytes = sector ≡ Some bytes
 IsFound false sector bytes = sector ≡ None
 
 -- a sector was read, if there is one of this number, or the bureau stopped
-pub record Fetches (n : ℕ) (result : Result Bool PoolFault) (bytes : List ℕ) (old new : State) : Type 0 where
+pub record Fetches (n : ℕ) (result : Result Bool SectorFault) (bytes : List ℕ) (old new : State) : Type 0 where
   pub was_open : is_open old ≡ true
   pub found : IfOk result (λ found. IsFound found (slice_get old.beside.state.contents n) bytes)
   pub one : new.one ≡ old.one
@@ -27,6 +26,5 @@ pub record Fetches (n : ℕ) (result : Result Bool PoolFault) (bytes : List ℕ)
   pub blocks : new.beside.blocks ≡ old.beside.blocks
   pub keeps : KeepsContents old.beside.state new.beside.state
   pub failures : new.beside.state.failures ≡ old.beside.state.failures + failed_transfers result
-  pub fault : IfErr result (λ fault. fault ≢ NoSector)
   pub goes_on : OnOk result (new.phase ≡ old.phase)
   pub stops : OnErr result (new.phase ≡ Stopped)

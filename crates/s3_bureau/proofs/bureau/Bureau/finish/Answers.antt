@@ -1,7 +1,7 @@
 use Rattle.s3_bureau.proofs.bureau.Bureau.finish.Goals as goal
 
-pub returns-in-Ok-clause-mounts : goal.returns-in-Ok-clause-mounts
-returns-in-Ok-clause-mounts g c = λ level w said held. (c.in-Ok.ensures.mounts level said).1 w held.world
+pub returns-clause-mounts : goal.returns-clause-mounts
+returns-clause-mounts g c = λ level w said held. (c.in_ok-close.ensures.mounts level said).1 w held.world
 
-pub returns-in-Ok-clause-untangled : goal.returns-in-Ok-clause-untangled
-returns-in-Ok-clause-untangled g c = λ level said. (c.in-Ok.ensures.mounts level said).0
+pub returns-clause-untangled : goal.returns-clause-untangled
+returns-clause-untangled g c = λ level said. (c.in_ok-close.ensures.mounts level said).0
