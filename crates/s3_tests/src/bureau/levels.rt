@@ -8,7 +8,7 @@ use s3_labels::{Pack, RefusedStore};
 use s3_level::{Did, Level, Taken};
 use s3_pool::Pool;
 use s3_spool::Spool;
-use s3_store::{MemoryStore, PoolFault};
+use s3_store::{MemoryStore, SectorFault};
 use std::num::NonZeroU16;
 use std::test::Fail;
 
@@ -25,7 +25,7 @@ fn take_turns(
     level: &mut Level,
     pack: &mut Pack<Pool<MemoryStore>>,
     spool: &mut Spool,
-) -> Result<(Did, Taken, Did), PoolFault>
+) -> Result<(Did, Taken, Did), SectorFault>
     requires ready { IsReady level.old (seen pack.old.areas pack.old.pool.contents) }
     requires blocks { AreAll spool.old }
 {

@@ -4,7 +4,7 @@ use crate::bureau::packs::new_pack;
 use s3_bureau::{Action, Bureau, Did, Entry, Refusal, RefusedStore, Stop};
 use s3_cards::{Deck, DeckFault, LevelId};
 use s3_labels::ImageFault;
-use s3_store::{MemoryStore, PoolFault};
+use s3_store::{MemoryStore, SectorFault};
 use std::process::Abort;
 use std::test::Fail;
 
@@ -61,7 +61,7 @@ fn lister_ends_or_stays_stopped(rt: HostRuntime) -> Result<(), Fail> {
     let mut bureau = match Bureau::open(rt.alloc(), store, deck, Deck::empty(rt.alloc())) {
         Ok(bureau) => bureau,
         Err(RefusedStore { store: _, fault }) => {
-            assert_eq!(rt; fault, Refusal::Sectors(PoolFault::NoMemory));
+            assert_eq!(rt; fault, Refusal::Sectors(SectorFault::NoMemory));
             return Ok(());
         }
     };

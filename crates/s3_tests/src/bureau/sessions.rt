@@ -3,7 +3,7 @@
 use crate::bureau::packs::Taken;
 use s3_bureau::{Bureau, Entry, Refusal, RefusedStore, Stop};
 use s3_cards::{Deck, DeckFault, LevelId, PrintLine, host_byte};
-use s3_store::{FuseStore, MemoryStore, PoolFault};
+use s3_store::{FuseStore, MemoryStore, SectorFault};
 use std::alloc::Global;
 use std::process::Abort;
 use std::test::Fail;
@@ -78,10 +78,10 @@ pub enum Cause {
 
 impl Cause {
     /// What refuses an opening.
-    fn fault(self) -> PoolFault {
+    fn fault(self) -> SectorFault {
         match self {
-            Cause::Device => PoolFault::Device,
-            Cause::Memory => PoolFault::NoMemory,
+            Cause::Device => SectorFault::Device,
+            Cause::Memory => SectorFault::NoMemory,
         }
     }
 

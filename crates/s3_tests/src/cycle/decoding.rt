@@ -166,13 +166,12 @@ const INPUTS: &str = "6:I 7:CARDS 15:AA 19:01
 6:I 46:15 50:20 53:LONG 69:20
 6:I 46:21 50:25 52:0 53:TWO 63:02
 6:I 7:STOCK 15:BB 19:03
-6:I 43:P 47:1 51:3 52:0 53:PACKED
-6:I 43:P 47:4 51:7 52:0 53:SHORT";
+6:I 43:P 47:1 51:5 52:0 53:PACKED
+6:I 43:P 47:1 51:4 52:0 53:SHORT";
 
 fn name_of_input(form: &InputForm) -> &'static str {
     match form {
         InputForm::Zoned(_) => "zoned",
-        InputForm::LateZoned(_) => "late zoned",
         InputForm::LongZoned(_) => "long zoned",
         InputForm::Packed(_) => "packed",
         InputForm::ShortPacked(_) => "short packed",
@@ -194,7 +193,7 @@ fn fields_get_their_forms(rt: HostRuntime) -> Result<(), Fail> {
     }
     assert_eq!(&rt;
         names.as_str(),
-        "type, codes, zoned, text, text, late zoned, type, packed, short packed"
+        "type, codes, zoned, text, text, zoned, type, packed, short packed"
     );
     Ok(())
 }

@@ -1,7 +1,8 @@
 //! Files that are lists of records.
 
 use crate::cycle::sources::{codes_of, list_codes};
-use s3_cycle::{Current, Sought};
+use s3_cycle::Sought;
+use s3_meaning::Current;
 use s3_operator::HaltCode;
 use s3_output::composition::Composition;
 use std::alloc::{AllocError, Global};

@@ -9,7 +9,7 @@ use s3_cards::ebcdic::{BLANK, LETTER_A, LETTER_B, LETTER_C};
 use s3_cards::{LevelId, Name, Retention};
 use s3_keyed::{Keyed, KeyedFault};
 use s3_labels::{LabelFault, MountFault, NewFile, Organization, Pack, Refusal, Refused, Size};
-use s3_store::{MemoryStore, PoolFault, Sectors};
+use s3_store::{MemoryStore, SectorFault, Sectors};
 use std::alloc::Global;
 use std::process::Abort;
 use std::test::Fail;
@@ -103,7 +103,7 @@ fn letters_on(alloc: Global, store: MemoryStore) -> ([u8; 3], MemoryStore) {
 }
 
 /// Writes a pack with both files, and a byte over one of it. Nothing else of the pack's first labels is left.
-fn write_pack(store: &mut MemoryStore, sector: u16, at: usize, value: u8) -> Result<(), PoolFault>
+fn write_pack(store: &mut MemoryStore, sector: u16, at: usize, value: u8) -> Result<(), SectorFault>
     requires there { 432 ≤ length store.old }
     requires sector { sector < 432 }
     requires within { at < 256 }

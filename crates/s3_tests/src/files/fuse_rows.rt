@@ -7,7 +7,7 @@ use s3_cards::ebcdic::BLANK;
 use s3_cards::{LevelId, Name, Retention};
 use s3_keyed::{Keyed, KeyedFault};
 use s3_labels::{ChangeFault, NewFile, Organization, Pack, Refusal, RefusedStore, Size, image};
-use s3_store::{FuseStore, MemoryStore, PoolFault, Sectors, Stretch};
+use s3_store::{FuseStore, MemoryStore, SectorFault, Sectors, Stretch};
 use std::alloc::Global;
 use std::test::Fail;
 use thiserror::Error;
@@ -24,17 +24,17 @@ enum RunFault {
     #[error("the file isn't filled")]
     Fill(KeyedFault),
     #[error("the pack isn't flushed")]
-    Flush(PoolFault),
+    Flush(SectorFault),
 }
 
 /// Whether a transfer failed.
 fn is_device(fault: RunFault) -> bool {
     matches!(
         fault,
-        RunFault::Mount(Refusal::Sectors(PoolFault::Device))
-            | RunFault::Make(ChangeFault::Sectors(PoolFault::Device))
-            | RunFault::Fill(KeyedFault::Pool(PoolFault::Device))
-            | RunFault::Flush(PoolFault::Device)
+        RunFault::Mount(Refusal::Sectors(SectorFault::Device))
+            | RunFault::Make(ChangeFault::Sectors(SectorFault::Device))
+            | RunFault::Fill(KeyedFault::Pool(SectorFault::Device))
+            | RunFault::Flush(SectorFault::Device)
     )
 }
 

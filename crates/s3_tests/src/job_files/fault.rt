@@ -1,7 +1,7 @@
 //! Why a test goes no further.
 
 use s3_labels::{ChangeFault, LabelFault, Refusal};
-use s3_store::PoolFault;
+use s3_store::SectorFault;
 use std::alloc::AllocError;
 use thiserror::Error;
 
@@ -19,13 +19,13 @@ pub enum Fault {
     #[error("the file doesn't take that")]
     Misfit,
     #[error("the sectors refused")]
-    Sectors(PoolFault),
+    Sectors(SectorFault),
     #[error("out of memory")]
     NoMemory,
 }
 
-impl From<PoolFault> for Fault {
-    fn from(fault: PoolFault) -> Self {
+impl From<SectorFault> for Fault {
+    fn from(fault: SectorFault) -> Self {
         Fault::Sectors(fault)
     }
 }

@@ -14,7 +14,7 @@ use s3_lines::sheet::FileLine;
 use s3_ocl::FileStatement;
 use s3_opening::{JobSettings, OpeningFault, open_files};
 use s3_operator::HaltCode;
-use s3_store::{PoolFault, Sectors};
+use s3_store::{SectorFault, Sectors};
 use std::alloc::Global;
 use thiserror::Error;
 
@@ -31,7 +31,7 @@ pub enum Fault {
     #[error("something else was expected")]
     Wrong,
     #[error("the sectors refused")]
-    Sectors(PoolFault),
+    Sectors(SectorFault),
 }
 
 /// What a job halts for.
@@ -46,8 +46,8 @@ pub enum Halt {
     Other,
 }
 
-impl From<PoolFault> for Fault {
-    fn from(fault: PoolFault) -> Self {
+impl From<SectorFault> for Fault {
+    fn from(fault: SectorFault) -> Self {
         Fault::Sectors(fault)
     }
 }

@@ -1,7 +1,7 @@
 //! Rows of the pool: 17 sectors are written, read back and flushed, through 16 buffers.
 
-use s3_pool::Pool;
-use s3_store::{FuseStore, MemoryStore, PackStore, PoolFault, Sectors};
+use s3_pool::{Pool, PoolFault};
+use s3_store::{FuseStore, MemoryStore, PackStore, SectorFault, Sectors};
 use std::alloc::{AllocError, Global};
 use std::test::Fail;
 
@@ -28,6 +28,20 @@ fn set_first_byte<S: PackStore>(pool: &mut Pool<S>, n: u16, byte: u8) -> Result<
 fn first_byte<S: PackStore>(pool: &mut Pool<S>, n: u16) -> Result<u8, PoolFault> {
     let sector = pool.sector(n)?;
     Ok(sector[0])
+}
+
+/// Overwrites a whole sector.
+fn overwrite<S: PackStore>(pool: &mut Pool<S>, n: u16, byte: u8) -> Result<(), PoolFault> {
+    if n >= pool.sector_count() {
+        return Err(PoolFault::NoSector);
+    }
+    pool.write_sector(n, &[byte; 256])?;
+    Ok(())
+}
+
+fn flush<S: PackStore>(pool: &mut Pool<S>) -> Result<(), PoolFault> {
+    pool.flush()?;
+    Ok(())
 }
 
 /// The first bytes of the sectors from the first written one on, of all the sectors' bytes.
@@ -111,11 +125,7 @@ fn a_sector_past_the_last_is_refused(rt: HostRuntime) -> Result<(), Fail> {
 fn a_whole_sector_is_written_without_a_read(rt: HostRuntime) -> Result<(), Fail> {
     let store = FuseStore::new(blank_store(rt.alloc())?, 1);
     let mut pool = Pool::new(rt.alloc(), store).map_err(|_| "memory")?;
-    let written = if FIRST < pool.sector_count() {
-        pool.write_sector(FIRST, &[7; 256])
-    } else {
-        Err(PoolFault::NoSector)
-    };
+    let written = overwrite(&mut pool, FIRST, 7);
     let first = first_byte(&mut pool, FIRST);
     let refused = pool.flush();
     let kept = first_byte(&mut pool, FIRST);
@@ -123,7 +133,7 @@ fn a_whole_sector_is_written_without_a_read(rt: HostRuntime) -> Result<(), Fail>
     let bytes = pool.into_store().into_inner().into_bytes();
     assert_eq!(rt; written, Ok(()));
     assert_eq!(rt; first, Ok(7));
-    assert_eq!(rt; refused, Err(PoolFault::Device));
+    assert_eq!(rt; refused, Err(SectorFault::Device));
     assert_eq!(rt; kept, Ok(7));
     assert_eq!(rt; flushed, Ok(()));
     assert_eq!(rt; first_bytes(&bytes)[0], 7);
@@ -135,11 +145,7 @@ fn a_whole_sector_is_written_without_a_read(rt: HostRuntime) -> Result<(), Fail>
 fn a_spool_block_goes_past_a_full_pool(rt: HostRuntime) -> Result<(), Fail> {
     let mut pool = Pool::new(rt.alloc(), blank_store(rt.alloc())?).map_err(|_| "memory")?;
     let filled = write_first(&mut pool, COUNT - 1);
-    let put = if BLOCK < pool.sector_count() {
-        pool.write_sector(BLOCK, &[7; 256])
-    } else {
-        Err(PoolFault::NoSector)
-    };
+    let put = overwrite(&mut pool, BLOCK, 7);
     let bytes = pool.into_store().into_bytes();
     assert_eq!(rt; filled, Ok(()));
     assert_eq!(rt; put, Ok(()));
@@ -165,7 +171,7 @@ impl Run {
         second: Result<T, PoolFault>,
         wanted: T,
     ) {
-        if first == Err(PoolFault::Device) {
+        if first == Err(PoolFault::Sectors(SectorFault::Device)) {
             self.faults = self.faults.saturating_add(1);
             self.is_right &= second == Ok(wanted);
         } else {
@@ -192,8 +198,8 @@ fn run_all<S: PackStore>(pool: &mut Pool<S>) -> Run {
         let second = first_byte(pool, n);
         run.note(first, second, i + 1);
     }
-    let first = pool.flush();
-    let second = pool.flush();
+    let first = flush(pool);
+    let second = flush(pool);
     run.note(first, second, ());
     run
 }

@@ -1,7 +1,7 @@
 //! Rows of the stores, and of sectors over a store and over a pool.
 
 use s3_pool::Pool;
-use s3_store::{FuseStore, MemoryStore, PackStore, PoolFault, Sectors, StoreFault};
+use s3_store::{FuseStore, MemoryStore, PackStore, SectorFault, Sectors, StoreFault};
 use std::alloc::{AllocError, Global};
 use std::test::Fail;
 
@@ -85,7 +85,7 @@ fn a_fuse_fails_at_its_call_alone(rt: HostRuntime) -> Result<(), Fail> {
 }
 
 /// Copies sector 1 to sector 2, through the trait.
-fn copy_sector<P: Sectors>(sectors: &mut P) -> Result<[u8; 256], PoolFault> {
+fn copy_sector<P: Sectors>(sectors: &mut P) -> Result<[u8; 256], SectorFault> {
     let mut bytes = [0; 256];
     if sectors.sector_count() > 2 {
         sectors.read_sector(1, &mut bytes)?;
