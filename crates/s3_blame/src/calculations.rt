@@ -13,7 +13,7 @@ use crate::walk::Walk;
 use s3_cards::Name;
 use s3_diagnose::rows::row_of;
 use s3_lines::indicator::Indicator;
-use s3_lines::sheet::{CalculationLine, CalculationTime, Designation, Factor, Operation, Shape};
+use s3_lines::sheet::{CalculationLine, CalculationTime, Factor, Operation, Shape};
 use s3_program::row::{Marking, Operand, Pairing, Row, Target};
 use s3_sheets::FaultyEntry;
 use std::alloc::{AllocError, Global};
@@ -275,7 +275,7 @@ fn is_named(factor: Factor) -> bool {
 
 fn is_chained(known: &Known, name: Name) -> bool {
     match known.file(name) {
-        Some(file) => matches!(file.designation, Some(Designation::Chained)),
+        Some(file) => file.is_chained(),
         None => true,
     }
 }

@@ -11,7 +11,7 @@ use crate::parts::{Part, at_fault, entry, entry_alone};
 use crate::walk::{Key, Walk};
 use s3_diagnose::shapes::same_kind_and_length;
 use s3_lines::indicator::Indicator;
-use s3_lines::sheet::{Designation, FieldForm, FieldLine, InputLine, Shape};
+use s3_lines::sheet::{FieldForm, FieldLine, InputLine};
 use s3_sheets::FaultyEntry;
 use std::alloc::{AllocError, Global};
 
@@ -145,7 +145,7 @@ fn meet(one: Option<Indicator>, other: Option<Indicator>) -> bool {
 /// a field above has it in the same type.
 fn is_bad_key(walk: &Walk, field: &FieldLine, key: Key) -> bool {
     let is_chained = match &walk.input_file {
-        Some(file) => matches!(file.designation, Some(Designation::Chained)),
+        Some(file) => file.is_chained(),
         None => false,
     };
     let disagrees = match walk.first_shape(key) {

@@ -8,7 +8,7 @@ ghost use Rattle.s3_blame.specs.Inner.Marks.{span, are_of};
 use crate::known::Known;
 use crate::parts::{Part, at_fault, entry, entry_alone};
 use crate::walk::Walk;
-use s3_diagnose::files::{allows_output, has_spacing, is_in_table, is_printer};
+use s3_diagnose::files::{allows_output, has_spacing, is_in_table};
 use s3_edit::EditCode;
 use s3_lines::sheet::{OutputCard, OutputContent, OutputField, OutputForm, OutputLine, Shape};
 use s3_sheets::FaultyEntry;
@@ -77,7 +77,7 @@ fn disallowed_parts(known: &Known, walk: &Walk, line: &OutputCard) -> [Part; 6]
         Some(file) => (
             !allows_output(file, line.is_addition),
             is_in_table(file) && (line.is_addition || file.has_additions),
-            has_spacing(&line.spacing) && !is_printer(file.device),
+            has_spacing(&line.spacing) && !file.device.is_printer(),
         ),
         None => (true, false, false),
     };

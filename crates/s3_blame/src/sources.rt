@@ -1,5 +1,5 @@
 //! The diagnostics of a source.
-ghost use Rattle.std.specs.Prelude.{◌≡◌, ◌≤◌, ◌<◌, ◌+◌, length, slice_range, IfOk, IsTrue};
+ghost use Rattle.std.specs.Prelude.{◌≡◌, ◌≤◌, ◌<◌, length, slice_range, IfOk, IsTrue};
 ghost use Rattle.s3_lines.specs.Inner.Ranges.{are_read};
 ghost use Rattle.s3_diagnose.specs.Diagnostics.{compile_diagnostics};
 ghost use Rattle.s3_blame.specs.Inner.Sources.{found_from};

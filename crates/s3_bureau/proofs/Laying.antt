@@ -5,7 +5,8 @@ use Rattle.std.specs.Fmt.{decimal}
 use Rattle.std.specs.Int.{from_le_bytes, to_le_bytes, w16}
 use Rattle.std.proofs.lemmas.List.{map-append, take_more_set, length-set, take-replicate}
 use Rattle.std.proofs.lemmas.Grind.{take-set_at}
-use Rattle.s3_bureau.specs.Texts.{in_digits, shown_byte}
+use Rattle.s3_cards.specs.Codes.{shown_byte}
+use Rattle.s3_bureau.specs.Texts.{in_digits}
 use Rattle.s3_bureau.specs.Inner.Underway.{IsLaid, ShowsPairs}
 
 -- two more bytes

@@ -14,7 +14,6 @@ pub mod OtherLevel
 pub mod Performing
 pub mod Running
 pub mod Scripts
-pub mod Trimming
 pub mod MigratedTexts
 pub mod Queued
 pub mod MigratedRecords

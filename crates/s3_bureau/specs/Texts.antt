@@ -1,29 +1,15 @@
 -- The report of printed lines and the text of halts, as bytes.
-use Rattle.std.specs.Prelude.{ℕ, ◌-◌, ◌==◌, List, [], ◌∷◌, ◌++◌, Option, Some, None, codes, length, map, replicate, unwrap_or, if◌then◌else◌}
+use Rattle.std.specs.Prelude.{ℕ, ◌-◌, List, [], ◌∷◌, ◌++◌, Option, Some, None, codes, length, map, replicate}
 use Rattle.std.specs.List.{flat_map}
 use Rattle.std.specs.Fmt.{decimal}
-use Rattle.s3_cards.specs.Codes.{host_of}
-use Rattle.s3_cards.specs.Printed.{Printed}
+use Rattle.s3_cards.specs.Codes.{shown_byte}
+use Rattle.s3_cards.specs.Printed.{Printed, trimmed}
 use Rattle.s3_operator.specs.Halts.{ShownHalt}
 use Rattle.s3_operator.specs.Table.{letters_of}
 
 -- a number in at least so many decimal digits
 abbrev pub in_digits : ℕ → ℕ → List ℕ
 in_digits width number = replicate (width - length (decimal number)) 48 ++ decimal number
-
--- the byte that shows an EBCDIC code: its character, or a question mark
-abbrev pub shown_byte : ℕ → ℕ
-shown_byte code = unwrap_or (host_of code) 0x3f
-
--- a code before a text that ends in no blank
-abbrev pub before_trimmed : ℕ → List ℕ → List ℕ
-before_trimmed code [] = if code == 0x40 then [] else code ∷ []
-before_trimmed code (next ∷ rest) = code ∷ next ∷ rest
-
--- a text without the blanks at its end
-abbrev pub trimmed : List ℕ → List ℕ
-trimmed [] = []
-trimmed (code ∷ codes) = before_trimmed code (trimmed codes)
 
 -- page and line of a printed line, and its text
 unfoldable pub report_line : Printed → List ℕ

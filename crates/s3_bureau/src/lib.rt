@@ -65,6 +65,7 @@ pub use laws::{
     each_level_takes_its_own_entries, halt_texts_are_written, no_level_learns_of_the_other,
     other_entries_make_no_difference, reports_are_written, scripts_are_read,
 };
+pub use number::push_number;
 pub use outcome::{LevelTexts, Outcome};
 pub use report::{REPORT_ROOM, ReportTables};
 pub use run_fault::{RunFault, mount_number};

@@ -1,11 +1,11 @@
 //! A level's report: its printed lines as a text.
 ghost use Rattle.std.specs.Prelude.{◌≡◌, ◌++◌, ◌∷◌, [], ◌≤◌, ◌<◌, ◌+◌, length, map, take, IfOk};
-ghost use Rattle.s3_bureau.specs.Texts.{in_digits, shown_byte, trimmed, report_line, report_of};
+ghost use Rattle.s3_cards.specs.Codes.{shown_byte};
+ghost use Rattle.s3_bureau.specs.Texts.{in_digits, report_line, report_of};
 ghost use Rattle.s3_bureau.specs.Inner.Underway.{AreTables, HasOnes, HasTens, IsLaid, ShowsCodes, ShowsPairs, ShowsPairsWith};
 
 use itoa::Buffer;
-use s3_cards::ebcdic::BLANK;
-use s3_cards::{PRINT_POSITIONS, PrintLine, host_byte};
+use s3_cards::{PRINT_POSITIONS, PrintLine, host_byte, trim_end};
 use std::alloc::{AllocError, Global};
 
 /// The most bytes of a line of a report: page and line in up to five digits with a blank behind each, the text, and what ends it.
@@ -284,58 +284,4 @@ fn last_digits() -> [u8; 100]
         digits[number] = b'0' + (number % 10) as u8;
     }
     digits
-}
-
-/// A text without the blanks at its end.
-fn trim_end(text: &[u8]) -> &[u8]
-    ensures value { result.now ≡ trimmed text.now }
-    ensures shorter { length result.now ≤ length text.now }
-{
-    trim_blanks(trim_fours(trim_sixteens(text)))
-}
-
-/// A text without those blanks at its end that stand by sixteens, as in the 132 positions of a short line.
-fn trim_sixteens(text: &[u8]) -> &[u8]
-    ensures value { trimmed result.now ≡ trimmed text.now }
-    ensures shorter { length result.now ≤ length text.now }
-{
-    let mut rest = text;
-    while let Some((front, last)) = rest.split_last_chunk::<16>() {
-        if *last != [BLANK; 16] {
-            return rest;
-        }
-        rest = front;
-    }
-    rest
-}
-
-/// A text without those blanks at its end that stand by fours.
-fn trim_fours(text: &[u8]) -> &[u8]
-    ensures value { trimmed result.now ≡ trimmed text.now }
-    ensures shorter { length result.now ≤ length text.now }
-{
-    let mut rest = text;
-    while let Some((front, last)) = rest.split_last_chunk::<4>() {
-        if *last != [BLANK; 4] {
-            return rest;
-        }
-        rest = front;
-    }
-    rest
-}
-
-/// A text without the blanks at its end, taken off one by one.
-#[tactic(auto, using(crate::proofs::Trimming::trimmed_blank, crate::proofs::Trimming::trimmed_whole))]
-fn trim_blanks(text: &[u8]) -> &[u8]
-    ensures value { result.now ≡ trimmed text.now }
-    ensures shorter { length result.now ≤ length text.now }
-{
-    let mut rest = text;
-    while let Some((last, front)) = rest.split_last() {
-        if *last != BLANK {
-            return rest;
-        }
-        rest = front;
-    }
-    rest
 }

@@ -1,7 +1,5 @@
 //! A run that is over, before its reports are written.
 ghost use Rattle.std.specs.Prelude.{◌≡◌, IfOk};
-ghost use Rattle.std.specs.List.{concat};
-ghost use Rattle.s3_store.specs.Contents.{sectors_of};
 ghost use Rattle.s3_bureau.specs.Runs.{outcome_texts};
 ghost use Rattle.s3_bureau.specs.Inner.Held.{lines_at};
 ghost use Rattle.s3_bureau.specs.Inner.Unwritten.{SavesAs, unwritten_texts};

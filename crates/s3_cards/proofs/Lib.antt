@@ -3,3 +3,4 @@ pub mod DeckLemmas
 pub mod NameLemmas
 pub mod NumberLemmas
 pub mod LineLemmas
+pub mod Trimming

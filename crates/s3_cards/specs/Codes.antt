@@ -22,6 +22,10 @@ ebcdic_of character = option_map (λ entry. entry.0) (find (λ entry. entry.1 ==
 abbrev pub host_of : ℕ → Option ℕ
 host_of code = option_map (λ entry. entry.1) (find (λ entry. entry.0 == code) code_page)
 
+-- the byte that shows an EBCDIC code: its character, or a question mark
+abbrev pub shown_byte : ℕ → ℕ
+shown_byte code = unwrap_or (host_of code) 0x3f
+
 -- the codes of a text of card characters
 unfoldable pub ebcdic : List ℕ → List ℕ
 ebcdic characters = map (λ character. unwrap_or (ebcdic_of character) 0) characters

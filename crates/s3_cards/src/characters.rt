@@ -1,6 +1,6 @@
 //! The code page: which characters a card can have, and their EBCDIC codes.
 ghost use Rattle.std.specs.Prelude.{◌≡◌, ◌↔◌, ℕ, Some, unwrap_or};
-ghost use Rattle.s3_cards.specs.Codes.{ebcdic_of, host_of};
+ghost use Rattle.s3_cards.specs.Codes.{ebcdic_of, host_of, shown_byte};
 ghost use Rattle.s3_cards.specs.Inner.Codes.{codes_of_bytes, hosts_of_codes};
 
 /// The EBCDIC code of each byte of a text, and 0 for a byte that is no card character.
@@ -107,7 +107,7 @@ pub fn to_host(code: u8) -> Option<char>
 #[inline]
 #[tactic(auto, using(crate::proofs::CodeLemmas::no_host, crate::proofs::CodeLemmas::its_host))]
 pub fn host_byte(code: u8) -> u8
-    ensures { result ≡ unwrap_or (host_of code) 0x3f }
+    ensures { result ≡ shown_byte code }
 {
     match hosts()[code as usize] {
         0 => b'?',

@@ -1,5 +1,5 @@
 -- What cells of numbers are taken as.
-use Rattle.std.proofs.Common.{◌≡◌, ℕ, ℤ, ◌+◌, ◌-◌, ◌*◌, ◌^◌, ◌<◌, ◌≤◌, ◌∙◌, refl, sym, ap, ap₂, subst, arith, true, ◌&&◌, zero, suc, List, [], ◌∷◌, ◌++◌, length, take, drop, append_assoc, unsigned_abs}
+use Rattle.std.proofs.Common.{◌≡◌, ℕ, ℤ, ◌+◌, ◌-◌, ◌*◌, ◌^◌, ◌<◌, ◌≤◌, ◌∙◌, sym, ap, ap₂, subst, arith, true, ◌&&◌, zero, suc, List, [], ◌∷◌, ◌++◌, length, take, drop, append_assoc, unsigned_abs}
 use Rattle.std.proofs.lemmas.List.{drop_all, length-drop, length-take-le}
 use Rattle.s3_cells.specs.Inner.Fields.{Takes}
 use Rattle.s3_cells.specs.declared.field.Field.{Field}

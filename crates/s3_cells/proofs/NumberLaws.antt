@@ -1,19 +1,19 @@
 -- What numbers, their bytes and their texts make of each other.
-use Rattle.std.proofs.Common.{◌≡◌, ℕ, ℤ, pos, negsuc, ◌+◌, ◌-◌, ◌*◌, ◌%◌, ◌^◌, ◌<◌, ◌≤◌, refl, arith, sym, ◌∙◌, ap, ap₂, Bool, true, false, ◌&&◌, ◌||◌, not, cond, suc, zero, List, [], ◌∷◌, ◌++◌, map, length, take, drop, replicate, append_assoc, nat_le, nat_lt, unsigned_abs, inl, inr, subst}
-use Rattle.std.specs.Prelude.{Option, Some, None}
+use Rattle.std.proofs.Common.{◌≡◌, ℕ, ℤ, pos, negsuc, ◌+◌, ◌-◌, ◌*◌, ◌%◌, ◌^◌, ◌<◌, ◌≤◌, refl, arith, sym, ◌∙◌, ap, ap₂, Bool, true, false, ◌&&◌, not, cond, suc, zero, List, [], ◌∷◌, ◌++◌, map, length, take, drop, replicate, nat_le, nat_lt, unsigned_abs, inl, inr, subst}
+use Rattle.std.specs.Prelude.{Some}
 use Rattle.std.specs.Option.{option_map}
 use Rattle.std.specs.Bool.{◌==◌}
 use Rattle.std.specs.List.{after_first, before_first, list_all, position_or_len}
-use Rattle.std.proofs.lemmas.Bool.{and_parts, cases_Bool, eqb-true, ltb-true, ltb-false, lt-ltb, le-leb, ne_eqb}
-use Rattle.std.proofs.lemmas.List.{append-nil, drop_all, length-drop, length-map, length-take-le, map-append, take-append-drop, take_all}
+use Rattle.std.proofs.lemmas.Bool.{and_parts, cases_Bool, eqb-true, ltb-true, lt-ltb, le-leb, ne_eqb}
+use Rattle.std.proofs.lemmas.List.{append-nil, length-drop, length-map, length-take-le, map-append, take-append-drop}
 use Rattle.std.proofs.lemmas.List.Folds.{list_all-append, list_all-map}
 use Rattle.std.proofs.Math.Nat.{mod-eq_of_lt}
 use Rattle.s3_decimal.specs.Exact.{is_negative, signed}
-use Rattle.s3_decimal.specs.Records.{cleaned, digit_at, has_bad_digit, number_of, packed_bytes, packed_digits, packed_number, zoned_bytes, zoned_digits, zoned_number}
+use Rattle.s3_decimal.specs.Records.{cleaned, digit_at, number_of, packed_digits, packed_number, zoned_bytes, zoned_digits, zoned_number}
 use Rattle.s3_decimal.proofs.Bounds.{unsigned_abs-signed}
-use Rattle.s3_decimal.proofs.DigitsRead.{length-cleaned, length-zoned_digits, number_below, packed_below}
+use Rattle.s3_decimal.proofs.DigitsRead.{length-zoned_digits, number_below, packed_below}
 use Rattle.s3_decimal.proofs.DigitsWritten.{digits, length-zoned_bytes, number_of_digits, zoned_digits_written}
-use Rattle.s3_cells.specs.Inner.Numbers.{are_digits, decimals_text, digit_character, digit_value, fifteen, has_minus, is_digit, is_point, is_sign, magnitude_in, magnitude_read, number_read, number_text, sign_text, significant, without_sign}
+use Rattle.s3_cells.specs.Inner.Numbers.{decimals_text, digit_character, digit_value, fifteen, has_minus, is_digit, is_point, magnitude_in, magnitude_read, number_read, number_text, sign_text, significant, without_sign}
 use Rattle.s3_cells.proofs.TextLemmas.{drop_behind, some_length, take_behind}
 
 -- ---- digits

@@ -1,9 +1,9 @@
 -- Digits in front of a point and behind it.
-use Rattle.std.proofs.Common.{◌≡◌, ℕ, ◌+◌, ◌-◌, ◌*◌, ◌^◌, ◌<◌, ◌≤◌, refl, arith, sym, ◌∙◌, ap, Bool, true, false, ◌&&◌, cond, suc, zero, List, [], ◌∷◌, ◌++◌, map, length, take, drop, get_or, replicate, append_assoc, min, nat_le, ℤ, unsigned_abs, to_z, of_z, w64, FitsSigned, inl, inr}
+use Rattle.std.proofs.Common.{◌≡◌, ℕ, ◌+◌, ◌-◌, ◌*◌, ◌^◌, ◌<◌, ◌≤◌, refl, arith, sym, ◌∙◌, ap, Bool, true, false, cond, List, [], ◌∷◌, ◌++◌, map, length, take, drop, get_or, replicate, append_assoc, min, nat_le, ℤ, unsigned_abs, to_z, of_z, w64, FitsSigned}
 use Rattle.std.specs.Bool.{◌==◌}
 use Rattle.std.specs.List.{after_first, before_first, position_or_len}
 use Rattle.std.proofs.lemmas.List.{take_more, take_all, map-append, drop_all, length-drop, replicate-append-replicate}
-use Rattle.std.specs.Prelude.{Option, Some, None, MatchOption}
+use Rattle.std.specs.Prelude.{Option, Some, None}
 use Rattle.std.specs.Option.{option_map}
 use Rattle.std.proofs.lemmas.Bool.{eqb-true, le-leb, lt-leb}
 use Rattle.std.proofs.lemmas.Int.{fits_signed_from_abs, to_z-of_z}

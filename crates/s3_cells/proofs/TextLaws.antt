@@ -1,15 +1,14 @@
 -- What texts and their codes make of each other.
-use Rattle.std.proofs.Common.{◌≡◌, ℕ, ◌+◌, ◌-◌, ◌<◌, ◌≤◌, refl, arith, sym, ◌∙◌, ap, ap₂, Bool, true, false, ◌&&◌, cond, suc, zero, List, [], ◌∷◌, ◌++◌, map, length, replicate, append_assoc, nat_le, inl, inr}
+use Rattle.std.proofs.Common.{◌≡◌, ℕ, ◌+◌, ◌-◌, ◌≤◌, refl, arith, sym, ◌∙◌, ap, ap₂, Bool, true, false, ◌&&◌, cond, suc, zero, List, [], ◌∷◌, ◌++◌, map, length, replicate, append_assoc, nat_le}
 use Rattle.std.specs.Prelude.{unwrap_or, is_some, Option, Some, None}
 use Rattle.std.specs.Bool.{◌==◌}
 use Rattle.std.specs.List.{list_all}
-use Rattle.std.proofs.lemmas.Bool.{and_parts, cases_Bool, eqb-true, le-leb}
+use Rattle.std.proofs.lemmas.Bool.{and_parts, eqb-true, le-leb}
 use Rattle.std.proofs.lemmas.List.{append-nil, map-append, length-map}
 use Rattle.std.proofs.lemmas.List.Folds.{list_all-append}
-use Rattle.s3_cards.specs.Codes.{code_page, ebcdic, ebcdic_of, host_of}
-use Rattle.s3_cards.specs.declared.ebcdic.TheConstants.{BLANK}
+use Rattle.s3_cards.specs.Codes.{code_page, ebcdic, ebcdic_of, host_of, shown_byte}
 use Rattle.s3_cards.proofs.CodeLemmas.{both_ways}
-use Rattle.s3_cells.specs.Inner.Texts.{has_character, has_code, shown_byte, text_bytes, trimmed}
+use Rattle.s3_cells.specs.Inner.Texts.{has_character, has_code, text_bytes, trimmed}
 use Rattle.s3_cells.proofs.TextLemmas.{blank_dropped, some_length, trimmed_is, trimmed_nothing}
 
 blank_character : host_of 64 ≡ Some 32

@@ -1,16 +1,16 @@
 -- Texts without the blanks at their end, and their codes.
-use Rattle.std.proofs.Common.{◌≡◌, ℕ, ◌+◌, ◌-◌, ◌<◌, ◌≤◌, refl, arith, sym, ◌∙◌, ap, Bool, true, false, ◌&&◌, cond, suc, zero, List, [], ◌∷◌, ◌++◌, map, length, take, drop, set, get_or, replicate, append_assoc, subst}
-use Rattle.std.specs.Prelude.{unwrap_or, is_some, is_none, Option, Some, None}
+use Rattle.std.proofs.Common.{◌≡◌, ℕ, ◌+◌, ◌-◌, ◌<◌, ◌≤◌, refl, arith, sym, ◌∙◌, ap, true, false, ◌&&◌, cond, suc, zero, List, [], ◌∷◌, ◌++◌, map, length, take, drop, set, get_or, replicate, subst}
+use Rattle.std.specs.Prelude.{unwrap_or, is_some}
 use Rattle.std.specs.Bool.{◌==◌}
 use Rattle.std.proofs.Math.ListN.{length-set}
 use Rattle.std.specs.List.{list_all}
 use Rattle.std.proofs.Common.{inl, inr}
 use Rattle.std.proofs.lemmas.Bool.{cases_Bool, ne_eqb}
-use Rattle.std.proofs.lemmas.List.{drop-replicate, drop-set-lt, take_more, take_more_set, take_all, map-append, length-append, append-nil}
+use Rattle.std.proofs.lemmas.List.{drop-replicate, drop-set-lt, take_more, take_more_set, take_all, map-append, length-append}
 use Rattle.std.proofs.lemmas.List.Folds.{list_all_more, list_all_at}
 use Rattle.s3_cards.specs.Codes.{ebcdic, ebcdic_of, host_of}
 use Rattle.s3_cards.specs.declared.ebcdic.TheConstants.{BLANK}
-use Rattle.s3_cells.specs.Inner.Texts.{has_character, text_bytes, trimmed}
+use Rattle.s3_cells.specs.Inner.Texts.{has_character, trimmed}
 
 pub some_length : (x : ℕ) (xs : List ℕ) → (length (x ∷ xs) == 0) ≡ false
 some_length x xs = ne_eqb (length (x ∷ xs)) 0 (λ e. absurd (omega arith))

@@ -1,5 +1,5 @@
 //! Values by the form of their field: shown from its bytes, and put into them.
-ghost use Rattle.std.specs.Prelude.{◌≡◌, ◌-◌, ◌*◌, ◌+◌, ◌^◌, ◌<◌, ◌≤◌, ◌++◌, true, length, OnOk, OnErr, IfErr};
+ghost use Rattle.std.specs.Prelude.{◌≡◌, ◌-◌, ◌*◌, ◌+◌, ◌<◌, ◌++◌, true, length, OnOk, OnErr, IfErr};
 ghost use Rattle.s3_cells.specs.Inner.Refusals.{IsHidden};
 ghost use Rattle.s3_cells.specs.Inner.Values.{GetsValue, SaysNone, cell_text, is_kind_of, is_shown_in, value_in};
 ghost use Rattle.s3_cells.specs.declared.kind.FieldKind.TheVariants.{Text as TextKind, Zoned, Packed};

@@ -2,13 +2,13 @@
 ghost use Rattle.std.specs.Prelude.{◌≡◌, ◌+◌, ◌*◌, ◌^◌, ◌<◌, ◌≤◌, ◌++◌, ℕ, List, length, map, replicate, min, unsigned_abs, OnOk, IfOk, IfErr, Some, None};
 ghost use Rattle.std.specs.Option.{option_map};
 ghost use Rattle.std.specs.List.{list_all, before_first, after_first, position_or_len};
-ghost use Rattle.s3_decimal.specs.Exact.{is_negative as is_negative_spec, signed};
+ghost use Rattle.s3_decimal.specs.Exact.{is_negative as is_negative_spec};
 ghost use Rattle.s3_decimal.specs.Records.{number_of};
 ghost use Rattle.s3_cells.specs.Inner.Numbers.{digit_character, digit_value, is_digit, is_point, are_digits as are_digits_spec, number_text, decimals_text, sign_text, fifteen, number_read, significant as significant_spec, has_minus as has_minus_spec, without_sign as without_sign_spec, magnitude_read};
 ghost use Rattle.s3_cells.specs.Inner.Refusals.{IsNumberRefusal, IsOfForm};
 
 use crate::fault::CellFault;
-use s3_decimal::{Dec, zoned_write};
+use s3_decimal::{Dec, with_sign, zoned_write};
 use std::alloc::AllocError;
 
 /// How many digits the longest number has.
@@ -233,13 +233,4 @@ fn limit_of(digits: u8) -> u64
     ensures { result ≡ 10 ^ digits }
 {
     10u64.pow(u32::from(digits))
-}
-
-/// A magnitude with a sign.
-fn with_sign(negative: bool, magnitude: u64) -> i64
-    requires { magnitude < 10 ^ 15 }
-    ensures { result ≡ signed negative magnitude }
-{
-    let value = magnitude as i64;
-    if negative { -value } else { value }
 }

@@ -1,11 +1,11 @@
 //! Texts: characters of EBCDIC codes, without the blanks at their end.
 ghost use Rattle.std.specs.Prelude.{◌≡◌, ◌≤◌, ◌<◌, ◌++◌, length, map, take, unwrap_or, OnOk, IfSome, IfNone, true, false};
 ghost use Rattle.std.specs.List.{list_all};
-ghost use Rattle.s3_cards.specs.Codes.{ebcdic_of};
-ghost use Rattle.s3_cells.specs.Inner.Texts.{shown_byte, has_character, has_code, text_bytes, trimmed as trimmed_spec};
+ghost use Rattle.s3_cards.specs.Codes.{ebcdic_of, shown_byte};
+ghost use Rattle.s3_cells.specs.Inner.Texts.{has_character, has_code, text_bytes, trimmed as trimmed_spec};
 
 use s3_cards::ebcdic::BLANK;
-use s3_cards::{code_of_byte, host_byte, to_host};
+use s3_cards::{code_of_byte, push_characters, to_host};
 use std::alloc::AllocError;
 
 /// How many bytes of a text stand in front of the blanks at its end.
@@ -40,16 +40,6 @@ pub fn place_without_character(codes: &[u8]) -> Option<usize>
         }
     }
     None
-}
-
-/// Appends the characters of codes, with a question mark for each that has none.
-fn push_characters(text: &mut Vec<u8>, codes: &[u8]) -> Result<(), AllocError>
-    ensures { OnOk result (text.new.items ≡ text.old.items ++ map shown_byte codes.now) }
-{
-    for code in codes {
-        text.push(host_byte(*code))?;
-    }
-    Ok(())
 }
 
 /// Appends the characters of codes, but for the blanks at their end.

@@ -6,7 +6,7 @@ use serde::{Deserialize, Serialize};
 use std::alloc::{AllocError, Global};
 
 /// A file as it was read or saved.
-#[derive(Debug, Drop, PartialEq, Serialize, Deserialize)]
+#[derive(Drop, Serialize, Deserialize)]
 pub struct NamedFile {
     /// Its name, as it was given.
     pub name: String,
@@ -15,7 +15,7 @@ pub struct NamedFile {
 }
 
 /// What a day was begun with.
-#[derive(Debug, Drop, PartialEq, Serialize, Deserialize)]
+#[derive(Drop, Serialize, Deserialize)]
 pub struct Begun {
     /// Each word of the command but the names of outputs.
     pub words: Vec<String>,
@@ -29,7 +29,7 @@ pub struct Begun {
 }
 
 /// How a job ended.
-#[derive(Clone, Copy, Debug, PartialEq, Eq, Serialize, Deserialize)]
+#[derive(Clone, Copy, PartialEq, Eq, Serialize, Deserialize)]
 #[serde(rename_all = "snake_case")]
 pub enum JobEnd {
     /// It came to its end.
@@ -41,7 +41,7 @@ pub enum JobEnd {
 }
 
 /// Who gave a reply.
-#[derive(Clone, Copy, Debug, PartialEq, Eq, Serialize, Deserialize)]
+#[derive(Clone, Copy, PartialEq, Eq, Serialize, Deserialize)]
 #[serde(rename_all = "snake_case")]
 pub enum Replier {
     /// A rule.

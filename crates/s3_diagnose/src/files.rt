@@ -3,49 +3,7 @@
 ghost use Rattle.std.specs.Prelude.{◌≡◌};
 ghost use Rattle.s3_program.specs.FileTable as spec;
 
-use s3_lines::sheet::{Designation, Device, FileLine, FileUse, Spacing};
-
-fn is_input_use(usage: FileUse) -> bool
-    ensures { result ≡ spec.is_input_use usage }
-{
-    matches!(usage, FileUse::Input)
-}
-
-fn is_output_use(usage: FileUse) -> bool
-    ensures { result ≡ spec.is_output_use usage }
-{
-    matches!(usage, FileUse::Output)
-}
-
-fn is_by_cycle(designation: Option<Designation>) -> bool
-    ensures { result ≡ spec.is_by_cycle designation }
-{
-    matches!(
-        designation,
-        Some(Designation::Primary | Designation::Secondary)
-    )
-}
-
-/// Whether a designation is C.
-pub fn is_chained(designation: Option<Designation>) -> bool
-    ensures { result ≡ spec.is_chained designation }
-{
-    matches!(designation, Some(Designation::Chained))
-}
-
-/// Whether a device is DISK.
-pub fn is_disk(device: Device) -> bool
-    ensures { result ≡ spec.is_disk device }
-{
-    matches!(device, Device::Disk)
-}
-
-/// Whether a device is PRINTER.
-pub fn is_printer(device: Device) -> bool
-    ensures { result ≡ spec.is_printer device }
-{
-    matches!(device, Device::Printer)
-}
+use s3_lines::sheet::{Device, FileLine, FileUse, Spacing};
 
 fn is_plain(file: &FileLine) -> bool
     ensures { result ≡ spec.is_plain file.now }
@@ -56,26 +14,26 @@ fn is_plain(file: &FileLine) -> bool
 fn is_read_from_cards(file: &FileLine) -> bool
     ensures { result ≡ spec.is_read_from_cards file.now }
 {
-    is_input_use(file.usage) && is_by_cycle(file.designation) && is_plain(file)
+    file.usage.is_input() && file.is_by_cycle() && is_plain(file)
 }
 
 fn is_printed(file: &FileLine) -> bool
     ensures { result ≡ spec.is_printed file.now }
 {
-    is_output_use(file.usage) && file.designation.is_none() && is_plain(file)
+    file.usage.is_output() && file.designation.is_none() && is_plain(file)
 }
 
 fn is_read_in_order(file: &FileLine) -> bool
     ensures { result ≡ spec.is_read_in_order file.now }
 {
-    !is_output_use(file.usage) && is_by_cycle(file.designation) && !file.is_random
+    !file.usage.is_output() && file.is_by_cycle() && !file.is_random
 }
 
 fn is_read_by_chain(file: &FileLine) -> bool
     ensures { result ≡ spec.is_read_by_chain file.now }
 {
-    !is_output_use(file.usage)
-        && is_chained(file.designation)
+    !file.usage.is_output()
+        && file.is_chained()
         && file.is_random
         && (file.is_indexed || !file.has_additions)
 }
@@ -83,14 +41,14 @@ fn is_read_by_chain(file: &FileLine) -> bool
 fn is_loaded(file: &FileLine) -> bool
     ensures { result ≡ spec.is_loaded file.now }
 {
-    is_output_use(file.usage) && file.designation.is_none() && !file.is_random
+    file.usage.is_output() && file.designation.is_none() && !file.is_random
 }
 
 fn is_direct_load(file: &FileLine) -> bool
     ensures { result ≡ spec.is_direct_load file.now }
 {
-    is_output_use(file.usage)
-        && is_chained(file.designation)
+    file.usage.is_output()
+        && file.is_chained()
         && file.is_random
         && !file.is_keyed
         && !file.is_indexed
@@ -142,14 +100,14 @@ pub fn is_card_file(file: &FileLine) -> bool
 pub fn is_print_file(file: &FileLine) -> bool
     ensures { result ≡ spec.is_print_file file.now }
 {
-    is_printer(file.device) && is_printed(file)
+    file.device.is_printer() && is_printed(file)
 }
 
 /// Whether a file may have record lines: it is read, or loaded directly.
 pub fn allows_records(file: &FileLine) -> bool
     ensures { result ≡ spec.allows_records file.now }
 {
-    !is_output_use(file.usage) || (is_disk(file.device) && is_direct_load(file))
+    !file.usage.is_output() || (file.device.is_disk() && is_direct_load(file))
 }
 
 fn is_addition_allowed(usage: FileUse, has_additions: bool, is_addition: bool) -> bool
@@ -169,7 +127,7 @@ pub fn allows_output(file: &FileLine, is_addition: bool) -> bool
     if is_in_table(file) {
         is_addition_allowed(file.usage, file.has_additions, is_addition)
     } else {
-        !is_input_use(file.usage)
+        !file.usage.is_input()
     }
 }
 

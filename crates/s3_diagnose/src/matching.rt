@@ -6,7 +6,6 @@ ghost use Rattle.s3_program.specs.Matching as spec;
 ghost use Rattle.s3_diagnose.specs.Inner.Ranged.{is_ranged_field, is_ranged_input};
 ghost use Rattle.s3_diagnose.specs.Inner.Shown.{marks_shown};
 
-use crate::files::is_chained;
 use crate::indications::has_sign_of_text;
 use crate::shapes::{same_kind_and_length, shape_of_field};
 use crate::tables::MarkTables;
@@ -130,7 +129,7 @@ fn is_chained_meant(meaning: &Meaning) -> bool
     ensures { result ≡ spec.is_chained_meant meaning.now }
 {
     match meaning {
-        Meaning::File(file) => is_chained(file.designation),
+        Meaning::File(file) => file.is_chained(),
         _ => false,
     }
 }

@@ -3,7 +3,6 @@
 ghost use Rattle.std.specs.Prelude.{◌≡◌};
 ghost use Rattle.s3_program.specs.Operands as spec;
 
-use crate::files::is_chained;
 use crate::rows::row_of;
 use crate::shapes::{is_numeric_shape, is_text_shape, shape_meant};
 use crate::undefined::is_undefined;
@@ -61,7 +60,7 @@ fn is_chained_meaning(meaning: &Meaning) -> bool
     ensures { result ≡ spec.is_chained_meaning meaning.now }
 {
     match meaning {
-        Meaning::File(file) => is_chained(file.designation),
+        Meaning::File(file) => file.is_chained(),
         _ => false,
     }
 }

@@ -4,8 +4,7 @@ ghost use Rattle.std.specs.Prelude.{◌≡◌};
 ghost use Rattle.s3_program.specs.Uses as spec;
 
 use crate::files::{
-    allows_output, allows_records, has_spacing, is_card_file, is_disk, is_in_table, is_print_file,
-    is_printer,
+    allows_output, allows_records, has_spacing, is_card_file, is_in_table, is_print_file,
 };
 use s3_lines::sheet::{
     FieldForm, FileLine, InputLine, OutputCard, OutputContent, OutputForm, OutputLine,
@@ -27,7 +26,7 @@ fn is_off_disk(meaning: &Meaning) -> bool
     ensures { result ≡ spec.is_off_disk meaning.now }
 {
     match meaning {
-        Meaning::File(file) => !is_disk(file.device),
+        Meaning::File(file) => !file.device.is_disk(),
         _ => false,
     }
 }
@@ -64,7 +63,7 @@ fn file_refuses(card: &OutputCard<Meaning>, meaning: &Meaning) -> bool
 {
     match meaning {
         Meaning::File(file) => !allows_output(file, card.is_addition)
-            || (has_spacing(&card.spacing) && !is_printer(file.device)),
+            || (has_spacing(&card.spacing) && !file.device.is_printer()),
         _ => false,
     }
 }

@@ -1,9 +1,9 @@
 //! The file for which a job doesn't start. The halt is known, so each file is asked for that alone.
 
 use s3_cards::{LevelId, Name, Retention};
-use s3_labels::{AreaSlots, FileLabel, Organization, Slot, Standing};
+use s3_labels::{AreaSlots, FileLabel, Organization, Slot, Standing, area_of};
 use s3_lines::indicator::Indicator;
-use s3_lines::sheet::{Device, FileLine, FileUse, Line, SheetLine};
+use s3_lines::sheet::{FileLine, Line, SheetLine};
 use s3_ocl::FileStatement;
 use s3_operator::HaltCode;
 use s3_slots::standing_of;
@@ -72,7 +72,7 @@ impl<'a> Asked<'a> {
 
     /// Whether a file is on the pack, and the switch that its F line names is on.
     fn is_used(&self, line: &FileLine) -> bool {
-        matches!(line.device, Device::Disk) && self.is_switched_on(line.condition)
+        line.device.is_disk() && self.is_switched_on(line.condition)
     }
 
     fn is_switched_on(&self, condition: Option<Indicator>) -> bool {
@@ -130,7 +130,7 @@ impl<'a> Asked<'a> {
             Found::Nothing => matches!(code, HaltCode::NoLabel),
             Found::Damage(_) => matches!(code, HaltCode::DamagedLabel),
             Found::File(label, area) => match code {
-                HaltCode::MasterForUpdate => area == MASTERS && !is_only_read(line),
+                HaltCode::MasterForUpdate => area == MASTERS && !line.is_only_read(),
                 HaltCode::LabelMismatch => !is_of_layout(line, &label),
                 HaltCode::BadIndex => label.organization == Organization::Indexed,
                 _ => false,
@@ -161,21 +161,9 @@ impl<'a> Asked<'a> {
     }
 }
 
-/// The number of a level's area.
-pub(crate) fn area_of(level: LevelId) -> u16 {
-    match level {
-        LevelId::One => 1,
-        LevelId::Two => 2,
-    }
-}
-
 /// Whether the start of the job makes a file: it is a load.
 pub fn is_made(line: &FileLine) -> bool {
-    matches!(line.usage, FileUse::Output) && !line.has_additions
-}
-
-fn is_only_read(line: &FileLine) -> bool {
-    matches!(line.usage, FileUse::Input) && !line.has_additions
+    line.usage.is_output() && !line.has_additions
 }
 
 /// The length and the first position of a line's key, 0 and 0 where it has none.

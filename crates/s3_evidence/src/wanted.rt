@@ -1,15 +1,15 @@
 //! What is to be read of the pack for a halt.
 
-use crate::at_fault::{Asked, Found, JobFile, area_of, is_made};
+use crate::at_fault::{Asked, Found, JobFile, is_made};
 use crate::begun::{Begun, Source};
 use s3_bureau::Bureau;
 use s3_cards::{LevelId, Name};
 use s3_cycle::{Cycle, Stand};
 use s3_job_files::OpenFile;
-use s3_labels::{FileLabel, Organization, Slot};
+use s3_labels::{FileLabel, Organization, Slot, area_of};
 use s3_level::Level;
 use s3_lines::sheet::{
-    CalculationTime, Designation, FileLine, Line, Operation, OutputKind, OutputLine, SheetLine,
+    CalculationTime, FileLine, Line, Operation, OutputKind, OutputLine, SheetLine,
 };
 use s3_operator::HaltCode;
 use s3_store::PackStore;
@@ -146,7 +146,7 @@ fn current_of(
     source: &Source,
     place: usize,
 ) -> Option<RecordPlace> {
-    if matches!(line.designation, Some(Designation::Chained)) {
+    if line.is_chained() {
         return file.chained.map(RecordPlace::InOrder);
     }
     if !source.reads_one_file() || !source.is_at_detail_time(place) {

@@ -1,5 +1,5 @@
 //! The sectors that a file takes.
-ghost use Rattle.std.specs.Prelude.{◌≡◌, ◌≤◌, ◌<◌, ◌+◌, ℕ, List, length, slice_get, Some, nat_eq};
+ghost use Rattle.std.specs.Prelude.{◌≡◌, ◌<◌, ◌+◌, ℕ, List, length, slice_get, Some, nat_eq};
 ghost use Rattle.std.specs.List.{All, IsDistinct};
 ghost use Rattle.s3_store.specs.Stretches.{sectors_in};
 

@@ -2,11 +2,12 @@
 
 use crate::cards::DeckCards;
 use s3_blame::{FaultyEntry, columns_of, diagnostic_words, entries_of};
+use s3_cards::trim_end;
 use s3_deck_jobs::{Statements, keyword_columns};
 use s3_evidence::Begun;
 use s3_lines::Diagnostic;
 use s3_operator::{Halt, HaltCode};
-use s3_ruled::{Columns, push_marks, push_under_ruler, without_blanks_behind};
+use s3_ruled::{Columns, push_marks, push_under_ruler};
 use std::alloc::{AllocError, Global};
 
 /// The most details that are shown.
@@ -82,7 +83,7 @@ fn marked_for(
     let mut marked = Vec::new(alloc);
     if matches!(code, HaltCode::FaultyJob) {
         if let Some(card) = cards.card(usize::from(diagnostic.card)) {
-            let to = without_blanks_behind(card).len().max(1);
+            let to = trim_end(card).len().max(1);
             marked.push(Columns { from: 1, to })?;
         }
     } else if begun

@@ -1,7 +1,6 @@
 //! The files of a job at work.
-ghost use Rattle.std.specs.Prelude.{◌≡◌, ◌<◌, ◌+◌, ◌++◌, [], ◌∷◌, true, false, length, map, slice_get, nat_eq, IfOk, IfSome, OnOk};
+ghost use Rattle.std.specs.Prelude.{◌≡◌, ◌<◌, ◌+◌, ◌++◌, [], ◌∷◌, true, false, length, map, slice_get, IfOk, IfSome, OnOk};
 ghost use Rattle.std.specs.List.{list_any, position_from};
-ghost use Rattle.std.specs.Cmp.Lexicographic.{pointwise};
 ghost use Rattle.s3_cards.specs.Names.{same_name};
 ghost use Rattle.s3_store.specs.Inner.State.{KeepsContents, KeepsInStep};
 ghost use Rattle.s3_store.specs.Inner.Failures.{failed_transfers};
@@ -17,7 +16,7 @@ ghost use Rattle.s3_job_files.specs.Inner.Records.{changes_of};
 use crate::closing::close_all;
 use crate::file::OpenFile;
 use crate::records::Put;
-use s3_cards::{LevelId, Name};
+use s3_cards::{LevelId, Name, are_same_eight};
 use s3_labels::Pack;
 use s3_meaning::Current;
 use s3_store::{SectorFault, Sectors};
@@ -32,13 +31,6 @@ pub struct JobFiles {
     pub files: Vec<OpenFile>,
 }
 
-/// Whether the codes of two names are the same, compared at once and not one by one.
-fn are_same(codes: &[u8; 8], others: &[u8; 8]) -> bool
-    ensures { result ≡ pointwise nat_eq codes.now others.now }
-{
-    u64::from_be_bytes(*codes) == u64::from_be_bytes(*others)
-}
-
 /// The first file that the program knows by this name.
 fn position_of(files: &Vec<OpenFile>, name: Name) -> Option<usize>
     ensures place { result ≡ position_from (λ file. same_name file.name name) 0 files.now.items }
@@ -46,7 +38,7 @@ fn position_of(files: &Vec<OpenFile>, name: Name) -> Option<usize>
 {
     files
         .iter()
-        .position(|file| are_same(&file.name.codes, &name.codes))
+        .position(|file| are_same_eight(&file.name.codes, &name.codes))
 }
 
 impl JobFiles {

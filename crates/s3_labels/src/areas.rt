@@ -1,5 +1,5 @@
 //! The slots of the three areas, as a mount has judged them and calls have changed them since.
-ghost use Rattle.std.specs.Prelude.{◌≡◌, ◌≤◌, ◌<◌, ◌+◌, length, slice_get, Ok, Err, Some, None, true, OnOk, OnErr, IfOk, IfErr, IfSome};
+ghost use Rattle.std.specs.Prelude.{◌≡◌, ◌≤◌, ◌<◌, length, slice_get, Ok, Err, Some, None, true, OnOk, OnErr, IfOk, IfErr, IfSome};
 ghost use Rattle.std.specs.List.{position_from};
 ghost use Rattle.s3_slots.specs.Header.{quota_of};
 ghost use Rattle.s3_slots.specs.Slots.{are_extents, bears, standing};

@@ -1,5 +1,5 @@
 //! A pack.
-ghost use Rattle.std.specs.Prelude.{◌≡◌, ◌≢◌, ◌≤◌, ◌<◌, ◌+◌, ℕ, length, slice_get, replicate, Ok, Err, Some, true, OnOk, OnErr, IsOk, ◌⊎◌, IfOk, IfErr};
+ghost use Rattle.std.specs.Prelude.{◌≡◌, ◌≢◌, ◌≤◌, ◌<◌, ◌+◌, ℕ, length, slice_get, replicate, Ok, Err, Some, true, OnOk, IsOk, ◌⊎◌, IfOk, IfErr};
 ghost use Rattle.std.specs.List.{All, position_from};
 ghost use Rattle.s3_store.specs.Inner.State.{KeepsContents, ChangesWithin};
 ghost use Rattle.s3_slots.specs.Header.{mounted};
@@ -273,7 +273,7 @@ fn know_widths(new: &NewFile)
 }
 
 /// The number of a level's area, 1 or 2.
-fn area_of(level: LevelId) -> u16
+pub fn area_of(level: LevelId) -> u16
     ensures value { result ≡ area_of_spec level }
     ensures few { result < 3 }
 {

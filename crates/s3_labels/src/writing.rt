@@ -1,5 +1,5 @@
 //! The labels of a pack, written.
-ghost use Rattle.std.specs.Prelude.{◌≡◌, ◌≢◌, ◌≤◌, ◌<◌, ◌+◌, ◌*◌, ◌/◌, ◌++◌, ℕ, length, take, drop, replicate, slice_get, Some, true, OnOk, IfSome};
+ghost use Rattle.std.specs.Prelude.{◌≡◌, ◌≢◌, ◌≤◌, ◌<◌, ◌+◌, ◌*◌, ◌/◌, ℕ, length, replicate, slice_get, Some, true, OnOk, IfSome};
 ghost use Rattle.s3_store.specs.Inner.State.{ChangesWithin};
 ghost use Rattle.s3_store.specs.Inner.Failures.{failed_transfers};
 ghost use Rattle.s3_slots.specs.Slots.{slot_bytes};

@@ -3,8 +3,6 @@
 use Rattle.std.specs.Prelude.{ℕ, ◌-◌, ◌*◌, nat_le, Bool, true, false, ◌&&◌, Option, Some, None}
 use Rattle.s3_lines.specs.declared.indicator.Indicator.{Indicator}
 use Rattle.s3_lines.specs.declared.indicator.Indicator.TheVariants.{General, Level, LastRecord, Halt, Overflow, Switch}
-use Rattle.s3_lines.specs.declared.sheet.Designation.{Designation}
-use Rattle.s3_lines.specs.declared.sheet.Designation.TheVariants.{Primary, Secondary}
 use Rattle.s3_lines.specs.declared.sheet.Device.{Device}
 use Rattle.s3_lines.specs.declared.sheet.Device.TheVariants.{CardReader, Printer, Disk}
 use Rattle.s3_lines.specs.declared.sheet.FieldForm.{FieldForm}
@@ -56,16 +54,6 @@ abbrev pub longest_record : Device → ℕ
 longest_record CardReader = 96
 longest_record Printer = 132
 longest_record Disk = 1024
-
-abbrev pub is_printer : Device → Bool
-is_printer Printer = true
-is_printer _ = false
-
--- read by the cycle
-abbrev pub is_selected : Option Designation → Bool
-is_selected (Some Primary) = true
-is_selected (Some Secondary) = true
-is_selected _ = false
 
 -- 1 to 256 characters, or 1 to 15 digits of which 0 to 9 are decimals
 abbrev pub shape_in_range : Shape → Bool

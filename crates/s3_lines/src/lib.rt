@@ -9,7 +9,8 @@
 //! What is proved here:
 //! - `is_reserved`: a name is one that the language has itself exactly where it is UDATE, UMONTH, UDAY, UYEAR or PAGE;
 //! - `Indicator::number` and `Indicator::is`: the number of an indicator, below 2,048, and whether two indicators are the same;
-//! - `FileLine::is_primary` and `FileLine::is_secondary`: the designation of a file.
+//! - `FileLine::is_primary`, `FileLine::is_secondary`, `FileLine::is_by_cycle` and `FileLine::is_chained`: the designation of a
+//!   file; `FileUse`, `Device` and `FileLine::is_only_read`: whether it is the one that is asked for.
 //!
 //! Nothing is left to tests alone.
 

@@ -18,6 +18,25 @@ pub enum FileUse {
     Update,
 }
 
+impl FileUse {
+    ghost use Rattle.std.specs.Prelude.{◌≡◌};
+    ghost use Rattle.s3_lines.specs.Files.{is_input_use, is_output_use};
+
+    /// Whether the program reads the file and changes none of its records (I).
+    pub fn is_input(self) -> bool
+        ensures { result ≡ is_input_use self }
+    {
+        matches!(self, FileUse::Input)
+    }
+
+    /// Whether the program makes the file or adds to it (O).
+    pub fn is_output(self) -> bool
+        ensures { result ≡ is_output_use self }
+    {
+        matches!(self, FileUse::Output)
+    }
+}
+
 /// How a program gets at the records of a file that it reads (F sheet, column 16).
 #[derive(Clone, Copy)]
 pub enum Designation {
@@ -38,6 +57,25 @@ pub enum Device {
     Printer,
     /// DISK.
     Disk,
+}
+
+impl Device {
+    ghost use Rattle.std.specs.Prelude.{◌≡◌};
+    ghost use Rattle.s3_lines.specs.Files.{is_disk as is_disk_spec, is_printer as is_printer_spec};
+
+    /// Whether it is PRINTER.
+    pub fn is_printer(self) -> bool
+        ensures { result ≡ is_printer_spec self }
+    {
+        matches!(self, Device::Printer)
+    }
+
+    /// Whether it is DISK.
+    pub fn is_disk(self) -> bool
+        ensures { result ≡ is_disk_spec self }
+    {
+        matches!(self, Device::Disk)
+    }
 }
 
 /// Where the key of an indexed file lies in each record.
@@ -83,7 +121,7 @@ pub struct FileLine {
 impl FileLine {
     ghost use Rattle.std.specs.Prelude.{◌≡◌};
     ghost use Rattle.s3_lines.specs.declared.sheet.Designation.TheVariants.{Primary, Secondary};
-    ghost use Rattle.s3_lines.specs.Files.{is_designated};
+    ghost use Rattle.s3_lines.specs.Files.{is_by_cycle as is_by_cycle_spec, is_chained as is_chained_spec, is_designated, is_only_read as is_only_read_spec};
 
     /// Whether its designation is primary (P).
     pub fn is_primary(&self) -> bool
@@ -97,6 +135,30 @@ impl FileLine {
         ensures { result ≡ is_designated Secondary self.now }
     {
         matches!(self.designation, Some(Designation::Secondary))
+    }
+
+    /// Whether the cycle reads it: its designation is primary or secondary.
+    pub fn is_by_cycle(&self) -> bool
+        ensures { result ≡ is_by_cycle_spec self.now.designation }
+    {
+        matches!(
+            self.designation,
+            Some(Designation::Primary | Designation::Secondary)
+        )
+    }
+
+    /// Whether its designation is chained (C).
+    pub fn is_chained(&self) -> bool
+        ensures { result ≡ is_chained_spec self.now.designation }
+    {
+        matches!(self.designation, Some(Designation::Chained))
+    }
+
+    /// Whether it is read and neither added to nor changed.
+    pub fn is_only_read(&self) -> bool
+        ensures { result ≡ is_only_read_spec self.now }
+    {
+        self.usage.is_input() && !self.has_additions
     }
 }
 

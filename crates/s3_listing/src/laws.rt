@@ -1,5 +1,5 @@
 //! What the definitions say of themselves: worked lines.
-ghost use Rattle.std.specs.Prelude.{◌≡◌, ◌++◌, [], ◌∷◌, codes, Some, None};
+ghost use Rattle.std.specs.Prelude.{◌≡◌, [], ◌∷◌, codes, Some, None};
 ghost use Rattle.s3_cards.specs.Names.{name_of};
 ghost use Rattle.s3_cards.specs.declared.retention.Retention.TheVariants.{Permanent, Scratch, Temporary};
 ghost use Rattle.s3_slots.specs.declared.label.Organization.TheVariants.{Direct, Indexed, Sequential};

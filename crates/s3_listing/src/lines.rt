@@ -1,10 +1,10 @@
 //! The line of each used slot.
-ghost use Rattle.std.specs.Prelude.{◌≡◌, ◌<◌, ◌++◌, OnOk, map};
-ghost use Rattle.s3_listing.specs.Inner.Lines.{shown_byte, name_text, label_text, organization_letter, retention_letter, fields_text, slot_line};
+ghost use Rattle.std.specs.Prelude.{◌≡◌, ◌<◌, ◌++◌, OnOk};
+ghost use Rattle.s3_listing.specs.Inner.Lines.{name_text, label_text, organization_letter, retention_letter, fields_text, slot_line};
 ghost use Rattle.s3_listing.specs.Inner.Listing.{area_text};
 
 use crate::number::push_number;
-use s3_cards::{Name, Retention, host_byte};
+use s3_cards::{Name, Retention, push_characters};
 use s3_labels::{FileLabel, Organization, Slot};
 use std::alloc::AllocError;
 
@@ -74,17 +74,7 @@ fn push_label(text: &mut Vec<u8>, name: Option<Name>) -> Result<(), AllocError>
 fn push_name(text: &mut Vec<u8>, name: Name) -> Result<(), AllocError>
     ensures { OnOk result (text.new.items ≡ text.old.items ++ name_text name) }
 {
-    push_shown(text, &name.codes)
-}
-
-/// Appends the characters of EBCDIC codes.
-fn push_shown(text: &mut Vec<u8>, codes: &[u8]) -> Result<(), AllocError>
-    ensures { OnOk result (text.new.items ≡ text.old.items ++ map shown_byte codes.now) }
-{
-    for code in codes {
-        text.push(host_byte(*code))?;
-    }
-    Ok(())
+    push_characters(text, &name.codes)
 }
 
 /// Appends what a label says of its file, but for its name.

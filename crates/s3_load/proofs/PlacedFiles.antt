@@ -1,5 +1,5 @@
 -- The file that a load fills: the one that is there, or a new one.
-use Rattle.std.proofs.Common.{◌≡◌, ◌≢◌, ℕ, ◌*◌, ◌<◌, ◌⊎◌, inl, inr, Bool, true, false, List, [], length, slice_get, slice_set, Option, Some, None, Ok, Err, if◌then◌else◌, refl, sym, ap, ap₂, ◌∙◌, subst, arith}
+use Rattle.std.proofs.Common.{◌≡◌, ◌≢◌, ℕ, zero, suc, ◌+◌, ◌*◌, ◌<◌, ◌⊎◌, inl, inr, Bool, true, false, List, [], ◌∷◌, length, slice_get, slice_set, Option, Some, None, Ok, Err, if◌then◌else◌, refl, sym, ap, ap₂, ◌∙◌, subst, arith}
 use Rattle.std.specs.List.{list_any, position_from}
 use Rattle.std.proofs.lemmas.Bool.{cases_eq}
 use Rattle.s3_cards.specs.declared.levels.LevelId.{LevelId}
@@ -34,11 +34,13 @@ use Rattle.s3_labels.proofs.Labelled.{judged_as_said, slots_kept as judged_alike
 use Rattle.s3_labels.proofs.MigratedPacks.{file_same}
 use Rattle.s3_files.specs.Records.{parts, records_in}
 use Rattle.s3_unload.specs.Inner.Ordered.{in_order}
+use Rattle.s3_pack_check.specs.Inner.Damages.{first_damaged, is_damaged}
 use Rattle.s3_pack_care.specs.Inner.Kept.{IsMounted, IsOther, slot_on}
+use Rattle.s3_pack_care.proofs.Placed.{nowhere}
 use Rattle.s3_pack_care.proofs.Relabelled.{file_behind, mounted_same}
 use Rattle.s3_load.specs.declared.order.Order.{Order}
 use Rattle.s3_load.specs.Inner.Loaded.{IsAsked, IsNewOf, IsPlaced, IsReplaced, has_key, has_key_by, is_damaged_at, records_under}
-use Rattle.s3_load.proofs.LoadedPacks.{area_few, first_is, get_within, own_at, own_mounted, own_on, own_within, slot_elsewhere, slots_long}
+use Rattle.s3_load.proofs.LoadedPacks.{area_few, first_is, own_at, own_mounted, own_on, own_within, slot_elsewhere, slots_long}
 use Rattle.s3_load.proofs.UndamagedSlots.{undamaged_says}
 
 -- ---- the file that is there
@@ -198,8 +200,14 @@ new_key : (key : Option KeyField) (new : NewFile) (extents : List Stretch) → h
 unfolding new_label
 new_key key new extents = refl
 
+-- where no slot is damaged none is at any place
+none_damaged : (slots : List Slot) (k i : ℕ) → position_from is_damaged k slots ≡ None → is_damaged_at (slice_get slots i) ≡ false
+none_damaged [] k i none = refl
+none_damaged (slot ∷ slots) k zero none = (nowhere is_damaged k slot slots none).0
+none_damaged (slot ∷ slots) k (suc i) none = none_damaged slots (k + 1) i (nowhere is_damaged k slot slots none).1
+
 module _ (order : Order) (new : NewFile) (areas after : Areas) (s t : List (List ℕ)) (label : FileLabel) (slot : ℕ) (anew : order.appends ≡ false) (is : IsMounted areas s) (ready : IsReady after t)
-    (none : (i : ℕ) → i < 32 → is_damaged_at (slice_get (slots_in (area_of order.level) areas) i) ≡ false)
+    (none : first_damaged (slots_in (area_of order.level) areas) ≡ None)
     (make : made areas.header.format (region_at order.level areas) areas.masters new (slots_at order.level areas) ≡ Ok (slots_at order.level after)) (set : after ≡ with_slots order.level (slots_at order.level after) areas)
     (there : slice_get (slots_at order.level after) slot ≡ Some (Sound label)) (named : label.name ≡ new.name) (is_new : label ≡ new_label new label.extents) (says : KeepsSaid order.level areas s after t)
     (count : length t ≡ length s)
@@ -223,9 +231,8 @@ module _ (order : Order) (new : NewFile) (areas after : Areas) (s t : List (List
 
   undamaged : (i : ℕ) (name : Option Name) → slice_get (slots_at order.level areas) i ≡ Some (Damaged name) → ⊥
   undamaged i name damaged =
-      let few : i < 32 = let low = get_within (slots_at order.level areas) i (Damaged name) damaged in omega (arith, low, long) in
       let at : slice_get (slots_in (area_of order.level) areas) i ≡ Some (Damaged name) = ap (λ slots. slice_get slots i) (own_slots order.level areas) ∙ damaged in
-      let is_so : true ≡ false = sym (ap is_damaged_at at) ∙ none i few in
+      let is_so : true ≡ false = sym (ap is_damaged_at at) ∙ none_damaged (slots_in (area_of order.level) areas) 0 i none in
       absurd cc
 
   no_direct : (n : ℕ) → IsOfDirect (slots_at order.level after) new.name n → ⊥
@@ -318,5 +325,5 @@ module _ (order : Order) (new : NewFile) (areas after : Areas) (s t : List (List
       kept = λ a i other stays. record { slot = kept_slots a i other stays; bytes = λ one stands. kept_bytes a i one other.area_in stands };
       freed = λ a i other gone. rw gone.own (freed_there i other.slot_in (λ e. other.other gone.own e) (replaced_place a i gone));
     };
-    undamaged = λ _ i few. ap is_damaged_at (was_on i ∙ ap (λ slots. slice_get slots i) (sym (own_slots order.level areas))) ∙ none i few;
+    undamaged = λ _ i few. ap is_damaged_at (was_on i ∙ ap (λ slots. slice_get slots i) (sym (own_slots order.level areas))) ∙ none_damaged (slots_in (area_of order.level) areas) 0 i none;
   }

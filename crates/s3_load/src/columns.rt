@@ -1,8 +1,8 @@
 //! The columns of a table, by its heading.
-ghost use Rattle.std.specs.Prelude.{◌≡◌, ◌<◌, ◌≤◌, ◌⊎◌, ◌↔◌, ◌++◌, [], true, false, drop, length, map, get_or, OnOk, IfNone, IfOk, IfSome, IsTrue};
+ghost use Rattle.std.specs.Prelude.{◌≡◌, ◌<◌, ◌≤◌, ◌⊎◌, ◌↔◌, [], true, false, drop, length, map, get_or, OnOk, IfNone, IfOk, IfSome, IsTrue};
 ghost use Rattle.std.specs.List.{list_all, list_any, prefix_len};
 ghost use Rattle.csv.specs.Records.{fields_of};
-ghost use Rattle.s3_cells.specs.Inner.Texts.{shown_byte};
+ghost use Rattle.s3_cards.specs.Codes.{shown_byte};
 ghost use Rattle.s3_unload.specs.Inner.Tables.{name_text};
 ghost use Rattle.s3_load.specs.Inner.Columns.{AddsColumn, AreNamed, IsHeading, IsNamed, LieApart, bare as bare_spec, has_byte as has_byte_spec, is_blank, is_clear, is_covered as is_covered_spec, is_inside as is_inside_spec, is_number as is_number_spec, left_out, overlap};
 

@@ -3,7 +3,7 @@ ghost use Rattle.std.specs.Prelude.{◌≡◌, true, length, IfOk, IsTrue, OnOk}
 ghost use Rattle.s3_slots.specs.Inner.Kept.{IsOfPack};
 ghost use Rattle.s3_slots.specs.Inner.Making.{IsNewFile, IsSize};
 ghost use Rattle.s3_slots.specs.Labels.{is_indexed, sectors_of};
-ghost use Rattle.s3_slots.specs.Slots.{is_count_of, is_key_of, standing};
+ghost use Rattle.s3_slots.specs.Slots.{is_count_of as is_count_spec, standing};
 ghost use Rattle.s3_slots.specs.declared.slot.Standing.TheVariants.{Present};
 ghost use Rattle.s3_labels.specs.Inner.Areas.{IsReady, slots_at};
 ghost use Rattle.s3_files.specs.Inner.Files.{AreStored};
@@ -19,7 +19,7 @@ use s3_files::{FileFault, RecordFile, Sequential};
 use s3_keyed::{Keyed, KeyedFault};
 use s3_labels::{FileLabel, LabelFault, NewFile, Organization, Pack, Size, Standing};
 use s3_lines::sheet::KeyField;
-use s3_slots::standing_of;
+use s3_slots::{is_count_of, is_key_of, standing_of};
 use s3_store::MemoryStore;
 use std::alloc::Global;
 
@@ -28,9 +28,6 @@ const MOST_TRACKS: u16 = 999;
 
 /// The longest record of a pack.
 const LONGEST_RECORD: u16 = 1_024;
-
-/// The longest key.
-const LONGEST_KEY: u8 = 29;
 
 /// The file that a load makes for so many records.
 pub fn new_file(order: &Order<'_>, count: usize) -> Result<NewFile, LoadFault>
@@ -49,7 +46,7 @@ pub fn new_file(order: &Order<'_>, count: usize) -> Result<NewFile, LoadFault>
         None => (Organization::Sequential, 0, 0),
         Some(key) => (Organization::Indexed, key.length, key.start),
     };
-    if !is_key(organization, record_length, key_length, key_start) {
+    if !is_key_of(organization, record_length, key_length, key_start) {
         return Err(LoadFault::NoKey);
     }
     Ok(NewFile {
@@ -62,21 +59,6 @@ pub fn new_file(order: &Order<'_>, count: usize) -> Result<NewFile, LoadFault>
         size,
         date: order.date,
     })
-}
-
-/// Whether a key lies in the records.
-fn is_key(organization: Organization, record_length: u16, key_length: u8, key_start: u16) -> bool
-    ensures { result ≡ is_key_of organization record_length key_length key_start }
-{
-    match organization {
-        Organization::Indexed => {
-            1 <= key_length
-                && key_length <= LONGEST_KEY
-                && 1 <= key_start
-                && u32::from(key_start) + u32::from(key_length) <= u32::from(record_length) + 1
-        }
-        Organization::Sequential | Organization::Direct => key_length == 0 && key_start == 0,
-    }
 }
 
 /// The size of a file that is to have so many records.
@@ -312,10 +294,7 @@ fn add_row(
 
 /// Whether a file may have so many records.
 pub fn may_have(label: &FileLabel, count: u32) -> bool
-    ensures { result ≡ is_count_of label.now.organization label.now.capacity count }
+    ensures { result ≡ is_count_spec label.now.organization label.now.capacity count }
 {
-    match label.organization {
-        Organization::Direct => count == label.capacity,
-        Organization::Sequential | Organization::Indexed => count <= label.capacity,
-    }
+    is_count_of(label.organization, label.capacity, count)
 }

@@ -1,20 +1,20 @@
 //! A table loaded into a file of a pack.
-ghost use Rattle.std.specs.Prelude.{◌≡◌, ◌<◌, ◌≤◌, ℕ, List, Some, length, slice_get, true, false, IfNone, IfOk, IfSome, OnOk};
+ghost use Rattle.std.specs.Prelude.{◌≡◌, ◌<◌, ◌≤◌, ℕ, List, None, Some, length, false, IfOk, OnOk};
 ghost use Rattle.s3_slots.specs.Inner.Kept.{IsOfPack};
-ghost use Rattle.s3_labels.specs.Areas.{area_of as area_of_spec};
 ghost use Rattle.s3_labels.specs.Contents.{contents_of};
 ghost use Rattle.s3_labels.specs.Inner.Areas.{IsReady, slots_in};
+ghost use Rattle.s3_pack_check.specs.Inner.Damages.{first_damaged as first_damaged_spec};
 ghost use Rattle.s3_pack_care.specs.Inner.Kept.{IsMounted};
 ghost use Rattle.s3_load.specs.Inner.Filling.{records_of};
-ghost use Rattle.s3_load.specs.Inner.Loaded.{HasFile, IsCounted, IsLoaded, IsPlaced, is_damaged as is_damaged_spec, is_damaged_at};
+ghost use Rattle.s3_load.specs.Inner.Loaded.{HasFile, IsCounted, IsLoaded, IsPlaced};
 
 use crate::fault::LoadFault;
 use crate::filling::{file_there, fill, may_have, new_file};
 use crate::order::Order;
 use crate::rows::Row;
 use crate::table::read_table;
-use s3_cards::LevelId;
-use s3_labels::{AreaSlots, FileLabel, Pack, Refusal, Refused, Slot, Standing};
+use s3_labels::{AreaSlots, FileLabel, Pack, Refusal, Refused, Standing, area_of};
+use s3_pack_check::first_damaged;
 use s3_slots::standing_of;
 use s3_store::MemoryStore;
 use std::alloc::Global;
@@ -133,45 +133,10 @@ fn made_file(
     Ok(label)
 }
 
-/// The number of a level's area, 1 or 2.
-fn area_of(level: LevelId) -> u16
-    ensures value { result ≡ area_of_spec level }
-    ensures few { result < 3 }
-{
-    match level {
-        LevelId::One => 1,
-        LevelId::Two => 2,
-    }
-}
-
-/// Whether a slot is damaged.
-fn is_damaged(slot: &Slot) -> bool
-    ensures { result ≡ is_damaged_spec slot.now }
-{
-    match slot {
-        Slot::Damaged(_) => true,
-        Slot::Free | Slot::Sound(_) => false,
-    }
-}
-
-/// The first damaged slot of an area, from 0.
-fn first_damaged(areas: &AreaSlots, area: u16) -> Option<u16>
-    requires { area < 3 }
-    ensures none { IfNone result ((i : ℕ) → i < 32 → is_damaged_at (slice_get (slots_in area areas.now) i) ≡ false) }
-    ensures some { IfSome result (λ i. is_damaged_at (slice_get (slots_in area areas.now) i) ≡ true) }
-{
-    for i in 0..32u16 {
-        if is_damaged(areas.slot(area, usize::from(i))) {
-            return Some(i);
-        }
-    }
-    None
-}
-
 /// Refuses an area that has a damaged slot.
 fn refuse_damaged(areas: &AreaSlots, area: u16) -> Result<(), LoadFault>
     requires { area < 3 }
-    ensures none { OnOk result ((i : ℕ) → i < 32 → is_damaged_at (slice_get (slots_in area areas.now) i) ≡ false) }
+    ensures none { OnOk result (first_damaged_spec (slots_in area areas.now) ≡ None) }
 {
     match first_damaged(areas, area) {
         Some(slot) => Err(LoadFault::DamagedSlot(slot)),

@@ -104,7 +104,7 @@ impl Controls {
         self.hold_named(program, start, levels, bytes)
     }
 
-    /// The same, in a program that has control fields.
+    /// Holds the control fields of a record, in a program that has some, and answers the highest level that breaks.
     #[inline(never)]
     fn hold_named(
         &mut self,

@@ -72,7 +72,7 @@ impl RecordKey {
         }
     }
 
-    /// The same, in a program that has match fields.
+    /// Reads the match fields of a record, in a program that has some.
     #[inline(never)]
     fn read_named(&mut self, program: &Program, start: TypeStart, levels: &Levels, bytes: &[u8])
         requires starts { IsTrue (is_type_start program.now start) }

@@ -2,7 +2,7 @@
 ghost use Rattle.std.specs.Prelude.{◌≡◌, ◌<◌, ◌≤◌, IfSome, drop, length, slice_get};
 ghost use Rattle.std.specs.Option.{option_copied};
 ghost use Rattle.std.specs.List.{position_or_len};
-ghost use Rattle.s3_ocl.specs.Cards.{is_data_end as data_end_spec, is_job_end as job_end_spec, is_statement as statement_spec, is_separator as separator_spec, begins_job as begins_job_spec, closes_job as closes_job_spec, next_place, from_word as from_word_spec, word_of, behind_word, first_word as first_word_spec, second_word as second_word_spec, is_continuation as continuation_spec};
+ghost use Rattle.s3_ocl.specs.Cards.{is_data_end as data_end_spec, is_job_end as job_end_spec, is_statement as statement_spec, is_separator as separator_spec, begins_job as begins_job_spec, closes_job as closes_job_spec, next_place, word_of, behind_word, first_word as first_word_spec, second_word as second_word_spec, is_continuation as continuation_spec};
 ghost use Rattle.s3_ocl.specs.Inner.Cards.{stops_at};
 
 use s3_cards::ebcdic::{AMPERSAND, ASTERISK, BLANK, SLASH};

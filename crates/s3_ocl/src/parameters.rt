@@ -1,5 +1,5 @@
 //! What a parameter of a statement says.
-ghost use Rattle.std.specs.Prelude.{◌≡◌, ◌<◌, ◌≤◌, IfSome, MatchOption, length, take, drop, [], ◌∷◌};
+ghost use Rattle.std.specs.Prelude.{◌≡◌, ◌<◌, ◌≤◌, IfSome, MatchOption, length, [], ◌∷◌};
 ghost use Rattle.std.specs.List.{before_first, position_or_len, slice_split};
 ghost use Rattle.s3_ocl.specs.Signs.{is_hyphen, is_comma};
 ghost use Rattle.s3_ocl.specs.Parameters.{verb_of as verb_spec, parameter_of as parameter_spec, value_of as value_spec, given as given_spec, keyed as keyed_spec, entry_at as entry_at_spec, entry_of as entry_spec, goes_on as goes_on_spec, without_comma as without_comma_spec};

@@ -1,5 +1,5 @@
 //! What the text of a value says.
-ghost use Rattle.std.specs.Prelude.{◌≡◌, ◌<◌, ◌≤◌, ◌+◌, ◌-◌, ◌^◌, IsTrue, length, map};
+ghost use Rattle.std.specs.Prelude.{◌≡◌, ◌<◌, ◌≤◌, ◌+◌, ◌-◌, IsTrue, length, map};
 ghost use Rattle.std.specs.List.{list_all};
 ghost use Rattle.s3_cards.specs.Names.{is_digit as digit_spec};
 ghost use Rattle.s3_ocl.specs.Values.{name_value as name_value_spec, unit_value as unit_value_spec, pack_value as pack_value_spec, count_value as count_value_spec, retention_value as retention_value_spec, two_digits as two_digits_spec, is_date as date_spec, dated as dated_spec, date_value as date_value_spec, without_slashes as without_slashes_spec, is_switch as switch_spec, switch_of, switches_value as switches_value_spec};

@@ -10,5 +10,4 @@ pub mod MadeFiles
 pub mod OneByOne
 pub mod OfLines
 pub mod Started
-pub mod FilesOfLines
 pub mod Said

@@ -8,6 +8,7 @@ use Rattle.s3_lines.specs.declared.sheet.Device.{Device}
 use Rattle.s3_lines.specs.declared.sheet.Device.TheVariants.{Disk, CardReader, Printer}
 use Rattle.s3_lines.specs.declared.sheet.FileLine.{FileLine}
 use Rattle.s3_lines.specs.declared.sheet.KeyField.{KeyField}
+use Rattle.s3_lines.specs.Files.{is_disk, is_chained}
 use Rattle.s3_ocl.specs.declared.contents.FileStatement.{FileStatement}
 use Rattle.s3_ocl.specs.declared.contents.FileSize.{FileSize}
 use Rattle.s3_ocl.specs.declared.contents.FileSize.TheVariants as Stated
@@ -17,7 +18,7 @@ use Rattle.s3_slots.specs.Slots.{is_key_of}
 use Rattle.s3_slots.specs.declared.making.Size.{Size}
 use Rattle.s3_slots.specs.declared.label.Organization.{Organization}
 use Rattle.s3_slots.specs.declared.label.Organization.TheVariants.{Sequential, Indexed, Direct}
-use Rattle.s3_opening.specs.Asked.{is_disk, is_chained, key_length_of, key_start_of, size_of, new_file, organization_of}
+use Rattle.s3_opening.specs.Asked.{key_length_of, key_start_of, size_of, new_file, organization_of}
 
 pub both : (a b : Bool) → (a && b) ≡ true → (a ≡ true) × (b ≡ true)
 both true b h = (refl, h)

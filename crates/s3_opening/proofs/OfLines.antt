@@ -4,6 +4,7 @@ use Rattle.std.proofs.lemmas.Bool.{and_parts, eqb-true, true≢false}
 use Rattle.std.proofs.lemmas.List.{map-append}
 use Rattle.std.specs.Prelude.{slice_get, is_some, filter, cond, option_map, Option, Some, None, Result, Ok, Err, if◌then◌else◌}
 use Rattle.std.specs.List.{list_any}
+use Rattle.s3_lines.specs.Files.{is_chained, is_only_read}
 use Rattle.s3_cards.specs.declared.levels.LevelId.{LevelId}
 use Rattle.s3_cards.specs.declared.name.Name.{Name}
 use Rattle.s3_cards.specs.Names.{same_name}
@@ -29,7 +30,7 @@ use Rattle.s3_job_files.specs.declared.file.OpenFile.{OpenFile}
 use Rattle.s3_job_files.proofs.Standings.{present_named}
 use Rattle.s3_opening.specs.declared.starts.Start.{Start}
 use Rattle.s3_opening.specs.declared.starts.Start.TheVariants.{Opened, ToMake}
-use Rattle.s3_opening.specs.Asked.{is_chained, is_new, is_of_layout, is_only_read, is_used, key_length_of, key_start_of, new_file}
+use Rattle.s3_opening.specs.Asked.{is_new, is_of_layout, is_used, key_length_of, key_start_of, new_file}
 use Rattle.s3_opening.specs.Opening.{Settings, job_file, refusal_of, statement_of}
 use Rattle.s3_opening.specs.Inner.OpenFiles.{AreOfEach, AreOfLines, IsLaidOutAs, IsOfLine}
 use Rattle.s3_opening.specs.Inner.Starting.{AddsFiles, AreFrom, AreNew, AreStartsOf, IsAskedBy, IsFrom, IsStartOf, label_by, labels_left}

@@ -1,6 +1,7 @@
 -- The tests of one file.
 use Rattle.std.proofs.Common.{◌≡◌, ℕ, Bool, true, false, not, ◌&&◌, List, refl, ap, sym, ◌∙◌, subst}
 use Rattle.std.specs.Prelude.{Option, Some, None, Result, Ok, Err, IfOk, if◌then◌else◌, is_some, IfSome}
+use Rattle.s3_lines.specs.Files.{is_only_read}
 use Rattle.s3_cards.specs.declared.levels.LevelId.{LevelId}
 use Rattle.s3_cards.specs.declared.name.Name.{Name}
 use Rattle.s3_lines.specs.declared.sheet.FileLine.{FileLine}
@@ -18,7 +19,7 @@ use Rattle.s3_job_files.specs.Files.{JobFile}
 use Rattle.s3_job_files.specs.Inner.Holds.{seen, job_file_of, slots_by}
 use Rattle.s3_job_files.specs.declared.file.OpenFile.{OpenFile}
 use Rattle.s3_job_files.proofs.Standings.{present_named}
-use Rattle.s3_opening.specs.Asked.{is_only_read, is_of_layout}
+use Rattle.s3_opening.specs.Asked.{is_of_layout}
 use Rattle.s3_opening.specs.Opening.{job_file, refusal_of}
 use Rattle.s3_opening.specs.Inner.Starts.{IsKeptFile, IsOpened, halt_unless_good, index_refusal}
 use Rattle.s3_opening.specs.declared.fault.OpeningFault.{OpeningFault}

@@ -1,13 +1,8 @@
 -- What an F line asks of the pack: whether its file is used, made or opened, and what a new file of it is.
-use Rattle.std.specs.Prelude.{ℕ, ◌==◌, Bool, true, false, not, ◌&&◌, List, Option, Some, None, is_some, if◌then◌else◌}
+use Rattle.std.specs.Prelude.{ℕ, ◌==◌, Bool, true, not, ◌&&◌, List, Option, Some, None, is_some, if◌then◌else◌}
+use Rattle.s3_lines.specs.Files.{is_output_use, is_chained, is_disk}
 use Rattle.s3_lines.specs.declared.indicator.Indicator.{Indicator}
 use Rattle.s3_lines.specs.declared.indicator.Indicator.TheVariants.{Switch}
-use Rattle.s3_lines.specs.declared.sheet.FileUse.{FileUse}
-use Rattle.s3_lines.specs.declared.sheet.FileUse.TheVariants.{Input, Output}
-use Rattle.s3_lines.specs.declared.sheet.Designation.{Designation}
-use Rattle.s3_lines.specs.declared.sheet.Designation.TheVariants.{Chained}
-use Rattle.s3_lines.specs.declared.sheet.Device.{Device}
-use Rattle.s3_lines.specs.declared.sheet.Device.TheVariants.{Disk}
 use Rattle.s3_lines.specs.declared.sheet.KeyField.{KeyField}
 use Rattle.s3_lines.specs.declared.sheet.FileLine.{FileLine}
 use Rattle.s3_meaning.specs.Environment.{switch_on}
@@ -22,10 +17,6 @@ use Rattle.s3_slots.specs.declared.making.NewFile.{NewFile}
 use Rattle.s3_slots.specs.declared.making.Size.{Size}
 use Rattle.s3_slots.specs.declared.making.Size.TheVariants.{Records, Tracks}
 
-abbrev pub is_disk : Device → Bool
-is_disk Disk = true
-is_disk _ = false
-
 -- the switch of its condition is on, or it has none
 abbrev pub is_switched_on : ℕ → Option Indicator → Bool
 is_switched_on switches (Some (Switch n)) = switch_on switches n
@@ -35,25 +26,9 @@ is_switched_on switches _ = true
 abbrev pub is_used : ℕ → FileLine → Bool
 is_used switches line = is_disk line.device && is_switched_on switches line.condition
 
-abbrev pub is_output : FileUse → Bool
-is_output Output = true
-is_output _ = false
-
-abbrev pub is_input : FileUse → Bool
-is_input Input = true
-is_input _ = false
-
 -- an output file without additions is made, every other is opened
 abbrev pub is_new : FileLine → Bool
-is_new line = is_output line.usage && not line.has_additions
-
--- it is only read
-abbrev pub is_only_read : FileLine → Bool
-is_only_read line = is_input line.usage && not line.has_additions
-
-abbrev pub is_chained : Option Designation → Bool
-is_chained (Some Chained) = true
-is_chained _ = false
+is_new line = is_output_use line.usage && not line.has_additions
 
 abbrev pub key_length_of : Option KeyField → ℕ
 key_length_of None = 0

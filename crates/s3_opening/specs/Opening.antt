@@ -1,6 +1,7 @@
 -- The files of a job at its start: which are made and which opened, or the first halt.
 use Rattle.std.specs.Prelude.{ℕ, Bool, true, false, not, ◌&&◌, List, [], ◌∷◌, ◌++◌, replicate, find, Option, Some, None, Result, Ok, Err, if◌then◌else◌}
 use Rattle.std.specs.List.{list_any}
+use Rattle.s3_lines.specs.Files.{is_only_read}
 use Rattle.s3_cards.specs.declared.name.Name.{Name}
 use Rattle.s3_cards.specs.declared.ebcdic.TheConstants.{BLANK}
 use Rattle.s3_cards.specs.Names.{same_name}
@@ -20,7 +21,7 @@ use Rattle.s3_slots.specs.declared.slot.Standing.{Standing}
 use Rattle.s3_slots.specs.declared.slot.Standing.TheVariants.{Absent, Blocked, Present}
 use Rattle.s3_job_files.specs.Kept.{Kept, nothing_kept}
 use Rattle.s3_job_files.specs.Files.{Files, JobFile, FilesInUse, put_kept}
-use Rattle.s3_opening.specs.Asked.{is_used, is_new, is_only_read, is_of_layout, new_file}
+use Rattle.s3_opening.specs.Asked.{is_used, is_new, is_of_layout, new_file}
 
 -- a file of the job before any request to it
 abbrev pub job_file : Name → (label : Name) → (is_master is_made : Bool) → JobFile

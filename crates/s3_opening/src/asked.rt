@@ -1,28 +1,19 @@
 //! What an F line asks of the pack.
 ghost use Rattle.std.specs.Prelude.{◌≡◌, true, not, is_some, if◌then◌else◌};
 ghost use Rattle.std.specs.Option.{option_copied};
+ghost use Rattle.s3_lines.specs.Files.{is_disk};
 ghost use Rattle.s3_opening.specs.Opening.{statement_of as statement_of_spec};
 ghost use Rattle.s3_slots.specs.Labels.{is_indexed};
 ghost use Rattle.s3_lines.specs.Inner.Ranges.{file_in_range};
 ghost use Rattle.s3_ocl.specs.Inner.Sound.{is_sound_file, is_size};
 ghost use Rattle.s3_slots.specs.Inner.Making.{IsNewFile, IsSize};
-ghost use Rattle.s3_opening.specs.Asked.{is_disk as is_disk_spec, is_switched_on as is_switched_on_spec, is_used as is_used_spec, is_new as is_new_spec, is_only_read as is_only_read_spec, is_chained as is_chained_spec, key_length_of as key_length_spec, key_start_of as key_start_spec, is_of_layout as is_of_layout_spec, organization_of as organization_spec, size_of as size_spec, new_file as new_file_spec};
+ghost use Rattle.s3_opening.specs.Asked.{is_switched_on as is_switched_on_spec, is_used as is_used_spec, is_new as is_new_spec, key_length_of as key_length_spec, key_start_of as key_start_spec, is_of_layout as is_of_layout_spec, organization_of as organization_spec, size_of as size_spec, new_file as new_file_spec};
 
 use s3_cards::Name;
 use s3_lines::indicator::Indicator;
-use s3_lines::sheet::{Designation, Device, FileLine, FileUse, KeyField};
+use s3_lines::sheet::{FileLine, KeyField};
 use s3_ocl::{FileSize, FileStatement};
 use s3_slots::{FileLabel, NewFile, Organization, Size};
-
-/// Whether a file is on the pack.
-fn is_disk(device: Device) -> bool
-    ensures { result ≡ is_disk_spec device }
-{
-    match device {
-        Device::Disk => true,
-        Device::CardReader | Device::Printer => false,
-    }
-}
 
 /// Whether the switch of a condition is on.
 fn is_switched_on(switches: u8, condition: Option<Indicator>) -> bool
@@ -40,37 +31,14 @@ fn is_switched_on(switches: u8, condition: Option<Indicator>) -> bool
 pub fn is_used(switches: u8, line: &FileLine) -> bool
     ensures { result ≡ is_used_spec switches line.now }
 {
-    is_disk(line.device) && is_switched_on(switches, line.condition)
+    line.device.is_disk() && is_switched_on(switches, line.condition)
 }
 
 /// Whether the start of the job makes the file of this F line: it is a load.
 pub fn is_new(line: &FileLine) -> bool
     ensures { result ≡ is_new_spec line.now }
 {
-    match line.usage {
-        FileUse::Output => !line.has_additions,
-        FileUse::Input | FileUse::Update => false,
-    }
-}
-
-/// Whether the program only reads the file of this F line, and puts nothing into it.
-pub fn is_only_read(line: &FileLine) -> bool
-    ensures { result ≡ is_only_read_spec line.now }
-{
-    match line.usage {
-        FileUse::Input => !line.has_additions,
-        FileUse::Output | FileUse::Update => false,
-    }
-}
-
-/// Whether a file is found by its records' numbers or keys.
-fn is_chained(designation: Option<Designation>) -> bool
-    ensures { result ≡ is_chained_spec designation }
-{
-    match designation {
-        Some(Designation::Chained) => true,
-        _ => false,
-    }
+    line.usage.is_output() && !line.has_additions
 }
 
 /// The length of a key, 0 where there is none.
@@ -131,7 +99,7 @@ fn organization_of(line: &FileLine) -> Organization
 {
     if line.key.is_some() {
         Organization::Indexed
-    } else if is_chained(line.designation) {
+    } else if line.is_chained() {
         Organization::Direct
     } else {
         Organization::Sequential
@@ -155,7 +123,7 @@ fn size_of(size: FileSize) -> Size
 #[tactic(auto, unfolding(crate::specs::Asked::new_file))]
 pub fn new_file(date: [u8; 6], line: &FileLine, statement: &FileStatement) -> NewFile
     requires line { file_in_range line.now ≡ true }
-    requires disk { is_disk_spec line.now.device ≡ true }
+    requires disk { is_disk line.now.device ≡ true }
     requires statement { is_sound_file statement.now ≡ true }
     ensures value { result ≡ new_file_spec date line.now statement.now }
     ensures proper { IsNewFile result }

@@ -2,16 +2,16 @@
 ghost use Rattle.std.specs.Prelude.{◌≡◌, ◌+◌, [], ◌∷◌, true, length, map, IfOk};
 ghost use Rattle.std.specs.List.{list_all};
 ghost use Rattle.s3_lines.specs.Inner.Ranges.{file_in_range};
+ghost use Rattle.s3_lines.specs.Files.{is_disk};
 ghost use Rattle.s3_ocl.specs.Inner.Sound.{is_sound_file};
 ghost use Rattle.s3_slots.specs.Inner.Kept.{IsOfPack};
 ghost use Rattle.s3_store.specs.Inner.State.{KeepsContents};
 ghost use Rattle.s3_labels.specs.Inner.Areas.{IsReady as IsPackReady};
 ghost use Rattle.s3_job_files.specs.Inner.Holds.{seen, job_file_of};
-ghost use Rattle.s3_opening.specs.Asked.{is_disk};
 ghost use Rattle.s3_opening.specs.Inner.Tests.{line_refusal as line_refusal_spec, halt_of_find as halt_of_find_spec, tested_standing, tested_file, step_of, tested_lines};
 ghost use Rattle.s3_opening.specs.Inner.Starts.{settings_of, step_in, Gives, TestsTo, failed_opening, IsOpened, IsRight, AreRight, IsKeptFile};
 
-use crate::asked::{is_new, is_of_layout, is_only_read, is_used, new_file, statement_of};
+use crate::asked::{is_new, is_of_layout, is_used, new_file, statement_of};
 use crate::fault::OpeningFault;
 use crate::settings::JobSettings;
 use crate::starts::{Start, is_taken};
@@ -29,7 +29,7 @@ use std::alloc::Global;
 fn line_refusal(line: &FileLine, is_master: bool, label: &FileLabel) -> Option<HaltCode>
     ensures { result ≡ line_refusal_spec line.now is_master label.now }
 {
-    if is_master && !is_only_read(line) {
+    if is_master && !line.is_only_read() {
         return Some(HaltCode::MasterForUpdate);
     }
     if is_of_layout(line, label) {

@@ -1,10 +1,10 @@
 //! What is said to who is asked.
 
 use crate::levels::number_of;
-use s3_cards::{LevelId, PrintLine};
+use s3_cards::{LevelId, PrintLine, trim_end};
 use s3_halt_block::{push_letters, push_replies};
 use s3_operator::{HaltCode, allowed, choices, meaning};
-use s3_ruled::{push_characters, without_blanks_behind};
+use s3_ruled::push_characters;
 use std::alloc::AllocError;
 
 /// What else may be typed.
@@ -66,7 +66,7 @@ fn push_line(text: &mut String, line: &PrintLine) -> Result<(), AllocError> {
     let page = line.page();
     let number = line.line();
     write!(text, "  {page:04} {number:02} ")?;
-    push_characters(text, without_blanks_behind(line.text()))?;
+    push_characters(text, trim_end(line.text()))?;
     text.push('\n')
 }
 

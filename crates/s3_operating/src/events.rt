@@ -6,7 +6,7 @@ use crate::desk::Desk;
 use s3_bureau::{Bureau, Halt};
 use s3_cards::LevelId;
 use s3_day_log::Event;
-use s3_ledger::{BegunJob, Purpose, end_of};
+use s3_ledger::{BegunJob, end_of};
 use s3_operator::HaltCode;
 use s3_ruled::push_name;
 use s3_store::PackStore;

@@ -9,7 +9,7 @@ ghost use Rattle.s3_edit.specs.Picture.{amount_at, character_of, digit_character
 
 use crate::numbers::NumberForm;
 use s3_cards::ebcdic::{BLANK, COMMA, DIGIT_0, LETTER_C, LETTER_R, MINUS, PERIOD};
-use s3_edit::{Amount, Sign};
+use s3_edit::{Amount, Sign, sign_width};
 use s3_operations::zoned::pair_of;
 
 /// Makes a text blank that is as long as some blanks, or up to twice as long: they are laid at both of its ends.
@@ -328,17 +328,6 @@ fn put_body(magnitude: u32, decimals: usize, commas: bool, width: usize, text: &
     let whole = put_decimals(magnitude, decimals, width, text);
     let end = put_point(decimals, width - decimals, text);
     put_whole(whole, commas, end, text);
-}
-
-/// How many places a sign takes.
-fn sign_width(sign: Sign) -> usize
-    ensures { result ≡ sign_width_of sign }
-{
-    match sign {
-        Sign::Never => 0,
-        Sign::Credit => 2,
-        Sign::Minus => 1,
-    }
 }
 
 /// Writes a sign over blanks at `at`.

@@ -1,5 +1,5 @@
 //! A record as it is composed.
-ghost use Rattle.std.specs.Prelude.{◌≡◌, ◌+◌, ◌-◌, ◌*◌, ◌≤◌, ◌<◌, ◌++◌, List, ℕ, Option, Some, None, true, false, is_some, length, map, take, drop, replicate, slice_get};
+ghost use Rattle.std.specs.Prelude.{◌≡◌, ◌+◌, ◌-◌, ◌*◌, ◌≤◌, ◌<◌, ◌++◌, List, ℕ, Option, Some, true, false, is_some, length, map, take, drop, replicate, slice_get};
 ghost use Rattle.s3_cards.specs.declared.ebcdic.TheConstants.{BLANK};
 ghost use Rattle.s3_meaning.specs.Output.{filled, laid};
 ghost use Rattle.s3_output.specs.Inner.Compositions.{positions_in, are_filled, first_position};

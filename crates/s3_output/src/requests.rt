@@ -4,8 +4,6 @@ ghost use Rattle.s3_meaning.specs.Environment.{Environment};
 ghost use Rattle.s3_meaning.specs.OutputLines.{Output};
 ghost use Rattle.s3_meaning.specs.Output as meaning;
 ghost use Rattle.s3_meaning.specs.Source as source;
-ghost use Rattle.s3_output.specs.Inner.Lines.{IsLineAt};
-ghost use Rattle.s3_lines.specs.Inner.Ranges.{spacing_in_range};
 ghost use Rattle.s3_output.specs.Inner.Requests.{request_of};
 
 use s3_lines::sheet::{Designation, FileLine, FileUse};

@@ -1,7 +1,7 @@
 //! A slot written, and all slots judged anew.
-ghost use Rattle.std.specs.Prelude.{◌≡◌, ◌≢◌, ◌<◌, ◌≤◌, ℕ, true, slice_get, length, Ok, Some, OnOk, IfOk, IfErr, IfNone, IfSome, ◌&&◌, not, nat_eq};
+ghost use Rattle.std.specs.Prelude.{◌≡◌, ◌≢◌, ◌<◌, ℕ, true, slice_get, Ok, Some, IfOk, IfErr, IfNone, IfSome, ◌&&◌, not, nat_eq};
 ghost use Rattle.s3_slots.specs.Header.{mounted};
-ghost use Rattle.s3_labels.specs.Inner.Areas.{IsReady, areas_on, slots_in};
+ghost use Rattle.s3_labels.specs.Inner.Areas.{IsReady, slots_in};
 ghost use Rattle.s3_pack_care.specs.Inner.Kept.{IsMounted, IsMountRefusal, IsOther, IsChanged, IsRelabelled, RefusesWritten, alike, fault_of as fault_of_spec, same_kind};
 
 use crate::fault::CareFault;

@@ -1,16 +1,14 @@
 //! Why a slot is damaged.
 ghost use Rattle.std.specs.Prelude.{◌≡◌, ◌≤◌, ◌&&◌, drop, nat_le};
 ghost use Rattle.byteorder.specs.Endian.{big_number};
-ghost use Rattle.s3_slots.specs.Labels.{organization_by as organization_spec, retention_by};
 ghost use Rattle.std.specs.Prelude.{is_some};
-ghost use Rattle.s3_slots.specs.Slots.{is_key_of as is_key_spec, is_count_of as is_count_spec};
+ghost use Rattle.s3_slots.specs.Labels.{retention_by as retention_spec};
 ghost use Rattle.s3_pack_check.specs.Inner.Damages.{damage_of as damage_spec, field_damage as field_spec, number_damage as number_spec, room_damage as room_spec, is_damaged as is_damaged_spec, unless as unless_spec};
 
 use byteorder::{BigEndian, ByteOrder};
-use s3_cards::ebcdic::{LETTER_D, LETTER_I, LETTER_P, LETTER_S, LETTER_T};
 use s3_cards::{Name, is_name};
 use s3_labels::{Format, Organization, Slot};
-use s3_slots::{judge, place_of};
+use s3_slots::{is_count_of, is_key_of, judge, organization_by, place_of, retention_by};
 use s3_store::Stretch;
 use thiserror::Error;
 
@@ -52,51 +50,11 @@ pub enum Damage {
     Overlap,
 }
 
-/// The organization that a code stands for.
-fn organization_by(code: u8) -> Option<Organization>
-    ensures { result ≡ organization_spec code }
-{
-    if code == LETTER_S {
-        Some(Organization::Sequential)
-    } else if code == LETTER_I {
-        Some(Organization::Indexed)
-    } else if code == LETTER_D {
-        Some(Organization::Direct)
-    } else {
-        None
-    }
-}
-
 /// Whether a code stands for a retention.
 fn is_retention(code: u8) -> bool
-    ensures { result ≡ is_some (retention_by code) }
+    ensures { result ≡ is_some (retention_spec code) }
 {
-    code == LETTER_T || code == LETTER_S || code == LETTER_P
-}
-
-/// Whether a file of this organization may have such a key.
-fn is_key_of(organization: Organization, record_length: u16, key_length: u8, key_start: u16) -> bool
-    ensures { result ≡ is_key_spec organization record_length key_length key_start }
-{
-    match organization {
-        Organization::Indexed => {
-            1 <= key_length
-                && key_length <= 29
-                && 1 <= key_start
-                && u32::from(key_start) + u32::from(key_length) <= u32::from(record_length) + 1
-        }
-        Organization::Sequential | Organization::Direct => key_length == 0 && key_start == 0,
-    }
-}
-
-/// Whether a file of this organization may have so many records.
-fn is_count_of(organization: Organization, capacity: u32, count: u32) -> bool
-    ensures { result ≡ is_count_spec organization capacity count }
-{
-    match organization {
-        Organization::Direct => count == capacity,
-        Organization::Sequential | Organization::Indexed => count <= capacity,
-    }
+    retention_by(code).is_some()
 }
 
 /// Whether records may be so long.

@@ -3,5 +3,4 @@ pub mod Overprinting
 pub mod PageRuns
 pub mod PartLemmas
 pub mod RowLemmas
-pub mod Trimming
 pub mod WriteLemmas

@@ -5,7 +5,7 @@ use crate::characters::is_shown;
 use crate::fault::CommandFault;
 use clap::{Arg, ArgAction, ArgMatches, Command};
 use s3_host_files::read_within;
-use s3_punch::{Begun, Changes, LineChange, PunchFault, PunchReason, Punched, punch};
+use s3_punch::{Begun, LineChange, PunchFault, PunchReason, Punched, punch};
 use std::alloc::{AllocError, Global};
 use std::io::Write;
 

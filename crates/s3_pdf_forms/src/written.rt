@@ -1,5 +1,5 @@
 //! The document of a job, object by object.
-ghost use Rattle.std.specs.Prelude.{◌≡◌, ◌∷◌, [], ◌≤◌, ◌<◌, ◌+◌, ◌*◌, ◌⊎◌, OnOk, IsErrOf, SomeIff, length};
+ghost use Rattle.std.specs.Prelude.{◌≡◌, ◌∷◌, [], ◌≤◌, ◌<◌, ◌+◌, ◌*◌, OnOk, IsErrOf, SomeIff, length};
 ghost use Rattle.std.specs.Io.KnownBytes.{Appends};
 ghost use Rattle.s3_pages.specs.Inner.Pages.{pages_of};
 ghost use Rattle.s3_pages.specs.Inner.PagesLeft.{pages_left};

@@ -1,47 +1,12 @@
 -- The table of files: what a program may do with a file on a device.
-use Rattle.std.specs.Prelude.{Bool, true, false, not, ◌&&◌, ◌||◌, Option, Some, None, is_some, if◌then◌else◌}
+use Rattle.std.specs.Prelude.{Bool, false, not, ◌&&◌, ◌||◌, is_some, if◌then◌else◌}
+use Rattle.s3_lines.specs.Files.{is_input_use, is_output_use, is_by_cycle, is_chained, is_disk, is_printer}
 use Rattle.s3_lines.specs.declared.sheet.FileUse.{FileUse}
 use Rattle.s3_lines.specs.declared.sheet.FileUse.TheVariants.{Input, Output, Update}
-use Rattle.s3_lines.specs.declared.sheet.Designation.{Designation}
-use Rattle.s3_lines.specs.declared.sheet.Designation.TheVariants.{Primary, Secondary, Chained}
 use Rattle.s3_lines.specs.declared.sheet.Device.{Device}
 use Rattle.s3_lines.specs.declared.sheet.Device.TheVariants.{CardReader, Printer, Disk}
 use Rattle.s3_lines.specs.declared.sheet.FileLine.{FileLine}
 use Rattle.s3_lines.specs.declared.sheet.Spacing.{Spacing}
-
-abbrev pub is_input_use : FileUse → Bool
-is_input_use Input = true
-is_input_use Output = false
-is_input_use Update = false
-
-abbrev pub is_output_use : FileUse → Bool
-is_output_use Output = true
-is_output_use Input = false
-is_output_use Update = false
-
--- P or S
-abbrev pub is_by_cycle : Option Designation → Bool
-is_by_cycle (Some Primary) = true
-is_by_cycle (Some Secondary) = true
-is_by_cycle (Some Chained) = false
-is_by_cycle None = false
-
--- C
-abbrev pub is_chained : Option Designation → Bool
-is_chained (Some Chained) = true
-is_chained (Some Primary) = false
-is_chained (Some Secondary) = false
-is_chained None = false
-
-abbrev pub is_disk : Device → Bool
-is_disk Disk = true
-is_disk CardReader = false
-is_disk Printer = false
-
-abbrev pub is_printer : Device → Bool
-is_printer Printer = true
-is_printer CardReader = false
-is_printer Disk = false
 
 -- columns 28, 31, 32 and 66 blank
 abbrev pub is_plain : FileLine → Bool

@@ -11,6 +11,7 @@ use Rattle.s3_lines.specs.declared.sheet.FieldLine.{FieldLine}
 use Rattle.s3_lines.specs.declared.sheet.InputLine.{InputLine}
 use Rattle.s3_lines.specs.declared.sheet.InputLine.TheVariants.{Record, Or as OrCodes, Field as FieldOfRecord}
 use Rattle.s3_lines.specs.declared.sheet.Shape.{Shape}
+use Rattle.s3_lines.specs.Files.{is_chained}
 use Rattle.s3_program.specs.declared.program.Meaning.{Meaning}
 use Rattle.s3_program.specs.declared.program.Meaning.TheVariants as a
 use Rattle.s3_program.specs.declared.mark.Key.{Key}
@@ -20,7 +21,6 @@ use Rattle.s3_program.specs.declared.mark.GroupMark.{GroupMark}
 use Rattle.s3_program.specs.declared.mark.TypeMark.{TypeMark}
 use Rattle.s3_program.specs.declared.mark.TypeKey.{TypeKey}
 use Rattle.s3_program.specs.declared.standing.InputStanding.{InputStanding}
-use Rattle.s3_program.specs.FileTable.{is_chained}
 use Rattle.s3_program.specs.Shapes.{same_kind_and_length}
 use Rattle.s3_program.specs.Redefined.{shape_of_field}
 use Rattle.s3_program.specs.Standings.{first_input, behind_input}

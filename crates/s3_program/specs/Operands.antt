@@ -22,6 +22,7 @@ use Rattle.s3_lines.specs.declared.sheet.OutputContent.{OutputContent}
 use Rattle.s3_lines.specs.declared.sheet.OutputContent.TheVariants.{Constant as ConstantContent, Field as FieldContent}
 use Rattle.s3_lines.specs.declared.sheet.OutputLine.{OutputLine}
 use Rattle.s3_lines.specs.declared.sheet.OutputLine.TheVariants.{Field as FieldCard}
+use Rattle.s3_lines.specs.Files.{is_chained}
 use Rattle.s3_edit.specs.Picture.{width_of}
 use Rattle.s3_program.specs.declared.program.Meaning.{Meaning}
 use Rattle.s3_program.specs.declared.program.Meaning.TheVariants as a
@@ -34,7 +35,6 @@ use Rattle.s3_program.specs.declared.row.Marking.TheVariants as marking
 use Rattle.s3_program.specs.declared.row.Pairing.{Pairing}
 use Rattle.s3_program.specs.declared.row.Pairing.TheVariants as pairing
 use Rattle.s3_program.specs.declared.row.Row.{Row}
-use Rattle.s3_program.specs.FileTable.{is_chained}
 use Rattle.s3_program.specs.Shapes.{shape_meant, is_numeric_shape, is_text_shape}
 use Rattle.s3_program.specs.Undefined.{is_undefined}
 use Rattle.s3_program.specs.Rows.{row_of}

@@ -15,12 +15,13 @@ use Rattle.s3_lines.specs.declared.sheet.OutputContent.{OutputContent}
 use Rattle.s3_lines.specs.declared.sheet.OutputContent.TheVariants.{Constant as ConstantContent, Field as FieldContent}
 use Rattle.s3_lines.specs.declared.sheet.OutputLine.{OutputLine}
 use Rattle.s3_lines.specs.declared.sheet.OutputLine.TheVariants.{Line as LineCard, Field as FieldCard}
+use Rattle.s3_lines.specs.Files.{is_disk, is_printer}
 use Rattle.s3_program.specs.declared.program.Meaning.{Meaning}
 use Rattle.s3_program.specs.declared.program.Meaning.TheVariants as a
 use Rattle.s3_program.specs.declared.standing.FileStanding.{FileStanding}
 use Rattle.s3_program.specs.declared.standing.InputStanding.{InputStanding}
 use Rattle.s3_program.specs.declared.standing.OutputStanding.{OutputStanding}
-use Rattle.s3_program.specs.FileTable.{is_in_table, is_card_file, is_print_file, is_disk, is_printer, allows_records, allows_output, has_spacing}
+use Rattle.s3_program.specs.FileTable.{is_in_table, is_card_file, is_print_file, allows_records, allows_output, has_spacing}
 
 abbrev pub file_misused : FileStanding → FileLine → Bool
 file_misused at file =

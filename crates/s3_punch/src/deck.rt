@@ -3,7 +3,7 @@ ghost use Rattle.std.specs.Prelude.{false, ◌≡◌, ◌==◌, ◌+◌, ◌≤�
 ghost use Rattle.std.specs.List.{fold};
 ghost use Rattle.std.specs.Str.Lines.{lines};
 ghost use Rattle.s3_punch.specs.Inner.Parts.{part_behind};
-ghost use Rattle.s3_punch.specs.Inner.Decks.{IsDeck, IsPunched, cards_of, deck_text, faults_of, is_open as is_open_spec, joined, numbered, part_from, without_end as without_end_spec};
+ghost use Rattle.s3_punch.specs.Inner.Decks.{IsDeck, IsPunched, cards_of, deck_text, faults_of, is_open as is_open_spec, part_from, without_end as without_end_spec};
 ghost use Rattle.s3_punch.specs.Inner.Faults.{card_faults, fault_if};
 ghost use Rattle.s3_punch.specs.Inner.Steps.{AddsCard, AddsLine, HasCards, KeepsCards};
 

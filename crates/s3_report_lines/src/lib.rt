@@ -5,7 +5,6 @@
 #![tactic(auto)]
 
 mod line_text;
-mod number;
 mod reading;
 
 pub use reading::lines_of_report;

@@ -1,16 +1,7 @@
 //! Codes as characters.
 
-use s3_cards::ebcdic::BLANK;
-use s3_cards::{Name, to_host};
+use s3_cards::{Name, to_host, trim_end};
 use std::alloc::AllocError;
-
-/// Codes without the blanks behind them.
-pub fn without_blanks_behind(codes: &[u8]) -> &[u8] {
-    match codes.iter().rposition(|code| *code != BLANK) {
-        Some(last) => &codes[..=last],
-        None => &[],
-    }
-}
 
 /// Appends the characters of EBCDIC codes, `?` for one that has none.
 pub fn push_characters(text: &mut String, codes: &[u8]) -> Result<(), AllocError> {
@@ -22,5 +13,5 @@ pub fn push_characters(text: &mut String, codes: &[u8]) -> Result<(), AllocError
 
 /// Appends a name without the blanks behind it.
 pub fn push_name(text: &mut String, name: Name) -> Result<(), AllocError> {
-    push_characters(text, without_blanks_behind(&name.codes))
+    push_characters(text, trim_end(&name.codes))
 }

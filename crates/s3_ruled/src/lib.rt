@@ -8,5 +8,5 @@
 mod characters;
 mod ruled;
 
-pub use characters::{push_characters, push_name, without_blanks_behind};
+pub use characters::{push_characters, push_name};
 pub use ruled::{Columns, push_marks, push_ruled, push_under_ruler};

@@ -1,6 +1,7 @@
 //! Cards under a ruler.
 
-use crate::characters::{push_characters, without_blanks_behind};
+use crate::characters::push_characters;
+use s3_cards::trim_end;
 use std::alloc::AllocError;
 
 /// What stands in front of each line.
@@ -17,7 +18,7 @@ pub struct Columns {
 
 /// Appends EBCDIC codes under a ruler of columns, without the blanks behind them. The ruler has so many columns at least.
 pub fn push_under_ruler(text: &mut String, codes: &[u8], columns: usize) -> Result<(), AllocError> {
-    let shown = without_blanks_behind(codes);
+    let shown = trim_end(codes);
     push_ruler(text, shown.len().max(columns))?;
     text.push_str(MARGIN)?;
     push_characters(text, shown)?;

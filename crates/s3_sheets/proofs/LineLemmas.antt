@@ -6,9 +6,10 @@ use Rattle.std.specs.Option.{option_to_list}
 use Rattle.std.proofs.lemmas.Bool.{cases_Bool}
 use Rattle.std.proofs.lemmas.Bool.Decides.{nat_tests}
 use Rattle.std.proofs.lemmas.List.Folds.{list_any_at}
+use Rattle.s3_lines.specs.Files.{is_printer, is_by_cycle}
 use Rattle.s3_cards.specs.declared.name.Name.{Name}
 use Rattle.s3_cards.specs.Names.{begins_name, is_mark, is_word, is_name, name_of}
-use Rattle.s3_lines.specs.Ranges.{is_between, if_given, longest_record, is_printer, is_selected, is_overflow_indicator, shape_in_range, shape_of_positions}
+use Rattle.s3_lines.specs.Ranges.{is_between, if_given, longest_record, is_overflow_indicator, shape_in_range, shape_of_positions}
 use Rattle.s3_lines.specs.Inner.Ranges.{in_range, is_named, conditions_in_range, key_in_range, file_in_range, field_in_range, calculation_in_range, output_in_range, content_in_range}
 use Rattle.s3_lines.specs.declared.indicator.Indicator.{Indicator}
 use Rattle.s3_lines.specs.declared.sheet.KeyField.{KeyField}
@@ -108,7 +109,7 @@ file_passes : (card : List ℕ) → is_name (columns card 7 14) ≡ true → has
 unfolding has_stray_entry has_bad_extent file_line
 file_passes card named stray bad =
     let ends : Bool = column card 17 == 0xc5 in
-    let selected : Bool = is_selected (designation_of (column card 16)) in
+    let selected : Bool = is_by_cycle (designation_of (column card 16)) in
     let printer : Bool = is_printer (device_of (columns card 40 46)) in
     let filled : Bool = not (are_blank (columns card 33 34)) in
     let keyed : Bool = not (has_index card) && (not (are_blank (columns card 29 30)) || not (are_blank (columns card 35 38))) in

@@ -7,6 +7,7 @@ use Rattle.std.proofs.lemmas.Bool.Decides.{nat_tests}
 use Rattle.std.proofs.lemmas.List.{map-append, take_more, take_all, get_or_default}
 use Rattle.std.proofs.lemmas.List.Elements.{filter-append}
 use Rattle.std.proofs.lemmas.List.Folds.{list_any-append}
+use Rattle.s3_lines.specs.Files.{is_printer, is_by_cycle}
 use Rattle.s3_sheets.specs.Lines.{card_at, file_line, field_line, form_of, key_field, definition_of, has_index, is_addition}
 use Rattle.s3_sheets.specs.Kinds.{kind_of}
 use Rattle.s3_sheets.specs.Rules.{no_faults, one_fault, rule_faults, allows, fault_of, is_blank_or, Blank, Number}
@@ -15,7 +16,7 @@ use Rattle.s3_sheets.specs.Columns.{column, columns, only, number_of, number_bet
 use Rattle.s3_sheets.specs.Combinations.{combined_faults, has_stray_entry, has_bad_extent, has_bad_space, has_bad_content, has_bad_positions, has_bad_factor, has_bad_definition, has_bad_addition, has_no_content, has_early_constant, is_with_index, is_key_within, are_filled, is_of_date}
 use Rattle.s3_cards.specs.Names.{name_of}
 use Rattle.s3_cards.specs.declared.ebcdic.TheConstants.{LETTER_P}
-use Rattle.s3_lines.specs.Ranges.{is_between, if_given, is_printer, is_selected, shape_in_range, shape_of_positions}
+use Rattle.s3_lines.specs.Ranges.{is_between, if_given, shape_in_range, shape_of_positions}
 use Rattle.s3_lines.specs.declared.sheet.FieldForm.{FieldForm}
 use Rattle.s3_lines.specs.declared.sheet.KeyField.{KeyField}
 use Rattle.s3_lines.specs.declared.sheet.Shape.{Shape}
@@ -465,7 +466,7 @@ unfolding is_told has_stray_entry has_bad_content
 combined_told_2 Comment card = refl
 combined_told_2 Unknown card = refl
 combined_told_2 Header card = refl
-combined_told_2 File card = stray ((file_line card).ends_job && not (is_selected (file_line card).designation)) (not (is_with_index (file_line card))) (are_filled card 29 30) (are_filled card 35 38) (are_filled card 33 34 && not (is_printer (file_line card).device))
+combined_told_2 File card = stray ((file_line card).ends_job && not (is_by_cycle (file_line card).designation)) (not (is_with_index (file_line card))) (are_filled card 29 30) (are_filled card 35 38) (are_filled card 33 34 && not (is_printer (file_line card).device))
 combined_told_2 Record card = refl
 combined_told_2 RecordAnd card = refl
 combined_told_2 RecordOr card = refl

@@ -1,8 +1,9 @@
 -- What several columns of a card show together.
 use Rattle.std.specs.Prelude.{ℕ, ◌+◌, ◌-◌, List, Bool, false, ◌&&◌, ◌||◌, not, Option, Some, None, length, nat_lt, nat_le}
+use Rattle.s3_lines.specs.Files.{is_printer, is_by_cycle}
 use Rattle.s3_cards.specs.Names.{name_of, same_name}
 use Rattle.s3_cards.specs.declared.name.Name.{Name}
-use Rattle.s3_lines.specs.Ranges.{is_between, if_given, longest_record, is_printer, is_selected, shape_in_range, shape_of_positions}
+use Rattle.s3_lines.specs.Ranges.{is_between, if_given, longest_record, shape_in_range, shape_of_positions}
 use Rattle.s3_lines.specs.Reserved.{is_reserved, page}
 use Rattle.s3_lines.specs.declared.sheet.KeyField.{KeyField}
 use Rattle.s3_lines.specs.declared.sheet.FieldLine.{FieldLine}
@@ -28,7 +29,7 @@ is_with_index file = file.is_keyed && file.is_indexed
 unfoldable pub has_stray_entry : List ℕ → Bool
 has_stray_entry card =
     let file : FileLine = file_line card in
-    (file.ends_job && not (is_selected file.designation))
+    (file.ends_job && not (is_by_cycle file.designation))
     || (not (is_with_index file) && (are_filled card 29 30 || are_filled card 35 38))
     || (are_filled card 33 34 && not (is_printer file.device))
 

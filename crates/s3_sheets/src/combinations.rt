@@ -1,7 +1,7 @@
 //! What several columns of a card show together.
 
 ghost use Rattle.std.specs.Prelude.{◌≡◌, ◌≤◌, ◌<◌, ◌+◌, ◌^◌, length, not};
-ghost use Rattle.s3_lines.specs.Ranges.{longest_record as longest_record_spec, is_printer as printer_spec, is_selected as selected_spec, shape_in_range, shape_of_positions};
+ghost use Rattle.s3_lines.specs.Ranges.{longest_record as longest_record_spec, shape_in_range, shape_of_positions};
 ghost use Rattle.s3_sheets.specs.Combinations.{are_filled as are_filled_spec, is_with_index as with_index_spec, has_stray_entry as stray_spec, is_key_within as key_within_spec, has_bad_extent as bad_extent_spec, has_bad_positions as bad_positions_spec, has_bad_factor as bad_factor_spec, has_bad_definition as bad_definition_spec, has_bad_addition as bad_addition_spec, has_bad_space as bad_space_spec, is_of_date as of_date_spec, has_bad_content as bad_content_spec, has_no_content as no_content_spec, begins_too_early as too_early_spec, has_early_constant as early_constant_spec, combined_faults as combined_faults_spec};
 ghost use Rattle.s3_sheets.specs.Columns.{number_between};
 ghost use Rattle.s3_sheets.specs.Entries.{constant_text};
@@ -15,7 +15,7 @@ use crate::lines::{definition, field_line, file_line, is_addition, longest_name}
 use s3_cards::{Card, Name, are_blank};
 use s3_lines::is_reserved;
 use s3_lines::reserved::PAGE;
-use s3_lines::sheet::{Designation, Device, FieldForm, FileLine, KeyField, Shape};
+use s3_lines::sheet::{Device, FieldForm, FileLine, KeyField, Shape};
 
 /// Whether some of the columns from one to another are filled.
 pub fn are_filled(card: &Card, from: usize, to: usize) -> bool
@@ -25,23 +25,6 @@ pub fn are_filled(card: &Card, from: usize, to: usize) -> bool
     ensures { result ≡ are_filled_spec card.now from to }
 {
     !are_blank(columns(card, from, to))
-}
-
-/// Whether a device is a printer.
-pub fn is_printer(device: Device) -> bool
-    ensures { result ≡ printer_spec device }
-{
-    matches!(device, Device::Printer)
-}
-
-/// Whether the cycle reads a file.
-pub fn is_selected(designation: Option<Designation>) -> bool
-    ensures { result ≡ selected_spec designation }
-{
-    matches!(
-        designation,
-        Some(Designation::Primary) | Some(Designation::Secondary)
-    )
 }
 
 /// Whether a file has keys, and an index for them on the pack.
@@ -57,9 +40,9 @@ fn has_stray_entry(card: &Card) -> bool
     ensures { result ≡ stray_spec card.now }
 {
     let file = file_line(card);
-    (file.ends_job && !is_selected(file.designation))
+    (file.ends_job && !file.is_by_cycle())
         || (!is_with_index(&file) && (are_filled(card, 29, 30) || are_filled(card, 35, 38)))
-        || (are_filled(card, 33, 34) && !is_printer(file.device))
+        || (are_filled(card, 33, 34) && !file.device.is_printer())
 }
 
 /// The longest record of a device.

@@ -1,6 +1,6 @@
 //! The entries that are at fault where a card has a diagnostic: what each condition is made of, entry by entry.
 
-ghost use Rattle.std.specs.Prelude.{◌≡◌, ◌≤◌, ◌+◌, ◌^◌, ◌++◌, length, map, filter, true, OnOk, IfOk, slice_range};
+ghost use Rattle.std.specs.Prelude.{◌≡◌, ◌≤◌, ◌+◌, ◌^◌, ◌++◌, length, map, true, OnOk, IfOk, slice_range};
 ghost use Rattle.std.specs.List.{list_all};
 ghost use Rattle.s3_sheets.specs.Inner.Parts as spec;
 ghost use Rattle.s3_lines.specs.Ranges.{shape_of_positions};
@@ -13,8 +13,8 @@ ghost use Rattle.s3_sheets.specs.Kinds.{kind_of as kind_of_spec};
 use crate::columns::{columns, number, number_between};
 use crate::combinations::{
     are_filled, has_bad_addition, has_bad_definition, has_bad_factor, has_bad_positions,
-    has_early_constant, has_no_content, is_key_within, is_of_date, is_printer, is_selected,
-    is_with_index, is_wrong_space, longest_record,
+    has_early_constant, has_no_content, is_key_within, is_of_date, is_with_index, is_wrong_space,
+    longest_record,
 };
 use crate::faults::Fault;
 use crate::kind::{CardKind, kind_of};
@@ -154,14 +154,14 @@ fn file_parts(card: &Card) -> [Part; 7]
     let stray = !is_with_index(&file);
     let past = has_key_past(&file);
     [
-        part_of(2, 17, 17, file.ends_job && !is_selected(file.designation)),
+        part_of(2, 17, 17, file.ends_job && !file.is_by_cycle()),
         part_of(2, 29, 30, stray && are_filled(card, 29, 30)),
         part_of(2, 35, 38, stray && are_filled(card, 35, 38)),
         part_of(
             2,
             33,
             34,
-            are_filled(card, 33, 34) && !is_printer(file.device),
+            are_filled(card, 33, 34) && !file.device.is_printer(),
         ),
         part_of(4, 24, 27, !has_record_length(&file)),
         part_of(4, 29, 30, lacks_key_length(&file, card) || past),

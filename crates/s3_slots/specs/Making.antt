@@ -1,5 +1,5 @@
 -- Making files, setting counts and dropping labels: what becomes of the slots of an area.
-use Rattle.std.specs.Prelude.{ℕ, zero, suc, ◌*◌, ◌/◌, Bool, true, false, nat_le, List, [], slice_get, slice_set, Option, Some, None, Result, Ok, Err, if◌then◌else◌}
+use Rattle.std.specs.Prelude.{ℕ, zero, suc, ◌*◌, ◌/◌, Bool, true, false, nat_le, List, slice_get, slice_set, Option, Some, None, Result, Ok, Err, if◌then◌else◌}
 use Rattle.std.specs.List.{list_any, position_from}
 use Rattle.s3_cards.specs.declared.name.Name.{Name}
 use Rattle.s3_slots.specs.Stretches.{sectors_of_tracks, tracks_for}

@@ -1,7 +1,7 @@
 //! The header of a pack.
-ghost use Rattle.std.specs.Prelude.{◌≡◌, ◌≤◌, ◌+◌, ◌==◌, length, codes};
+ghost use Rattle.std.specs.Prelude.{◌≡◌, ◌≤◌, ◌+◌, ◌==◌, length};
 ghost use Rattle.std.specs.List.{list_all};
-ghost use Rattle.s3_slots.specs.Header.{begins_with as begins_with_spec, format_in as format_spec, stretch_at as stretch_spec, quota_in as quota_spec, header_in as header_spec, are_quotas as are_quotas_spec, is_region as is_region_spec, are_regions as are_regions_spec, accepted as accepted_spec, header_by};
+ghost use Rattle.s3_slots.specs.Header.{format_in as format_spec, stretch_at as stretch_spec, quota_in as quota_spec, header_in as header_spec, are_quotas as are_quotas_spec, is_region as is_region_spec, are_regions as are_regions_spec, accepted as accepted_spec, header_by};
 
 use crate::stretch::{are_apart, end_of};
 use byteorder::{BigEndian, ByteOrder};

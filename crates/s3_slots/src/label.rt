@@ -65,7 +65,7 @@ impl FileLabel {
 }
 
 /// The organization that a code stands for.
-fn organization_by(code: u8) -> Option<Organization>
+pub fn organization_by(code: u8) -> Option<Organization>
     ensures { result ≡ organization_spec code }
 {
     if code == LETTER_S {
@@ -80,7 +80,7 @@ fn organization_by(code: u8) -> Option<Organization>
 }
 
 /// The retention that a code stands for.
-fn retention_by(code: u8) -> Option<Retention>
+pub fn retention_by(code: u8) -> Option<Retention>
     ensures { result ≡ retention_spec code }
 {
     if code == LETTER_T {

@@ -29,11 +29,11 @@ mod stretch;
 pub use bytes::bytes_of;
 pub use changes::{free, place_in, recount};
 pub use header::{Format, Header, MountFault, accept, are_quotas};
-pub use label::{FileLabel, Organization};
+pub use label::{FileLabel, Organization, organization_by, retention_by};
 pub use laws::{
     a_header_is_accepted_by_its_tests, a_label_is_64_bytes, a_label_reads_back,
     damage_blocks_its_label_and_its_slot, files_stay_apart, files_take_whole_tracks,
     quotas_are_1_to_127, room_in_pieces_is_taken_in_the_second_format,
 };
 pub use making::{LabelFault, Made, NewFile, Size, make_in};
-pub use slot::{Slot, Standing, judge, place_of, standing_of};
+pub use slot::{Slot, Standing, is_count_of, is_key_of, judge, place_of, standing_of};

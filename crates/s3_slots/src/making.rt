@@ -1,7 +1,7 @@
 //! The making of files.
 
-ghost use Rattle.std.specs.Prelude.{◌≡◌, ◌≤◌, ◌<◌, ◌+◌, Ok, Err, OnOk, OnErr, IfOk, IfErr, IfSome, length, slice_get, slice_set, Some, None, true, nat_le};
-ghost use Rattle.std.specs.List.{list_any, position_from};
+ghost use Rattle.std.specs.Prelude.{◌≡◌, ◌≤◌, ◌<◌, ◌+◌, Ok, Err, OnOk, OnErr, IfOk, IfErr, IfSome, length, slice_get, Some, None, true, nat_le};
+ghost use Rattle.std.specs.List.{position_from};
 ghost use Rattle.s3_slots.specs.Placement.{free_slot as free_slot_spec};
 ghost use Rattle.s3_slots.specs.Slots.{standing as standing_spec, are_extents, bears, sectors_needed as sectors_needed_spec};
 ghost use Rattle.s3_slots.specs.Inner.Stretches.{IsWhole};

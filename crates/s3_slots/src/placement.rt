@@ -1,7 +1,6 @@
 //! Where a made file goes.
-ghost use Rattle.std.specs.Prelude.{◌≡◌, ◌≤◌, ◌<◌, ◌+◌, ◌*◌, ◌++◌, length, find, take, MatchBool, IfSome};
+ghost use Rattle.std.specs.Prelude.{◌≡◌, ◌≤◌, ◌<◌, ◌+◌, ◌*◌, ◌++◌, length, take, MatchBool, IfSome};
 ghost use Rattle.std.specs.List.{position_from};
-ghost use Rattle.s3_slots.specs.Slots.{is_clear as is_clear_spec};
 ghost use Rattle.s3_slots.specs.Placement.{is_free as is_free_spec, tracks_at as tracks_at_spec, lowest_place as lowest_place_spec, free_stretches as free_stretches_spec, ended as ended_spec, cut as cut_spec, lowest_stretches as lowest_stretches_spec, placed as placed_spec};
 
 use crate::header::Format;

@@ -1,7 +1,7 @@
 //! The slots of an area.
 ghost use Rattle.std.specs.Prelude.{◌≡◌, ◌≤◌, ◌<◌, length, IfSome};
 ghost use Rattle.std.specs.List.{list_all, list_any, position_from};
-ghost use Rattle.s3_slots.specs.Slots.{record_sectors as record_sectors_spec, entries_per_sector as entries_spec, index_sectors as index_sectors_spec, sectors_needed as sectors_needed_spec, is_key_of as is_key_spec, is_extent as is_extent_spec, are_extents as are_extents_spec, is_count_of as is_count_spec, is_well_formed as is_well_formed_spec, extents_of, is_apart_from_slot, is_clear as is_clear_spec, bears as bears_spec, is_disentangled as is_disentangled_spec, is_sound as is_sound_spec, judged, is_damaged_under as is_damaged_under_spec, without_file as without_file_spec, standing as standing_spec};
+ghost use Rattle.s3_slots.specs.Slots.{record_sectors as record_sectors_spec, entries_per_sector as entries_spec, index_sectors as index_sectors_spec, sectors_needed as sectors_needed_spec, is_key_of as is_key_spec, is_extent as is_extent_spec, are_extents as are_extents_spec, is_count_of as is_count_spec, is_well_formed as is_well_formed_spec, is_apart_from_slot, is_clear as is_clear_spec, bears as bears_spec, is_disentangled as is_disentangled_spec, is_sound as is_sound_spec, judged, is_damaged_under as is_damaged_under_spec, without_file as without_file_spec, standing as standing_spec};
 
 use crate::header::Format;
 use crate::label::{FileLabel, Organization, label_in, name_in};
@@ -94,7 +94,12 @@ pub fn sectors_needed(
 }
 
 /// Whether a file of this organization may have such a key.
-fn is_key_of(organization: Organization, record_length: u16, key_length: u8, key_start: u16) -> bool
+pub fn is_key_of(
+    organization: Organization,
+    record_length: u16,
+    key_length: u8,
+    key_start: u16,
+) -> bool
     ensures { result ≡ is_key_spec organization record_length key_length key_start }
 {
     match organization {
@@ -133,7 +138,7 @@ fn are_extents(region: Stretch, extents: &[Stretch]) -> bool
 }
 
 /// Whether a file of this organization may have so many records.
-fn is_count_of(organization: Organization, capacity: u32, count: u32) -> bool
+pub fn is_count_of(organization: Organization, capacity: u32, count: u32) -> bool
     ensures { result ≡ is_count_spec organization capacity count }
 {
     match organization {

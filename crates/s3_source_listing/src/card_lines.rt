@@ -1,8 +1,8 @@
 //! The lines of a card in a listing.
 
 use s3_blame::diagnostic_words;
-use s3_cards::Card;
-use s3_ruled::{Columns, push_characters, push_marks, without_blanks_behind};
+use s3_cards::{Card, trim_end};
+use s3_ruled::{Columns, push_characters, push_marks};
 use std::alloc::AllocError;
 
 /// How many columns of a card a listing shows.
@@ -22,7 +22,7 @@ pub fn push_ruler(text: &mut String) -> Result<(), AllocError> {
 /// Appends a card, with its number in front.
 pub fn push_card(text: &mut String, number: usize, card: &Card) -> Result<(), AllocError> {
     write!(text, " {number:04}")?;
-    let shown = without_blanks_behind(&card[..SHOWN]);
+    let shown = trim_end(&card[..SHOWN]);
     if !shown.is_empty() {
         text.push_str("  ")?;
         push_characters(text, shown)?;

@@ -3,11 +3,11 @@
 use crate::card_lines::{push_card, push_fault, push_ruler};
 use crate::source::{SourceRange, push_program, push_source};
 use s3_cards::ebcdic::{ASTERISK, BLANK, LETTER_C, LETTER_F, LETTER_H, LETTER_I, LETTER_O};
-use s3_cards::{Card, Deck, is_digit};
+use s3_cards::{Card, Deck, is_digit, trim_end};
 use s3_deck_files::DeckText;
 use s3_deck_jobs::{JobEntry, Statements, jobs_of};
 use s3_ocl::{FaultyJob, JobCards, JobFault};
-use s3_ruled::{Columns, without_blanks_behind};
+use s3_ruled::Columns;
 use std::alloc::{AllocError, Global};
 use std::io;
 use std::io::Write;
@@ -85,7 +85,7 @@ fn push_compiled(
 fn columns_of_statement(card: &Card) -> Columns {
     Columns {
         from: 1,
-        to: without_blanks_behind(card).len().max(1).min(80),
+        to: trim_end(card).len().max(1).min(80),
     }
 }
 

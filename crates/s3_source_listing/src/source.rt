@@ -8,10 +8,10 @@ use crate::card_lines::{push_card, push_diagnostic, push_ruler};
 use crate::notes::{CardNotes, notes_of_cards, notes_under};
 use crate::tables::push_tables;
 use s3_blame::{FaultyEntry, entries_of, told};
-use s3_cards::{Card, Deck};
+use s3_cards::{Card, Deck, trim_end};
 use s3_deck_jobs::{keyword_columns, program_of};
 use s3_lines::Diagnostic;
-use s3_ruled::{push_characters, without_blanks_behind};
+use s3_ruled::push_characters;
 use s3_sheets::{SheetFault, read_sheets};
 use std::alloc::{AllocError, Global};
 
@@ -33,7 +33,7 @@ struct Faults {
 
 /// Appends the name of the program that a source makes.
 pub fn push_program(text: &mut String, cards: &[Card]) -> Result<(), AllocError> {
-    push_characters(text, without_blanks_behind(&program_of(cards).codes))
+    push_characters(text, trim_end(&program_of(cards).codes))
 }
 
 /// Whether a number is one of those that hide the others.

@@ -6,10 +6,10 @@ use crate::index::{Indicators, Names, indicators_of, names_of};
 use crate::indicators::push_indicator;
 use crate::names::Sort;
 use s3_blame::Known;
-use s3_cards::Name;
+use s3_cards::{Name, trim_end};
 use s3_lines::indicator::Indicator;
 use s3_lines::sheet::{FileLine, KeyField, Line, Shape, SheetLine};
-use s3_ruled::{push_characters, without_blanks_behind};
+use s3_ruled::push_characters;
 use std::alloc::{AllocError, Global};
 
 /// Appends the tables of a source. With cross-reference each name and each indicator has all cards that name it.
@@ -43,7 +43,7 @@ fn push_table(text: &mut String, heading: &str, lines: &str) -> Result<(), Alloc
 
 /// Appends a name, and blanks behind it up to so many columns.
 fn push_padded(text: &mut String, name: Name, columns: usize) -> Result<(), AllocError> {
-    let shown = without_blanks_behind(&name.codes);
+    let shown = trim_end(&name.codes);
     push_characters(text, shown)?;
     for _blank in shown.len()..columns {
         text.push(' ')?;

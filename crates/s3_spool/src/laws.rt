@@ -1,6 +1,6 @@
 //! A worked block.
 
-ghost use Rattle.std.specs.Prelude.{◌≡◌, ◌++◌, [], ◌∷◌, replicate};
+ghost use Rattle.std.specs.Prelude.{◌≡◌, ◌++◌, ◌∷◌, replicate};
 ghost use Rattle.s3_spool.specs.Inner.Queues.{block_bytes, line_of_block};
 
 /// The block of line 1 of page 1 with the text ABC in 132 positions has page, line and length, the text as printed, and zeros;

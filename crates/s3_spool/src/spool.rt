@@ -1,5 +1,5 @@
 //! The queues of both levels.
-ghost use Rattle.std.specs.Prelude.{◌≡◌, ◌≢◌, ◌<◌, ◌≤◌, ◌+◌, ◌++◌, ◌∷◌, [], ◌↔◌, Err, length, slice_get, IfOk, OnOk, OnErr, IfErr, slice_set};
+ghost use Rattle.std.specs.Prelude.{◌≡◌, ◌≢◌, ◌<◌, ◌≤◌, ◌+◌, ◌++◌, ◌∷◌, [], ◌↔◌, Err, length, slice_get, IfOk, OnOk, OnErr, slice_set};
 ghost use Rattle.std.specs.List.{range_with_len};
 ghost use Rattle.s3_cards.specs.Inner.Levels.{other};
 ghost use Rattle.s3_store.specs.Inner.Failures.{failed_transfers};

@@ -1,5 +1,5 @@
 //! A store that fails at one call, for tests of what stands above it.
-ghost use Rattle.std.specs.Prelude.{◌≡◌, ◌≢◌, ◌+◌, ◌-◌, ◌<◌, ◌==◌, ℕ, List, length, slice_get, slice_set, Some, OnOk, OnErr, IsErr, true, false, if◌then◌else◌};
+ghost use Rattle.std.specs.Prelude.{◌≡◌, ◌≢◌, ◌+◌, ◌-◌, ◌<◌, ◌==◌, length, slice_get, slice_set, Some, OnOk, OnErr, IsErr, true, false, if◌then◌else◌};
 ghost use Rattle.s3_store.specs.Inner.Failures.{failed_calls, fuse_failures};
 
 use crate::pack_store::{PackStore, StoreFault};

@@ -1,5 +1,5 @@
 //! What the layers above see: one list of sectors, over a store or over a pool.
-ghost use Rattle.std.specs.Prelude.{◌≡◌, ◌≢◌, ◌<◌, ◌≤◌, ◌+◌, ℕ, List, length, slice_get, slice_set, Some, OnOk, OnErr, IfErr};
+ghost use Rattle.std.specs.Prelude.{◌≡◌, ◌<◌, ◌≤◌, ◌+◌, length, slice_get, slice_set, Some, OnOk, OnErr};
 ghost use Rattle.s3_store.specs.Inner.State.{PoolState, KeepsContents, ChangesWithin};
 ghost use Rattle.s3_store.specs.Bytes.{part, sector_bytes};
 ghost use Rattle.s3_store.specs.Inner.Bytes.{with_piece};

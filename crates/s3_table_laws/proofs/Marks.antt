@@ -6,9 +6,8 @@ use Rattle.std.specs.Option.{option_map}
 use Rattle.std.proofs.lemmas.Bool.{and_parts, ltb-true}
 use Rattle.csv.specs.Reading.{strip_bom}
 use Rattle.csv.specs.Writing.{by_style, end_text, fields_text, is_blank, needs_quotes, quoted, row_text}
-use Rattle.s3_cards.specs.Codes.{code_page}
+use Rattle.s3_cards.specs.Codes.{code_page, shown_byte}
 use Rattle.s3_cards.specs.Names.{is_mark}
-use Rattle.s3_cells.specs.Inner.Texts.{shown_byte}
 use Rattle.s3_cells.specs.declared.field.Field.{Field}
 use Rattle.s3_unload.specs.Inner.Tables.{comma, heading, name_text, rows_text, setup, table_text}
 

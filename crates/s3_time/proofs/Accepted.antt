@@ -5,6 +5,7 @@ use Rattle.std.specs.List.{AllByRecursion as Each, list_all}
 use Rattle.std.specs.Map.{lookup}
 use Rattle.std.specs.Option.{option_or}
 use Rattle.std.proofs.lemmas.Bool.{and_parts, eqb-true, not-false, or_parts}
+use Rattle.s3_lines.specs.Files.{is_by_cycle, is_chained, is_input_use, is_disk, is_card_reader, is_printer}
 use Rattle.s3_cards.specs.declared.name.Name.{Name}
 use Rattle.s3_cards.specs.Names.{no_name, same_name}
 use Rattle.s3_cards.proofs.NameLemmas.{same_name-equal, same_name-self}
@@ -42,14 +43,14 @@ use Rattle.s3_meaning.specs.Names.{entries}
 use Rattle.s3_meaning.specs.RecordTypes.{group_fields, types_from}
 use Rattle.s3_meaning.specs.Calculations.{Calculation, calculations_from, group_conditions, group_time, name_in}
 use Rattle.s3_meaning.specs.OutputLines.{outputs_from}
-use Rattle.s3_meaning.specs.Source.{calculation_line, file_line, file_named, input_line, is_card_reader, is_input, is_printer, output_line, overflow_of, source_of}
+use Rattle.s3_meaning.specs.Source.{calculation_line, file_line, file_named, input_line, is_input, output_line, overflow_of, source_of}
 use Rattle.s3_program.specs.declared.program.Kind.TheVariants as kind
 use Rattle.s3_program.specs.declared.program.Meaning.{Meaning}
 use Rattle.s3_program.specs.declared.program.Meaning.TheVariants as a
 use Rattle.s3_program.specs.declared.row.Operand.TheVariants as operand
 use Rattle.s3_program.specs.Conditions.{file_places, first_file_of, numbers}
 use Rattle.s3_program.specs.FileEntries.{file_entry}
-use Rattle.s3_program.specs.FileTable.{allows_output, is_addition_allowed, is_by_cycle, is_chained, is_in_table, is_in_table_on, is_input_use}
+use Rattle.s3_program.specs.FileTable.{allows_output, is_addition_allowed, is_in_table, is_in_table_on}
 use Rattle.s3_program.specs.Lines.{map_card, map_factor}
 use Rattle.s3_program.specs.Operands.{calculation_unfit, factor_fits}
 use Rattle.s3_program.specs.Redefined.{is_elsewhere}
@@ -60,7 +61,6 @@ use Rattle.s3_diagnose.specs.Known.{Meanings, behind, first_standing, meant_calc
 use Rattle.s3_diagnose.specs.Lookups.{Known, known_of, meanings_of, tables_given}
 use Rattle.s3_diagnose.specs.Diagnostics.{compile_diagnostics, diagnostic_of, diagnostics_from, found_on, has_one_primary, line_holds, placed, precedes}
 use Rattle.s3_job_files.proofs.Putting.{differ_sym}
-use Rattle.s3_opening.specs.Asked.{is_disk}
 use Rattle.s3_solo.specs.Serving.{diagnostics_of, first_else}
 use Rattle.s3_time.proofs.Elements.{each_both, each_other, each_taken, found_one}
 use Rattle.s3_time.proofs.Requested.{FitsFile, FitsLine, IsRight, PutsOut}
@@ -135,7 +135,7 @@ ranged_file file is =
     named true wrong = sym wrong
     named false is = refl
 
-    by : (entry : Option Indicator) → if_given (λ indicator. is_overflow_indicator indicator && Rattle.s3_lines.specs.Ranges.is_printer file.device) entry ≡ true → NoSwitch entry
+    by : (entry : Option Indicator) → if_given (λ indicator. is_overflow_indicator indicator && is_printer file.device) entry ≡ true → NoSwitch entry
     by None is = tt
     by (Some (General n)) is = refl
     by (Some (Level n)) is = refl

@@ -28,7 +28,7 @@ use Rattle.s3_slots.proofs.Runs.{none_at}
 use Rattle.s3_job_files.specs.Kept.{Kept}
 use Rattle.s3_job_files.specs.Files.{FileAtWork, Files, FilesInUse, JobFile, area_by, area_with, as_it_stands, file_at, file_at_work, labelled, place_named, with_job_file}
 use Rattle.s3_job_files.specs.Requests as files
-use Rattle.s3_job_files.specs.Requests.{Served, files_after_put, record_added, record_appended, record_chained, record_put, record_read, record_updated, served_named, served_on, with_chained, with_read}
+use Rattle.s3_job_files.specs.Requests.{Served, files_after_put, record_added, record_appended, record_chained, record_put, record_read, record_updated, served_named, served_on, with_read}
 use Rattle.s3_job_files.proofs.Lists.{any_set, found_passes, within_get}
 use Rattle.s3_job_files.proofs.Putting.{differ_sym}
 use Rattle.s3_job_files.proofs.Standings.{present_named}

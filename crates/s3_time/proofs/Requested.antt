@@ -3,6 +3,7 @@ use Rattle.std.proofs.Common.{◌≡◌, ℕ, zero, suc, ◌==◌, Bool, true, f
 use Rattle.std.specs.Prelude.{Option, Some, None, filter, filter_map, find, is_some, replicate}
 use Rattle.std.specs.List.{AllByRecursion as Each}
 use Rattle.std.specs.Option.{option_or}
+use Rattle.s3_lines.specs.Files.{is_disk, is_card_reader, is_printer}
 use Rattle.s3_cards.specs.declared.name.Name.{Name}
 use Rattle.s3_cards.specs.Names.{same_name}
 use Rattle.s3_cards.proofs.NameLemmas.{same_name-equal}
@@ -22,7 +23,7 @@ use Rattle.s3_meaning.specs.Requests.{Request, Card, Read, Chain, Append, Add, U
 use Rattle.s3_meaning.specs.RecordTypes.{RecordType}
 use Rattle.s3_meaning.specs.Calculations.{Calculation, begins, ends, is_tag, name_in}
 use Rattle.s3_meaning.specs.OutputLines.{Output}
-use Rattle.s3_meaning.specs.Source.{Source, body, body_in, detail_calculations, file_named, is_card_reader, is_input, is_printer, is_updated, overflow_of, total_calculations, until_end}
+use Rattle.s3_meaning.specs.Source.{Source, body, body_in, detail_calculations, file_named, is_input, is_updated, overflow_of, total_calculations, until_end}
 use Rattle.s3_meaning.specs.Environment.{Environment, at_first, turn}
 use Rattle.s3_meaning.specs.Selection.{Head, InputFile, Reading, Selected, Standing, Unread, Stands, Ended, has_met_end, head_key, in_sequence, is_matched, is_unread, key_of, least, lesser, primary_first, same_key, select, select_at_end, selectable, taken, type_of, vacated}
 use Rattle.s3_meaning.specs.Runs.{Run, Rest, Anew, ask, ended, goes_to_totals, to_totals, replied, halted}
@@ -31,7 +32,7 @@ use Rattle.s3_meaning.specs.Carriage.{after_print, to_print}
 use Rattle.s3_meaning.specs.Output.{Composed, carriage, composed, disk_request, file_line_put, filled, is_exception, is_heading_or_detail, is_served, is_total_line, line_holds, line_put, lines_put, printed, stored_or_halted}
 use Rattle.s3_meaning.specs.Calculating.{after_tag, calculated, calculation_holds, chained, chained_to, divided, first_indicator, forgotten, has_tag, not_found, number_in, on_chain, performed, sought_in}
 use Rattle.s3_meaning.specs.Cycle.{Req, again, anew_within, cleared, counted_read, detail_time, file_read, files_read, first_reading, first_standing, halts_shown, has_overflowed, headed, headings, last_time, matched, on_read, one_cycle, overflow_lines, read_request, reading_time, record_time, renewed, selected_or_last, total_time, totals, typed, with_totals_due}
-use Rattle.s3_opening.specs.Asked.{is_disk, is_switched_on, is_used}
+use Rattle.s3_opening.specs.Asked.{is_switched_on, is_used}
 use Rattle.s3_time.proofs.Elements.{each_filtered, each_mapped, each_taken, each_joined, found_one}
 use Rattle.s3_time.proofs.Switches.{AreSet, NoSwitch, SetsNone, set_carriage, set_changed, set_composed, set_entries, set_forgotten, set_not_performed, set_number, set_past_overflow, set_quotient, set_same, set_text, set_turn, set_without, set_zero_quotient}
 

@@ -1,17 +1,17 @@
 //! A file as lines: each record as a text, or in hexadecimal digits.
 ghost use Rattle.std.specs.Prelude.{◌≡◌, ◌<◌, ◌++◌, ◌∷◌, [], true, length, map, OnOk, IfErr};
 ghost use Rattle.std.specs.List.{flat_map, list_all};
+ghost use Rattle.s3_cards.specs.Codes.{shown_byte};
 ghost use Rattle.s3_slots.specs.Inner.Kept.{IsOfPack};
 ghost use Rattle.s3_labels.specs.Contents.{contents_of};
-ghost use Rattle.s3_cells.specs.Inner.Texts.{has_character, shown_byte};
+ghost use Rattle.s3_cells.specs.Inner.Texts.{has_character};
 ghost use Rattle.s3_unload.specs.Inner.Lines.{IsLineRefusal, IsLinesRefusal, IsUnshown, UnloadsLines, digit_of, digits_of, is_line, line_of, lines_text, new_line};
 ghost use Rattle.s3_unload.specs.Inner.Ordered.{in_order};
 
 use crate::fault::UnloadFault;
 use crate::found::{Area, find_file};
 use crate::ordered::read_in_order;
-use crate::rows::push_codes;
-use s3_cards::Name;
+use s3_cards::{Name, push_characters};
 use s3_cells::place_without_character;
 use s3_files::Sequential;
 use s3_slots::FileLabel;
@@ -118,7 +118,7 @@ fn push_text(text: &mut Vec<u8>, n: u32, bytes: &[u8]) -> Result<(), UnloadFault
         let position = u16::try_from(place.saturating_add(1)).unwrap_or(u16::MAX);
         return Err(UnloadFault::NoCharacter(n + 1, position));
     }
-    push_codes(text, bytes)?;
+    push_characters(text, bytes)?;
     text.push(b'\n')?;
     Ok(())
 }

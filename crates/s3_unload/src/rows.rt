@@ -1,14 +1,13 @@
 //! Rows of a table: a cell for each field of a record.
-ghost use Rattle.std.specs.Prelude.{◌≡◌, ◌++◌, [], ◌∷◌, true, length, map, OnOk, IfErr};
+ghost use Rattle.std.specs.Prelude.{◌≡◌, ◌++◌, [], ◌∷◌, true, length, OnOk, IfErr};
 ghost use Rattle.std.specs.List.{All};
 ghost use Rattle.csv.specs.Records.{fields_of, partial_of};
 ghost use Rattle.s3_cells.specs.Inner.Fields.{LiesIn, cell_of, is_shown};
-ghost use Rattle.s3_cells.specs.Inner.Texts.{shown_byte};
 ghost use Rattle.s3_unload.specs.Inner.Hidden.{HidesField};
 ghost use Rattle.s3_unload.specs.Inner.Tables.{IsHiddenValue, are_shown, heading, name_text, row_of};
 
 use csv::ByteRecord;
-use s3_cards::{Name, host_byte, word_len};
+use s3_cards::{Name, push_characters, word_len};
 use s3_cells::{Field, ShowFault};
 use std::alloc::{AllocError, Global};
 
@@ -107,15 +106,5 @@ fn add_name(alloc: Global, name: Name, row: &mut ByteRecord) -> Result<(), Alloc
 fn push_name(text: &mut Vec<u8>, name: Name) -> Result<(), AllocError>
     ensures { OnOk result (text.new.items ≡ text.old.items ++ name_text name) }
 {
-    push_codes(text, &name.codes[..word_len(&name.codes)])
-}
-
-/// Appends the characters of codes.
-pub fn push_codes(text: &mut Vec<u8>, codes: &[u8]) -> Result<(), AllocError>
-    ensures { OnOk result (text.new.items ≡ text.old.items ++ map shown_byte codes.now) }
-{
-    for code in codes {
-        text.push(host_byte(*code))?;
-    }
-    Ok(())
+    push_characters(text, &name.codes[..word_len(&name.codes)])
 }

@@ -4,7 +4,6 @@ use super::fault::DayFault;
 use super::order::Order;
 use super::paper::Paper;
 use s3_host_files::{FileFault, LockedPack, Target, prepare_save};
-use std::alloc::AllocError;
 use std::fs::{File, OpenOptions};
 use std::io::Write;
 use std::{fs, io};

@@ -6,6 +6,7 @@ use Rattle.std.specs.List.{concat}
 use Rattle.s3_cards.specs.declared.levels.LevelId.{LevelId}
 use Rattle.s3_cards.specs.declared.levels.LevelId.TheVariants.{One, Two}
 use Rattle.s3_cards.specs.Deck.{deck_of}
+use Rattle.s3_cards.specs.Codes.{shown_byte}
 use Rattle.s3_store.specs.Contents.{sectors_of}
 use Rattle.s3_store.specs.Inner.State.{KeepsInStep}
 use Rattle.s3_slots.specs.Header.{mounted, region_of}
@@ -27,7 +28,7 @@ use Rattle.s3_bureau.specs.declared.outcome.Outcome.{Outcome}
 use Rattle.s3_bureau.specs.declared.run_fault.RunFault.{RunFault}
 use Rattle.s3_bureau.specs.declared.run_fault.RunFault.TheVariants.{Script, Mount, Device, NoMemory}
 use Rattle.s3_bureau.specs.Runs.{HasFiles, LeavesSo, Texts, RunTexts, cards_of, outcome_texts, refusal_of, texts_over}
-use Rattle.s3_bureau.specs.Texts.{shown_byte, report_of, halt_text_of}
+use Rattle.s3_bureau.specs.Texts.{report_of, halt_text_of}
 use Rattle.s3_bureau.specs.declared.report.ReportTables.{ReportTables}
 
 -- what is read of a deck: its cards, or why it was refused

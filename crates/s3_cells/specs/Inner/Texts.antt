@@ -1,15 +1,11 @@
 -- Texts of characters, and the codes that they have on cards.
-use Rattle.std.specs.Prelude.{ℕ, ◌-◌, ◌==◌, ◌&&◌, Bool, List, [], ◌∷◌, ◌++◌, length, replicate, unwrap_or, is_some, if◌then◌else◌}
+use Rattle.std.specs.Prelude.{ℕ, ◌-◌, ◌==◌, ◌&&◌, Bool, List, [], ◌∷◌, ◌++◌, length, replicate, is_some, if◌then◌else◌}
 use Rattle.s3_cards.specs.Codes.{ebcdic, ebcdic_of, host_of}
 use Rattle.s3_cards.specs.declared.ebcdic.TheConstants.{BLANK}
 
 -- a blank of a text
 abbrev pub space : ℕ
 space = 32
-
--- the character of a code, or a question mark
-abbrev pub shown_byte : ℕ → ℕ
-shown_byte code = unwrap_or (host_of code) 0x3f
 
 abbrev pub has_character : ℕ → Bool
 has_character code = is_some (host_of code)

@@ -2,10 +2,11 @@
 use Rattle.std.specs.Prelude.{◌≡◌, ℕ, ℤ, ◌-◌, ◌*◌, ◌^◌, ◌&&◌, nat_le, nat_lt, not, Bool, true, false, List, [], length, map, unsigned_abs, Option, Some}
 use Rattle.std.specs.Option.{option_map}
 use Rattle.std.specs.List.{list_all}
+use Rattle.s3_cards.specs.Codes.{shown_byte}
 use Rattle.s3_decimal.specs.Exact.{is_negative}
 use Rattle.s3_decimal.specs.Records.{has_bad_digit, packed_bytes, packed_digits, packed_number, zoned_bytes, zoned_digits, zoned_number}
 use Rattle.s3_cells.specs.Inner.Numbers.{number_read, number_text}
-use Rattle.s3_cells.specs.Inner.Texts.{has_character, has_code, shown_byte, text_bytes, trimmed}
+use Rattle.s3_cells.specs.Inner.Texts.{has_character, has_code, text_bytes, trimmed}
 use Rattle.s3_cells.specs.declared.kind.FieldKind.{FieldKind}
 use Rattle.s3_cells.specs.declared.kind.FieldKind.TheVariants.{Text as TextKind, Zoned, Packed}
 

@@ -2,6 +2,7 @@
 use Rattle.std.specs.Prelude.{ℕ, ◌+◌, ◌-◌, ◌^◌, ◌==◌, nat_lt, nat_le, unsigned_abs, Bool, true, not, ◌&&◌, ◌||◌, List, [], ◌∷◌, Option, Some, None, is_some, is_none, if◌then◌else◌}
 use Rattle.std.specs.List.{list_all}
 use Rattle.std.specs.Option.{option_or}
+use Rattle.s3_lines.specs.Files.{is_printer, is_by_cycle}
 use Rattle.s3_cards.specs.declared.name.Name.{Name}
 use Rattle.s3_cards.specs.Names.{no_name, same_name}
 use Rattle.s3_lines.specs.declared.indicator.Indicator.{Indicator}
@@ -26,7 +27,7 @@ use Rattle.s3_lines.specs.declared.sheet.OutputLine.TheVariants.{Line as LineCar
 use Rattle.s3_lines.specs.declared.sheet.SheetLine.{SheetLine}
 use Rattle.s3_lines.specs.declared.sheet.SheetLine.TheVariants.{Header, File, Input, Calculation, Output}
 use Rattle.s3_lines.specs.declared.sheet.Line.{Line}
-use Rattle.s3_lines.specs.Ranges.{is_between, if_given, is_record_indicator, is_overflow_indicator, is_switch_indicator, is_total_indicator, is_resulting_indicator, longest_record, is_printer, is_selected, shape_in_range, shape_of_positions}
+use Rattle.s3_lines.specs.Ranges.{is_between, if_given, is_record_indicator, is_overflow_indicator, is_switch_indicator, is_total_indicator, is_resulting_indicator, longest_record, shape_in_range, shape_of_positions}
 
 -- ---- indicators
 -- 01 to 99, L0 to L9, LR, MR, H1 to H9, 1P, OA to OG and OV, U1 to U8
@@ -58,7 +59,7 @@ file_in_range file =
     && is_between 1 (longest_record file.device) file.record_length
     && (if file.is_keyed && file.is_indexed then is_some file.key else is_none file.key)
     && if_given (key_in_range file.record_length) file.key
-    && (not file.ends_job || is_selected file.designation)
+    && (not file.ends_job || is_by_cycle file.designation)
     && if_given (λ indicator. is_overflow_indicator indicator && is_printer file.device) file.overflow
     && if_given is_switch_indicator file.condition
 

@@ -1,7 +1,7 @@
 -- The line that shows a slot of an area.
-use Rattle.std.specs.Prelude.{ℕ, ◌+◌, ◌-◌, List, [], ◌∷◌, ◌++◌, Option, Some, None, codes, length, map, replicate, unwrap_or}
+use Rattle.std.specs.Prelude.{ℕ, ◌+◌, ◌-◌, List, [], ◌∷◌, ◌++◌, Option, Some, None, codes, length, map, replicate}
 use Rattle.std.specs.Fmt.{decimal}
-use Rattle.s3_cards.specs.Codes.{host_of}
+use Rattle.s3_cards.specs.Codes.{shown_byte}
 use Rattle.s3_cards.specs.declared.name.Name.{Name}
 use Rattle.s3_cards.specs.declared.retention.Retention.{Retention}
 use Rattle.s3_cards.specs.declared.retention.Retention.TheVariants.{Permanent, Scratch, Temporary}
@@ -14,10 +14,6 @@ use Rattle.s3_slots.specs.declared.slot.Slot.TheVariants.{Damaged, Free, Sound}
 -- a number in at least so many decimal digits
 abbrev pub in_digits : ℕ → ℕ → List ℕ
 in_digits width number = replicate (width - length (decimal number)) 48 ++ decimal number
-
--- the byte that shows an EBCDIC code: its character, or a question mark
-abbrev pub shown_byte : ℕ → ℕ
-shown_byte code = unwrap_or (host_of code) 0x3f
 
 -- a label in its 8 places
 abbrev pub name_text : Name → List ℕ

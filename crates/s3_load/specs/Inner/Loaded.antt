@@ -13,12 +13,13 @@ use Rattle.s3_slots.specs.declared.label.Organization.{Organization}
 use Rattle.s3_slots.specs.declared.label.Organization.TheVariants.{Indexed, Sequential}
 use Rattle.s3_slots.specs.declared.making.NewFile.{NewFile}
 use Rattle.s3_slots.specs.declared.slot.Slot.{Slot}
-use Rattle.s3_slots.specs.declared.slot.Slot.TheVariants.{Damaged, Free, Sound}
+use Rattle.s3_slots.specs.declared.slot.Slot.TheVariants.{Free, Sound}
 use Rattle.s3_slots.specs.declared.slot.Standing.{Standing}
 use Rattle.s3_slots.specs.declared.slot.Standing.TheVariants.{Absent, Blocked, Present}
 use Rattle.s3_labels.specs.Areas.{area_of}
 use Rattle.s3_labels.specs.Inner.Areas.{areas_on, slots_at}
 use Rattle.s3_unload.specs.Inner.Ordered.{in_order}
+use Rattle.s3_pack_check.specs.Inner.Damages.{is_damaged}
 use Rattle.s3_pack_care.specs.Inner.Kept.{IsOther, KeepsFile, slot_on}
 use Rattle.s3_load.specs.declared.order.Order.{Order}
 use Rattle.s3_load.specs.declared.rows.Row.{Row}
@@ -69,11 +70,6 @@ pub record IsReplaced (order : Order) (header : Header) (contents : List (List �
 pub record KeepsOthers (order : Order) (slot : ℕ) (header : Header) (old new : List (List ℕ)) : Type 0 where
   pub kept : (a i : ℕ) → IsOther (area_of order.level) slot a i → ¬ IsReplaced order header old a i → KeepsFile header old new a i
   pub freed : (a i : ℕ) → IsOther (area_of order.level) slot a i → IsReplaced order header old a i → slot_on header new a i ≡ Some Free
-
-abbrev pub is_damaged : Slot → Bool
-is_damaged (Damaged name) = true
-is_damaged Free = false
-is_damaged (Sound label) = false
 
 abbrev pub is_damaged_at : Option Slot → Bool
 is_damaged_at (Some slot) = is_damaged slot

@@ -1,5 +1,6 @@
 -- The open files that a start comes to: what they hold, and that they are those of the F lines.
 use Rattle.std.specs.Prelude.{◌≡◌, ℕ, true, false, List, [], ◌∷◌, filter, slice_get, is_some, Some, Result, Ok, Err, ⊤}
+use Rattle.s3_lines.specs.Files.{is_only_read}
 use Rattle.s3_cards.specs.declared.levels.LevelId.{LevelId}
 use Rattle.s3_cards.specs.Names.{same_name}
 use Rattle.s3_lines.specs.declared.sheet.FileLine.{FileLine}
@@ -12,7 +13,7 @@ use Rattle.s3_job_files.specs.declared.file.OpenFile.{OpenFile}
 use Rattle.s3_job_files.specs.declared.job_files.JobFiles.{JobFiles}
 use Rattle.s3_opening.specs.declared.fault.OpeningFault.{OpeningFault}
 use Rattle.s3_opening.specs.declared.fault.OpeningFault.TheVariants.{Halted, Sectors}
-use Rattle.s3_opening.specs.Asked.{is_only_read, is_used, key_length_of, key_start_of}
+use Rattle.s3_opening.specs.Asked.{is_used, key_length_of, key_start_of}
 
 -- ---- what they hold
 -- the start comes to files, and they are held

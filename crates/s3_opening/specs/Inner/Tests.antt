@@ -1,6 +1,7 @@
 -- What the slots and the sectors of a pack say of the files of a job, whatever files are held.
 use Rattle.std.specs.Prelude.{ℕ, Bool, false, not, ◌&&◌, List, [], ◌∷◌, ◌++◌, Option, Some, None, Result, Ok, Err, filter_map, if◌then◌else◌}
 use Rattle.std.specs.List.{list_any}
+use Rattle.s3_lines.specs.Files.{is_only_read}
 use Rattle.s3_cards.specs.declared.levels.LevelId.{LevelId}
 use Rattle.s3_cards.specs.declared.name.Name.{Name}
 use Rattle.s3_cards.specs.Names.{same_name}
@@ -17,7 +18,7 @@ use Rattle.s3_labels.specs.Inner.Areas.{slots_at}
 use Rattle.s3_job_files.specs.Kept.{kept_on}
 use Rattle.s3_job_files.specs.Files.{JobFile, FilesInUse}
 use Rattle.s3_job_files.specs.Inner.Holds.{Seen}
-use Rattle.s3_opening.specs.Asked.{is_used, is_new, is_only_read, is_of_layout, new_file}
+use Rattle.s3_opening.specs.Asked.{is_used, is_new, is_of_layout, new_file}
 use Rattle.s3_opening.specs.Opening.{Settings, job_file, with_file, make_file, refusal_of, statement_of, unless_halted}
 
 -- what a file of the job comes to: it is opened, or made under the name by which the program knows it

@@ -1,6 +1,5 @@
 -- What a number is put out as.
-use Rattle.std.specs.Prelude.{◌≡◌, ℕ, ◌+◌, ◌/◌, ℤ, pos, Bool, true, unsigned_abs, List, replicate, nat_le, Option, Some, None, is_some, unwrap_or, if◌then◌else◌}
-use Rattle.s3_decimal.specs.declared.number.Dec.{Dec}
+use Rattle.std.specs.Prelude.{ℕ, ◌+◌, ◌/◌, ℤ, Bool, true, unsigned_abs, List, nat_le, Option, Some, None, is_some, unwrap_or, if◌then◌else◌}
 use Rattle.s3_decimal.specs.Exact.{is_negative}
 use Rattle.s3_decimal.specs.Records.{zoned_bytes, packed_bytes}
 use Rattle.s3_edit.specs.declared.code.EditCode.{EditCode}
@@ -9,10 +8,6 @@ use Rattle.s3_edit.specs.declared.code.Amount.{Amount}
 use Rattle.s3_edit.specs.Picture.{width_of}
 use Rattle.s3_lines.specs.declared.sheet.OutputForm.{OutputForm}
 use Rattle.s3_lines.specs.declared.sheet.OutputForm.TheVariants.{Plain, Packed, Edited}
-use Rattle.s3_cards.specs.declared.ebcdic.TheConstants.{BLANK}
-use Rattle.s3_cards.specs.declared.name.Name.{Name}
-use Rattle.s3_meaning.specs.Source.{Source, is_numeric, length_of}
-use Rattle.s3_meaning.specs.Environment.{Environment, put_number, put_text}
 use Rattle.s3_meaning.specs.Output.{edited}
 
 -- a number of so many digits and decimals; PAGE without an edit code as under Z
@@ -44,12 +39,3 @@ has_width _ digits decimals = true
 abbrev pub amount_of : OutputForm → (decimals : ℕ) → Option Amount
 amount_of (Edited (EditedCode style)) decimals = if nat_le decimals 6 then Some style else None
 amount_of _ decimals = None
-
--- PAGE has four digits
-pub record HasPageForm (number : Dec) : Type 0 where
-  pub digits : number.digits ≡ 4
-  pub decimals : number.decimals ≡ 0
-
--- a field becomes 0 or blanks
-abbrev pub cleared : Source → Name → Environment → Environment
-cleared source name e = if is_numeric source name then put_number name (pos 0) e else put_text name (replicate (length_of source name) BLANK) e

@@ -2,9 +2,10 @@
 -- entry.
 use Rattle.std.specs.Prelude.{◌≡◌, ℕ, zero, suc, ◌+◌, ◌-◌, ◌==◌, List, [], ◌∷◌, ◌++◌, Bool, false, not, ◌&&◌, ◌||◌, Option, Some, None, is_some, length, map, filter, nat_le}
 use Rattle.std.specs.List.{list_any}
+use Rattle.s3_lines.specs.Files.{is_printer, is_by_cycle}
 use Rattle.s3_cards.specs.Names.{name_of}
 use Rattle.s3_cards.specs.declared.name.Name.{Name}
-use Rattle.s3_lines.specs.Ranges.{is_between, longest_record, is_printer, is_selected, shape_of_positions}
+use Rattle.s3_lines.specs.Ranges.{is_between, longest_record, shape_of_positions}
 use Rattle.s3_lines.specs.declared.sheet.FieldLine.{FieldLine}
 use Rattle.s3_lines.specs.declared.sheet.FileLine.{FileLine}
 use Rattle.s3_lines.specs.declared.sheet.Shape.{Shape}
@@ -53,7 +54,7 @@ has_key_past file = has_record_length file && (is_some file.key && not (is_key_w
 
 abbrev pub file_parts : List ℕ → List Part
 file_parts card =
-    part 2 17 17 ((file_line card).ends_job && not (is_selected (file_line card).designation))
+    part 2 17 17 ((file_line card).ends_job && not (is_by_cycle (file_line card).designation))
     ∷ part 2 29 30 (not (is_with_index (file_line card)) && are_filled card 29 30)
     ∷ part 2 35 38 (not (is_with_index (file_line card)) && are_filled card 35 38)
     ∷ part 2 33 34 (are_filled card 33 34 && not (is_printer (file_line card).device))

@@ -6,7 +6,7 @@ use crate::cycle::list_file::{Held, ListFile, Record};
 use crate::cycle::sources::{codes_of, list_codes, list_text, program_of};
 use s3_cards::Card;
 use s3_cards::ebcdic::DIGIT_0;
-use s3_cycle::{Answer, Cycle, Request, Sought};
+use s3_cycle::{Answer, Cycle, FileCall, Request, Sought};
 use s3_meaning::Current;
 use s3_operator::HaltCode;
 use s3_output::composition::Composition;
@@ -96,30 +96,29 @@ impl Job {
     fn serve(&mut self) -> Result<bool, AllocError> {
         match self.cycle.pending() {
             Request::Card => Ok(self.give_card()),
-            Request::Read { file, length: _ } => {
-                let record = read(&mut self.files, *file)?;
-                Ok(self.give(record))
-            }
-            Request::Chain {
-                file,
-                length: _,
-                sought,
-            } => {
-                let record = chain(&mut self.files, *file, sought);
-                Ok(self.give(record))
-            }
-            Request::Append { file } => {
-                let refusal = append(&mut self.files, *file, self.cycle.record())?;
-                Ok(self.finish(refusal))
-            }
-            Request::Add { file } => {
-                let refusal = add(&mut self.files, *file, self.cycle.record())?;
-                Ok(self.finish(refusal))
-            }
-            Request::Update { file, current } => {
-                let refusal = update(&mut self.files, *file, *current, self.cycle.changes());
-                Ok(self.finish(refusal))
-            }
+            Request::File { file, call } => match call {
+                FileCall::Read { length: _ } => {
+                    let record = read(&mut self.files, *file)?;
+                    Ok(self.give(record))
+                }
+                FileCall::Chain { length: _, sought } => {
+                    let record = chain(&mut self.files, *file, sought);
+                    Ok(self.give(record))
+                }
+                FileCall::Append => {
+                    let refusal = append(&mut self.files, *file, self.cycle.record())?;
+                    Ok(self.finish(refusal))
+                }
+                FileCall::Add => {
+                    let refusal = add(&mut self.files, *file, self.cycle.record())?;
+                    Ok(self.finish(refusal))
+                }
+                FileCall::Update { current } => {
+                    let changes = self.cycle.changes();
+                    let refusal = update(&mut self.files, *file, *current, changes);
+                    Ok(self.finish(refusal))
+                }
+            },
             Request::Print { page: _, line: _ } => {
                 list_codes(&mut self.log, self.alloc, self.cycle.record())?;
                 Ok(self.finish(None))

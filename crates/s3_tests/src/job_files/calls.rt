@@ -8,10 +8,10 @@ use crate::job_files::packs::{Label, RECORD_BYTES, Record, name_of};
 use s3_cards::LevelId;
 use s3_cards::ebcdic::BLANK;
 use s3_job_files::{JobFiles, OpenFile, Put};
-use s3_labels::{FileLabel, Organization, Pack};
+use s3_labels::{Organization, Pack};
 use s3_meaning::Current;
 use s3_operator::HaltCode;
-use s3_store::{SectorFault, Sectors};
+use s3_store::Sectors;
 use std::alloc::Global;
 
 /// A call on a file of a job.

@@ -9,7 +9,7 @@ ghost use Rattle.s3_opening.specs.Inner.Samples.{line as sample_line};
 
 use crate::openings::calls::{DATE, Fault, Halt, start};
 use s3_cards::{LevelId, Name, Retention};
-use s3_labels::{LabelFault, Organization, Pack, Refused, image};
+use s3_labels::{Organization, Pack, Refused, image};
 use s3_lines::indicator::Indicator;
 use s3_lines::sheet::{Designation, Device, FileLine, FileUse, KeyField};
 use s3_ocl::{FileSize, FileStatement};

@@ -3,8 +3,9 @@ use Rattle.std.specs.Prelude.{◌≡◌, ℕ, ◌+◌, ◌-◌, ◌/◌, ◌%◌
 use Rattle.std.specs.List.{flat_map, list_all}
 use Rattle.std.specs.Io.KnownBytes.{Appends}
 use Rattle.s3_cards.specs.declared.name.Name.{Name}
+use Rattle.s3_cards.specs.Codes.{shown_byte}
 use Rattle.s3_slots.specs.declared.label.FileLabel.{FileLabel}
-use Rattle.s3_cells.specs.Inner.Texts.{has_character, shown_byte}
+use Rattle.s3_cells.specs.Inner.Texts.{has_character}
 use Rattle.s3_unload.specs.Inner.Found.{IsFound}
 use Rattle.s3_unload.specs.Inner.Ordered.{in_order}
 use Rattle.s3_unload.specs.Inner.Refusals.{IsFindRefusal}

@@ -6,8 +6,8 @@ use Rattle.csv.specs.declared.writer.Writer.{Writer}
 use Rattle.csv.specs.declared.writer.WriterBuilder.{WriterBuilder}
 use Rattle.s3_cards.specs.Names.{is_mark}
 use Rattle.s3_cards.specs.declared.name.Name.{Name}
+use Rattle.s3_cards.specs.Codes.{shown_byte}
 use Rattle.s3_cells.specs.Inner.Fields.{cell_of, is_shown}
-use Rattle.s3_cells.specs.Inner.Texts.{shown_byte}
 use Rattle.s3_cells.specs.declared.field.Field.{Field}
 use Rattle.s3_cells.specs.declared.fault.ShowFault.{ShowFault}
 use Rattle.s3_cells.specs.declared.fault.ShowFault.TheVariants.{NoCharacter, NoNumber, NoMemory}

@@ -1,7 +1,7 @@
 -- The characters so far.
 use Rattle.std.proofs.Common.{◌≡◌, ◌+◌, ◌++◌, take, length}
 use Rattle.std.specs.Prelude.{map}
-use Rattle.s3_bureau.specs.Texts.{shown_byte}
+use Rattle.s3_cards.specs.Codes.{shown_byte}
 use Rattle.s3_bureau.proofs.report.lay_codes.Given as goal
 
 abbrev pub invariant-loop-sixteen : goal.invariant-loop-sixteen

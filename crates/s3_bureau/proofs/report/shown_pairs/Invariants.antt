@@ -2,7 +2,7 @@
 use Rattle.std.proofs.Common.{◌≡◌, ◌<◌, ◌*◌, ◌∷◌, [], ℕ, length, vec_items}
 use Rattle.std.specs.Prelude.{slice_index}
 use Rattle.std.specs.Int.{from_le_bytes, to_le_bytes, w16}
-use Rattle.s3_bureau.specs.Texts.{shown_byte}
+use Rattle.s3_cards.specs.Codes.{shown_byte}
 use Rattle.s3_bureau.proofs.report.shown_pairs.Given as goal
 
 abbrev pub invariant-loop-second : goal.invariant-loop-second

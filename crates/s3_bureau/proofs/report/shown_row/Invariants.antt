@@ -2,7 +2,7 @@
 use Rattle.std.proofs.Common.{◌≡◌, ◌<◌, ◌∷◌, [], ℕ, length}
 use Rattle.std.specs.Prelude.{slice_index}
 use Rattle.std.specs.Int.{to_le_bytes, w16}
-use Rattle.s3_bureau.specs.Texts.{shown_byte}
+use Rattle.s3_cards.specs.Codes.{shown_byte}
 use Rattle.s3_bureau.proofs.report.shown_row.Given as goal
 
 abbrev pub invariant-loop-first : goal.invariant-loop-first

@@ -1,4 +1,4 @@
-use Rattle.std.proofs.Common.{◌≡◌, ◌≤◌, true, length, arith, rules}
+use Rattle.std.proofs.Common.{◌≡◌, true, length, arith, rules}
 use Rattle.std.specs.List.{list_all}
 use Rattle.s3_cells.specs.Inner.Texts.{has_code}
 use Rattle.s3_cells.proofs.Cells.{got_text}

@@ -1,4 +1,4 @@
-use Rattle.std.proofs.Common.{◌≡◌, ◌≤◌, true, get_or, arith, sym, length, eq-eqb}
+use Rattle.std.proofs.Common.{◌≡◌, true, get_or, arith, sym, length, eq-eqb}
 use Rattle.std.proofs.lemmas.List.Sums.{position_or_len_is}
 use Rattle.s3_cells.specs.Inner.Numbers.{is_point}
 use Rattle.s3_cells.proofs.numbers.point_in.Goals as goal

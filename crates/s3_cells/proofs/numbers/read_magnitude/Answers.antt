@@ -1,4 +1,4 @@
-use Rattle.std.proofs.Common.{◌≡◌, ◌∙◌, ◌≤◌, ◌<◌, true, false, arith, sym, refl, [], map, length, ap, rules}
+use Rattle.std.proofs.Common.{◌≡◌, true, false, arith, refl, [], map, rules}
 use Rattle.s3_cells.specs.Inner.Numbers.{are_digits, digit_value}
 use Rattle.s3_cells.proofs.NumberLemmas.{magnitude_said, many_decimals, not_digits}
 use Rattle.s3_cells.proofs.numbers.read_magnitude.Goals as goal

@@ -1,4 +1,4 @@
-use Rattle.std.proofs.Common.{◌≡◌, ◌<◌, ◌^◌, arith}
+use Rattle.std.proofs.Common.{◌<◌, ◌^◌, arith}
 use Rattle.s3_decimal.proofs.Powers.{ten_le}
 use Rattle.s3_cells.proofs.NumberLemmas.{number_said}
 use Rattle.s3_cells.proofs.numbers.read_number.Goals as goal

@@ -1,5 +1,5 @@
 use Rattle.std.proofs.Common.{◌+◌, ◌-◌, ◌∙◌, ap, drop, length, map, refl, rules, take}
-use Rattle.s3_cells.specs.Inner.Texts.{shown_byte}
+use Rattle.s3_cards.specs.Codes.{shown_byte}
 use Rattle.s3_cells.proofs.TextLemmas.{kept_after}
 use Rattle.s3_cells.proofs.texts.push_text.Goals as goal
 

@@ -1,4 +1,4 @@
-use Rattle.std.proofs.Common.{◌<◌, length, arith}
+use Rattle.std.proofs.Common.{arith}
 use Rattle.std.proofs.lemmas.Grind.{same_number_lists}
 use Rattle.s3_keyed.proofs.keys.have_same_bytes.Goals as goal
 

@@ -1,5 +1,5 @@
 use Rattle.std.proofs.Common.{◌≡◌, map, take}
-use Rattle.s3_cells.specs.Inner.Texts.{shown_byte}
+use Rattle.s3_cards.specs.Codes.{shown_byte}
 use Rattle.s3_load.proofs.columns.are_characters_of.Given as goal
 
 abbrev pub invariant-loop-place : goal.invariant-loop-place

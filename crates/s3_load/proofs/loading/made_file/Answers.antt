@@ -1,6 +1,6 @@
-use Rattle.std.proofs.Common.{◌≡◌, ◌<◌, ℕ, false, slice_get, subst}
+use Rattle.std.proofs.Common.{◌≡◌, None, subst}
 use Rattle.s3_labels.specs.Inner.Areas.{slots_in}
-use Rattle.s3_load.specs.Inner.Loaded.{is_damaged_at}
+use Rattle.s3_pack_check.specs.Inner.Damages.{first_damaged}
 use Rattle.s3_load.proofs.PlacedFiles.{made_mounted, made_placed}
 use Rattle.s3_load.proofs.loading.made_file.Goals as goal
 
@@ -8,12 +8,12 @@ pub returns-clause-placed : goal.returns-clause-placed
 returns-clause-placed c =
     let made = c.in_ok-label.ensures in
     made_placed c.args.order.now c.in_ok-new.new c.args.mounted.now.areas c.make.new.self.areas c.args.mounted.now.pool c.make.new.self.pool c.in_ok-label.label made.written.slot c.requires.anew c.requires.mounted c.make.ensures.ready
-    (subst (λ a. (i : ℕ) → i < 32 → is_damaged_at (slice_get (slots_in a c.args.mounted.now.areas) i) ≡ false) c.area_of.ensures.value c.in_ok-refuse_damaged.ensures.none)
+    (subst (λ a. first_damaged (slots_in a c.args.mounted.now.areas) ≡ None) c.area_of.ensures.value c.in_ok-refuse_damaged.ensures.none)
     made.ok c.make.ensures.alone made.written.there made.named made.label made.says c.make.ensures.within.count c.make.ensures.within.contents c.in_ok-new.ensures.asked
 
 pub returns-clause-mounted : goal.returns-clause-mounted
 returns-clause-mounted c =
     let made = c.in_ok-label.ensures in
     made_mounted c.args.order.now c.in_ok-new.new c.args.mounted.now.areas c.make.new.self.areas c.args.mounted.now.pool c.make.new.self.pool c.in_ok-label.label made.written.slot c.requires.anew c.requires.mounted c.make.ensures.ready
-    (subst (λ a. (i : ℕ) → i < 32 → is_damaged_at (slice_get (slots_in a c.args.mounted.now.areas) i) ≡ false) c.area_of.ensures.value c.in_ok-refuse_damaged.ensures.none)
+    (subst (λ a. first_damaged (slots_in a c.args.mounted.now.areas) ≡ None) c.area_of.ensures.value c.in_ok-refuse_damaged.ensures.none)
     made.ok c.make.ensures.alone made.written.there made.named made.label made.says c.make.ensures.within.count c.make.ensures.within.contents c.in_ok-new.ensures.asked

@@ -15,7 +15,7 @@ blank-requires-clause-few c = (wide c.args.style.now c.args.form.now.digits c.ar
 
 pub put_body-requires-clause-fits : goal.put_body-requires-clause-fits
 put_body-requires-clause-fits c =
-    rw (c.from-decimals.ensures, c.sign_width.ensures, c.blank.auto.text) (whole_room c.args.style.now c.args.magnitude c.args.form.now.digits c.args.form.now.decimals (length c.args.text.now) c.requires.below c.args.form.now.decimals_within c.requires.room)
+    rw (c.from-decimals.ensures, c.sign_width.ensures.value, c.blank.auto.text) (whole_room c.args.style.now c.args.magnitude c.args.form.now.digits c.args.form.now.decimals (length c.args.text.now) c.requires.below c.args.form.now.decimals_within c.requires.room)
 
 pub returns : goal.returns
 returns c =
@@ -24,9 +24,9 @@ returns c =
     let width = width_is c.args.style.now c.args.form.now.digits c.args.form.now.decimals (length c.args.text.now) c.requires.room in
     let body = length c.blank.new.text - c.sign_width.result in
     λ p l.
-    let at : length c.args.text.now - 1 - p ≡ body + sign_width c.args.style.now.sign - 1 - p = omega (arith, width, c.sign_width.ensures, c.blank.auto.text) in
+    let at : length c.args.text.now - 1 - p ≡ body + sign_width c.args.style.now.sign - 1 - p = omega (arith, width, c.sign_width.ensures.value, c.blank.auto.text) in
     rw (← c.requires.magnitude, ← below, ← c.from-decimals.ensures)
     (ap (λ i. get_or c.put_body.new.text i 0) at
     ∙ joined c.args.style.now c.from-decimals.result c.is_below_zero.result c.args.magnitude body c.put_body.new.text c.put_body.new.text
     (λ k h. c.put_body.ensures.picture k h ∙ shown_body c.args.style.now c.from-decimals.result c.args.magnitude k (some_shown c.args.style.now c.args.magnitude c.requires.some))
-    (λ k h. c.put_body.ensures.rest (body + sign_width c.args.style.now.sign - 1 - k) (omega (arith, h)) ∙ c.put_sign.ensures.picture k h) (λ i h. refl) p (omega (arith, l, width, c.sign_width.ensures, c.blank.auto.text)))
+    (λ k h. c.put_body.ensures.rest (body + sign_width c.args.style.now.sign - 1 - k) (omega (arith, h)) ∙ c.put_sign.ensures.picture k h) (λ i h. refl) p (omega (arith, l, width, c.sign_width.ensures.value, c.blank.auto.text)))

@@ -4,7 +4,7 @@ use Rattle.std.proofs.lemmas.Nat.{be_bytes_8}
 use Rattle.std.specs.Int.{w64, from_be_bytes, to_be_bytes}
 use Rattle.std.specs.Cmp.Lexicographic.{pointwise}
 use Rattle.s3_cards.proofs.NameLemmas.{equal_codes, same_codes}
-use Rattle.s3_job_files.proofs.job_files.are_same.Goals as goal
+use Rattle.s3_cards.proofs.texts.are_same_eight.Goals as goal
 
 agree : (p q : Bool) → (p ≡ true → q ≡ true) → (q ≡ true → p ≡ true) → p ≡ q
 agree true q f g = sym (f refl)

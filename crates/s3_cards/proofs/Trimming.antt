@@ -1,6 +1,6 @@
 -- Blanks at the end of a text.
 use Rattle.std.proofs.Common.{◌≡◌, ℕ, zero, suc, false, List, [], ◌∷◌, ◌++◌, refl, sym, ap, ◌∙◌, eqb, take, drop, replicate, take-append-drop}
-use Rattle.s3_bureau.specs.Texts.{trimmed, before_trimmed}
+use Rattle.s3_cards.specs.Printed.{trimmed, before_trimmed}
 
 -- a blank at the end goes
 pub trimmed_blank : (text : List ℕ) → trimmed (text ++ 0x40 ∷ []) ≡ trimmed text

@@ -1,8 +1,0 @@
--- The characters so far.
-use Rattle.std.proofs.Common.{◌≡◌, ◌++◌, take, vec_items}
-use Rattle.std.specs.Prelude.{map}
-use Rattle.s3_listing.specs.Inner.Lines.{shown_byte}
-use Rattle.s3_listing.proofs.lines.push_shown.Given as goal
-
-abbrev pub invariant-loop-code : goal.invariant-loop-code
-invariant-loop-code l = vec_items l.text ≡ vec_items l.initial.text ++ map shown_byte (take l.code-index l.codes)
