@@ -1,6 +1,7 @@
 -- The runs don't depend on their bounds: what can begin anew is what its definition would be without one.
 use Rattle.std.proofs.Common.{◌≡◌, ℕ, zero, suc, ◌==◌, ◌<◌, ◌≤◌, Bool, true, false, ◌&&◌, ◌||◌, if◌then◌else◌, ℤ, List, [], ◌∷◌, Option, Some, None, length, unsigned_abs, refl, sym, true≢false, arith}
 use Rattle.std.specs.List.{list_any}
+use Rattle.s3_lines.specs.Files.{is_printer}
 use Rattle.s3_meaning.proofs.Selecting.{taken_unread}
 use Rattle.s3_cards.specs.declared.name.Name.{Name}
 use Rattle.s3_lines.specs.declared.indicator.Indicator.{Indicator}
@@ -19,7 +20,7 @@ use Rattle.s3_meaning.specs.Requests.{Request, Answer, Found, Nothing, Done, Ref
 use Rattle.s3_meaning.specs.RecordTypes.{RecordType}
 use Rattle.s3_meaning.specs.Calculations.{Calculation, name_in, is_tag}
 use Rattle.s3_meaning.specs.OutputLines.{Output}
-use Rattle.s3_meaning.specs.Source.{Source, file_named, is_printer}
+use Rattle.s3_meaning.specs.Source.{Source, file_named}
 use Rattle.s3_meaning.specs.Environment.{Environment}
 use Rattle.s3_meaning.specs.Selection.{Head, InputFile, Reading, Selected, head_key, in_sequence, is_unread, select, taken, is_matched, type_of}
 use Rattle.s3_meaning.specs.Runs.{goes_to_totals, Run, Rest, Anew, ask, ended, to_totals, replied, halted}

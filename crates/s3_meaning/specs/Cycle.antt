@@ -4,11 +4,12 @@ use Rattle.std.specs.Option.{option_or}
 use Rattle.std.specs.List.{list_any}
 use Rattle.s3_lines.specs.declared.indicator.Indicator.{Indicator}
 use Rattle.s3_lines.specs.declared.indicator.Indicator.TheVariants.{LastRecord, Matching, Halt, FirstPage}
+use Rattle.s3_lines.specs.Files.{is_card_reader}
 use Rattle.s3_operator.specs.declared.halt_code.HaltCode.TheVariants.{HaltIndicator, UnidentifiedRecord, OutOfSequence}
 use Rattle.s3_lines.specs.declared.sheet.FileLine.{FileLine}
 use Rattle.s3_meaning.specs.Names.{same_indicator}
 use Rattle.s3_meaning.specs.RecordTypes.{RecordType}
-use Rattle.s3_meaning.specs.Source.{Source, detail_calculations, total_calculations, is_input, is_card_reader, overflow_of, has_control_fields, has_levels}
+use Rattle.s3_meaning.specs.Source.{Source, detail_calculations, total_calculations, is_input, overflow_of, has_control_fields, has_levels}
 use Rattle.s3_meaning.specs.Requests.{Request, Card, Read, Answer, Found}
 use Rattle.s3_meaning.specs.declared.current.Current.TheVariants.{NthRead}
 use Rattle.s3_meaning.specs.Environment.{Environment, turn, turn_levels, with_last_record, put_current, at_first}

@@ -1,6 +1,7 @@
 -- Output lines: when one holds, what it puts out, and the request that it makes.
 use Rattle.std.specs.Prelude.{ℕ, ◌+◌, ◌-◌, ◌/◌, ◌==◌, Bool, true, false, not, ◌&&◌, ℤ, pos, ◌+ℤ◌, unsigned_abs, List, [], ◌∷◌, ◌++◌, map, length, take, drop, replicate, Option, Some, None, is_some, unwrap_or, if◌then◌else◌}
 use Rattle.std.specs.List.{list_any}
+use Rattle.s3_lines.specs.Files.{is_printer}
 use Rattle.s3_decimal.specs.Exact.{is_negative}
 use Rattle.s3_decimal.specs.Records.{zoned_bytes, packed_bytes}
 use Rattle.s3_edit.specs.declared.code.EditCode.{EditCode}
@@ -22,7 +23,7 @@ use Rattle.s3_meaning.specs.Names.{same_indicator, page, entries}
 use Rattle.s3_cards.specs.Names.{same_name}
 use Rattle.s3_meaning.specs.Requests.{Request, Append, Add, Update, Print, Answer, Refused}
 use Rattle.s3_meaning.specs.OutputLines.{Output}
-use Rattle.s3_meaning.specs.Source.{Source, digits_of, decimals_of, length_of, is_numeric, is_printer, is_updated, file_named, overflow_of}
+use Rattle.s3_meaning.specs.Source.{Source, digits_of, decimals_of, length_of, is_numeric, is_updated, file_named, overflow_of}
 use Rattle.s3_meaning.specs.Environment.{Environment, put_number, put_text, turn, all_hold}
 use Rattle.s3_meaning.specs.Carriage.{Carriage, to_print, after_print}
 use Rattle.s3_meaning.specs.Runs.{Rest, Anew, ask, halted}

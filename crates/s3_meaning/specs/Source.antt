@@ -7,8 +7,6 @@ use Rattle.s3_lines.specs.declared.indicator.Indicator.{Indicator}
 use Rattle.s3_lines.specs.declared.sheet.FileUse.{FileUse}
 use Rattle.s3_lines.specs.declared.sheet.FileUse.TheVariants.{Output as OutputUse, Input as InputUse, Update}
 use Rattle.s3_lines.specs.declared.sheet.Designation.TheVariants.{Primary, Secondary, Chained}
-use Rattle.s3_lines.specs.declared.sheet.Device.{Device}
-use Rattle.s3_lines.specs.declared.sheet.Device.TheVariants.{CardReader, Printer}
 use Rattle.s3_lines.specs.declared.sheet.FileLine.{FileLine}
 use Rattle.s3_lines.specs.declared.sheet.FieldForm.{FieldForm}
 use Rattle.s3_lines.specs.declared.sheet.FieldLine.{FieldLine}
@@ -172,14 +170,6 @@ body source name = body_in name source.calculations
 -- ---- files
 abbrev pub is_input : FileLine → Bool
 is_input file = is_designated Primary file || is_designated Secondary file
-
-abbrev pub is_card_reader : Device → Bool
-is_card_reader CardReader = true
-is_card_reader _ = false
-
-abbrev pub is_printer : Device → Bool
-is_printer Printer = true
-is_printer _ = false
 
 -- a line without ADD for it is an update
 abbrev pub is_updated : FileLine → Bool
