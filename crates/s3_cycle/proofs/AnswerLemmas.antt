@@ -10,11 +10,12 @@ use Rattle.s3_lines.specs.declared.sheet.Device.TheVariants.{CardReader, Printer
 use Rattle.s3_lines.specs.declared.sheet.FileLine.{FileLine}
 use Rattle.s3_lines.specs.Ranges.{is_between, longest_record}
 use Rattle.s3_lines.specs.Inner.Ranges.{file_in_range}
+use Rattle.s3_lines.specs.Files.{is_card_reader}
 use Rattle.s3_operator.specs.declared.halt_code.HaltCode.{HaltCode}
 use Rattle.s3_meaning.specs.Environment.{Environment, turn, with_last_record}
 use Rattle.s3_meaning.specs.Requests as Meant
 use Rattle.s3_meaning.specs.Inner.Requests.{fits, fits_done, fits_record, fits_reply, refuses_append, refuses_add, refuses_update}
-use Rattle.s3_meaning.specs.Source.{Source, is_card_reader}
+use Rattle.s3_meaning.specs.Source.{Source}
 use Rattle.s3_meaning.specs.Runs.{Rest, ended, halted, replied, to_totals}
 use Rattle.s3_meaning.specs.Requests.{Answer}
 use Rattle.s3_meaning.specs.Cycle.{again, file_read, last_time}
@@ -32,6 +33,7 @@ use Rattle.s3_match.specs.Inner.Reading.{input_at}
 use Rattle.s3_match.proofs.ReadingLemmas.{input_slot}
 use Rattle.s3_cycle.specs.declared.request.Answer as Code
 use Rattle.s3_cycle.specs.declared.request.Answer.TheVariants.{Found, Nothing, Done, Refused, Reply}
+use Rattle.s3_cycle.specs.declared.request.FileCall.TheVariants as calls
 use Rattle.s3_cycle.specs.declared.request.Request.{Request}
 use Rattle.s3_cycle.specs.declared.request.Request.TheVariants as asks
 use Rattle.s3_cycle.specs.declared.progress.Progress.{Progress}
@@ -56,11 +58,11 @@ done_fits refuses (Reply digit) h = h
 pub stored_fits : (p : Program) (positions : List (Option ℕ)) (request : Request) (answer : Code.Answer) → is_record_request request ≡ true → fits (request_of p positions request) (answer_of answer) ≡ true → is_done_or_refused answer ≡ true
 unfolding request_of
 stored_fits p positions asks.Card answer is h = absurd (true≢false (sym is))
-stored_fits p positions (asks.Read file size) answer is h = absurd (true≢false (sym is))
-stored_fits p positions (asks.Chain file size sought) answer is h = absurd (true≢false (sym is))
-stored_fits p positions (asks.Append file) answer is h = done_fits refuses_append answer h
-stored_fits p positions (asks.Add file) answer is h = done_fits refuses_add answer h
-stored_fits p positions (asks.Update file current) answer is h = done_fits refuses_update answer h
+stored_fits p positions (asks.File file (calls.Read size)) answer is h = absurd (true≢false (sym is))
+stored_fits p positions (asks.File file (calls.Chain size sought)) answer is h = absurd (true≢false (sym is))
+stored_fits p positions (asks.File file calls.Append) answer is h = done_fits refuses_append answer h
+stored_fits p positions (asks.File file calls.Add) answer is h = done_fits refuses_add answer h
+stored_fits p positions (asks.File file (calls.Update current)) answer is h = done_fits refuses_update answer h
 stored_fits p positions (asks.Print page line) answer is h = absurd (true≢false (sym is))
 stored_fits p positions asks.Jump answer is h = absurd (true≢false (sym is))
 stored_fits p positions (asks.Ask code) answer is h = absurd (true≢false (sym is))
@@ -77,11 +79,7 @@ reply_fits code (Reply digit) h = refl
 pub asked_fits : (p : Program) (positions : List (Option ℕ)) (request : Request) (answer : Code.Answer) → is_ask request ≡ true → fits (request_of p positions request) (answer_of answer) ≡ true → is_reply answer ≡ true
 unfolding request_of
 asked_fits p positions asks.Card answer is h = absurd (true≢false (sym is))
-asked_fits p positions (asks.Read file size) answer is h = absurd (true≢false (sym is))
-asked_fits p positions (asks.Chain file size sought) answer is h = absurd (true≢false (sym is))
-asked_fits p positions (asks.Append file) answer is h = absurd (true≢false (sym is))
-asked_fits p positions (asks.Add file) answer is h = absurd (true≢false (sym is))
-asked_fits p positions (asks.Update file current) answer is h = absurd (true≢false (sym is))
+asked_fits p positions (asks.File file call) answer is h = absurd (true≢false (sym is))
 asked_fits p positions (asks.Print page line) answer is h = absurd (true≢false (sym is))
 asked_fits p positions asks.Jump answer is h = absurd (true≢false (sym is))
 asked_fits p positions (asks.Ask code) answer is h = reply_fits code answer h
@@ -133,14 +131,14 @@ pub chained_fits : (p : Program) (positions : List (Option ℕ)) (place file : �
     → IsRecordOrNothing (file_at p file) answer
 unfolding request_of
 chained_fits p positions place file asks.Card answer is h = absurd is
-chained_fits p positions place file (asks.Read slot size) answer is h = absurd is
-chained_fits p positions place file (asks.Chain slot size sought) answer is h =
+chained_fits p positions place file (asks.File slot (calls.Read size)) answer is h = absurd is
+chained_fits p positions place file (asks.File slot (calls.Chain size sought)) answer is h =
     let few : (file_at p file).record_length ≤ 1024 = few_by (file_at p file).device (file_at p file).record_length (file_ranged p file is.0.within) in
     let same : size ≡ (file_at p file).record_length = is.1 in
     record_fits (file_at p file) size answer (omega (arith, same)) (omega (arith, same, few)) h
-chained_fits p positions place file (asks.Append slot) answer is h = absurd is
-chained_fits p positions place file (asks.Add slot) answer is h = absurd is
-chained_fits p positions place file (asks.Update slot current) answer is h = absurd is
+chained_fits p positions place file (asks.File slot calls.Append) answer is h = absurd is
+chained_fits p positions place file (asks.File slot calls.Add) answer is h = absurd is
+chained_fits p positions place file (asks.File slot (calls.Update current)) answer is h = absurd is
 chained_fits p positions place file (asks.Print page line) answer is h = absurd is
 chained_fits p positions place file asks.Jump answer is h = absurd is
 chained_fits p positions place file (asks.Ask code) answer is h = absurd is
@@ -155,14 +153,14 @@ pub read_fits : (p : Program) (progress : Progress) (positions : List (Option �
 unfolding request_of
 read_fits p progress positions place asks.Card answer in_range is h =
     record_fits _ 96 answer (card_by (input_at (inputs_in p progress) place).file.device (input_at (inputs_in p progress) place).file.record_length is in_range.ranged) (omega arith) h
-read_fits p progress positions place (asks.Read slot size) answer in_range is h =
+read_fits p progress positions place (asks.File slot (calls.Read size)) answer in_range is h =
     let few : (input_at (inputs_in p progress) place).file.record_length ≤ 1024 = few_by (input_at (inputs_in p progress) place).file.device (input_at (inputs_in p progress) place).file.record_length in_range.ranged in
     let same : size ≡ (input_at (inputs_in p progress) place).file.record_length = is in
     record_fits _ size answer (omega (arith, same)) (omega (arith, same, few)) h
-read_fits p progress positions place (asks.Chain slot size sought) answer in_range is h = absurd is
-read_fits p progress positions place (asks.Append slot) answer in_range is h = absurd is
-read_fits p progress positions place (asks.Add slot) answer in_range is h = absurd is
-read_fits p progress positions place (asks.Update slot current) answer in_range is h = absurd is
+read_fits p progress positions place (asks.File slot (calls.Chain size sought)) answer in_range is h = absurd is
+read_fits p progress positions place (asks.File slot calls.Append) answer in_range is h = absurd is
+read_fits p progress positions place (asks.File slot calls.Add) answer in_range is h = absurd is
+read_fits p progress positions place (asks.File slot (calls.Update current)) answer in_range is h = absurd is
 read_fits p progress positions place (asks.Print page line) answer in_range is h = absurd is
 read_fits p progress positions place asks.Jump answer in_range is h = absurd is
 read_fits p progress positions place (asks.Ask code) answer in_range is h = absurd is

@@ -2,18 +2,20 @@
 use Rattle.std.proofs.Common.{◌≡◌, ◌⊎◌, inl, inr, ℕ, ◌<◌, length, get_or, Bool, true, false, sym, ◌∙◌, ap}
 use Rattle.std.specs.Prelude.{Option, Some, slice_get, unwrap_or, if◌then◌else◌}
 use Rattle.std.proofs.lemmas.Option.{slice_get-get_or}
+use Rattle.s3_lines.specs.Files.{is_card_reader}
 use Rattle.s3_program.specs.declared.program.Program.{Program}
 use Rattle.s3_match.specs.Inner.Heads.{no_file, file_at}
 use Rattle.s3_lines.specs.declared.sheet.Device.{Device}
 use Rattle.s3_lines.specs.declared.sheet.Device.TheVariants.{CardReader, Printer, Disk}
 use Rattle.s3_lines.specs.declared.sheet.FileLine.{FileLine}
-use Rattle.s3_meaning.specs.Source.{is_card_reader, is_input}
+use Rattle.s3_meaning.specs.Source.{is_input}
 use Rattle.s3_meaning.specs.Requests as Meant
 use Rattle.s3_meaning.specs.Runs.{ask}
 use Rattle.s3_meaning.specs.Cycle.{again, file_read, on_read}
 use Rattle.s3_match.specs.Inner.Reading.{IsUnreadAt, input_at}
 use Rattle.s3_match.specs.Inner.Types.{name_of_file}
 use Rattle.s3_cycle.specs.declared.progress.Point.TheVariants as at
+use Rattle.s3_cycle.specs.declared.request.FileCall.TheVariants as calls
 use Rattle.s3_cycle.specs.declared.request.Request.{Request}
 use Rattle.s3_cycle.specs.declared.request.Request.TheVariants as asks
 use Rattle.s3_cycle.specs.declared.stepper.Stepper.{Stepper}
@@ -33,7 +35,7 @@ asks_card old new place request file same card running unread there device =
     (ap (λ (b : Bool). ask (if b then Meant.Card else Meant.Read (input_at (inputs_in old.program old.progress) place).file.name (input_at (inputs_in old.program old.progress) place).file.record_length)
     (λ answer. on_read (own old) (again (own old)) (input_at (inputs_in old.program old.progress) place) (head_put (own old) old.program old.progress place) answer (held_by old))) is)
 
-pub asks_record : (old new : Stepper) (place slot size : ℕ) (request : Request) (file : FileLine) → new ≡ record old { request = request; point = at.Head place } → request ≡ asks.Read slot size → IsRunning old → IsUnreadAt old.progress.reading.files.items place
+pub asks_record : (old new : Stepper) (place slot size : ℕ) (request : Request) (file : FileLine) → new ≡ record old { request = request; point = at.Head place } → request ≡ asks.File slot (calls.Read size) → IsRunning old → IsUnreadAt old.progress.reading.files.items place
     → (input_at (inputs_in old.program old.progress) place).file ≡ file → slice_get old.program.files.items slot ≡ Some file → is_card_reader file.device ≡ false → size ≡ file.record_length → name_of_file old.program slot ≡ (input_at (inputs_in old.program old.progress) place).file.name
     → GoesOn old new (here old (λ source program progress. file_read source (again source) (input_at (inputs_in program progress) place) (head_put source program progress place)))
 unfolding file_read request_of
@@ -41,7 +43,7 @@ asks_record old new place slot size request file same reads running unread there
     let selected : is_input file ≡ true = ap is_input (sym there) ∙ head_selected old.program old.progress place running.reading unread.within in
     let isnt : is_card_reader (input_at (inputs_in old.program old.progress) place).file.device ≡ false = ap (λ (f : FileLine). is_card_reader f.device) there ∙ device in
     let as_long : size ≡ (input_at (inputs_in old.program old.progress) place).file.record_length = long ∙ sym (ap (λ (f : FileLine). f.record_length) there) in
-    goes_wait old new (asks.Read slot size) (at.Head place) _ (same ∙ ap (λ (r : Request). record old { request = r; point = at.Head place }) reads) running (as_long, unread) tt
+    goes_wait old new (asks.File slot (calls.Read size)) (at.Head place) _ (same ∙ ap (λ (r : Request). record old { request = r; point = at.Head place }) reads) running (as_long, unread) tt
     (record { line = file; there = listed; on_disk = read_on_disk file (file_tabled old.program slot file listed) selected device; suits = record { long = long; selected = selected } })
     (ap (λ (b : Bool). ask (if b then Meant.Card else Meant.Read (input_at (inputs_in old.program old.progress) place).file.name (input_at (inputs_in old.program old.progress) place).file.record_length)
     (λ answer. on_read (own old) (again (own old)) (input_at (inputs_in old.program old.progress) place) (head_put (own old) old.program old.progress place) answer (held_by old))) isnt

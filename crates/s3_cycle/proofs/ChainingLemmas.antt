@@ -4,6 +4,7 @@ use Rattle.std.specs.Prelude.{Option, Some, None, slice_get, unwrap_or, if◌the
 use Rattle.std.specs.List.{list_all}
 use Rattle.std.proofs.lemmas.Bool.{and_parts}
 use Rattle.std.proofs.lemmas.Option.{slice_get_within, slice_get-get_or, unwrap_or-slice_get}
+use Rattle.s3_lines.specs.Files.{is_chained}
 use Rattle.s3_cards.specs.declared.name.Name.{Name}
 use Rattle.s3_lines.specs.declared.indicator.Indicator.{Indicator}
 use Rattle.s3_lines.specs.declared.sheet.Factor.{Factor}
@@ -21,7 +22,6 @@ use Rattle.s3_meaning.specs.Calculations.{name_in}
 use Rattle.s3_meaning.specs.Calculating.{bytes_in, number_in, sought_in, first_indicator, forgotten, not_found, on_chain, performed, chained}
 use Rattle.s3_meaning.specs.Cycle.{again}
 use Rattle.s3_program.specs.declared.program.Program.{Program}
-use Rattle.s3_program.specs.FileTable.{is_chained}
 use Rattle.s3_program.specs.declared.program.Reference.{Reference}
 use Rattle.s3_program.specs.declared.program.Reference.TheVariants.{File}
 use Rattle.s3_operations.specs.Inner.Chaining.{file_sought, is_chained_file}
@@ -40,6 +40,7 @@ use Rattle.s3_sections.specs.declared.course.Course.{Course}
 use Rattle.s3_sections.specs.Inner.Courses.{spots_of}
 use Rattle.s3_cycle.specs.declared.progress.Progress.{Progress}
 use Rattle.s3_cycle.specs.declared.progress.Point.TheVariants as at
+use Rattle.s3_cycle.specs.declared.request.FileCall.TheVariants as calls
 use Rattle.s3_cycle.specs.declared.request.Request.TheVariants as asks
 use Rattle.s3_cycle.specs.declared.request.Sought.{Sought}
 use Rattle.s3_cycle.specs.declared.went.Calculated.{Calculated}
@@ -192,11 +193,11 @@ chain_at source p progress place line answer there = rw there refl
 -- a record is sought
 pub chains_waiting : (c mid new : Stepper) (place file size : ℕ) (line : CalculationLine Reference) (seeks : Sought) → IsRunning c → CanCalculate c.program c.progress → IsChainIn c.program place line file
     → Changes c mid (λ source. forgotten source (name_of_file c.program file)) → true ≡ is_served (held_by c) (file_at c.program file) → size ≡ (file_at c.program file).record_length → Seeks c line file seeks
-    → new ≡ record mid { request = asks.Chain file size seeks; point = at.Chained place file } → GoesOn c new (here c (chaining place))
+    → new ≡ record mid { request = asks.File file (calls.Chain size seeks); point = at.Chained place file } → GoesOn c new (here c (chaining place))
 unfolding request_of
 chains_waiting c mid new place file size line seeks running calculates it changes served sized sought_there same =
     goes_then c mid new _ _ (changed_program c mid change changes) refl
-    (goes_wait mid new (asks.Chain file size seeks) (at.Chained place file) (here c (chaining place)) same
+    (goes_wait mid new (asks.File file (calls.Chain size seeks)) (at.Chained place file) (here c (chaining place)) same
     (changed_running c mid change changes running)
     (changed_stays (λ p progress. (IsChainOf p place file × (size ≡ (file_at p file).record_length)) × CanCalculate p progress) c mid change changes
     ((record { line = line; there = it.there; operation = it.bears; names = it.names; within = it.within }, sized), calculates))
@@ -222,7 +223,7 @@ chains_waiting c mid new place file size line seeks running calculates it change
 
     asked : ask (ChainRequest (name_of_file c.program file) (file_at c.program file).record_length (sought_in (own c) (held_by c) named (file_at c.program file)))
         (λ answer. on_chain (own c) (again (own c)) named (name_of_file c.program file) (calculating (own c) c.program c.progress) answer (forgotten (own c) (name_of_file c.program file) (held_by c)))
-        ≡ ask (request_of mid.program mid.composition (asks.Chain file size seeks)) (λ answer. answered (own mid) mid.program mid.progress (at.Chained place file) answer (held_by mid))
+        ≡ ask (request_of mid.program mid.composition (asks.File file (calls.Chain size seeks))) (λ answer. answered (own mid) mid.program mid.progress (at.Chained place file) answer (held_by mid))
     asked =
         λ i. ask
         (ChainRequest (name_of_file (sym (changed_program c mid change changes) i) file) (sym sized i) (sym sought_there.value i))

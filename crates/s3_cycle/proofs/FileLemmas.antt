@@ -6,6 +6,7 @@ use Rattle.std.specs.Option.{option_or}
 use Rattle.std.proofs.lemmas.Bool.{and_parts, cases_Bool}
 use Rattle.std.proofs.lemmas.List.{length-map}
 use Rattle.std.proofs.lemmas.Option.{slice_get-map, slice_get_within}
+use Rattle.s3_lines.specs.Files.{is_chained, is_by_cycle, is_input_use, is_printer as is_print_device, is_only_read, is_card_reader, is_printer}
 use Rattle.s3_cards.specs.declared.name.Name.{Name}
 use Rattle.s3_lines.specs.declared.sheet.Designation.{Designation}
 use Rattle.s3_lines.specs.declared.sheet.Designation.TheVariants.{Primary, Secondary, Chained}
@@ -19,7 +20,7 @@ use Rattle.s3_lines.specs.declared.sheet.OutputLine.{OutputLine}
 use Rattle.s3_lines.specs.declared.sheet.OutputLine.TheVariants.{Line as LineCard, And as AndCard, Or as OrCard, Field as FieldCard}
 use Rattle.s3_lines.specs.declared.sheet.Shape.{Shape}
 use Rattle.s3_meaning.specs.OutputLines.{Output}
-use Rattle.s3_meaning.specs.Source.{is_card_reader, is_input, is_printer}
+use Rattle.s3_meaning.specs.Source.{is_input}
 use Rattle.s3_program.specs.declared.program.Kind.TheVariants as kind
 use Rattle.s3_program.specs.declared.program.Meaning.{Meaning}
 use Rattle.s3_program.specs.declared.program.Meaning.TheVariants as a
@@ -31,7 +32,7 @@ use Rattle.s3_program.specs.declared.standing.OutputStanding.{OutputStanding}
 use Rattle.s3_program.specs.declared.starts.OutputStart.{OutputStart}
 use Rattle.s3_program.specs.Inner.Conditions.{is_clear, files_clear, outputs_clear, are_clear}
 use Rattle.s3_program.specs.Conditions.{file_holds, output_holds}
-use Rattle.s3_program.specs.FileTable.{is_chained, is_by_cycle, is_input_use, is_card_file, is_print_file, is_in_table, is_in_table_on, is_addition_allowed, allows_output, has_spacing, is_printer as is_print_device}
+use Rattle.s3_program.specs.FileTable.{is_card_file, is_print_file, is_in_table, is_in_table_on, is_addition_allowed, allows_output, has_spacing}
 use Rattle.s3_program.specs.Lines.{map_card}
 use Rattle.s3_program.specs.Inner.Meant.{is_of, entry_passes, output_passes, are_of_kinds}
 use Rattle.s3_program.specs.Standings.{first_file, behind_file, first_output, behind_output}
@@ -55,7 +56,6 @@ use Rattle.s3_match.specs.Inner.Reading.{IsReading, input_at, slots_of}
 use Rattle.s3_match.proofs.ReadingLemmas.{slot_there}
 use Rattle.s3_match.proofs.SlotLemmas.{slot_kept}
 use Rattle.s3_cycle.specs.declared.progress.Progress.{Progress}
-use Rattle.s3_cycle.specs.Inner.Requests.{is_only_read}
 use Rattle.s3_cycle.specs.Inner.Rest.{inputs_in}
 
 -- ---- the table of files

@@ -1,9 +1,8 @@
 -- The law of a suspended run: its pending request, and what an answer makes of it.
-use Rattle.std.proofs.Common.{◌≡◌, ◌≤◌, length, Bool, ℕ, Some, unwrap_or, List, [], ◌∷◌, ◌++◌, Option, option_map, refl, sym, ap, ◌∙◌, subst, append-nil, append_assoc}
+use Rattle.std.proofs.Common.{◌≡◌, ◌≤◌, Bool, ℕ, Some, unwrap_or, List, [], ◌∷◌, ◌++◌, Option, refl, sym, ap, ◌∙◌, subst, append-nil, append_assoc}
 use Rattle.std.specs.Prelude.{slice_get}
 use Rattle.std.proofs.lemmas.List.{length-map}
 use Rattle.s3_lines.specs.declared.sheet.FileLine.{FileLine}
-use Rattle.s3_meaning.specs.declared.current.Current.{Current}
 use Rattle.s3_meaning.specs.Source.{Source}
 use Rattle.s3_meaning.specs.Requests as Meant
 use Rattle.s3_meaning.specs.Requests.{Answer}
@@ -17,11 +16,11 @@ use Rattle.s3_program.specs.declared.program.Program.{Program}
 use Rattle.s3_program.specs.Inner.Stands.{Stands, source_named}
 use Rattle.s3_program.specs.Inner.Valid.{named}
 use Rattle.s3_cycle.specs.declared.request.Answer as Code
+use Rattle.s3_cycle.specs.declared.request.FileCall.{FileCall}
 use Rattle.s3_cycle.specs.declared.request.Request.{Request}
 use Rattle.s3_cycle.specs.declared.request.Request.TheVariants as asks
-use Rattle.s3_cycle.specs.declared.request.Sought.{Sought}
 use Rattle.s3_cycle.specs.declared.stepper.Stepper.{Stepper}
-use Rattle.s3_cycle.specs.Inner.Requests.{FitsFile, IsDiskFile, TakesRecord, TakesAddition, TakesChanges, IsLine, answer_of, request_of, sought_of}
+use Rattle.s3_cycle.specs.Inner.Requests.{Allows, FitsFile, IsDiskFile, IsLine, answer_of, request_of, request_to}
 use Rattle.s3_cycle.specs.Inner.Rest.{rest, answered}
 use Rattle.s3_cycle.specs.Inner.Following.{Follows, Resumes, StandsFor, asked, files, put, waits}
 use Rattle.s3_cycle.specs.Inner.Going.{own, held_by, here, GoesOn}
@@ -81,25 +80,9 @@ pub waits_card : (c : Stepper) → asked c ≡ asks.Card → waits c ≡ Meant.C
 unfolding request_of
 waits_card c is = as_asked c asks.Card is
 
-pub waits_read : (c : Stepper) (file size : ℕ) → asked c ≡ asks.Read file size → waits c ≡ Meant.Read (name_of_file c.program file) size
-unfolding request_of
-waits_read c file size is = as_asked c (asks.Read file size) is
-
-pub waits_chain : (c : Stepper) (file size : ℕ) (sought : Sought) → asked c ≡ asks.Chain file size sought → waits c ≡ Meant.Chain (name_of_file c.program file) size (sought_of sought)
-unfolding request_of
-waits_chain c file size sought is = as_asked c (asks.Chain file size sought) is
-
-pub waits_append : (c : Stepper) (file : ℕ) → asked c ≡ asks.Append file → waits c ≡ Meant.Append (name_of_file c.program file) (filled (put c))
+pub waits_file : (c : Stepper) (file : ℕ) (call : FileCall) → asked c ≡ asks.File file call → waits c ≡ request_to (name_of_file c.program file) (put c) call
 unfolding request_of put
-waits_append c file is = as_asked c (asks.Append file) is
-
-pub waits_add : (c : Stepper) (file : ℕ) → asked c ≡ asks.Add file → waits c ≡ Meant.Add (name_of_file c.program file) (filled (put c))
-unfolding request_of put
-waits_add c file is = as_asked c (asks.Add file) is
-
-pub waits_update : (c : Stepper) (file : ℕ) (current : Option Current) → asked c ≡ asks.Update file current → waits c ≡ Meant.Update (name_of_file c.program file) current (put c)
-unfolding request_of put
-waits_update c file current is = as_asked c (asks.Update file current) is
+waits_file c file call is = as_asked c (asks.File file call) is
 
 pub waits_print : (c : Stepper) (page line : ℕ) → asked c ≡ asks.Print page line → waits c ≡ Meant.Print page line (filled (put c))
 unfolding request_of put
@@ -123,11 +106,7 @@ line_filled (asks.Print page line) positions is =
     let P : ℕ → Type 0 = λ n. (1 ≤ n) × (n ≤ 132) in
     subst P (sym (length-map positions (λ position. unwrap_or position 0x40))) is
 line_filled asks.Card positions is = tt
-line_filled (asks.Read file size) positions is = tt
-line_filled (asks.Chain file size sought) positions is = tt
-line_filled (asks.Append file) positions is = tt
-line_filled (asks.Add file) positions is = tt
-line_filled (asks.Update file current) positions is = tt
+line_filled (asks.File file call) positions is = tt
 line_filled asks.Jump positions is = tt
 line_filled (asks.Ask code) positions is = tt
 line_filled (asks.End at_once) positions is = tt
@@ -148,19 +127,11 @@ files_stay old new stays = files_stand new (own old) (stays (own old) refl) ∙ 
 
 -- a record is as long as its positions
 pub file_filled : (files_of : List FileLine) (request : Request) (positions : List (Option ℕ)) → FitsFile files_of request positions → FitsFile files_of request (filled positions)
-file_filled files_of request positions fits = by request fits
-  where
-    size : length positions ≡ length (filled positions)
-    size = sym (length-map positions (λ position. unwrap_or position 0x40))
-
-    by : (r : Request) → FitsFile files_of r positions → FitsFile files_of r (filled positions)
-    by asks.Card is = tt
-    by (asks.Read file n) is = is
-    by (asks.Chain file n sought) is = is
-    by (asks.Append file) is = let P : ℕ → Type 0 = λ n. IsDiskFile files_of file (TakesRecord n) in subst P size is
-    by (asks.Add file) is = let P : ℕ → Type 0 = λ n. IsDiskFile files_of file (TakesAddition n) in subst P size is
-    by (asks.Update file current) is = let P : ℕ → Type 0 = λ n. IsDiskFile files_of file (TakesChanges n) in subst P size is
-    by (asks.Print page line) is = tt
-    by asks.Jump is = tt
-    by (asks.Ask code) is = tt
-    by (asks.End at_once) is = tt
+file_filled files_of (asks.File file call) positions is =
+    let P : ℕ → Type 0 = λ n. IsDiskFile files_of file (Allows call n) in
+    subst P (sym (length-map positions (λ position. unwrap_or position 0x40))) is
+file_filled files_of asks.Card positions is = tt
+file_filled files_of (asks.Print page line) positions is = tt
+file_filled files_of asks.Jump positions is = tt
+file_filled files_of (asks.Ask code) positions is = tt
+file_filled files_of (asks.End at_once) positions is = tt

@@ -4,7 +4,7 @@ use Rattle.std.specs.Prelude.{Option, Some, None, is_some, unwrap_or, slice_get,
 use Rattle.std.specs.List.{All, list_all}
 use Rattle.std.proofs.lemmas.Bool.{and_parts, true≢false}
 use Rattle.std.proofs.lemmas.Bool.Decides.{nat_tests}
-use Rattle.std.proofs.lemmas.List.{get_or-map, length-map, length-set}
+use Rattle.std.proofs.lemmas.List.{get_or-map, length-map}
 use Rattle.std.proofs.lemmas.List.Elements.{All-set}
 use Rattle.s3_cards.specs.declared.name.Name.{Name}
 use Rattle.s3_cards.specs.Names.{same_name}
@@ -188,9 +188,3 @@ put_heads program old new place start bytes within before sound heads typed long
 pub same_heads : (program : Program) (old new : Reading) → IsReading program old → IsReading program new → All (IsHeadWithin program) old.files.items → reading_in program new ≡ reading_in program old → All (IsHeadWithin program) new.files.items
 same_heads program old new before sound heads same =
     heads_kept program new.files.items sound.inputs (subst (All IsWithin) (sym (ap (λ (r : meaning.Reading). r.files) same)) (heads_meant program old.files.items before.inputs heads))
-
--- a change of one file leaves as many
-pub as_many_files : (program : Program) (old new : Reading) (place : ℕ) (change : meaning.InputFile → meaning.InputFile) → place < length old.files.items → reading_in program new ≡ changed_at place change (reading_in program old)
-    → place < length new.files.items
-as_many_files program old new place change within same =
-    omega (arith, within, length-map old.files.items (input_of program), length-map new.files.items (input_of program), ap (λ (r : meaning.Reading). length r.files) same, length-set (inputs_of program old.files.items) place (change (input_at (reading_in program old).files place)))

@@ -5,6 +5,7 @@ use Rattle.std.specs.List.{list_all}
 use Rattle.std.specs.Option.{option_or}
 use Rattle.std.proofs.lemmas.Bool.{and_parts}
 use Rattle.std.proofs.lemmas.Option.{slice_get-map, slice_get_read, slice_get-get_or, slice_get_within}
+use Rattle.s3_lines.specs.Files.{is_printer}
 use Rattle.s3_cards.specs.declared.name.Name.{Name}
 use Rattle.s3_cards.specs.Names.{no_name}
 use Rattle.s3_lines.specs.Inner.Ranges.{file_in_range, spacing_in_range}
@@ -16,7 +17,7 @@ use Rattle.s3_lines.specs.declared.sheet.Device.TheVariants.{CardReader, Printer
 use Rattle.s3_lines.specs.declared.sheet.FileLine.{FileLine}
 use Rattle.s3_lines.specs.declared.sheet.Spacing.{Spacing}
 use Rattle.s3_meaning.specs.declared.current.Current.{Current}
-use Rattle.s3_meaning.specs.Source.{Source, overflow_of, is_printer, is_updated}
+use Rattle.s3_meaning.specs.Source.{Source, overflow_of, is_updated}
 use Rattle.s3_meaning.specs.Environment.{Environment}
 use Rattle.s3_meaning.specs.OutputLines.{Output}
 use Rattle.s3_lines.specs.declared.sheet.OutputField.{OutputField}
@@ -58,14 +59,15 @@ use Rattle.s3_instructions.proofs.ComposeLemmas.{line_fits}
 use Rattle.s3_match.specs.Inner.Heads.{no_file, file_at}
 use Rattle.s3_match.specs.Inner.Types.{name_of_file}
 use Rattle.s3_cycle.specs.declared.progress.Point.TheVariants as at
-use Rattle.s3_cycle.specs.declared.request.Request.{Request}
+use Rattle.s3_cycle.specs.declared.request.FileCall.{FileCall}
+use Rattle.s3_cycle.specs.declared.request.FileCall.TheVariants as calls
 use Rattle.s3_cycle.specs.declared.request.Request.TheVariants as asks
 use Rattle.s3_cycle.specs.declared.state.State.{State}
 use Rattle.s3_cycle.specs.declared.stepper.Stepper.{Stepper}
-use Rattle.s3_cycle.specs.Inner.Requests.{IsLine, FitsFile, IsDiskFile, TakesRecord, request_of}
+use Rattle.s3_cycle.specs.Inner.Requests.{Allows, IsLine, IsDiskFile, TakesRecord, request_of, request_to}
 use Rattle.s3_cycle.specs.Inner.Rest.{lines_from, starts_of}
 use Rattle.s3_cycle.specs.Inner.Environment.{environment, others}
-use Rattle.s3_cycle.specs.Inner.Going.{own, held_by, here, AreSound, IsRunning, IsWalk, GoesOn, Changes, is_record_request}
+use Rattle.s3_cycle.specs.Inner.Going.{own, held_by, here, AreSound, IsRunning, IsWalk, GoesOn, Changes, puts_record}
 use Rattle.s3_cycle.specs.Inner.Entries.{turn_entry}
 use Rattle.s3_cycle.specs.Inner.Lines.{is_held, is_due, IsDue}
 use Rattle.s3_cycle.specs.Inner.Printing.{AsksFor, CanStore, ComposesLine}
@@ -189,34 +191,31 @@ current_there c k current within there =
     ∙ ap (λ (o : Option (Option Current)). option_and_then (λ (o : Option Current). o) o) there
 
 -- what a line asks for
-asks_as : (c : Stepper) (file : ℕ) (asked kind : DiskRequest) (request : Request) → asked ≡ kind
-    → request_of c.program c.composition request ≡ disk_spec.request_of kind (file_at c.program file) c.composition (held_by c)
-    → (line : Output) → AsksFor c.program file line asked → request_of c.program c.composition request ≡ disk_request (file_at c.program file) line c.composition (held_by c)
-asks_as c file asked kind request is_kind asks line meant =
+abbrev pub Asks : Stepper → (file : ℕ) → DiskRequest → FileCall → Type 0
+Asks c file asked call = (line : Output) → AsksFor c.program file line asked → request_to (name_of_file c.program file) c.composition call ≡ disk_request (file_at c.program file) line c.composition (held_by c)
+
+asks_as : (c : Stepper) (file : ℕ) (asked kind : DiskRequest) (call : FileCall) → asked ≡ kind
+    → request_to (name_of_file c.program file) c.composition call ≡ disk_spec.request_of kind (file_at c.program file) c.composition (held_by c)
+    → Asks c file asked call
+asks_as c file asked kind call is_kind asks = λ line meant.
     asks ∙ (ap (λ (a : DiskRequest). disk_spec.request_of a (file_at c.program file) c.composition (held_by c)) (sym is_kind) ∙ sym (meant c.composition (held_by c)))
 
-abbrev pub Asks : Stepper → (file : ℕ) → DiskRequest → Request → Type 0
-Asks c file asked request = (line : Output) → AsksFor c.program file line asked → request_of c.program c.composition request ≡ disk_request (file_at c.program file) line c.composition (held_by c)
+pub appends : (c : Stepper) (file : ℕ) (asked : DiskRequest) → asked ≡ disk.Append → Asks c file asked calls.Append
+appends c file asked is = asks_as c file asked disk.Append calls.Append is (ap (λ name. Meant.Append name (filled c.composition)) (file_name c.program file))
 
-pub appends : (c : Stepper) (file : ℕ) (asked : DiskRequest) → asked ≡ disk.Append → Asks c file asked (asks.Append file)
-unfolding request_of
-appends c file asked is = asks_as c file asked disk.Append (asks.Append file) is (ap (λ name. Meant.Append name (filled c.composition)) (file_name c.program file))
-
-pub adds : (c : Stepper) (file : ℕ) (asked : DiskRequest) → asked ≡ disk.Add → Asks c file asked (asks.Add file)
-unfolding request_of
-adds c file asked is = asks_as c file asked disk.Add (asks.Add file) is (ap (λ name. Meant.Add name (filled c.composition)) (file_name c.program file))
+pub adds : (c : Stepper) (file : ℕ) (asked : DiskRequest) → asked ≡ disk.Add → Asks c file asked calls.Add
+adds c file asked is = asks_as c file asked disk.Add calls.Add is (ap (λ name. Meant.Add name (filled c.composition)) (file_name c.program file))
 
 -- the file of a record that can be stored is there
 pub store_within : (c : Stepper) (file : ℕ) (asked : DiskRequest) → CanStore c file asked → file < length c.program.files.items
 store_within c file asked stores = slice_get_within c.program.files.items file stores.fits.line stores.fits.there
 
 pub updates : (c : Stepper) (file : ℕ) (asked : DiskRequest) (current : Option Current) → AreSound c.program c.state → file < length c.program.files.items
-    → current ≡ get_or c.state.current.items file current → asked ≡ disk.Update → Asks c file asked (asks.Update file current)
-unfolding request_of
+    → current ≡ get_or c.state.current.items file current → asked ≡ disk.Update → Asks c file asked (calls.Update current)
 updates c file asked current sound within stands is =
     let inside : file < length c.state.current.items = omega (arith, sound.current, within) in
     let there : slice_get c.state.current.items file ≡ Some current = slice_get_read c.state.current.items (length c.state.current.items) file current refl inside stands in
-    asks_as c file asked disk.Update (asks.Update file current) is
+    asks_as c file asked disk.Update (calls.Update current) is
     (ap (λ name. Meant.Update name current c.composition) (file_name c.program file)
     ∙ ap (λ o. Meant.Update (file_at c.program file).name o c.composition) (sym (current_there c file current within there)))
 
@@ -251,7 +250,7 @@ update_changes file line positions e is = (and_parts (is_updated file) (not line
 taking_line : (c : Stepper) (file : ℕ) (asked : DiskRequest) (stores : CanStore c file asked) → file_at c.program file ≡ stores.fits.line
 taking_line c file asked stores = ap (λ o. unwrap_or o no_file) stores.fits.there
 
-pub add_fits : (c : Stepper) (file : ℕ) (asked : DiskRequest) → asked ≡ disk.Add → CanStore c file asked → FitsFile c.program.files.items (asks.Add file) c.composition
+pub add_fits : (c : Stepper) (file : ℕ) (asked : DiskRequest) → asked ≡ disk.Add → CanStore c file asked → IsDiskFile c.program.files.items file (Allows calls.Add (length c.composition))
 add_fits c file asked is stores =
     let keyed : is_some (file_at c.program file).key ≡ true =
     add_keyed (file_at c.program file) stores.line c.composition (held_by c)
@@ -263,7 +262,7 @@ add_fits c file asked is stores =
       suits = record { takes = stores.fits.suits; keyed = ap (λ (f : FileLine). is_some f.key) (sym (taking_line c file asked stores)) ∙ keyed };
     }
 
-pub update_fits : (c : Stepper) (file : ℕ) (asked : DiskRequest) (current : Option Current) → asked ≡ disk.Update → CanStore c file asked → FitsFile c.program.files.items (asks.Update file current) c.composition
+pub update_fits : (c : Stepper) (file : ℕ) (asked : DiskRequest) (current : Option Current) → asked ≡ disk.Update → CanStore c file asked → IsDiskFile c.program.files.items file (Allows (calls.Update current) (length c.composition))
 update_fits c file asked current is stores =
     let updated : is_updated (file_at c.program file) ≡ true =
     update_changes (file_at c.program file) stores.line c.composition (held_by c)
@@ -275,26 +274,14 @@ update_fits c file asked current is stores =
       suits = record { takes = stores.fits.suits; updated = ap is_updated (sym (taking_line c file asked stores)) ∙ updated };
     }
 
--- a record is no line
-no_line : (request : Request) (positions : List (Option ℕ)) → is_record_request request ≡ true → IsLine request positions
-no_line (asks.Append slot) positions is = tt
-no_line (asks.Add slot) positions is = tt
-no_line (asks.Update slot current) positions is = tt
-no_line asks.Card positions is = tt
-no_line (asks.Read slot size) positions is = tt
-no_line (asks.Chain slot size sought) positions is = tt
-no_line (asks.Print page place') positions is = absurd (true≢false (sym is))
-no_line asks.Jump positions is = tt
-no_line (asks.Ask code) positions is = tt
-no_line (asks.End at_once) positions is = tt
-
-pub stores : (old new : Stepper) (line : Output) (k : ℕ) (request : Request) (w : Walk) (next : ℕ) → IsRunning old → IsWalk old.program old.progress w → is_record_request request ≡ true
-    → request_of old.program old.composition request ≡ disk_request (file_at old.program k) line old.composition (held_by old)
-    → FitsFile old.program.files.items request old.composition → new ≡ record old { request = request; point = at.Records w next }
+pub stores : (old new : Stepper) (line : Output) (k : ℕ) (call : FileCall) (w : Walk) (next : ℕ) → IsRunning old → IsWalk old.program old.progress w → puts_record call ≡ true
+    → request_to (name_of_file old.program k) old.composition call ≡ disk_request (file_at old.program k) line old.composition (held_by old)
+    → IsDiskFile old.program.files.items k (Allows call (length old.composition)) → new ≡ record old { request = asks.File k call; point = at.Records w next }
     → GoesOn old new (here old (λ source program progress e. ask (disk_request (file_at program k) line old.composition e) (λ answer. stored_or_halted (again source) (lines_from source program progress w next) answer e)))
-stores old new line k request w next running walk is asks fits same =
-    goes_wait old new request (at.Records w next) _ same running (is, walk) (no_line request old.composition is) fits
-    (ap (λ r. ask r (λ answer. stored_or_halted (again (own old)) (lines_from (own old) old.program old.progress w next) answer (held_by old))) (sym asks))
+unfolding request_of
+stores old new line k call w next running walk is meant fits same =
+    goes_wait old new (asks.File k call) (at.Records w next) _ same running (is, walk) tt fits
+    (ap (λ r. ask r (λ answer. stored_or_halted (again (own old)) (lines_from (own old) old.program old.progress w next) answer (held_by old))) (sym meant))
 
 -- ---- a line is put out
 -- its run goes on with it as it is composed

@@ -25,7 +25,7 @@ use Rattle.s3_cycle.specs.declared.progress.Selection.{Selection}
 use Rattle.s3_cycle.specs.declared.stepper.Stepper.{Stepper}
 use Rattle.s3_cycle.specs.Inner.Rest.{heads_read, inputs_in, record_moved, selected_of, totals_done}
 use Rattle.s3_cycle.specs.Inner.Environment.{environment}
-use Rattle.s3_cycle.specs.Inner.Going.{own, held_by, here, Changes, GoesOn, IsRunning, IsTaken}
+use Rattle.s3_cycle.specs.Inner.Going.{own, held_by, here, Changes, GoesOn, IsRunning}
 use Rattle.s3_cycle.specs.Inner.Selecting.{Takes, identified}
 use Rattle.s3_cycle.proofs.GoingLemmas.{goes_then, goes_as, goes_changed}
 use Rattle.s3_cycle.proofs.TurnLemmas.{reads_none, with_reading}
@@ -100,10 +100,6 @@ without_totals c new selection due goes =
 pub takes_running : (old new : Stepper) (place : ℕ) (selection : Selection) → Takes old new place selection → IsRunning old → IsRunning new
 takes_running old new place selection takes running =
     subst IsRunning (sym takes.same) (record { overflow = running.overflow; state = running.state; reading = takes.reading; heads = takes.heads; calculations = running.calculations; totals_guard = running.totals_guard; inputs = running.inputs; outputs = running.outputs })
-
-pub takes_taken : (old new : Stepper) (place : ℕ) (selection : Selection) → Takes old new place selection → IsTaken new.program new.progress selection
-takes_taken old new place selection takes =
-    subst (λ (program : Program). IsTaken program new.progress selection) (sym (ap (λ (c : Stepper). c.program) takes.same)) takes.is_taken
 
 pub goes_taken : (old mid last new : Stepper) (place : ℕ) (selection : Selection) → Takes old mid place selection → Changes mid last (λ source. identified (selected_of mid.program mid.progress selection)) → GoesOn last new (here last (behind_breaks selection))
     → (selected : Selected) → selected_at old.program old.progress.reading.files.items place ≡ Some selected

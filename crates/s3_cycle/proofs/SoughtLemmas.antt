@@ -1,5 +1,5 @@
 -- What a CHAIN seeks: a key is as long as that of its file, and a record number is a number.
-use Rattle.std.proofs.Common.{◌≡◌, ℕ, ◌-◌, ◌<◌, ◌≤◌, ◌==◌, ℤ, List, [], Bool, true, false, not, length, refl, sym, ap, ◌∙◌, subst, arith, inl, inr, unsigned_abs}
+use Rattle.std.proofs.Common.{◌≡◌, ℕ, ◌<◌, ◌≤◌, ◌==◌, ℤ, List, [], Bool, true, false, not, length, refl, sym, ap, ◌∙◌, subst, arith, inl, inr, unsigned_abs}
 use Rattle.std.specs.Prelude.{Option, Some, None, is_some, slice_get, option_map, nat_le, unwrap_or}
 use Rattle.std.proofs.lemmas.Bool.{and_parts, true≢false, cases_Bool}
 use Rattle.std.proofs.lemmas.Bool.Decides.{nat_tests}

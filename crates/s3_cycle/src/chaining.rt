@@ -22,7 +22,7 @@ ghost use Rattle.s3_cycle.specs.Inner.Chaining.{ChainsAt, DoesChain, Seeks};
 
 use crate::indicating::clear_types_of;
 use crate::progress::{Continuation, Point};
-use crate::request::{Request, Sought};
+use crate::request::{FileCall, Request, Sought};
 use crate::stepper::Stepper;
 use crate::went::Calculated;
 use s3_instructions::calculation::{Chained, Sought as SoughtBy};
@@ -63,12 +63,8 @@ impl Stepper {
             return self.miss(place);
         }
         let length = chained.length;
-        let request = Request::Chain {
-            file,
-            length,
-            sought,
-        };
-        self.wait(request, Point::Chained { place, file });
+        let call = FileCall::Chain { length, sought };
+        self.wait(Request::File { file, call }, Point::Chained { place, file });
         Calculated::Waits
     }
 

@@ -1,10 +1,11 @@
 //! Which answers fit a request.
 ghost use Rattle.std.specs.Prelude.{◌≡◌, ℕ, List, Option};
 ghost use Rattle.s3_meaning.specs.Inner.Requests.{fits as fits_spec, fits_done, fits_record, fits_reply, refuses_add, refuses_append, refuses_never, refuses_update};
+ghost use Rattle.s3_cards.specs.declared.name.Name.{Name};
 ghost use Rattle.s3_program.specs.declared.program.Program.{Program};
-ghost use Rattle.s3_cycle.specs.Inner.Requests.{answer_of, request_of};
+ghost use Rattle.s3_cycle.specs.Inner.Requests.{answer_of, request_of, request_to};
 
-use crate::request::{Answer, Request};
+use crate::request::{Answer, FileCall, Request};
 use s3_operator::{HaltCode, allowed};
 
 /// The columns of a card.
@@ -77,6 +78,19 @@ fn is_allowed_reply(code: HaltCode, answer: &Answer<'_>) -> bool
     }
 }
 
+/// Whether an answer fits what is asked of a file.
+fn fits_call(call: &FileCall, answer: &Answer<'_>) -> bool
+    ensures { (name : Name) (positions : List (Option ℕ)) → result ≡ fits_spec (request_to name positions call.now) (answer_of answer.now) }
+{
+    match call {
+        FileCall::Read { length } => is_record_or_none(usize::from(*length), answer),
+        FileCall::Chain { length, .. } => is_record_or_none(usize::from(*length), answer),
+        FileCall::Append => is_appended_or_refused(answer),
+        FileCall::Add => is_added_or_refused(answer),
+        FileCall::Update { .. } => is_updated_or_refused(answer),
+    }
+}
+
 /// Whether an answer fits a request, as `Cycle::resume` demands of an answer to the pending one: a record of its file's length, a
 /// card's 96 bytes, or none, where one is asked for; for a record that is put out, that it is done or for which halt it isn't; a
 /// digit that is allowed, for a halt; and for a line or a jump that it is done. No answer fits the end.
@@ -86,11 +100,7 @@ pub fn fits(request: &Request, answer: &Answer<'_>) -> bool
 {
     match request {
         Request::Card => is_record_or_none(CARD_LENGTH, answer),
-        Request::Read { length, .. } => is_record_or_none(usize::from(*length), answer),
-        Request::Chain { length, .. } => is_record_or_none(usize::from(*length), answer),
-        Request::Append { .. } => is_appended_or_refused(answer),
-        Request::Add { .. } => is_added_or_refused(answer),
-        Request::Update { .. } => is_updated_or_refused(answer),
+        Request::File { call, .. } => fits_call(call, answer),
         Request::Print { .. } | Request::Jump => is_done(answer),
         Request::Ask(code) => is_allowed_reply(*code, answer),
         Request::End { .. } => false,

@@ -1,5 +1,5 @@
 //! The request that an output line makes.
-ghost use Rattle.std.specs.Prelude.{◌≡◌, ◌<◌, ◌≤◌, true, length};
+ghost use Rattle.std.specs.Prelude.{◌≡◌, ◌≤◌, true, length};
 ghost use Rattle.s3_lines.specs.Inner.Ranges.{spacing_in_range};
 ghost use Rattle.s3_meaning.specs.OutputLines.{Output};
 ghost use Rattle.s3_meaning.specs.Cycle.{again};
@@ -7,13 +7,14 @@ ghost use Rattle.s3_meaning.specs.Runs.{ask};
 ghost use Rattle.s3_meaning.specs.Output.{disk_request as disk_request_spec, filled, printed, put_carriage, stored_or_halted};
 ghost use Rattle.s3_output.specs.Inner.Carriages.{place_moved};
 ghost use Rattle.s3_match.specs.Inner.Heads.{file_at};
-ghost use Rattle.s3_cycle.specs.Inner.Requests.{FitsFile, request_of};
+ghost use Rattle.s3_match.specs.Inner.Types.{name_of_file};
+ghost use Rattle.s3_cycle.specs.Inner.Requests.{Allows, IsDiskFile, request_to};
 ghost use Rattle.s3_cycle.specs.Inner.Rest.{lines_from};
-ghost use Rattle.s3_cycle.specs.Inner.Going.{AreSound, Changes, IsRunning, IsWalk, GoesOn, held_by, here, is_record_request};
+ghost use Rattle.s3_cycle.specs.Inner.Going.{AreSound, Changes, IsRunning, IsWalk, GoesOn, held_by, here, puts_record};
 ghost use Rattle.s3_cycle.specs.Inner.Printing.{AsksFor, CanStore};
 
 use crate::progress::Point;
-use crate::request::Request;
+use crate::request::{FileCall, Request};
 use crate::stepper::Stepper;
 use s3_lines::sheet::Spacing;
 use s3_output::carriage::{Carriage, Moved};
@@ -67,26 +68,23 @@ impl Stepper {
             → GoesOn self.old self.new (here self.old (λ source program progress e. ask (disk_request_spec (file_at program file) line self.old.composition e)
             (λ answer. stored_or_halted (again source) (lines_from source program progress walk next) answer e))) }
     {
-        self.wait(
-            self.record_request(file, request),
-            Point::Records { walk, next },
-        );
+        let call = self.record_call(file, request);
+        self.wait(Request::File { file, call }, Point::Records { walk, next });
     }
 
-    /// The request that puts the record into its file.
-    fn record_request(&self, file: usize, request: DiskRequest) -> Request
+    /// The call that puts the record into its file.
+    fn record_call(&self, file: usize, request: DiskRequest) -> FileCall
         requires sound { AreSound self.now.program self.now.state }
         requires stores { CanStore self.now file request }
-        ensures fits { FitsFile self.now.program.files.items result self.now.composition }
-        ensures kind { is_record_request result ≡ true }
+        ensures fits { IsDiskFile self.now.program.files.items file (Allows result (length self.now.composition)) }
+        ensures kind { puts_record result ≡ true }
         ensures request { (line : Output) → AsksFor self.now.program file line request
-            → request_of self.now.program self.now.composition result ≡ disk_request_spec (file_at self.now.program file) line self.now.composition (held_by self.now) }
+            → request_to (name_of_file self.now.program file) self.now.composition result ≡ disk_request_spec (file_at self.now.program file) line self.now.composition (held_by self.now) }
     {
         match request {
-            DiskRequest::Append => Request::Append { file },
-            DiskRequest::Add => Request::Add { file },
-            DiskRequest::Update => Request::Update {
-                file,
+            DiskRequest::Append => FileCall::Append,
+            DiskRequest::Add => FileCall::Add,
+            DiskRequest::Update => FileCall::Update {
                 current: self.state.current[file],
             },
         }

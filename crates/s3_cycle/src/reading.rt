@@ -13,7 +13,7 @@ ghost use Rattle.s3_cycle.specs.Inner.Heads.{IsRecordOf};
 
 use crate::indicating::clear;
 use crate::progress::{Continuation, Point};
-use crate::request::Request;
+use crate::request::{FileCall, Request};
 use crate::stepper::Stepper;
 use s3_lines::indicator::Indicator;
 use s3_lines::sheet::Device;
@@ -93,9 +93,11 @@ impl Stepper {
         let file = &self.program.files[slot];
         let request = match file.device {
             Device::CardReader => Request::Card,
-            Device::Printer | Device::Disk => Request::Read {
+            Device::Printer | Device::Disk => Request::File {
                 file: slot,
-                length: file.record_length,
+                call: FileCall::Read {
+                    length: file.record_length,
+                },
             },
         };
         self.wait(request, Point::Head { place });

@@ -1,5 +1,5 @@
 -- The next job of a deck begins.
-use Rattle.std.proofs.Common.{◌≡◌, ◌≢◌, List, [], ◌∷◌, refl, sym, ◌∙◌, subst, Result, Ok, Err}
+use Rattle.std.proofs.Common.{◌≡◌, List, [], ◌∷◌, refl, sym, ◌∙◌, subst, Result, Ok}
 use Rattle.s3_ocl.specs.declared.faults.FaultyJob.{FaultyJob}
 use Rattle.s3_ocl.specs.Jobs.{Job}
 use Rattle.s3_ocl.specs.Streams.{jobs_from}
@@ -22,11 +22,3 @@ pub one_begins : (s : Shown) (E : Type 0) (old : Level) (new : World → Type 0)
     → Begins {E = E} (Ok Acted) (HoldsParts old s) new
 one_begins s E old new job behind next starts = λ w rests held.
     subst (λ (jobs : List (Result Job FaultyJob)). (Acted ≡ (begun jobs w).did) × new (begun jobs w).world) (sym (held.jobs ∙ next)) (refl, starts w rests held)
-
--- where it fails, some job was to begin
-pub some_begins : (s : Shown) {E : Type 0} (e : E) (old : Level) (new : World → Type 0) → jobs_from old.deck old.next ≢ [] → Begins (Err e) (HoldsParts old s) new
-some_begins s e old new some = λ w rests held. by w w.deck.jobs held.jobs
-  where
-    by : (w : World) (jobs : List (Result Job FaultyJob)) → jobs ≡ jobs_from old.deck old.next → (begun jobs w).did ≡ Acted
-    by w [] is = absurd (some (sym is))
-    by w (job ∷ jobs) is = refl

@@ -56,14 +56,6 @@ job_closed s (Ok _) old new job before after is_open ready is closes = λ w held
         }
 job_closed s (Err _) old new job before after is_open ready is closes = tt
 
--- no job is over where none is at work
-pub none_closed : (s : Shown) (old : Level) → old.job ≡ None → Becomes job_ended (HoldsParts old s) (HoldsParts old s)
-none_closed s old none w held = by w.job refl (let P : Option OpenJob → Type 0 = λ o. HoldsAtWork old.deck o w w.job in subst P none held.job)
-  where
-    by : (meant : Option JobAtWork) → w.job ≡ meant → HoldsAtWork old.deck None w meant → HoldsParts old s (over meant w)
-    by None is at = held
-    by (Some meant) is at = absurd at
-
 pub ready_over : (old new : Level) (after : Seen) → new ≡ record old { job = None } → AreFilesReady old.id [] after → IsReady new after
 ready_over old new after is ready = subst (λ (level : Level). IsReady level after) (sym is) (record { files = ready; job = tt })
 

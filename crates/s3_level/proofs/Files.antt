@@ -1,9 +1,8 @@
 -- Requests to files: the world's job is served as the open job is.
-use Rattle.std.proofs.Common.{◌≡◌, ℕ, List, slice_range, Bool, true, false, refl, sym, ◌∙◌, ap, subst, Option, Some, None, Result, Ok, Err, IfOk, OnOk, OnErr, IsErr, true≢false}
-use Rattle.std.proofs.lemmas.Option.{none-some}
+use Rattle.std.proofs.Common.{◌≡◌, ℕ, List, slice_range, Bool, true, false, refl, sym, ◌∙◌, ap, subst, Option, Some, Result, Ok, Err, IfOk, OnOk, OnErr, IsErr, true≢false}
 use Rattle.s3_cards.specs.declared.levels.LevelId.{LevelId}
 use Rattle.s3_meaning.specs.Requests.{Request}
-use Rattle.s3_cycle.specs.Inner.Following.{Resumes, waits}
+use Rattle.s3_cycle.specs.Inner.Following.{Resumes, asked, waits}
 use Rattle.s3_cycle.proofs.FollowLemmas.{follows_on, waits_as}
 use Rattle.s3_job_files.specs.Inner.Holds.{Seen, HoldsFiles, Holds as HoldsInUse, IsReady as AreFilesReady}
 use Rattle.s3_job_files.specs.Requests as files
@@ -17,7 +16,7 @@ use Rattle.s3_level.specs.declared.job.OpenJob.{OpenJob}
 use Rattle.s3_level.specs.declared.level.Level.{Level}
 use Rattle.s3_level.specs.Inner.Calls.{CanServe}
 use Rattle.s3_level.specs.Inner.Holds.{Shown, HoldsParts, HoldsJob, HoldsAtWork, IsAtWorkReady, IsJobReady, IsReady, Stays, open_files, with_seen}
-use Rattle.s3_level.specs.Inner.Turning.{AtWorkBecomes, FileServed, FileThere, HasFile, KeepsPlace, Serves, ServesFile, on_files}
+use Rattle.s3_level.specs.Inner.Turning.{AsksFile, AtWorkBecomes, FileServed, FileThere, HasFile, KeepsPlace, Serves, ServesFile, on_files, request_by}
 use Rattle.s3_level.proofs.Running.{standing_same}
 
 -- ---- the files of the open job
@@ -131,13 +130,9 @@ file_there (Err _) before s old job is_open ready has = λ w meant is_job held.
     let done = has (in_use meant w) (held_files before s old job w meant is_open (level_of old job before is_open ready) held of_job) in
     (done.0, ap (λ (request : Request). files.served request (in_use meant w)) (sym (waits_there old job w meant of_job)) ∙ done.1)
 
--- without an open job the world has none
-pub none_taken : (s : Shown) (old : Level) (new : World → Type 0) → old.job ≡ None → FileServed false (HoldsParts old s) new
-none_taken s old new none = λ w meant is_job held. absurd (by w meant old.job none (let Q : Option JobAtWork → Type 0 = λ m. HoldsAtWork old.deck old.job w m in subst Q is_job held.job))
-  where
-    by : (w : World) (meant : JobAtWork) (o : Option OpenJob) → o ≡ None → HoldsAtWork old.deck o w (Some meant) → ⊥
-    by w meant None is h = h
-    by w meant (Some job) is h = none-some job (sym is)
+-- a job is open where something of a file is asked
+pub file_asked : (old : Level) (job : OpenJob) → old.job ≡ Some job → AsksFile (request_by old.job) → AsksFile (Some (asked job.cycle))
+file_asked old job is_open asking = subst (λ (o : Option OpenJob). AsksFile (request_by o)) is_open asking
 
 -- ---- and the job goes on
 on_some : (meant : JobAtWork) (w : World) (one : Served) → files.served (pending meant w) (in_use meant w) ≡ Some one

@@ -2,18 +2,22 @@
 use Rattle.std.proofs.Common.{◌≡◌, Bor, ℕ, List, length, refl, sym, ◌∙◌, ap, Bool, true, false, Option, Some, None, eq-eqb}
 use Rattle.std.specs.Prelude.{option_and_then}
 use Rattle.std.proofs.lemmas.Option.{none-some}
+use Rattle.s3_cards.specs.declared.name.Name.{Name}
+use Rattle.s3_match.specs.Inner.Types.{name_of_file}
 use Rattle.s3_operator.specs.declared.halt_code.HaltCode.{HaltCode}
 use Rattle.s3_operator.specs.Replies.{is_allowed}
 use Rattle.s3_meaning.specs.Requests as Meant
 use Rattle.s3_meaning.specs.Inner.Requests.{fits}
 use Rattle.s3_cycle.specs.declared.request.Answer.{Answer}
 use Rattle.s3_cycle.specs.declared.request.Answer.TheVariants as answers
+use Rattle.s3_cycle.specs.declared.request.FileCall.{FileCall}
+use Rattle.s3_cycle.specs.declared.request.FileCall.TheVariants as calls
 use Rattle.s3_cycle.specs.declared.request.Request.{Request}
 use Rattle.s3_cycle.specs.declared.request.Request.TheVariants as asks
 use Rattle.s3_cycle.specs.declared.stepper.Stepper.{Stepper}
-use Rattle.s3_cycle.specs.Inner.Requests.{answer_of}
-use Rattle.s3_cycle.specs.Inner.Following.{asked, is_fit, waits}
-use Rattle.s3_cycle.proofs.FollowLemmas.{waits_card, waits_read, waits_chain, waits_append, waits_add, waits_update, waits_print, waits_jump, waits_ask, waits_end}
+use Rattle.s3_cycle.specs.Inner.Requests.{answer_of, request_to}
+use Rattle.s3_cycle.specs.Inner.Following.{asked, is_fit, put, waits}
+use Rattle.s3_cycle.proofs.FollowLemmas.{waits_card, waits_file, waits_print, waits_jump, waits_ask, waits_end}
 use Rattle.s3_level.specs.declared.job.OpenJob.{OpenJob}
 use Rattle.s3_level.specs.declared.level.Level.{Level}
 use Rattle.s3_solo.specs.World.{World, JobAtWork}
@@ -46,11 +50,7 @@ line_done (Some job) page line is =
 asked_by : (request : Request) (code : HaltCode) → code_asked request ≡ Some code → request ≡ asks.Ask code
 asked_by (asks.Ask other) code is = ap (λ c. asks.Ask c) (let same : other ≡ code = cc in same)
 asked_by asks.Card code is = absurd (none-some code is)
-asked_by (asks.Read file size) code is = absurd (none-some code is)
-asked_by (asks.Chain file size sought) code is = absurd (none-some code is)
-asked_by (asks.Append file) code is = absurd (none-some code is)
-asked_by (asks.Add file) code is = absurd (none-some code is)
-asked_by (asks.Update file current) code is = absurd (none-some code is)
+asked_by (asks.File file call) code is = absurd (none-some code is)
 asked_by (asks.Print page line) code is = absurd (none-some code is)
 asked_by asks.Jump code is = absurd (none-some code is)
 asked_by (asks.End at_once) code is = absurd (none-some code is)
@@ -61,15 +61,19 @@ reply_fits None code digit may is same true' = none-some code is
 reply_fits (Some job) code digit may is same true' =
     by_meaning job.cycle (Meant.Ask code) (answers.Reply digit) (waits_ask job.cycle code (asked_by (asked job.cycle) code is)) (sym same ∙ true')
 
+-- what is asked of a file is no reply
+no_halt : (name : Name) (positions : List (Option ℕ)) (call : FileCall) (code : HaltCode) → request_to name positions call ≡ Meant.Ask code → ⊥
+no_halt name positions (calls.Read size) code both = cc
+no_halt name positions (calls.Chain size sought) code both = cc
+no_halt name positions calls.Append code both = cc
+no_halt name positions calls.Add code both = cc
+no_halt name positions (calls.Update current) code both = cc
+
 -- what is waited for says what is asked
 asks_back : (c : Stepper) (request : Request) (code : HaltCode) → asked c ≡ request → waits c ≡ Meant.Ask code → code_asked request ≡ Some code
 asks_back c (asks.Ask other) code is w = let both : Meant.Ask other ≡ Meant.Ask code = sym (waits_ask c other is) ∙ w in cc
 asks_back c asks.Card code is w = let both : Meant.Card ≡ Meant.Ask code = sym (waits_card c is) ∙ w in cc
-asks_back c (asks.Read file size) code is w = let both : Meant.Read _ size ≡ Meant.Ask code = sym (waits_read c file size is) ∙ w in cc
-asks_back c (asks.Chain file size sought) code is w = let both : Meant.Chain _ size _ ≡ Meant.Ask code = sym (waits_chain c file size sought is) ∙ w in cc
-asks_back c (asks.Append file) code is w = let both : Meant.Append _ _ ≡ Meant.Ask code = sym (waits_append c file is) ∙ w in cc
-asks_back c (asks.Add file) code is w = let both : Meant.Add _ _ ≡ Meant.Ask code = sym (waits_add c file is) ∙ w in cc
-asks_back c (asks.Update file current) code is w = let both : Meant.Update _ _ _ ≡ Meant.Ask code = sym (waits_update c file current is) ∙ w in cc
+asks_back c (asks.File file call) code is w = absurd (no_halt (name_of_file c.program file) (put c) call code (sym (waits_file c file call is) ∙ w))
 asks_back c (asks.Print page line) code is w = let both : Meant.Print page line _ ≡ Meant.Ask code = sym (waits_print c page line is) ∙ w in cc
 asks_back c asks.Jump code is w = let both : Meant.Jump ≡ Meant.Ask code = sym (waits_jump c is) ∙ w in cc
 asks_back c (asks.End at_once) code is w = let both : Meant.End at_once ≡ Meant.Ask code = sym (waits_end c at_once is) ∙ w in cc

@@ -1,9 +1,10 @@
 -- The open file of a request: it is that of the F line that allows the request.
-use Rattle.std.proofs.Common.{◌≡◌, ◌<◌, ◌≤◌, ◌+◌, ℕ, zero, suc, Bool, true, false, not, ◌&&◌, List, [], ◌∷◌, length, map, filter, get_or, refl, sym, ap, ◌∙◌, subst, arith}
-use Rattle.std.specs.Prelude.{slice_get, Option, Some, None, is_some, nat_le, cond}
+use Rattle.std.proofs.Common.{◌≡◌, ◌<◌, ◌≤◌, ◌+◌, ℕ, zero, suc, Bool, true, false, List, [], ◌∷◌, length, map, filter, get_or, refl, sym, ap, ◌∙◌, subst, arith}
+use Rattle.std.specs.Prelude.{slice_get, Option, Some, None, is_some, unwrap_or, nat_le, cond}
 use Rattle.std.specs.List.{list_all, position_from}
 use Rattle.std.proofs.lemmas.Bool.{and_parts}
 use Rattle.std.proofs.lemmas.Bool.Decides.{nat_tests}
+use Rattle.std.proofs.lemmas.List.{length-map}
 use Rattle.std.proofs.lemmas.Option.{slice_get-get_or}
 use Rattle.s3_cards.specs.declared.name.Name.{Name}
 use Rattle.s3_cards.specs.Names.{same_name}
@@ -12,11 +13,8 @@ use Rattle.s3_cards.specs.declared.levels.LevelId.{LevelId}
 use Rattle.s3_lines.specs.Inner.Ranges.{file_in_range}
 use Rattle.s3_lines.specs.Ranges.{is_between, longest_record}
 use Rattle.s3_lines.specs.declared.sheet.Device.TheVariants.{Disk}
-use Rattle.s3_lines.specs.declared.sheet.FileUse.{FileUse}
-use Rattle.s3_lines.specs.declared.sheet.FileUse.TheVariants.{Input, Output, Update}
 use Rattle.s3_lines.specs.declared.sheet.FileLine.{FileLine}
 use Rattle.s3_lines.specs.declared.sheet.KeyField.{KeyField}
-use Rattle.s3_program.specs.FileTable.{is_input_use}
 use Rattle.s3_program.specs.Inner.Positions.{are_in_range}
 use Rattle.s3_program.specs.Inner.Stands.{parts_of}
 use Rattle.s3_program.specs.Inner.Valid.{tables_of}
@@ -29,17 +27,20 @@ use Rattle.s3_job_files.specs.Inner.Holds.{AllAt, OpenedAs, TakesRecord as Takes
 use Rattle.s3_job_files.specs.declared.file.OpenFile.{OpenFile}
 use Rattle.s3_job_files.proofs.Lists.{found_passes, get_mapped, position_map, within_get}
 use Rattle.s3_slots.specs.Labels.{is_indexed}
-use Rattle.s3_opening.specs.Asked.{is_input, is_only_read as is_only_read_by, is_used, key_length_of}
+use Rattle.s3_opening.specs.Asked.{is_used, key_length_of}
 use Rattle.s3_opening.specs.Inner.OpenFiles.{AreOfEach, IsLaidOutAs, IsOfLine}
 use Rattle.s3_meaning.specs.Source.{Source}
+use Rattle.s3_meaning.specs.Output.{filled}
 use Rattle.s3_meaning.specs.declared.current.Current.{Current}
+use Rattle.s3_cycle.specs.declared.request.FileCall.{FileCall}
+use Rattle.s3_cycle.specs.declared.request.FileCall.TheVariants as calls
 use Rattle.s3_cycle.specs.declared.request.Request.{Request as ProgramRequest}
 use Rattle.s3_cycle.specs.declared.request.Request.TheVariants as asks
 use Rattle.s3_cycle.specs.declared.request.Sought.{Sought}
 use Rattle.s3_cycle.specs.declared.request.Sought.TheVariants.{Key, RecordNumber}
 use Rattle.s3_cycle.specs.declared.stepper.Stepper.{Stepper}
 use Rattle.s3_cycle.specs.Inner.Following.{StandsFor, asked, files, put}
-use Rattle.s3_cycle.specs.Inner.Requests.{FitsFile, IsDiskFile, IsReadInOrder, IsChainedBy, IsSoughtBy, TakesRecord, TakesAddition, TakesChanges, is_only_read}
+use Rattle.s3_cycle.specs.Inner.Requests.{Allows, FitsFile, IsDiskFile, IsSoughtBy, TakesRecord}
 use Rattle.s3_cycle.proofs.FollowLemmas.{files_stay, slot_named}
 use Rattle.s3_level.specs.declared.job.OpenJob.{OpenJob}
 use Rattle.s3_level.specs.Inner.Holds.{IsJobReady, places_of}
@@ -117,8 +118,14 @@ named_at : (level : LevelId) (job : OpenJob) (slot : ℕ) (line : FileLine) → 
 named_at level job slot line ready there =
     ap (λ (places : List (Option ℕ)). slice_get places slot) ready.places ∙ get_mapped (λ (one : FileLine). place_named one.name (map job_file_of job.files.files.items)) (files job.cycle) slot line there
 
-pub slot_there : (level : LevelId) (job : OpenJob) (slot : ℕ) (Suits : FileLine → Type 0) → IsJobReady level job → IsDiskFile (files job.cycle) slot Suits → slot < length job.places.items
+slot_there : (level : LevelId) (job : OpenJob) (slot : ℕ) (Suits : FileLine → Type 0) → IsJobReady level job → IsDiskFile (files job.cycle) slot Suits → slot < length job.places.items
 slot_there level job slot Suits ready is = within_get job.places.items slot _ (named_at level job slot is.line ready is.there)
+
+-- the slot of the file that is called
+pub called_within : {job : OpenJob} {request : ProgramRequest} {slot : ℕ} {call : FileCall} → IsJobReady job.files.level job → request ≡ asked job.cycle → FitsFile (files job.cycle) (asked job.cycle) (put job.cycle) → request ≡ asks.File slot call
+    → slot < length job.places.items
+called_within {job = job} {slot = slot} {call = call} ready pends fits is =
+    slot_there job.files.level job slot (Allows call (length (put job.cycle))) ready (subst (λ (r : ProgramRequest). FitsFile (files job.cycle) r (put job.cycle)) (sym pends ∙ is) fits)
 
 -- what was read there is this place
 abbrev pub IsPlace : (job : OpenJob) (slot : ℕ) (place : Option ℕ) → Type 0
@@ -166,78 +173,63 @@ sought_by None (Key key) line file is wrong of_line = absurd wrong
 sought_by None (RecordNumber number) line file is right of_line = tt
 
 -- where records are put it is the level's own
-not_only_read : (line : FileLine) → is_only_read line ≡ false → is_only_read_by line ≡ false
-not_only_read line is = by line.usage is
-  where
-    by : (usage : FileUse) → (is_input_use usage && not line.has_additions) ≡ false → (is_input usage && not line.has_additions) ≡ false
-    by Input is = is
-    by Output is = refl
-    by Update is = refl
-
 takes_record : (line : FileLine) (file : OpenFile) (bytes : List ℕ) → TakesRecord (length bytes) line → IsOfLine line file → Takes bytes file
-takes_record line file bytes takes of_line = record { own = of_line.own (not_only_read line takes.put_out); long = takes.long ∙ sym of_line.layout.record_length }
+takes_record line file bytes takes of_line = record { own = of_line.own takes.put_out; long = takes.long ∙ sym of_line.layout.record_length }
 
--- its F line allows the request
-pub allows : {X : Type 0} (c : Stepper) (request : ProgramRequest) (positions : List X) → asked c ≡ request → FitsFile (files c) (asked c) positions → FitsFile (files c) request positions
-allows c request positions is fits = subst (λ (r : ProgramRequest). FitsFile (files c) r positions) is fits
+-- an open job that calls the file of a slot, with the place that stands there
+pub record IsCalled (job : OpenJob) (slot : ℕ) (call : FileCall) (place : Option ℕ) : Type 0 where
+  pub ready : IsJobReady job.files.level job
+  pub is : asked job.cycle ≡ asks.File slot call
+  pub fits : IsDiskFile (files job.cycle) slot (Allows call (length (put job.cycle)))
+  pub there : IsPlace job slot place
+
+-- it calls a file where it asks for something of one
+pub called : {job : OpenJob} {request : ProgramRequest} {slot : ℕ} {call known : FileCall} {place : Option ℕ} → IsJobReady job.files.level job → request ≡ asked job.cycle → FitsFile (files job.cycle) (asked job.cycle) (put job.cycle)
+    → request ≡ asks.File slot call → call ≡ known → IsPlace job slot place → IsCalled job slot known place
+called {job = job} {slot = slot} {known = known} ready pends fits is which there =
+    let calls : asked job.cycle ≡ asks.File slot known = sym pends ∙ is ∙ ap (asks.File slot) which in
+    record { ready = ready; is = calls; fits = subst (λ (r : ProgramRequest). FitsFile (files job.cycle) r (put job.cycle)) calls fits; there = there }
+
+call_open : {job : OpenJob} {slot place : ℕ} (call : FileCall) → IsCalled job slot call (Some place) → AllAt job.files.files.items place (IsOpenAs (Allows call (length (put job.cycle))))
+call_open {job = job} {slot = slot} {place = place} call it = open_as job.files.level job slot place (Allows call (length (put job.cycle))) it.ready it.fits it.there
 
 -- the file whose place stands at a slot has records of the length that is read
-pub read_long : (level : LevelId) (job : OpenJob) (slot place size n : ℕ) → IsJobReady level job → asked job.cycle ≡ asks.Read slot size → FitsFile (files job.cycle) (asked job.cycle) (put job.cycle)
-    → IsPlace job slot (Some place) → n ≡ size → AllAt job.files.files.items place (λ one. n ≡ one.label.record_length)
-read_long level job slot place size n ready is fits there same = λ one at.
-    let it = open_as level job slot place (IsReadInOrder size) ready (allows job.cycle (asks.Read slot size) (put job.cycle) is fits) there one at in
-    same ∙ it.suits.long ∙ sym it.of_line.layout.record_length
+pub read_long : {job : OpenJob} {slot place size : ℕ} (n : ℕ) → IsCalled job slot (calls.Read size) (Some place) → n ≡ size → AllAt job.files.files.items place (λ one. n ≡ one.label.record_length)
+read_long {size = size} n it same = λ one at. let opened = call_open (calls.Read size) it one at in same ∙ opened.suits.long ∙ sym opened.of_line.layout.record_length
 
-pub chain_long : (level : LevelId) (job : OpenJob) (slot place size n : ℕ) (what : Sought) → IsJobReady level job → asked job.cycle ≡ asks.Chain slot size what → FitsFile (files job.cycle) (asked job.cycle) (put job.cycle)
-    → IsPlace job slot (Some place) → n ≡ size → AllAt job.files.files.items place (λ one. n ≡ one.label.record_length)
-chain_long level job slot place size n what ready is fits there same = λ one at.
-    let it = open_as level job slot place (IsChainedBy size what) ready (allows job.cycle (asks.Chain slot size what) (put job.cycle) is fits) there one at in
-    same ∙ it.suits.long ∙ sym it.of_line.layout.record_length
+pub chain_long : {job : OpenJob} {slot place size : ℕ} {what : Sought} (n : ℕ) → IsCalled job slot (calls.Chain size what) (Some place) → n ≡ size → AllAt job.files.files.items place (λ one. n ≡ one.label.record_length)
+chain_long {size = size} {what = what} n it same = λ one at. let opened = call_open (calls.Chain size what) it one at in same ∙ opened.suits.long ∙ sym opened.of_line.layout.record_length
 
 -- it can be sought there
-pub chain_suits : (level : LevelId) (job : OpenJob) (slot place size : ℕ) (what : Sought) → IsJobReady level job → asked job.cycle ≡ asks.Chain slot size what → FitsFile (files job.cycle) (asked job.cycle) (put job.cycle)
-    → IsPlace job slot (Some place) → AllAt job.files.files.items place (SuitsSought what)
-chain_suits level job slot place size what ready is fits there = λ one at.
-    let it = open_as level job slot place (IsChainedBy size what) ready (allows job.cycle (asks.Chain slot size what) (put job.cycle) is fits) there one at in
-    sought_by it.line.key what it.line one refl it.suits.sought_by it.of_line
+pub chain_suits : {job : OpenJob} {slot place size : ℕ} {what : Sought} → IsCalled job slot (calls.Chain size what) (Some place) → AllAt job.files.files.items place (SuitsSought what)
+chain_suits {size = size} {what = what} it = λ one at. let opened = call_open (calls.Chain size what) it one at in sought_by opened.line.key what opened.line one refl opened.suits.sought_by opened.of_line
 
 -- it takes the record
-pub append_takes : (level : LevelId) (job : OpenJob) (slot place : ℕ) (bytes : List ℕ) → IsJobReady level job → asked job.cycle ≡ asks.Append slot → FitsFile (files job.cycle) (asked job.cycle) bytes
-    → IsPlace job slot (Some place) → AllAt job.files.files.items place (Takes bytes)
-append_takes level job slot place bytes ready is fits there = λ one at.
-    let it = open_as level job slot place (TakesRecord (length bytes)) ready (allows job.cycle (asks.Append slot) bytes is fits) there one at in
-    takes_record it.line one bytes it.suits it.of_line
+record_long : (positions : List (Option ℕ)) (bytes : List ℕ) (line : FileLine) → bytes ≡ filled positions → TakesRecord (length positions) line → TakesRecord (length bytes) line
+record_long positions bytes line laid takes =
+    let long : length positions ≡ length bytes = sym (ap length laid ∙ length-map positions (λ position. unwrap_or position 0x40)) in
+    subst (λ n. TakesRecord n line) long takes
 
-pub add_takes : (level : LevelId) (job : OpenJob) (slot place : ℕ) (bytes : List ℕ) → IsJobReady level job → asked job.cycle ≡ asks.Add slot → FitsFile (files job.cycle) (asked job.cycle) bytes
-    → IsPlace job slot (Some place) → AllAt job.files.files.items place (Takes bytes)
-add_takes level job slot place bytes ready is fits there = λ one at.
-    let it = open_as level job slot place (TakesAddition (length bytes)) ready (allows job.cycle (asks.Add slot) bytes is fits) there one at in
-    takes_record it.line one bytes it.suits.takes it.of_line
+pub append_takes : {job : OpenJob} {slot place : ℕ} (bytes : List ℕ) → IsCalled job slot calls.Append (Some place) → bytes ≡ filled (put job.cycle) → AllAt job.files.files.items place (Takes bytes)
+append_takes {job = job} bytes it laid = λ one at. let opened = call_open calls.Append it one at in takes_record opened.line one bytes (record_long (put job.cycle) bytes opened.line laid opened.suits) opened.of_line
+
+pub add_takes : {job : OpenJob} {slot place : ℕ} (bytes : List ℕ) → IsCalled job slot calls.Add (Some place) → bytes ≡ filled (put job.cycle) → AllAt job.files.files.items place (Takes bytes)
+add_takes {job = job} bytes it laid = λ one at. let opened = call_open calls.Add it one at in takes_record opened.line one bytes (record_long (put job.cycle) bytes opened.line laid opened.suits.takes) opened.of_line
 
 -- by its key
-pub add_indexed : (level : LevelId) (job : OpenJob) (slot place : ℕ) → IsJobReady level job → asked job.cycle ≡ asks.Add slot → FitsFile (files job.cycle) (asked job.cycle) (put job.cycle)
-    → IsPlace job slot (Some place) → AllAt job.files.files.items place (λ one. is_indexed one.label.organization ≡ true)
-add_indexed level job slot place ready is fits there = λ one at.
-    let it = open_as level job slot place (TakesAddition (length (put job.cycle))) ready (allows job.cycle (asks.Add slot) (put job.cycle) is fits) there one at in
-    it.of_line.layout.indexed ∙ it.suits.keyed
+pub add_indexed : {job : OpenJob} {slot place : ℕ} → IsCalled job slot calls.Add (Some place) → AllAt job.files.files.items place (λ one. is_indexed one.label.organization ≡ true)
+add_indexed it = λ one at. let opened = call_open calls.Add it one at in opened.of_line.layout.indexed ∙ opened.suits.keyed
 
 -- it is the level's own
-pub update_own : (level : LevelId) (job : OpenJob) (slot place : ℕ) (current : Option Current) → IsJobReady level job → asked job.cycle ≡ asks.Update slot current → FitsFile (files job.cycle) (asked job.cycle) (put job.cycle)
-    → IsPlace job slot (Some place) → AllAt job.files.files.items place (λ one. one.is_master ≡ false)
-update_own level job slot place current ready is fits there = λ one at.
-    let it = open_as level job slot place (TakesChanges (length (put job.cycle))) ready (allows job.cycle (asks.Update slot current) (put job.cycle) is fits) there one at in
-    it.of_line.own (not_only_read it.line it.suits.takes.put_out)
+pub update_own : {job : OpenJob} {slot place : ℕ} {current : Option Current} → IsCalled job slot (calls.Update current) (Some place) → AllAt job.files.files.items place (λ one. one.is_master ≡ false)
+update_own {current = current} it = λ one at. let opened = call_open (calls.Update current) it one at in opened.of_line.own opened.suits.takes.put_out
 
 -- its records have 1,024 bytes at most
-pub few_read : (c : Stepper) (slot size : ℕ) → asked c ≡ asks.Read slot size → FitsFile (files c) (asked c) (put c) → size ≤ 1024
-few_read c slot size is fits =
-    let line = allows c (asks.Read slot size) (put c) is fits in
-    subst (λ k. k ≤ 1024) (sym line.suits.long) (few_bytes c slot line.line line.there line.on_disk)
+pub few_read : {job : OpenJob} {slot size : ℕ} {place : Option ℕ} → IsCalled job slot (calls.Read size) place → size ≤ 1024
+few_read {job = job} {slot = slot} it = subst (λ k. k ≤ 1024) (sym it.fits.suits.long) (few_bytes job.cycle slot it.fits.line it.fits.there it.fits.on_disk)
 
-pub few_chained : (c : Stepper) (slot size : ℕ) (what : Sought) → asked c ≡ asks.Chain slot size what → FitsFile (files c) (asked c) (put c) → size ≤ 1024
-few_chained c slot size what is fits =
-    let line = allows c (asks.Chain slot size what) (put c) is fits in
-    subst (λ k. k ≤ 1024) (sym line.suits.long) (few_bytes c slot line.line line.there line.on_disk)
+pub few_chained : {job : OpenJob} {slot size : ℕ} {what : Sought} {place : Option ℕ} → IsCalled job slot (calls.Chain size what) place → size ≤ 1024
+few_chained {job = job} {slot = slot} it = subst (λ k. k ≤ 1024) (sym it.fits.suits.long) (few_bytes job.cycle slot it.fits.line it.fits.there it.fits.on_disk)
 
 -- ---- behind a request
 still_of_line : (line : FileLine) (old new : OpenFile) → opened_as new ≡ opened_as old → IsOfLine line old → IsOfLine line new

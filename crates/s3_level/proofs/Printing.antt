@@ -11,9 +11,7 @@ use Rattle.s3_job_files.specs.Inner.Holds.{seen, job_file_of}
 use Rattle.s3_job_files.proofs.Staying.{held_over}
 use Rattle.s3_spool.specs.Inner.Queues.{Blocks, IsFreeSector, blocks_of, queue_of, quota_of}
 use Rattle.s3_spool.proofs.QueueLemmas.{queue_length}
-use Rattle.s3_cycle.specs.declared.request.Request as code
 use Rattle.s3_cycle.specs.declared.request.Request.TheVariants as asks
-use Rattle.s3_cycle.specs.Inner.Requests.{IsLine}
 use Rattle.s3_cycle.specs.Inner.Following.{asked, put}
 use Rattle.s3_cycle.proofs.FollowLemmas.{waits_print}
 use Rattle.s3_solo.specs.declared.action.Did.{Did}
@@ -43,11 +41,6 @@ room_held level areas state blocks w held =
 -- what the open job asks for
 asks_it : (o : Option OpenJob) (open_job : OpenJob) (page line : ℕ) → o ≡ Some open_job → request_by o ≡ Some (asks.Print page line) → asked open_job.cycle ≡ asks.Print page line
 asks_it o open_job page line is_open is = let same : Some (asked open_job.cycle) ≡ Some (asks.Print page line) = sym (ap request_by is_open) ∙ is in cc
-
--- its line is no longer than a print line
-pub line_short : (o : Option OpenJob) (open_job : OpenJob) (page line : ℕ) (text : List ℕ) → o ≡ Some open_job → request_by o ≡ Some (asks.Print page line) → IsLine (asked open_job.cycle) text
-    → (1 ≤ length text) × (length text ≤ 132)
-line_short o open_job page line text is_open is fits = subst (λ (r : code.Request). IsLine r text) (asks_it o open_job page line is_open is) fits
 
 -- a job at work stays as it is while a line is put
 still : (page line : ℕ) (text : List ℕ) (w : World) (deck : List (List ℕ)) (o : Option OpenJob) (meant : Option JobAtWork) → HoldsAtWork deck o w meant → HoldsAtWork deck o (line_put page line text w) meant

@@ -12,7 +12,7 @@ use Rattle.s3_labels.specs.Inner.Areas.{Areas}
 use Rattle.s3_match.specs.Inner.Types.{name_of_file}
 use Rattle.s3_meaning.specs.Output.{filled}
 use Rattle.s3_meaning.specs.Requests.{Answer}
-use Rattle.s3_meaning.specs.Inner.Requests.{fits, fits_done, fits_record, refuses_append, refuses_add, refuses_update}
+use Rattle.s3_meaning.specs.Inner.Requests.{fits, fits_record}
 use Rattle.s3_meaning.specs.Requests.{Sought as MeantSought}
 use Rattle.s3_meaning.specs.declared.current.Current.{Current}
 use Rattle.s3_job_files.specs.Inner.Calls.{found_answer, put_answer}
@@ -23,61 +23,51 @@ use Rattle.s3_job_files.specs.Requests as meant
 use Rattle.s3_job_files.specs.Requests.{Served, served_named, served_on, record_read, record_chained, record_appended, record_added, record_updated}
 use Rattle.s3_job_files.specs.declared.file.OpenFile.{OpenFile}
 use Rattle.s3_job_files.specs.declared.records.Put.{Put}
-use Rattle.s3_lines.specs.declared.sheet.FileLine.{FileLine}
 use Rattle.s3_job_files.proofs.Starting.{none_served, served_at, serves_named}
 use Rattle.s3_job_files.proofs.Held.{at_work, standing_file}
 use Rattle.s3_cycle.specs.declared.request.Answer.{Answer as ProgramAnswer}
-use Rattle.s3_cycle.specs.declared.request.Request.{Request as ProgramRequest}
+use Rattle.s3_cycle.specs.declared.request.FileCall.{FileCall}
+use Rattle.s3_cycle.specs.declared.request.FileCall.TheVariants as calls
 use Rattle.s3_cycle.specs.declared.request.Request.TheVariants as asks
 use Rattle.s3_cycle.specs.declared.request.Sought.{Sought}
 use Rattle.s3_cycle.specs.declared.stepper.Stepper.{Stepper}
-use Rattle.s3_cycle.specs.Inner.Following.{Resumes, asked, files, is_fit, put, waits}
-use Rattle.s3_cycle.specs.Inner.Requests.{FitsFile, IsDiskFile, IsReadInOrder, IsChainedBy, TakesRecord, TakesAddition, TakesChanges, answer_of, sought_of}
-use Rattle.s3_cycle.proofs.FollowLemmas.{waits_card, waits_read, waits_chain, waits_append, waits_add, waits_update, waits_print, waits_jump, waits_ask, waits_end}
+use Rattle.s3_cycle.specs.Inner.Following.{Resumes, asked, is_fit, put, waits}
+use Rattle.s3_cycle.specs.Inner.Requests.{Allows, answer_of, request_to, sought_of}
+use Rattle.s3_cycle.proofs.FollowLemmas.{waits_file}
 use Rattle.s3_level.specs.declared.job.OpenJob.{OpenJob}
 use Rattle.s3_level.specs.Inner.Calls.{CanServe, KeepsOpened, LeavesPack, ServesJob}
-use Rattle.s3_level.specs.Inner.Holds.{IsJobReady}
 use Rattle.s3_level.specs.Inner.Turning.{HasFile, KeepsPlace, ServesFile, SuitsSought}
 use Rattle.s3_level.proofs.Leaving.{job_failed, job_passed, job_served}
-use Rattle.s3_level.proofs.OfLines.{IsPlace, allows, job_stays, place_at, place_within}
+use Rattle.s3_level.proofs.OfLines.{IsCalled, job_stays, place_at, place_within}
 
 is_none_within : {X : Type 0} (xs : List X) (i : ℕ) → i < length xs → slice_get xs i ≡ None → ⊥
 is_none_within [] i within none = omega (arith, within)
 is_none_within (x ∷ xs) zero within none = none-some x (sym none)
 is_none_within (x ∷ xs) (suc i) within none = is_none_within xs i (omega (arith, within)) none
 
--- ---- the request as the files have it
+-- ---- the call as the files have it
+-- how a file serves a call that puts out these positions
+abbrev pub serve_of : FileCall → (positions : List (Option ℕ)) → FileAtWork → FilesInUse → Served
+serve_of (calls.Read size) positions = record_read
+serve_of (calls.Chain size what) positions = record_chained (sought_of what)
+serve_of calls.Append positions = record_appended (filled positions)
+serve_of calls.Add positions = record_added (filled positions)
+serve_of (calls.Update current) positions = record_updated current positions
+
+served_call : (name : Name) (positions : List (Option ℕ)) (call : FileCall) (in_use : FilesInUse) → meant.served (request_to name positions call) in_use ≡ served_named name (serve_of call positions) in_use
+unfolding meant.served
+served_call name positions (calls.Read size) in_use = refl
+served_call name positions (calls.Chain size what) in_use = refl
+served_call name positions calls.Append in_use = refl
+served_call name positions calls.Add in_use = refl
+served_call name positions (calls.Update current) in_use = refl
+
 -- a pending request to the file of this name, served so
-pub record IsRequest (c : Stepper) (name : Name) (serve : FileAtWork → FilesInUse → Served) : Type 0 where
-  pub served : (in_use : FilesInUse) → meant.served (waits c) in_use ≡ served_named name serve in_use
+record IsRequest (c : Stepper) (name : Name) (serve : FileAtWork → FilesInUse → Served) : Type 0 where
+  served : (in_use : FilesInUse) → meant.served (waits c) in_use ≡ served_named name serve in_use
 
-pub is_read : (c : Stepper) (file size : ℕ) → asked c ≡ asks.Read file size → IsRequest c (name_of_file c.program file) record_read
-unfolding meant.served
-is_read c file size is = record { served = λ in_use. ap (λ request. meant.served request in_use) (waits_read c file size is) }
-
-pub is_chain : (c : Stepper) (file size : ℕ) (what : Sought) → asked c ≡ asks.Chain file size what → IsRequest c (name_of_file c.program file) (record_chained (sought_of what))
-unfolding meant.served
-is_chain c file size what is = record { served = λ in_use. ap (λ request. meant.served request in_use) (waits_chain c file size what is) }
-
-pub is_append : (c : Stepper) (file : ℕ) (bytes : List ℕ) → asked c ≡ asks.Append file → bytes ≡ filled (put c) → IsRequest c (name_of_file c.program file) (record_appended bytes)
-unfolding meant.served
-is_append c file bytes is laid = record {
-  served = λ in_use. ap (λ request. meant.served request in_use) (waits_append c file is) ∙ ap (λ (taken : List ℕ). served_named (name_of_file c.program file) (record_appended taken) in_use) (sym laid);
-}
-
-pub is_add : (c : Stepper) (file : ℕ) (bytes : List ℕ) → asked c ≡ asks.Add file → bytes ≡ filled (put c) → IsRequest c (name_of_file c.program file) (record_added bytes)
-unfolding meant.served
-is_add c file bytes is laid = record {
-  served = λ in_use. ap (λ request. meant.served request in_use) (waits_add c file is) ∙ ap (λ (taken : List ℕ). served_named (name_of_file c.program file) (record_added taken) in_use) (sym laid);
-}
-
-pub is_update : (c : Stepper) (file : ℕ) (current : Option Current) (positions : List (Option ℕ)) → asked c ≡ asks.Update file current → positions ≡ put c
-    → IsRequest c (name_of_file c.program file) (record_updated current positions)
-unfolding meant.served
-is_update c file current positions is laid = record {
-  served = λ in_use. ap (λ request. meant.served request in_use) (waits_update c file current is)
-      ∙ ap (λ (taken : List (Option ℕ)). served_named (name_of_file c.program file) (record_updated current taken) in_use) (sym laid);
-}
+is_request : (c : Stepper) (file : ℕ) (call : FileCall) → asked c ≡ asks.File file call → IsRequest c (name_of_file c.program file) (serve_of call (put c))
+is_request c file call is = record { served = λ in_use. ap (λ request. meant.served request in_use) (waits_file c file call is) ∙ served_call (name_of_file c.program file) (put c) call in_use }
 
 -- ---- what serves it
 -- the call at the place of that name serves it, and the run goes on with its answer
@@ -119,29 +109,6 @@ has_so job before name serve place ready within is found in_use held = by (slice
           ∙ ap (λ at. served_on serve at in_use) (at_work job.files.level job.files.files.items before in_use place file ready held there),
     )
 
--- nothing serves a request that is not to a file
-pub serves_none : (job : OpenJob) (before : Seen)
-    → ((file size : ℕ) → asked job.cycle ≡ asks.Read file size → ⊥)
-    → ((file size : ℕ) (what : Sought) → asked job.cycle ≡ asks.Chain file size what → ⊥)
-    → ((file : ℕ) → asked job.cycle ≡ asks.Append file → ⊥)
-    → ((file : ℕ) → asked job.cycle ≡ asks.Add file → ⊥)
-    → ((file : ℕ) (current : Option Current) → asked job.cycle ≡ asks.Update file current → ⊥)
-    → ServesFile false job job before before
-unfolding meant.served
-serves_none job before not_read not_chain not_append not_add not_update = (λ in_use held. by in_use (asked job.cycle) refl, refl, refl)
-  where
-    by : (in_use : FilesInUse) (request : ProgramRequest) → asked job.cycle ≡ request → meant.served (waits job.cycle) in_use ≡ None
-    by in_use asks.Card is = ap (λ request. meant.served request in_use) (waits_card job.cycle is)
-    by in_use (asks.Print page line) is = ap (λ request. meant.served request in_use) (waits_print job.cycle page line is)
-    by in_use asks.Jump is = ap (λ request. meant.served request in_use) (waits_jump job.cycle is)
-    by in_use (asks.Ask code) is = ap (λ request. meant.served request in_use) (waits_ask job.cycle code is)
-    by in_use (asks.End at_once) is = ap (λ request. meant.served request in_use) (waits_end job.cycle at_once is)
-    by in_use (asks.Read file size) is = absurd (not_read file size is)
-    by in_use (asks.Chain file size what) is = absurd (not_chain file size what is)
-    by in_use (asks.Append file) is = absurd (not_append file is)
-    by in_use (asks.Add file) is = absurd (not_add file is)
-    by in_use (asks.Update file current) is = absurd (not_update file current is)
-
 -- ---- a call at its place
 -- what is sought, known
 pub key_sought : (items : List OpenFile) (place : ℕ) (what known : Sought) → what ≡ known → AllAt items place (SuitsSought what) → AllAt items place (SuitsSought known)
@@ -167,31 +134,16 @@ updates_told result current codes marks positions place old new codes_are marks_
     subst (λ (serve : FileAtWork → FilesInUse → Served). IfOk result (λ stored. Serving serve place (put_answer stored) old new)) (λ i. record_updated current (told i)) serves
 
 -- ---- answers that fit
-length_fits : (size : ℕ) (found : Bool) (bytes : List ℕ) → length bytes ≡ size → fits_record size (found_answer found bytes) ≡ true
+-- a record of the length that is asked for, or none
+pub length_fits : (size : ℕ) (found : Bool) (bytes : List ℕ) → length bytes ≡ size → fits_record size (found_answer found bytes) ≡ true
 length_fits size true bytes long = grind (arith, nat_tests, long)
 length_fits size false bytes long = refl
 
--- a record of the length that is asked for, or none
-pub read_fits : (c : Stepper) (file size : ℕ) (found : Bool) (bytes : List ℕ) → asked c ≡ asks.Read file size → length bytes ≡ size → fits (waits c) (found_answer found bytes) ≡ true
-read_fits c file size found bytes is long = ap (λ request. fits request (found_answer found bytes)) (waits_read c file size is) ∙ length_fits size found bytes long
-
-pub chain_fits : (c : Stepper) (file size : ℕ) (what : Sought) (found : Bool) (bytes : List ℕ) → asked c ≡ asks.Chain file size what → length bytes ≡ size → fits (waits c) (found_answer found bytes) ≡ true
-chain_fits c file size what found bytes is long = ap (λ request. fits request (found_answer found bytes)) (waits_chain c file size what is) ∙ length_fits size found bytes long
-
--- a record that is put, or refused for a halt of the request
-pub append_fits : (c : Stepper) (file : ℕ) (stored : Put) → asked c ≡ asks.Append file → fits_done refuses_append (put_answer stored) ≡ true → fits (waits c) (put_answer stored) ≡ true
-append_fits c file stored is allowed = ap (λ request. fits request (put_answer stored)) (waits_append c file is) ∙ allowed
-
-pub add_fits : (c : Stepper) (file : ℕ) (stored : Put) → asked c ≡ asks.Add file → fits_done refuses_add (put_answer stored) ≡ true → fits (waits c) (put_answer stored) ≡ true
-add_fits c file stored is allowed = ap (λ request. fits request (put_answer stored)) (waits_add c file is) ∙ allowed
-
-pub update_fits : (c : Stepper) (file : ℕ) (current : Option Current) (stored : Put) → asked c ≡ asks.Update file current → fits_done refuses_update (put_answer stored) ≡ true → fits (waits c) (put_answer stored) ≡ true
-update_fits c file current stored is allowed = ap (λ request. fits request (put_answer stored)) (waits_update c file current is) ∙ allowed
-
--- an answer that means one that fits
-pub fits_meant : (c : Stepper) (answer : ProgramAnswer) (meaning : Answer) → answer_of answer ≡ meaning → fits (waits c) meaning ≡ true → IsTrue (is_fit c answer)
+-- an answer that means one that fits the call
+pub call_fits : {job : OpenJob} {slot : ℕ} {call : FileCall} {place : Option ℕ} (answer : ProgramAnswer) (meaning : Answer) → IsCalled job slot call place → answer_of answer ≡ meaning
+    → fits (request_to (name_of_file job.cycle.program slot) (put job.cycle) call) meaning ≡ true → IsTrue (is_fit job.cycle answer)
 unfolding is_fit
-fits_meant c answer meaning same fitting = ap (fits (waits c)) same ∙ fitting
+call_fits {job = job} {slot = slot} {call = call} answer meaning called same fitting = ap (fits (waits job.cycle)) same ∙ ap (λ request. fits request meaning) (waits_file job.cycle slot call called.is) ∙ fitting
 
 -- and that is resumed with
 pub resumes_meant : (old new : Stepper) (answer : ProgramAnswer) (meaning : Answer) → answer_of answer ≡ meaning → Resumes old new (answer_of answer) → Resumes old new meaning
@@ -199,63 +151,45 @@ resumes_meant old new answer meaning same resumes = subst (Resumes old new) same
 
 -- ---- a request to a file, done
 -- the pending request is served so by the file at this place, where the job has it
-pub record IsServedAt (job : OpenJob) (serve : FileAtWork → FilesInUse → Served) (place : Option ℕ) : Type 0 where
+record IsServedAt (job : OpenJob) (serve : FileAtWork → FilesInUse → Served) (place : Option ℕ) : Type 0 where
   name : Name
   request : IsRequest job.cycle name serve
   found : place_named name (map job_file_of job.files.files.items) ≡ place
 
-served_at_slot : (job : OpenJob) (serve : FileAtWork → FilesInUse → Served) (slot : ℕ) (place : Option ℕ) (Suits : FileLine → Type 0) → IsJobReady job.files.level job → IsDiskFile (files job.cycle) slot Suits
-    → IsPlace job slot place → IsRequest job.cycle (name_of_file job.cycle.program slot) serve → IsServedAt job serve place
-served_at_slot job serve slot place Suits ready fits there request =
-    record { name = name_of_file job.cycle.program slot; request = request; found = place_at job.files.level job slot place Suits ready fits there }
-
-pub reads_at : (job : OpenJob) (slot size : ℕ) (place : Option ℕ) → IsJobReady job.files.level job → asked job.cycle ≡ asks.Read slot size → FitsFile (files job.cycle) (asked job.cycle) (put job.cycle)
-    → IsPlace job slot place → IsServedAt job record_read place
-reads_at job slot size place ready is fits there =
-    served_at_slot job record_read slot place (IsReadInOrder size) ready (allows job.cycle (asks.Read slot size) (put job.cycle) is fits) there (is_read job.cycle slot size is)
-
-pub chains_at : (job : OpenJob) (slot size : ℕ) (what : Sought) (place : Option ℕ) → IsJobReady job.files.level job → asked job.cycle ≡ asks.Chain slot size what → FitsFile (files job.cycle) (asked job.cycle) (put job.cycle)
-    → IsPlace job slot place → IsServedAt job (record_chained (sought_of what)) place
-chains_at job slot size what place ready is fits there =
-    served_at_slot job (record_chained (sought_of what)) slot place (IsChainedBy size what) ready (allows job.cycle (asks.Chain slot size what) (put job.cycle) is fits) there (is_chain job.cycle slot size what is)
-
-pub appends_at : (job : OpenJob) (slot : ℕ) (bytes : List ℕ) (place : Option ℕ) → IsJobReady job.files.level job → asked job.cycle ≡ asks.Append slot → FitsFile (files job.cycle) (asked job.cycle) (put job.cycle)
-    → IsPlace job slot place → bytes ≡ filled (put job.cycle) → IsServedAt job (record_appended bytes) place
-appends_at job slot bytes place ready is fits there laid =
-    served_at_slot job (record_appended bytes) slot place (TakesRecord (length (put job.cycle))) ready (allows job.cycle (asks.Append slot) (put job.cycle) is fits) there (is_append job.cycle slot bytes is laid)
-
-pub adds_at : (job : OpenJob) (slot : ℕ) (bytes : List ℕ) (place : Option ℕ) → IsJobReady job.files.level job → asked job.cycle ≡ asks.Add slot → FitsFile (files job.cycle) (asked job.cycle) (put job.cycle)
-    → IsPlace job slot place → bytes ≡ filled (put job.cycle) → IsServedAt job (record_added bytes) place
-adds_at job slot bytes place ready is fits there laid =
-    served_at_slot job (record_added bytes) slot place (TakesAddition (length (put job.cycle))) ready (allows job.cycle (asks.Add slot) (put job.cycle) is fits) there (is_add job.cycle slot bytes is laid)
-
-pub updates_at : (job : OpenJob) (slot : ℕ) (current : Option Current) (positions : List (Option ℕ)) (place : Option ℕ) → IsJobReady job.files.level job → asked job.cycle ≡ asks.Update slot current → FitsFile (files job.cycle) (asked job.cycle) (put job.cycle)
-    → IsPlace job slot place → positions ≡ put job.cycle → IsServedAt job (record_updated current positions) place
-updates_at job slot current positions place ready is fits there laid =
-    served_at_slot job (record_updated current positions) slot place (TakesChanges (length (put job.cycle))) ready (allows job.cycle (asks.Update slot current) (put job.cycle) is fits) there
-    (is_update job.cycle slot current positions is laid)
+served_at_slot : {job : OpenJob} {slot : ℕ} {call : FileCall} {place : Option ℕ} → IsCalled job slot call place → IsServedAt job (serve_of call (put job.cycle)) place
+served_at_slot {job = job} {slot = slot} {call = call} {place = place} called = record {
+  name = name_of_file job.cycle.program slot;
+  request = is_request job.cycle slot call called.is;
+  found = place_at job.files.level job slot place (Allows call (length (put job.cycle))) called.ready called.fits called.there;
+}
 
 -- the place is one of a file
-pub is_there : (job : OpenJob) (serve : FileAtWork → FilesInUse → Served) (place : ℕ) → IsServedAt job serve (Some place) → place < length job.files.files.items
-is_there job serve place at = place_within at.name job.files.files.items place at.found
+pub is_there : {job : OpenJob} {slot : ℕ} {call : FileCall} {place : ℕ} → IsCalled job slot call (Some place) → place < length job.files.files.items
+is_there {job = job} {place = place} called = let at = served_at_slot called in place_within at.name job.files.files.items place at.found
 
 -- the job doesn't have the file
-pub not_in_use : {job : OpenJob} {areas : Areas} {s : PoolState} (serve : FileAtWork → FilesInUse → Served) → IsServedAt job serve None → CanServe job (seen areas s.contents) → ServesJob (Ok false) job job areas areas s s
-not_in_use {job = job} {areas = areas} {s = s} serve at ready = job_passed (none_so job (seen areas s.contents) at.name serve at.request at.found, refl, refl) ready
+pub not_in_use : {job : OpenJob} {slot : ℕ} {call : FileCall} {areas : Areas} {s : PoolState} → IsCalled job slot call None → CanServe job (seen areas s.contents) → ServesJob (Ok false) job job areas areas s s
+not_in_use {job = job} {call = call} {areas = areas} {s = s} called ready =
+    let at = served_at_slot called in job_passed (none_so job (seen areas s.contents) at.name (serve_of call (put job.cycle)) at.request at.found, refl, refl) ready
 
 -- it has the file, and the file failed
-pub file_failed : {T : Type 0} {fault : SectorFault} {old new : OpenJob} {before after : Areas} {s t : PoolState} (serve : FileAtWork → FilesInUse → Served) (place : ℕ) (result : Result Bool SectorFault) → IsErrAnd result (λ f. f ≡ fault)
-    → IsServedAt old serve (Some place) → CanServe old (seen before s.contents) → KeepsPlace old new → LeavesPack {T = T} old.files.level (Err fault) before after s t → ServesJob result old new before after s t
-file_failed {old = old} {before = before} {s = s} serve place result fails at ready stays leaves =
-    job_failed result fails (has_so old (seen before s.contents) at.name serve place ready.files (is_there old serve place at) at.request at.found) stays leaves
+pub file_failed : {T : Type 0} {fault : SectorFault} {old new : OpenJob} {slot place : ℕ} {call : FileCall} {before after : Areas} {s t : PoolState} (result : Result Bool SectorFault) → IsErrAnd result (λ f. f ≡ fault)
+    → IsCalled old slot call (Some place) → CanServe old (seen before s.contents) → KeepsPlace old new → LeavesPack {T = T} old.files.level (Err fault) before after s t → ServesJob result old new before after s t
+file_failed {old = old} {place = place} {call = call} {before = before} {s = s} result fails called ready stays leaves =
+    let at = served_at_slot called in
+    job_failed result fails (has_so old (seen before s.contents) at.name (serve_of call (put old.cycle)) place ready.files (is_there called) at.request at.found) stays leaves
 
 -- the file served it, and the run goes on with its answer
-pub file_served : {T : Type 0} {first : T} {old new : OpenJob} {before after : Areas} {s t : PoolState} (serve : FileAtWork → FilesInUse → Served) (place : ℕ) (answer : Answer) → IsServedAt old serve (Some place) → CanServe old (seen before s.contents)
+pub file_served : {T : Type 0} {first : T} {old new : OpenJob} {slot place : ℕ} {call : FileCall} {before after : Areas} {s t : PoolState} (serve : FileAtWork → FilesInUse → Served) (answer : Answer) → IsCalled old slot call (Some place)
+    → serve ≡ serve_of call (put old.cycle) → CanServe old (seen before s.contents)
     → Serving serve place answer (HoldsInUse old.files.level old.files.files.items (seen before s.contents)) (HoldsInUse new.files.level new.files.files.items (seen after t.contents))
     → AreFilesReady new.files.level new.files.files.items (seen after t.contents) → KeepsOpened old.files new.files → new.places.items ≡ old.places.items → Resumes old.cycle new.cycle answer → KeepsPlace old new
     → LeavesPack old.files.level (Ok first) before after s t → ServesJob (Ok true) old new before after s t
-file_served {old = old} {new = new} {before = before} {after = after} {s = s} {t = t} serve place answer at ready serves files_ready opened places resumes stays leaves =
+file_served {old = old} {new = new} {place = place} {call = call} {before = before} {after = after} {s = s} {t = t} serve answer called so ready serves files_ready opened places resumes stays leaves =
+    let at = served_at_slot called in
     job_served
-    (served_so old new (seen before s.contents) (seen after t.contents) at.name serve place answer at.request at.found
-    (subst (λ (level : LevelId). Serving serve place answer (HoldsInUse old.files.level old.files.files.items (seen before s.contents)) (HoldsInUse level new.files.files.items (seen after t.contents))) opened.level serves) resumes)
+    (served_so old new (seen before s.contents) (seen after t.contents) at.name (serve_of call (put old.cycle)) place answer at.request at.found
+    (subst (λ (f : FileAtWork → FilesInUse → Served). Serving f place answer (HoldsInUse old.files.level old.files.files.items (seen before s.contents)) (HoldsInUse old.files.level new.files.files.items (seen after t.contents))) so
+    (subst (λ (level : LevelId). Serving serve place answer (HoldsInUse old.files.level old.files.files.items (seen before s.contents)) (HoldsInUse level new.files.files.items (seen after t.contents))) opened.level serves))
+    resumes)
     (record { files = files_ready; job = job_stays old.files.level old new ready.job opened.opened places (λ source stands. (resumes source stands).0) }) stays leaves

@@ -1,25 +1,29 @@
 -- A job at work: its cycle follows the world's run.
-use Rattle.std.proofs.Common.{◌≡◌, ◌≤◌, ℕ, length, List, [], ◌∷◌, ◌++◌, refl, sym, ◌∙◌, ap, subst, Bool, true, false, if◌then◌else◌, Option, Some, None, Result, Ok, Err, OnOk, drop, map, slice_range}
-use Rattle.std.proofs.lemmas.Option.{none-some}
+use Rattle.std.proofs.Common.{◌≡◌, ℕ, List, [], ◌∷◌, ◌++◌, refl, sym, ◌∙◌, ap, subst, Bool, true, false, if◌then◌else◌, Option, Some, None, Result, Ok, Err, OnOk, drop, map, slice_range}
 use Rattle.s3_meaning.specs.Source.{Source}
 use Rattle.s3_meaning.specs.Requests.{Answer, Request, Card, Read, Chain, Append, Add, Update, Print, Jump, Ask, End}
+use Rattle.s3_cards.specs.declared.name.Name.{Name}
+use Rattle.s3_match.specs.Inner.Types.{name_of_file}
 use Rattle.s3_operator.specs.declared.halt_code.HaltCode.{HaltCode}
 use Rattle.s3_cycle.specs.declared.request.Request as code
 use Rattle.s3_cycle.specs.declared.request.Request.TheVariants as asks
-use Rattle.s3_cycle.specs.Inner.Requests.{IsLine}
-use Rattle.s3_cycle.specs.Inner.Following.{Follows, Resumes, asked, waits}
-use Rattle.s3_cycle.proofs.FollowLemmas.{follows_on, waits_as, waits_card, waits_read, waits_chain, waits_append, waits_add, waits_update, waits_print, waits_jump, waits_ask, waits_end}
+use Rattle.s3_cycle.specs.declared.request.FileCall.{FileCall}
+use Rattle.s3_cycle.specs.declared.request.FileCall.TheVariants as calls
+use Rattle.s3_cycle.specs.declared.stepper.Stepper.{Stepper}
+use Rattle.s3_cycle.specs.Inner.Requests.{request_to}
+use Rattle.s3_cycle.specs.Inner.Following.{Follows, Resumes, asked, put, waits}
+use Rattle.s3_cycle.proofs.FollowLemmas.{follows_on, waits_as, waits_card, waits_file, waits_print, waits_jump, waits_ask, waits_end}
 use Rattle.s3_level.specs.declared.job.OpenJob.{OpenJob}
 use Rattle.s3_level.specs.declared.level.Level.{Level}
 use Rattle.s3_level.specs.declared.next.Next.TheVariants.{Halts, IsOver, GoesOn}
 use Rattle.s3_solo.specs.declared.action.Did.TheVariants.{Acted}
 use Rattle.s3_solo.specs.World.{World, JobAtWork}
-use Rattle.s3_solo.specs.Serving.{at_work, card_answer, halting, job_ended, line_put, over, pending, served, standing_at, with_answer, with_card_read}
+use Rattle.s3_solo.specs.Serving.{at_work, card_answer, halting, job_ended, over, pending, served, standing_at, with_answer, with_card_read}
 use Rattle.s3_job_files.specs.Inner.Holds.{HoldsFiles, job_file_of}
 use Rattle.s3_job_files.specs.declared.file.OpenFile.{OpenFile}
 use Rattle.s3_job_files.specs.declared.job_files.JobFiles.{JobFiles}
 use Rattle.s3_level.specs.Inner.Holds.{Shown, HoldsParts, HoldsJob, HoldsAtWork, Becomes, open_files}
-use Rattle.s3_level.specs.Inner.Turning.{AtWorkBecomes, Comes, KeepsPlace, Pends, request_by, waits_by}
+use Rattle.s3_level.specs.Inner.Turning.{AtWorkBecomes, Comes, KeepsPlace, Pends, waits_by}
 
 -- ---- the open job and the world's
 -- where the level has a job at work, so has the world
@@ -28,14 +32,6 @@ pub job_held : (deck : List (List ℕ)) (open_job : OpenJob) (w : World) (job : 
 job_held deck open_job w job o meant is_open is_job held =
     let P : Option OpenJob → Type 0 = λ k. HoldsAtWork deck k w (Some job) in
     subst P is_open (let Q : Option JobAtWork → Type 0 = λ m. HoldsAtWork deck o w m in subst Q is_job held)
-
--- the level has it where the world has one
-level_has : (s : Shown) (level : Level) (w : World) (job : JobAtWork) → w.job ≡ Some job → HoldsParts level s w → (open_job : OpenJob) × (level.job ≡ Some open_job)
-level_has s level w job is_job held = by level.job refl (let Q : Option JobAtWork → Type 0 = λ m. HoldsAtWork level.deck level.job w m in subst Q is_job held.job)
-  where
-    by : (o : Option OpenJob) → level.job ≡ o → HoldsAtWork level.deck level.job w (Some job) → (open_job : OpenJob) × (level.job ≡ Some open_job)
-    by None is h = absurd (let P : Option OpenJob → Type 0 = λ k. HoldsAtWork level.deck k w (Some job) in subst P is h)
-    by (Some open_job) is h = (open_job, is)
 
 -- the pending request of the open job is that of the world's job
 pub pends : (s : Shown) (level : Level) (w : World) → HoldsParts level s w → Pends (waits_by level.job) w
@@ -182,13 +178,16 @@ goes (asks.Ask code) = false
 goes (asks.End at_once) = if at_once then false else true
 goes _ = true
 
-goes_at : (c : _) (request : code.Request) (job : JobAtWork) (w : World) → asked c ≡ request → goes request ≡ true → standing_at (waits c) job w ≡ record w { job = Some job }
+calls_at : (name : Name) (positions : List (Option ℕ)) (call : FileCall) (job : JobAtWork) (w : World) → standing_at (request_to name positions call) job w ≡ record w { job = Some job }
+calls_at name positions (calls.Read size) job w = refl
+calls_at name positions (calls.Chain size sought) job w = refl
+calls_at name positions calls.Append job w = refl
+calls_at name positions calls.Add job w = refl
+calls_at name positions (calls.Update current) job w = refl
+
+goes_at : (c : Stepper) (request : code.Request) (job : JobAtWork) (w : World) → asked c ≡ request → goes request ≡ true → standing_at (waits c) job w ≡ record w { job = Some job }
 goes_at c asks.Card job w is g = ap (λ r. standing_at r job w) (waits_card c is)
-goes_at c (asks.Read file size) job w is g = ap (λ r. standing_at r job w) (waits_read c file size is)
-goes_at c (asks.Chain file size sought) job w is g = ap (λ r. standing_at r job w) (waits_chain c file size sought is)
-goes_at c (asks.Append file) job w is g = ap (λ r. standing_at r job w) (waits_append c file is)
-goes_at c (asks.Add file) job w is g = ap (λ r. standing_at r job w) (waits_add c file is)
-goes_at c (asks.Update file current) job w is g = ap (λ r. standing_at r job w) (waits_update c file current is)
+goes_at c (asks.File file call) job w is g = ap (λ r. standing_at r job w) (waits_file c file call is) ∙ calls_at (name_of_file c.program file) (put c) call job w
 goes_at c (asks.Print page line) job w is g = ap (λ r. standing_at r job w) (waits_print c page line is)
 goes_at c asks.Jump job w is g = ap (λ r. standing_at r job w) (waits_jump c is)
 goes_at c (asks.Ask code) job w is g = cc
@@ -199,10 +198,6 @@ pub comes_on : (s : Shown) (level : Level) (open_job : OpenJob) (request : code.
     → (w : World) (job : JobAtWork) → w.job ≡ Some job → HoldsParts level s w → Comes GoesOn job w
 comes_on s level open_job request is_open is g w job is_job held =
     ap (λ (r : Request). standing_at r job w) (as_waits s level open_job w job is_open is_job held).0 ∙ goes_at open_job.cycle request job w is g
-
--- without an open job the world has none
-pub comes_nowhere : (s : Shown) (level : Level) → level.job ≡ None → (w : World) (job : JobAtWork) → w.job ≡ Some job → HoldsParts level s w → Comes GoesOn job w
-comes_nowhere s level none w job is_job held = absurd (none-some (level_has s level w job is_job held).0 (sym none ∙ (level_has s level w job is_job held).1))
 
 -- ---- requests that are served
 pub card_served : (old middle new : World → Type 0)
@@ -215,19 +210,3 @@ card_served old middle new takes stands w job is_job held = (
       (Some (with_answer (card_answer job.cards) (with_card_read job))))
       (stands (record w { job = Some (with_answer (card_answer job.cards) (with_card_read job)) }) (with_answer (card_answer job.cards) (with_card_read job)) refl (takes w job is_job held)),
 )
-
--- a job at work stays as it is while a line is put
-still : (page line : ℕ) (text : List ℕ) (w : World) (deck : List (List ℕ)) (o : Option OpenJob) (meant : Option JobAtWork) → HoldsAtWork deck o w meant → HoldsAtWork deck o (line_put page line text w) meant
-still page line text w deck None None h = h
-still page line text w deck None (Some job) h = h
-still page line text w deck (Some job) None h = h
-still page line text w deck (Some job) (Some meant) h = record { number = h.number; cards = h.cards; files = h.files; follows = h.follows }
-
--- what the open job asks for
-asks_it : (o : Option OpenJob) (open_job : OpenJob) (page line : ℕ) → o ≡ Some open_job → request_by o ≡ Some (asks.Print page line) → asked open_job.cycle ≡ asks.Print page line
-asks_it o open_job page line is_open is = let same : Some (asked open_job.cycle) ≡ Some (asks.Print page line) = sym (ap request_by is_open) ∙ is in cc
-
--- its line is no longer than a print line
-pub line_short : (o : Option OpenJob) (open_job : OpenJob) (page line : ℕ) (text : List ℕ) → o ≡ Some open_job → request_by o ≡ Some (asks.Print page line) → IsLine (asked open_job.cycle) text
-    → (1 ≤ length text) × (length text ≤ 132)
-line_short o open_job page line text is_open is fits = subst (λ (r : code.Request). IsLine r text) (asks_it o open_job page line is_open is) fits

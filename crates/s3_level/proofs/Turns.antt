@@ -1,15 +1,17 @@
 -- A turn: what each pending request makes of it.
-use Rattle.std.proofs.Common.{◌≡◌, ◌≢◌, ℕ, ◌≤◌, List, refl, sym, ◌∙◌, ap, subst, replicate, Bool, true, false, if◌then◌else◌, Option, Some, None, Result, Ok, Err, IfOk, OnOk, arith}
-use Rattle.std.specs.Prelude.{OnErr}
+use Rattle.std.proofs.Common.{◌≡◌, ℕ, ◌≤◌, List, refl, sym, ◌∙◌, ap, subst, replicate, Bool, true, false, if◌then◌else◌, Option, Some, None, Result, Ok, Err, IfOk, OnOk, arith}
 use Rattle.std.proofs.lemmas.Option.{none-some}
 use Rattle.s3_meaning.specs.Requests.{Request, Card, Print, End}
 use Rattle.s3_meaning.specs.Output.{filled}
 use Rattle.s3_operator.specs.Halts.{is_waiting}
+use Rattle.s3_cycle.specs.declared.request.FileCall.{FileCall}
+use Rattle.s3_cycle.specs.declared.request.FileCall.TheVariants as calls
 use Rattle.s3_cycle.specs.declared.request.Request as code
 use Rattle.s3_cycle.specs.declared.request.Request.TheVariants as asks
 use Rattle.s3_cycle.specs.declared.stepper.Stepper.{Stepper}
+use Rattle.s3_cycle.specs.Inner.Requests.{request_to}
 use Rattle.s3_cycle.specs.Inner.Following.{asked, put, waits}
-use Rattle.s3_cycle.proofs.FollowLemmas.{waits_card, waits_read, waits_chain, waits_append, waits_add, waits_update, waits_print, waits_ask, waits_end}
+use Rattle.s3_cycle.proofs.FollowLemmas.{waits_card, waits_file, waits_print, waits_ask, waits_end}
 use Rattle.s3_store.specs.declared.sector_fault.SectorFault.{SectorFault}
 use Rattle.s3_solo.specs.declared.action.Action.{Action}
 use Rattle.s3_solo.specs.declared.action.Action.TheVariants.{Turn}
@@ -25,8 +27,10 @@ use Rattle.s3_job_files.specs.Requests as files
 use Rattle.s3_solo.specs.Solo.{gone_on, solo, step_of}
 use Rattle.s3_level.specs.Inner.Holds.{Around, Shown, Holds, HoldsParts, IsUpTo, Becomes, Repeats, Steps, once, shown}
 use Rattle.s3_cards.specs.declared.levels.LevelId.{LevelId}
+use Rattle.s3_cards.specs.declared.name.Name.{Name}
+use Rattle.s3_match.specs.Inner.Types.{name_of_file}
 use Rattle.s3_operator.specs.declared.halt_code.HaltCode.{HaltCode}
-use Rattle.s3_level.specs.Inner.Turning.{Begins, Pends, Serves, TakesTurns, Turns, on_files, request_by, waits_by}
+use Rattle.s3_level.specs.Inner.Turning.{AsksFile, Begins, Pends, Serves, TakesTurns, Turns, on_files, request_by, waits_by}
 use Rattle.s3_level.proofs.Jumping.{solo_asks}
 use Rattle.s3_level.proofs.Running.{pends}
 
@@ -113,44 +117,19 @@ end_turn s {E = E} old new (Err e) at_once quiet is acted ends =
     served_turn s {E = E} old new (Err e) (End at_once) quiet (meant_by (asks.End at_once) (End at_once) old.job (λ c. waits_end c at_once) is) (λ w job is_job held. refl)
 
 -- ---- requests to files
-abbrev pub is_to_file : code.Request → Bool
-is_to_file (asks.Read file size) = true
-is_to_file (asks.Chain file size sought) = true
-is_to_file (asks.Append file) = true
-is_to_file (asks.Add file) = true
-is_to_file (asks.Update file current) = true
-is_to_file asks.Card = false
-is_to_file (asks.Print page line) = false
-is_to_file asks.Jump = false
-is_to_file (asks.Ask code) = false
-is_to_file (asks.End at_once) = false
+-- a call is served by the files of the job
+call_outcome : (name : Name) (positions : List (Option ℕ)) (call : FileCall) (job : JobAtWork) (w : World)
+    → served (request_to name positions call) job w ≡ file_served (files.served (request_to name positions call) (in_use job w)) job w
+call_outcome name positions (calls.Read size) job w = refl
+call_outcome name positions (calls.Chain size sought) job w = refl
+call_outcome name positions calls.Append job w = refl
+call_outcome name positions calls.Add job w = refl
+call_outcome name positions (calls.Update current) job w = refl
 
--- what is none of the others is one to a file
-pub is_left_for_files : (request : code.Request) → request ≢ asks.Card → ((page line : ℕ) → request ≢ asks.Print page line) → request ≢ asks.Jump → ((code : HaltCode) → request ≢ asks.Ask code)
-    → ((at_once : Bool) → request ≢ asks.End at_once) → is_to_file request ≡ true
-is_left_for_files (asks.Read file size) card print jump ask end = refl
-is_left_for_files (asks.Chain file size sought) card print jump ask end = refl
-is_left_for_files (asks.Append file) card print jump ask end = refl
-is_left_for_files (asks.Add file) card print jump ask end = refl
-is_left_for_files (asks.Update file current) card print jump ask end = refl
-is_left_for_files asks.Card card print jump ask end = absurd (card refl)
-is_left_for_files (asks.Print page line) card print jump ask end = absurd (print page line refl)
-is_left_for_files asks.Jump card print jump ask end = absurd (jump refl)
-is_left_for_files (asks.Ask code) card print jump ask end = absurd (ask code refl)
-is_left_for_files (asks.End at_once) card print jump ask end = absurd (end at_once refl)
-
--- one to a file is served by the files of the job
-file_outcome : (request : code.Request) (c : Stepper) → asked c ≡ request → is_to_file request ≡ true → (job : JobAtWork) (w : World) → pending job w ≡ waits c → served (waits c) job w ≡ on_files job w
-file_outcome (asks.Read file size) c is to job w pends' = ap (λ r. served r job w) (waits_read c file size is) ∙ ap (λ r. file_served (files.served r (in_use job w)) job w) (sym (pends' ∙ waits_read c file size is))
-file_outcome (asks.Chain file size sought) c is to job w pends' = ap (λ r. served r job w) (waits_chain c file size sought is) ∙ ap (λ r. file_served (files.served r (in_use job w)) job w) (sym (pends' ∙ waits_chain c file size sought is))
-file_outcome (asks.Append file) c is to job w pends' = ap (λ r. served r job w) (waits_append c file is) ∙ ap (λ r. file_served (files.served r (in_use job w)) job w) (sym (pends' ∙ waits_append c file is))
-file_outcome (asks.Add file) c is to job w pends' = ap (λ r. served r job w) (waits_add c file is) ∙ ap (λ r. file_served (files.served r (in_use job w)) job w) (sym (pends' ∙ waits_add c file is))
-file_outcome (asks.Update file current) c is to job w pends' = ap (λ r. served r job w) (waits_update c file current is) ∙ ap (λ r. file_served (files.served r (in_use job w)) job w) (sym (pends' ∙ waits_update c file current is))
-file_outcome asks.Card c is to job w pends' = cc
-file_outcome (asks.Print page line) c is to job w pends' = cc
-file_outcome asks.Jump c is to job w pends' = cc
-file_outcome (asks.Ask code) c is to job w pends' = cc
-file_outcome (asks.End at_once) c is to job w pends' = cc
+file_outcome : (file : ℕ) (call : FileCall) (c : Stepper) → asked c ≡ asks.File file call → (job : JobAtWork) (w : World) → pending job w ≡ waits c → served (waits c) job w ≡ on_files job w
+file_outcome file call c is job w pends' =
+    let waits_for = waits_file c file call is in
+    ap (λ r. served r job w) waits_for ∙ (call_outcome (name_of_file c.program file) (put c) call job w ∙ ap (λ r. file_served (files.served r (in_use job w)) job w) (sym (pends' ∙ waits_for)))
 
 -- the world's job asks for what the open one waits for
 same_request : (s : Shown) (old : Level) (open_job : OpenJob) (w : World) (job : JobAtWork) → old.job ≡ Some open_job → w.job ≡ Some job → HoldsParts old s w → pending job w ≡ waits open_job.cycle
@@ -159,25 +138,26 @@ same_request s old open_job w job is_open is_job held =
     let one : there.0 ≡ job = (let e : Some there.0 ≡ Some job = sym there.1 ∙ is_job in cc) in
     ap (λ (j : JobAtWork). pending j w) (sym one) ∙ there.2
 
-pub file_turn : (s : Shown) {E : Type 0} (old : Level) (new : World → Type 0) (result : Result Did E) (request : code.Request) → is_waiting old.halts ≡ false → request_by old.job ≡ Some request
-    → is_to_file request ≡ true → Serves on_files result (HoldsParts old s) new → Turns result (HoldsParts old s) new
-file_turn s {E = E} old new result request quiet is to serves = by old.job is refl
+pub file_turn : (s : Shown) {E : Type 0} (old : Level) (new : World → Type 0) (result : Result Did E) → is_waiting old.halts ≡ false → AsksFile (request_by old.job)
+    → Serves on_files result (HoldsParts old s) new → Turns result (HoldsParts old s) new
+file_turn s {E = E} old new result quiet asking serves = by old.job asking.is refl
   where
-    outcome : (open_job : OpenJob) → old.job ≡ Some open_job → asked open_job.cycle ≡ request → (w : World) (job : JobAtWork) → w.job ≡ Some job → HoldsParts old s w
+    outcome : (open_job : OpenJob) → old.job ≡ Some open_job → asked open_job.cycle ≡ asks.File asking.file asking.call → (w : World) (job : JobAtWork) → w.job ≡ Some job → HoldsParts old s w
         → served (waits open_job.cycle) job w ≡ on_files job w
-    outcome open_job is_open it w job is_job held = file_outcome request open_job.cycle it to job w (same_request s old open_job w job is_open is_job held)
+    outcome open_job is_open it w job is_job held = file_outcome asking.file asking.call open_job.cycle it job w (same_request s old open_job w job is_open is_job held)
 
-    as_served : (r : Result Did E) (open_job : OpenJob) → old.job ≡ Some open_job → asked open_job.cycle ≡ request → Serves on_files r (HoldsParts old s) new → Serves (served (waits open_job.cycle)) r (HoldsParts old s) new
+    as_served : (r : Result Did E) (open_job : OpenJob) → old.job ≡ Some open_job → asked open_job.cycle ≡ asks.File asking.file asking.call → Serves on_files r (HoldsParts old s) new
+        → Serves (served (waits open_job.cycle)) r (HoldsParts old s) new
     as_served (Ok did) open_job is_open it serves' = λ w job is_job held.
         let P : Outcome → Type 0 = λ o. (did ≡ o.did) × new o.world in
         subst P (sym (outcome open_job is_open it w job is_job held)) (serves' w job is_job held)
     as_served (Err e) open_job is_open it serves' = λ w job is_job held.
         ap (λ (o : Outcome). o.did) (outcome open_job is_open it w job is_job held) ∙ serves' w job is_job held
 
-    by : (o : Option OpenJob) → request_by o ≡ Some request → old.job ≡ o → Turns result (HoldsParts old s) new
-    by None none same = absurd (none-some request none)
+    by : (o : Option OpenJob) → request_by o ≡ Some (asks.File asking.file asking.call) → old.job ≡ o → Turns result (HoldsParts old s) new
+    by None none same = absurd (none-some (asks.File asking.file asking.call) none)
     by (Some open_job) some same =
-        served_turn s old new result (waits open_job.cycle) quiet (ap waits_by same) (as_served result open_job same (let e : asked open_job.cycle ≡ request = cc in e) serves)
+        served_turn s old new result (waits open_job.cycle) quiet (ap waits_by same) (as_served result open_job same (let e : asked open_job.cycle ≡ asks.File asking.file asking.call = cc in e) serves)
 
 -- one for a reply waits
 pub asking_turn : (s : Shown) {E : Type 0} (old : Level) (result : Result Did E) (halt : HaltCode) → is_waiting old.halts ≡ false → request_by old.job ≡ Some (asks.Ask halt)
@@ -240,10 +220,3 @@ turns_wholly (Ok taken) old new before after id turns = λ w held.
     let here = turns w held.parts in
     (here.0, record { parts = subst (λ (l : LevelId). HoldsParts new (shown l after) (solo w (replicate taken.times Turn))) (sym id) here.1; asked = solo_asks taken.times Turn w held.asked })
 turns_wholly (Err e) old new before after id turns = tt
-
--- and where it fails, a turn acts
-pub turns_act : {E : Type 0} (result : Result Taken E) (old new : Level) (before after : Around)
-    → TakesTurns result (HoldsParts old (shown old.id before)) (HoldsParts new (shown old.id after))
-    → OnErr result ((w : World) → Holds old before w → (step_of w Turn).did ≡ Acted)
-turns_act (Ok taken) old new before after turns = tt
-turns_act (Err e) old new before after turns = λ w held. turns w held.parts

@@ -56,6 +56,7 @@ impl Level {
         };
         match request {
             Request::Card => Taken::once(self.read_card(pack)),
+            Request::File { .. } => Taken::once(self.serve_file(pack)),
             Request::Print { page, line } => {
                 let page = *page;
                 let line = *line;
@@ -64,8 +65,6 @@ impl Level {
             Request::Jump => self.pass_jumps(most.get(), pack),
             Request::End { .. } => Taken::once(self.end(pack)),
             Request::Ask(_) => Taken::once(Ok(Did::Idle)),
-            // requests to files
-            _ => Taken::once(self.serve_file(pack)),
         }
     }
 

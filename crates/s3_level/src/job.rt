@@ -1,5 +1,5 @@
 //! The job at work.
-ghost use Rattle.std.specs.Prelude.{◌≡◌, true, false, ◌+◌, ◌<◌, ◌≤◌, [], ◌∷◌, length, drop, slice_range, IfOk, IsTrue, OnOk, MatchOption};
+ghost use Rattle.std.specs.Prelude.{◌≡◌, true, false, ◌+◌, ◌<◌, ◌≤◌, [], ◌∷◌, length, drop, slice_range, IfOk, IsTrue, OnOk, MatchOption, Some};
 ghost use Rattle.s3_job_files.specs.Files.{FilesInUse};
 ghost use Rattle.s3_job_files.specs.Closing.{files_closed};
 ghost use Rattle.s3_job_files.specs.Inner.Calls.{found_answer, put_answer};
@@ -12,10 +12,10 @@ ghost use Rattle.s3_cycle.specs.declared.request.Request.TheVariants as asks;
 ghost use Rattle.s3_solo.specs.Serving.{card_answer};
 ghost use Rattle.s3_level.specs.Inner.Calls.{CanServe, KeepsOpened, LeavesPack, ServesJob};
 ghost use Rattle.s3_level.specs.Inner.Holds.{IsJobReady, places_of};
-ghost use Rattle.s3_level.specs.Inner.Turning.{KeepsPlace, SuitsSought};
+ghost use Rattle.s3_level.specs.Inner.Turning.{AsksFile, KeepsPlace, SuitsSought};
 
 use s3_cards::{Card, Deck};
-use s3_cycle::{Answer, Cycle, Request, Sought};
+use s3_cycle::{Answer, Cycle, FileCall, Request, Sought};
 use s3_job_files::{JobFiles, Put};
 use s3_labels::Pack;
 use s3_lines::sheet::FileLine;
@@ -197,52 +197,39 @@ impl OpenJob {
     /// It fails only where the job has the file. After a fault of the sectors no request is to be made.
     #[inline(never)]
     pub fn serve<P: Sectors>(&mut self, pack: &mut Pack<P>) -> Result<bool, SectorFault>
-        requires { CanServe self.old (seen pack.old.areas (P.state pack.old.pool).contents) }
+        requires asks { AsksFile (Some (asked self.old.cycle)) }
+        requires can { CanServe self.old (seen pack.old.areas (P.state pack.old.pool).contents) }
         ensures { ServesJob result self.old self.new pack.old.areas pack.new.areas (P.state pack.old.pool) (P.state pack.new.pool) }
     {
-        match self.cycle.pending() {
-            Request::Read { file, length } => {
-                let Some(place) = self.places[*file] else {
-                    return Ok(false);
-                };
+        let Request::File { file, call } = self.cycle.pending() else {
+            unreachable!();
+        };
+        let Some(place) = self.places[*file] else {
+            return Ok(false);
+        };
+        match call {
+            FileCall::Read { length } => {
                 let bytes = &mut self.room[..usize::from(*length)];
                 let found = self.files.read_next(pack, place, bytes)?;
                 self.cycle.resume(record_answer(found, bytes));
             }
-            Request::Chain {
-                file,
-                length,
-                sought,
-            } => {
-                let Some(place) = self.places[*file] else {
-                    return Ok(false);
-                };
+            FileCall::Chain { length, sought } => {
                 let bytes = &mut self.room[..usize::from(*length)];
                 let found = chain(&mut self.files, pack, place, sought, bytes)?;
                 self.cycle.resume(record_answer(found, bytes));
             }
-            Request::Append { file } => {
-                let Some(place) = self.places[*file] else {
-                    return Ok(false);
-                };
+            FileCall::Append => {
                 let put = self.files.append(pack, place, self.cycle.record())?;
                 self.cycle.resume(answer_of_put(put));
             }
-            Request::Add { file } => {
-                let Some(place) = self.places[*file] else {
-                    return Ok(false);
-                };
+            FileCall::Add => {
                 let put = self.files.add(pack, place, self.cycle.record())?;
                 self.cycle.resume(answer_of_put(put));
             }
-            Request::Update { file, current } => {
-                let Some(place) = self.places[*file] else {
-                    return Ok(false);
-                };
+            FileCall::Update { current } => {
                 let put = change(&self.files, pack, place, *current, self.cycle.changes())?;
                 self.cycle.resume(answer_of_put(put));
             }
-            _ => return Ok(false),
         }
         Ok(true)
     }

@@ -18,7 +18,7 @@ use s3_store::{SectorFault, Sectors};
 use std::alloc::AllocError;
 
 impl Level {
-    ghost use Rattle.std.specs.Prelude.{◌≡◌, ◌≢◌, ◌<◌, ◌≤◌, [], true, false, nat_lt, length, unwrap_or, None, IfOk, IsTrue, OnOk};
+    ghost use Rattle.std.specs.Prelude.{◌≡◌, ◌≢◌, ◌<◌, [], true, false, nat_lt, length, unwrap_or, None, IfOk, IsTrue, OnOk};
     ghost use Rattle.s3_meaning.specs.Source.{Source};
     ghost use Rattle.s3_program.specs.Inner.Stands.{Stands};
     ghost use Rattle.s3_ocl.specs.Jobs.{next_job};
@@ -30,7 +30,7 @@ impl Level {
     ghost use Rattle.s3_solo.specs.World.{World};
     ghost use Rattle.s3_solo.specs.Serving.{at_work, data_of, performed, run, started, switches_after, with_jobs};
     ghost use Rattle.s3_level.specs.Inner.Calls.{IsJobOf, KeepsJob, Leaves, MayBegin};
-    ghost use Rattle.s3_level.specs.Inner.Holds.{Shown, with_seen, HoldsParts, IsQuiet, IsReady, Becomes, Stays};
+    ghost use Rattle.s3_level.specs.Inner.Holds.{Shown, with_seen, HoldsParts, IsQuiet, Becomes, Stays};
     ghost use Rattle.s3_level.specs.Inner.Turning.{NextIs, Begins, Starts};
 
     /// Begins the next job, if there is one.

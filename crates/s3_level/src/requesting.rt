@@ -17,7 +17,7 @@ impl Level {
     ghost use Rattle.s3_solo.specs.Serving.{card_answer, line_put, served, with_answer, with_card_read};
     ghost use Rattle.s3_level.specs.Inner.Calls.{KeepsReady, Leaves, LeavesAll};
     ghost use Rattle.s3_level.specs.Inner.Holds.{Shown, AreAll, around, shown, with_seen, HoldsParts, IsQuiet, IsReady, IsUntouched, Becomes};
-    ghost use Rattle.s3_level.specs.Inner.Turning.{request_by, waits_by, Acts, AtWorkBecomes, Serves, FileServed, FileThere, on_files};
+    ghost use Rattle.s3_level.specs.Inner.Turning.{request_by, waits_by, Acts, AsksFile, AtWorkBecomes, Serves, FileServed, FileThere, on_files};
 
     /// Reads a card for the job at work.
     #[inline(always)]
@@ -50,6 +50,7 @@ impl Level {
     /// Serves the pending request of the job at work, one to a file.
     #[inline(always)]
     pub(crate) fn serve_file<P: Sectors>(&mut self, pack: &mut Pack<P>) -> Result<Did, SectorFault>
+        requires asks { AsksFile (request_by self.old.job) }
         requires ready { IsReady self.old (seen pack.old.areas (P.state pack.old.pool).contents) }
         ensures served { (s : Shown) → Serves on_files result (HoldsParts self.old (with_seen (seen pack.old.areas (P.state pack.old.pool).contents) s)) (HoldsParts self.new (with_seen (seen pack.new.areas (P.state pack.new.pool).contents) s)) }
         ensures leaves { Leaves result self.old self.new pack.old.areas pack.new.areas (P.state pack.old.pool) (P.state pack.new.pool) }
@@ -67,6 +68,7 @@ impl Level {
     /// Gives the pending request of the job at work the answer of its files, if it has that file in use.
     #[inline(always)]
     fn take_file<P: Sectors>(&mut self, pack: &mut Pack<P>) -> Result<bool, SectorFault>
+        requires asks { AsksFile (request_by self.old.job) }
         requires ready { IsReady self.old (seen pack.old.areas (P.state pack.old.pool).contents) }
         ensures served { (s : Shown) → IfOk result (λ took. FileServed took (HoldsParts self.old (with_seen (seen pack.old.areas (P.state pack.old.pool).contents) s)) (HoldsParts self.new (with_seen (seen pack.new.areas (P.state pack.new.pool).contents) s))) }
         ensures fails { (s : Shown) → OnErr result (FileThere (HoldsParts self.old (with_seen (seen pack.old.areas (P.state pack.old.pool).contents) s))) }
@@ -75,7 +77,7 @@ impl Level {
     {
         match &mut self.job {
             Some(job) => job.serve(pack),
-            None => Ok(false),
+            None => unreachable!(),
         }
     }
 

@@ -1,6 +1,7 @@
 -- Steps of a suspended run: from where it stands it goes on with the run that is meant.
 use Rattle.std.specs.Prelude.{◌≡◌, ◌≤◌, ◌<◌, ℕ, Bool, true, false, not, ◌||◌, List, length, Some, is_some, slice_get}
 use Rattle.std.specs.List.{All, list_any, list_all}
+use Rattle.s3_lines.specs.Files.{is_card_reader}
 use Rattle.s3_cards.specs.declared.name.Name.{Name}
 use Rattle.s3_lines.specs.Ranges.{is_between}
 use Rattle.s3_lines.specs.declared.sheet.FieldLine.{FieldLine}
@@ -9,7 +10,7 @@ use Rattle.s3_lines.specs.declared.sheet.Operation.{Operation}
 use Rattle.s3_lines.specs.declared.sheet.Operation.TheVariants as operation
 use Rattle.s3_lines.specs.declared.sheet.CalculationLine.{CalculationLine}
 use Rattle.s3_lines.specs.declared.sheet.Factor.TheVariants.{Named}
-use Rattle.s3_meaning.specs.Source.{Source, is_card_reader, overflow_of}
+use Rattle.s3_meaning.specs.Source.{Source, overflow_of}
 use Rattle.s3_meaning.specs.Environment.{Environment}
 use Rattle.s3_meaning.specs.Runs.{Run, Rest}
 use Rattle.s3_meaning.specs.Selection as meaning
@@ -40,6 +41,8 @@ use Rattle.s3_cycle.specs.declared.progress.Continuation.{Continuation}
 use Rattle.s3_cycle.specs.declared.progress.Continuation.TheVariants as after
 use Rattle.s3_cycle.specs.declared.progress.Point.{Point}
 use Rattle.s3_cycle.specs.declared.progress.Point.TheVariants as at
+use Rattle.s3_cycle.specs.declared.request.FileCall.{FileCall}
+use Rattle.s3_cycle.specs.declared.request.FileCall.TheVariants as calls
 use Rattle.s3_cycle.specs.declared.request.Request.{Request}
 use Rattle.s3_cycle.specs.declared.request.Request.TheVariants as asks
 use Rattle.s3_cycle.specs.declared.state.State.{State}
@@ -171,16 +174,21 @@ is_print_or_jump (asks.Print page line) = true
 is_print_or_jump asks.Jump = true
 is_print_or_jump request = false
 
+-- a record is put into the file
+abbrev pub puts_record : FileCall → Bool
+puts_record calls.Append = true
+puts_record calls.Add = true
+puts_record (calls.Update current) = true
+puts_record call = false
+
 abbrev pub is_record_request : Request → Bool
-is_record_request (asks.Append file) = true
-is_record_request (asks.Add file) = true
-is_record_request (asks.Update file current) = true
+is_record_request (asks.File file call) = puts_record call
 is_record_request request = false
 
 -- the card, or the record of the file
 abbrev pub IsHeadRequest : Program → Progress → ℕ → Request → Type 0
 IsHeadRequest program progress place asks.Card = is_card_reader (input_at (inputs_in program progress) place).file.device ≡ true
-IsHeadRequest program progress place (asks.Read file length) = length ≡ (input_at (inputs_in program progress) place).file.record_length
+IsHeadRequest program progress place (asks.File file (calls.Read length)) = length ≡ (input_at (inputs_in program progress) place).file.record_length
 IsHeadRequest program progress place request = ⊥
 
 -- the CHAIN at the place names the file, which is chained
@@ -192,7 +200,7 @@ pub record IsChainOf (program : Program) (place file : ℕ) : Type 0 where
   pub within : file < length program.files.items
 
 abbrev pub IsChainRequest : Program → (place file : ℕ) → Request → Type 0
-IsChainRequest program place file (asks.Chain slot length sought) = IsChainOf program place file × (length ≡ (file_at program file).record_length)
+IsChainRequest program place file (asks.File slot (calls.Chain length sought)) = IsChainOf program place file × (length ≡ (file_at program file).record_length)
 IsChainRequest program place file request = ⊥
 
 abbrev pub is_ask : Request → Bool

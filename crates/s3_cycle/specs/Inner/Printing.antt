@@ -1,8 +1,8 @@
 -- The line that is composed, and the record that is put into its file.
 use Rattle.std.specs.Prelude.{◌≡◌, ℕ, List, Option, not, length, replicate}
+use Rattle.s3_lines.specs.Files.{is_printer}
 use Rattle.s3_meaning.specs.Environment.{Environment}
 use Rattle.s3_meaning.specs.OutputLines.{Output}
-use Rattle.s3_meaning.specs.Source.{is_printer}
 use Rattle.s3_meaning.specs.Output.{composed, disk_request}
 use Rattle.s3_program.specs.declared.program.Program.{Program}
 use Rattle.s3_program.specs.declared.starts.OutputStart.{OutputStart}

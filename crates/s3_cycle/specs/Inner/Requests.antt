@@ -1,16 +1,19 @@
 -- Requests and answers as the meaning of a source has them.
-use Rattle.std.specs.Prelude.{◌≡◌, ℕ, ◌≤◌, Bool, true, false, not, ◌&&◌, List, length, slice_get, Option, Some, None, is_some}
+use Rattle.std.specs.Prelude.{◌≡◌, ℕ, ◌≤◌, true, false, List, length, slice_get, Option, Some, None, is_some}
+use Rattle.s3_cards.specs.declared.name.Name.{Name}
 use Rattle.s3_lines.specs.declared.sheet.Device.TheVariants.{Disk}
 use Rattle.s3_lines.specs.declared.sheet.FileLine.{FileLine}
 use Rattle.s3_lines.specs.declared.sheet.KeyField.{KeyField}
+use Rattle.s3_lines.specs.Files.{is_chained, is_only_read}
 use Rattle.s3_meaning.specs.Requests as Meant
 use Rattle.s3_meaning.specs.Output.{filled}
 use Rattle.s3_meaning.specs.Source.{is_input, is_updated}
-use Rattle.s3_program.specs.FileTable.{is_chained, is_input_use}
 use Rattle.s3_program.specs.declared.program.Program.{Program}
 use Rattle.s3_match.specs.Inner.Types.{name_of_file}
+use Rattle.s3_cycle.specs.declared.request.FileCall.{FileCall}
+use Rattle.s3_cycle.specs.declared.request.FileCall.TheVariants.{Read, Chain, Append, Add, Update}
 use Rattle.s3_cycle.specs.declared.request.Request.{Request}
-use Rattle.s3_cycle.specs.declared.request.Request.TheVariants.{Card, Read, Chain, Append, Add, Update, Print, Jump, Ask, End}
+use Rattle.s3_cycle.specs.declared.request.Request.TheVariants.{Card, File, Print, Jump, Ask, End}
 use Rattle.s3_cycle.specs.declared.request.Answer.{Answer}
 use Rattle.s3_cycle.specs.declared.request.Answer.TheVariants.{Found, Nothing, Done, Refused, Reply}
 use Rattle.s3_cycle.specs.declared.request.Sought.{Sought}
@@ -20,14 +23,17 @@ abbrev pub sought_of : Sought → Meant.Sought
 sought_of (Key key) = Meant.Key key.items
 sought_of (RecordNumber number) = Meant.RecordNumber number
 
--- files by their names; a text or a record is what is put at the positions of the composed one
+-- what is asked of the file of this name; a text or a record is what is put at the positions of the composed one
+abbrev pub request_to : Name → (positions : List (Option ℕ)) → FileCall → Meant.Request
+request_to name positions (Read length) = Meant.Read name length
+request_to name positions (Chain length sought) = Meant.Chain name length (sought_of sought)
+request_to name positions Append = Meant.Append name (filled positions)
+request_to name positions Add = Meant.Add name (filled positions)
+request_to name positions (Update current) = Meant.Update name current positions
+
 unfoldable pub request_of : Program → (positions : List (Option ℕ)) → Request → Meant.Request
 request_of program positions Card = Meant.Card
-request_of program positions (Read file length) = Meant.Read (name_of_file program file) length
-request_of program positions (Chain file length sought) = Meant.Chain (name_of_file program file) length (sought_of sought)
-request_of program positions (Append file) = Meant.Append (name_of_file program file) (filled positions)
-request_of program positions (Add file) = Meant.Add (name_of_file program file) (filled positions)
-request_of program positions (Update file current) = Meant.Update (name_of_file program file) current positions
+request_of program positions (File file call) = request_to (name_of_file program file) positions call
 request_of program positions (Print page line) = Meant.Print page line (filled positions)
 request_of program positions Jump = Meant.Jump
 request_of program positions (Ask code) = Meant.Ask code
@@ -46,10 +52,6 @@ IsLine (Print page line) text = (1 ≤ length text) × (length text ≤ 132)
 IsLine request text = Unit {0}
 
 -- ---- the file that a request is for
--- a file that is neither added to nor changed
-abbrev pub is_only_read : FileLine → Bool
-is_only_read line = is_input_use line.usage && not line.has_additions
-
 -- a file on disk stands at the slot, with such an F line
 pub record IsDiskFile (files : List FileLine) (slot : ℕ) (Suits : FileLine → Type 0) : Type 0 where
   pub line : FileLine
@@ -89,11 +91,15 @@ pub record TakesChanges (size : ℕ) (line : FileLine) : Type 0 where
   pub takes : TakesRecord size line
   pub updated : is_updated line ≡ true
 
--- the F line of its file allows the request, which puts out so many positions
+-- the F line of a file allows the call, which puts out so many positions
+abbrev pub Allows : FileCall → (positions : ℕ) → FileLine → Type 0
+Allows (Read size) positions = IsReadInOrder size
+Allows (Chain size sought) positions = IsChainedBy size sought
+Allows Append positions = TakesRecord positions
+Allows Add positions = TakesAddition positions
+Allows (Update current) positions = TakesChanges positions
+
+-- the F line of its file allows the request
 abbrev pub FitsFile : {X : Type 0} → List FileLine → Request → List X → Type 0
-FitsFile files (Read slot size) positions = IsDiskFile files slot (IsReadInOrder size)
-FitsFile files (Chain slot size sought) positions = IsDiskFile files slot (IsChainedBy size sought)
-FitsFile files (Append slot) positions = IsDiskFile files slot (TakesRecord (length positions))
-FitsFile files (Add slot) positions = IsDiskFile files slot (TakesAddition (length positions))
-FitsFile files (Update slot current) positions = IsDiskFile files slot (TakesChanges (length positions))
+FitsFile files (File slot call) positions = IsDiskFile files slot (Allows call (length positions))
 FitsFile files request positions = Unit {0}

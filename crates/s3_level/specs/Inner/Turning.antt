@@ -5,6 +5,7 @@ use Rattle.s3_operator.specs.declared.halt_code.HaltCode.{HaltCode}
 use Rattle.s3_operator.specs.Replies.{is_allowed}
 use Rattle.s3_meaning.specs.Requests.{Request, Ask, End, Jump, Done}
 use Rattle.s3_cycle.specs.Inner.Following.{Resumes, asked, waits, is_fit}
+use Rattle.s3_cycle.specs.declared.request.FileCall.{FileCall}
 use Rattle.s3_cycle.specs.declared.request.Request.{Request as ProgramRequest}
 use Rattle.s3_cycle.specs.declared.request.Request.TheVariants as asks
 use Rattle.s3_cycle.specs.declared.request.Answer.{Answer as ProgramAnswer}
@@ -92,6 +93,12 @@ abbrev pub Acts : (JobAtWork → World → Outcome) → (World → Type 0) → (
 Acts serve old new = (w : World) (job : JobAtWork) → w.job ≡ Some job → old w → (Acted ≡ (serve job w).did) × new (serve job w).world
 
 -- ---- requests to files
+-- something of a file is asked
+pub record AsksFile (request : Option ProgramRequest) : Type 0 where
+  pub file : ℕ
+  pub call : FileCall
+  pub is : request ≡ Some (asks.File file call)
+
 -- The pending request of an open job is served by its files, and its run goes on with the answer; or the job doesn't have the file,
 -- and nothing changes.
 abbrev pub ServesFile : (served : Bool) → (old new : OpenJob) → (before after : Seen) → Type 0

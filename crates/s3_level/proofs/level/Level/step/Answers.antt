@@ -5,10 +5,13 @@ use Rattle.s3_solo.specs.declared.action.Did.TheVariants.{Idle}
 use Rattle.s3_job_files.specs.Inner.Holds.{seen}
 use Rattle.s3_level.proofs.Beside.{turns_moved}
 use Rattle.s3_level.proofs.Jumping.{jumps_taken_as_turns}
-use Rattle.s3_level.proofs.Turns.{asking_turn, begun_turn, card_turn, end_turn, file_turn, halted_turn, is_left_for_files, once_turns, print_turn}
+use Rattle.s3_level.proofs.Turns.{asking_turn, begun_turn, card_turn, end_turn, file_turn, halted_turn, once_turns, print_turn}
 use Rattle.s3_level.specs.Inner.Holds.{HoldsParts, around, shown, with_seen}
 use Rattle.s3_level.proofs.Leaving.{all_once, all_files, all_same}
 use Rattle.s3_level.proofs.level.Level.step.Goals as goal
+
+pub serve_file-requires-clause-asks : goal.serve_file-requires-clause-asks
+serve_file-requires-clause-asks g c = record { file = c.in-File.file; call = c.in-File.call; is = sym c.pending.ensures.request ∙ ap option_copied c.in-Some.is ∙ ap (λ r. Some r) c.in-File.is }
 
 pub returns-in-Card-clause-world : goal.returns-in-Card-clause-world
 returns-in-Card-clause-world g c =
@@ -25,10 +28,10 @@ returns-in-End-clause-world g c =
     turns_moved c.once-in-End.result c.args.self.now c.end.new.self c.args.pack.now.areas c.end.new.pack.areas (g.P.Sectors.state c.args.pack.now.pool) (g.P.Sectors.state c.end.new.pack.pool) c.args.spool.now c.requires.ready.files.pack c.requires.blocks c.end.ensures.leaves.pack.others
     (once_turns c.end.result c.once-in-End.result _ _ c.once-in-End.ensures (end_turn _ c.args.self.now (HoldsParts c.end.new.self (with_seen (seen c.end.new.pack.areas (g.P.Sectors.state c.end.new.pack.pool).contents) (shown c.args.self.now.id (around c.args.pack.now.areas (g.P.Sectors.state c.args.pack.now.pool) c.args.spool.now)))) c.end.result c.in-End.at_once (sym c.is_waiting.ensures ∙ c.if-is_waiting.false) (sym c.pending.ensures.request ∙ ap option_copied c.in-Some.is ∙ ap (λ r. Some r) c.in-End.is) c.end.ensures.acted (c.end.ensures.world (shown c.args.self.now.id (around c.args.pack.now.areas (g.P.Sectors.state c.args.pack.now.pool) c.args.spool.now)))))
 
-pub returns-in_default-request-clause-world : goal.returns-in_default-request-clause-world
-returns-in_default-request-clause-world g c =
-    turns_moved c.once-in_default-request.result c.args.self.now c.serve_file.new.self c.args.pack.now.areas c.serve_file.new.pack.areas (g.P.Sectors.state c.args.pack.now.pool) (g.P.Sectors.state c.serve_file.new.pack.pool) c.args.spool.now c.requires.ready.files.pack c.requires.blocks c.serve_file.ensures.leaves.pack.others
-    (once_turns c.serve_file.result c.once-in_default-request.result _ _ c.once-in_default-request.ensures (file_turn _ c.args.self.now (HoldsParts c.serve_file.new.self (with_seen (seen c.serve_file.new.pack.areas (g.P.Sectors.state c.serve_file.new.pack.pool).contents) (shown c.args.self.now.id (around c.args.pack.now.areas (g.P.Sectors.state c.args.pack.now.pool) c.args.spool.now)))) c.serve_file.result c.in-Some.request.now (sym c.is_waiting.ensures ∙ c.if-is_waiting.false) (sym c.pending.ensures.request ∙ ap option_copied c.in-Some.is) (is_left_for_files c.in-Some.request.now c.in_default-request.not-Card c.in_default-request.not-Print c.in_default-request.not-Jump c.in_default-request.not-Ask c.in_default-request.not-End) (c.serve_file.ensures.served (shown c.args.self.now.id (around c.args.pack.now.areas (g.P.Sectors.state c.args.pack.now.pool) c.args.spool.now)))))
+pub returns-in-File-clause-world : goal.returns-in-File-clause-world
+returns-in-File-clause-world g c =
+    turns_moved c.once-in-File.result c.args.self.now c.serve_file.new.self c.args.pack.now.areas c.serve_file.new.pack.areas (g.P.Sectors.state c.args.pack.now.pool) (g.P.Sectors.state c.serve_file.new.pack.pool) c.args.spool.now c.requires.ready.files.pack c.requires.blocks c.serve_file.ensures.leaves.pack.others
+    (once_turns c.serve_file.result c.once-in-File.result _ _ c.once-in-File.ensures (file_turn _ c.args.self.now (HoldsParts c.serve_file.new.self (with_seen (seen c.serve_file.new.pack.areas (g.P.Sectors.state c.serve_file.new.pack.pool).contents) (shown c.args.self.now.id (around c.args.pack.now.areas (g.P.Sectors.state c.args.pack.now.pool) c.args.spool.now)))) c.serve_file.result (sym c.is_waiting.ensures ∙ c.if-is_waiting.false) (record { file = c.in-File.file; call = c.in-File.call; is = sym c.pending.ensures.request ∙ ap option_copied c.in-Some.is ∙ ap (λ r. Some r) c.in-File.is }) (c.serve_file.ensures.served (shown c.args.self.now.id (around c.args.pack.now.areas (g.P.Sectors.state c.args.pack.now.pool) c.args.spool.now)))))
 
 pub returns-in-Print-clause-world : goal.returns-in-Print-clause-world
 returns-in-Print-clause-world g c = once_turns c.print.result c.once-in-Print.result _ _ c.once-in-Print.ensures (print_turn _ c.args.self.now _ c.print.result _ _ (search rules) (search rules) c.print.ensures.served)
@@ -51,8 +54,8 @@ returns-in-Card-clause-leaves g c = all_once c.read_card.result c.once-in-Card.r
 pub returns-in-End-clause-leaves : goal.returns-in-End-clause-leaves
 returns-in-End-clause-leaves g c = all_once c.end.result c.once-in-End.result c.once-in-End.ensures (all_files c.args.spool.now c.requires.ready.files.pack c.requires.blocks c.end.ensures.leaves)
 
-pub returns-in_default-request-clause-leaves : goal.returns-in_default-request-clause-leaves
-returns-in_default-request-clause-leaves g c = all_once c.serve_file.result c.once-in_default-request.result c.once-in_default-request.ensures (all_files c.args.spool.now c.requires.ready.files.pack c.requires.blocks c.serve_file.ensures.leaves)
+pub returns-in-File-clause-leaves : goal.returns-in-File-clause-leaves
+returns-in-File-clause-leaves g c = all_once c.serve_file.result c.once-in-File.result c.once-in-File.ensures (all_files c.args.spool.now c.requires.ready.files.pack c.requires.blocks c.serve_file.ensures.leaves)
 
 pub returns-in_default-clause-leaves : goal.returns-in_default-clause-leaves
 returns-in_default-clause-leaves g c = all_once c.begin.result c.once-in_default.result c.once-in_default.ensures (all_files c.args.spool.now c.requires.ready.files.pack c.requires.blocks c.begin.ensures.leaves)

@@ -1,5 +1,5 @@
 use Rattle.s3_cycle.proofs.PrintLemmas.{add_fits, adds, appends, store_within, update_fits, updates}
-use Rattle.s3_cycle.proofs.stepper.Stepper.record_request.Goals as goal
+use Rattle.s3_cycle.proofs.stepper.Stepper.record_call.Goals as goal
 
 pub returns-in-Append-clause-request : goal.returns-in-Append-clause-request
 returns-in-Append-clause-request c = appends c.args.self.now c.args.file c.args.request c.in-Append.is
