@@ -19,7 +19,7 @@ pub enum ReadFault {
     /// A read failed.
     #[error("a read failed")]
     Failed,
-    /// Memory ran out: a growth was refused.
+    /// Memory ran out: the room was refused.
     #[error("out of memory")]
     NoMemory,
 }
@@ -33,7 +33,7 @@ impl From<AllocError> for ReadFault {
 }
 
 /// Reads all that a reader gives, if that is at most `limit` bytes. `Failed` is answered where a read failed, and nowhere else;
-/// no failed read is tried again.
+/// no failed read is tried again. Room for `limit` bytes is asked for at once, so that what was read is never copied to more room.
 pub fn read_within<R: Source>(
     alloc: Global,
     reader: &mut R,
@@ -47,7 +47,7 @@ pub fn read_within<R: Source>(
     ensures failed { IsErrOf result ReadFault.Failed → R.has_failed reader.new ≡ true }
     ensures works { ¬ IsErrOf result ReadFault.Failed → R.has_failed reader.new ≡ R.has_failed reader.old }
 {
-    let mut bytes = Vec::new(alloc);
+    let mut bytes = Vec::with_capacity(alloc, limit as usize)?;
     let mut chunk = [0u8; CHUNK];
     for _turn in 0..limit + 1 {
         let count = match reader.read(&mut chunk) {
