@@ -4,7 +4,7 @@ use s3_bureau::{Bureau, Halt, Outcome, RunFault, run};
 use s3_cards::LevelId;
 use s3_desk::{Bounds, Day, End, Ends, Operator, operate_day};
 use s3_evidence::Evidence;
-use s3_labels::{ImageFault, image};
+use s3_labels::image;
 use s3_replay::{Performed, part_text};
 use s3_store::MemoryStore;
 use std::alloc::{AllocError, Global};

@@ -1,6 +1,6 @@
 //! Pages as documents. A whole one stands in a worked row, `operate-paper-pdf`.
 
-use crate::printing::line;
+use crate::pages::printing::line;
 use s3_pages::PaperFault;
 use s3_pdf_forms::write_pdf;
 use std::test::Fail;

@@ -1,7 +1,7 @@
 //! Blocks of jobs that don't start.
 
-use crate::days::{joined, new_pack, run_to_halt};
-use crate::decks::{LAYOUT, LOAD, LOADER, ROOM};
+use crate::blocks::days::{joined, new_pack, run_to_halt};
+use crate::blocks::decks::{LAYOUT, LOAD, LOADER, ROOM};
 use s3_deck_files::DeckText;
 use std::alloc::Global;
 use std::test::Fail;

@@ -1,6 +1,6 @@
 //! Pages as texts.
 
-use crate::printing::line;
+use crate::pages::printing::line;
 use s3_cards::PrintLine;
 use s3_pages::{Pages, PaperFault, parts, write_text};
 use std::alloc::Global;

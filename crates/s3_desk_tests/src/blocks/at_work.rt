@@ -1,7 +1,7 @@
 //! Blocks of programs at work.
 
-use crate::days::{joined, new_pack, run_to_halt};
-use crate::decks::{KEYED, LOAD, LOADER, NUMBERS, SEQUENCE};
+use crate::blocks::days::{joined, new_pack, run_to_halt};
+use crate::blocks::decks::{KEYED, LOAD, LOADER, NUMBERS, SEQUENCE};
 use s3_deck_files::DeckText;
 use std::test::Fail;
 
