@@ -156,16 +156,6 @@ pub fn is_entry_above(sector: &[u8; 256], j: usize, key_length: usize, key: &Key
     compare_entry(sector, j, key_length, key) == Ordering::Greater
 }
 
-/// Whether the key of entry `j` of a sector is below another.
-pub fn is_entry_below(sector: &[u8; 256], j: usize, key_length: usize, key: &Key) -> bool
-    requires short { key_length ≤ 29 }
-    requires inside { j < 256 / (key_length + 4) }
-    requires short_key { number_of key.now.bytes < 256 ^ key_length }
-    ensures { result ≡ nat_lt (entry_here key_length sector.now j).key (number_of key.now.bytes) }
-{
-    compare_entry(sector, j, key_length, key) == Ordering::Less
-}
-
 /// Whether the key of entry `j` of a sector is this one.
 pub fn is_key_of(sector: &[u8; 256], j: usize, key_length: usize, key: &Key) -> bool
     requires short { key_length ≤ 29 }

@@ -1,13 +1,14 @@
 //! Where a key lies among the entries of one sector of an index.
-ghost use Rattle.std.specs.Prelude.{◌≡◌, ◌≤◌, ◌<◌, ◌+◌, ◌*◌, ◌/◌, ◌^◌, ℕ, length, IfSome};
+ghost use Rattle.std.specs.Prelude.{◌≡◌, ◌≤◌, ◌<◌, ◌+◌, ◌*◌, ◌/◌, ◌^◌, ℕ, length, nat_lt, IfSome};
 ghost use Rattle.s3_keyed.specs.KeyOrder.{number_of};
 ghost use Rattle.s3_keyed.specs.Inner.KeyOrder.{IsAscending};
 ghost use Rattle.s3_keyed.specs.Inner.Shape.{entry_here};
-ghost use Rattle.s3_keyed.specs.Inner.Sought.{StandsAs};
+ghost use Rattle.s3_keyed.specs.Inner.Sought.{sought_key, IsSuited, StandsAs};
 
-use crate::index_sector::{is_entry_below, is_key_of, key_number, number_at, number_in};
+use crate::index_sector::{compare_entry, is_key_of, key_number, number_at, number_in};
 use crate::keys::Key;
 use byteorder::{BigEndian, ByteOrder};
+use std::cmp::Ordering;
 
 /// Where a key lies as to the entries of a sector.
 #[derive(Clone, Copy)]
@@ -20,44 +21,45 @@ pub enum Standing {
     Behind,
 }
 
-/// How many of the first so many entries of a sector have a key below this one, which has four to eight bytes.
-fn count_lower(sector: &[u8; 256], entries: usize, key_length: usize, key: u64) -> usize
-    requires long { 4 ≤ key_length }
-    requires short { key_length ≤ 8 }
-    requires inside { entries ≤ 256 / (key_length + 4) }
-    requires ascending { IsAscending (entry_here key_length sector.now) entries }
-    ensures within { result ≤ entries }
-    ensures below { (i : ℕ) → i < result → (entry_here key_length sector.now i).key < key }
-    ensures from { (i : ℕ) → result ≤ i → i < entries → key ≤ (entry_here key_length sector.now i).key }
-{
-    let mut low = 0;
-    let mut high = entries;
-    'halve: while low < high {
-        let middle = low + (high - low) / 2;
-        if key_number(sector, middle, key_length) < key {
-            low = middle + 1;
-        } else {
-            high = middle;
-        }
-    }
-    low
+/// A key that is sought, in the form in which the keys of entries are compared with it.
+#[derive(Clone, Copy)]
+enum Sought<'a> {
+    /// A key of four to eight bytes, by its number.
+    Number(u64),
+    /// A key of any other length, by its bytes.
+    Bytes(&'a Key),
 }
 
-/// How many of the first so many entries of a sector have a key below this one, of any length, byte by byte.
-fn count_below(sector: &[u8; 256], entries: usize, key_length: usize, key: &Key) -> usize
+/// Whether the key of entry `j` of a sector is below the one that is sought.
+fn is_entry_below(sector: &[u8; 256], j: usize, key_length: usize, sought: &Sought<'_>) -> bool
+    requires short { key_length ≤ 29 }
+    requires inside { j < 256 / (key_length + 4) }
+    requires suited { IsSuited key_length sought.now }
+    ensures { result ≡ nat_lt (entry_here key_length sector.now j).key (sought_key sought.now) }
+{
+    match *sought {
+        Sought::Number(number) => key_number(sector, j, key_length) < number,
+        Sought::Bytes(key) => compare_entry(sector, j, key_length, key) == Ordering::Less,
+    }
+}
+
+/// How many of the first so many entries of a sector have a key below the one that is sought. Each call gets code of its own, in
+/// which the form is known, so that no comparison asks for it.
+#[inline(always)]
+fn count_below(sector: &[u8; 256], entries: usize, key_length: usize, sought: &Sought<'_>) -> usize
     requires short { key_length ≤ 29 }
     requires inside { entries ≤ 256 / (key_length + 4) }
-    requires short_key { number_of key.now.bytes < 256 ^ key_length }
+    requires suited { IsSuited key_length sought.now }
     requires ascending { IsAscending (entry_here key_length sector.now) entries }
     ensures within { result ≤ entries }
-    ensures below { (i : ℕ) → i < result → (entry_here key_length sector.now i).key < number_of key.now.bytes }
-    ensures from { (i : ℕ) → result ≤ i → i < entries → number_of key.now.bytes ≤ (entry_here key_length sector.now i).key }
+    ensures below { (i : ℕ) → i < result → (entry_here key_length sector.now i).key < sought_key sought.now }
+    ensures from { (i : ℕ) → result ≤ i → i < entries → sought_key sought.now ≤ (entry_here key_length sector.now i).key }
 {
     let mut low = 0;
     let mut high = entries;
     'halve: while low < high {
         let middle = low + (high - low) / 2;
-        if is_entry_below(sector, middle, key_length, key) {
+        if is_entry_below(sector, middle, key_length, sought) {
             low = middle + 1;
         } else {
             high = middle;
@@ -77,8 +79,11 @@ fn entries_below(sector: &[u8; 256], entries: usize, key_length: usize, key: &Ke
     ensures from { (i : ℕ) → result ≤ i → i < entries → number_of key.now.bytes ≤ (entry_here key_length sector.now i).key }
 {
     match key_length {
-        4..=8 => count_lower(sector, entries, key_length, key.short_number()),
-        _ => count_below(sector, entries, key_length, key),
+        4..=8 => {
+            let number = Sought::Number(key.short_number());
+            count_below(sector, entries, key_length, &number)
+        }
+        _ => count_below(sector, entries, key_length, &Sought::Bytes(key)),
     }
 }
 

@@ -1,8 +1,20 @@
 -- Where a key lies among entries in the order of their keys.
-use Rattle.std.specs.Prelude.{◌≡◌, ◌+◌, ◌-◌, ◌<◌, ℕ, None, Some}
-use Rattle.s3_keyed.specs.KeyOrder.{Entry}
+use Rattle.std.specs.Prelude.{◌≡◌, ◌≤◌, ◌+◌, ◌-◌, ◌^◌, ◌<◌, ℕ, None, Some}
+use Rattle.s3_keyed.specs.KeyOrder.{number_of, Entry}
+use Rattle.s3_keyed.specs.declared.sector_search.Sought.{Sought}
+use Rattle.s3_keyed.specs.declared.sector_search.Sought.TheVariants.{Number, Bytes}
 use Rattle.s3_keyed.specs.declared.sector_search.Standing.{Standing}
 use Rattle.s3_keyed.specs.declared.sector_search.Standing.TheVariants.{Before, Within, Behind}
+
+-- the key that is sought
+abbrev pub sought_key : Sought → ℕ
+sought_key (Number number) = number
+sought_key (Bytes key) = number_of key.now.bytes
+
+-- keys of so many bytes can be compared with it in its form
+abbrev pub IsSuited : (key_length : ℕ) → Sought → Type 0
+IsSuited key_length (Number number) = (4 ≤ key_length) × (key_length ≤ 8)
+IsSuited key_length (Bytes key) = number_of key.now.bytes < 256 ^ key_length
 
 -- what is said of the first n entries: all are above the key, or all below it, or one has it, or it lies between two
 abbrev pub StandsAs : (ℕ → Entry) → (n key : ℕ) → Standing → Type 0

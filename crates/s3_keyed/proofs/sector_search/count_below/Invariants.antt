@@ -1,5 +1,5 @@
 use Rattle.std.proofs.Common.{◌-◌, ◌≤◌, ◌<◌, ℕ}
-use Rattle.s3_keyed.specs.KeyOrder.{number_of}
+use Rattle.s3_keyed.specs.Inner.Sought.{sought_key}
 use Rattle.s3_keyed.specs.Inner.Shape.{entry_here}
 use Rattle.s3_keyed.proofs.sector_search.count_below.Given as goal
 
@@ -7,8 +7,8 @@ abbrev pub invariant-halve : goal.invariant-halve
 invariant-halve l = record {
   within : l.high ≤ l.entries;
   order : l.low ≤ l.high;
-  below : (i : ℕ) → i < l.low → (entry_here l.key_length l.sector i).key < number_of l.key.bytes;
-  from : (i : ℕ) → l.high ≤ i → i < l.entries → number_of l.key.bytes ≤ (entry_here l.key_length l.sector i).key;
+  below : (i : ℕ) → i < l.low → (entry_here l.key_length l.sector i).key < sought_key l.sought;
+  from : (i : ℕ) → l.high ≤ i → i < l.entries → sought_key l.sought ≤ (entry_here l.key_length l.sector i).key;
 }
 
 abbrev pub decreases-halve : goal.decreases-halve
