@@ -1,10 +1,11 @@
 //! Zoned numbers: a digit in a byte, the sign in the zone of the last.
 ghost use Rattle.std.specs.Prelude.{◌≡◌, ◌^◌, ◌<◌, ◌≤◌, length, map, unsigned_abs, IfOk, IfErr, is_err, false};
 ghost use Rattle.s3_decimal.specs.Exact.{is_negative};
-ghost use Rattle.s3_decimal.specs.Records.{cleaned, has_bad_digit, number_of, zone_at, zoned_bytes, zoned_digits, zoned_number};
+ghost use Rattle.s3_decimal.specs.Records.{cleaned, has_bad_digit, number_of, zoned_byte, zoned_bytes, zoned_digits, zoned_number};
 
 use crate::digits::{BadDigit, MINUS, Reading};
 use crate::number::Dec;
+use crate::pairs::{pair_of, write_pair};
 
 /// Reads the digits of at most 15 zoned bytes.
 pub fn digits_of(bytes: &[u8]) -> Reading
@@ -40,11 +41,29 @@ pub fn zoned_read(bytes: &[u8], decimals: u8) -> Result<Dec, BadDigit>
     digits_of(bytes).finish(negative, bytes.len() as u8, decimals)
 }
 
-/// The high four bits of the byte at a place, from the right.
-fn zone(negative: bool, place: usize) -> u8
-    ensures { result ≡ zone_at negative place }
+/// The last digit of a number, with its sign.
+fn signed_digit(number: Dec) -> u8
+    ensures { result ≡ zoned_byte (is_negative number.value) 0 (unsigned_abs number.value) }
 {
-    if place == 0 && negative { 0xd0 } else { 0xf0 }
+    let zone = if number.is_negative() { 0xd0 } else { 0xf0 };
+    zone + (number.value.unsigned_abs() % 10) as u8
+}
+
+/// Writes the digits of a number: the last one alone, for it has the sign, and the others by pairs.
+fn write_digits(number: Dec, bytes: &mut [u8])
+    requires { length bytes.old ≡ number.digits }
+    ensures { bytes.new ≡ zoned_bytes (is_negative number.value) number.digits (unsigned_abs number.value) }
+{
+    let count = bytes.len();
+    bytes[count - 1] = signed_digit(number);
+    let mut rest = number.value.unsigned_abs() / 10;
+    for pair in 0..(count - 1) / 2 {
+        write_pair(bytes, 1 + 2 * pair, pair_of((rest % 100) as u32));
+        rest /= 100;
+    }
+    if count % 2 == 0 {
+        bytes[0] = 0xf0 + (rest % 10) as u8;
+    }
 }
 
 /// Writes a number as a zoned field of as many bytes as it has digits: zones are F, and D in the last byte of a
@@ -56,11 +75,5 @@ pub fn zoned_write(number: Dec, bytes: &mut [u8])
     ensures read_back { zoned_number bytes.new ≡ number.value }
     ensures good { has_bad_digit (zoned_digits bytes.new) ≡ false }
 {
-    let count = bytes.len();
-    let mut rest = number.value.unsigned_abs();
-    for place in 0..count {
-        let zone = zone(number.is_negative(), place);
-        bytes[count - 1 - place] = zone + (rest % 10) as u8;
-        rest /= 10;
-    }
+    write_digits(number, bytes);
 }

@@ -228,9 +228,6 @@ zero_unit commas = ap (λ t. character_of t true 0) (unit_kind commas)
 pub shown_body : (style : Amount) (d n p : ℕ) → (n == 0 && not style.zero_printed) ≡ false → part style.commas d n p ≡ body_at style d n p
 shown_body style d n p h = ap (λ b. if b then 0x40 else part style.commas d n p) (sym h)
 
-pub blank_body : (style : Amount) (d n p : ℕ) → (n == 0 && not style.zero_printed) ≡ true → 0x40 ≡ body_at style d n p
-blank_body style d n p h = ap (λ b. if b then 0x40 else part style.commas d n p) (sym h)
-
 zero_part : (style : Amount) (d n p : ℕ) → d ≡ 0 → n ≡ 0 → (n == 0 && not style.zero_printed) ≡ false → part style.commas 0 0 p ≡ body_at style d n p
 zero_part style d n p whole none shown =
     ap (λ x. part style.commas x 0 p) (sym whole) ∙ ap (λ y. part style.commas d y p) (sym none) ∙ shown_body style d n p shown

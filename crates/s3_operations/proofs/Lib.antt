@@ -11,4 +11,3 @@ pub mod SpanLemmas
 pub mod TextLemmas
 pub mod TextPutLemmas
 pub mod ValueLemmas
-pub mod ZonedLemmas

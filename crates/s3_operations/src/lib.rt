@@ -12,4 +12,3 @@ pub mod laying;
 pub mod numbers;
 pub mod texts;
 pub mod values;
-pub mod zoned;

@@ -5,9 +5,8 @@ ghost use Rattle.s3_operations.specs.Inner.Texts.{Area, IsAdded, IsCut, length_o
 
 use crate::constants::text_of;
 use crate::laying::{lay, lay_within};
-use crate::zoned::write_zoned;
 use s3_cards::ebcdic::BLANK;
-use s3_decimal::Dec;
+use s3_decimal::{Dec, zoned_write};
 use s3_lines::sheet::Shape;
 use s3_program::program::Program;
 use std::alloc::{AllocError, Global};
@@ -107,7 +106,7 @@ fn overlay_long_number(target: &mut [u8], number: Dec)
 {
     let mut buffer = [0; MOST_DIGITS];
     let digits = &mut buffer[..usize::from(number.digits)];
-    write_zoned(number, digits);
+    zoned_write(number, digits);
     overlay_right(target, digits);
 }
 
@@ -120,7 +119,7 @@ fn overlay_number(target: &mut [u8], number: Dec)
         overlay_long_number(target, number);
     } else {
         let kept = target.len() - count;
-        write_zoned(number, &mut target[kept..]);
+        zoned_write(number, &mut target[kept..]);
     }
 }
 

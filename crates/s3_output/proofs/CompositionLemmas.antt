@@ -1,5 +1,5 @@
 -- The positions of a record, where a content is laid over it.
-use Rattle.std.proofs.Common.{◌≡◌, ℕ, ◌+◌, ◌-◌, ◌<◌, ◌≤◌, get_or, List, [], ◌∷◌, ◌++◌, Bool, true, false, not, ◌||◌, zero, suc, length, take, drop, map, refl, sym, ◌∙◌, ap, subst, arith}
+use Rattle.std.proofs.Common.{◌≡◌, ℕ, ◌+◌, ◌-◌, ◌<◌, ◌≤◌, List, [], ◌∷◌, ◌++◌, Bool, true, false, zero, suc, length, take, drop, map, refl, sym, ◌∙◌, ap, subst, arith}
 use Rattle.std.specs.Prelude.{Option, Some, None, is_some, unwrap_or, replicate, slice_get}
 use Rattle.std.proofs.lemmas.List.{map-append, length-map, length-append, length-drop, length-take-le, take-take, take-map, drop-map, drop-take, length-replicate}
 use Rattle.s3_cards.specs.declared.ebcdic.TheConstants.{BLANK}
@@ -204,39 +204,6 @@ ends_within n end told puts codes now code_size put_size few view ends =
     record { same = same; within = inside; whole = whole; inside = omega (arith, inside, whole) }
 
 -- ---- one position
-taken_at : {X : Type 0} (xs : List X) (n k : ℕ) → k < length (take n xs) → slice_get (take n xs) k ≡ slice_get xs k
-taken_at xs zero k within = absurd (omega (arith, within))
-taken_at [] (suc n) k within = refl
-taken_at (x ∷ xs) (suc n) zero within = refl
-taken_at (x ∷ xs) (suc n) (suc k) within = taken_at xs n k (omega (arith, within))
-
-position_on : (puts : List Bool) (codes : List ℕ) (k : ℕ) → length puts ≡ length codes → k < length codes → slice_get (positions_on puts codes) k ≡ Some (position (get_or puts k false) (get_or codes k 0))
-position_on [] codes k same within = absurd (omega (arith, same, within))
-position_on (put ∷ puts) [] k same within = absurd (omega (arith, within))
-position_on (put ∷ puts) (code ∷ codes) zero same within = refl
-position_on (put ∷ puts) (code ∷ codes) (suc k) same within = position_on puts codes k (omega (arith, same)) (omega (arith, within))
-
-position_in : (told : Bool) (puts : List Bool) (codes : List ℕ) (k : ℕ) → length puts ≡ length codes → k < length codes
-    → slice_get (positions_in told puts codes) k ≡ Some (position (not told || get_or puts k false) (get_or codes k 0))
-position_in true puts codes k same within = position_on puts codes k same within
-position_in false puts codes k same within = some_at codes k within
-  where
-    some_at : (codes : List ℕ) (k : ℕ) → k < length codes → slice_get (map (λ code. Some code) codes) k ≡ Some (Some (get_or codes k 0))
-    some_at [] k within = absurd (omega (arith, within))
-    some_at (code ∷ codes) zero within = refl
-    some_at (code ∷ codes) (suc k) within = some_at codes k (omega (arith, within))
-
-pub position_at : (n k : ℕ) (told : Bool) (puts : List Bool) (codes : List ℕ) (now : List (Option ℕ)) (put : Bool) → length codes ≡ 1024 → length puts ≡ 1024 → n ≤ 1024 → take n (positions_in told puts codes) ≡ now
-    → k < length now → (not told || get_or puts k false) ≡ put → slice_get now k ≡ Some (position put (get_or codes k 0))
-position_at n k told puts codes now put code_size put_size few view within is =
-    let same : length puts ≡ length codes = put_size ∙ sym code_size in
-    let whole : n ≤ length codes = subst (λ j. n ≤ j) (sym code_size) few in
-    let inside : k < length (take n (positions_in told puts codes)) = subst (λ ds. k < length ds) (sym view) within in
-    let below : k < n = subst (λ j. k < j) (view_length n told puts codes same whole) inside in
-    ap (λ ds. slice_get ds k) (sym view)
-    ∙ (taken_at (positions_in told puts codes) n k inside
-    ∙ (position_in told puts codes k same (omega (arith, below, whole)) ∙ ap (λ b. Some (position b (get_or codes k 0))) is))
-
 -- ---- marks
 is_put : (puts : List Bool) (codes : List ℕ) → length puts ≡ length codes → map is_some (positions_on puts codes) ≡ puts
 is_put [] codes same = refl

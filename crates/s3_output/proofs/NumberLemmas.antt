@@ -1,6 +1,6 @@
 -- How long a number is put out, and that it fits in front of its end.
 use Rattle.std.proofs.Common.{◌≡◌, ℕ, zero, suc, ◌+◌, ◌/◌, ◌≤◌, List, Bool, true, false, length, take, refl, sym, ◌∙◌, ap, subst, arith}
-use Rattle.std.specs.Prelude.{ℤ, unsigned_abs, Option, Some, None, unwrap_or, is_some, nat_le}
+use Rattle.std.specs.Prelude.{ℤ, unsigned_abs, Option, Some, None, unwrap_or, nat_le}
 use Rattle.std.proofs.lemmas.Bool.{true≢false}
 use Rattle.std.proofs.lemmas.Bool.Decides.{nat_tests}
 use Rattle.std.proofs.lemmas.List.{take_all}
@@ -13,7 +13,7 @@ use Rattle.s3_lines.specs.declared.sheet.OutputForm.TheVariants.{Plain, Packed, 
 use Rattle.s3_meaning.specs.Output.{edited}
 use Rattle.s3_program.specs.Operands.{is_within_end, number_fits}
 use Rattle.s3_output.specs.declared.numbers.NumberForm.{NumberForm}
-use Rattle.s3_output.specs.Inner.Contents.{edited_width, has_width, number_put, number_width}
+use Rattle.s3_output.specs.Inner.Contents.{edited_width, number_put, number_width}
 use Rattle.s3_output.specs.Inner.Numbers.{FitsNumber, number_of}
 
 -- ---- how long a number is put out
@@ -51,18 +51,6 @@ width_least (Edited code) digits decimals end h = by (width_of code digits decim
 
 pub laid_begins : (value : ℤ) (form : NumberForm) (end : ℕ) → FitsNumber value form end → form.width ≤ end
 laid_begins value form end fits = subst (λ k. k ≤ end) (sym form.has_positions) (width_least form.form form.digits form.decimals end fits.fits)
-
-widths : (form : OutputForm) (digits decimals end : ℕ) → number_fits form digits decimals end ≡ true → has_width form digits decimals ≡ true
-widths Plain digits decimals end h = refl
-widths Packed digits decimals end h = refl
-widths (Edited code) digits decimals end h = by (width_of code digits decimals) h
-  where
-    by : (o : Option ℕ) → is_within_end end o ≡ true → is_some o ≡ true
-    by None h = absurd (true≢false (sym h))
-    by (Some n) h = refl
-
-pub laid_has_width : (value : ℤ) (form : NumberForm) (end : ℕ) → FitsNumber value form end → has_width form.form form.digits form.decimals ≡ true
-laid_has_width value form end fits = widths form.form form.digits form.decimals end fits.fits
 
 pub edited_all : (code : EditCode) (value : ℤ) (digits decimals : ℕ) (bytes : List ℕ) (w : ℕ) → width_of code digits decimals ≡ Some w → length bytes ≡ edited_width code digits decimals
     → take w bytes ≡ pictured code decimals (is_negative value) (unsigned_abs value) w → bytes ≡ edited code digits decimals value

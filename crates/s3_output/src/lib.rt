@@ -1,11 +1,9 @@
 //! What an output line puts out: the bytes of its numbers, the record that is composed, how it moves the carriage, and its request.
 #![tactic(auto)]
 
-mod amounts;
 pub mod carriage;
 pub mod composition;
 pub mod conditions;
 pub mod laws;
 pub mod numbers;
-mod pairs;
 pub mod requests;
