@@ -1,15 +1,10 @@
 -- The digits of a number, with zeros in front.
-use Rattle.std.proofs.Common.{◌≡◌, ◌+◌, ◌-◌, ◌/◌, ◌%◌, ◌^◌, ◌<◌, inl, inr, ℕ, List, [], ◌∷◌, ◌++◌, sym, ap, ◌∙◌, arith, append_assoc, length, length-append, replicate}
+use Rattle.std.proofs.Common.{◌≡◌, ◌+◌, ◌-◌, ◌/◌, ◌%◌, ◌^◌, ◌<◌, inl, inr, ℕ, [], ◌∷◌, ◌++◌, sym, ap, ◌∙◌, arith, append_assoc, length, length-append, replicate}
 use Rattle.std.proofs.lemmas.Bool.{cases_lt}
 use Rattle.std.proofs.lemmas.Fmt.{decimal_digit, decimal_step}
 use Rattle.std.proofs.lemmas.List.{replicate-append-replicate}
 use Rattle.std.specs.Fmt.{decimal}
-use Rattle.s3_bureau.specs.Texts.{in_digits}
-
--- one more zero after n of them
-pub one_more_zero : (text : List ℕ) (n : ℕ) → (text ++ replicate n 48) ++ 48 ∷ [] ≡ text ++ replicate (n + 1) 48
-one_more_zero text n =
-    append_assoc text (replicate n 48) (48 ∷ []) ∙ ap (λ zeros. text ++ zeros) (replicate-append-replicate n 1 48)
+use Rattle.s3_cards.specs.Numbers.{in_digits}
 
 one_digit : (k n : ℕ) → n < 10 → in_digits (k + 1) n ≡ replicate k 48 ++ (48 + n) ∷ []
 one_digit k n few =

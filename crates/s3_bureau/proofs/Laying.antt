@@ -1,30 +1,12 @@
 -- Bytes that are laid out one behind the other.
-use Rattle.std.proofs.Common.{◌≡◌, ◌<◌, ◌≤◌, ◌+◌, ◌-◌, ℕ, List, [], ◌∷◌, ◌++◌, sym, ap, ◌∙◌, arith, length, length-append, take, drop, set, get_or, append_assoc, take-append-drop, replicate}
+use Rattle.std.proofs.Common.{◌≡◌, ◌<◌, ◌≤◌, ◌+◌, ◌-◌, ℕ, List, [], ◌∷◌, ◌++◌, ap, ◌∙◌, arith, length, length-append, take, get_or, append_assoc, replicate}
 use Rattle.std.specs.Prelude.{map, slice_index}
 use Rattle.std.specs.Fmt.{decimal}
 use Rattle.std.specs.Int.{from_le_bytes, to_le_bytes, w16}
-use Rattle.std.proofs.lemmas.List.{map-append, take_more_set, length-set, take-replicate}
-use Rattle.std.proofs.lemmas.Grind.{take-set_at}
+use Rattle.std.proofs.lemmas.List.{take-replicate}
 use Rattle.s3_cards.specs.Codes.{shown_byte}
-use Rattle.s3_bureau.specs.Texts.{in_digits}
+use Rattle.s3_cards.specs.Numbers.{in_digits}
 use Rattle.s3_bureau.specs.Inner.Underway.{IsLaid, ShowsPairs}
-
--- two more bytes
-pub two_laid : (room : List ℕ) (end first second : ℕ) → end + 1 < length room
-    → take (end + 2) (set (set room end first) (end + 1) second) ≡ take end room ++ first ∷ second ∷ []
-two_laid room end first second fits =
-    take-set_at (set room end first) (end + 1) (end + 2) second (omega arith) (omega (arith, length-set room end first))
-    ∙ ap (λ front. front ++ second ∷ []) (take_more_set room end first (omega arith))
-    ∙ append_assoc (take end room) (first ∷ []) (second ∷ [])
-
--- the characters of the next codes stand behind those so far
-pub some_more : (front whole rest some after : List ℕ) (n : ℕ) → front ++ map shown_byte rest ≡ whole → some ≡ take n rest → after ≡ drop n rest
-    → (front ++ map shown_byte some) ++ map shown_byte after ≡ whole
-some_more front whole rest some after n so_far is_some is_after =
-    let all : some ++ after ≡ rest = rw (is_some, is_after) (take-append-drop n rest) in
-    append_assoc front (map shown_byte some) (map shown_byte after)
-    ∙ ap (λ shown. front ++ shown) (sym (map-append shown_byte some after) ∙ ap (map shown_byte) all)
-    ∙ so_far
 
 -- two codes by one look-up
 pub pair_shown : (table codes : List ℕ) (n : ℕ) → ShowsPairs table → length codes ≡ 2 → ((i : ℕ) → get_or codes i 0 < 256)

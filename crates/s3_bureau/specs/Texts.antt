@@ -1,15 +1,11 @@
 -- The report of printed lines and the text of halts, as bytes.
-use Rattle.std.specs.Prelude.{ℕ, ◌-◌, List, [], ◌∷◌, ◌++◌, Option, Some, None, codes, length, map, replicate}
+use Rattle.std.specs.Prelude.{ℕ, List, [], ◌∷◌, ◌++◌, Option, Some, None, codes, map}
 use Rattle.std.specs.List.{flat_map}
-use Rattle.std.specs.Fmt.{decimal}
 use Rattle.s3_cards.specs.Codes.{shown_byte}
+use Rattle.s3_cards.specs.Numbers.{in_digits}
 use Rattle.s3_cards.specs.Printed.{Printed, trimmed}
 use Rattle.s3_operator.specs.Halts.{ShownHalt}
 use Rattle.s3_operator.specs.Table.{letters_of}
-
--- a number in at least so many decimal digits
-abbrev pub in_digits : ℕ → ℕ → List ℕ
-in_digits width number = replicate (width - length (decimal number)) 48 ++ decimal number
 
 -- page and line of a printed line, and its text
 unfoldable pub report_line : Printed → List ℕ

@@ -3,7 +3,7 @@ ghost use Rattle.std.specs.Prelude.{◌≡◌, ◌++◌, map, OnOk, IfOk};
 ghost use Rattle.s3_operator.specs.Inner.Halts.{halt_of};
 ghost use Rattle.s3_bureau.specs.Texts.{reply_text, detail_line, halt_line, halt_lines, refusal_line, halt_text_of};
 
-use super::number::push_number;
+use s3_cards::push_number;
 use s3_operator::{Halt, letters};
 use std::alloc::{AllocError, Global};
 
@@ -49,7 +49,7 @@ fn push_halt(text: &mut Vec<u8>, halt: &Halt) -> Result<(), AllocError>
 fn push_halt_line(text: &mut Vec<u8>, halt: &Halt) -> Result<(), AllocError>
     ensures { OnOk result (text.new.items ≡ text.old.items ++ halt_line (halt_of halt.now)) }
 {
-    push_number(text, halt.job, 3)?;
+    push_number(text, u64::from(halt.job), 3)?;
     text.push(b' ')?;
     text.extend_from_slice(&letters(halt.code))?;
     text.push(b' ')?;
@@ -62,11 +62,11 @@ fn push_halt_line(text: &mut Vec<u8>, halt: &Halt) -> Result<(), AllocError>
 fn push_detail(text: &mut Vec<u8>, job: u16, card: u16, number: u8) -> Result<(), AllocError>
     ensures { OnOk result (text.new.items ≡ text.old.items ++ detail_line job (card, number)) }
 {
-    push_number(text, job, 3)?;
+    push_number(text, u64::from(job), 3)?;
     text.push(b' ')?;
-    push_number(text, card, 4)?;
+    push_number(text, u64::from(card), 4)?;
     text.push(b' ')?;
-    push_number(text, u16::from(number), 2)?;
+    push_number(text, u64::from(number), 2)?;
     text.push(b'\n')?;
     Ok(())
 }
@@ -75,7 +75,7 @@ fn push_reply(text: &mut Vec<u8>, reply: Option<u8>) -> Result<(), AllocError>
     ensures { OnOk result (text.new.items ≡ text.old.items ++ reply_text reply) }
 {
     match reply {
-        Some(digit) => push_number(text, u16::from(digit), 1),
+        Some(digit) => push_number(text, u64::from(digit), 1),
         None => text.extend_from_slice(b"-"),
     }
 }

@@ -49,7 +49,6 @@ mod bureau;
 mod entry;
 mod halts;
 mod laws;
-mod number;
 mod outcome;
 mod report;
 mod run_fault;
@@ -65,7 +64,6 @@ pub use laws::{
     each_level_takes_its_own_entries, halt_texts_are_written, no_level_learns_of_the_other,
     other_entries_make_no_difference, reports_are_written, scripts_are_read,
 };
-pub use number::push_number;
 pub use outcome::{LevelTexts, Outcome};
 pub use report::{REPORT_ROOM, ReportTables};
 pub use run_fault::{RunFault, mount_number};

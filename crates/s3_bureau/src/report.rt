@@ -1,7 +1,8 @@
 //! A level's report: its printed lines as a text.
 ghost use Rattle.std.specs.Prelude.{◌≡◌, ◌++◌, ◌∷◌, [], ◌≤◌, ◌<◌, ◌+◌, length, map, take, IfOk};
 ghost use Rattle.s3_cards.specs.Codes.{shown_byte};
-ghost use Rattle.s3_bureau.specs.Texts.{in_digits, report_line, report_of};
+ghost use Rattle.s3_cards.specs.Numbers.{in_digits};
+ghost use Rattle.s3_bureau.specs.Texts.{report_line, report_of};
 ghost use Rattle.s3_bureau.specs.Inner.Underway.{AreTables, HasOnes, HasTens, IsLaid, ShowsCodes, ShowsPairs, ShowsPairsWith};
 
 use itoa::Buffer;
@@ -99,7 +100,7 @@ fn lay_line(
     ensures within { result ≤ 2048 }
 {
     let text = lay_place(room, at, tables, line.page(), line.line());
-    let end = lay_codes(room, text, tables, trim_end(line.text()));
+    let end = lay_codes(room, text, &tables.shown, trim_end(line.text()));
     lay(room, end, b"\n")
 }
 
@@ -114,31 +115,33 @@ fn lay(room: &mut [u8; REPORT_ROOM], at: usize, bytes: &[u8]) -> usize
 }
 
 /// Lays out the characters of codes. Sixteen of them go without a test in between.
-fn lay_codes(room: &mut [u8; REPORT_ROOM], at: usize, tables: &ReportTables, codes: &[u8]) -> usize
-    requires tables { AreTables tables.now }
+fn lay_codes(room: &mut [u8; REPORT_ROOM], at: usize, shown: &[u16], codes: &[u8]) -> usize
+    requires shown { ShowsPairs shown.now }
+    requires all { length shown.now ≡ 65536 }
     requires fits { at + length codes.now ≤ 2048 }
     ensures { IsLaid at result room.old room.new (map shown_byte codes.now) }
 {
     let mut end = at;
     let mut rest = codes;
     while let Some((sixteen, after)) = rest.split_first_chunk::<16>() {
-        end = lay_pairs(room, end, tables, sixteen);
+        end = lay_pairs(room, end, shown, sixteen);
         rest = after;
     }
-    lay_pairs(room, end, tables, rest)
+    lay_pairs(room, end, shown, rest)
 }
 
 /// Lays out the characters of codes, two at a time.
 #[inline(always)]
-fn lay_pairs(room: &mut [u8; REPORT_ROOM], at: usize, tables: &ReportTables, codes: &[u8]) -> usize
-    requires tables { AreTables tables.now }
+fn lay_pairs(room: &mut [u8; REPORT_ROOM], at: usize, shown: &[u16], codes: &[u8]) -> usize
+    requires shown { ShowsPairs shown.now }
+    requires all { length shown.now ≡ 65536 }
     requires fits { at + length codes.now ≤ 2048 }
     ensures { IsLaid at result room.old room.new (map shown_byte codes.now) }
 {
     let mut end = at;
     let mut rest = codes;
     while let Some((two, after)) = rest.split_first_chunk::<2>() {
-        let [first, second] = tables.shown_pair(*two);
+        let [first, second] = shown_pair(shown, *two);
         room[end] = first;
         room[end + 1] = second;
         end += 2;
@@ -151,14 +154,13 @@ fn lay_pairs(room: &mut [u8; REPORT_ROOM], at: usize, tables: &ReportTables, cod
     end
 }
 
-impl ReportTables {
-    /// The bytes that show two codes.
-    fn shown_pair(&self, codes: [u8; 2]) -> [u8; 2]
-        requires { AreTables self.now }
-        ensures { result ≡ map shown_byte codes }
-    {
-        self.shown[usize::from(u16::from_le_bytes(codes))].to_le_bytes()
-    }
+/// The bytes that show two codes.
+fn shown_pair(shown: &[u16], codes: [u8; 2]) -> [u8; 2]
+    requires shown { ShowsPairs shown.now }
+    requires all { length shown.now ≡ 65536 }
+    ensures { result ≡ map shown_byte codes }
+{
+    shown[usize::from(u16::from_le_bytes(codes))].to_le_bytes()
 }
 
 /// Lays out the page of a printed line and its line there, with a blank behind each.

@@ -1,12 +1,12 @@
 -- Lemmas on numbers in digits.
-use Rattle.std.proofs.Common.{◌≡◌, ℕ, ◌+◌, ◌-◌, ◌*◌, ◌^◌, ◌<◌, ◌≤◌, List, true, false, refl, sym, ◌∙◌, ap, arith, subst, length, take, get_or, lit<, add-one, inl, inr, zero, suc}
+use Rattle.std.proofs.Common.{◌≡◌, ℕ, ◌+◌, ◌-◌, ◌*◌, ◌^◌, ◌<◌, ◌≤◌, List, ◌++◌, append_assoc, replicate, true, false, refl, sym, ◌∙◌, ap, arith, subst, length, take, get_or, lit<, add-one, inl, inr, zero, suc}
 use Rattle.std.specs.Prelude.{Some, None, map, [], ◌∷◌}
 use Rattle.std.proofs.lemmas.Bool.Decides.{nat_tests}
 use Rattle.std.proofs.lemmas.Bool.{cases_Bool}
 use Rattle.std.specs.List.{list_all}
 use Rattle.std.specs.Int.Digits.{number_from_digits}
 use Rattle.std.proofs.Math.Nat.{pow-le-pow_right, pow-suc}
-use Rattle.std.proofs.lemmas.List.{take_more, take_all, map-append}
+use Rattle.std.proofs.lemmas.List.{take_more, take_all, map-append, replicate-append-replicate}
 use Rattle.std.proofs.lemmas.List.Folds.{list_all_more, list_all_at}
 use Rattle.std.proofs.lemmas.Int.Digits.{number_after_append}
 use Rattle.s3_cards.specs.Numbers.{is_digit_from, number_of}
@@ -80,3 +80,8 @@ number_below z codes digits =
     let whole : take (length codes) codes ≡ codes = take_all (length codes) codes (omega arith) in
     let e : all.0 ≡ number_of z codes = all.1.value ∙ ap (number_of z) whole in
     subst (λ (n : ℕ). n < 10 ^ length codes) e below
+
+-- one more zero after n of them
+pub one_more_zero : (text : List ℕ) (n : ℕ) → (text ++ replicate n 48) ++ 48 ∷ [] ≡ text ++ replicate (n + 1) 48
+one_more_zero text n =
+    append_assoc text (replicate n 48) (48 ∷ []) ∙ ap (λ zeros. text ++ zeros) (replicate-append-replicate n 1 48)

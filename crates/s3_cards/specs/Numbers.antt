@@ -1,5 +1,6 @@
 -- Numbers as their digits spell them, by the code of 0, behind which those of 1 to 9 lie in order.
-use Rattle.std.specs.Prelude.{ℕ, ◌+◌, ◌-◌, List, Bool, map}
+use Rattle.std.specs.Prelude.{ℕ, ◌+◌, ◌-◌, List, ◌++◌, Bool, length, map, replicate}
+use Rattle.std.specs.Fmt.{decimal}
 use Rattle.std.specs.Int.Digits.{number_from_digits}
 use Rattle.s3_cards.specs.Names.{is_within}
 
@@ -10,3 +11,7 @@ is_digit_from code_of_zero code = is_within code_of_zero (code_of_zero + 9) code
 -- the number of a run of digits
 abbrev pub number_of : ℕ → List ℕ → ℕ
 number_of code_of_zero digits = number_from_digits 10 (map (λ code. code - code_of_zero) digits)
+
+-- a number in at least so many decimal digits, as characters of the host
+abbrev pub in_digits : ℕ → ℕ → List ℕ
+in_digits width number = replicate (width - length (decimal number)) 48 ++ decimal number

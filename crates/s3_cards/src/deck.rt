@@ -1,11 +1,11 @@
 //! Decks: a deck is the list of its cards.
 
-ghost use Rattle.std.specs.Prelude.{◌≡◌, ◌≢◌, ◌↔◌, ◌<◌, ◌≤◌, ◌∷◌, [], ℕ, List, length, IsTrue, IfOk, OnOk, IfErr, MatchOption, IfSome, Ok, Err, Some, None, slice_get, position, ◌==◌};
+ghost use Rattle.std.specs.Prelude.{◌≡◌, ◌≢◌, ◌↔◌, ◌<◌, ◌≤◌, ◌-◌, ◌∷◌, [], ℕ, List, length, IsTrue, IfOk, OnOk, IfErr, MatchOption, IfSome, Ok, Err, Some, None, slice_get, position, ◌==◌};
 ghost use Rattle.std.specs.Option.{option_copied};
 ghost use Rattle.std.specs.List.{list_any};
 ghost use Rattle.std.specs.Str.Lines.{lines, strip_carriage_return};
 ghost use Rattle.s3_cards.specs.Deck.{fault_of, card_of, deck_of, fault_code, detail_of};
-ghost use Rattle.s3_cards.specs.Inner.Deck.{HasCardNumber, Gives, StartsWithCard, StartsWithFault, codes_and_blanks};
+ghost use Rattle.s3_cards.specs.Inner.Deck.{HasCardNumber, Gives, StartsWithCard, StartsWithFault, codes_and_blanks, codes_to};
 
 use super::characters::code_or_zero;
 use super::ebcdic::BLANK;
@@ -233,7 +233,7 @@ fn punch(line: &[u8], card: &mut Card) -> Result<(), CardFault>
     if line.len() > COLUMNS {
         return Err(CardFault::TooWide);
     }
-    *card = translated(line);
+    translate(line, card);
     if lacks_code(card) {
         return Err(CardFault::BadCharacter);
     }
@@ -251,17 +251,37 @@ fn lacks_code(card: &Card) -> bool
     lacks
 }
 
-/// The codes of a line's bytes, 0 for each that is no card character, and blanks behind them.
-#[tactic(auto, using(crate::proofs::DeckLemmas::byte_more))]
-fn translated(line: &[u8]) -> Card
+/// Punches the codes of a line's bytes, 0 for each that is no card character, and blanks behind them.
+fn translate(line: &[u8], card: &mut Card)
     requires { length line.now ≤ 96 }
-    ensures { result ≡ codes_and_blanks line.now }
+    ensures { card.new ≡ codes_and_blanks line.now }
 {
-    let mut card = [BLANK; COLUMNS];
-    for (column, byte) in line.iter().enumerate() {
-        card[column] = code_or_zero(*byte);
+    *card = [BLANK; COLUMNS];
+    let sixteens = translate_groups::<16>(line, 0, card);
+    let fours = translate_groups::<4>(line, sixteens, card);
+    translate_groups::<1>(line, fours, card);
+}
+
+/// Punches the codes of a line's bytes from a column on, as many as make whole groups of a size, and answers where they end. The
+/// bytes of a group go without a test in between.
+#[tactic(auto, using(crate::proofs::DeckLemmas::byte_more))]
+fn translate_groups<const SIZE: usize>(line: &[u8], from: usize, card: &mut Card) -> usize
+    requires some { 1 ≤ SIZE }
+    requires short { length line.now ≤ 96 }
+    requires within { from ≤ length line.now }
+    requires before { card.old ≡ codes_to from line.now }
+    ensures codes { card.new ≡ codes_to result line.now }
+    ensures within { result ≤ length line.now }
+    ensures fewer { length line.now - result < SIZE }
+{
+    let mut end = from;
+    'groups: while line.len() - end >= SIZE {
+        for place in 0..SIZE {
+            card[end + place] = code_or_zero(line[end + place]);
+        }
+        end += SIZE;
     }
-    card
+    end
 }
 
 /// The place of the first newline.

@@ -1,7 +1,10 @@
 //! Numbers as their digits spell them.
-ghost use Rattle.std.specs.Prelude.{◌≡◌, ◌<◌, ◌≤◌, ◌^◌, IfSome, length};
-ghost use Rattle.s3_cards.specs.Numbers.{is_digit_from};
+ghost use Rattle.std.specs.Prelude.{◌≡◌, ◌<◌, ◌≤◌, ◌^◌, ◌++◌, IfSome, OnOk, length};
+ghost use Rattle.s3_cards.specs.Numbers.{in_digits, is_digit_from};
 ghost use Rattle.s3_cards.specs.Inner.Numbers.{spelled_number};
+
+use itoa::Buffer;
+use std::alloc::AllocError;
 
 /// Whether a code is one of the ten from that of 0 on.
 fn is_one_of_ten(zero: u8, code: u8) -> bool
@@ -29,4 +32,18 @@ pub fn number_spelled(zero: u8, digits: &[u8]) -> Option<u32>
         number = number * 10 + u32::from(*code - zero);
     }
     Some(number)
+}
+
+/// Appends a number to a text in decimal digits, with zeros in front up to a width; a longer number has all its digits. It is
+/// refused only where memory runs out.
+#[tactic(auto, using(crate::proofs::NumberLemmas::one_more_zero))]
+pub fn push_number(text: &mut Vec<u8>, number: u64, width: usize) -> Result<(), AllocError>
+    ensures { OnOk result (text.new.items ≡ text.old.items ++ in_digits width number) }
+{
+    let mut buffer = Buffer::new();
+    let digits = buffer.format(number).as_bytes();
+    for _zero in 0..width.saturating_sub(digits.len()) {
+        text.push(b'0')?;
+    }
+    text.extend_from_slice(digits)
 }

@@ -38,7 +38,7 @@ pub fn trim_end(text: &[u8]) -> &[u8]
     ensures value { result.now ≡ trimmed text.now }
     ensures shorter { length result.now ≤ length text.now }
 {
-    trim_blanks(trim_eights(text))
+    trim_blanks(trim_fours(trim_sixteens(text)))
 }
 
 /// Whether eight codes are the same as eight others, compared as numbers and not one by one.
@@ -48,14 +48,29 @@ pub fn are_same_eight(codes: &[u8; 8], others: &[u8; 8]) -> bool
     u64::from_be_bytes(*codes) == u64::from_be_bytes(*others)
 }
 
-/// A text without those blanks at its end that stand by eights, as in the 132 positions of a short line.
-fn trim_eights(text: &[u8]) -> &[u8]
+/// A text without those blanks at its end that stand by sixteens, as in the 132 positions of a short line.
+fn trim_sixteens(text: &[u8]) -> &[u8]
     ensures value { trimmed result.now ≡ trimmed text.now }
     ensures shorter { length result.now ≤ length text.now }
 {
     let mut rest = text;
-    while let Some((front, last)) = rest.split_last_chunk::<8>() {
-        if !are_same_eight(last, &[BLANK; 8]) {
+    while let Some((front, last)) = rest.split_last_chunk::<16>() {
+        if *last != [BLANK; 16] {
+            return rest;
+        }
+        rest = front;
+    }
+    rest
+}
+
+/// A text without those blanks at its end that stand by fours.
+fn trim_fours(text: &[u8]) -> &[u8]
+    ensures value { trimmed result.now ≡ trimmed text.now }
+    ensures shorter { length result.now ≤ length text.now }
+{
+    let mut rest = text;
+    while let Some((front, last)) = rest.split_last_chunk::<4>() {
+        if *last != [BLANK; 4] {
             return rest;
         }
         rest = front;

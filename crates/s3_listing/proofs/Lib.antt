@@ -1,2 +1,1 @@
-pub mod Digits
 pub mod Mounting

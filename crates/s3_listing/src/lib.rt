@@ -15,7 +15,6 @@
 mod fault;
 mod laws;
 mod lines;
-mod number;
 mod room;
 mod table;
 mod written;

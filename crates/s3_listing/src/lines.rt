@@ -3,8 +3,7 @@ ghost use Rattle.std.specs.Prelude.{◌≡◌, ◌<◌, ◌++◌, OnOk};
 ghost use Rattle.s3_listing.specs.Inner.Lines.{name_text, label_text, organization_letter, retention_letter, fields_text, slot_line};
 ghost use Rattle.s3_listing.specs.Inner.Listing.{area_text};
 
-use crate::number::push_number;
-use s3_cards::{Name, Retention, push_characters};
+use s3_cards::{Name, Retention, push_characters, push_number};
 use s3_labels::{FileLabel, Organization, Slot};
 use std::alloc::AllocError;
 
@@ -85,11 +84,11 @@ fn push_fields(text: &mut Vec<u8>, label: &FileLabel) -> Result<(), AllocError>
     let organization = letter_of_organization(label.organization);
     let retention = letter_of_retention(label.retention);
     text.extend_from_slice(&[organization, b' ', retention, b' '])?;
-    push_number(text, u32::from(label.record_length), 4)?;
+    push_number(text, u64::from(label.record_length), 4)?;
     text.push(b' ')?;
-    push_number(text, label.capacity, 8)?;
+    push_number(text, u64::from(label.capacity), 8)?;
     text.push(b' ')?;
-    push_number(text, label.count, 8)?;
+    push_number(text, u64::from(label.count), 8)?;
     Ok(())
 }
 

@@ -1,4 +1,3 @@
-pub mod Digits
 pub mod PageBodies
 pub mod Pieces
 pub mod Ranges

@@ -1,5 +1,5 @@
 -- Objects behind objects.
-use Rattle.std.proofs.Common.{◌≡◌, ℕ, ◌+◌, ◌≤◌, ◌<◌, suc, List, [], ◌∷◌, ◌++◌, Option, Result, Ok, Err, OnOk, OnErr, IsErrAnd, IsErrOf, refl, sym, ap, subst, ◌∙◌, arith, append_assoc, append-nil, length, length-append}
+use Rattle.std.proofs.Common.{◌≡◌, ℕ, ◌+◌, ◌≤◌, suc, List, [], ◌∷◌, ◌++◌, Option, Result, Ok, Err, OnOk, OnErr, IsErrAnd, IsErrOf, refl, sym, ap, subst, ◌∙◌, arith, append_assoc, append-nil, length, length-append}
 use Rattle.std.proofs.KnownBytes.{Appends-nil, Appends-trans}
 use Rattle.std.proofs.lemmas.List.Concat.{flat_map-append}
 use Rattle.std.specs.Io.KnownBytes.{Appends}
@@ -180,18 +180,6 @@ put_one body text number len end old new before after (Ok done) is_number is_tex
       (ends ∙ sym is_end ∙ ap (λ n. old.end + n) is_len);
 }
 put_one body text number len end old new before after (Err fault) is_number is_text is_len is_end starts ends wrote failed = record { comes = λ is. absurd (cc) }
-
--- an object that is too long
-pub long_one : (body text : List ℕ) (number len : ℕ) (old : Table) → number ≡ length old.starts.items → text ≡ object_text (number + 1) body → len ≡ length text
-    → (old.end + len < end_limit → ⊥) → end_limit ≤ end_behind old (body ∷ [])
-long_one body text number len old is_number is_text is_len long =
-    let same : text ≡ object_text (length old.starts.items + 1) body = is_text ∙ ap (λ n. object_text (n + 1) body) is_number in
-    let one : joined (texts_behind old (body ∷ [])) ≡ text = simp append-nil (sym same) in
-    let size : length (joined (texts_behind old (body ∷ []))) ≡ len = ap length one ∙ sym is_len in
-    at_least (old.end + len) long (omega arith)
-  where
-    at_least : (n : ℕ) → (n < end_limit → ⊥) → n ≡ end_behind old (body ∷ []) → end_limit ≤ end_behind old (body ∷ [])
-    at_least n above same = omega arith
 
 -- nothing is put
 pub puts_none : (old : Table) (before : Option (List ℕ)) → Puts [] old old before before

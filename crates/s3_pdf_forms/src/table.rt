@@ -5,7 +5,7 @@ ghost use Rattle.std.specs.List.{flat_map};
 ghost use Rattle.s3_pages.specs.declared.fault.PaperFault.TheVariants.{File, TooLong};
 ghost use Rattle.s3_pdf_forms.specs.Inner.Objects.{entry_text, first_line, object_text, table_text, trailer_text};
 
-use crate::numbers::{push_number, push_ten_digits};
+use crate::numbers::push_number;
 use s3_pages::PaperFault;
 use std::alloc::{AllocError, Global};
 use std::io::Write;
@@ -124,7 +124,7 @@ fn push_entries(text: &mut Vec<u8>, starts: &[u64]) -> Result<(), AllocError>
 fn push_entry(text: &mut Vec<u8>, start: u64) -> Result<(), AllocError>
     ensures { OnOk result (text.new.items ≡ text.old.items ++ entry_text start) }
 {
-    push_ten_digits(text, start)?;
+    s3_cards::push_number(text, start, 10)?;
     text.extend_from_slice(b" 00000 n \n")
 }
 

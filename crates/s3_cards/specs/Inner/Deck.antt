@@ -1,5 +1,5 @@
 -- What reading a deck may answer, and what it makes of the first line of a text.
-use Rattle.std.specs.Prelude.{◌≡◌, ℕ, ◌+◌, ◌-◌, ◌≤◌, List, ◌∷◌, ◌++◌, Some, None, Result, Ok, Err, length, map, replicate, unwrap_or}
+use Rattle.std.specs.Prelude.{◌≡◌, ℕ, ◌-◌, ◌≤◌, List, ◌∷◌, ◌++◌, Some, None, Result, Ok, Err, length, map, replicate, take, unwrap_or}
 use Rattle.std.specs.Str.Lines.{lines}
 use Rattle.s3_cards.specs.Codes.{ebcdic_of}
 use Rattle.s3_cards.specs.declared.deck.CardFault.{CardFault}
@@ -10,6 +10,10 @@ use Rattle.s3_cards.specs.Deck.{fault_of, card_of}
 -- the codes of the bytes of a line, 0 for each that has none, and blanks up to column 96
 abbrev pub codes_and_blanks : List ℕ → List ℕ
 codes_and_blanks line = map (λ byte. unwrap_or (ebcdic_of byte) 0) line ++ replicate (96 - length line) 0x40
+
+-- those of its first bytes, so many, and blanks behind them
+abbrev pub codes_to : ℕ → List ℕ → List ℕ
+codes_to count line = map (λ byte. unwrap_or (ebcdic_of byte) 0) (take count line) ++ replicate (96 - count) 0x40
 
 -- the first line of a text has no fault, and this is its card, with this text after the line
 abbrev pub StartsWithCard : List ℕ → List ℕ → List ℕ → Type 0

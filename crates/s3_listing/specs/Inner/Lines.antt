@@ -1,7 +1,7 @@
 -- The line that shows a slot of an area.
-use Rattle.std.specs.Prelude.{ℕ, ◌+◌, ◌-◌, List, [], ◌∷◌, ◌++◌, Option, Some, None, codes, length, map, replicate}
-use Rattle.std.specs.Fmt.{decimal}
+use Rattle.std.specs.Prelude.{ℕ, ◌+◌, List, [], ◌∷◌, ◌++◌, Option, Some, None, codes, map}
 use Rattle.s3_cards.specs.Codes.{shown_byte}
+use Rattle.s3_cards.specs.Numbers.{in_digits}
 use Rattle.s3_cards.specs.declared.name.Name.{Name}
 use Rattle.s3_cards.specs.declared.retention.Retention.{Retention}
 use Rattle.s3_cards.specs.declared.retention.Retention.TheVariants.{Permanent, Scratch, Temporary}
@@ -10,10 +10,6 @@ use Rattle.s3_slots.specs.declared.label.Organization.{Organization}
 use Rattle.s3_slots.specs.declared.label.Organization.TheVariants.{Direct, Indexed, Sequential}
 use Rattle.s3_slots.specs.declared.slot.Slot.{Slot}
 use Rattle.s3_slots.specs.declared.slot.Slot.TheVariants.{Damaged, Free, Sound}
-
--- a number in at least so many decimal digits
-abbrev pub in_digits : ℕ → ℕ → List ℕ
-in_digits width number = replicate (width - length (decimal number)) 48 ++ decimal number
 
 -- a label in its 8 places
 abbrev pub name_text : Name → List ℕ

@@ -1,7 +1,8 @@
 -- A file of objects, with a table of where each begins.
-use Rattle.std.specs.Prelude.{ℕ, ◌+◌, ◌-◌, List, [], ◌∷◌, ◌++◌, codes, length, replicate}
+use Rattle.std.specs.Prelude.{ℕ, ◌+◌, ◌-◌, List, [], ◌∷◌, ◌++◌, codes, length}
 use Rattle.std.specs.Fmt.{decimal}
 use Rattle.std.specs.List.{flat_map}
+use Rattle.s3_cards.specs.Numbers.{in_digits}
 
 -- an object: its number, and what it is
 unfoldable pub object_text : ℕ → List ℕ → List ℕ
@@ -23,7 +24,7 @@ places at (text ∷ texts) = at ∷ places (at + length text) texts
 
 -- the entry of an object: its place in ten digits
 unfoldable pub entry_text : ℕ → List ℕ
-entry_text at = replicate (10 - length (decimal at)) 48 ++ decimal at ++ codes " 00000 n \n"
+entry_text at = in_digits 10 at ++ codes " 00000 n \n"
 
 -- the table of the objects' places, behind an entry for the number 0, which none has
 unfoldable pub table_text : List ℕ → List ℕ

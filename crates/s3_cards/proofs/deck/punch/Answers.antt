@@ -8,13 +8,13 @@ pub returns-then-lacks_code-clause-fault : goal.returns-then-lacks_code-clause-f
 unfolding fault_of
 returns-then-lacks_code-clause-fault c =
     let fits : nat_lt 96 (length c.args.line.now) ≡ false = le-ltb _ _ (omega (arith, c.if-line-gt-COLUMNS.false)) in
-    rw (fits, spoiled_line c.args.line.now c.translated.result c.lacks_code.result c.translated.ensures c.lacks_code.ensures c.if-lacks_code.true) refl
+    rw (fits, spoiled_line c.args.line.now c.translate.new.card c.lacks_code.result c.translate.ensures c.lacks_code.ensures c.if-lacks_code.true) refl
 
 pub returns-clause-ok : goal.returns-clause-ok
-returns-clause-ok c = clean_card c.args.line.now c.translated.result c.lacks_code.result c.translated.ensures c.lacks_code.ensures c.if-lacks_code.false
+returns-clause-ok c = clean_card c.args.line.now c.translate.new.card c.lacks_code.result c.translate.ensures c.lacks_code.ensures c.if-lacks_code.false
 
 pub returns-clause-sound : goal.returns-clause-sound
 unfolding fault_of
 returns-clause-sound c =
     let fits : nat_lt 96 (length c.args.line.now) ≡ false = le-ltb _ _ (omega (arith, c.if-line-gt-COLUMNS.false)) in
-    rw (fits, clean_line c.args.line.now c.translated.result c.lacks_code.result c.translated.ensures c.lacks_code.ensures c.if-lacks_code.false) refl
+    rw (fits, clean_line c.args.line.now c.translate.new.card c.lacks_code.result c.translate.ensures c.lacks_code.ensures c.if-lacks_code.false) refl
