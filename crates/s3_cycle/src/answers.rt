@@ -14,7 +14,7 @@ ghost use Rattle.s3_cycle.specs.Inner.Answers.{IsRecordOrNothing, is_done_or_ref
 ghost use Rattle.s3_cycle.specs.Inner.Going.{CanCalculate, Continues, GoesOn, IsChainOf, IsRunning, IsWaiting, IsWalk, here};
 
 use crate::progress::{Continuation, Point, Time};
-use crate::request::{Answer, Request};
+use crate::request::Answer;
 use crate::stepper::Stepper;
 use s3_lines::indicator::Indicator;
 use s3_program::starts::Walk;

@@ -9,6 +9,7 @@ use s3_output::composition::Composition;
 use s3_program::program::Program;
 use std::alloc::{AllocError, Global};
 use std::marker::Model;
+use std::num::NonZeroU16;
 
 /// The run of a job, suspended at a request.
 #[derive(Drop)]
@@ -30,6 +31,7 @@ impl Model for Cycle {
 
 impl Cycle {
     ghost use Rattle.std.specs.Prelude.{◌≡◌, ◌≤◌, ◌<◌, ℕ, IfOk, IsTrue, List, [], ◌∷◌, ◌++◌, Some, option_map, slice_get, replicate};
+    ghost use Rattle.std.specs.Int.NonZero.{non_zero_u16_get};
     ghost use Rattle.std.specs.Option.{option_and_then, option_copied};
     ghost use Rattle.s3_lines.specs.declared.sheet.FileLine.{FileLine};
     ghost use Rattle.s3_meaning.specs.Source.{Source};
@@ -139,11 +141,10 @@ impl Cycle {
 
     /// Goes on past the jump that pends, as after the answer `Done`, and past those behind it, so many at most; how many it was.
     /// It takes no memory.
-    pub fn pass_jumps(&mut self, most: u16) -> u16
+    pub fn pass_jumps(&mut self, most: NonZeroU16) -> u16
         requires jump { asked self.old ≡ Jump }
-        requires some { 1 ≤ most }
         ensures some { 1 ≤ result }
-        ensures few { result ≤ most }
+        ensures few { result ≤ non_zero_u16_get most }
         ensures jumps { (source : Source) → StandsFor self.old source → (n : ℕ) → n < result → rest source self.old (replicate n Done) ≡ MeantJump }
         ensures goes { (source : Source) → StandsFor self.old source → StandsFor self.new source × ((answers : List MeantAnswer) → rest source self.new answers ≡ rest source self.old (replicate result Done ++ answers)) }
     {

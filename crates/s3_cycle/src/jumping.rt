@@ -1,5 +1,6 @@
 //! Jumps that are passed, many at once.
 ghost use Rattle.std.specs.Prelude.{◌≡◌, ◌≤◌};
+ghost use Rattle.std.specs.Int.NonZero.{non_zero_u16_get};
 ghost use Rattle.s3_cycle.specs.declared.request.Request.TheVariants as asks;
 ghost use Rattle.s3_cycle.specs.Inner.Rest.{rest};
 ghost use Rattle.s3_cycle.specs.Inner.Going.{IsWaiting, own};
@@ -8,20 +9,20 @@ ghost use Rattle.s3_cycle.specs.Inner.Calculating.{GoesOnPast};
 use crate::progress::Point;
 use crate::request::Answer;
 use crate::stepper::Stepper;
+use std::num::NonZeroU16;
 
 impl Stepper {
     /// Passes the jump that pends and, where it is one to calculations, those to calculations behind it, so many at most: how many
     /// they were.
-    pub fn pass_jumps(&mut self, most: u16) -> u16
+    pub fn pass_jumps(&mut self, most: NonZeroU16) -> u16
         requires waiting { IsWaiting self.old }
         requires jump { self.old.request ≡ asks.Jump }
-        requires some { 1 ≤ most }
         ensures some { 1 ≤ result }
-        ensures few { result ≤ most }
+        ensures few { result ≤ non_zero_u16_get most }
         ensures passes { GoesOnPast result self.old self.new (rest (own self.old) self.old) }
     {
         match self.point {
-            Point::Calculations => self.calculate_on_past(most - 1) + 1,
+            Point::Calculations => self.calculate_on_past(most.get() - 1) + 1,
             _ => {
                 self.go_on(&Answer::Done);
                 1

@@ -62,7 +62,7 @@ impl Level {
                 let line = *line;
                 Taken::once(self.print(page, line, pack, spool))
             }
-            Request::Jump => self.pass_jumps(most.get(), pack),
+            Request::Jump => self.pass_jumps(most, pack),
             Request::End { .. } => Taken::once(self.end(pack)),
             Request::Ask(_) => Taken::once(Ok(Did::Idle)),
         }
@@ -110,13 +110,12 @@ impl Level {
     /// Lets the job at work go on behind the jump that pends and those behind it, so many at most.
     fn pass_jumps<P: Sectors>(
         &mut self,
-        most: u16,
+        most: NonZeroU16,
         pack: &mut Pack<P>,
     ) -> Result<Taken, SectorFault>
         requires asks { request_by self.old.job ≡ Some asks.Jump }
-        requires some { 1 ≤ most }
         requires ready { IsReady self.old (seen pack.old.areas (P.state pack.old.pool).contents) }
-        ensures times { IfOk result (λ taken. IsUpTo most taken) }
+        ensures times { IfOk result (λ taken. IsUpTo (non_zero_u16_get most) taken) }
         ensures acted { IfOk result (λ taken. taken.did ≡ Acted) }
         ensures world { (s : Shown) → IfOk result (λ taken. JumpsBecome taken.times at_work (HoldsParts self.old (with_seen (seen pack.old.areas (P.state pack.old.pool).contents) s)) (HoldsParts self.new (with_seen (seen pack.new.areas (P.state pack.new.pool).contents) s))) }
         ensures leaves { Leaves result self.old self.new pack.old.areas pack.new.areas (P.state pack.old.pool) (P.state pack.new.pool) }
@@ -131,11 +130,10 @@ impl Level {
 
     /// Gives the jump that pends and those behind it, so many at most, their answers: how many they were.
     #[tactic(auto, using(crate::proofs::Jumping::jumps_taken))]
-    fn take_jumps(&mut self, most: u16) -> u16
+    fn take_jumps(&mut self, most: NonZeroU16) -> u16
         requires asks { request_by self.old.job ≡ Some asks.Jump }
-        requires some { 1 ≤ most }
         ensures some { 1 ≤ result }
-        ensures few { result ≤ most }
+        ensures few { result ≤ non_zero_u16_get most }
         ensures world { (s : Shown) → JumpsBecome result (λ job w. record w { job = Some job }) (HoldsParts self.old s) (HoldsParts self.new s) }
         ensures keeps { KeepsReady self.old self.new }
     {

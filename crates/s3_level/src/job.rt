@@ -1,5 +1,6 @@
 //! The job at work.
 ghost use Rattle.std.specs.Prelude.{◌≡◌, true, false, ◌+◌, ◌<◌, ◌≤◌, [], ◌∷◌, length, drop, slice_range, IfOk, IsTrue, OnOk, MatchOption, Some};
+ghost use Rattle.std.specs.Int.NonZero.{non_zero_u16_get};
 ghost use Rattle.s3_job_files.specs.Files.{FilesInUse};
 ghost use Rattle.s3_job_files.specs.Closing.{files_closed};
 ghost use Rattle.s3_job_files.specs.Inner.Calls.{found_answer, put_answer};
@@ -23,6 +24,7 @@ use s3_meaning::Current;
 use s3_output::composition::{Composition, LONGEST_RECORD};
 use s3_store::{SectorFault, Sectors};
 use std::alloc::{AllocError, Global};
+use std::num::NonZeroU16;
 
 /// A job at work: its number, its program's cycle, its files, and the places of its data cards that are not yet read.
 #[derive(Drop)]
@@ -167,11 +169,10 @@ impl OpenJob {
     }
 
     /// Goes on past the jump that pends and those behind it, so many at most, and answers how many they were.
-    pub fn pass_jumps(&mut self, most: u16) -> u16
+    pub fn pass_jumps(&mut self, most: NonZeroU16) -> u16
         requires jump { asked self.old.cycle ≡ asks.Jump }
-        requires some { 1 ≤ most }
         ensures some { 1 ≤ result }
-        ensures few { result ≤ most }
+        ensures few { result ≤ non_zero_u16_get most }
         ensures passes { PassesJumps self.old.cycle self.new.cycle result }
         ensures ready { IsJobReady self.old.files.level self.old → IsJobReady self.new.files.level self.new }
         ensures files { self.new.files ≡ self.old.files }
