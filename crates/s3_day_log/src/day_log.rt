@@ -1,9 +1,9 @@
 //! A log that is read, so that its day can be done again.
 
-use crate::event::{Begun, Event, NamedFile, Record};
+use crate::event::{Begun, Event, LoggedReply, NamedFile, Record};
 use jiff::Timestamp;
 use s3_cards::LevelId;
-use s3_operator::{HaltCode, allowed};
+use s3_operator::allowed;
 use std::alloc::{AllocError, AllocFailed, Global};
 use thiserror::Error;
 
@@ -38,17 +38,6 @@ impl From<AllocFailed<LevelId>> for LogFault {
     fn from(_: AllocFailed<LevelId>) -> LogFault {
         LogFault::NoMemory
     }
-}
-
-/// A reply that was given.
-#[derive(Clone, Copy)]
-pub struct LoggedReply {
-    /// The level.
-    pub level: LevelId,
-    /// What it halted for.
-    pub code: HaltCode,
-    /// The digit, one that the halt allows.
-    pub digit: u8,
 }
 
 /// What differs between a logged day and the files that are given for it.
@@ -119,21 +108,16 @@ impl DayLog {
     fn take(&mut self, event: Event, number: usize) -> Result<(), LogFault> {
         match event {
             Event::Begin { .. } => return Err(LogFault::Line(number)),
-            Event::JobBegins { .. } | Event::JobEnds { .. } | Event::Halt { .. } => {}
-            Event::Reply {
-                level,
-                code,
-                digit,
-                by: _,
-            } => {
-                if !allowed(code, digit) {
+            Event::JobBegins(_) | Event::JobEnds(_) | Event::Halt(_) => {}
+            Event::Reply(reply) => {
+                if !allowed(reply.code, reply.digit) {
                     return Err(LogFault::Line(number));
                 }
-                self.replies.push(LoggedReply { level, code, digit })?;
+                self.replies.push(reply)?;
             }
             Event::Cut { level } => self.cut.push(level)?,
             Event::Stop => self.is_stopped = true,
-            Event::End { status, saved: _ } => self.status = Some(status),
+            Event::End(day) => self.status = Some(day.status),
         }
         Ok(())
     }

@@ -54,7 +54,74 @@ pub enum Replier {
     Log,
 }
 
-/// An event of a day.
+/// A job that has begun.
+#[derive(Drop, Serialize, Deserialize)]
+pub struct JobBegun {
+    /// The level.
+    #[serde(with = "crate::level_number")]
+    pub level: LevelId,
+    /// The number of the job.
+    pub job: u16,
+    /// The program, if its statements name one.
+    pub program: Option<String>,
+    /// The number of its first card, from 1.
+    pub card: u16,
+}
+
+/// A job that is over.
+#[derive(Clone, Copy, Serialize, Deserialize)]
+pub struct JobOver {
+    /// The level.
+    #[serde(with = "crate::level_number")]
+    pub level: LevelId,
+    /// The number of the job.
+    pub job: u16,
+    /// How many lines it has printed.
+    pub lines: u64,
+    /// How it ended.
+    pub end: JobEnd,
+}
+
+/// A halt that waits.
+#[derive(Clone, Copy, Serialize, Deserialize)]
+pub struct LoggedHalt {
+    /// The level.
+    #[serde(with = "crate::level_number")]
+    pub level: LevelId,
+    /// The number of the job.
+    pub job: u16,
+    /// What it halts for.
+    #[serde(with = "crate::halt_word")]
+    pub code: HaltCode,
+    /// The number of the last data card that was read, or of the first detail's card; none where there is neither.
+    pub card: Option<u16>,
+}
+
+/// A reply that was given.
+#[derive(Clone, Copy, Serialize, Deserialize)]
+pub struct LoggedReply {
+    /// The level.
+    #[serde(with = "crate::level_number")]
+    pub level: LevelId,
+    /// What it halted for.
+    #[serde(with = "crate::halt_word")]
+    pub code: HaltCode,
+    /// The digit; in a log that was read, one that the halt allows.
+    pub digit: u8,
+    /// Who gave it.
+    pub by: Replier,
+}
+
+/// A day that is over.
+#[derive(Drop, Serialize, Deserialize)]
+pub struct DayOver {
+    /// The exit status.
+    pub status: u8,
+    /// The pack that was saved, if one was.
+    pub saved: Option<NamedFile>,
+}
+
+/// An event of a day. One that has more than one field has them in a struct of its own.
 #[derive(Drop, Serialize, Deserialize)]
 #[serde(tag = "event", rename_all = "snake_case")]
 pub enum Event {
@@ -64,55 +131,13 @@ pub enum Event {
         day: Begun,
     },
     /// A job begins.
-    JobBegins {
-        /// The level.
-        #[serde(with = "crate::level_number")]
-        level: LevelId,
-        /// The number of the job.
-        job: u16,
-        /// The program, if its statements name one.
-        program: Option<String>,
-        /// The number of its first card, from 1.
-        card: u16,
-    },
+    JobBegins(JobBegun),
     /// A job is over.
-    JobEnds {
-        /// The level.
-        #[serde(with = "crate::level_number")]
-        level: LevelId,
-        /// The number of the job.
-        job: u16,
-        /// How many lines it has printed.
-        lines: u64,
-        /// How it ended.
-        end: JobEnd,
-    },
+    JobEnds(JobOver),
     /// A halt waits.
-    Halt {
-        /// The level.
-        #[serde(with = "crate::level_number")]
-        level: LevelId,
-        /// The number of the job.
-        job: u16,
-        /// What it halts for.
-        #[serde(with = "crate::halt_word")]
-        code: HaltCode,
-        /// The number of the last data card that was read, or of the first detail's card; none where there is neither.
-        card: Option<u16>,
-    },
+    Halt(LoggedHalt),
     /// The halt that waits in a level is answered.
-    Reply {
-        /// The level.
-        #[serde(with = "crate::level_number")]
-        level: LevelId,
-        /// What it halts for.
-        #[serde(with = "crate::halt_word")]
-        code: HaltCode,
-        /// The digit.
-        digit: u8,
-        /// Who gave it.
-        by: Replier,
-    },
+    Reply(LoggedReply),
     /// A level has taken as many turns, or printed as many lines, as it may.
     Cut {
         /// The level.
@@ -122,12 +147,7 @@ pub enum Event {
     /// The operator ended the day.
     Stop,
     /// The last one: the day is over.
-    End {
-        /// The exit status.
-        status: u8,
-        /// The pack that was saved, if one was.
-        saved: Option<NamedFile>,
-    },
+    End(DayOver),
 }
 
 /// A line of the log.

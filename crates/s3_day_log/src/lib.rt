@@ -14,5 +14,8 @@ mod level_number;
 
 pub use checksums::checksum;
 pub use clock_text::utc_text;
-pub use day_log::{DayLog, LogFault, LoggedReply, Refused};
-pub use event::{Begun, Event, JobEnd, NamedFile, Replier, line_of};
+pub use day_log::{DayLog, LogFault, Refused};
+pub use event::{
+    Begun, DayOver, Event, JobBegun, JobEnd, JobOver, LoggedHalt, LoggedReply, NamedFile, Replier,
+    line_of,
+};

@@ -2,8 +2,8 @@
 
 use s3_cards::LevelId;
 use s3_day_log::{
-    Begun, DayLog, Event, JobEnd, LogFault, NamedFile, Refused, Replier, checksum, line_of,
-    utc_text,
+    Begun, DayLog, DayOver, Event, JobBegun, JobEnd, JobOver, LogFault, LoggedHalt, LoggedReply,
+    NamedFile, Refused, Replier, checksum, line_of, utc_text,
 };
 use s3_operator::HaltCode;
 use std::test::Fail;
@@ -47,37 +47,37 @@ fn begin(rt: &HostRuntime) -> Result<Event, Fail> {
 
 /// A reply to a halt.
 fn reply(level: LevelId, code: HaltCode, digit: u8, by: Replier) -> Event {
-    Event::Reply {
+    Event::Reply(LoggedReply {
         level,
         code,
         digit,
         by,
-    }
+    })
 }
 
 /// What a job of level 1 does that is passed over at a halt, with the reply.
 fn job_passed_over(rt: &HostRuntime) -> Result<[Event; 4], Fail> {
     let (level, job, code) = (LevelId::One, 5, HaltCode::RetainedFile);
     Ok([
-        Event::JobBegins {
+        Event::JobBegins(JobBegun {
             level,
             job,
             program: Some(text_of(rt, "CUSLD")?),
             card: 178,
-        },
-        Event::Halt {
+        }),
+        Event::Halt(LoggedHalt {
             level,
             job,
             code,
             card: None,
-        },
+        }),
         reply(level, code, 3, Replier::Operator),
-        Event::JobEnds {
+        Event::JobEnds(JobOver {
             level,
             job,
             lines: 0,
             end: JobEnd::PassedOver,
-        },
+        }),
     ])
 }
 
@@ -89,10 +89,10 @@ fn rest_of_the_day(rt: &HostRuntime) -> Result<[Event; 5], Fail> {
         reply(first, HaltCode::HaltIndicator(9), 2, Replier::Line),
         Event::Cut { level: second },
         Event::Stop,
-        Event::End {
+        Event::End(DayOver {
             status: 4,
             saved: Some(file(rt, "shop.pack", ONE)?),
-        },
+        }),
     ])
 }
 

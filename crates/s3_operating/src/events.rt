@@ -5,7 +5,7 @@ use crate::clock::Clock;
 use crate::desk::Desk;
 use s3_bureau::{Bureau, Halt};
 use s3_cards::LevelId;
-use s3_day_log::Event;
+use s3_day_log::{Event, JobBegun, JobOver, LoggedHalt, LoggedReply};
 use s3_ledger::{BegunJob, end_of};
 use s3_operator::HaltCode;
 use s3_ruled::push_name;
@@ -58,13 +58,13 @@ impl<'a, R: Read + Drop, W: Write + Drop, F: Write + Drop, C: Clock + Drop> Desk
             return Ok(());
         };
         self.seat_mut(level).begun = place.saturating_add(1);
-        let event = Event::JobBegins {
+        let begun = JobBegun {
             level,
             job: number_in_log(place),
             program: program_of(self.alloc, &job)?,
             card: u16::try_from(job.card).unwrap_or(u16::MAX),
         };
-        self.note(event)
+        self.note(Event::JobBegins(begun))
     }
 
     fn log_ending(&mut self, level: LevelId, place: usize) -> Result<(), AllocError> {
@@ -72,12 +72,12 @@ impl<'a, R: Read + Drop, W: Write + Drop, F: Write + Drop, C: Clock + Drop> Desk
             return Ok(());
         };
         self.seat_mut(level).over = place.saturating_add(1);
-        self.note(Event::JobEnds {
+        self.note(Event::JobEnds(JobOver {
             level,
             job: number_in_log(place),
             lines: job.lines,
             end: end_of(&job),
-        })
+        }))
     }
 
     /// Keeps a halt until it is logged.
@@ -101,12 +101,12 @@ impl<'a, R: Read + Drop, W: Write + Drop, F: Write + Drop, C: Clock + Drop> Desk
         card: Option<u16>,
     ) -> Result<(), AllocError> {
         let job = self.seat(level).ledger.begun().len().saturating_sub(1);
-        self.note(Event::Halt {
+        self.note(Event::Halt(LoggedHalt {
             level,
             job: number_in_log(job),
             code,
             card,
-        })
+        }))
     }
 
     /// Logs a reply.
@@ -119,12 +119,12 @@ impl<'a, R: Read + Drop, W: Write + Drop, F: Write + Drop, C: Clock + Drop> Desk
         if !self.journal.is_kept() {
             return Ok(());
         }
-        self.note(Event::Reply {
+        self.note(Event::Reply(LoggedReply {
             level,
             code,
             digit: answer.digit,
             by: answer.giver.replier(),
-        })
+        }))
     }
 
     /// Logs that the operator ended the day.

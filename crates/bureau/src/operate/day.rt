@@ -7,7 +7,7 @@ use super::outputs::{Output, Outputs, forget, write_deck};
 use super::paper::write_paper;
 use super::watch::Watch;
 use s3_cli::{CliFault, SessionFault, Watched, write_output};
-use s3_day_log::{Begun, DayLog, Event, NamedFile, checksum};
+use s3_day_log::{Begun, DayLog, DayOver, Event, NamedFile, checksum};
 use s3_desk::{Day, operate_day};
 use s3_host_files::{FileFault, LockedPack, save_pack};
 use s3_operating::{Closing, Desk, Journal, Seat, Settings, Tape, Verdict};
@@ -267,5 +267,5 @@ fn log_end(
         }),
         None => None,
     };
-    desk.note(Event::End { status, saved })
+    desk.note(Event::End(DayOver { status, saved }))
 }
