@@ -11,6 +11,8 @@
 //! - `bureau`: three whole sessions over a store that fails at each call in turn, and where memory runs out; the card lister's
 //!   turns; turns that are taken many at once; and a level by itself.
 //! - `sessions`: a session whose reader or writer fails at each call in turn, or gives and takes a byte a call.
+//!
+//! `fixtures` has what tests of several of them begin with.
 
 #![tactic(auto)]
 
@@ -20,6 +22,8 @@ mod bureau;
 mod cycle;
 #[cfg(test)]
 mod files;
+#[cfg(test)]
+mod fixtures;
 #[cfg(test)]
 mod job_files;
 #[cfg(test)]

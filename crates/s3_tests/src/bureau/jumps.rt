@@ -1,11 +1,10 @@
 //! Turns that are taken many at once, jumps among them, and one by one.
 
-use crate::bureau::packs::new_pack;
 use crate::bureau::sessions::has_text;
-use s3_bureau::{Action, Bureau, Did, Entry, RefusedStore, Taken};
-use s3_cards::{Deck, LevelId};
+use crate::fixtures::bureaus::{TURN_ONE, opened};
+use s3_bureau::{Bureau, Did, Taken};
+use s3_cards::LevelId;
 use s3_store::MemoryStore;
-use std::alloc::Global;
 use std::num::NonZeroU16;
 use std::process::Abort;
 use std::test::Fail;
@@ -39,28 +38,12 @@ const DECK: &[u8] = b"\
 
 const TURNS: u8 = 10;
 
-const TURN: Entry = Entry {
-    level: LevelId::One,
-    action: Action::Turn,
-};
-
-/// A bureau over a new pack, with the deck for level 1.
-fn opened(rt: &impl Abort, alloc: Global) -> Result<Bureau<MemoryStore>, Fail> {
-    let deck = Deck::read(alloc, DECK)?;
-    match Bureau::open(alloc, new_pack(alloc)?, deck, Deck::empty(alloc)) {
-        Ok(bureau) => Ok(bureau),
-        Err(RefusedStore { store: _, fault }) => {
-            panic!(rt; "the pack isn't mounted: {fault:?}");
-        }
-    }
-}
-
 /// Takes turns, so many at most, and so many were to be taken.
 fn assert_takes(rt: &impl Abort, bureau: &mut Bureau<MemoryStore>, most: u16, times: u16) {
     let Some(most) = NonZeroU16::new(most) else {
         panic!(rt; "no turn is to be taken");
     };
-    match bureau.repeat(TURN, most) {
+    match bureau.repeat(TURN_ONE, most) {
         Ok(Taken { did, times: taken }) => {
             assert_eq!(rt; did, Did::Acted);
             assert_eq!(rt; taken, times);
@@ -82,29 +65,29 @@ fn assert_ends(rt: &impl Abort, mut bureau: Bureau<MemoryStore>) {
 
 #[test]
 fn turns_are_taken_one_by_one(rt: HostRuntime) -> Result<(), Fail> {
-    let mut bureau = opened(&rt, rt.alloc())?;
+    let mut bureau = opened(&rt, rt.alloc(), DECK)?;
     for _turn in 0..TURNS {
-        assert_eq!(rt; bureau.step(TURN), Ok(Did::Acted));
+        assert_eq!(rt; bureau.step(TURN_ONE), Ok(Did::Acted));
     }
-    assert_eq!(rt; bureau.step(TURN), Ok(Did::Idle));
+    assert_eq!(rt; bureau.step(TURN_ONE), Ok(Did::Idle));
     assert_ends(&rt, bureau);
     Ok(())
 }
 
 #[test]
 fn turns_are_taken_at_once(rt: HostRuntime) -> Result<(), Fail> {
-    let mut bureau = opened(&rt, rt.alloc())?;
+    let mut bureau = opened(&rt, rt.alloc(), DECK)?;
     // a job's end ends them: the first one compiles the program, and the last one ends the job that runs it
     assert_takes(&rt, &mut bureau, 9, 1);
     assert_takes(&rt, &mut bureau, 10, 9);
-    assert_eq!(rt; bureau.step(TURN), Ok(Did::Idle));
+    assert_eq!(rt; bureau.step(TURN_ONE), Ok(Did::Idle));
     assert_ends(&rt, bureau);
     Ok(())
 }
 
 #[test]
 fn a_count_ends_between_two_jumps(rt: HostRuntime) -> Result<(), Fail> {
-    let mut bureau = opened(&rt, rt.alloc())?;
+    let mut bureau = opened(&rt, rt.alloc(), DECK)?;
     for _turn in 0..3u8 {
         assert_takes(&rt, &mut bureau, 1, 1);
     }
@@ -112,7 +95,7 @@ fn a_count_ends_between_two_jumps(rt: HostRuntime) -> Result<(), Fail> {
     // the fourth jump, the line and the end of cards
     assert_takes(&rt, &mut bureau, 3, 3);
     assert_takes(&rt, &mut bureau, 3, 1);
-    assert_eq!(rt; bureau.step(TURN), Ok(Did::Idle));
+    assert_eq!(rt; bureau.step(TURN_ONE), Ok(Did::Idle));
     assert_ends(&rt, bureau);
     Ok(())
 }

@@ -2,7 +2,7 @@
 ghost use Rattle.s3_job_files.specs.Inner.Holds.{seen};
 ghost use Rattle.s3_level.specs.Inner.Holds.{AreAll, IsReady};
 
-use crate::bureau::packs::new_pack;
+use crate::fixtures::packs::small_store;
 use s3_cards::{Deck, LevelId};
 use s3_labels::{Pack, RefusedStore};
 use s3_level::{Did, Level, Taken};
@@ -39,7 +39,7 @@ fn take_turns(
 fn a_turn_is_one_of_several(rt: HostRuntime) -> Result<(), Fail> {
     let alloc = rt.alloc();
     let deck = Deck::read(alloc, DECK)?;
-    let mut pack = match Pack::mount(alloc, new_pack(alloc)?) {
+    let mut pack = match Pack::mount(alloc, small_store(alloc)?) {
         Ok(pack) => pack,
         Err(RefusedStore { store: _, fault }) => {
             panic!(&rt; "the pack isn't mounted: {fault:?}");

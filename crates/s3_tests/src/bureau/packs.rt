@@ -2,7 +2,6 @@
 
 use s3_cards::LevelId;
 use s3_labels::{ImageFault, image};
-use s3_store::MemoryStore;
 use std::alloc::Global;
 
 /// The levels that took an entry, whether it was performed or not.
@@ -61,9 +60,4 @@ pub fn are_spared(before: &[u8], after: &[u8], taken: Taken) -> bool {
             .zip(after)
             .enumerate()
             .all(|(at, (old, new))| old == new || !stays(at / 256, taken))
-}
-
-/// A new pack with one track a region.
-pub fn new_pack(alloc: Global) -> Result<MemoryStore, ImageFault> {
-    Ok(MemoryStore::from_bytes(image(alloc, None, 1, 1, 1)?))
 }

@@ -1,14 +1,11 @@
 //! Three sessions.
 
-use crate::bureau::decks::{FIVE_RECORDS, LISTER, STOCK, THREE_RECORDS};
+use crate::bureau::decks::{FIVE_RECORDS, STOCK, THREE_RECORDS};
 use crate::bureau::sessions::{Failed, Part, Session};
+use crate::fixtures::bureaus::TURN_ONE;
+use crate::fixtures::decks::LISTER;
 use s3_bureau::{Action, Entry};
 use s3_cards::LevelId;
-
-const TURN_ONE: Entry = Entry {
-    level: LevelId::One,
-    action: Action::Turn,
-};
 
 const TURN_TWO: Entry = Entry {
     level: LevelId::Two,

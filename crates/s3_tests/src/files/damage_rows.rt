@@ -1,14 +1,14 @@
 //! Each byte of a header, of a label and of an index set to 00 and to ff. The letters wanted were worked by a program written
 //! from the rules of packs alone.
 ghost use Rattle.std.specs.Prelude.{◌≡◌, ◌≤◌, ◌<◌, IfOk, length};
-ghost use Rattle.s3_slots.specs.Inner.Making.{IsNewFile};
 ghost use Rattle.s3_labels.specs.Inner.Areas.{IsReady};
 
-use crate::files::fixtures::{INDEX, RECORDS, blank_store, label_of, record};
-use s3_cards::ebcdic::{BLANK, LETTER_A, LETTER_B, LETTER_C};
+use crate::fixtures::files::{
+    A, B, C, INDEX, Label, RECORDS, blank_store, label_of, new_file, record,
+};
 use s3_cards::{LevelId, Name, Retention};
 use s3_keyed::{Keyed, KeyedFault};
-use s3_labels::{LabelFault, MountFault, NewFile, Organization, Pack, Refusal, Refused, Size};
+use s3_labels::{LabelFault, MountFault, Organization, Pack, Refusal, Refused, Size};
 use s3_store::{MemoryStore, SectorFault, Sectors};
 use std::alloc::Global;
 use std::process::Abort;
@@ -39,22 +39,6 @@ const B_SLOT: [u8; 64] = [
     0x00, 0x00, 0x00, 0x00, 0x00, 0x00, 0x00, 0x00, 0x00, 0x00, 0x00, 0x00, 0x00, 0x00, 0x00, 0x00,
 ];
 
-/// A file of eight tracks, one more than are free beside DATA and B.
-fn new_file() -> NewFile
-    ensures { IsNewFile result }
-{
-    NewFile {
-        name: Name::of(&[LETTER_C]),
-        organization: Organization::Sequential,
-        retention: Retention::Temporary,
-        record_length: 10,
-        key_length: 0,
-        key_start: 0,
-        size: Size::Tracks(8),
-        date: [BLANK; 6],
-    }
-}
-
 /// What is wrong with a mount: 1 its header, 2 its regions, 3 too few sectors.
 fn mount_letter(fault: Refusal) -> u8 {
     match fault {
@@ -77,13 +61,21 @@ fn label_letter<P: Sectors>(pack: &Pack<P>, name: &[u8]) -> u8
     }
 }
 
-/// The letters of DATA and B, and R where there is room for the new file, F where there isn't.
+/// The letters of DATA and B, and R where there is room for a file of eight tracks, F where there isn't.
 fn pack_letters<P: Sectors>(pack: &mut Pack<P>) -> [u8; 3]
     requires { IsReady pack.old.areas (P.state pack.old.pool).contents }
 {
-    let data = label_letter(pack, &[0xc4, LETTER_A, 0xe3, LETTER_A]);
-    let b = label_letter(pack, &[LETTER_B]);
-    let room = match pack.make(LevelId::One, &new_file()) {
+    let data = label_letter(pack, &[0xc4, A, 0xe3, A]);
+    let b = label_letter(pack, &[B]);
+    // one track more than are free beside DATA and B
+    let size = Size::Tracks(8);
+    let new = new_file(
+        Label::LetterC,
+        Organization::Sequential,
+        Retention::Temporary,
+        size,
+    );
+    let room = match pack.make(LevelId::One, &new) {
         Ok(_) => b'R',
         Err(_) => b'F',
     };
@@ -196,9 +188,9 @@ fn c_a_and_b(alloc: Global) -> Result<MemoryStore, Fail>
     let mut store = blank_store(alloc)?;
     let none = label_of(Organization::Indexed, 4, 0);
     let mut file = Keyed::check(alloc, &mut store, &none)?;
-    file.add(&mut store, &record(LETTER_C))?;
-    file.add(&mut store, &record(LETTER_A))?;
-    file.add(&mut store, &record(LETTER_B))?;
+    file.add(&mut store, &record(C))?;
+    file.add(&mut store, &record(A))?;
+    file.add(&mut store, &record(B))?;
     file.close(&mut store)?;
     Ok(store)
 }
@@ -212,9 +204,9 @@ fn index_letter(alloc: Global, store: &mut MemoryStore) -> u8
         Err(KeyedFault::BadIndex) => return b'B',
         Err(_) => return b'?',
     };
-    let a = file.find(store, &[LETTER_A]);
-    let b = file.find(store, &[LETTER_B]);
-    let c = file.find(store, &[LETTER_C]);
+    let a = file.find(store, &[A]);
+    let b = file.find(store, &[B]);
+    let c = file.find(store, &[C]);
     let first = file.nth_by_key(store, 0);
     let last = file.nth_by_key(store, 2);
     match (a, b, c, first, last) {

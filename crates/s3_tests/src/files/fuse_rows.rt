@@ -1,12 +1,11 @@
 //! A run that makes, loads, adds and closes, over a store that fails at each of its calls in turn.
-ghost use Rattle.s3_slots.specs.Inner.Making.{IsNewFile};
 ghost use Rattle.s3_labels.specs.Inner.Areas.{IsReady};
 
-use crate::files::fixtures::{RECORDS, label_of, record};
-use s3_cards::ebcdic::BLANK;
-use s3_cards::{LevelId, Name, Retention};
+use crate::fixtures::files::{A, B, C, D, Label, RECORDS, label_of, new_file, record};
+use crate::fixtures::packs::new_pack;
+use s3_cards::{LevelId, Retention};
 use s3_keyed::{Keyed, KeyedFault};
-use s3_labels::{ChangeFault, NewFile, Organization, Pack, Refusal, RefusedStore, Size, image};
+use s3_labels::{ChangeFault, Organization, Pack, Refusal, RefusedStore, Size};
 use s3_store::{FuseStore, MemoryStore, SectorFault, Sectors, Stretch};
 use std::alloc::Global;
 use std::test::Fail;
@@ -38,22 +37,6 @@ fn is_device(fault: RunFault) -> bool {
     )
 }
 
-/// The file that is made.
-fn new_file() -> NewFile
-    ensures { IsNewFile result }
-{
-    NewFile {
-        name: Name::of(&[0xc1]),
-        organization: Organization::Indexed,
-        retention: Retention::Temporary,
-        record_length: 10,
-        key_length: 1,
-        key_start: 1,
-        size: Size::Records(10),
-        date: [BLANK; 6],
-    }
-}
-
 /// Loads two records, and adds one before them and one between them.
 fn fill<P: Sectors>(alloc: Global, pool: &mut P) -> Result<(), KeyedFault> {
     let label = label_of(Organization::Indexed, 10, 0);
@@ -61,10 +44,10 @@ fn fill<P: Sectors>(alloc: Global, pool: &mut P) -> Result<(), KeyedFault> {
         return Ok(());
     }
     let mut file = Keyed::check(alloc, pool, &label)?;
-    file.load(pool, &record(0xc2))?;
-    file.load(pool, &record(0xc4))?;
-    file.add(pool, &record(0xc3))?;
-    file.add(pool, &record(0xc1))?;
+    file.load(pool, &record(B))?;
+    file.load(pool, &record(D))?;
+    file.add(pool, &record(C))?;
+    file.add(pool, &record(A))?;
     file.close(pool)
 }
 
@@ -72,7 +55,14 @@ fn fill<P: Sectors>(alloc: Global, pool: &mut P) -> Result<(), KeyedFault> {
 fn make_and_fill<P: Sectors>(alloc: Global, pack: &mut Pack<P>) -> Result<(), RunFault>
     requires { IsReady pack.old.areas (P.state pack.old.pool).contents }
 {
-    let made = match pack.make(LevelId::One, &new_file()) {
+    let size = Size::Records(10);
+    let new = new_file(
+        Label::LetterA,
+        Organization::Indexed,
+        Retention::Temporary,
+        size,
+    );
+    let made = match pack.make(LevelId::One, &new) {
         Ok(label) => label,
         Err(fault) => return Err(RunFault::Make(fault)),
     };
@@ -134,7 +124,7 @@ fn are_others_same(before: &[u8], after: &[u8]) -> bool {
 
 #[test]
 fn a_fuse_at_each_call_of_the_run(rt: HostRuntime) -> Result<(), Fail> {
-    let before = image(rt.alloc(), None, 10, 10, 10)?;
+    let before = new_pack(rt.alloc())?;
     for k in 1..1_000u64 {
         let Run { faults, bytes } = run_with_fuse(rt.alloc(), before.clone()?, k)?;
         assert!(rt; are_others_same(&before, &bytes), "fuse at call {k}");

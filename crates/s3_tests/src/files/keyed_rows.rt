@@ -1,20 +1,12 @@
 //! Records by key, and the bytes of their index.
 ghost use Rattle.std.specs.Prelude.{◌≡◌, IfOk, length};
 
-use crate::files::fixtures::{INDEX, blank_store, label_of, record};
+use crate::fixtures::files::{A, B, C, D, INDEX, blank_store, label_of, record};
 use s3_keyed::{Keyed, KeyedFault};
 use s3_slots::Organization;
 use s3_store::{MemoryStore, Sectors};
 use std::alloc::Global;
 use std::test::Fail;
-
-const A: u8 = 0xc1;
-
-const B: u8 = 0xc2;
-
-const C: u8 = 0xc3;
-
-const D: u8 = 0xc4;
 
 /// A store with the records B and A and their index.
 fn b_and_a(alloc: Global) -> Result<MemoryStore, Fail>

@@ -2,7 +2,6 @@
 //! that fails once, and each byte of a header, a label and an index spoilt.
 
 mod damage_rows;
-mod fixtures;
 mod fuse_rows;
 mod keyed_rows;
 mod pack_rows;

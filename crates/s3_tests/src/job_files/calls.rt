@@ -3,8 +3,8 @@ ghost use Rattle.std.specs.Prelude.{OnOk};
 ghost use Rattle.s3_labels.specs.Inner.Areas.{IsReady as IsPackReady};
 ghost use Rattle.s3_job_files.specs.Inner.Holds.{seen, IsReady};
 
+use crate::fixtures::files::{Label, RECORD_BYTES, name_of};
 use crate::job_files::fault::Fault;
-use crate::job_files::packs::{Label, RECORD_BYTES, Record, name_of};
 use s3_cards::LevelId;
 use s3_cards::ebcdic::BLANK;
 use s3_job_files::{JobFiles, OpenFile, Put};
@@ -13,6 +13,9 @@ use s3_meaning::Current;
 use s3_operator::HaltCode;
 use s3_store::Sectors;
 use std::alloc::Global;
+
+/// A record of a file.
+pub type Record = [u8; RECORD_BYTES];
 
 /// A call on a file of a job.
 #[derive(Clone, Copy)]

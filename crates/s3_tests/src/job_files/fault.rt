@@ -1,6 +1,6 @@
 //! Why a test goes no further.
 
-use s3_labels::{ChangeFault, LabelFault, Refusal};
+use s3_labels::{ChangeFault, LabelFault};
 use s3_store::SectorFault;
 use std::alloc::AllocError;
 use thiserror::Error;
@@ -8,8 +8,6 @@ use thiserror::Error;
 /// Why a test goes no further.
 #[derive(Clone, Copy, Debug, PartialEq, Eq, Error)]
 pub enum Fault {
-    #[error("the pack isn't mounted")]
-    Mount(Refusal),
     #[error("a file isn't made")]
     Make(ChangeFault),
     #[error("there is no such file")]

@@ -1,37 +1,18 @@
 //! What one job writes, the next one reads.
 
+use crate::fixtures::files::{A, B, C, D, Label, marked, record};
+use crate::fixtures::packs::{new_pack, pack_with_masters_of};
 use crate::job_files::calls::{Call, Outcome};
 use crate::job_files::jobs::{Job, after};
-use crate::job_files::packs::{Label, Made, Record};
+use crate::job_files::made_files::Made;
 use s3_cards::ebcdic::BLANK;
 use s3_cards::{LevelId, Retention};
-use s3_labels::{Organization, image};
+use s3_labels::Organization;
 use s3_listing::list;
 use s3_meaning::Current;
 use std::alloc::Global;
 use std::process::Abort;
 use std::test::Fail;
-
-const A: u8 = 0xc1;
-
-const B: u8 = 0xc2;
-
-const C: u8 = 0xc3;
-
-const D: u8 = 0xc4;
-
-/// A record with a letter in its first byte, and a mark in its last.
-fn marked(letter: u8, mark: u8) -> Record {
-    let mut record = [BLANK; 10];
-    record[0] = letter;
-    record[9] = mark;
-    record
-}
-
-/// A record with a letter in its first byte.
-fn record(letter: u8) -> Record {
-    marked(letter, BLANK)
-}
 
 /// The first file of level 1, with room for three records.
 fn first(organization: Organization, retention: Retention) -> Made {
@@ -78,7 +59,7 @@ fn assert_runs_anew(
     jobs: &[Job<'_>],
     want: &str,
 ) -> Result<Vec<u8>, Fail> {
-    assert_runs(rt, alloc, image(alloc, None, 10, 10, 10)?, made, jobs, want)
+    assert_runs(rt, alloc, new_pack(alloc)?, made, jobs, want)
 }
 
 /// A change of a byte of the record that was chained last.
@@ -316,7 +297,7 @@ fn levels_have_files_apart_and_share_masters(rt: HostRuntime) -> Result<(), Fail
     assert_runs(
         &rt,
         rt.alloc(),
-        image(rt.alloc(), Some(&pack), 10, 10, 10)?,
+        pack_with_masters_of(rt.alloc(), &pack)?,
         &[],
         &[one, two, one],
         "0 FIRST    I T 0010 00000003 00000002\n",

@@ -3,14 +3,17 @@ ghost use Rattle.std.specs.Prelude.{OnOk};
 ghost use Rattle.s3_labels.specs.Inner.Areas.{IsReady as IsPackReady};
 ghost use Rattle.s3_job_files.specs.Inner.Holds.{seen, IsReady};
 
+use crate::fixtures::files::Label;
+use crate::fixtures::packs::mounted;
 use crate::job_files::calls::{Call, Outcome, begin, make_call, open};
 use crate::job_files::fault::Fault;
-use crate::job_files::packs::{Label, Made, make};
+use crate::job_files::made_files::{Made, make};
 use s3_cards::LevelId;
 use s3_job_files::JobFiles;
-use s3_labels::{Pack, Refused};
+use s3_labels::Pack;
 use s3_store::{MemoryStore, Sectors};
 use std::alloc::Global;
+use std::test::Fail;
 
 /// A job: its files, with whether it made them, and the calls on them by their places, with what is to become of each.
 #[derive(Clone, Copy)]
@@ -95,11 +98,8 @@ pub fn after(
     pack: Vec<u8>,
     made: &[Made],
     jobs: &[Job<'_>],
-) -> Result<(Vec<u8>, Option<(usize, usize)>), Fault> {
-    let mut pack = match Pack::over(alloc, MemoryStore::from_bytes(pack)) {
-        Ok(pack) => pack,
-        Err(Refused { pool: _, fault }) => return Err(Fault::Mount(fault)),
-    };
+) -> Result<(Vec<u8>, Option<(usize, usize)>), Fail> {
+    let mut pack = mounted(alloc, MemoryStore::from_bytes(pack))?;
     let wrong = run_all(alloc, &mut pack, made, jobs);
     let Pack { pool, areas: _ } = pack;
     Ok((pool.into_bytes(), wrong?))

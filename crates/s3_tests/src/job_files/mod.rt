@@ -4,4 +4,4 @@ mod calls;
 mod fault;
 mod job_rows;
 mod jobs;
-mod packs;
+mod made_files;

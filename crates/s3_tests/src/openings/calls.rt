@@ -24,8 +24,6 @@ pub const DATE: [u8; 6] = [DIGIT_0; 6];
 /// Why a test goes no further.
 #[derive(Clone, Copy, Debug, PartialEq, Eq, Error)]
 pub enum Fault {
-    #[error("the pack isn't one")]
-    Pack,
     #[error("the job halts")]
     Halted(Halt),
     #[error("something else was expected")]

@@ -1,5 +1,5 @@
 //! Jobs of level 1 over a new pack.
-ghost use Rattle.std.specs.Prelude.{◌≡◌, [], ◌∷◌, true, IfOk, OnOk};
+ghost use Rattle.std.specs.Prelude.{◌≡◌, [], ◌∷◌, true, OnOk};
 ghost use Rattle.std.specs.List.{list_all};
 ghost use Rattle.s3_cards.specs.Names.{is_name, name_of};
 ghost use Rattle.s3_lines.specs.Inner.Ranges.{file_in_range, is_named};
@@ -7,9 +7,11 @@ ghost use Rattle.s3_ocl.specs.Inner.Sound.{is_sound_file};
 ghost use Rattle.s3_labels.specs.Inner.Areas.{IsReady as IsPackReady};
 ghost use Rattle.s3_opening.specs.Inner.Samples.{line as sample_line};
 
+use crate::fixtures::files::{A, B, C, D};
+use crate::fixtures::packs::{mounted, new_store, pack_with_masters_of};
 use crate::openings::calls::{DATE, Fault, Halt, start};
 use s3_cards::{LevelId, Name, Retention};
-use s3_labels::{Organization, Pack, Refused, image};
+use s3_labels::{Organization, Pack};
 use s3_lines::indicator::Indicator;
 use s3_lines::sheet::{Designation, Device, FileLine, FileUse, KeyField};
 use s3_ocl::{FileSize, FileStatement};
@@ -23,12 +25,6 @@ fn named(letter: u8) -> Name
 {
     Name::of(&[letter])
 }
-
-const A: u8 = 0xc1;
-
-const B: u8 = 0xc2;
-
-const C: u8 = 0xc3;
 
 /// The F line of a file in order, of records of ten bytes.
 fn line(letter: u8, usage: FileUse) -> FileLine
@@ -113,24 +109,6 @@ fn see(holds: bool) -> Result<(), Fault>
     if holds { Ok(()) } else { Err(Fault::Wrong) }
 }
 
-/// The pack on these sectors.
-fn mounted<P: Sectors + Drop>(alloc: Global, pool: P) -> Result<Pack<P>, Fault>
-    ensures { IfOk result (λ pack. IsPackReady pack.areas (P.state pack.pool).contents) }
-{
-    match Pack::over(alloc, pool) {
-        Ok(pack) => Ok(pack),
-        Err(Refused { pool: _, fault: _ }) => Err(Fault::Pack),
-    }
-}
-
-/// The bytes of a new pack.
-fn new_pack(alloc: Global, from: Option<&[u8]>) -> Result<MemoryStore, Fault> {
-    match image(alloc, from, 10, 10, 10) {
-        Ok(bytes) => Ok(MemoryStore::from_bytes(bytes)),
-        Err(_) => Err(Fault::Pack),
-    }
-}
-
 /// A job makes a file, and the next one opens it.
 #[tactic(auto, unfolding(s3_cards::specs::Names::is_word))]
 fn make_and_open<P: Sectors>(alloc: Global, pack: &mut Pack<P>) -> Result<(), Fault>
@@ -158,7 +136,7 @@ fn make_and_open<P: Sectors>(alloc: Global, pack: &mut Pack<P>) -> Result<(), Fa
 
 #[test]
 fn a_file_is_made_and_then_opened(rt: HostRuntime) -> Result<(), Fail> {
-    let mut pack = mounted(rt.alloc(), new_pack(rt.alloc(), None)?)?;
+    let mut pack = mounted(rt.alloc(), new_store(rt.alloc())?)?;
     let run = make_and_open(rt.alloc(), &mut pack);
     let Pack { pool: _, areas: _ } = pack;
     run?;
@@ -189,7 +167,7 @@ fn make_by_key_and_direct<P: Sectors>(alloc: Global, pack: &mut Pack<P>) -> Resu
 
 #[test]
 fn a_direct_file_has_all_its_records(rt: HostRuntime) -> Result<(), Fail> {
-    let mut pack = mounted(rt.alloc(), new_pack(rt.alloc(), None)?)?;
+    let mut pack = mounted(rt.alloc(), new_store(rt.alloc())?)?;
     let run = make_by_key_and_direct(rt.alloc(), &mut pack);
     let Pack { pool: _, areas: _ } = pack;
     run?;
@@ -237,13 +215,13 @@ fn refuse<P: Sectors>(alloc: Global, pack: &mut Pack<P>) -> Result<(), Fault>
     halts(alloc, pack, &statements, &absent_first, Halt::NoLabel)?;
     let twice = [line(A, FileUse::Input), line(B, FileUse::Output)];
     halts(alloc, pack, &statements, &twice, Halt::DuplicateLabel)?;
-    let unstated = [line(A, FileUse::Input), line(0xc4, FileUse::Output)];
+    let unstated = [line(A, FileUse::Input), line(D, FileUse::Output)];
     halts(alloc, pack, &statements, &unstated, Halt::NoLabel)
 }
 
 #[test]
 fn the_first_refusal_is_told_and_nothing_made(rt: HostRuntime) -> Result<(), Fail> {
-    let mut pack = mounted(rt.alloc(), new_pack(rt.alloc(), None)?)?;
+    let mut pack = mounted(rt.alloc(), new_store(rt.alloc())?)?;
     let run = refuse(rt.alloc(), &mut pack);
     let Pack { pool: _, areas: _ } = pack;
     run?;
@@ -267,7 +245,7 @@ fn pass_over<P: Sectors>(alloc: Global, pack: &mut Pack<P>) -> Result<(), Fault>
 
 #[test]
 fn a_file_whose_switch_is_off_is_passed_over(rt: HostRuntime) -> Result<(), Fail> {
-    let mut pack = mounted(rt.alloc(), new_pack(rt.alloc(), None)?)?;
+    let mut pack = mounted(rt.alloc(), new_store(rt.alloc())?)?;
     let run = pass_over(rt.alloc(), &mut pack);
     let Pack { pool: _, areas: _ } = pack;
     run?;
@@ -286,13 +264,13 @@ fn make_master<P: Sectors>(alloc: Global, pack: &mut Pack<P>) -> Result<(), Faul
 }
 
 /// A pack whose masters are the files of level 1 of another one.
-fn pack_of_masters(alloc: Global) -> Result<MemoryStore, Fault> {
-    let mut old = mounted(alloc, new_pack(alloc, None)?)?;
+fn pack_of_masters(alloc: Global) -> Result<MemoryStore, Fail> {
+    let mut old = mounted(alloc, new_store(alloc)?)?;
     let run = make_master(alloc, &mut old);
     let Pack { pool, areas: _ } = old;
     let bytes = pool.into_bytes();
     run?;
-    new_pack(alloc, Some(&bytes))
+    Ok(MemoryStore::from_bytes(pack_with_masters_of(alloc, &bytes)?))
 }
 
 /// A master is read, and nothing else.

@@ -1,37 +1,21 @@
 //! One session of the card lister, over readers and writers that fail or are slow.
 
+use crate::fixtures::decks::LISTER;
+use crate::fixtures::packs::small_pack;
 use s3_cli::{SessionFault, Watched, session};
-use s3_labels::{ImageFault, image};
-use std::alloc::Global;
+use std::alloc::{AllocError, Global};
 use std::io;
 use std::io::{Read, Write};
 use std::process::Abort;
 use std::test::Fail;
 
-/// The card lister, compiled and run over two cards.
-const INPUT: &[u8] = b"\
-:deck1
-// LOAD $RPG,F1
-// RUN
-     H                                                                    LIST
-     FCARDS   IP  F  96  96            MFCU1
-     FPRINT   O   F 132 132            PRINTER
-     ICARDS   AA  01
-     I                                        1   3 TEXT
-     OPRINT   D        01
-     O                         TEXT       3
-/*
-/&
-// LOAD LIST,F1
-// RUN
-ABC
-DEF
-/*
-/&
-:deck2
-:script
-T1 8
-";
+/// A session of the card lister on level 1.
+fn lister_session(alloc: Global) -> Result<Vec<u8>, AllocError> {
+    let mut input = Vec::from_slice(alloc, b":deck1\n")?;
+    input.extend_from_slice(LISTER)?;
+    input.extend_from_slice(b":deck2\n:script\nT1 8\n")?;
+    Ok(input)
+}
 
 const OUTPUT: &[u8] = b":report1\n0001 01 ABC\n0001 02 DEF\n:halts1\n:report2\n:halts2\n";
 
@@ -90,29 +74,27 @@ fn open_channel(bytes: Vec<u8>, step: usize, fuse: u32) -> Watched<Channel> {
     })
 }
 
-fn new_pack(alloc: Global) -> Result<Vec<u8>, ImageFault> {
-    image(alloc, None, 1, 1, 1)
-}
-
 /// A reader that gives a byte a call is read whole, and a writer that takes one has all of the text.
 #[test]
 fn a_byte_a_call(rt: HostRuntime) -> Result<(), Fail> {
-    let pack = new_pack(rt.alloc())?;
-    let mut reader = open_channel(Vec::from_slice(rt.alloc(), INPUT)?, 1, 0);
+    let pack = small_pack(rt.alloc())?;
+    let input = lister_session(rt.alloc())?;
+    // each byte, and the end
+    let calls = input.len().saturating_add(1);
+    let mut reader = open_channel(input, 1, 0);
     let mut writer = open_channel(Vec::new(rt.alloc()), 1, 0);
     assert!(rt; session(rt.alloc(), &pack, &mut reader, &mut writer).is_ok());
     assert_eq!(rt; writer.channel.bytes.as_slice(), OUTPUT);
-    // each byte, and the end
-    assert_eq!(rt; reader.channel.calls as usize, INPUT.len() + 1);
+    assert_eq!(rt; reader.channel.calls as usize, calls);
     Ok(())
 }
 
 /// Where a read fails the session answers so, and nothing is written.
 #[test]
 fn a_reader_that_fails_at_each_call(rt: HostRuntime) -> Result<(), Fail> {
-    let pack = new_pack(rt.alloc())?;
+    let pack = small_pack(rt.alloc())?;
     for fuse in 1..1_000u32 {
-        let mut reader = open_channel(Vec::from_slice(rt.alloc(), INPUT)?, 100, fuse);
+        let mut reader = open_channel(lister_session(rt.alloc())?, 100, fuse);
         let mut writer = open_channel(Vec::new(rt.alloc()), 100, 0);
         match session(rt.alloc(), &pack, &mut reader, &mut writer) {
             Ok(_) => {
@@ -133,9 +115,9 @@ fn a_reader_that_fails_at_each_call(rt: HostRuntime) -> Result<(), Fail> {
 /// Where a write fails the session answers so; what was taken is the beginning of the text.
 #[test]
 fn a_writer_that_fails_at_each_call(rt: HostRuntime) -> Result<(), Fail> {
-    let pack = new_pack(rt.alloc())?;
+    let pack = small_pack(rt.alloc())?;
     for fuse in 1..1_000u32 {
-        let mut reader = open_channel(Vec::from_slice(rt.alloc(), INPUT)?, 100, 0);
+        let mut reader = open_channel(lister_session(rt.alloc())?, 100, 0);
         let mut writer = open_channel(Vec::new(rt.alloc()), 7, fuse);
         let ended = session(rt.alloc(), &pack, &mut reader, &mut writer);
         assert!(rt;

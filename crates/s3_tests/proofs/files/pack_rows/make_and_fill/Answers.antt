@@ -9,9 +9,9 @@ pub of-requires-clause-full : goal.of-requires-clause-full
 unfolding new_label
 of-requires-clause-full g c =
     of_pack_full _ c.in-Ok.label c.in-Ok.ensures.on_pack
-    (ap is_direct (ap (λ (l : FileLabel). l.organization) c.in-Ok.ensures.label ∙ c.new_file.ensures.organization))
+    (ap is_direct (ap (λ (l : FileLabel). l.organization) c.in-Ok.ensures.label ∙ c.new_file-new.ensures.organization))
 
 pub fill-requires-clause-record_length : goal.fill-requires-clause-record_length
 unfolding new_label
 fill-requires-clause-record_length g c =
-    c.of.ensures.record_length ∙ ap (λ (l : FileLabel). l.record_length) c.in-Ok.ensures.label ∙ c.new_file.ensures.record_length
+    c.of.ensures.record_length ∙ ap (λ (l : FileLabel). l.record_length) c.in-Ok.ensures.label ∙ c.new_file-new.ensures.record_length
