@@ -125,9 +125,6 @@ pub second_ready : (one two new_one : Level) (before middle : Around) → IsRead
 second_ready one two new_one before middle ready first =
     ready_stays One two before middle ready.two_is ready.one_ready.files.pack (subst (λ (l : LevelId). Spares l before middle) ready.one_is first.spares) ready.two_ready
 
-pub second_blocks : (one two new_one : Level) (before middle : Around) → ClosesLevel (Ok tt) one new_one before middle → AreAll middle.blocks
-second_blocks one two new_one before middle first = first.spares.blocks
-
 -- what both spare, whatever it comes to
 both_spared : (result both : Result (Unit {0}) SectorFault) (one two new_one new_two : Level) (before middle after last : Around) → IsReadyFor one two before
     → ClosesLevel (Ok tt) one new_one before middle → ClosesLevel result two new_two middle after

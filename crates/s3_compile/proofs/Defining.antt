@@ -60,10 +60,6 @@ meaning_defined (a.Field field) h = refl
 meaning_defined (a.Tag tag) h = refl
 meaning_defined (a.Subroutine subroutine) h = refl
 
-entry_defined : (entry : Option Meaning) → is_undefined_entry entry ≡ false → entry_passes is_defined entry ≡ true
-entry_defined None h = refl
-entry_defined (Some meaning) h = meaning_defined meaning h
-
 factor_defined : (used : Operand) (factor : Option (Factor Meaning)) → (is_used used && is_undefined_factor factor) ≡ false → factor_fits used factor ≡ true
     → factor_passes is_defined factor ≡ true
 factor_defined used None known fits = refl

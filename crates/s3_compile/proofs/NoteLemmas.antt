@@ -23,21 +23,13 @@ use Rattle.s3_program.specs.Matching.{level, group_mark, same_group_mark, same_t
 use Rattle.s3_diagnose.specs.declared.tables.MarkTables.{MarkTables}
 use Rattle.s3_diagnose.specs.Inner.Shown.{marks_shown}
 use Rattle.s3_diagnose.specs.Inner.Ranged.{is_ranged_input}
-use Rattle.s3_program.proofs.GivenLemmas.{found_in_both, or_none}
+use Rattle.s3_program.proofs.GivenLemmas.{found_in_both}
 use Rattle.s3_diagnose.proofs.Walks.{both_first, both_second}
 use Rattle.s3_compile.specs.Inner.Noted.{Finds, FindsMore, Has, HasMore, all_on, some_on, in_type_on}
 
 -- ---- a walk: a table and what the lines that are left give find together what all the lines give
 pub record Covers {K X S : Type 0} (same : K → K → Bool) (table : IndexMap K X S) (left all : List (K × X)) : Type 0 where
   pub at : (key : K) → option_or (get same table key) (lookup (same key) left) ≡ lookup (same key) all
-
-pub covers_first : {K X S : Type 0} (same : K → K → Bool) (table : IndexMap K X S) (all : List (K × X)) → table.entries ≡ [] → Covers same table all all
-covers_first same table all empty = record { at = λ key. ap (λ es. option_or (lookup (same key) es) (lookup (same key) all)) empty }
-
-pub covers_last : {K X S : Type 0} (same : K → K → Bool) (table : IndexMap K X S) (left all : List (K × X)) → left ≡ [] → Covers same table left all → Finds same table all
-covers_last same table left all none covers = record {
-  at = λ key. sym (or_none (get same table key)) ∙ (ap (λ es. option_or (get same table key) (lookup (same key) es)) (sym none) ∙ covers.at key);
-}
 
 covers_more : {K X S : Type 0} (same : K → K → Bool) (old new : IndexMap K X S) (xs ys all : List (K × X)) → Covers same old (xs ++ ys) all → FindsMore same old new xs
     → Covers same new ys all
@@ -120,20 +112,8 @@ either_assoc : (a b c : Bool) → (a || b) || c ≡ a || (b || c)
 either_assoc true b c = refl
 either_assoc false b c = refl
 
-either_false : (a : Bool) → a || false ≡ a
-either_false true = refl
-either_false false = refl
-
 pub record CoversKeys {K S : Type 0} (same : K → K → Bool) (set : IndexSet K S) (left all : List K) : Type 0 where
   pub at : (key : K) → contains same set key || list_any (same key) left ≡ list_any (same key) all
-
-pub covers_keys_first : {K S : Type 0} (same : K → K → Bool) (set : IndexSet K S) (all : List K) → set.keys ≡ [] → CoversKeys same set all all
-covers_keys_first same set all empty = record { at = λ key. ap (λ ks. list_any (same key) ks || list_any (same key) all) empty }
-
-pub covers_keys_last : {K S : Type 0} (same : K → K → Bool) (set : IndexSet K S) (left all : List K) → left ≡ [] → CoversKeys same set left all → Has same set all
-covers_keys_last same set left all none covers = record {
-  at = λ key. sym (either_false (contains same set key)) ∙ (ap (λ ks. contains same set key || list_any (same key) ks) (sym none) ∙ covers.at key);
-}
 
 pub covers_keys_next : {K S A L : Type 0} (same : K → K → Bool) (on : A → L → List K) (behind : A → L → A) (walk : A → List L → List K)
     → ((at : A) (line : L) (lines : List L) → walk at (line ∷ lines) ≡ on at line ++ walk (behind at line) lines)

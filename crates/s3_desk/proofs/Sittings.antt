@@ -248,21 +248,6 @@ spends_then level was between is old middle new ahead next = record { turns = ne
 pub on_not_cut : On ≢ Cut
 on_not_cut is = cc
 
-pub rests_not_cut : Rests ≢ Cut
-rests_not_cut is = cc
-
-pub uses_none : (level : LevelId) (was : List Entry) (left : Bounds) → Uses level was was left left Rests
-uses_none level was left = record { spends = none_taken level was was left refl; some = λ is. absurd (not is); all = λ is. absurd (rests_not_cut is) }
-  where
-    not : Rests ≢ On
-    not is = cc
-
-pub uses_nothing : (level : LevelId) (was : List Entry) (left : Bounds) → IsSpent left → Uses level was was left left Cut
-uses_nothing level was left spent = record { spends = none_taken level was was left refl; some = λ is. absurd (not is); all = λ is. spent }
-  where
-    not : Cut ≢ On
-    not is = cc
-
 pub uses_turns : (level : LevelId) (times : ℕ) (was is : List Entry) (old new : Bounds) → is ≡ was ++ replicate times (record { level = level; action = Turn }) → 1 ≤ times → new.turns + times ≡ old.turns → new.lines ≡ old.lines
     → Uses level was is old new On
 uses_turns level times was is old new whole some turns lines = record {
@@ -286,14 +271,6 @@ uses_no_more level was is old new went uses none = record { spends = uses.spends
   where
     not : Cut ≢ On
     not is = cc
-
--- where no turn was taken before
-pub uses_then : (level : LevelId) (was between is : List Entry) (old middle new : Bounds) (went : Went) → Uses level was between old middle Rests → Uses level between is middle new went → Uses level was is old new went
-uses_then level was between is old middle new went ahead next = record {
-  spends = spends_then level was between is old middle new ahead.spends next.spends;
-  some = λ is. omega (arith, ahead.spends.less, next.some is);
-  all = next.all;
-}
 
 -- a level that is cut has nothing left
 pub spent_cut : (level : LevelId) (was is : List Entry) (old new : Bounds) (went : Went) → Uses level was is old new went → went ≢ On → went ≢ Rests → IsSpent new

@@ -9,9 +9,6 @@ use Rattle.s3_store.specs.Bytes.{part}
 use Rattle.s3_store.specs.Inner.Bytes.{SameOutside}
 use Rattle.s3_files.specs.Records.{parts}
 
-pub same-refl : (at width : ℕ) (s : List ℕ) → SameOutside at width s s
-same-refl at width s = record { before = refl; after = refl }
-
 pub same-trans : (at width : ℕ) (s t u : List ℕ) → SameOutside at width s t → SameOutside at width t u → SameOutside at width s u
 same-trans at width s t u first second = record { before = second.before ∙ first.before; after = second.after ∙ first.after }
 

@@ -86,9 +86,6 @@ same-inside xs ys ys' zs p a w len same h s =
 
 -- ---- a sector of a file is read or written
 
-within_file : (at n : ℕ) → at < 256 * n → at / 256 < n
-within_file at n h = omega arith
-
 got : (xs : List ℕ) (i n : ℕ) → slice_get xs i ≡ Some n → i < length xs
 got [] i n h = absurd cc
 got (x ∷ xs) zero n h = omega arith

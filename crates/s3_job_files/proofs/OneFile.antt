@@ -113,13 +113,6 @@ noted_there contents records file bytes result is found = subst (λ (r : OpenRec
 pub answer_noted : (records : List (List ℕ)) (place : Option ℕ) (i : ℕ) (bytes : List ℕ) → place ≡ Some i → slice_get records i ≡ Some bytes → found_answer true bytes ≡ answer_at records place
 answer_noted records place i bytes is there = sym (ap (answer_at records) is ∙ ap answer_with there)
 
--- an indexed file has its records by key
-pub not_in_order : (contents : List (List ℕ)) (label : FileLabel) (records : OpenRecords) (file : Sequential) → IsUsable contents label records → records ≡ InOrder file
-    → is_indexed label.organization ≡ true → ⊥
-not_in_order contents label records file usable is indexed =
-    let of_label : AreOf label contents (InOrder file) = subst (AreOf label contents) is usable.of_label in
-    true≢false (sym indexed ∙ of_label.plain)
-
 pub count_records : (contents : List (List ℕ)) (records : OpenRecords) → length (records_of records contents) ≡ count_of records
 count_records contents (InOrder file) = length_records file.record_length file.count (bytes_at file.sectors contents)
 count_records contents (ByKey file) = length_records (shown file).layout.record_length (shown file).count (bytes_at (shown file).sectors contents)

@@ -1,12 +1,12 @@
 -- An index that is looked through, entry by entry.
-use Rattle.std.proofs.Common.{Fits, w32, ◌≡◌, ℕ, zero, suc, ◌+◌, ◌-◌, ◌^◌, ◌<◌, ◌≤◌, ◌⊎◌, inl, inr, true, false, ◌==◌, List, [], ◌∷◌, length, map, slice_get, Some, refl, sym, ap, subst, ◌∙◌, arith}
+use Rattle.std.proofs.Common.{◌≡◌, ℕ, zero, suc, ◌+◌, ◌-◌, ◌^◌, ◌<◌, ◌≤◌, ◌⊎◌, inl, inr, true, ◌==◌, List, [], ◌∷◌, length, map, slice_get, Some, refl, sym, ap, subst, ◌∙◌, arith}
 use Rattle.std.proofs.Math.Nat.{one-le-pow}
-use Rattle.std.proofs.lemmas.Bool.{eqb-true, eq-eqb}
+use Rattle.std.proofs.lemmas.Bool.{eqb-true}
 use Rattle.std.proofs.lemmas.Bool.Decides.{nat_tests}
 use Rattle.std.specs.List.{range_with_len}
 use Rattle.std.specs.Ordering.{nat_cmp}
 use Rattle.std.specs.declared.cmp.Ordering.{Ordering}
-use Rattle.std.specs.declared.cmp.Ordering.TheVariants.{Less, Equal, Greater}
+use Rattle.std.specs.declared.cmp.Ordering.TheVariants.{Less, Equal}
 use Rattle.s3_keyed.specs.KeyOrder.{Entry}
 use Rattle.s3_keyed.specs.Inner.KeyOrder.{IsAscending}
 use Rattle.s3_keyed.proofs.Order.{IsGoodIndex}
@@ -105,16 +105,6 @@ none_short n k none = let some = one-le-pow k 256 (omega arith) in omega (arith,
 pub not_after : (entry : ℕ → Entry) (keys : List ℕ) (n j last key : ℕ) → j < n → 0 < j → last ≡ (entry (j - 1)).key → key ≡ (entry j).key → key ≤ last → IsGoodIndex (map entry (range_with_len 0 n)) keys → ⊥
 not_after entry keys n j last key below later is_last is_key le good = let up = good-ascends entry keys n (j - 1) j good (omega arith) below in omega arith
 
-pub not_in_range : (entry : ℕ → Entry) (keys : List ℕ) (n j number : ℕ) → j < n → number ≡ (entry j).number → length keys ≡ n → ((number ≡ 0) ⊎ (n < number)) → IsGoodIndex (map entry (range_with_len 0 n)) keys → ⊥
-not_in_range entry keys n j number below is long out good = let r = good-range entry keys n j good below in let low = r.0 in let high = r.1 in elim out [ inl none ↦ omega arith | inr above ↦ omega arith ]
-
-pub not_its_key : (entry : ℕ → Entry) (keys : List ℕ) (n j number key k : ℕ) → j < n → number ≡ (entry j).number → key ≡ (entry j).key → slice_get keys (number - 1) ≡ Some k → (k == key) ≡ false → IsGoodIndex (map entry (range_with_len 0 n)) keys → ⊥
-not_its_key entry keys n j number key k below is is_key read other good =
-    let there = good-keyed entry keys n j good below in
-    let some : Some k ≡ Some (entry j).key = sym read ∙ ap (λ m. slice_get keys (m - 1)) is ∙ there in
-    let same : k ≡ key = cc in
-    let t = eq-eqb k key same in cc
-
 pub its_key : (entry : ℕ → Entry) (keys : List ℕ) (j number key k : ℕ) → number ≡ (entry j).number → key ≡ (entry j).key → slice_get keys (number - 1) ≡ Some k → (k == key) ≡ true → slice_get keys ((entry j).number - 1) ≡ Some (entry j).key
 its_key entry keys j number key k is is_key read same = ap (λ m. slice_get keys (m - 1)) (sym is) ∙ read ∙ ap Some (eqb-true k key same ∙ is_key)
 
@@ -152,13 +142,6 @@ upper_half entry n middle k up more i from below = elim (below_or_at middle i (o
   | inr here ↦ subst (λ m. k < (entry m).key) here more
 ]
 
--- the same where an entry's key may be the one that is sought
-pub upper_half_from : (entry : ℕ → Entry) (n middle k : ℕ) → IsAscending entry n → k ≤ (entry middle).key → (i : ℕ) → middle ≤ i → i < n → k ≤ (entry i).key
-upper_half_from entry n middle k up more i from below = elim (below_or_at middle i (omega arith)) [
-  | inl before ↦ let step = up middle i before below in omega arith
-  | inr here ↦ subst (λ m. k ≤ (entry m).key) here more
-]
-
 pub not_found : (entry : ℕ → Entry) (n low high k : ℕ) → high ≤ low → ((i : ℕ) → i < low → (entry i).key < k) → ((i : ℕ) → high ≤ i → i < n → k < (entry i).key) → (i : ℕ) → i < n → (entry i).key ≡ k → ⊥
 not_found entry n low high k met below above i within same =
     elim (below_or_at_least i low) [
@@ -171,28 +154,12 @@ not_found entry n low high k met below above i within same =
     below_or_at_least zero (suc low) = inl (omega arith)
     below_or_at_least (suc i) (suc low) = elim (below_or_at_least i low) [ inl l ↦ inl (omega arith) | inr r ↦ inr (omega arith) ]
 
--- the entry that is compared next is one of the file, and fewer are left behind it or before it
-pub half_within : (i high entries capacity : ℕ) → i < high → high ≤ entries → entries ≤ capacity → i < capacity
-half_within i high entries capacity below within few = omega arith
-
-pub half_fits : (i high entries : ℕ) → i < high → high ≤ entries → Fits w32 entries → Fits w32 (i + 1)
-half_fits i high entries below within fits = omega arith
-
-pub less_behind : (low i high : ℕ) → low ≤ i → i < high → high - (i + 1) < high - low
-less_behind low i high from below = omega arith
-
-pub less_before : (low i high : ℕ) → low ≤ i → i < high → i - low < high - low
-less_before low i high from below = omega arith
-
 -- what a comparison says
 pub is_less : (a k : ℕ) (o : Ordering) → o ≡ nat_cmp a k → o ≡ Less → a < k
 is_less a k o is less = let h = sym is ∙ less in grind (arith, nat_tests)
 
 pub is_equal : (a k : ℕ) (o : Ordering) → o ≡ nat_cmp a k → o ≡ Equal → a ≡ k
 is_equal a k o is equal = let h = sym is ∙ equal in grind (arith, nat_tests)
-
-pub is_greater : (a k : ℕ) (o : Ordering) → o ≡ nat_cmp a k → o ≡ Greater → k < a
-is_greater a k o is greater = let h = sym is ∙ greater in grind (arith, nat_tests)
 
 -- the entry with the key is found
 pub is_found : (at : Entry) (k number : ℕ) → at.key ≡ k → at.number ≡ number → at ≡ record { key = k; number = number }

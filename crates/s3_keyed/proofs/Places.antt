@@ -72,9 +72,6 @@ entry_inside w j pos below =
 pub length_entry : (j k : ℕ) (sector entry : List ℕ) → length sector ≡ 256 → j < 256 / (k + 4) → entry ≡ part sector (j * (k + 4)) (k + 4) → length entry ≡ k + 4
 length_entry j k sector entry long inside is = ap length is ∙ length-part (j * (k + 4)) (k + 4) sector (omega (arith, entry_inside (k + 4) j (omega arith) inside))
 
-pub column_inside : (i per k width : ℕ) → width ≡ k → per ≡ entries_per_sector k → 0 < per → i % per < 256 / (width + 4)
-column_inside i per k width is per_is some = subst (λ w. i % per < 256 / (w + 4)) (sym is) (subst (λ n. i % per < n) per_is (omega arith))
-
 -- ---- parts of parts
 
 pub part_part : (a long start width : ℕ) (s : List ℕ) → start + width ≤ long → part (part s a long) start width ≡ part s (a + start) width

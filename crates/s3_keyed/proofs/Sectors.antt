@@ -135,9 +135,6 @@ strictly k a r is other le = let apart = sym is ∙ other in grind (arith, nat_t
 pub too_high : (keys : List ℕ) (e : Entry) (number count : ℕ) → number ≡ e.number → length keys ≡ count → count < number → IsOfRecord keys e → ⊥
 too_high keys e number count is long above of = omega (arith, of.within, is, long, above)
 
-pub not_any : (keys : List ℕ) (e : Entry) (number : ℕ) → number ≡ e.number → number ≡ 0 → IsOfRecord keys e → ⊥
-not_any keys e number is none of = omega (arith, of.some, is, none)
-
 pub of_another : (keys : List ℕ) (e : Entry) (number k : ℕ) → number ≡ e.number → slice_get keys (number - 1) ≡ Some k → (k == e.key) ≡ false → IsOfRecord keys e → ⊥
 of_another keys e number k is read other of =
     let some : Some k ≡ Some e.key = sym read ∙ ap (λ m. slice_get keys (m - 1)) is ∙ of.keyed in

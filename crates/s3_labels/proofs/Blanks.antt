@@ -1,9 +1,9 @@
 -- Sectors filled one after another.
-use Rattle.std.proofs.Common.{◌≡◌, ℕ, suc, ◌+◌, ◌≤◌, ◌<◌, List, ◌∷◌, length, slice_get, slice_set, Some, replicate, sym, ap, ◌∙◌, arith, inl, inr, ◌⊎◌}
+use Rattle.std.proofs.Common.{◌≡◌, ℕ, ◌+◌, ◌≤◌, ◌<◌, List, ◌∷◌, length, slice_get, slice_set, Some, replicate, sym, ap, ◌∙◌, arith, inl, inr, ◌⊎◌}
 use Rattle.std.proofs.lemmas.Bool.{cases_eq, cases_lt}
 use Rattle.std.proofs.lemmas.List.Elements.{Contains-append_cases}
 use Rattle.std.specs.Prelude.{Result, Ok, Err, OnOk, true}
-use Rattle.std.specs.List.{All, Contains, range_with_len}
+use Rattle.std.specs.List.{Contains, range_with_len}
 use Rattle.s3_store.proofs.Frames.{within_trans, within_weaker}
 use Rattle.s3_store.proofs.SectorLists.{slice_get_set_same, slice_get_set_other}
 use Rattle.s3_store.specs.Inner.State.{PoolState, ChangesWithin}
@@ -19,9 +19,6 @@ use Rattle.s3_labels.specs.Inner.Areas.{AreFilled, IsRecordOfDirect}
 -- the sectors from a first one up to n are this one
 pub record AreSet (sector : List ℕ) (start n : ℕ) (contents : List (List ℕ)) : Type 0 where
   pub each : (m : ℕ) → start ≤ m → m < n → slice_get contents m ≡ Some sector
-
-pub set_start : (sector : List ℕ) (start : ℕ) (contents : List (List ℕ)) → AreSet sector start start contents
-set_start sector start contents = record { each = λ m low high. absurd (omega (arith, low, high)) }
 
 pub set_on : (sector : List ℕ) (start n : ℕ) (contents new : List (List ℕ)) → n < length contents → new ≡ slice_set contents n sector → AreSet sector start n contents
     → AreSet sector start (n + 1) new
@@ -65,12 +62,6 @@ filled_more byte run runs s t filled within here = λ n h. elim (Contains-append
     | inr out ↦ within.contents n out ∙ filled n later
   ]
 ]
-
-pub all_first : {X : Type 0} (P : X → Type 0) (x : X) (xs : List X) → All P (x ∷ xs) → P x
-all_first P x xs all = all 0 x (omega arith)
-
-pub all_rest : {X : Type 0} (P : X → Type 0) (x : X) (xs : List X) → All P (x ∷ xs) → All P xs
-all_rest P x xs all = λ k d lt. all (suc k) d (omega (arith, lt))
 
 pub ok_map : {T E : Type 0} (P Q : Type 0) (result : Result T E) → (P → Q) → OnOk result P → OnOk result Q
 ok_map P Q (Ok x) f p = f p

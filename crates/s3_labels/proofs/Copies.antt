@@ -1,5 +1,5 @@
 -- Bytes copied one after another.
-use Rattle.std.proofs.Common.{◌≡◌, ℕ, zero, suc, ◌+◌, ◌≤◌, List, [], ◌∷◌, ◌++◌, length, drop, slice_get, Some, refl, sym, ap, ◌∙◌, arith, append_assoc}
+use Rattle.std.proofs.Common.{◌≡◌, ℕ, zero, suc, ◌+◌, List, [], ◌∷◌, ◌++◌, drop, slice_get, Some, refl, sym, ap, ◌∙◌, arith, append_assoc}
 use Rattle.std.proofs.lemmas.Grind.{flat_map-append}
 use Rattle.std.specs.List.{range_with_len, flat_map}
 use Rattle.s3_store.specs.Bytes.{sector_bytes, bytes_at}
@@ -8,9 +8,6 @@ use Rattle.s3_labels.specs.Inner.Images.{migrated_byte, migrated_bytes}
 -- ---- the migrated bytes up to a place
 pub record IsMigrating (bytes : List ℕ) (at : ℕ) (done : List ℕ) : Type 0 where
   pub rest : done ++ migrated_bytes at (drop at bytes) ≡ migrated_bytes 0 bytes
-
-pub migrating_start : (bytes : List ℕ) → IsMigrating bytes 0 []
-migrating_start bytes = record { rest = refl }
 
 drop_here : (bytes : List ℕ) (at byte : ℕ) → slice_get bytes at ≡ Some byte → drop at bytes ≡ byte ∷ drop (at + 1) bytes
 drop_here [] at byte h = absurd cc
@@ -26,15 +23,6 @@ migrating_on bytes at byte done here so = record {
 append_none : (xs : List ℕ) → xs ++ [] ≡ xs
 append_none [] = refl
 append_none (x ∷ xs) = ap (λ l. x ∷ l) (append_none xs)
-
-pub migrating_end : (bytes : List ℕ) (at : ℕ) (done : List ℕ) → length bytes ≤ at → IsMigrating bytes at done → done ≡ migrated_bytes 0 bytes
-migrating_end bytes at done all so = sym (append_none done) ∙ sym (ap (λ l. done ++ migrated_bytes at l) (drop_all bytes at all)) ∙ so.rest
-  where
-    drop_all : (xs : List ℕ) (i : ℕ) → length xs ≤ i → drop i xs ≡ []
-    drop_all [] zero h = refl
-    drop_all [] (suc i) h = refl
-    drop_all (x ∷ xs) zero h = absurd (omega (arith, h))
-    drop_all (x ∷ xs) (suc i) h = drop_all xs i (omega (arith, h))
 
 -- ---- sectors
 range_push : (a n : ℕ) → range_with_len a (n + 1) ≡ range_with_len a n ++ (a + n) ∷ []

@@ -25,7 +25,3 @@ pub way_on : (format : Format) (region : Stretch) (area : ℕ) (contents : List 
 way_on format region area contents i slots slot h way is = record {
   rest = rw is (sym (ap (λ l. judged_behind format region slots (map (slot_bytes area contents) l)) (range_more i 32 h)) ∙ way.rest);
 }
-
-pub way_end : (format : Format) (region : Stretch) (area : ℕ) (contents : List (List ℕ)) (slots : List Slot) → IsOnTheWay format region area contents 32 slots
-    → slots ≡ slots_of format region area contents
-way_end format region area contents slots way = way.rest

@@ -10,7 +10,8 @@
 //! - `is_reserved`: a name is one that the language has itself exactly where it is UDATE, UMONTH, UDAY, UYEAR or PAGE;
 //! - `Indicator::number` and `Indicator::is`: the number of an indicator, below 2,048, and whether two indicators are the same;
 //! - `FileLine::is_primary`, `FileLine::is_secondary`, `FileLine::is_by_cycle` and `FileLine::is_chained`: the designation of a
-//!   file; `FileUse`, `Device` and `FileLine::is_only_read`: whether it is the one that is asked for.
+//!   file; `FileLine::is_only_read`: whether a program does nothing but read it; and of `FileUse` and `Device` which use and which
+//!   device a file has.
 //!
 //! Nothing is left to tests alone.
 

@@ -13,11 +13,6 @@ use Rattle.s3_cells.specs.declared.field.Field.{Field}
 use Rattle.s3_unload.specs.Inner.Tables.{name_text}
 use Rattle.s3_load.specs.Inner.Columns.{AddsColumn, AreNamed, IsNamed, LieApart, bare, is_clear, is_covered, is_inside, is_number, left_out, overlap}
 
--- what has one more isn't empty
-pub more_is_some : {X : Type 0} (xs ys : List X) (x : X) (P : Type 0) → ys ≡ xs ++ x ∷ [] → ys ≡ [] → P
-more_is_some [] ys x P e none = absurd cc
-more_is_some (y ∷ xs) ys x P e none = absurd cc
-
 pub none_told : {X : Type 0} (xs : List X) (P : Type 0) → 0 < length xs → xs ≡ [] → P
 none_told xs P some none = absurd (omega (arith, some, ap length none))
 

@@ -117,10 +117,6 @@ passes_head program files group last behind least k m n d sound within same next
     (before ∙ ap (λ (m : ℕ). least_in program group last behind (drop m files)) next)
     ∙ sym (at_drop_more (least_in program group last behind) files k d within) ∙ ap (λ (m : ℕ). least_in program group last behind (drop m files)) (sym same)
 
-pub least_of_all : (program : Program) (files : List InputFile) (group : Group) (last : Option (List ℕ)) (behind least : Option Selected) (n : ℕ) → n ≡ 0 → least ≡ least_in program group last behind (drop n files)
-    → least ≡ least_in program group last behind files
-least_of_all program files group last behind least n e before = before ∙ ap (λ (m : ℕ). least_in program group last behind (drop m files)) e
-
 -- ---- the first head without a key
 abbrev pub without_key : Selected → Bool
 without_key selected = not (is_some (key_of selected))
@@ -242,11 +238,6 @@ pub alone_is : (files : List InputFile) (d : InputFile) → length files ≡ 1 �
 alone_is [] d one = absurd (omega (arith, one))
 alone_is (input ∷ []) d one = refl
 alone_is (input ∷ other ∷ files) d one = absurd (omega (arith, one))
-
-pub not_alone : (files : List InputFile) → (length files ≡ 1 → ⊥) → false ≡ is_keyless_alone files
-not_alone [] more = refl
-not_alone (input ∷ []) more = absurd (more refl)
-not_alone (input ∷ other ∷ files) more = refl
 
 pub selects_by_key : (program : Program) (files : List InputFile) (key : RecordKey) (met : Bool) (first : Option ℕ) (selected : Option Selected) → met ≡ has_met_end (inputs_of program files) → met ≡ false
     → standing_at program files first ≡ keyless_in program files → is_some first ≡ false → selected ≡ least (primary_first (heads program files)) → selected ≡ meaning.select (reading_of program files key)

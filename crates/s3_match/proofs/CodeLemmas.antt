@@ -59,8 +59,5 @@ first_here p xs k d within before passes = before ∙ at_drop_more (find p) xs k
 pub first_later : {X : Type 0} (p : X → Bool) (xs : List X) (k : ℕ) (d : X) → k < length xs → find p xs ≡ find p (drop k xs) → p (get_or xs k d) ≡ false → find p xs ≡ find p (drop (k + 1) xs)
 first_later p xs k d within before fails = before ∙ at_drop_more (find p) xs k d within ∙ ap (λ (b : Bool). if b then Some (get_or xs k d) else find p (drop (k + 1) xs)) fails
 
-pub first_nowhere : {X : Type 0} (p : X → Bool) (xs : List X) (k : ℕ) → length xs ≤ k → find p xs ≡ find p (drop k xs) → find p xs ≡ None
-first_nowhere p xs k past before = before ∙ at_drop_all (find p) xs k past
-
 pub first_passes : {X : Type 0} (p : X → Bool) (xs : List X) (d : X) → 0 < length xs → p (get_or xs 0 d) ≡ true → Some (get_or xs 0 d) ≡ find p xs
 first_passes p xs d within passes = sym (first_here p xs 0 d within refl passes)

@@ -1,5 +1,5 @@
 -- What fields compare, byte by byte.
-use Rattle.std.proofs.Common.{◌≡◌, ℕ, ◌+◌, ◌-◌, ◌*◌, ◌/◌, ◌%◌, ◌<◌, ◌≤◌, ◌++◌, ◌==◌, ◌&&◌, ◌||◌, length, drop, take, get_or, List, [], ◌∷◌, Bool, true, false, refl, sym, ◌∙◌, ap, append_assoc, arith}
+use Rattle.std.proofs.Common.{◌≡◌, ℕ, ◌+◌, ◌-◌, ◌*◌, ◌/◌, ◌%◌, ◌<◌, ◌≤◌, ◌++◌, ◌&&◌, length, drop, take, get_or, List, [], ◌∷◌, true, false, refl, sym, ◌∙◌, ap, append_assoc, arith}
 use Rattle.std.specs.Prelude.{nat_lt, nat_le, slice_index, slice_range}
 use Rattle.std.proofs.lemmas.Bool.{and_parts}
 use Rattle.std.proofs.lemmas.Bool.Decides.{nat_tests}
@@ -28,36 +28,6 @@ pub at_end : (f : List ℕ → List ℕ) (items all bytes : List ℕ) (k : ℕ) 
 at_end f items all bytes k none past e = sym (append-nil items) ∙ ap (λ (xs : List ℕ). items ++ xs) (sym (at_drop_all f bytes k past ∙ none)) ∙ e
 
 -- ---- the order of keys
--- at a byte of both, at a byte of the first alone, and behind its last
-below_here : (a b : ℕ) (as' bs : List ℕ) → is_below (a ∷ as') (b ∷ bs) ≡ (nat_lt a b || a == b && is_below as' bs)
-below_here a b as' bs = refl
-
-both_at : (left right : List ℕ) (k d d' : ℕ) → k < length left → k < length right
-    → is_below (drop k left) (drop k right) ≡ (nat_lt (get_or left k d) (get_or right k d') || get_or left k d == get_or right k d' && is_below (drop (k + 1) left) (drop (k + 1) right))
-both_at left right k d d' here there =
-    at_drop_more (λ (xs : List ℕ). is_below xs (drop k right)) left k d here
-    ∙ at_drop_more (λ (ys : List ℕ). is_below (get_or left k d ∷ drop (k + 1) left) ys) right k d' there
-
-pub differs_here : (left right : List ℕ) (k d d' : ℕ) → k < length left → k < length right → is_below left right ≡ is_below (drop k left) (drop k right)
-    → (get_or left k d == get_or right k d') ≡ false → nat_lt (get_or left k d) (get_or right k d') ≡ is_below left right
-differs_here left right k d d' here there before differ =
-    sym (before ∙ both_at left right k d d' here there
-    ∙ ap (λ (b : Bool). nat_lt (get_or left k d) (get_or right k d') || b && is_below (drop (k + 1) left) (drop (k + 1) right)) differ ∙ or_nothing (nat_lt (get_or left k d) (get_or right k d')))
-  where
-    or_nothing : (b : Bool) → (b || false) ≡ b
-    or_nothing true = refl
-    or_nothing false = refl
-
-pub same_here : (left right : List ℕ) (k d d' : ℕ) → k < length left → k < length right → is_below left right ≡ is_below (drop k left) (drop k right)
-    → (get_or left k d == get_or right k d') ≡ true → is_below left right ≡ is_below (drop (k + 1) left) (drop (k + 1) right)
-same_here left right k d d' here there before same =
-    before ∙ both_at left right k d d' here there
-    ∙ ap (λ (b : Bool). b || get_or left k d == get_or right k d' && is_below (drop (k + 1) left) (drop (k + 1) right)) (not_lower (get_or left k d) (get_or right k d') same)
-    ∙ ap (λ (b : Bool). b && is_below (drop (k + 1) left) (drop (k + 1) right)) same
-  where
-    not_lower : (a b : ℕ) → (a == b) ≡ true → nat_lt a b ≡ false
-    not_lower a b h = grind (arith, nat_tests, h)
-
 pub longer_left : (left right : List ℕ) (k d : ℕ) → k < length left → length right ≤ k → is_below left right ≡ is_below (drop k left) (drop k right) → false ≡ is_below left right
 longer_left left right k d here past before =
     sym (before ∙ at_drop_more (λ (xs : List ℕ). is_below xs (drop k right)) left k d here ∙ at_drop_all (λ (ys : List ℕ). is_below (get_or left k d ∷ drop (k + 1) left) ys) right k past)

@@ -1,14 +1,12 @@
 -- Match and control fields as they are prepared.
-use Rattle.std.proofs.Common.{◌≡◌, ℕ, zero, suc, length, get_or, replicate, set, ◌==◌, ◌+◌, ◌-◌, ◌<◌, ◌≤◌, ◌&&◌, ◌++◌, List, [], ◌∷◌, Bool, true, false, refl, sym, ◌∙◌, ap, subst, arith}
-use Rattle.std.specs.Prelude.{Option, Some, None, IsTrue, IfSome, is_some, find, nat_le, option_map, slice_get, unwrap_or, if◌then◌else◌}
+use Rattle.std.proofs.Common.{◌≡◌, ℕ, zero, suc, length, get_or, replicate, set, ◌==◌, ◌+◌, ◌-◌, ◌<◌, ◌≤◌, ◌++◌, List, [], ◌∷◌, Bool, true, false, refl, sym, ◌∙◌, ap, subst, arith}
+use Rattle.std.specs.Prelude.{Option, Some, None, IsTrue, IfSome, is_some, find, option_map, slice_get, unwrap_or, if◌then◌else◌}
 use Rattle.std.specs.List.{All}
-use Rattle.std.proofs.lemmas.Bool.{and_parts, true≢false}
+use Rattle.std.proofs.lemmas.Bool.{true≢false}
 use Rattle.std.proofs.lemmas.Bool.Decides.{nat_tests}
 use Rattle.std.proofs.lemmas.List.Elements.{All-append}
 use Rattle.s3_cards.specs.declared.name.Name.{Name}
 use Rattle.s3_lines.specs.declared.sheet.FieldLine.{FieldLine}
-use Rattle.s3_lines.specs.Inner.Ranges.{field_in_range}
-use Rattle.s3_lines.specs.Ranges.{shape_in_range, shape_of_positions}
 use Rattle.s3_meaning.specs.Source.{own_fields}
 use Rattle.s3_meaning.specs.Selection.{compared_field, control_value}
 use Rattle.s3_program.specs.declared.mark.Key.{Key}
@@ -25,16 +23,6 @@ use Rattle.s3_match.specs.Inner.Holding.{value_by}
 use Rattle.s3_match.proofs.KeyLemmas.{control_is}
 
 -- ---- one field
-pub range_kept : {N : Type 0} (field : FieldLine N) → field_in_range field ≡ true → is_ranged (prepared field) ≡ true
-range_kept field ranged =
-    let four = (and_parts _ _ (and_parts _ _ (and_parts _ _ (and_parts _ _ ranged).0).0).0).0 in
-    let three = and_parts (nat_le 1 field.from && nat_le field.from field.to) (shape_in_range (shape_of_positions field.form (field.to + 1 - field.from))) four in
-    λ i. (and_parts (nat_le 1 field.from) (nat_le field.from field.to) three.0).0 i && three.1 i
-
-pub prepared_named : (program : Program) (o : Option (FieldLine Reference)) (named : Option (FieldLine Name)) → option_map (named_field program) o ≡ named → option_map prepared o ≡ option_map prepared named
-prepared_named program None named e = ap (option_map prepared) e
-prepared_named program (Some field) named e = ap (option_map prepared) e
-
 pub none_named : (program : Program) (o : Option (FieldLine Reference)) (named : Option (FieldLine Name)) → option_map (named_field program) o ≡ named → is_some o ≡ is_some named
 none_named program None named e = ap is_some e
 none_named program (Some field) named e = ap is_some e

@@ -1,12 +1,10 @@
 -- What is told once of a program's records: the only types of files, and the numbers of record identifying indicators.
-use Rattle.std.proofs.Common.{◌≡◌, ℕ, ◌<◌, ◌++◌, length, get_or, map, take, List, [], ◌∷◌, true, refl, sym, ◌∙◌, ap, subst, inl, inr, arith}
-use Rattle.std.specs.Prelude.{Option, Some, None, is_some, nat_lt, option_map, unwrap_or}
+use Rattle.std.proofs.Common.{◌≡◌, ℕ, ◌<◌, ◌++◌, length, get_or, map, List, [], ◌∷◌, true, refl, sym, ◌∙◌, ap, arith}
+use Rattle.std.specs.Prelude.{Option, Some, None, is_some, option_map, unwrap_or}
 use Rattle.std.specs.List.{cons_option}
-use Rattle.std.proofs.lemmas.Bool.{true≢false, cases_Bool}
-use Rattle.std.proofs.lemmas.Bool.Decides.{nat_tests}
-use Rattle.std.proofs.lemmas.List.{map-append, length-map, get_or-map, get_or_append_left, length_push}
+use Rattle.std.proofs.lemmas.Bool.{true≢false}
+use Rattle.std.proofs.lemmas.List.{map-append, length-map, get_or-map}
 use Rattle.std.proofs.lemmas.List.Elements.{All-push, filter_map-append}
-use Rattle.std.proofs.Math.Seq.{get_or-append_seam}
 use Rattle.s3_lines.specs.Indicators.{indicator_number}
 use Rattle.s3_lines.specs.declared.indicator.Indicator.{Indicator}
 use Rattle.s3_lines.specs.declared.sheet.InputLine.{InputLine}
@@ -29,25 +27,7 @@ only_found program file bytes (Some start) is some = is bytes
 abbrev pub Each : Program → List (Option TypeStart) → Type 0
 Each program types = (file : ℕ) (d : Option TypeStart) → file < length types → IsOnlyType program file (get_or types file d)
 
-pub no_only : (program : Program) → Each program []
-no_only program = λ file d within. absurd (omega (arith, within))
-
-pub one_more_only : (program : Program) (types : List (Option TypeStart)) (only : Option TypeStart) (count : ℕ) → length types ≡ count → IsOnlyType program count only → Each program types
-    → Each program (types ++ only ∷ [])
-one_more_only program types only count many is before = λ file d within. elim (cases_Bool (nat_lt file (length types))) [
-  | inl below ↦
-      let h : file < length types = grind (arith, nat_tests, below) in
-      subst (IsOnlyType program file) (sym (get_or_append_left types (only ∷ []) d file h)) (before file d h)
-  | inr last ↦
-      let same : file ≡ length types = grind (arith, nat_tests, last, within, length_push types only) in
-      subst (λ (k : ℕ). IsOnlyType program k (get_or (types ++ only ∷ []) k d)) (sym same)
-      (subst (IsOnlyType program (length types)) (sym (get_or-append_seam types only [] d)) (subst (λ (k : ℕ). IsOnlyType program k only) (sym many) is))
-]
-
 -- ---- numbers
-pub no_numbers : (lines : List (InputLine Reference)) → AreNumbersOf (take 0 lines) []
-no_numbers lines = record { numbered = refl; within = λ k d within. absurd (omega (arith, within)) }
-
 indicators_more : (lines : List (InputLine Reference)) (line : InputLine Reference) → indicators_on (lines ++ line ∷ []) ≡ indicators_on lines ++ cons_option (indicator_on line) []
 indicators_more lines line = filter_map-append indicator_on lines (line ∷ [])
 
@@ -75,9 +55,6 @@ no_more_numbers lines numbers line is before = record {
     ends (x ∷ xs) = ap (λ ys. x ∷ ys) (ends xs)
 
 -- ---- by lines
-pub no_line_numbers : (lines : List (InputLine Reference)) → AreLineNumbers (take 0 lines) []
-no_line_numbers lines = record { numbered = refl; within = λ k d within. absurd (omega (arith, within)) }
-
 pub one_more_line : (lines : List (InputLine Reference)) (numbers : List ℕ) (line : InputLine Reference) (number : ℕ) → number ≡ number_on line → number < 2048
     → AreLineNumbers lines numbers → AreLineNumbers (lines ++ line ∷ []) (numbers ++ number ∷ [])
 one_more_line lines numbers line number is few before = record {

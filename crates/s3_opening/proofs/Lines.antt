@@ -6,8 +6,8 @@ use Rattle.std.specs.List.{list_all}
 use Rattle.s3_cards.specs.declared.levels.LevelId.{LevelId}
 use Rattle.s3_lines.specs.declared.sheet.FileLine.{FileLine}
 use Rattle.s3_store.specs.Inner.State.{PoolState, KeepsContents}
-use Rattle.s3_store.proofs.Frames.{keeps_refl, keeps_trans}
-use Rattle.s3_labels.specs.Inner.Areas.{Areas, IsReady as IsPackReady}
+use Rattle.s3_store.proofs.Frames.{keeps_trans}
+use Rattle.s3_labels.specs.Inner.Areas.{Areas}
 use Rattle.s3_job_files.specs.Inner.Holds.{seen}
 use Rattle.s3_opening.specs.declared.fault.OpeningFault.{OpeningFault}
 use Rattle.s3_opening.specs.declared.starts.Start.{Start}
@@ -24,10 +24,6 @@ pub record IsTesting (level : LevelId) (settings : Settings) (lines : List FileL
   pub failures : t.failures ≡ s.failures
   pub right : AreRight level (seen areas s.contents) starts
 
-pub testing_start : (level : LevelId) (settings : Settings) (lines : List FileLine) (areas : Areas) (s : PoolState) (old : List Start) → AreRight level (seen areas s.contents) old
-    → IsTesting level settings lines areas areas s s old old 0
-testing_start level settings lines areas s old right = record { rest = refl; areas_same = refl; keeps = keeps_refl s; failures = refl; right = right }
-
 drop_at : (lines : List FileLine) (i : ℕ) (line : FileLine) → slice_get lines i ≡ Some line → drop i lines ≡ line ∷ drop (i + 1) lines
 drop_at [] i line h = absurd cc
 drop_at (first ∷ lines) zero line h = let same : first ≡ line = cc in rw same refl
@@ -35,14 +31,6 @@ drop_at (first ∷ lines) (suc i) line h = let e : suc i + 1 ≡ suc (i + 1) = o
 
 same_seen : (areas now : Areas) (s t : PoolState) → now ≡ areas → KeepsContents s t → seen now t.contents ≡ seen areas s.contents
 same_seen areas now s t same keeps = ap₂ seen same keeps.contents
-
-pub testing_ready : (level : LevelId) (settings : Settings) (lines : List FileLine) (areas now : Areas) (s t : PoolState) (old starts : List Start) (i : ℕ) → IsTesting level settings lines areas now s t old starts i
-    → IsPackReady areas s.contents → IsPackReady now t.contents
-testing_ready level settings lines areas now s t old starts i so ready = subst (λ one. IsPackReady one.areas one.contents) (sym (same_seen areas now s t so.areas_same so.keeps)) ready
-
-pub testing_right : (level : LevelId) (settings : Settings) (lines : List FileLine) (areas now : Areas) (s t : PoolState) (old starts : List Start) (i : ℕ) → IsTesting level settings lines areas now s t old starts i
-    → AreRight level (seen now t.contents) starts
-testing_right level settings lines areas now s t old starts i so = subst (λ one. AreRight level one starts) (sym (same_seen areas now s t so.areas_same so.keeps)) so.right
 
 pub testing_on : (level : LevelId) (settings : Settings) (lines : List FileLine) (areas now after : Areas) (s t u : PoolState) (old starts more : List Start) (i : ℕ) (line : FileLine)
     → IsTesting level settings lines areas now s t old starts i → slice_get lines i ≡ Some line → tested_lines level (seen now t.contents) settings (line ∷ []) (map step_in starts) ≡ passed (map step_in more)

@@ -13,7 +13,7 @@ use Rattle.s3_operator.specs.declared.halt_code.HaltCode.{HaltCode}
 use Rattle.s3_store.specs.Inner.State.{PoolState, KeepsContents}
 use Rattle.s3_store.specs.declared.sector_fault.SectorFault.{SectorFault}
 use Rattle.s3_store.specs.declared.stretch.Stretch.{Stretch}
-use Rattle.s3_slots.specs.Inner.Making.{and_then, planned, IsNewFile}
+use Rattle.s3_slots.specs.Inner.Making.{and_then, planned}
 use Rattle.s3_slots.specs.Making.{made, made as made_by, new_label}
 use Rattle.s3_slots.specs.Slots.{standing}
 use Rattle.s3_slots.specs.declared.header.Format.{Format}
@@ -255,17 +255,6 @@ readies_if_made level name new label areas new_areas old t u (Err fault) is keep
 -- ---- a start by its kind
 pub readies_open : (level : LevelId) (start : Start) (file : OpenFile) (s : Seen) → start ≡ Opened file → IsRight level s start → Readies level start file s s
 readies_open level start file s is right = subst (λ one. Readies level one file s s) (sym is) (readies_opened level file s (subst (IsRight level s) is right))
-
-pub readies_make : (level : LevelId) (start : Start) (name : Name) (new : NewFile) (old later : Seen) (result : Result OpenFile SectorFault) → start ≡ ToMake name new
-    → IfOk result (λ file. Readies level (ToMake name new) file old later) → IfOk result (λ file. Readies level start file old later)
-readies_make level start name new old later result is readies = subst (λ one. IfOk result (λ file. Readies level one file old later)) (sym is) readies
-
-pub make_proper : (level : LevelId) (start : Start) (name : Name) (new : NewFile) (s : Seen) → start ≡ ToMake name new → IsRight level s start → IsNewFile new
-make_proper level start name new s is right = subst (IsRight level s) is right
-
-pub make_there : (level : LevelId) (areas : Areas) (start : Start) (name : Name) (new : NewFile) → start ≡ ToMake name new → IsPlanned level areas (step_in start ∷ [])
-    → IsOk (made areas.header.format (region_at level areas) areas.masters new (slots_at level areas))
-make_there level areas start name new is ok = make_planned level areas name new (subst (λ one. IsPlanned level areas (step_in one ∷ [])) is ok)
 
 -- ---- it comes behind the others
 labels_pushed : (items later : List OpenFile) (file : OpenFile) (label : Name) → later ≡ items ++ file ∷ [] → file.label.name ≡ label → labels_open later ≡ labels_open items ++ label ∷ []

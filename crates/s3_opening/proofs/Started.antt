@@ -13,8 +13,8 @@ use Rattle.s3_store.specs.declared.sector_fault.SectorFault.{SectorFault}
 use Rattle.s3_store.specs.declared.sector_fault.SectorFault.TheVariants.{Device, NoMemory}
 use Rattle.s3_store.proofs.Frames.{step_from_keeps, step_trans}
 use Rattle.s3_labels.specs.Inner.Areas.{Areas, region_at, slots_at, with_slots, IsReady as IsPackReady}
-use Rattle.s3_job_files.specs.Files.{Files, FilesInUse}
-use Rattle.s3_job_files.specs.Inner.Holds.{Seen, seen, Holds, HoldsFiles, IsOutOfReach}
+use Rattle.s3_job_files.specs.Files.{Files}
+use Rattle.s3_job_files.specs.Inner.Holds.{Seen, seen, HoldsFiles, IsOutOfReach}
 use Rattle.s3_job_files.specs.declared.file.OpenFile.{OpenFile}
 use Rattle.s3_job_files.specs.declared.job_files.JobFiles.{JobFiles}
 use Rattle.s3_job_files.proofs.Starting.{ready_none}
@@ -23,10 +23,10 @@ use Rattle.s3_opening.specs.declared.fault.OpeningFault.TheVariants.{Halted, Sec
 use Rattle.s3_opening.specs.declared.starts.Start.{Start}
 use Rattle.s3_opening.specs.Asked.{is_used}
 use Rattle.s3_opening.specs.Opening.{Settings, none_in_use, opened}
-use Rattle.s3_opening.specs.Inner.OpenFiles.{HoldsStarted, IfHalted, StartsAs}
+use Rattle.s3_opening.specs.Inner.OpenFiles.{IfHalted, StartsAs}
 use Rattle.s3_opening.specs.Inner.Starting.{AreStartsOf, CanStart}
 use Rattle.s3_opening.specs.Inner.Starts.{step_in, failed_opening, first_refusal, AreRight, Comes, PlansTo, TestsTo}
-use Rattle.s3_opening.specs.Inner.Tests.{Step, Tested, news_of, passed, taken, tested_lines}
+use Rattle.s3_opening.specs.Inner.Tests.{Step, Tested, news_of, passed, tested_lines}
 use Rattle.s3_opening.proofs.OfLines.{starts_new, starts_of_lines}
 use Rattle.s3_opening.proofs.Plans.{comes, with_value}
 
@@ -112,15 +112,6 @@ pub can_after : (level : LevelId) (areas now : Areas) (s t : PoolState) (items :
 can_after level areas now s t items starts same keeps none can =
     subst (λ (list : List OpenFile). CanStart level list (seen now t.contents) starts) (sym none) (subst (λ one. CanStart level [] one starts) (sym (ap₂ seen same keeps.contents)) can)
 
-pub starts_as : (level : LevelId) (areas now : Areas) (s t : PoolState) (pack : Seen) (settings : Settings) (lines : List FileLine) (starts : List Start) (items : List OpenFile) (job_files : JobFiles) → now ≡ areas → KeepsContents s t
-    → items ≡ [] → ((files : Files) → HoldsFiles level [] (seen areas s.contents) files → opened settings lines files ≡ taken (map step_in starts) (none_in_use files))
-    → ((in_use : FilesInUse) → Holds level items (seen now t.contents) in_use → HoldsStarted level job_files.files.items pack (taken (map step_in starts) in_use))
-    → (files : Files) → HoldsFiles level [] (seen areas s.contents) files → StartsAs level pack (opened settings lines files) (Ok job_files)
-starts_as level areas now s t pack settings lines starts items job_files same keeps none meant holds files held =
-    subst (HoldsStarted level job_files.files.items pack) (sym (meant files held))
-    (holds (none_in_use files) (subst (λ (list : List OpenFile). Holds level list (seen now t.contents) (none_in_use files)) (sym none)
-    (subst (λ one. Holds level [] one (none_in_use files)) (sym (ap₂ seen same keeps.contents)) (record { files = held; job_files = refl }))))
-
 pub halts_as : {T : Type 0} (level : LevelId) (old pack : Seen) (settings : Settings) (lines : List FileLine) (shown : T → List Step) (fault : OpeningFault)
     → ((files : Files) → HoldsFiles level [] old files → Comes shown (none_in_use files) (opened settings lines files) (Err fault))
     → (files : Files) → HoldsFiles level [] old files → StartsAs level pack (opened settings lines files) (Err fault)
@@ -133,16 +124,9 @@ pub halts_result : {T : Type 0} (level : LevelId) (old pack : Seen) (settings : 
 halts_result level old pack settings lines shown fault result is meant files held =
     subst (StartsAs level pack (opened settings lines files)) (sym is) (halts_as level old pack settings lines shown fault meant files held)
 
-pub faults_as : (level : LevelId) (old pack : Seen) (settings : Settings) (lines : List FileLine) (fault : SectorFault) (refusal : OpeningFault) → refusal ≡ Sectors fault
-    → (files : Files) → HoldsFiles level [] old files → StartsAs level pack (opened settings lines files) (Err refusal)
-faults_as level old pack settings lines fault refusal is files held = subst (λ r. StartsAs level pack (opened settings lines files) (Err r)) (sym is) tt
-
 pub if_halted : (fault : OpeningFault) (P : Type 0) → P → IfHalted fault P
 if_halted (Halted code) P p = p
 if_halted (Sectors fault) P p = tt
-
-pub not_halted : (fault : SectorFault) (refusal : OpeningFault) (P : Type 0) → refusal ≡ Sectors fault → IfHalted refusal P
-not_halted fault refusal P is = subst (λ r. IfHalted r P) (sym is) tt
 
 same_slots : (level : LevelId) (areas : Areas) → areas ≡ with_slots level (slots_at level areas) areas
 same_slots One areas = refl

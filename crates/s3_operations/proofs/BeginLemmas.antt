@@ -52,9 +52,6 @@ pub power_some : (n : ℕ) → 0 < 10 ^ n
 power_some zero = omega arith
 power_some (suc n) = omega (arith, power_some n)
 
-pub no_zeros : IsZeros [] [] []
-no_zeros = record { numbers = refl; forms = refl }
-
 pub zeros_more : (fields : List (Defined Shape)) (k : ℕ) (d : Defined Shape) (zeros zeros' : List ℤ) (of of' : List Form) (form : Form) → k < length fields → IsZeros (take k fields) zeros of
     → digits_and_decimals form ≡ form_in_shape (get_or fields k d).meaning → zeros' ≡ zeros ++ pos 0 ∷ [] → of' ≡ of ++ form ∷ [] → IsZeros (take (k + 1) fields) zeros' of'
 zeros_more fields k d zeros zeros' of of' form within before is more_zeros more_forms =

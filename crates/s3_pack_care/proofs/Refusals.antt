@@ -127,9 +127,6 @@ module _ (area : ℕ) (name : Name) (source : FileLabel) (areas : Areas) (format
   pub room_refused : (fault : LabelFault) → made format region masters new slots ≡ Err fault → RefusesRoom area name source areas (Label fault)
   room_refused fault h = forbids fault (made_refused format region masters new slots fault absent_there h)
 
-pub memory_room : (area : ℕ) (name : Name) (source : FileLabel) (areas : Areas) (fault : CareFault) → fault ≡ NoMemory → RefusesRoom area name source areas fault
-memory_room area name source areas fault h = subst (RefusesRoom area name source areas) (sym h) tt
-
 -- ---- a copy
 module _ (from_area : ℕ) (name : Name) (area : ℕ) (new_name : Name) (from old : List (List ℕ)) where
   pub source_refuses : (fault : CareFault) → RefusesSource from_area name from fault → RefusesCopy from_area name area new_name from old fault

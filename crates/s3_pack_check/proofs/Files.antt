@@ -1,5 +1,5 @@
 -- The files of a pack that is ready, and their bytes.
-use Rattle.std.proofs.Common.{◌≡◌, ℕ, zero, suc, ◌*◌, ◌<◌, Bool, true, false, List, [], ◌∷◌, ◌++◌, length, take, drop, slice_get, Option, Some, None, Result, Ok, Err, if◌then◌else◌, refl, sym, ap, ◌∙◌, arith, length-append}
+use Rattle.std.proofs.Common.{◌≡◌, ℕ, zero, suc, ◌*◌, ◌<◌, Bool, true, false, List, [], ◌∷◌, ◌++◌, length, take, drop, slice_get, Some, None, Result, Ok, Err, if◌then◌else◌, refl, sym, ap, ◌∙◌, arith, length-append}
 use Rattle.std.specs.List.{flat_map}
 use Rattle.s3_cards.specs.declared.levels.LevelId.TheVariants.{One, Two}
 use Rattle.s3_store.specs.Bytes.{bytes_at, part, sector_bytes}
@@ -16,7 +16,6 @@ use Rattle.s3_keyed.specs.declared.fault.KeyedFault.TheVariants.{BadIndex}
 use Rattle.s3_pack_check.specs.Inner.Entries.{first_fault}
 use Rattle.s3_pack_check.specs.Inner.Wrongs.{index_cause, is_good}
 use Rattle.s3_pack_check.specs.declared.checking.Cause.TheVariants.{Index}
-use Rattle.s3_pack_check.specs.declared.entries.WrongEntry.{WrongEntry}
 
 -- the label of a sound slot of an area is one that the pack has
 pub area_on_pack : (area : ℕ) (areas : Areas) (contents : List (List ℕ)) (i : ℕ) (label : FileLabel) → area < 3 → slice_get (slots_in area areas) i ≡ Some (Sound label) → IsReady areas contents
@@ -57,18 +56,8 @@ good_if : (good : Bool) → answer good ≡ Ok tt → good ≡ true
 good_if true h = refl
 good_if false h = absurd cc
 
-bad_if : (good : Bool) → answer good ≡ Err BadIndex → good ≡ false
-bad_if true h = absurd cc
-bad_if false h = refl
-
 pub no_cause : (label : FileLabel) (contents : List (List ℕ)) → answer (is_good label contents) ≡ Ok tt → index_cause label contents ≡ None
 no_cause label contents h = ap (λ good. if good then None else Some (Index (first_fault label (bytes_at (sectors_of label) contents)))) (good_if (is_good label contents) h)
-
-pub some_cause : (label : FileLabel) (contents : List (List ℕ)) (bytes : List ℕ) (first : Option WrongEntry) → answer (is_good label contents) ≡ Err BadIndex → bytes ≡ bytes_at (sectors_of label) contents
-    → first ≡ first_fault label bytes → index_cause label contents ≡ Some (Index first)
-some_cause label contents bytes first h is is_first =
-    ap (λ good. if good then None else Some (Index (first_fault label (bytes_at (sectors_of label) contents)))) (bad_if (is_good label contents) h)
-    ∙ ap (λ f. Some (Index f)) (sym (is_first ∙ ap (first_fault label) is))
 
 -- a Vec of as many bytes as a file has, once these were read into it
 pub filled : (of sectors : List ℕ) (contents : List (List ℕ)) (items new : List ℕ) (len w : ℕ) → of ≡ sectors → new ≡ part (bytes_at of contents) 0 w → w ≡ 256 * length sectors → len ≡ w

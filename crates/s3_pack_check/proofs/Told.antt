@@ -1,5 +1,5 @@
 -- What is told of a pack: of each slot, of an area, and nothing of a pack that is sound.
-use Rattle.std.proofs.Common.{◌≡◌, ℕ, zero, suc, ◌+◌, ◌-◌, ◌<◌, ◌≤◌, Bool, true, false, List, [], ◌∷◌, ◌++◌, slice_get, Option, Some, None, Result, Ok, if◌then◌else◌, refl, sym, ap, ap₂, ◌∙◌, subst, arith, append_assoc}
+use Rattle.std.proofs.Common.{◌≡◌, ℕ, zero, suc, ◌+◌, ◌-◌, ◌<◌, ◌≤◌, Bool, true, false, List, [], ◌∷◌, ◌++◌, slice_get, Option, Some, None, Result, if◌then◌else◌, refl, sym, ap, ap₂, ◌∙◌, subst, arith, append_assoc}
 use Rattle.std.specs.List.{flat_map, range_with_len}
 use Rattle.s3_cards.specs.declared.name.Name.{Name}
 use Rattle.s3_slots.proofs.Ranges.{range_more}
@@ -11,7 +11,7 @@ use Rattle.s3_slots.specs.declared.slot.Slot.{Slot}
 use Rattle.s3_slots.specs.declared.slot.Slot.TheVariants.{Damaged, Free, Sound}
 use Rattle.s3_store.specs.Bytes.{bytes_at}
 use Rattle.s3_labels.specs.Contents.{contents_of}
-use Rattle.s3_labels.specs.Inner.Areas.{Areas, IsRefusal, areas_on, slots_in}
+use Rattle.s3_labels.specs.Inner.Areas.{Areas, IsRefusal, slots_in}
 use Rattle.s3_labels.specs.declared.fault.Refusal.{Refusal}
 use Rattle.s3_labels.specs.declared.fault.Refusal.TheVariants.{BadPack, Sectors}
 use Rattle.s3_pack_check.specs.Inner.Entries.{first_fault}
@@ -43,15 +43,6 @@ ended f all wrongs i e so =
     sym (append_none wrongs) ∙ sym (ap (λ n. wrongs ++ flat_map f (range_with_len n (32 - n))) e) ∙ so
 
 -- ---- what is told of a pack
-pub told_by : (pack items : List ℕ) (store pool : List (List ℕ)) (areas : Areas) (wrongs : List Wrong) → items ≡ pack → store ≡ contents_of items → mounted store ≡ Ok areas.header
-    → areas ≡ areas_on areas.header store → pool ≡ store → wrongs ≡ wrongs_on areas pool → told pack ≡ Ok wrongs
-told_by pack items store pool areas wrongs same is_store is_mounted on kept is =
-    let here : store ≡ contents_of pack = is_store ∙ ap contents_of same in
-    let found : mounted (contents_of pack) ≡ Ok areas.header = sym (ap mounted here) ∙ is_mounted in
-    let all : wrongs ≡ wrongs_on (areas_on areas.header (contents_of pack)) (contents_of pack) =
-    is ∙ ap₂ wrongs_on (on ∙ ap (areas_on areas.header) here) (kept ∙ here) in
-    ap (told_if (contents_of pack)) found ∙ ap (λ (l : List Wrong). let r : Result (List Wrong) MountFault = Ok l in r) (sym all)
-
 refused_by : (contents : List (List ℕ)) (found : Result Header MountFault) (refusal : Refusal) → IsRefusal found refusal → IsRefused (told_if contents found) (fault_of refusal)
 refused_by contents found (BadPack fault) is_err = ap (told_if contents) is_err
 refused_by contents found (Sectors fault) refused = tt

@@ -1,10 +1,10 @@
 -- Looking for starts line by line.
-use Rattle.std.proofs.Common.{◌≡◌, ℕ, ◌+◌, ◌<◌, ◌≤◌, ◌++◌, length, drop, take, get_or, List, [], ◌∷◌, Bool, true, false, refl, sym, ◌∙◌, ap, add-one, append_assoc, arith, Vec, Global}
+use Rattle.std.proofs.Common.{◌≡◌, ℕ, ◌+◌, ◌<◌, ◌≤◌, ◌++◌, length, drop, get_or, List, [], ◌∷◌, Bool, true, false, refl, sym, ◌∙◌, ap, add-one, append_assoc, arith, Vec, Global}
 use Rattle.std.specs.Prelude.{Option, Some, None, if◌then◌else◌, not, map}
 use Rattle.std.specs.Option.{option_to_list}
 use Rattle.std.specs.List.{cons_option, range_with_len}
 use Rattle.std.proofs.Math.Seq.{drop-cons}
-use Rattle.std.proofs.lemmas.List.{drop_all, append-nil, map-append, take_more}
+use Rattle.std.proofs.lemmas.List.{drop_all, append-nil, map-append}
 use Rattle.std.proofs.lemmas.List.FromFn.{map-range_with_len_more}
 use Rattle.s3_lines.specs.declared.sheet.FileLine.{FileLine}
 use Rattle.s3_lines.specs.declared.sheet.InputLine.{InputLine}
@@ -15,7 +15,7 @@ use Rattle.s3_program.specs.declared.starts.TypeStart.{TypeStart}
 use Rattle.s3_program.specs.declared.starts.OutputStart.{OutputStart}
 use Rattle.s3_program.specs.declared.starts.Starts.{Starts}
 use Rattle.s3_program.specs.declared.starts.Walk.TheVariants as walk
-use Rattle.s3_program.specs.Inner.Starts.{first_from, fields_begin, goes_on, type_file, type_start, type_starts_from, types_of_file, output_file, output_start, output_starts_from, types_by_file, walked, sections_of, AreStarts, SameStarts}
+use Rattle.s3_program.specs.Inner.Starts.{first_from, fields_begin, goes_on, type_file, type_start, type_starts_from, types_of_file, output_file, output_start, output_starts_from, types_by_file, walked, sections_of, AreStarts}
 
 -- the lines from a place on: that line and those behind it
 lines_from : {X : Type 0} (xs : List X) (k : ℕ) (d : X) → k < length xs → drop k xs ≡ get_or xs k d ∷ drop (k + 1) xs
@@ -125,24 +125,3 @@ starts_over starts files files' inputs inputs' calculations calculations' output
   overflow = are.overflow ∙ (λ n. walked walk.Overflow (f n) (o n));
   sections = are.sections ∙ (λ n. sections_of (c n));
 }
-
--- and the same starts are those of the same lists
-pub starts_too : (one two : Starts) (files : List FileLine) (inputs : List (InputLine Reference)) (calculations : List (CalculationLine Reference)) (outputs : List (OutputLine Reference))
-    → SameStarts one two → AreStarts two files inputs calculations outputs → AreStarts one files inputs calculations outputs
-starts_too one two files inputs calculations outputs same are = record {
-  types = same.types ∙ are.types;
-  beginning = same.beginning ∙ are.beginning;
-  totals = same.totals ∙ are.totals;
-  exceptions = same.exceptions ∙ are.exceptions;
-  overflow = same.overflow ∙ are.overflow;
-  sections = same.sections ∙ are.sections;
-}
-
--- the items of one list more
-pub copies_more : {T : Type 0} (lists : List (Vec T Global)) (old new : List (Vec T Global)) (one list : Vec T Global) (k : ℕ) → k < length lists → new ≡ old ++ one ∷ [] → one.items ≡ (get_or lists k list).items
-    → map (λ (l : Vec T Global). l.items) old ≡ map (λ (l : Vec T Global). l.items) (take k lists)
-    → map (λ (l : Vec T Global). l.items) new ≡ map (λ (l : Vec T Global). l.items) (take (k + 1) lists)
-copies_more {T} lists old new one list k within more own before =
-    ap (map (λ (l : Vec T Global). l.items)) more ∙ (map-append (λ (l : Vec T Global). l.items) old (one ∷ [])
-    ∙ ((λ n. before n ++ own n ∷ []) ∙ (sym (map-append (λ (l : Vec T Global). l.items) (take k lists) (get_or lists k list ∷ []))
-    ∙ ap (map (λ (l : Vec T Global). l.items)) (sym (take_more lists k list within)))))

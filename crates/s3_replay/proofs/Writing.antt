@@ -260,20 +260,12 @@ last_writable (part ∷ parts) (suc i) last all one are =
 pub one_part : (parts : List Repeated) (part : Repeated) → entries_in (parts ++ part ∷ []) ≡ entries_in parts ++ replicate part.times part.entry
 one_part parts part = flat_map-append (λ (p : Repeated). replicate p.times p.entry) parts (part ∷ []) ∙ ap (λ es. entries_in parts ++ es) (append-nil (replicate part.times part.entry))
 
-pub one_writable : (parts : List Repeated) (part : Repeated) → list_all is_part_writable parts ≡ true → is_part_writable part ≡ true → list_all is_part_writable (parts ++ part ∷ []) ≡ true
-one_writable parts part are one = list_all-append is_part_writable parts (part ∷ []) ∙ ap₂ (λ (a b : Bool). a && b) are (ap (λ (b : Bool). b && true) one)
-
 -- ---- the whole script
 -- the text says the first of them
 pub script_more : (text new : List ℕ) (all : List Repeated) (n : ℕ) (d : Repeated) → n < length all → Says text (entries_in (take n all))
     → ((entries : List Entry) → Says text entries → Says new (entries ++ replicate (get_or all n d).times (get_or all n d).entry)) → Says new (entries_in (take (n + 1) all))
 script_more text new all n d within says more =
     subst (Says new) (sym (ap entries_in (take_more all n d within) ∙ one_part (take n all) (get_or all n d))) (more (entries_in (take n all)) says)
-
-pub part_writable : (all : List Repeated) (n : ℕ) (d : Repeated) → list_all is_part_writable all ≡ true → n < length all → is_writable (get_or all n d).entry.action ≡ true
-part_writable [] n d are within = absurd (omega arith)
-part_writable (part ∷ all) zero d are within = (and_parts (is_part_writable part) (list_all is_part_writable all) are).0
-part_writable (part ∷ all) (suc n) d are within = part_writable all n d (and_parts (is_part_writable part) (list_all is_part_writable all) are).1 (omega arith)
 
 -- what two reads of one place give
 pub same_at : (parts : List Repeated) (i : ℕ) (one other : Repeated) → i < length parts → one ≡ get_or parts i one → other ≡ get_or parts i other → one ≡ other

@@ -6,7 +6,7 @@ use Rattle.std.proofs.lemmas.Bool.Decides.{nat_tests}
 use Rattle.std.specs.List.{list_all}
 use Rattle.std.specs.Int.Digits.{number_from_digits_after}
 use Rattle.std.proofs.Math.Nat.{pow-le-pow_right, pow-suc, pow-zero, mul-le-mul_left}
-use Rattle.std.proofs.lemmas.List.{take_more, take_all, map-append}
+use Rattle.std.proofs.lemmas.List.{take_more, map-append}
 use Rattle.std.proofs.lemmas.List.Folds.{list_all_at}
 use Rattle.std.proofs.lemmas.Int.Digits.{number_after_append}
 use Rattle.s3_cards.specs.Names.{is_digit}
@@ -58,7 +58,3 @@ fits start codes i n so_far in' room =
 
 pub whole : (start : ℕ) (codes : List ℕ) (i n : ℕ) → NumberSoFar start codes i n → i ≡ length codes → NumberSoFar start codes (length codes) n
 whole start codes i n so_far e = subst (λ (m : ℕ). NumberSoFar start codes m n) e so_far
-
-pub whole_value : (start : ℕ) (codes : List ℕ) (n : ℕ) → NumberSoFar start codes (length codes) n → n ≡ number_from_digits_after 10 start (map digit codes)
-whole_value start codes n so_far =
-    so_far.value ∙ ap (λ x. number_from_digits_after 10 start (map digit x)) (take_all (length codes) codes (omega arith))

@@ -1,5 +1,5 @@
 -- The search for the greatest capacity, by halving.
-use Rattle.std.proofs.Common.{◌≡◌, ℕ, zero, suc, ◌+◌, ◌-◌, ◌*◌, ◌/◌, ◌<◌, ◌≤◌, Bool, true, false, nat_le, refl, sym, ap, ◌∙◌, arith, inl, inr}
+use Rattle.std.proofs.Common.{◌≡◌, ℕ, zero, suc, ◌+◌, ◌-◌, ◌*◌, ◌/◌, ◌<◌, ◌≤◌, Bool, true, false, nat_le, refl, sym, ◌∙◌, arith, inl, inr}
 use Rattle.std.proofs.Math.Nat.{div-mul-le_self, mul-le-mul}
 use Rattle.std.proofs.lemmas.Nat.{le-div}
 use Rattle.std.proofs.lemmas.Bool.{leb-true, leb-false, cases_lt}
@@ -77,10 +77,6 @@ pub halved_start : (new : NewFile) (sectors : ℕ) → IsHalved new sectors 0 (s
 unfolding greatest_capacity
 halved_start new sectors = record { below = omega arith; few = omega arith; found = refl; rest = refl }
 
-pub halved_higher : (new : NewFile) (sectors least most middle : ℕ) → least < middle → middle ≤ most → fits new sectors middle ≡ true → IsHalved new sectors least most → IsHalved new sectors middle most
-halved_higher new sectors least most zero low high h so = absurd (omega (arith, low))
-halved_higher new sectors least most (suc n) low high h so = record { below = high; few = so.few; found = greatest_here (fits new sectors) n h; rest = so.rest }
-
 pub halved_lower : (new : NewFile) (sectors least most middle : ℕ) → new.key_length ≤ 29 → least < middle → middle ≤ most → fits new sectors middle ≡ false → IsHalved new sectors least most → IsHalved new sectors least (middle - 1)
 halved_lower new sectors least most middle few low high h so = record {
   below = omega (arith, low);
@@ -88,8 +84,3 @@ halved_lower new sectors least most middle few low high h so = record {
   found = so.found;
   rest = sym (greatest_below (fits new sectors) (middle - 1) most (omega (arith, high)) (λ k above to. fails_above new sectors middle k few (omega (arith, above, low)) h)) ∙ so.rest;
 }
-
-pub halved_end : (new : NewFile) (sectors least most : ℕ) → most ≤ least → IsHalved new sectors least most → least ≡ greatest_capacity new sectors
-halved_end new sectors least most done so =
-    let same : least ≡ most = omega (arith, done, so.below) in
-    sym so.found ∙ ap (greatest (fits new sectors)) same ∙ so.rest

@@ -1,5 +1,5 @@
 -- The search for free room, from the lowest track up.
-use Rattle.std.proofs.Common.{◌≡◌, ℕ, zero, suc, ◌+◌, ◌-◌, ◌*◌, ◌/◌, ◌<◌, ◌≤◌, Bool, true, false, ◌==◌, if◌then◌else◌, List, [], ◌∷◌, ◌++◌, map, length, take, Some, None, refl, sym, ap, ◌∙◌, arith, append_assoc, length-append}
+use Rattle.std.proofs.Common.{◌≡◌, ℕ, zero, suc, ◌+◌, ◌-◌, ◌*◌, ◌/◌, ◌<◌, ◌≤◌, Bool, true, false, List, [], ◌∷◌, ◌++◌, map, length, take, Some, refl, sym, ap, ◌∙◌, arith, append_assoc}
 use Rattle.std.specs.Prelude.{find}
 use Rattle.std.specs.List.{range_with_len}
 use Rattle.s3_slots.specs.declared.slot.Slot.{Slot}
@@ -31,18 +31,6 @@ sought_on region slots tracks n i h meets sought = record {
       ∙ find_on (is_clear slots) (tracks_at region tracks i) (map (tracks_at region tracks) (range_with_len (i + 1) (n - (i + 1)))) meets) ∙ sought.rest;
 }
 
-pub sought_found : (region : Stretch) (slots : List Slot) (tracks n i : ℕ) → i < n → is_clear slots (tracks_at region tracks i) ≡ true
-    → IsSought region slots tracks n i → Some (tracks_at region tracks i) ≡ lowest_place region slots tracks
-sought_found region slots tracks n i h clear sought =
-    sym (ap (λ l. find (is_clear slots) (map (tracks_at region tracks) l)) (range_more i n h)
-    ∙ find_here (is_clear slots) (tracks_at region tracks i) (map (tracks_at region tracks) (range_with_len (i + 1) (n - (i + 1)))) clear) ∙ sought.rest
-
-range_none : (i n : ℕ) → n ≤ i → range_with_len i (n - i) ≡ []
-range_none i n h = let e : n - i ≡ 0 = omega (arith, h) in rw e refl
-
-pub sought_end : (region : Stretch) (slots : List Slot) (tracks n i : ℕ) → n ≤ i → IsSought region slots tracks n i → None ≡ lowest_place region slots tracks
-sought_end region slots tracks n i h sought = sym (ap (λ l. find (is_clear slots) (map (tracks_at region tracks) l)) (range_none i n h)) ∙ sought.rest
-
 -- ---- the free stretches
 
 take_short : {X : Type 0} (n : ℕ) (xs : List X) → length xs ≤ n → take n xs ≡ xs
@@ -50,9 +38,6 @@ take_short zero [] h = refl
 take_short zero (x ∷ xs) h = absurd (omega (arith, h))
 take_short (suc n) [] h = refl
 take_short (suc n) (x ∷ xs) h = ap (λ l. x ∷ l) (take_short n xs (omega (arith, h)))
-
-pub ended_short : (run : Stretch) → length (ended run) ≤ 1
-ended_short run = (elim (run.sectors == 0) as (λ b. length (if b then [] else run ∷ []) ≤ 1) [ true ↦ omega arith | false ↦ omega arith ])
 
 -- with these runs and an open one before track i of n
 pub record IsGathered (region : Stretch) (slots : List Slot) (n i : ℕ) (runs : List Stretch) (run : Stretch) : Type 0 where
@@ -94,9 +79,3 @@ gathered_ended region slots n i runs run h meets so =
 pub gathered_full : (region : Stretch) (slots : List Slot) (n i : ℕ) (runs : List Stretch) (run : Stretch) → length runs ≡ 4
     → IsGathered region slots n i runs run → runs ≡ take 4 (free_stretches region slots)
 gathered_full region slots n i runs run h so = sym (take_all 4 runs (free_runs slots run (map (tracks_at region 1) (range_with_len i (n - i)))) h) ∙ so.rest
-
-pub gathered_end : (region : Stretch) (slots : List Slot) (n i : ℕ) (runs : List Stretch) (run : Stretch) → n ≤ i → length runs < 4
-    → IsGathered region slots n i runs run → runs ++ ended run ≡ take 4 (free_stretches region slots)
-gathered_end region slots n i runs run h few so =
-    sym (take_short 4 (runs ++ ended run) (omega (arith, length-append runs (ended run), ended_short run, few)))
-    ∙ sym (ap (λ l. take 4 (runs ++ free_runs slots run (map (tracks_at region 1) l))) (range_none i n h)) ∙ so.rest

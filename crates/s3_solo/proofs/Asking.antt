@@ -23,8 +23,8 @@ use Rattle.s3_opening.specs.Opening.{opened}
 use Rattle.s3_ocl.specs.declared.contents.FileStatement.{FileStatement}
 use Rattle.s3_solo.specs.Lines.{has_room, is_queued, with_drained}
 use Rattle.s3_solo.specs.World.{World, JobAtWork}
-use Rattle.s3_solo.specs.Serving.{acted, answered, at_work, begun, card_answer, compiled, compiled_data, data_of, diagnostics_of, file_served, idle, in_use, job_over, line_put, over, pending, performed, run, run_card_of, run_over, served, settings, standing_at, started, stocked, with_answer, with_card_read, with_jobs, with_settings}
-use Rattle.s3_solo.specs.Solo.{closed, drained, gone_on, refused, replied, reply_given, resumed, step_of, turned}
+use Rattle.s3_solo.specs.Serving.{acted, answered, at_work, begun, card_answer, compiled, compiled_data, data_of, diagnostics_of, file_served, idle, in_use, job_over, line_put, pending, performed, run, run_card_of, run_over, served, settings, standing_at, started, stocked, with_answer, with_card_read, with_jobs, with_settings}
+use Rattle.s3_solo.specs.Solo.{drained, gone_on, refused, replied, reply_given, resumed, step_of, turned}
 use Rattle.s3_solo.specs.Inner.Asked.{IsAsked, halt_asked}
 
 -- without a job there is nothing to ask
@@ -181,10 +181,3 @@ pub step_asks : (action' : Action) (w : World) → IsAsked w → IsAsked (step_o
 step_asks action.Turn w asks = turned_asks w asks
 step_asks (action.Reply digit) w asks = replied_asks digit w asks
 step_asks action.Drain w asks = drained_asks w asks
-
-pub closed_asks : (w : World) → IsAsked (closed w)
-closed_asks w = at_rest (closed w) (by w.job refl)
-  where
-    by : (o : Option JobAtWork) → w.job ≡ o → (over o w).job ≡ None
-    by None is = is
-    by (Some job) is = refl

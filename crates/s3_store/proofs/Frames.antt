@@ -50,9 +50,6 @@ within_from_keeps region s t k = record {
 pub keeps_within : (region : ℕ → Type 0) (s t u : PoolState) → KeepsContents s t → ChangesWithin region t u → ChangesWithin region s u
 keeps_within region s t u k c = within_trans region s t u (within_from_keeps region s t k) c
 
-pub within_keeps : (region : ℕ → Type 0) (s t u : PoolState) → ChangesWithin region s t → KeepsContents t u → ChangesWithin region s u
-within_keeps region s t u c k = within_trans region s t u c (within_from_keeps region t u k)
-
 -- ---- sectors that are kept, and that stay in step where they were
 
 pub step_refl : (IsKept : ℕ → Type 0) (s : PoolState) → KeepsInStep IsKept s s
