@@ -1,7 +1,6 @@
 pub mod Plain
 pub mod Keys
 pub mod OneFile
-pub mod Sectors
 pub mod Lists
 pub mod Standings
 pub mod Frames

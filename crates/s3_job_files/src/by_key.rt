@@ -9,7 +9,8 @@ ghost use Rattle.s3_keyed.specs.KeyOrder.{is_good_index, number_of};
 ghost use Rattle.s3_keyed.specs.Inner.Keyed.{opened_of, shown, bytes_now, records_now, keys_now, HasKeyOrder, IsSameFile};
 ghost use Rattle.s3_keyed.specs.Calls.{place_of_key, nth_by_key, with_added, with_loaded, with_updated};
 ghost use Rattle.s3_job_files.specs.Records.{by_key, halt_for_key};
-ghost use Rattle.s3_job_files.specs.Inner.Calls.{found_record, Puts, Changes, Reads};
+ghost use Rattle.s3_store.specs.Inner.Calls.{Changes, Reads};
+ghost use Rattle.s3_job_files.specs.Inner.Calls.{found_record, Puts};
 ghost use Rattle.s3_job_files.specs.Inner.Refusals.{pool_refusal};
 
 use crate::records::Put;
@@ -19,7 +20,7 @@ use s3_slots::FileLabel;
 use s3_store::{SectorFault, Sectors};
 use std::alloc::Global;
 
-/// Refuses where the sectors did.
+/// Hands on a fault of the sectors; any other fault is for the caller.
 fn pass_on(fault: KeyedFault) -> Result<(), SectorFault>
     ensures { result ≡ pool_refusal fault }
 {

@@ -6,7 +6,7 @@ ghost use Rattle.s3_slots.specs.Labels.{is_indexed as is_indexed_spec, sectors_o
 ghost use Rattle.s3_meaning.specs.Requests.{Key, RecordNumber};
 ghost use Rattle.s3_slots.specs.Inner.Kept.{IsOfPack};
 ghost use Rattle.s3_job_files.specs.Kept.{kept_on};
-ghost use Rattle.s3_job_files.specs.Inner.Calls.{Reads};
+ghost use Rattle.s3_store.specs.Inner.Calls.{Reads};
 ghost use Rattle.s3_job_files.specs.Inner.Records.{changes_of};
 ghost use Rattle.s3_job_files.specs.Records.{overlaid};
 ghost use Rattle.s3_job_files.specs.Inner.Holds.{AreOf, HoldsRecords, count_of, records_of};
@@ -52,7 +52,8 @@ impl OpenFile {
     ghost use Rattle.s3_job_files.specs.Requests.{answer_at, with_read, with_chained};
     ghost use Rattle.s3_job_files.specs.Inner.Holds.{IsUsable, job_file_of};
     ghost use Rattle.s3_job_files.specs.Closing.{is_kept_for_job};
-    ghost use Rattle.s3_job_files.specs.Inner.Calls.{found_record, found_answer, Puts, Changes};
+    ghost use Rattle.s3_job_files.specs.Inner.Calls.{found_record, found_answer, Puts};
+    ghost use Rattle.s3_store.specs.Inner.Calls.{Changes};
 
     /// Opens the file of a label that the pack has, known to the program by a name; none where it is indexed and its index isn't
     /// good.
@@ -479,7 +480,6 @@ fn records_of_label<P: Sectors>(
 }
 
 /// The byte of a record where a code is put, or not.
-#[inline(always)]
 fn laid_byte(code: u8, is_put: bool, old: u8) -> u8
     ensures { result ≡ (if is_put then code else old) }
 {

@@ -4,7 +4,8 @@ ghost use Rattle.s3_files.specs.Inner.Files.{AreStored, records};
 ghost use Rattle.s3_files.specs.Records.{with_record, with_last};
 ghost use Rattle.s3_job_files.specs.Records.{in_order};
 ghost use Rattle.s3_job_files.specs.Inner.Holds.{shape_of};
-ghost use Rattle.s3_job_files.specs.Inner.Calls.{found_record, Puts, Changes, Reads};
+ghost use Rattle.s3_store.specs.Inner.Calls.{Changes, Reads};
+ghost use Rattle.s3_job_files.specs.Inner.Calls.{found_record, Puts};
 ghost use Rattle.s3_job_files.specs.Inner.Refusals.{IsGrown};
 
 use crate::records::Put;

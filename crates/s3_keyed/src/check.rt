@@ -1,7 +1,6 @@
 //! Whether an index is that of the records.
 ghost use Rattle.std.specs.Prelude.{◌≡◌, ◌≤◌, ◌<◌, ◌+◌, ◌*◌, ◌/◌, ◌^◌, IfOk, MatchBool};
-ghost use Rattle.s3_store.specs.Inner.State.{KeepsContents};
-ghost use Rattle.s3_store.specs.Inner.Failures.{failed_transfers};
+ghost use Rattle.s3_store.specs.Inner.Calls.{Reads};
 ghost use Rattle.s3_files.specs.Inner.Files.{AreStored};
 ghost use Rattle.s3_keyed.specs.KeyOrder.{number_of, is_good_index};
 ghost use Rattle.s3_keyed.specs.Inner.KeyOrder.{IsAscending};
@@ -83,8 +82,7 @@ pub fn is_good<P: Sectors>(
 ) -> Result<bool, SectorFault>
     requires stored { AreStored file.now.file.sectors (P.state pool.old).contents }
     ensures good { IfOk result (λ good. is_good_index (index_in (layout_in file.now) file.now.file.count (bytes_in file.now (P.state pool.old).contents)) (keys_on file.now (P.state pool.old).contents) ≡ good) }
-    ensures keeps { KeepsContents (P.state pool.old) (P.state pool.new) }
-    ensures failures { (P.state pool.new).failures ≡ (P.state pool.old).failures + failed_transfers result }
+    ensures reads { Reads result (P.state pool.old) (P.state pool.new) }
 {
     let count = file.file.count;
     if count == 0 {

@@ -1,8 +1,7 @@
 //! The added entries merged into the index.
 ghost use Rattle.std.specs.Prelude.{◌≡◌, ◌≤◌, ◌<◌, ◌+◌, ◌-◌, ◌^◌, ℕ, true, length, OnOk, IfOk, MatchOption};
-ghost use Rattle.std.specs.List.{All, Contains};
-ghost use Rattle.s3_store.specs.Inner.State.{KeepsContents, ChangesWithin};
-ghost use Rattle.s3_store.specs.Inner.Failures.{failed_transfers};
+ghost use Rattle.std.specs.List.{All};
+ghost use Rattle.s3_store.specs.Inner.Calls.{Changes, Reads};
 ghost use Rattle.s3_files.specs.Inner.Files.{AreStored};
 ghost use Rattle.s3_files.specs.Records.{records_in};
 ghost use Rattle.s3_keyed.specs.KeyOrder.{number_of, insert_entries, ascends, keys_in};
@@ -30,8 +29,7 @@ fn last_above<P: Sectors>(
     ensures last { IfOk result (λ last. MatchOption last
         (0 < entries → (entry_at (layout_in file.now) (bytes_in file.now (P.state pool.old).contents) (entries - 1)).key ≤ number_of key.now.bytes)
         (λ entry. (0 < entries) × (entry_of entry ≡ entry_at (layout_in file.now) (bytes_in file.now (P.state pool.old).contents) (entries - 1)) × (number_of key.now.bytes < number_of entry.key.bytes) × (number_of entry.key.bytes < 256 ^ file.now.key_length))) }
-    ensures keeps { KeepsContents (P.state pool.old) (P.state pool.new) }
-    ensures failures { (P.state pool.new).failures ≡ (P.state pool.old).failures + failed_transfers result }
+    ensures reads { Reads result (P.state pool.old) (P.state pool.new) }
 {
     if entries == 0 {
         return Ok(None);
@@ -58,8 +56,7 @@ pub fn merge<P: Sectors>(
     requires short { All (λ entry. entry.key < 256 ^ file.now.key_length) (entries_of added.old) }
     ensures merged { OnOk result (index_in (layout_in file.now) (indexed + length (entries_of added.old)) (bytes_in file.now (P.state pool.new).contents) ≡ insert_entries (index_in (layout_in file.now) indexed (bytes_in file.now (P.state pool.old).contents)) (entries_of added.old)) }
     ensures records { (count : ℕ) → count ≤ file.now.file.capacity → records_in file.now.file.record_length count (bytes_in file.now (P.state pool.new).contents) ≡ records_in file.now.file.record_length count (bytes_in file.now (P.state pool.old).contents) }
-    ensures within { ChangesWithin (Contains file.now.file.sectors) (P.state pool.old) (P.state pool.new) }
-    ensures failures { (P.state pool.new).failures ≡ (P.state pool.old).failures + failed_transfers result }
+    ensures changes { Changes file.now.file.sectors result (P.state pool.old) (P.state pool.new) }
 {
     let mut left = indexed;
     'highest: while let Some(top) = added.last() {

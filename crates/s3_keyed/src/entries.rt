@@ -1,7 +1,6 @@
 //! The entries of an index, and the keys of records.
 ghost use Rattle.std.specs.Prelude.{◌≡◌, ◌≤◌, ◌<◌, ◌+◌, ◌-◌, ◌*◌, ◌^◌, ◌==◌, length, IfOk};
-ghost use Rattle.s3_store.specs.Inner.State.{KeepsContents};
-ghost use Rattle.s3_store.specs.Inner.Failures.{failed_transfers};
+ghost use Rattle.s3_store.specs.Inner.Calls.{Reads};
 ghost use Rattle.s3_store.specs.Bytes.{part};
 ghost use Rattle.s3_slots.specs.Slots.{record_sectors};
 ghost use Rattle.s3_files.specs.Inner.Files.{AreStored};
@@ -44,8 +43,7 @@ pub fn read_entry<P: Sectors>(
     requires within { i < file.now.file.capacity }
     ensures ok { IfOk result (λ entry. entry_of entry ≡ entry_at (layout_in file.now) (bytes_in file.now (P.state pool.old).contents) i) }
     ensures short { IfOk result (λ entry. number_of entry.key.bytes < 256 ^ file.now.key_length) }
-    ensures keeps { KeepsContents (P.state pool.old) (P.state pool.new) }
-    ensures failures { (P.state pool.new).failures ≡ (P.state pool.old).failures + failed_transfers result }
+    ensures reads { Reads result (P.state pool.old) (P.state pool.new) }
 {
     let key_length = usize::from(file.key_length);
     let mut buffer = [0; 33];
@@ -61,8 +59,7 @@ pub fn read_number<P: Sectors>(file: &IndexedFile, pool: &mut P, i: u32) -> Resu
     requires stored { AreStored file.now.file.sectors (P.state pool.old).contents }
     requires within { i < file.now.file.capacity }
     ensures ok { IfOk result (λ number. number ≡ (entry_at (layout_in file.now) (bytes_in file.now (P.state pool.old).contents) i).number) }
-    ensures keeps { KeepsContents (P.state pool.old) (P.state pool.new) }
-    ensures failures { (P.state pool.new).failures ≡ (P.state pool.old).failures + failed_transfers result }
+    ensures reads { Reads result (P.state pool.old) (P.state pool.new) }
 {
     let mut bytes = [0; 4];
     let at = place_of(file, i) + u32::from(file.key_length);
@@ -86,8 +83,7 @@ pub fn read_key<P: Sectors>(file: &IndexedFile, pool: &mut P, i: u32) -> Result<
     requires within { i < file.now.file.capacity }
     ensures ok { IfOk result (λ key. number_of key.bytes ≡ key_of (layout_in file.now).key (part (bytes_in file.now (P.state pool.old).contents) (i * file.now.file.record_length) file.now.file.record_length)) }
     ensures short { IfOk result (λ key. number_of key.bytes < 256 ^ file.now.key_length) }
-    ensures keeps { KeepsContents (P.state pool.old) (P.state pool.new) }
-    ensures failures { (P.state pool.new).failures ≡ (P.state pool.old).failures + failed_transfers result }
+    ensures reads { Reads result (P.state pool.old) (P.state pool.new) }
 {
     let mut buffer = [0; 29];
     let bytes = &mut buffer[..usize::from(file.key_length)];
@@ -107,8 +103,7 @@ pub fn has_key_of<P: Sectors>(
     requires within { i < file.now.file.capacity }
     requires long { length bytes.now ≡ file.now.file.record_length }
     ensures ok { IfOk result (λ same. same ≡ (key_of (layout_in file.now).key (part (bytes_in file.now (P.state pool.old).contents) (i * file.now.file.record_length) file.now.file.record_length) == key_of (layout_in file.now).key bytes.now)) }
-    ensures keeps { KeepsContents (P.state pool.old) (P.state pool.new) }
-    ensures failures { (P.state pool.new).failures ≡ (P.state pool.old).failures + failed_transfers result }
+    ensures reads { Reads result (P.state pool.old) (P.state pool.new) }
 {
     let key_length = usize::from(file.key_length);
     let start = usize::from(file.key_start - 1);

@@ -1,8 +1,7 @@
 //! Sectors of an index, whose entries are looked at where they lie.
 ghost use Rattle.std.specs.Prelude.{◌≡◌, ◌≤◌, ◌<◌, ◌+◌, ◌*◌, ◌/◌, ◌^◌, length, take, nat_lt, ◌==◌, OnOk};
 ghost use Rattle.std.specs.Ordering.{nat_cmp};
-ghost use Rattle.s3_store.specs.Inner.State.{KeepsContents};
-ghost use Rattle.s3_store.specs.Inner.Failures.{failed_transfers};
+ghost use Rattle.s3_store.specs.Inner.Calls.{Reads};
 ghost use Rattle.s3_store.specs.Bytes.{part};
 ghost use Rattle.s3_slots.specs.Slots.{entries_per_sector as entries_of, index_sectors};
 ghost use Rattle.s3_files.specs.Inner.Files.{AreStored};
@@ -35,8 +34,7 @@ pub fn read_sector<P: Sectors>(
     requires stored { AreStored file.now.file.sectors (P.state pool.old).contents }
     requires within { place < index_sectors file.now.file.capacity file.now.key_length }
     ensures ok { OnOk result (bytes.new ≡ index_sector file.now place (bytes_in file.now (P.state pool.old).contents)) }
-    ensures keeps { KeepsContents (P.state pool.old) (P.state pool.new) }
-    ensures failures { (P.state pool.new).failures ≡ (P.state pool.old).failures + failed_transfers result }
+    ensures reads { Reads result (P.state pool.old) (P.state pool.new) }
 {
     read_bytes(
         pool,

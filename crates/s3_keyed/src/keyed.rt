@@ -3,6 +3,7 @@ ghost use Rattle.std.specs.Prelude.{◌≡◌, ◌≤◌, ◌<◌, ◌+◌, ◌-
 ghost use Rattle.std.specs.List.{Contains, list_all};
 ghost use Rattle.s3_store.specs.Inner.State.{KeepsContents, ChangesWithin};
 ghost use Rattle.s3_store.specs.Inner.Failures.{failed_transfers};
+ghost use Rattle.s3_store.specs.Inner.Calls.{Changes, Reads};
 ghost use Rattle.s3_files.specs.Inner.Files.{AreStored};
 ghost use Rattle.s3_keyed.specs.KeyOrder.{number_of, key_order, is_good_index};
 ghost use Rattle.s3_files.specs.Inner.Records.{record_at};
@@ -217,8 +218,7 @@ impl Keyed {
         requires ordered { HasKeyOrder (shown self.now) (P.state pool.old).contents }
         requires short { number_of key.now.bytes < 256 ^ (shown self.now).layout.key.length }
         ensures place { IfOk result (λ place. place_of_key (number_of key.now.bytes) (keys_now (shown self.now) (P.state pool.old).contents) ≡ place) }
-        ensures keeps { KeepsContents (P.state pool.old) (P.state pool.new) }
-        ensures failures { (P.state pool.new).failures ≡ (P.state pool.old).failures + failed_transfers result }
+        ensures reads { Reads result (P.state pool.old) (P.state pool.new) }
     {
         let guess = self.guess(key);
         if let Some(number) = search_index(&self.file, pool, self.indexed, key, guess)? {
@@ -238,8 +238,7 @@ impl Keyed {
         requires ordered { HasKeyOrder (shown self.now) (P.state pool.old).contents }
         requires long { length key.now ≡ (shown self.now).layout.key.length }
         ensures place { IfOk result (λ place. IfSome place (λ place. place_of_key (number_of key.now) (keys_now (shown self.now) (P.state pool.old).contents) ≡ Some place)) }
-        ensures keeps { KeepsContents (P.state pool.old) (P.state pool.new) }
-        ensures failures { (P.state pool.new).failures ≡ (P.state pool.old).failures + failed_transfers result }
+        ensures reads { Reads result (P.state pool.old) (P.state pool.new) }
     {
         let Some(key) = short_number_of(key) else {
             return Ok(None);
@@ -396,8 +395,7 @@ impl Keyed {
         requires stored { AreStored (shown self.now).sectors (P.state pool.old).contents }
         requires ordered { HasKeyOrder (shown self.now) (P.state pool.old).contents }
         ensures above { IfOk result (λ above. list_all (λ other. nat_lt other (number_of key.now.bytes)) (keys_now (shown self.now) (P.state pool.old).contents) ≡ above) }
-        ensures keeps { KeepsContents (P.state pool.old) (P.state pool.new) }
-        ensures failures { (P.state pool.new).failures ≡ (P.state pool.old).failures + failed_transfers result }
+        ensures reads { Reads result (P.state pool.old) (P.state pool.new) }
     {
         if !self.added.are_below(key) {
             return Ok(false);
@@ -422,8 +420,7 @@ impl Keyed {
         ensures ok { OnOk result (records_now (shown self.new) (P.state pool.new).contents ≡ records_now (shown self.old) (P.state pool.old).contents ++ bytes.now ∷ []) }
         ensures ordered { OnOk result (HasKeyOrder (shown self.new) (P.state pool.new).contents) }
         ensures same { IsSameFile (shown self.old) (shown self.new) }
-        ensures within { ChangesWithin (Contains (shown self.old).sectors) (P.state pool.old) (P.state pool.new) }
-        ensures failures { (P.state pool.new).failures ≡ (P.state pool.old).failures + failed_transfers result }
+        ensures changes { Changes (shown self.old).sectors result (P.state pool.old) (P.state pool.new) }
     {
         let number = self.count + 1;
         self.added.insert(IndexEntry { key, number })?;
@@ -450,8 +447,7 @@ impl Keyed {
         ensures ok { OnOk result (records_now (shown self.new) (P.state pool.new).contents ≡ records_now (shown self.old) (P.state pool.old).contents ++ bytes.now ∷ []) }
         ensures ordered { OnOk result (HasKeyOrder (shown self.new) (P.state pool.new).contents) }
         ensures same { IsSameFile (shown self.old) (shown self.new) }
-        ensures within { ChangesWithin (Contains (shown self.old).sectors) (P.state pool.old) (P.state pool.new) }
-        ensures failures { (P.state pool.new).failures ≡ (P.state pool.old).failures + failed_transfers result }
+        ensures changes { Changes (shown self.old).sectors result (P.state pool.old) (P.state pool.new) }
     {
         let number = self.count + 1;
         write_entry(&self.file, pool, self.indexed, &IndexEntry { key, number })?;

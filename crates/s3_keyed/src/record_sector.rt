@@ -1,7 +1,6 @@
 //! A sector of a file that was read, out of which keys of records are taken.
 ghost use Rattle.std.specs.Prelude.{◌≡◌, ◌≤◌, ◌<◌, ◌+◌, ◌*◌, ◌/◌, ◌==◌, ℕ, length, OnOk, IfOk, MatchBool};
-ghost use Rattle.s3_store.specs.Inner.State.{KeepsContents};
-ghost use Rattle.s3_store.specs.Inner.Failures.{failed_transfers};
+ghost use Rattle.s3_store.specs.Inner.Calls.{Reads};
 ghost use Rattle.s3_store.specs.Bytes.{part};
 ghost use Rattle.s3_files.specs.Inner.Files.{AreStored};
 ghost use Rattle.s3_keyed.specs.Index.{key_of};
@@ -42,8 +41,7 @@ impl RecordSector {
         requires within { place < length file.now.file.sectors }
         ensures ok { OnOk result (self.new.bytes ≡ part (bytes_in file.now (P.state pool.old).contents) (256 * self.new.place) 256) }
         ensures place { OnOk result (self.new.place ≡ place) }
-        ensures keeps { KeepsContents (P.state pool.old) (P.state pool.new) }
-        ensures failures { (P.state pool.new).failures ≡ (P.state pool.old).failures + failed_transfers result }
+        ensures reads { Reads result (P.state pool.old) (P.state pool.new) }
     {
         read_bytes(pool, &file.file.sectors, 256 * place, &mut self.bytes)?;
         self.place = place;
@@ -62,8 +60,7 @@ impl RecordSector {
         requires here { self.old.bytes ≡ part (bytes_in file.now (P.state pool.old).contents) (256 * self.old.place) 256 }
         ensures place { OnOk result (self.new.place ≡ place) }
         ensures ok { OnOk result (self.new.bytes ≡ part (bytes_in file.now (P.state pool.old).contents) (256 * self.new.place) 256) }
-        ensures keeps { KeepsContents (P.state pool.old) (P.state pool.new) }
-        ensures failures { (P.state pool.new).failures ≡ (P.state pool.old).failures + failed_transfers result }
+        ensures reads { Reads result (P.state pool.old) (P.state pool.new) }
     {
         if self.place == place {
             return Ok(());
@@ -87,8 +84,7 @@ impl RecordSector {
         requires here { self.old.bytes ≡ part (bytes_in file.now (P.state pool.old).contents) (256 * self.old.place) 256 }
         ensures ok { IfOk result (λ is. is ≡ (key_of (layout_in file.now).key (part (bytes_in file.now (P.state pool.old).contents) (i * file.now.file.record_length) file.now.file.record_length) == (entry_here file.now.key_length index.now j).key)) }
         ensures here { IfOk result (λ _. self.new.bytes ≡ part (bytes_in file.now (P.state pool.old).contents) (256 * self.new.place) 256) }
-        ensures keeps { KeepsContents (P.state pool.old) (P.state pool.new) }
-        ensures failures { (P.state pool.new).failures ≡ (P.state pool.old).failures + failed_transfers result }
+        ensures reads { Reads result (P.state pool.old) (P.state pool.new) }
     {
         let at = key_place(file, i);
         let start = (at % 256) as usize;
@@ -116,8 +112,7 @@ impl RecordSector {
             ((j : ℕ) → j < entries → IsOfRecord (keys_on file.now (P.state pool.old).contents) (entry_here file.now.key_length index.now j))
             ((j : ℕ) × (j < entries) × (IsOfRecord (keys_on file.now (P.state pool.old).contents) (entry_here file.now.key_length index.now j) → ⊥))) }
         ensures here { IfOk result (λ _. self.new.bytes ≡ part (bytes_in file.now (P.state pool.old).contents) (256 * self.new.place) 256) }
-        ensures keeps { KeepsContents (P.state pool.old) (P.state pool.new) }
-        ensures failures { (P.state pool.new).failures ≡ (P.state pool.old).failures + failed_transfers result }
+        ensures reads { Reads result (P.state pool.old) (P.state pool.new) }
     {
         let key_length = usize::from(file.key_length);
         for j in 0..entries {

@@ -1,8 +1,7 @@
 //! An entry found by its key.
 ghost use Rattle.std.specs.Prelude.{◌≡◌, ◌≢◌, ◌≤◌, ◌<◌, ◌+◌, ◌^◌, ℕ, true, nat_lt, IfOk, IfSome, MatchOption};
 ghost use Rattle.std.specs.List.{list_all};
-ghost use Rattle.s3_store.specs.Inner.State.{KeepsContents};
-ghost use Rattle.s3_store.specs.Inner.Failures.{failed_transfers};
+ghost use Rattle.s3_store.specs.Inner.Calls.{Reads};
 ghost use Rattle.s3_files.specs.Inner.Files.{AreStored};
 ghost use Rattle.s3_keyed.specs.KeyOrder.{number_of, ascends, keys_in};
 ghost use Rattle.s3_keyed.specs.Inner.KeyOrder.{IsAscending};
@@ -35,8 +34,7 @@ pub fn search_from<P: Sectors>(
     requires long { 4 ≤ file.now.key_length }
     requires short { file.now.key_length ≤ 8 }
     ensures found { IfOk result (λ found. IfSome found (λ number. (i : ℕ) × (i < entries) × (entry_at (layout_in file.now) (bytes_in file.now (P.state pool.old).contents) i ≡ record { key = key; number = number }))) }
-    ensures keeps { KeepsContents (P.state pool.old) (P.state pool.new) }
-    ensures failures { (P.state pool.new).failures ≡ (P.state pool.old).failures + failed_transfers result }
+    ensures reads { Reads result (P.state pool.old) (P.state pool.new) }
 {
     if first >= entries {
         return Ok(None);
@@ -85,8 +83,7 @@ pub fn search_index<P: Sectors>(
     ensures found { IfOk result (λ found. MatchOption found
         ((i : ℕ) → i < entries → (entry_at (layout_in file.now) (bytes_in file.now (P.state pool.old).contents) i).key ≢ number_of key.now.bytes)
         (λ number. (i : ℕ) × (i < entries) × (entry_at (layout_in file.now) (bytes_in file.now (P.state pool.old).contents) i ≡ record { key = number_of key.now.bytes; number = number }))) }
-    ensures keeps { KeepsContents (P.state pool.old) (P.state pool.new) }
-    ensures failures { (P.state pool.new).failures ≡ (P.state pool.old).failures + failed_transfers result }
+    ensures reads { Reads result (P.state pool.old) (P.state pool.new) }
 {
     let per_sector = entries_per_sector(file);
     let key_length = usize::from(file.key_length);
@@ -117,8 +114,7 @@ pub fn is_above_index<P: Sectors>(
     requires few { entries ≤ file.now.file.capacity }
     requires ascending { ascends (keys_in (index_in (layout_in file.now) entries (bytes_in file.now (P.state pool.old).contents))) ≡ true }
     ensures above { IfOk result (λ above. list_all (λ other. nat_lt other (number_of key.now.bytes)) (keys_in (index_in (layout_in file.now) entries (bytes_in file.now (P.state pool.old).contents))) ≡ above) }
-    ensures keeps { KeepsContents (P.state pool.old) (P.state pool.new) }
-    ensures failures { (P.state pool.new).failures ≡ (P.state pool.old).failures + failed_transfers result }
+    ensures reads { Reads result (P.state pool.old) (P.state pool.new) }
 {
     if entries == 0 {
         return Ok(true);

@@ -43,8 +43,7 @@ fn is_entry_below(sector: &[u8; 256], j: usize, key_length: usize, sought: &Soug
     }
 }
 
-/// How many of the first so many entries of a sector have a key below the one that is sought. Each call gets code of its own, in
-/// which the form is known, so that no comparison asks for it.
+/// How many of the first so many entries of a sector have a key below the one that is sought.
 #[inline(always)]
 fn count_below(sector: &[u8; 256], entries: usize, key_length: usize, sought: &Sought<'_>) -> usize
     requires short { key_length ≤ 29 }

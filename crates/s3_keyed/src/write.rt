@@ -1,10 +1,8 @@
 //! Records and entries written.
 ghost use Rattle.std.specs.Prelude.{◌≡◌, ◌≢◌, ◌≤◌, ◌<◌, ◌+◌, ◌-◌, ◌*◌, ◌^◌, ℕ, length, OnOk};
-ghost use Rattle.std.specs.List.{Contains};
 ghost use Rattle.s3_store.specs.Bytes.{part};
 ghost use Rattle.s3_store.specs.Inner.Bytes.{SameOutside};
-ghost use Rattle.s3_store.specs.Inner.State.{KeepsContents, ChangesWithin};
-ghost use Rattle.s3_store.specs.Inner.Failures.{failed_transfers};
+ghost use Rattle.s3_store.specs.Inner.Calls.{Changes, Reads};
 ghost use Rattle.s3_files.specs.Inner.Files.{AreStored};
 ghost use Rattle.s3_keyed.specs.KeyOrder.{number_of};
 ghost use Rattle.s3_keyed.specs.Index.{entry_place, entry_at, entry_in};
@@ -27,7 +25,6 @@ fn record_place(file: &IndexedFile, i: u32) -> u32
 }
 
 /// Reads the record at a place, from 0.
-#[inline(always)]
 pub fn read_record<P: Sectors>(
     file: &IndexedFile,
     pool: &mut P,
@@ -38,8 +35,7 @@ pub fn read_record<P: Sectors>(
     requires within { i < file.now.file.capacity }
     requires long { length bytes.old ≡ file.now.file.record_length }
     ensures ok { OnOk result (bytes.new ≡ part (bytes_in file.now (P.state pool.old).contents) (i * file.now.file.record_length) file.now.file.record_length) }
-    ensures keeps { KeepsContents (P.state pool.old) (P.state pool.new) }
-    ensures failures { (P.state pool.new).failures ≡ (P.state pool.old).failures + failed_transfers result }
+    ensures reads { Reads result (P.state pool.old) (P.state pool.new) }
 {
     read_bytes(pool, &file.file.sectors, record_place(file, i), bytes)
 }
@@ -57,8 +53,7 @@ pub fn write_record<P: Sectors>(
     ensures ok { OnOk result (part (bytes_in file.now (P.state pool.new).contents) (i * file.now.file.record_length) file.now.file.record_length ≡ bytes.now) }
     ensures outside { SameOutside (i * file.now.file.record_length) file.now.file.record_length (bytes_in file.now (P.state pool.old).contents) (bytes_in file.now (P.state pool.new).contents) }
     ensures records { i * file.now.file.record_length + file.now.file.record_length ≤ file.now.file.capacity * file.now.file.record_length }
-    ensures within { ChangesWithin (Contains file.now.file.sectors) (P.state pool.old) (P.state pool.new) }
-    ensures failures { (P.state pool.new).failures ≡ (P.state pool.old).failures + failed_transfers result }
+    ensures changes { Changes file.now.file.sectors result (P.state pool.old) (P.state pool.new) }
 {
     write_bytes(pool, &file.file.sectors, record_place(file, i), bytes)
 }
@@ -88,8 +83,7 @@ pub fn write_entry<P: Sectors>(
     ensures ok { OnOk result (entry_at (layout_in file.now) (bytes_in file.now (P.state pool.new).contents) i ≡ entry_of entry.now) }
     ensures outside { SameOutside (entry_place (layout_in file.now) i) (file.now.key_length + 4) (bytes_in file.now (P.state pool.old).contents) (bytes_in file.now (P.state pool.new).contents) }
     ensures others { (j : ℕ) → j ≢ i → entry_at (layout_in file.now) (bytes_in file.now (P.state pool.new).contents) j ≡ entry_at (layout_in file.now) (bytes_in file.now (P.state pool.old).contents) j }
-    ensures within { ChangesWithin (Contains file.now.file.sectors) (P.state pool.old) (P.state pool.new) }
-    ensures failures { (P.state pool.new).failures ≡ (P.state pool.old).failures + failed_transfers result }
+    ensures changes { Changes file.now.file.sectors result (P.state pool.old) (P.state pool.new) }
 {
     let key_length = usize::from(file.key_length);
     let mut buffer = [0; 33];

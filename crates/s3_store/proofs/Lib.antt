@@ -1,3 +1,4 @@
+pub mod Calls
 pub mod Chunks
 pub mod Frames
 pub mod SectorLists

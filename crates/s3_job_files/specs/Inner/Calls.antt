@@ -1,9 +1,5 @@
--- What the calls on one open file answer, and what they leave.
-use Rattle.std.specs.Prelude.{◌≡◌, ◌+◌, ℕ, Bool, List, Option, Some, None, Result, Ok, Err, if◌then◌else◌}
-use Rattle.std.specs.List.{Contains}
-use Rattle.s3_store.specs.Inner.Failures.{failed_transfers}
-use Rattle.s3_store.specs.Inner.State.{PoolState, ChangesWithin, KeepsContents}
-use Rattle.s3_store.specs.declared.sector_fault.SectorFault.{SectorFault}
+-- What the calls on one open file answer.
+use Rattle.std.specs.Prelude.{◌≡◌, ℕ, Bool, List, Option, Some, None, Result, Ok, Err, if◌then◌else◌}
 use Rattle.s3_operator.specs.declared.halt_code.HaltCode.{HaltCode}
 use Rattle.s3_meaning.specs.Requests.{Answer, Done, Refused}
 use Rattle.s3_job_files.specs.declared.records.Put.{Put}
@@ -25,14 +21,3 @@ put_answer (PutRefused code) = Refused code
 abbrev pub Puts : Result (List (List ℕ)) HaltCode → Put → (old new : List (List ℕ)) → Type 0
 Puts meant PutDone old new = meant ≡ Ok new
 Puts meant (PutRefused code) old new = (meant ≡ Err code) × (new ≡ old)
-
--- ---- the sectors
--- none changes, and each transfer that failed is counted
-pub record Reads {T : Type 0} (result : Result T SectorFault) (old new : PoolState) : Type 0 where
-  pub keeps : KeepsContents old new
-  pub failures : new.failures ≡ old.failures + failed_transfers result
-
--- none but these does
-pub record Changes {T : Type 0} (sectors : List ℕ) (result : Result T SectorFault) (old new : PoolState) : Type 0 where
-  pub within : ChangesWithin (Contains sectors) old new
-  pub failures : new.failures ≡ old.failures + failed_transfers result

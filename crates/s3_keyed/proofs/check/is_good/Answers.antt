@@ -1,6 +1,5 @@
 use Rattle.std.proofs.Common.{◌≡◌, ◌*◌, ◌+◌, ◌-◌, ◌<◌, ◌≤◌, ℕ, map, min, refl, ap, ◌∙◌, subst, sym, arith}
 use Rattle.std.specs.List.{range_with_len}
-use Rattle.s3_store.proofs.Frames.{keeps_trans}
 use Rattle.s3_store.specs.Bytes.{part}
 use Rattle.s3_keyed.specs.KeyOrder.{number_of}
 use Rattle.s3_keyed.specs.Inner.KeyOrder.{IsAscending}
@@ -9,6 +8,7 @@ use Rattle.s3_keyed.specs.Inner.Shape.{layout_in, bytes_in, keys_on, index_secto
 use Rattle.s3_keyed.proofs.Checked.{AreChecked, checked-none, checked-good, none_short, not_after}
 use Rattle.s3_keyed.proofs.Goodness.{to_good, not_good}
 use Rattle.s3_keyed.proofs.Places.{length_keys}
+use Rattle.s3_store.proofs.Calls.{reads_ok, reads_err, reads_no_memory, reads_then}
 use Rattle.s3_keyed.proofs.Sectors.{starts, all_places, covers, upto_place, upto_next, later, not_first, all_held, good-sector-ascends, good-of-record, checked-sector}
 use Rattle.s3_keyed.proofs.check.is_good.Goals as goal
 
@@ -31,13 +31,12 @@ loop-place-init g c =
       checked = subst (AreChecked entry (keys_on f contents)) none (checked-none entry (keys_on f contents));
       last = λ first. absurd (omega (arith, first));
       short = none_short _ f.key_length c.of-last.ensures.short;
-      records = c.in_ok-read.ensures.ok ∙ ap (λ l. part (bytes_in f l) (256 * c.read.new.self.place) 256) (sym c.read.ensures.keeps.contents);
-      keeps = c.read.ensures.keeps;
-      failures = omega (arith, c.in_ok-read.ensures.failures);
+      records = c.in_ok-read.ensures.ok ∙ ap (λ l. part (bytes_in f l) (256 * c.read.new.self.place) 256) (sym c.read.ensures.reads.keeps.contents);
+      reads = reads_ok tt c.in_ok-read.ensures.reads;
     }
 
-pub returns-in_err-read_sector-clause-keeps : goal.returns-in_err-read_sector-clause-keeps
-returns-in_err-read_sector-clause-keeps g c = keeps_trans _ _ _ c.loop-place.invariant.keeps c.read_sector.ensures.keeps
+pub returns-in_err-read_sector-clause-reads : goal.returns-in_err-read_sector-clause-reads
+returns-in_err-read_sector-clause-reads g c = reads_err _ _ c.from_residual-in_err-read_sector.ensures.1 (reads_then c.loop-place.invariant.reads c.in_err-read_sector.ensures.reads)
 
 pub overflow_mul-place : goal.overflow_mul-place
 overflow_mul-place g c =
@@ -75,7 +74,7 @@ returns-then-not-follows-clause-good g c =
     let sector = c.read_sector.new.bytes in
     let starts = starts n p place c.entries_per_sector-per_sector.ensures.some (subst (λ e. place < e) c.div_ceil-place-end.ensures c.loop-place-test.true) in
     let here = covers p n place m c.entries_per_sector-per_sector.ensures.some starts c.min-entries.ensures in
-    let is = c.in_ok-read_sector.ensures.ok ∙ ap (λ l. index_sector f place (bytes_in f l)) c.loop-place.invariant.keeps.contents in
+    let is = c.in_ok-read_sector.ensures.ok ∙ ap (λ l. index_sector f place (bytes_in f l)) c.loop-place.invariant.reads.keeps.contents in
     let same = all_held (layout_in f) place p m f.key_length bytes sector refl c.entries_per_sector-per_sector.ensures.result f.short_key here.few is in
     let apart = rw c.from-key_length.ensures at c.if-not-follows.ensures in
     let is_last = c.loop-place.invariant.last apart.0 ∙ ap (λ i. (entry (i - 1)).key) (upto_place p n place starts) in
@@ -83,25 +82,22 @@ returns-then-not-follows-clause-good g c =
     let is_key = ap (λ e. e.key) (same 0 here.some ∙ ap entry at) in
     not_good (map entry (range_with_len 0 n)) keys (not_after entry keys n (place * p) _ _ starts (later p place c.entries_per_sector-per_sector.ensures.some apart.0) is_last is_key apart.1)
 
-pub returns-then-not-follows-clause-keeps : goal.returns-then-not-follows-clause-keeps
-returns-then-not-follows-clause-keeps g c =
-    keeps_trans _ _ _ c.loop-place.invariant.keeps c.read_sector.ensures.keeps
+pub returns-then-not-follows-clause-reads : goal.returns-then-not-follows-clause-reads
+returns-then-not-follows-clause-reads g c = reads_ok _ (reads_then c.loop-place.invariant.reads c.in_ok-read_sector.ensures.reads)
 
-pub returns-then-not-ascend-clause-keeps : goal.returns-then-not-ascend-clause-keeps
-returns-then-not-ascend-clause-keeps g c =
-    keeps_trans _ _ _ c.loop-place.invariant.keeps c.read_sector.ensures.keeps
+pub returns-then-not-ascend-clause-reads : goal.returns-then-not-ascend-clause-reads
+returns-then-not-ascend-clause-reads g c = reads_ok _ (reads_then c.loop-place.invariant.reads c.in_ok-read_sector.ensures.reads)
 
-pub returns-in_err-have_keys-clause-keeps : goal.returns-in_err-have_keys-clause-keeps
-returns-in_err-have_keys-clause-keeps g c =
-    keeps_trans _ _ _ (keeps_trans _ _ _ c.loop-place.invariant.keeps c.read_sector.ensures.keeps) c.have_keys.ensures.keeps
+pub returns-in_err-have_keys-clause-reads : goal.returns-in_err-have_keys-clause-reads
+returns-in_err-have_keys-clause-reads g c =
+    reads_err _ _ c.from_residual-in_err-have_keys.ensures.1 (reads_then (reads_then c.loop-place.invariant.reads c.in_ok-read_sector.ensures.reads) c.in_err-have_keys.ensures.reads)
 
-pub returns-then-not-branch-clause-keeps : goal.returns-then-not-branch-clause-keeps
-returns-then-not-branch-clause-keeps g c =
-    keeps_trans _ _ _ (keeps_trans _ _ _ c.loop-place.invariant.keeps c.read_sector.ensures.keeps) c.have_keys.ensures.keeps
+pub returns-then-not-branch-clause-reads : goal.returns-then-not-branch-clause-reads
+returns-then-not-branch-clause-reads g c = reads_ok _ (reads_then (reads_then c.loop-place.invariant.reads c.in_ok-read_sector.ensures.reads) c.in_ok-have_keys.ensures.reads)
 
-pub returns-in_err-note-clause-keeps : goal.returns-in_err-note-clause-keeps
-returns-in_err-note-clause-keeps g c =
-    keeps_trans _ _ _ (keeps_trans _ _ _ c.loop-place.invariant.keeps c.read_sector.ensures.keeps) c.have_keys.ensures.keeps
+pub returns-in_err-note-clause-reads : goal.returns-in_err-note-clause-reads
+returns-in_err-note-clause-reads g c =
+    reads_no_memory _ _ c.from_residual-in_err-note.ensures.1 c.in_err-note.ensures (reads_then (reads_then c.loop-place.invariant.reads c.in_ok-read_sector.ensures.reads) c.in_ok-have_keys.ensures.reads)
 
 pub ascend-requires-clause-some : goal.ascend-requires-clause-some
 ascend-requires-clause-some g c =
@@ -142,7 +138,7 @@ returns-then-not-ascend-clause-good g c =
     let sector = c.read_sector.new.bytes in
     let starts = starts n p place c.entries_per_sector-per_sector.ensures.some (subst (λ e. place < e) c.div_ceil-place-end.ensures c.loop-place-test.true) in
     let here = covers p n place m c.entries_per_sector-per_sector.ensures.some starts c.min-entries.ensures in
-    let is = c.in_ok-read_sector.ensures.ok ∙ ap (λ l. index_sector f place (bytes_in f l)) c.loop-place.invariant.keeps.contents in
+    let is = c.in_ok-read_sector.ensures.ok ∙ ap (λ l. index_sector f place (bytes_in f l)) c.loop-place.invariant.reads.keeps.contents in
     let same = all_held (layout_in f) place p m f.key_length bytes sector refl c.entries_per_sector-per_sector.ensures.result f.short_key here.few is in
     let not_up = rw c.from-key_length.ensures at c.if-not-ascend.ensures in
     not_good (map entry (range_with_len 0 n)) keys (λ good. not_up (good-sector-ascends entry (entry_here f.key_length sector) keys (place * p) m n same here.within good))
@@ -162,10 +158,10 @@ returns-then-not-branch-clause-good g c =
     let sector = c.read_sector.new.bytes in
     let starts = starts n p place c.entries_per_sector-per_sector.ensures.some (subst (λ e. place < e) c.div_ceil-place-end.ensures c.loop-place-test.true) in
     let here = covers p n place m c.entries_per_sector-per_sector.ensures.some starts c.min-entries.ensures in
-    let is = c.in_ok-read_sector.ensures.ok ∙ ap (λ l. index_sector f place (bytes_in f l)) c.loop-place.invariant.keeps.contents in
+    let is = c.in_ok-read_sector.ensures.ok ∙ ap (λ l. index_sector f place (bytes_in f l)) c.loop-place.invariant.reads.keeps.contents in
     let same = all_held (layout_in f) place p m f.key_length bytes sector refl c.entries_per_sector-per_sector.ensures.result f.short_key here.few is in
-    let kept = keeps_trans _ _ _ c.loop-place.invariant.keeps c.read_sector.ensures.keeps in
-    let bad = rw (c.if-not-branch.true, kept.contents) at c.in_ok-have_keys.ensures.good in
+    let read = reads_then c.loop-place.invariant.reads c.in_ok-read_sector.ensures.reads in
+    let bad = rw (c.if-not-branch.true, read.keeps.contents) at c.in_ok-have_keys.ensures.good in
     not_good (map entry (range_with_len 0 n)) keys (λ good. bad.2 (good-of-record entry (entry_here f.key_length sector) keys (place * p) m n bad.0 same here.within bad.1 good))
 
 pub loop-place-preserved : goal.loop-place-preserved
@@ -182,10 +178,10 @@ loop-place-preserved g c =
     let sector = c.read_sector.new.bytes in
     let starts = starts n p place c.entries_per_sector-per_sector.ensures.some (subst (λ e. place < e) c.div_ceil-place-end.ensures c.loop-place-test.true) in
     let here = covers p n place m c.entries_per_sector-per_sector.ensures.some starts c.min-entries.ensures in
-    let is = c.in_ok-read_sector.ensures.ok ∙ ap (λ l. index_sector f place (bytes_in f l)) c.loop-place.invariant.keeps.contents in
+    let is = c.in_ok-read_sector.ensures.ok ∙ ap (λ l. index_sector f place (bytes_in f l)) c.loop-place.invariant.reads.keeps.contents in
     let same = all_held (layout_in f) place p m f.key_length bytes sector refl c.entries_per_sector-per_sector.ensures.result f.short_key here.few is in
-    let kept = keeps_trans _ _ _ c.loop-place.invariant.keeps c.read_sector.ensures.keeps in
-    let of : (j : ℕ) → j < m → IsOfRecord keys (entry_here f.key_length sector j) = rw (c.if-not-branch.false, kept.contents) at c.in_ok-have_keys.ensures.good in
+    let read = reads_then c.loop-place.invariant.reads c.in_ok-read_sector.ensures.reads in
+    let of : (j : ℕ) → j < m → IsOfRecord keys (entry_here f.key_length sector j) = rw (c.if-not-branch.false, read.keeps.contents) at c.in_ok-have_keys.ensures.good in
     let up : IsAscending (entry_here f.key_length sector) m = rw c.from-key_length.ensures at c.if-not-ascend.ensures in
     let after : 0 < place → number_of c.loop-place.last.bytes < (entry_here f.key_length sector 0).key = rw c.from-key_length.ensures at c.if-not-follows.ensures in
     let before = subst (AreChecked entry keys) (upto_place p n place starts) c.loop-place.invariant.checked in
@@ -200,9 +196,8 @@ loop-place-preserved g c =
           up of);
       last = λ _. key ∙ ap (λ e. e.key) (same (m - 1) (omega (arith, here.some))) ∙ ap (λ i. (entry i).key) end ∙ ap (λ i. (entry (i - 1)).key) (sym next);
       short = rw c.from-key_length.ensures at c.key_of_entry-last.ensures.short;
-      records = c.in_ok-have_keys.ensures.here ∙ ap (λ l. part (bytes_in f l) (256 * c.have_keys.new.self.place) 256) (sym c.have_keys.ensures.keeps.contents);
-      keeps = keeps_trans _ _ _ kept c.have_keys.ensures.keeps;
-      failures = omega (arith, c.in_ok-read_sector.ensures.failures, c.in_ok-have_keys.ensures.failures, c.loop-place.invariant.failures);
+      records = c.in_ok-have_keys.ensures.here ∙ ap (λ l. part (bytes_in f l) (256 * c.have_keys.new.self.place) 256) (sym c.have_keys.ensures.reads.keeps.contents);
+      reads = reads_ok tt (reads_then read c.in_ok-have_keys.ensures.reads);
     }
   where
     border : (before last first key : ℕ) → last ≡ before → first ≡ key → last < first → before < key

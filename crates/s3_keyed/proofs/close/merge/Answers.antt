@@ -1,6 +1,5 @@
 use Rattle.std.proofs.Common.{◌≡◌, ◌≢◌, ◌+◌, ◌-◌, ◌^◌, ◌<◌, ℕ, true, length, map, take, refl, sym, ap, subst, ◌∙◌, arith}
 use Rattle.std.specs.List.{All, Contains, range_with_len}
-use Rattle.s3_store.proofs.Frames.{keeps_within, within_refl, within_trans}
 use Rattle.s3_files.specs.Records.{records_in}
 use Rattle.s3_files.proofs.FileFrames.{stored_within, stored_keeps}
 use Rattle.s3_keyed.specs.KeyOrder.{insert_entries, ascends, keys_in}
@@ -10,6 +9,7 @@ use Rattle.s3_keyed.specs.Inner.Shape.{layout_in, bytes_in, entry_of}
 use Rattle.s3_keyed.proofs.Merging.{IsMerging, merge-start}
 use Rattle.s3_keyed.proofs.MergeSteps.{next_place, next_fits, above_fits, less_left, less_added, some_entries, last_at, no_entries, last_hit, last_miss, step_moved, step_placed, merge_ends, ascends_take, short_take, short_at}
 use Rattle.s3_keyed.proofs.Places.{same_records}
+use Rattle.s3_store.proofs.Calls.{changes_none, changes_err, changes_behind, changes_then}
 use Rattle.s3_keyed.proofs.close.merge.Goals as goal
 
 pub returns-in_err-write_entry-clause-records : goal.returns-in_err-write_entry-clause-records
@@ -17,26 +17,24 @@ returns-in_err-write_entry-clause-records g c =
     let f = c.args.file.now in
     λ count few.
     same_records (layout_in f) (bytes_in f (g.P.Sectors.state c.last_above.new.pool).contents) (bytes_in f (g.P.Sectors.state c.write_entry.new.pool).contents) count (c.highest.left + (c.len-above.result - 1)) few c.write_entry.ensures.outside
-    ∙ ap (λ l. records_in f.file.record_length count (bytes_in f l)) c.last_above.ensures.keeps.contents
+    ∙ ap (λ l. records_in f.file.record_length count (bytes_in f l)) c.last_above.ensures.reads.keeps.contents
     ∙ c.highest.invariant.records count few
 
-pub returns-in_err-write_entry-clause-within : goal.returns-in_err-write_entry-clause-within
-returns-in_err-write_entry-clause-within g c =
-    let region = Contains c.args.file.now.file.sectors in
-    within_trans region _ _ _ c.highest.invariant.within (keeps_within region _ _ _ c.last_above.ensures.keeps c.write_entry.ensures.within)
+pub returns-in_err-write_entry-clause-changes : goal.returns-in_err-write_entry-clause-changes
+returns-in_err-write_entry-clause-changes g c =
+    changes_err _ _ c.from_residual-in_err-write_entry.ensures.1 (changes_then c.highest.invariant.changes (changes_behind c.in_ok-last.ensures.reads c.in_err-write_entry.ensures.changes))
 
 pub returns-in_err-write_entry-2-clause-records : goal.returns-in_err-write_entry-2-clause-records
 returns-in_err-write_entry-2-clause-records g c =
     let f = c.args.file.now in
     λ count few.
     same_records (layout_in f) (bytes_in f (g.P.Sectors.state c.last_above.new.pool).contents) (bytes_in f (g.P.Sectors.state c.write_entry-in_default-2.new.pool).contents) count (c.highest.left + (c.len-above.result - 1)) few c.write_entry-in_default-2.ensures.outside
-    ∙ ap (λ l. records_in f.file.record_length count (bytes_in f l)) c.last_above.ensures.keeps.contents
+    ∙ ap (λ l. records_in f.file.record_length count (bytes_in f l)) c.last_above.ensures.reads.keeps.contents
     ∙ c.highest.invariant.records count few
 
-pub returns-in_err-write_entry-2-clause-within : goal.returns-in_err-write_entry-2-clause-within
-returns-in_err-write_entry-2-clause-within g c =
-    let region = Contains c.args.file.now.file.sectors in
-    within_trans region _ _ _ c.highest.invariant.within (keeps_within region _ _ _ c.last_above.ensures.keeps c.write_entry-in_default-2.ensures.within)
+pub returns-in_err-write_entry-2-clause-changes : goal.returns-in_err-write_entry-2-clause-changes
+returns-in_err-write_entry-2-clause-changes g c =
+    changes_err _ _ c.from_residual-in_err-write_entry-2.ensures.1 (changes_then c.highest.invariant.changes (changes_behind c.in_ok-last.ensures.reads c.in_err-write_entry-2.ensures.changes))
 
 pub write_entry-requires-in_default-2-clause-short : goal.write_entry-requires-in_default-2-clause-short
 write_entry-requires-in_default-2-clause-short g c =
@@ -59,8 +57,7 @@ highest-preserved-in-Some-2 g c =
     let whole = insert_entries (map old (range_with_len 0 c.args.indexed)) (entries_of c.args.added.now) in
     let long = some_entries (entries_of c.highest.added) (entry_of c.in-Some.top) c.len-above.result c.len-above.ensures c.in-Some.ensures in
     let got = last_at items above top long c.in-Some.ensures in
-    let others : (i : ℕ) → i ≢ left + above → new i ≡ now i = λ i other. c.write_entry.ensures.others i other ∙ ap (λ l. entry_at (layout_in f) (bytes_in f l) i) c.last_above.ensures.keeps.contents in
-    let region = Contains f.file.sectors in
+    let others : (i : ℕ) → i ≢ left + above → new i ≡ now i = λ i other. c.write_entry.ensures.others i other ∙ ap (λ l. entry_at (layout_in f) (bytes_in f l) i) c.last_above.ensures.reads.keeps.contents in
     let hit = last_hit (now (left - 1)) left top.key (256 ^ f.key_length) c.in_ok-last.field-0 c.in-Some-2.last c.in-Some-2.is c.in_ok-last.ensures.last in
     record {
       upto = omega (arith, c.highest.invariant.upto);
@@ -69,10 +66,9 @@ highest-preserved-in-Some-2 g c =
       short = c.highest.invariant.short;
       records = λ count few.
           same_records (layout_in f) (bytes_in f (g.P.Sectors.state c.last_above.new.pool).contents) (bytes_in f (g.P.Sectors.state c.write_entry.new.pool).contents) count (left + above) few c.write_entry.ensures.outside
-          ∙ ap (λ l. records_in f.file.record_length count (bytes_in f l)) c.last_above.ensures.keeps.contents
+          ∙ ap (λ l. records_in f.file.record_length count (bytes_in f l)) c.last_above.ensures.reads.keeps.contents
           ∙ c.highest.invariant.records count few;
-      within = within_trans region _ _ _ c.highest.invariant.within (keeps_within region _ _ _ c.last_above.ensures.keeps c.write_entry.ensures.within);
-      failures = omega (arith, c.in_ok-write_entry.ensures.failures, c.in_ok-last.ensures.failures, c.highest.invariant.failures);
+      changes = changes_then c.highest.invariant.changes (changes_behind c.in_ok-last.ensures.reads c.in_ok-write_entry.ensures.changes);
     }
 
 pub highest-preserved : goal.highest-preserved
@@ -89,8 +85,7 @@ highest-preserved g c =
     let whole = insert_entries (map old (range_with_len 0 c.args.indexed)) (entries_of c.args.added.now) in
     let long = some_entries (entries_of c.highest.added) (entry_of c.in-Some.top) c.len-above.result c.len-above.ensures c.in-Some.ensures in
     let got = last_at items above top long c.in-Some.ensures in
-    let others : (i : ℕ) → i ≢ left + above → new i ≡ now i = λ i other. c.write_entry-in_default-2.ensures.others i other ∙ ap (λ l. entry_at (layout_in f) (bytes_in f l) i) c.last_above.ensures.keeps.contents in
-    let region = Contains f.file.sectors in
+    let others : (i : ℕ) → i ≢ left + above → new i ≡ now i = λ i other. c.write_entry-in_default-2.ensures.others i other ∙ ap (λ l. entry_at (layout_in f) (bytes_in f l) i) c.last_above.ensures.reads.keeps.contents in
     let miss = last_miss (now (left - 1)) left top.key (256 ^ f.key_length) c.in_ok-last.field-0 c.in_default-2.is c.in_ok-last.ensures.last in
     let rest : entries_of c.remove_last.new.self ≡ take above items = c.remove_last.ensures ∙ ap (λ n. take (n - 1) items) (sym c.len-above.ensures) in
     record {
@@ -100,10 +95,9 @@ highest-preserved g c =
       short = subst (All (λ entry. entry.key < 256 ^ f.key_length)) (sym rest) (short_take (256 ^ f.key_length) above items c.highest.invariant.short);
       records = λ count few.
           same_records (layout_in f) (bytes_in f (g.P.Sectors.state c.last_above.new.pool).contents) (bytes_in f (g.P.Sectors.state c.write_entry-in_default-2.new.pool).contents) count (left + above) few c.write_entry-in_default-2.ensures.outside
-          ∙ ap (λ l. records_in f.file.record_length count (bytes_in f l)) c.last_above.ensures.keeps.contents
+          ∙ ap (λ l. records_in f.file.record_length count (bytes_in f l)) c.last_above.ensures.reads.keeps.contents
           ∙ c.highest.invariant.records count few;
-      within = within_trans region _ _ _ c.highest.invariant.within (keeps_within region _ _ _ c.last_above.ensures.keeps c.write_entry-in_default-2.ensures.within);
-      failures = omega (arith, c.in_ok-write_entry-2.ensures.failures, c.in_ok-last.ensures.failures, c.highest.invariant.failures);
+      changes = changes_then c.highest.invariant.changes (changes_behind c.in_ok-last.ensures.reads c.in_ok-write_entry-2.ensures.changes);
     }
 
 pub returns-clause-merged : goal.returns-clause-merged
@@ -123,14 +117,13 @@ highest-init g c =
       added_ascends = c.requires.added_ascends;
       short = c.requires.short;
       records = λ count few. refl;
-      within = within_refl (Contains f.file.sectors) (g.P.Sectors.state c.args.pool.now);
-      failures = refl;
+      changes = changes_none f.file.sectors tt (g.P.Sectors.state c.args.pool.now);
     }
 
 pub last_above-requires-clause-stored : goal.last_above-requires-clause-stored
 last_above-requires-clause-stored g c =
     let sectors = c.args.file.now.file.sectors in
-    stored_within sectors (Contains sectors) _ (g.P.Sectors.state c.highest.pool) c.requires.stored c.highest.invariant.within
+    stored_within sectors (Contains sectors) _ (g.P.Sectors.state c.highest.pool) c.requires.stored c.highest.invariant.changes.within
 
 pub overflow_cast-above : goal.overflow_cast-above
 overflow_cast-above g c =
@@ -147,7 +140,7 @@ overflow_add-left g c =
 pub write_entry-requires-clause-stored : goal.write_entry-requires-clause-stored
 write_entry-requires-clause-stored g c =
     let sectors = c.args.file.now.file.sectors in
-    stored_keeps sectors (g.P.Sectors.state c.highest.pool) _ (stored_within sectors (Contains sectors) _ _ c.requires.stored c.highest.invariant.within) c.last_above.ensures.keeps
+    stored_keeps sectors (g.P.Sectors.state c.highest.pool) _ (stored_within sectors (Contains sectors) _ _ c.requires.stored c.highest.invariant.changes.within) c.last_above.ensures.reads.keeps
 
 pub write_entry-requires-clause-within : goal.write_entry-requires-clause-within
 write_entry-requires-clause-within g c =
@@ -170,7 +163,7 @@ overflow_add-left-in_default-2 g c =
 pub write_entry-requires-in_default-2-clause-stored : goal.write_entry-requires-in_default-2-clause-stored
 write_entry-requires-in_default-2-clause-stored g c =
     let sectors = c.args.file.now.file.sectors in
-    stored_keeps sectors (g.P.Sectors.state c.highest.pool) _ (stored_within sectors (Contains sectors) _ _ c.requires.stored c.highest.invariant.within) c.last_above.ensures.keeps
+    stored_keeps sectors (g.P.Sectors.state c.highest.pool) _ (stored_within sectors (Contains sectors) _ _ c.requires.stored c.highest.invariant.changes.within) c.last_above.ensures.reads.keeps
 
 pub write_entry-requires-in_default-2-clause-within : goal.write_entry-requires-in_default-2-clause-within
 write_entry-requires-in_default-2-clause-within g c =

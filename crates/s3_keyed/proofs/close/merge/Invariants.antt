@@ -1,10 +1,10 @@
-use Rattle.std.proofs.Common.{◌≡◌, ◌+◌, ◌^◌, ◌<◌, ◌≤◌, ℕ, true, length, map}
-use Rattle.std.specs.List.{All, Contains, range_with_len}
-use Rattle.s3_store.specs.Inner.State.{ChangesWithin}
+use Rattle.std.proofs.Common.{◌≡◌, ◌+◌, ◌^◌, ◌<◌, ◌≤◌, ℕ, true, length, map, Ok}
+use Rattle.std.specs.List.{All, range_with_len}
 use Rattle.s3_files.specs.Records.{records_in}
 use Rattle.s3_keyed.specs.KeyOrder.{ascends, keys_in, insert_entries}
 use Rattle.s3_keyed.specs.Index.{entry_at}
 use Rattle.s3_keyed.specs.Inner.Added.{entries_of}
+use Rattle.s3_store.specs.Inner.Calls.{Changes}
 use Rattle.s3_keyed.specs.Inner.Shape.{layout_in, bytes_in}
 use Rattle.s3_keyed.proofs.Merging.{IsMerging}
 use Rattle.s3_keyed.proofs.close.merge.Given as goal
@@ -17,8 +17,7 @@ invariant-highest g l = record {
   added_ascends : ascends (keys_in (entries_of l.added)) ≡ true;
   short : All (λ entry. entry.key < 256 ^ l.file.key_length) (entries_of l.added);
   records : (count : ℕ) → count ≤ l.file.file.capacity → records_in l.file.file.record_length count (bytes_in l.file (g.P.Sectors.state l.pool).contents) ≡ records_in l.file.file.record_length count (bytes_in l.file (g.P.Sectors.state l.initial.pool).contents);
-  within : ChangesWithin (Contains l.file.file.sectors) (g.P.Sectors.state l.initial.pool) (g.P.Sectors.state l.pool);
-  failures : (g.P.Sectors.state l.pool).failures ≡ (g.P.Sectors.state l.initial.pool).failures;
+  changes : Changes {T = Unit {0}} l.file.file.sectors (Ok tt) (g.P.Sectors.state l.initial.pool) (g.P.Sectors.state l.pool);
 }
 
 abbrev pub decreases-highest : goal.decreases-highest

@@ -1,9 +1,9 @@
 use Rattle.std.proofs.Common.{◌*◌, ◌+◌, ◌-◌, ◌/◌, ◌<◌, ap, ◌∙◌, subst, arith}
 use Rattle.std.proofs.Math.Nat.{mul-le-mul_left}
-use Rattle.s3_store.proofs.Frames.{keeps_trans}
 use Rattle.s3_keyed.specs.KeyOrder.{number_of}
 use Rattle.s3_keyed.specs.Index.{entry_at}
 use Rattle.s3_keyed.specs.Inner.Shape.{layout_in, bytes_in, index_sector, entry_here}
+use Rattle.s3_store.proofs.Calls.{reads_then}
 use Rattle.s3_keyed.proofs.Sectors.{starts_before, place_within, covers, all_held, sector_ascends, all_above, all_below, found_within, nowhere}
 use Rattle.s3_keyed.proofs.search.search_index.Goals as goal
 
@@ -42,7 +42,7 @@ find_entry-requires-clause-ascending g c =
     let some = c.entries_per_sector-per_sector.ensures.some in
     let bytes = bytes_in f (g.P.Sectors.state c.args.pool.now).contents in
     let here = covers p n place m some (starts_before n p place c.halve.high some c.next_of-place.ensures.below c.halve.invariant.within) c.min-count.ensures in
-    let is = c.in_ok-read_sector.ensures.ok ∙ ap (λ l. index_sector f place (bytes_in f l)) c.halve.invariant.keeps.contents in
+    let is = c.in_ok-read_sector.ensures.ok ∙ ap (λ l. index_sector f place (bytes_in f l)) c.halve.invariant.reads.keeps.contents in
     sector_ascends (entry_at (layout_in f) bytes) (entry_here c.from-key_length.result c.read_sector.new.bytes) (place * p) m n
     (all_held (layout_in f) place p m c.from-key_length.result bytes c.read_sector.new.bytes c.from-key_length.ensures c.entries_per_sector-per_sector.ensures.result f.short_key here.few is)
     here.within c.requires.ascending
@@ -57,14 +57,13 @@ halve-preserved-in-Before g c =
     let some = c.entries_per_sector-per_sector.ensures.some in
     let bytes = bytes_in f (g.P.Sectors.state c.args.pool.now).contents in
     let here = covers p n place m some (starts_before n p place c.halve.high some c.next_of-place.ensures.below c.halve.invariant.within) c.min-count.ensures in
-    let is = c.in_ok-read_sector.ensures.ok ∙ ap (λ l. index_sector f place (bytes_in f l)) c.halve.invariant.keeps.contents in
+    let is = c.in_ok-read_sector.ensures.ok ∙ ap (λ l. index_sector f place (bytes_in f l)) c.halve.invariant.reads.keeps.contents in
     let same = all_held (layout_in f) place p m c.from-key_length.result bytes c.read_sector.new.bytes c.from-key_length.ensures c.entries_per_sector-per_sector.ensures.result f.short_key here.few is in
     record {
       within = omega (arith, c.next_of-place.ensures.below, c.halve.invariant.within);
       below = c.halve.invariant.below;
       above = all_above (entry_at (layout_in f) bytes) (entry_here c.from-key_length.result c.read_sector.new.bytes) (place * p) m n (number_of c.args.key.now.bytes) same here.some c.requires.ascending c.in-Before.ensures;
-      keeps = keeps_trans _ _ _ c.halve.invariant.keeps c.read_sector.ensures.keeps;
-      failures = omega (arith, c.in_ok-read_sector.ensures.failures, c.halve.invariant.failures);
+      reads = reads_then c.halve.invariant.reads c.in_ok-read_sector.ensures.reads;
     }
 
 pub returns-in-Within-clause-found : goal.returns-in-Within-clause-found
@@ -77,7 +76,7 @@ returns-in-Within-clause-found g c =
     let some = c.entries_per_sector-per_sector.ensures.some in
     let bytes = bytes_in f (g.P.Sectors.state c.args.pool.now).contents in
     let here = covers p n place m some (starts_before n p place c.halve.high some c.next_of-place.ensures.below c.halve.invariant.within) c.min-count.ensures in
-    let is = c.in_ok-read_sector.ensures.ok ∙ ap (λ l. index_sector f place (bytes_in f l)) c.halve.invariant.keeps.contents in
+    let is = c.in_ok-read_sector.ensures.ok ∙ ap (λ l. index_sector f place (bytes_in f l)) c.halve.invariant.reads.keeps.contents in
     let same = all_held (layout_in f) place p m c.from-key_length.result bytes c.read_sector.new.bytes c.from-key_length.ensures c.entries_per_sector-per_sector.ensures.result f.short_key here.few is in
     found_within (entry_at (layout_in f) bytes) (entry_here c.from-key_length.result c.read_sector.new.bytes) (place * p) m n (number_of c.args.key.now.bytes) c.in-Within.found same here.within c.requires.ascending c.in-Within.ensures
 
@@ -91,14 +90,13 @@ halve-preserved g c =
     let some = c.entries_per_sector-per_sector.ensures.some in
     let bytes = bytes_in f (g.P.Sectors.state c.args.pool.now).contents in
     let here = covers p n place m some (starts_before n p place c.halve.high some c.next_of-place.ensures.below c.halve.invariant.within) c.min-count.ensures in
-    let is = c.in_ok-read_sector.ensures.ok ∙ ap (λ l. index_sector f place (bytes_in f l)) c.halve.invariant.keeps.contents in
+    let is = c.in_ok-read_sector.ensures.ok ∙ ap (λ l. index_sector f place (bytes_in f l)) c.halve.invariant.reads.keeps.contents in
     let same = all_held (layout_in f) place p m c.from-key_length.result bytes c.read_sector.new.bytes c.from-key_length.ensures c.entries_per_sector-per_sector.ensures.result f.short_key here.few is in
     record {
       within = c.halve.invariant.within;
       below = λ i less inside. all_below (entry_at (layout_in f) bytes) (entry_here c.from-key_length.result c.read_sector.new.bytes) (place * p) m n (number_of c.args.key.now.bytes) same here.some here.within c.requires.ascending c.in-Behind.ensures i (here.rest i less inside);
       above = c.halve.invariant.above;
-      keeps = keeps_trans _ _ _ c.halve.invariant.keeps c.read_sector.ensures.keeps;
-      failures = omega (arith, c.in_ok-read_sector.ensures.failures, c.halve.invariant.failures);
+      reads = reads_then c.halve.invariant.reads c.in_ok-read_sector.ensures.reads;
     }
 
 pub returns-clause-found : goal.returns-clause-found

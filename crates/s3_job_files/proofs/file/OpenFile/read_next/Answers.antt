@@ -2,7 +2,7 @@ use Rattle.std.proofs.Common.{ap, sym, ◌∙◌}
 use Rattle.s3_job_files.specs.Requests.{answer_at, with_read}
 use Rattle.s3_job_files.specs.Inner.Holds.{job_file_of, records_of}
 use Rattle.s3_job_files.proofs.OneFile.{answer_found, usable_kept}
-use Rattle.s3_job_files.proofs.Sectors.{reads_then}
+use Rattle.s3_store.proofs.Calls.{reads_then}
 use Rattle.s3_job_files.proofs.file.OpenFile.read_next.Goals as goal
 
 pub get-requires-clause-usable : goal.get-requires-clause-usable

@@ -1,7 +1,7 @@
 use Rattle.std.proofs.Common.{◌∙◌}
 use Rattle.s3_job_files.specs.Inner.Records.{changes_of}
 use Rattle.s3_job_files.proofs.OneFile.{nothing_to_update, of_label_kept, updated_after, usable_kept}
-use Rattle.s3_job_files.proofs.Sectors.{changes_behind, changes_from, reads_ok}
+use Rattle.s3_store.proofs.Calls.{changes_behind, changes_from, reads_ok}
 use Rattle.s3_job_files.proofs.file.OpenFile.update.Goals as goal
 
 pub update_at-requires : goal.update_at-requires

@@ -2,7 +2,7 @@ use Rattle.std.proofs.Common.{ap, ◌∙◌}
 use Rattle.s3_job_files.specs.Inner.Records.{changes_of}
 use Rattle.s3_job_files.specs.Records.{overlaid}
 use Rattle.s3_job_files.proofs.OneFile.{found_there, none_found, of_label_kept, updated_found, usable_kept}
-use Rattle.s3_job_files.proofs.Sectors.{changes_behind, changes_from, reads_ok}
+use Rattle.s3_store.proofs.Calls.{changes_behind, changes_from, reads_ok}
 use Rattle.s3_job_files.proofs.file.OpenFile.update_in.Goals as goal
 
 pub put-requires-clause-usable : goal.put-requires-clause-usable

@@ -34,19 +34,19 @@ returns-clause-added g c =
     added_made (layout_in self.file).key self.file.file.capacity c.args.bytes.now (records_now (shown self) contents) (number_of c.key_in-key.result.bytes) c.key_in-key.ensures.key
     (c.in_ok-place.ensures.place ∙ is_none c.in_ok-place.field-0 (sym c.is_some.ensures ∙ c.if-is_some.false))
     (omega (arith, length_records self.file.file.record_length self.count (bytes_in self.file contents), differs, counted))
-    ∙ ap Ok (sym (c.in_ok-append_added.ensures.ok ∙ ap (λ l. records_now (shown self) l ++ c.args.bytes.now ∷ []) c.place.ensures.keeps.contents))
+    ∙ ap Ok (sym (c.in_ok-append_added.ensures.ok ∙ ap (λ l. records_now (shown self) l ++ c.args.bytes.now ∷ []) c.place.ensures.reads.keeps.contents))
 
 pub returns-in_err-append_added-clause-within : goal.returns-in_err-append_added-clause-within
-returns-in_err-append_added-clause-within g c = keeps_within _ _ (g.P.Sectors.state c.place.new.pool) _ c.place.ensures.keeps c.append_added.ensures.within
+returns-in_err-append_added-clause-within g c = keeps_within _ _ (g.P.Sectors.state c.place.new.pool) _ c.place.ensures.reads.keeps c.append_added.ensures.changes.within
 
 pub returns-clause-within : goal.returns-clause-within
-returns-clause-within g c = keeps_within _ _ (g.P.Sectors.state c.place.new.pool) _ c.place.ensures.keeps c.append_added.ensures.within
+returns-clause-within g c = keeps_within _ _ (g.P.Sectors.state c.place.new.pool) _ c.place.ensures.reads.keeps c.append_added.ensures.changes.within
 
 pub append_added-requires-clause-stored : goal.append_added-requires-clause-stored
-append_added-requires-clause-stored g c = stored_keeps c.args.self.now.file.file.sectors _ _ c.requires.stored c.place.ensures.keeps
+append_added-requires-clause-stored g c = stored_keeps c.args.self.now.file.file.sectors _ _ c.requires.stored c.place.ensures.reads.keeps
 
 pub append_added-requires-clause-ordered : goal.append_added-requires-clause-ordered
-append_added-requires-clause-ordered g c = ordered_keeps (shown c.args.self.now) _ _ c.requires.ordered c.place.ensures.keeps
+append_added-requires-clause-ordered g c = ordered_keeps (shown c.args.self.now) _ _ c.requires.ordered c.place.ensures.reads.keeps
 
 pub append_added-requires-clause-room : goal.append_added-requires-clause-room
 append_added-requires-clause-room g c = some_room c.args.self.now.count c.args.self.now.file.file.capacity c.args.self.now.counted c.if-self.false
@@ -54,23 +54,23 @@ append_added-requires-clause-room g c = some_room c.args.self.now.count c.args.s
 pub append_added-requires-clause-is_new : goal.append_added-requires-clause-is_new
 append_added-requires-clause-is_new g c =
     let self = c.args.self.now in
-    ap (λ l. place_of_key (number_of c.key_in-key.result.bytes) (keys_now (shown self) l)) c.place.ensures.keeps.contents
+    ap (λ l. place_of_key (number_of c.key_in-key.result.bytes) (keys_now (shown self) l)) c.place.ensures.reads.keeps.contents
     ∙ c.in_ok-place.ensures.place ∙ is_none c.in_ok-place.field-0 (sym c.is_some.ensures ∙ c.if-is_some.false)
 
 pub returns-in_err-place-clause-within : goal.returns-in_err-place-clause-within
-returns-in_err-place-clause-within g c = within_from_keeps (Contains c.args.self.now.file.file.sectors) _ _ c.place.ensures.keeps
+returns-in_err-place-clause-within g c = within_from_keeps (Contains c.args.self.now.file.file.sectors) _ _ c.place.ensures.reads.keeps
 
 pub returns-then-is_some-clause-within : goal.returns-then-is_some-clause-within
-returns-then-is_some-clause-within g c = within_from_keeps (Contains c.args.self.now.file.file.sectors) _ _ c.place.ensures.keeps
+returns-then-is_some-clause-within g c = within_from_keeps (Contains c.args.self.now.file.file.sectors) _ _ c.place.ensures.reads.keeps
 
 pub returns-then-self-clause-within : goal.returns-then-self-clause-within
-returns-then-self-clause-within g c = within_from_keeps (Contains c.args.self.now.file.file.sectors) _ _ c.place.ensures.keeps
+returns-then-self-clause-within g c = within_from_keeps (Contains c.args.self.now.file.file.sectors) _ _ c.place.ensures.reads.keeps
 
 pub returns-then-is_some-clause-refused : goal.returns-then-is_some-clause-refused
-returns-then-is_some-clause-refused g c = record { file = refl; sectors = c.place.ensures.keeps }
+returns-then-is_some-clause-refused g c = record { file = refl; sectors = c.place.ensures.reads.keeps }
 
 pub returns-then-self-clause-refused : goal.returns-then-self-clause-refused
-returns-then-self-clause-refused g c = record { file = refl; sectors = c.place.ensures.keeps }
+returns-then-self-clause-refused g c = record { file = refl; sectors = c.place.ensures.reads.keeps }
 
 pub returns-in_err-place-clause-same : goal.returns-in_err-place-clause-same
 returns-in_err-place-clause-same g c = record { sectors = refl; layout = refl; started = refl }

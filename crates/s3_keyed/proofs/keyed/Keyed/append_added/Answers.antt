@@ -1,12 +1,11 @@
 use Rattle.std.proofs.Common.{◌^◌, refl}
-use Rattle.std.specs.List.{Contains}
-use Rattle.s3_store.proofs.Frames.{within_refl}
 use Rattle.s3_keyed.specs.KeyOrder.{number_of}
 use Rattle.s3_keyed.specs.Inner.Added.{entries_of}
 use Rattle.s3_keyed.specs.Inner.Shape.{layout_in, bytes_in}
 use Rattle.s3_files.proofs.RecordLemmas.{records_push}
 use Rattle.s3_keyed.proofs.Appending.{appended_added, added_lacks}
 use Rattle.s3_keyed.proofs.MergeSteps.{number_fits}
+use Rattle.s3_store.proofs.Calls.{changes_none, changes_no_memory}
 use Rattle.s3_keyed.proofs.keyed.Keyed.append_added.Goals as goal
 
 pub returns-clause-ok : goal.returns-clause-ok
@@ -31,8 +30,9 @@ overflow_add-self g c = number_fits c.args.self.now.file c.args.self.now.count c
 pub insert-requires : goal.insert-requires
 insert-requires g c = record { is_new = added_lacks _ _ _ _ _ _ _ (number_of c.args.key.bytes) c.requires.ordered c.requires.is_new }
 
-pub returns-in_err-insert-clause-within : goal.returns-in_err-insert-clause-within
-returns-in_err-insert-clause-within g c = within_refl (Contains c.args.self.now.file.file.sectors) (g.P.Sectors.state c.args.pool.now)
+pub returns-in_err-insert-clause-changes : goal.returns-in_err-insert-clause-changes
+returns-in_err-insert-clause-changes g c =
+    changes_no_memory _ _ c.from_residual.ensures.1 c.in_err-insert.ensures.fault (changes_none {T = Unit {0}} c.args.self.now.file.file.sectors tt (g.P.Sectors.state c.args.pool.now))
 
 pub returns-in_err-insert-clause-same : goal.returns-in_err-insert-clause-same
 returns-in_err-insert-clause-same g c = record { sectors = refl; layout = refl; started = refl }

@@ -1,6 +1,4 @@
 use Rattle.std.proofs.Common.{◌≡◌, ◌+◌, ◌++◌, ◌∷◌, [], ◌^◌, length, ap, subst, ◌∙◌, arith}
-use Rattle.std.specs.List.{Contains}
-use Rattle.s3_store.proofs.Frames.{within_trans}
 use Rattle.s3_keyed.specs.KeyOrder.{number_of}
 use Rattle.s3_keyed.specs.Index.{index_in}
 use Rattle.s3_keyed.specs.Inner.Index.{keys_at}
@@ -10,6 +8,7 @@ use Rattle.s3_keyed.specs.Inner.Shape.{layout_in, bytes_in}
 use Rattle.s3_files.proofs.RecordLemmas.{records_push}
 use Rattle.s3_keyed.proofs.Places.{length_keys, same_records}
 use Rattle.s3_keyed.proofs.Appending.{appended_indexed}
+use Rattle.s3_store.proofs.Calls.{changes_err, changes_then}
 use Rattle.s3_keyed.proofs.keyed.Keyed.append_indexed.Goals as goal
 
 pub write_entry-requires-clause-within : goal.write_entry-requires-clause-within
@@ -18,8 +17,8 @@ write_entry-requires-clause-within g c =
     let counted = c.requires.ordered.counted in
     omega (arith, counted, c.requires.room, length_keys (layout_in self.file) self.count (bytes_in self.file (g.P.Sectors.state c.args.pool.now).contents))
 
-pub returns-in_err-write_record-clause-within : goal.returns-in_err-write_record-clause-within
-returns-in_err-write_record-clause-within g c = within_trans (Contains c.args.self.now.file.file.sectors) _ _ _ c.write_entry.ensures.within c.write_record.ensures.within
+pub returns-in_err-write_record-clause-changes : goal.returns-in_err-write_record-clause-changes
+returns-in_err-write_record-clause-changes g c = changes_err _ _ c.from_residual-in_err-write_record.ensures.1 (changes_then c.in_ok-write_entry.ensures.changes c.in_err-write_record.ensures.changes)
 
 pub returns-clause-ok : goal.returns-clause-ok
 returns-clause-ok g c =
@@ -44,5 +43,5 @@ returns-clause-ordered g c =
     c.requires.ordered c.requires.none_added c.requires.above c.in_ok-write_entry.ensures.ok c.write_entry.ensures.others (same_records (layout_in self.file) old middle self.count self.indexed self.counted c.write_entry.ensures.outside)
     c.write_record.ensures.outside c.in_ok-write_record.ensures.ok c.write_record.ensures.records c.requires.key)
 
-pub returns-clause-within : goal.returns-clause-within
-returns-clause-within g c = within_trans (Contains c.args.self.now.file.file.sectors) _ _ _ c.write_entry.ensures.within c.write_record.ensures.within
+pub returns-clause-changes : goal.returns-clause-changes
+returns-clause-changes g c = changes_then c.in_ok-write_entry.ensures.changes c.in_ok-write_record.ensures.changes

@@ -31,13 +31,13 @@ returns-then-is_empty-clause-loaded g c =
     let counted = self.counted in
     loaded_made (layout_in self.file).key self.file.file.capacity c.args.bytes.now (records_now (shown self) contents) (number_of c.key_in-key.result.bytes) c.key_in-key.ensures.key (c.in_ok-is_above_all.ensures.above ∙ c.if-not-branch.false)
     (omega (arith, length_records self.file.file.record_length self.count (bytes_in self.file contents), differs, counted))
-    ∙ ap Ok (sym (c.in_ok-append_indexed.ensures.ok ∙ ap (λ l. records_now (shown self) l ++ c.args.bytes.now ∷ []) c.is_above_all.ensures.keeps.contents))
+    ∙ ap Ok (sym (c.in_ok-append_indexed.ensures.ok ∙ ap (λ l. records_now (shown self) l ++ c.args.bytes.now ∷ []) c.is_above_all.ensures.reads.keeps.contents))
 
 pub append_added-requires-clause-is_new : goal.append_added-requires-clause-is_new
 append_added-requires-clause-is_new g c =
     let self = c.args.self.now in
     let k = number_of c.key_in-key.result.bytes in
-    ap (λ l. place_of_key k (keys_now (shown self) l)) c.is_above_all.ensures.keeps.contents
+    ap (λ l. place_of_key k (keys_now (shown self) l)) c.is_above_all.ensures.reads.keeps.contents
     ∙ above_is_new k 0 (keys_now (shown self) (g.P.Sectors.state c.args.pool.now).contents) (c.in_ok-is_above_all.ensures.above ∙ c.if-not-branch.false)
 
 pub returns-clause-loaded : goal.returns-clause-loaded
@@ -48,34 +48,34 @@ returns-clause-loaded g c =
     let counted = self.counted in
     loaded_made (layout_in self.file).key self.file.file.capacity c.args.bytes.now (records_now (shown self) contents) (number_of c.key_in-key.result.bytes) c.key_in-key.ensures.key (c.in_ok-is_above_all.ensures.above ∙ c.if-not-branch.false)
     (omega (arith, length_records self.file.file.record_length self.count (bytes_in self.file contents), differs, counted))
-    ∙ ap Ok (sym (c.in_ok-append_added.ensures.ok ∙ ap (λ l. records_now (shown self) l ++ c.args.bytes.now ∷ []) c.is_above_all.ensures.keeps.contents))
+    ∙ ap Ok (sym (c.in_ok-append_added.ensures.ok ∙ ap (λ l. records_now (shown self) l ++ c.args.bytes.now ∷ []) c.is_above_all.ensures.reads.keeps.contents))
 
 pub returns-in_err-append_indexed-clause-within : goal.returns-in_err-append_indexed-clause-within
-returns-in_err-append_indexed-clause-within g c = keeps_within _ _ (g.P.Sectors.state c.is_above_all.new.pool) _ c.is_above_all.ensures.keeps c.append_indexed.ensures.within
+returns-in_err-append_indexed-clause-within g c = keeps_within _ _ (g.P.Sectors.state c.is_above_all.new.pool) _ c.is_above_all.ensures.reads.keeps c.append_indexed.ensures.changes.within
 
 pub returns-then-is_empty-clause-within : goal.returns-then-is_empty-clause-within
-returns-then-is_empty-clause-within g c = keeps_within _ _ (g.P.Sectors.state c.is_above_all.new.pool) _ c.is_above_all.ensures.keeps c.append_indexed.ensures.within
+returns-then-is_empty-clause-within g c = keeps_within _ _ (g.P.Sectors.state c.is_above_all.new.pool) _ c.is_above_all.ensures.reads.keeps c.append_indexed.ensures.changes.within
 
 pub returns-in_err-append_added-clause-within : goal.returns-in_err-append_added-clause-within
-returns-in_err-append_added-clause-within g c = keeps_within _ _ (g.P.Sectors.state c.is_above_all.new.pool) _ c.is_above_all.ensures.keeps c.append_added.ensures.within
+returns-in_err-append_added-clause-within g c = keeps_within _ _ (g.P.Sectors.state c.is_above_all.new.pool) _ c.is_above_all.ensures.reads.keeps c.append_added.ensures.changes.within
 
 pub returns-clause-within : goal.returns-clause-within
-returns-clause-within g c = keeps_within _ _ (g.P.Sectors.state c.is_above_all.new.pool) _ c.is_above_all.ensures.keeps c.append_added.ensures.within
+returns-clause-within g c = keeps_within _ _ (g.P.Sectors.state c.is_above_all.new.pool) _ c.is_above_all.ensures.reads.keeps c.append_added.ensures.changes.within
 
 pub append_indexed-requires-clause-stored : goal.append_indexed-requires-clause-stored
-append_indexed-requires-clause-stored g c = stored_keeps c.args.self.now.file.file.sectors _ _ c.requires.stored c.is_above_all.ensures.keeps
+append_indexed-requires-clause-stored g c = stored_keeps c.args.self.now.file.file.sectors _ _ c.requires.stored c.is_above_all.ensures.reads.keeps
 
 pub append_indexed-requires-clause-ordered : goal.append_indexed-requires-clause-ordered
-append_indexed-requires-clause-ordered g c = ordered_keeps (shown c.args.self.now) _ _ c.requires.ordered c.is_above_all.ensures.keeps
+append_indexed-requires-clause-ordered g c = ordered_keeps (shown c.args.self.now) _ _ c.requires.ordered c.is_above_all.ensures.reads.keeps
 
 pub append_indexed-requires-clause-room : goal.append_indexed-requires-clause-room
 append_indexed-requires-clause-room g c = some_room c.args.self.now.count c.args.self.now.file.file.capacity c.args.self.now.counted c.if-self.false
 
 pub append_added-requires-clause-stored : goal.append_added-requires-clause-stored
-append_added-requires-clause-stored g c = stored_keeps c.args.self.now.file.file.sectors _ _ c.requires.stored c.is_above_all.ensures.keeps
+append_added-requires-clause-stored g c = stored_keeps c.args.self.now.file.file.sectors _ _ c.requires.stored c.is_above_all.ensures.reads.keeps
 
 pub append_added-requires-clause-ordered : goal.append_added-requires-clause-ordered
-append_added-requires-clause-ordered g c = ordered_keeps (shown c.args.self.now) _ _ c.requires.ordered c.is_above_all.ensures.keeps
+append_added-requires-clause-ordered g c = ordered_keeps (shown c.args.self.now) _ _ c.requires.ordered c.is_above_all.ensures.reads.keeps
 
 pub append_added-requires-clause-room : goal.append_added-requires-clause-room
 append_added-requires-clause-room g c = some_room c.args.self.now.count c.args.self.now.file.file.capacity c.args.self.now.counted c.if-self.false
@@ -83,22 +83,22 @@ append_added-requires-clause-room g c = some_room c.args.self.now.count c.args.s
 pub append_indexed-requires-clause-above : goal.append_indexed-requires-clause-above
 append_indexed-requires-clause-above g c =
     let self = c.args.self.now in
-    ap (λ l. list_all (λ other. nat_lt other (number_of c.key_in-key.result.bytes)) (keys_now (shown self) l)) c.is_above_all.ensures.keeps.contents ∙ c.in_ok-is_above_all.ensures.above ∙ c.if-not-branch.false
+    ap (λ l. list_all (λ other. nat_lt other (number_of c.key_in-key.result.bytes)) (keys_now (shown self) l)) c.is_above_all.ensures.reads.keeps.contents ∙ c.in_ok-is_above_all.ensures.above ∙ c.if-not-branch.false
 
 pub returns-in_err-is_above_all-clause-within : goal.returns-in_err-is_above_all-clause-within
-returns-in_err-is_above_all-clause-within g c = within_from_keeps (Contains c.args.self.now.file.file.sectors) _ _ c.is_above_all.ensures.keeps
+returns-in_err-is_above_all-clause-within g c = within_from_keeps (Contains c.args.self.now.file.file.sectors) _ _ c.is_above_all.ensures.reads.keeps
 
 pub returns-then-not-branch-clause-within : goal.returns-then-not-branch-clause-within
-returns-then-not-branch-clause-within g c = within_from_keeps (Contains c.args.self.now.file.file.sectors) _ _ c.is_above_all.ensures.keeps
+returns-then-not-branch-clause-within g c = within_from_keeps (Contains c.args.self.now.file.file.sectors) _ _ c.is_above_all.ensures.reads.keeps
 
 pub returns-then-self-clause-within : goal.returns-then-self-clause-within
-returns-then-self-clause-within g c = within_from_keeps (Contains c.args.self.now.file.file.sectors) _ _ c.is_above_all.ensures.keeps
+returns-then-self-clause-within g c = within_from_keeps (Contains c.args.self.now.file.file.sectors) _ _ c.is_above_all.ensures.reads.keeps
 
 pub returns-then-not-branch-clause-refused : goal.returns-then-not-branch-clause-refused
-returns-then-not-branch-clause-refused g c = record { file = refl; sectors = c.is_above_all.ensures.keeps }
+returns-then-not-branch-clause-refused g c = record { file = refl; sectors = c.is_above_all.ensures.reads.keeps }
 
 pub returns-then-self-clause-refused : goal.returns-then-self-clause-refused
-returns-then-self-clause-refused g c = record { file = refl; sectors = c.is_above_all.ensures.keeps }
+returns-then-self-clause-refused g c = record { file = refl; sectors = c.is_above_all.ensures.reads.keeps }
 
 pub returns-in_err-is_above_all-clause-same : goal.returns-in_err-is_above_all-clause-same
 returns-in_err-is_above_all-clause-same g c = record { sectors = refl; layout = refl; started = refl }

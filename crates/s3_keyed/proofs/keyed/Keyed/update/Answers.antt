@@ -27,10 +27,10 @@ returns-then-not-branch-clause-updated g c =
     (get_record long self.count c.args.i bytes c.if-i-self.false) refl refl c.in_ok-has_key_of.ensures.ok c.if-not-branch.true
 
 pub returns-in_err-write_record-clause-within : goal.returns-in_err-write_record-clause-within
-returns-in_err-write_record-clause-within g c = keeps_within (Contains c.args.self.now.file.file.sectors) _ _ _ c.has_key_of.ensures.keeps c.write_record.ensures.within
+returns-in_err-write_record-clause-within g c = keeps_within (Contains c.args.self.now.file.file.sectors) _ _ _ c.has_key_of.ensures.reads.keeps c.write_record.ensures.changes.within
 
 pub returns-clause-within : goal.returns-clause-within
-returns-clause-within g c = keeps_within (Contains c.args.self.now.file.file.sectors) _ _ _ c.has_key_of.ensures.keeps c.write_record.ensures.within
+returns-clause-within g c = keeps_within (Contains c.args.self.now.file.file.sectors) _ _ _ c.has_key_of.ensures.reads.keeps c.write_record.ensures.changes.within
 
 pub returns-clause-updated : goal.returns-clause-updated
 returns-clause-updated g c =
@@ -42,7 +42,7 @@ returns-clause-updated g c =
     let place = (layout_in self.file).key in
     let there = get_record long self.count c.args.i bytes c.if-i-self.false in
     let same = same_key place c.args.bytes.now (part bytes (c.args.i * long) long) _ _ _ refl refl c.in_ok-has_key_of.ensures.ok c.if-not-branch.false in
-    let outside : SameOutside (c.args.i * long) long bytes new = subst (λ l. SameOutside (c.args.i * long) long (bytes_in self.file l) new) c.has_key_of.ensures.keeps.contents c.write_record.ensures.outside in
+    let outside : SameOutside (c.args.i * long) long bytes new = subst (λ l. SameOutside (c.args.i * long) long (bytes_in self.file l) new) c.has_key_of.ensures.reads.keeps.contents c.write_record.ensures.outside in
     update_made place c.args.i c.args.bytes.now (part bytes (c.args.i * long) long) records there same (omega (arith, length_records long self.count bytes, c.if-i-self.false))
     ∙ ap Ok (sym (records_set long self.count c.args.i bytes new c.args.bytes.now c.if-i-self.false outside c.in_ok-write_record.ensures.ok))
 
@@ -56,7 +56,7 @@ returns-clause-ordered g c =
     let records = records_now (shown self) (g.P.Sectors.state c.args.pool.now).contents in
     let there = get_record long self.count c.args.i bytes c.if-i-self.false in
     let same = same_key layout.key c.args.bytes.now (part bytes (c.args.i * long) long) _ _ _ refl refl c.in_ok-has_key_of.ensures.ok c.if-not-branch.false in
-    let outside : SameOutside (c.args.i * long) long bytes new = subst (λ l. SameOutside (c.args.i * long) long (bytes_in self.file l) new) c.has_key_of.ensures.keeps.contents c.write_record.ensures.outside in
+    let outside : SameOutside (c.args.i * long) long bytes new = subst (λ l. SameOutside (c.args.i * long) long (bytes_in self.file l) new) c.has_key_of.ensures.reads.keeps.contents c.write_record.ensures.outside in
     let set = records_set long self.count c.args.i bytes new c.args.bytes.now c.if-i-self.false outside c.in_ok-write_record.ensures.ok in
     ordered_same _ _ _ _ _ _ _ _ _ _ c.requires.ordered
     (index_stays layout bytes new (c.args.i * long) long self.file.file.count c.write_record.ensures.records outside)
@@ -64,13 +64,13 @@ returns-clause-ordered g c =
     (ap (keys_of layout.key) set ∙ keys_updated layout.key c.args.i c.args.bytes.now (part bytes (c.args.i * long) long) records there same)
 
 pub write_record-requires-clause-stored : goal.write_record-requires-clause-stored
-write_record-requires-clause-stored g c = stored_keeps c.args.self.now.file.file.sectors _ _ c.requires.stored c.has_key_of.ensures.keeps
+write_record-requires-clause-stored g c = stored_keeps c.args.self.now.file.file.sectors _ _ c.requires.stored c.has_key_of.ensures.reads.keeps
 
 pub returns-in_err-has_key_of-clause-within : goal.returns-in_err-has_key_of-clause-within
-returns-in_err-has_key_of-clause-within g c = within_from_keeps (Contains c.args.self.now.file.file.sectors) _ _ c.has_key_of.ensures.keeps
+returns-in_err-has_key_of-clause-within g c = within_from_keeps (Contains c.args.self.now.file.file.sectors) _ _ c.has_key_of.ensures.reads.keeps
 
 pub returns-then-not-branch-clause-within : goal.returns-then-not-branch-clause-within
-returns-then-not-branch-clause-within g c = within_from_keeps (Contains c.args.self.now.file.file.sectors) _ _ c.has_key_of.ensures.keeps
+returns-then-not-branch-clause-within g c = within_from_keeps (Contains c.args.self.now.file.file.sectors) _ _ c.has_key_of.ensures.reads.keeps
 
 pub has_key_of-requires-clause-within : goal.has_key_of-requires-clause-within
 has_key_of-requires-clause-within g c = below_capacity c.args.i c.args.self.now.count c.args.self.now.file.file.capacity c.if-i-self.false c.args.self.now.counted

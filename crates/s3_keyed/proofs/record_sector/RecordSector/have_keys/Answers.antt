@@ -1,10 +1,10 @@
 use Rattle.std.proofs.Common.{◌≡◌, ◌-◌, ◌*◌, inl, inr, Some, slice_get, ◌∙◌, sym, ap, subst, arith}
-use Rattle.s3_store.proofs.Frames.{keeps_trans}
 use Rattle.s3_store.specs.Bytes.{part}
 use Rattle.s3_keyed.specs.Index.{key_of}
 use Rattle.s3_keyed.specs.Inner.Shape.{layout_in, bytes_in, keys_on, entry_here, IsOfRecord}
 use Rattle.s3_keyed.proofs.Checked.{below_or_at}
 use Rattle.s3_keyed.proofs.Places.{get_key, length_keys}
+use Rattle.s3_store.proofs.Calls.{reads_ok, reads_then}
 use Rattle.s3_keyed.proofs.Sectors.{too_high, of_another, of_record}
 use Rattle.s3_keyed.proofs.record_sector.RecordSector.have_keys.Goals as goal
 
@@ -24,11 +24,11 @@ returns-then-not-branch-clause-good g c =
     let number = rw c.from-key_length.ensures at c.number_in-number.ensures in
     let key = key_of (layout_in f).key (part (bytes_in f now) ((n - 1) * f.file.record_length) f.file.record_length) in
     let read : slice_get (keys_on f old) (n - 1) ≡ Some key =
-    ap (λ l. slice_get (keys_on f l) (n - 1)) (sym c.loop-j.invariant.keeps.contents) ∙ get_key (layout_in f) f.file.count (n - 1) (bytes_in f now) (omega (arith, c.if-number-eq0.false, c.if-number-file.false)) in
+    ap (λ l. slice_get (keys_on f l) (n - 1)) (sym c.loop-j.invariant.reads.keeps.contents) ∙ get_key (layout_in f) f.file.count (n - 1) (bytes_in f now) (omega (arith, c.if-number-eq0.false, c.if-number-file.false)) in
     (c.loop-j.j, c.loop-j-test.true, of_another (keys_on f old) _ n key number read (sym c.in_ok-has_key.ensures.ok ∙ c.if-not-branch.true))
 
-pub returns-then-not-branch-clause-keeps : goal.returns-then-not-branch-clause-keeps
-returns-then-not-branch-clause-keeps g c = keeps_trans _ _ _ c.loop-j.invariant.keeps c.has_key.ensures.keeps
+pub returns-then-not-branch-clause-reads : goal.returns-then-not-branch-clause-reads
+returns-then-not-branch-clause-reads g c = reads_ok _ (reads_then c.loop-j.invariant.reads c.in_ok-has_key.ensures.reads)
 
 pub returns-clause-good : goal.returns-clause-good
 returns-clause-good g c j below = c.loop-j.invariant.good j (omega (arith, below, c.loop-j-test.false))
@@ -42,7 +42,7 @@ loop-j-preserved g c =
     let number = rw c.from-key_length.ensures at c.number_in-number.ensures in
     let key = key_of (layout_in f).key (part (bytes_in f now) ((n - 1) * f.file.record_length) f.file.record_length) in
     let read : slice_get (keys_on f old) (n - 1) ≡ Some key =
-    ap (λ l. slice_get (keys_on f l) (n - 1)) (sym c.loop-j.invariant.keeps.contents) ∙ get_key (layout_in f) f.file.count (n - 1) (bytes_in f now) (omega (arith, c.if-number-eq0.false, c.if-number-file.false)) in
+    ap (λ l. slice_get (keys_on f l) (n - 1)) (sym c.loop-j.invariant.reads.keeps.contents) ∙ get_key (layout_in f) f.file.count (n - 1) (bytes_in f now) (omega (arith, c.if-number-eq0.false, c.if-number-file.false)) in
     let is : IsOfRecord (keys_on f old) (entry_here f.key_length c.args.index.now c.loop-j.j) =
     of_record (keys_on f old) _ n f.file.count key number (length_keys (layout_in f) f.file.count (bytes_in f old)) (omega (arith, c.if-number-eq0.false)) (omega (arith, c.if-number-file.false)) read (sym c.in_ok-has_key.ensures.ok ∙ c.if-not-branch.false) in
     record {
@@ -50,7 +50,6 @@ loop-j-preserved g c =
         | inl before ↦ c.loop-j.invariant.good j before
         | inr here ↦ subst (λ m. IsOfRecord (keys_on f old) (entry_here f.key_length c.args.index.now m)) (sym here) is
       ];
-      here = c.in_ok-has_key.ensures.here ∙ ap (λ l. part (bytes_in f l) (256 * c.has_key.new.self.place) 256) (sym c.has_key.ensures.keeps.contents);
-      keeps = keeps_trans _ _ _ c.loop-j.invariant.keeps c.has_key.ensures.keeps;
-      failures = omega (arith, c.in_ok-has_key.ensures.failures, c.loop-j.invariant.failures);
+      here = c.in_ok-has_key.ensures.here ∙ ap (λ l. part (bytes_in f l) (256 * c.has_key.new.self.place) 256) (sym c.has_key.ensures.reads.keeps.contents);
+      reads = reads_ok tt (reads_then c.loop-j.invariant.reads c.in_ok-has_key.ensures.reads);
     }
