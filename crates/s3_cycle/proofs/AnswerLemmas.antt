@@ -4,6 +4,7 @@ use Rattle.std.proofs.Math.Path.{fun_ext}
 use Rattle.std.proofs.lemmas.Bool.{and_parts}
 use Rattle.std.proofs.lemmas.Bool.Decides.{nat_tests}
 use Rattle.std.proofs.lemmas.Option.{slice_get-get_or, unwrap_or-slice_get}
+use Rattle.s3_lines.specs.declared.indicator.Indicator.{Indicator}
 use Rattle.s3_lines.specs.declared.indicator.Indicator.TheVariants.{LastRecord, FirstPage}
 use Rattle.s3_lines.specs.declared.sheet.Device.{Device}
 use Rattle.s3_lines.specs.declared.sheet.Device.TheVariants.{CardReader, Printer, Disk}
@@ -127,22 +128,22 @@ card_by CardReader n is h = at_most n 96 (and_parts (nat_le 1 n) (nat_le n 96) h
 card_by Printer n is h = absurd (true≢false (sym is))
 card_by Disk n is h = absurd (true≢false (sym is))
 
-pub chained_fits : (p : Program) (positions : List (Option ℕ)) (place file : ℕ) (request : Request) (answer : Code.Answer) → IsChainRequest p place file request → fits (request_of p positions request) (answer_of answer) ≡ true
+pub chained_fits : (p : Program) (positions : List (Option ℕ)) (file : ℕ) (missing : Option Indicator) (request : Request) (answer : Code.Answer) → IsChainRequest p file missing request → fits (request_of p positions request) (answer_of answer) ≡ true
     → IsRecordOrNothing (file_at p file) answer
 unfolding request_of
-chained_fits p positions place file asks.Card answer is h = absurd is
-chained_fits p positions place file (asks.File slot (calls.Read size)) answer is h = absurd is
-chained_fits p positions place file (asks.File slot (calls.Chain size sought)) answer is h =
+chained_fits p positions file missing asks.Card answer is h = absurd is
+chained_fits p positions file missing (asks.File slot (calls.Read size)) answer is h = absurd is
+chained_fits p positions file missing (asks.File slot (calls.Chain size sought)) answer is h =
     let few : (file_at p file).record_length ≤ 1024 = few_by (file_at p file).device (file_at p file).record_length (file_ranged p file is.0.within) in
     let same : size ≡ (file_at p file).record_length = is.1 in
     record_fits (file_at p file) size answer (omega (arith, same)) (omega (arith, same, few)) h
-chained_fits p positions place file (asks.File slot calls.Append) answer is h = absurd is
-chained_fits p positions place file (asks.File slot calls.Add) answer is h = absurd is
-chained_fits p positions place file (asks.File slot (calls.Update current)) answer is h = absurd is
-chained_fits p positions place file (asks.Print page line) answer is h = absurd is
-chained_fits p positions place file asks.Jump answer is h = absurd is
-chained_fits p positions place file (asks.Ask code) answer is h = absurd is
-chained_fits p positions place file (asks.End at_once) answer is h = absurd is
+chained_fits p positions file missing (asks.File slot calls.Append) answer is h = absurd is
+chained_fits p positions file missing (asks.File slot calls.Add) answer is h = absurd is
+chained_fits p positions file missing (asks.File slot (calls.Update current)) answer is h = absurd is
+chained_fits p positions file missing (asks.Print page line) answer is h = absurd is
+chained_fits p positions file missing asks.Jump answer is h = absurd is
+chained_fits p positions file missing (asks.Ask code) answer is h = absurd is
+chained_fits p positions file missing (asks.End at_once) answer is h = absurd is
 
 -- ---- the file of a head
 pub record IsFileRanged (file : FileLine) : Type 0 where

@@ -7,25 +7,26 @@ use Rattle.std.proofs.lemmas.Option.{slice_get_within, slice_get-get_or, unwrap_
 use Rattle.s3_lines.specs.Files.{is_chained}
 use Rattle.s3_cards.specs.declared.name.Name.{Name}
 use Rattle.s3_lines.specs.declared.indicator.Indicator.{Indicator}
-use Rattle.s3_lines.specs.declared.sheet.Factor.{Factor}
 use Rattle.s3_lines.specs.declared.sheet.Factor.TheVariants.{Named}
 use Rattle.s3_lines.specs.declared.sheet.KeyField.{KeyField}
 use Rattle.s3_lines.specs.declared.sheet.FileLine.{FileLine}
 use Rattle.s3_lines.specs.declared.sheet.Operation.TheVariants as op
 use Rattle.s3_lines.specs.declared.sheet.CalculationLine.{CalculationLine}
+use Rattle.s3_meaning.specs.Names.{entries}
+use Rattle.s3_meaning.specs.Selection.{type_of}
 use Rattle.s3_meaning.specs.Source.{Source, file_named}
 use Rattle.s3_meaning.specs.Environment.{Environment, turn}
-use Rattle.s3_meaning.specs.Requests.{Answer, Nothing, Key, RecordNumber, Chain as ChainRequest}
+use Rattle.s3_meaning.specs.Requests.{Answer, Found, Nothing, Done, Refused, Reply, Key, RecordNumber, Chain as ChainRequest}
 use Rattle.s3_meaning.specs.Output.{is_served}
 use Rattle.s3_meaning.specs.Runs.{Run, Rest, ask}
 use Rattle.s3_meaning.specs.Calculations.{name_in}
-use Rattle.s3_meaning.specs.Calculating.{bytes_in, number_in, sought_in, first_indicator, forgotten, not_found, on_chain, performed, chained}
+use Rattle.s3_meaning.specs.Calculating.{all_turned, bytes_in, number_in, sought_in, first_indicator, forgotten, not_found, chained_to, on_chain, performed, chained}
 use Rattle.s3_meaning.specs.Cycle.{again}
 use Rattle.s3_program.specs.declared.program.Program.{Program}
 use Rattle.s3_program.specs.declared.program.Reference.{Reference}
 use Rattle.s3_program.specs.declared.program.Reference.TheVariants.{File}
 use Rattle.s3_operations.specs.Inner.Chaining.{file_sought, is_chained_file}
-use Rattle.s3_operations.specs.Inner.Fits.{named_line, named_factor}
+use Rattle.s3_operations.specs.Inner.Fits.{named_line}
 use Rattle.s3_operations.specs.Inner.Held.{held}
 use Rattle.s3_operations.specs.Inner.Indicators.{entry_on, is_settable_entry}
 use Rattle.s3_instructions.specs.declared.calculation.chained.Chained.{Chained}
@@ -49,10 +50,11 @@ use Rattle.s3_cycle.specs.Inner.Requests.{IsSoughtBy, IsDiskFile, IsChainedBy, r
 use Rattle.s3_cycle.specs.declared.stepper.Stepper.{Stepper}
 use Rattle.s3_cycle.specs.Inner.Rest.{calculating, answered, chain_answered}
 use Rattle.s3_cycle.specs.Inner.Going.{own, held_by, here, IsRunning, CanCalculate, IsChainOf, IsLineAt, GoesOn, Changes}
+use Rattle.s3_cycle.specs.Inner.Entries.{turn_entry}
 use Rattle.s3_cycle.specs.Inner.Environment.{environment}
 use Rattle.s3_cycle.specs.Inner.Calculating.{Does, IsPerformed, ShowsMiss, Misses, lines_left, performing}
 use Rattle.s3_cycle.specs.Inner.Chaining.{DoesChain, Seeks, chaining}
-use Rattle.s3_cycle.proofs.GoingLemmas.{changed_running, changed_program, changed_progress, changed_stays, here_changed, goes_as, goes_then, goes_wait, goes_changed}
+use Rattle.s3_cycle.proofs.GoingLemmas.{changed_running, changed_program, changed_progress, changed_stays, here_changed, goes_as, goes_then, goes_wait}
 use Rattle.s3_cycle.proofs.CourseLemmas.{moved, fewer_left}
 use Rattle.s3_cycle.proofs.CalculatingLemmas.{with_course, calculating_from, performed_behind}
 use Rattle.s3_cycle.proofs.PerformingLemmas.{performs}
@@ -65,6 +67,10 @@ first_settable (entry ∷ entries) all = (and_parts (is_settable_entry entry) (l
 
 pub chain_settable : (p : Program) (place : ℕ) (line : CalculationLine Reference) → slice_get p.calculations.items place ≡ Some line → line.operation ≡ Some op.Chain → is_settable_entry (first_indicator line.indicators) ≡ true
 chain_settable p place line there bears = first_settable line.indicators (brings p line op.Chain (record { place = place; there = there; bears = bears }) refl).settable
+
+-- the indicator of a CHAIN that is answered
+pub answered_settable : (p : Program) (file : ℕ) (missing : Option Indicator) → IsChainOf p file missing → is_settable_entry missing ≡ true
+answered_settable p file missing chain = ap is_settable_entry chain.misses ∙ chain_settable p chain.place chain.line chain.there chain.operation
 
 -- ---- its file
 file_there : (p : Program) (file : ℕ) → file < length p.files.items → slice_get p.files.items file ≡ Some (file_at p file)
@@ -94,9 +100,9 @@ chain_fits p line place file size sought_there there bears names within sized fi
     }
 
 -- ---- no record is found
-pub shows_miss : (c new : Stepper) (indicator : Indicator) (line : CalculationLine Reference) → first_indicator line.indicators ≡ Some indicator → IsRunning c → Changes c new (λ source. turn indicator true) → ShowsMiss c new line
+pub shows_miss : (c new : Stepper) (missing : Option Indicator) (indicator : Indicator) → missing ≡ Some indicator → IsRunning c → Changes c new (λ source. turn indicator true) → ShowsMiss c new missing
 unfolding not_found
-shows_miss c new indicator line is running changes = record {
+shows_miss c new missing indicator is running changes = record {
   program = changed_program c new (λ source. turn indicator true) changes;
   progress = changed_progress c new (λ source. turn indicator true) changes;
   running = changed_running c new (λ source. turn indicator true) changes running;
@@ -105,11 +111,16 @@ shows_miss c new indicator line is running changes = record {
       ∙ sym (here_changed c new (λ source. turn indicator true) calculating changes);
 }
 
-pub halts_missing : (c new : Stepper) (line : CalculationLine Reference) → first_indicator line.indicators ≡ None
+pub halts_missing : (c new : Stepper) (missing : Option Indicator) → missing ≡ None
     → GoesOn c new (here c (λ source program progress. not_found (again source) None (calculating source program progress)))
-    → GoesOn c new (here c (λ source program progress. not_found (again source) (first_indicator line.indicators) (calculating source program progress)))
-halts_missing c new line is goes =
+    → GoesOn c new (here c (λ source program progress. not_found (again source) missing (calculating source program progress)))
+halts_missing c new missing is goes =
     goes_as c new _ _ (ap (λ (entry : Option Indicator). not_found (again (own c)) entry (calculating (own c) c.program c.progress) (held_by c)) is) goes
+
+-- what is shown, and the calculations behind it
+pub missed_on : (c mid new : Stepper) (missing : Option Indicator) → ShowsMiss c mid missing → GoesOn mid new (here mid calculating)
+    → GoesOn c new (here c (λ source program progress. not_found (again source) missing (calculating source program progress)))
+missed_on c mid new missing shows goes = goes_then c mid new _ _ shows.program shows.runs goes
 
 -- ---- a CHAIN, and then the calculations
 -- a line that is a CHAIN in this file
@@ -164,19 +175,20 @@ served_as c line chain result is same =
     on (Some indicator) = refl
 
 -- no record is sought, or none is found
-pub chains_missing : (c mid new : Stepper) (place file : ℕ) (line : CalculationLine Reference) (result : Calculated) → IsChainIn c.program place line file → Changes c mid (λ source. forgotten source (name_of_file c.program file))
-    → false ≡ is_served (held_by c) (file_at c.program file) → Misses mid new line result → DoesChain c new place result
-chains_missing c mid new place file line result it changes served misses = by result misses
+pub chains_missing : (c mid new : Stepper) (place file : ℕ) (missing : Option Indicator) (line : CalculationLine Reference) (result : Calculated) → IsChainIn c.program place line file → missing ≡ first_indicator line.indicators
+    → Changes c mid (λ source. forgotten source (name_of_file c.program file)) → false ≡ is_served (held_by c) (file_at c.program file) → Misses mid new missing result → DoesChain c new place result
+chains_missing c mid new place file missing line result it is changes served misses = by result misses
   where
     change : Source → Environment → Environment
     change source = forgotten source (name_of_file c.program file)
 
-    same : here c (chaining place) ≡ here mid (λ source program progress. not_found (again source) (first_indicator line.indicators) (calculating source program progress))
+    same : here c (chaining place) ≡ here mid (λ source program progress. not_found (again source) missing (calculating source program progress))
     same =
         chains_so c place file line it false served
-        ∙ sym (here_changed c mid change (λ source program progress. not_found (again source) (first_indicator line.indicators) (calculating source program progress)) changes)
+        ∙ (ap (λ (entry : Option Indicator). not_found (again (own c)) entry (calculating (own c) c.program c.progress) (forgotten (own c) (name_of_file c.program file) (held_by c))) (sym is)
+        ∙ sym (here_changed c mid change (λ source program progress. not_found (again source) missing (calculating source program progress)) changes))
 
-    by : (r : Calculated) → Misses mid new line r → DoesChain c new place r
+    by : (r : Calculated) → Misses mid new missing r → DoesChain c new place r
     by one.GoesOn m = record {
       program = m.program ∙ changed_program c mid change changes;
       progress = m.progress ∙ changed_progress c mid change changes;
@@ -185,22 +197,34 @@ chains_missing c mid new place file line result it changes served misses = by re
     }
     by one.Waits m = goes_then c mid new _ _ (changed_program c mid change changes) same m
 
--- the answer for a CHAIN at a place
-pub chain_at : (source : Source) (p : Program) (progress : Progress) (place : ℕ) (line : CalculationLine Reference) (answer : Answer) → slice_get p.calculations.items place ≡ Some line
-    → chain_answered source p progress place answer ≡ on_chain source (again source) (named_line p line) (name_in (named_line p line).factor2) (calculating source p progress) answer
-chain_at source p progress place line answer there = rw there refl
+-- an indicator that is turned off, if there is one
+entry_off : (entry : Option Indicator) (e : Environment) → all_turned false (entries (entry ∷ [])) e ≡ turn_entry entry false e
+entry_off None e = refl
+entry_off (Some indicator) e = refl
+
+-- what follows an answer, by the file and the indicator alone
+answered_so : (source : Source) (p : Program) (progress : Progress) (file : ℕ) (missing : Option Indicator) (line : CalculationLine Reference) (e : Environment) → missing ≡ first_indicator line.indicators → (answer : Answer)
+    → on_chain source (again source) (named_line p line) (name_of_file p file) (calculating source p progress) answer e ≡ chain_answered source p progress file missing answer e
+unfolding on_chain
+answered_so source p progress file missing line e is (Found bytes) =
+    ap (chained_to (again source) (name_of_file p file) bytes (type_of source (name_of_file p file) bytes) (calculating source p progress))
+    (entry_off (first_indicator line.indicators) e ∙ ap (λ (entry : Option Indicator). turn_entry entry false e) (sym is))
+answered_so source p progress file missing line e is Nothing = ap (λ (entry : Option Indicator). not_found (again source) entry (calculating source p progress) e) (sym is)
+answered_so source p progress file missing line e is Done = ap (λ (entry : Option Indicator). not_found (again source) entry (calculating source p progress) e) (sym is)
+answered_so source p progress file missing line e is (Refused code) = ap (λ (entry : Option Indicator). not_found (again source) entry (calculating source p progress) e) (sym is)
+answered_so source p progress file missing line e is (Reply digit) = ap (λ (entry : Option Indicator). not_found (again source) entry (calculating source p progress) e) (sym is)
 
 -- a record is sought
-pub chains_waiting : (c mid new : Stepper) (place file size : ℕ) (line : CalculationLine Reference) (seeks : Sought) → IsRunning c → CanCalculate c.program c.progress → IsChainIn c.program place line file
-    → Changes c mid (λ source. forgotten source (name_of_file c.program file)) → true ≡ is_served (held_by c) (file_at c.program file) → size ≡ (file_at c.program file).record_length → Seeks c line file seeks
-    → new ≡ record mid { request = asks.File file (calls.Chain size seeks); point = at.Chained place file } → GoesOn c new (here c (chaining place))
+pub chains_waiting : (c mid new : Stepper) (place file size : ℕ) (missing : Option Indicator) (line : CalculationLine Reference) (seeks : Sought) → IsRunning c → CanCalculate c.program c.progress → IsChainIn c.program place line file
+    → missing ≡ first_indicator line.indicators → Changes c mid (λ source. forgotten source (name_of_file c.program file)) → true ≡ is_served (held_by c) (file_at c.program file) → size ≡ (file_at c.program file).record_length → Seeks c line file seeks
+    → new ≡ record mid { request = asks.File file (calls.Chain size seeks); point = at.Chained file missing } → GoesOn c new (here c (chaining place))
 unfolding request_of
-chains_waiting c mid new place file size line seeks running calculates it changes served sized sought_there same =
+chains_waiting c mid new place file size missing line seeks running calculates it is changes served sized sought_there same =
     goes_then c mid new _ _ (changed_program c mid change changes) refl
-    (goes_wait mid new (asks.File file (calls.Chain size seeks)) (at.Chained place file) (here c (chaining place)) same
+    (goes_wait mid new (asks.File file (calls.Chain size seeks)) (at.Chained file missing) (here c (chaining place)) same
     (changed_running c mid change changes running)
-    (changed_stays (λ p progress. (IsChainOf p place file × (size ≡ (file_at p file).record_length)) × CanCalculate p progress) c mid change changes
-    ((record { line = line; there = it.there; operation = it.bears; names = it.names; within = it.within }, sized), calculates))
+    (changed_stays (λ p progress. (IsChainOf p file missing × (size ≡ (file_at p file).record_length)) × CanCalculate p progress) c mid change changes
+    ((record { place = place; line = line; there = it.there; operation = it.bears; names = it.names; within = it.within; misses = is }, sized), calculates))
     tt
     (changed_stays (λ p progress. IsDiskFile p.files.items file (IsChainedBy size seeks)) c mid change changes
     (chain_fits c.program line place file size seeks it.there it.bears it.names it.within sized sought_there.by))
@@ -214,16 +238,14 @@ chains_waiting c mid new place file size line seeks running calculates it change
 
     after_answer : (answer : Answer)
         → on_chain (own c) (again (own c)) named (name_of_file c.program file) (calculating (own c) c.program c.progress) answer (forgotten (own c) (name_of_file c.program file) (held_by c))
-        ≡ here mid (λ source program progress. answered source program progress (at.Chained place file) answer)
+        ≡ here mid (λ source program progress. answered source program progress (at.Chained file missing) answer)
     after_answer answer =
-        ap (λ (two : Option (Factor Reference)). on_chain (own c) (again (own c)) named (name_in (named_factor c.program two)) (calculating (own c) c.program c.progress) answer
-        (forgotten (own c) (name_of_file c.program file) (held_by c))) (sym it.names)
-        ∙ (ap (λ (rest : Rest). rest (forgotten (own c) (name_of_file c.program file) (held_by c))) (sym (chain_at (own c) c.program c.progress place line answer it.there))
-        ∙ sym (here_changed c mid change (λ source program progress. answered source program progress (at.Chained place file) answer) changes))
+        answered_so (own c) c.program c.progress file missing line (forgotten (own c) (name_of_file c.program file) (held_by c)) is answer
+        ∙ sym (here_changed c mid change (λ source program progress. answered source program progress (at.Chained file missing) answer) changes)
 
     asked : ask (ChainRequest (name_of_file c.program file) (file_at c.program file).record_length (sought_in (own c) (held_by c) named (file_at c.program file)))
         (λ answer. on_chain (own c) (again (own c)) named (name_of_file c.program file) (calculating (own c) c.program c.progress) answer (forgotten (own c) (name_of_file c.program file) (held_by c)))
-        ≡ ask (request_of mid.program mid.composition (asks.File file (calls.Chain size seeks))) (λ answer. answered (own mid) mid.program mid.progress (at.Chained place file) answer (held_by mid))
+        ≡ ask (request_of mid.program mid.composition (asks.File file (calls.Chain size seeks))) (λ answer. answered (own mid) mid.program mid.progress (at.Chained file missing) answer (held_by mid))
     asked =
         λ i. ask
         (ChainRequest (name_of_file (sym (changed_program c mid change changes) i) file) (sym sized i) (sym sought_there.value i))
@@ -267,23 +289,3 @@ chains_done c new course place result performs_it there does = by result does
           (subst (λ (g : Progress). lines_left c.program (spots_of g.course) < lines_left c.program (spots_of c.progress.course)) (sym d.progress) fewer);
     }
     by one.Waits d = goes_then c (with_course c c.state course) new _ _ refl same d
-
--- ---- the answer that there is none
-pub missed_on : (c mid new : Stepper) (place : ℕ) (indicator : Indicator) (line : CalculationLine Reference) → slice_get c.program.calculations.items place ≡ Some line → first_indicator line.indicators ≡ Some indicator
-    → Changes c mid (λ source. turn indicator true) → GoesOn mid new (here mid calculating) → GoesOn c new (here c (λ source program progress. chain_answered source program progress place Nothing))
-unfolding on_chain not_found
-missed_on c mid new place indicator line there is changes goes =
-    goes_as c new _ _
-    (ap (λ (rest : Rest). rest (held_by c)) (chain_at (own c) c.program c.progress place line Nothing there)
-    ∙ ap (λ (entry : Option Indicator). not_found (again (own c)) entry (calculating (own c) c.program c.progress) (held_by c)) is)
-    (goes_changed c mid new (λ source. turn indicator true) calculating changes goes)
-
-pub missed_halts : (c new : Stepper) (place : ℕ) (line : CalculationLine Reference) → slice_get c.program.calculations.items place ≡ Some line → first_indicator line.indicators ≡ None
-    → GoesOn c new (here c (λ source program progress. not_found (again source) None (calculating source program progress)))
-    → GoesOn c new (here c (λ source program progress. chain_answered source program progress place Nothing))
-unfolding on_chain
-missed_halts c new place line there is goes =
-    goes_as c new _ _
-    (ap (λ (rest : Rest). rest (held_by c)) (chain_at (own c) c.program c.progress place line Nothing there)
-    ∙ ap (λ (entry : Option Indicator). not_found (again (own c)) entry (calculating (own c) c.program c.progress) (held_by c)) is)
-    goes

@@ -30,7 +30,7 @@ impl Stepper {
             Point::Lines { walk, next } => self.put_walk(walk, next),
             Point::Records { walk, next } => self.go_on_stored(walk, next, *answer),
             Point::Head { place } => self.go_on_read(place, *answer),
-            Point::Chained { place, file } => self.go_on_chained(place, file, *answer),
+            Point::Chained { file, missing } => self.go_on_chained(file, missing, *answer),
             Point::Calculations => self.calculate_on(),
             Point::Reply(then) => self.go_on_replied(then, *answer),
             Point::End { at_once: _ } => unreachable!(),
@@ -108,16 +108,16 @@ impl Stepper {
     }
 
     /// The record that CHAIN found, or none.
-    fn go_on_chained(&mut self, place: usize, file: usize, answer: Answer<'_>)
+    fn go_on_chained(&mut self, file: usize, missing: Option<Indicator>, answer: Answer<'_>)
         requires running { IsRunning self.old }
         requires calculates { CanCalculate self.old.program self.old.progress }
-        requires chain { IsChainOf self.old.program place file }
+        requires chain { IsChainOf self.old.program file missing }
         requires fits { IsRecordOrNothing (file_at self.old.program file) answer }
-        ensures { GoesOn self.old self.new (here self.old (λ source program progress. chain_answered source program progress place (answer_of answer.entry))) }
+        ensures { GoesOn self.old self.new (here self.old (λ source program progress. chain_answered source program progress file missing (answer_of answer.entry))) }
     {
         match answer {
-            Answer::Found(bytes) => self.chain_found(place, file, bytes),
-            Answer::Nothing => self.chain_missed(place),
+            Answer::Found(bytes) => self.chain_found(file, missing, bytes),
+            Answer::Nothing => self.chain_missed(missing),
             Answer::Done | Answer::Refused(_) | Answer::Reply(_) => unreachable!(),
         }
     }

@@ -3,13 +3,14 @@ ghost use Rattle.std.specs.Prelude.{◌≡◌, ◌<◌, true, None, Some, IsTrue
 ghost use Rattle.s3_lines.specs.declared.sheet.CalculationLine.{CalculationLine};
 ghost use Rattle.s3_program.specs.declared.program.Reference.{Reference};
 ghost use Rattle.s3_lines.specs.declared.sheet.Operation.TheVariants as op;
-ghost use Rattle.s3_meaning.specs.Requests.{Found, Nothing};
+ghost use Rattle.s3_meaning.specs.Requests.{Found};
 ghost use Rattle.s3_meaning.specs.declared.current.Current.TheVariants.{LastChained};
 ghost use Rattle.s3_meaning.specs.Environment.{put_current};
 ghost use Rattle.s3_meaning.specs.Selection.{type_of as type_of_spec};
 ghost use Rattle.s3_meaning.specs.Cycle.{again};
-ghost use Rattle.s3_meaning.specs.Calculating.{chained_to, first_indicator as first_indicator_spec, forgotten};
+ghost use Rattle.s3_meaning.specs.Calculating.{chained_to, forgotten, not_found};
 ghost use Rattle.s3_operations.specs.Inner.Fits.{IsLineOf};
+ghost use Rattle.s3_operations.specs.Inner.Indicators.{is_settable_entry};
 ghost use Rattle.s3_instructions.specs.Inner.Chains.{IsChained};
 ghost use Rattle.s3_match.specs.Inner.Heads.{file_at};
 ghost use Rattle.s3_match.specs.Inner.Reading.{IsReading};
@@ -57,14 +58,19 @@ impl Stepper {
     {
         let sought = self.sought(&chained);
         let is_served = chained.served.holds(&self.state.values.indicators);
-        let file = chained.file;
+        let Chained { file, missing, .. } = chained;
         self.forget(file);
         if !is_served {
-            return self.miss(place);
+            return self.miss(missing);
         }
-        let length = chained.length;
-        let call = FileCall::Chain { length, sought };
-        self.wait(Request::File { file, call }, Point::Chained { place, file });
+        let call = FileCall::Chain {
+            length: chained.length,
+            sought,
+        };
+        self.wait(
+            Request::File { file, call },
+            Point::Chained { file, missing },
+        );
         Calculated::Waits
     }
 
@@ -80,22 +86,14 @@ impl Stepper {
         clear_types_of(&mut self.state.values, &self.program, reading, file);
     }
 
-    /// The indicator in 54-55 of a line.
-    fn first_indicator(&self, place: usize) -> Option<Indicator>
-        requires { place < length self.now.program.calculations.items }
-        ensures { (line : CalculationLine Reference) → slice_get self.now.program.calculations.items place ≡ Some line → result ≡ first_indicator_spec line.indicators }
-    {
-        self.program.calculations[place].indicators[0]
-    }
-
-    /// No record is found: the indicator goes on, or the run halts.
-    fn miss(&mut self, place: usize) -> Calculated
+    /// No record is found: the CHAIN's indicator for that goes on, or the run halts where it has none.
+    fn miss(&mut self, missing: Option<Indicator>) -> Calculated
         requires running { IsRunning self.old }
         requires calculates { CanCalculate self.old.program self.old.progress }
-        requires chain { IsLineAt self.old.program place op.Chain }
-        ensures { (line : CalculationLine Reference) → slice_get self.old.program.calculations.items place ≡ Some line → Misses self.old self.new line result }
+        requires settable { is_settable_entry missing ≡ true }
+        ensures { Misses self.old self.new missing result }
     {
-        match self.first_indicator(place) {
+        match missing {
             Some(indicator) => {
                 self.turn(indicator, true);
                 Calculated::GoesOn
@@ -109,31 +107,28 @@ impl Stepper {
 
     /// Goes on where no record is found.
     #[inline(never)]
-    pub fn chain_missed(&mut self, place: usize)
+    pub fn chain_missed(&mut self, missing: Option<Indicator>)
         requires running { IsRunning self.old }
         requires calculates { CanCalculate self.old.program self.old.progress }
-        requires chain { IsLineAt self.old.program place op.Chain }
-        ensures { GoesOn self.old self.new (here self.old (λ source program progress. chain_answered source program progress place Nothing)) }
+        requires settable { is_settable_entry missing ≡ true }
+        ensures { GoesOn self.old self.new (here self.old (λ source program progress. not_found (again source) missing (calculating source program progress))) }
     {
-        match self.first_indicator(place) {
-            Some(indicator) => {
-                self.turn(indicator, true);
-                self.calculate_on();
-            }
-            None => self.halt(HaltCode::NoRecordFound, Continuation::Calculations),
+        match self.miss(missing) {
+            Calculated::GoesOn => self.calculate_on(),
+            Calculated::Waits => {}
         }
     }
 
     /// Goes on with the record that is found: it is typed, and its fields are moved.
     #[inline(never)]
-    pub fn chain_found(&mut self, place: usize, file: usize, bytes: &[u8])
+    pub fn chain_found(&mut self, file: usize, missing: Option<Indicator>, bytes: &[u8])
         requires running { IsRunning self.old }
         requires calculates { CanCalculate self.old.program self.old.progress }
-        requires chain { IsChainOf self.old.program place file }
+        requires chain { IsChainOf self.old.program file missing }
         requires record { IsRecordOf (file_at self.old.program file) bytes.now }
-        ensures { GoesOn self.old self.new (here self.old (λ source program progress. chain_answered source program progress place (Found bytes.now))) }
+        ensures { GoesOn self.old self.new (here self.old (λ source program progress. chain_answered source program progress file missing (Found bytes.now))) }
     {
-        self.turn_entry(self.first_indicator(place), false);
+        self.turn_entry(missing, false);
         match self.progress.reading.type_in(&self.program, file, bytes) {
             Some(start) => self.take_chained(file, start, bytes),
             None => self.halt(HaltCode::UnidentifiedRecord, Continuation::Calculations),

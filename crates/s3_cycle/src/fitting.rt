@@ -11,7 +11,7 @@ use s3_operator::{HaltCode, allowed};
 /// The columns of a card.
 const CARD_LENGTH: usize = 96;
 
-/// A record of so many bytes, or none.
+/// Whether an answer is a record of so many bytes, or says that there is none.
 #[tactic(auto, unfolding(crate::specs::Inner::Requests::answer_of))]
 fn is_record_or_none(length: usize, answer: &Answer<'_>) -> bool
     ensures { result ≡ fits_record length (answer_of answer.now) }
@@ -23,7 +23,7 @@ fn is_record_or_none(length: usize, answer: &Answer<'_>) -> bool
     }
 }
 
-/// Done, which nothing refuses.
+/// Whether an answer says that it is done, where nothing can refuse it.
 #[tactic(auto, unfolding(crate::specs::Inner::Requests::answer_of))]
 fn is_done(answer: &Answer<'_>) -> bool
     ensures { result ≡ fits_done refuses_never (answer_of answer.now) }
@@ -31,7 +31,7 @@ fn is_done(answer: &Answer<'_>) -> bool
     matches!(answer, Answer::Done)
 }
 
-/// Done, or refused as a record behind the last one is.
+/// Whether an answer says that it is done, or is a refusal of a record behind the last one.
 #[tactic(auto, unfolding(crate::specs::Inner::Requests::answer_of))]
 fn is_appended_or_refused(answer: &Answer<'_>) -> bool
     ensures { result ≡ fits_done refuses_append (answer_of answer.now) }
@@ -43,7 +43,7 @@ fn is_appended_or_refused(answer: &Answer<'_>) -> bool
     }
 }
 
-/// Done, or refused as a record under a new key is.
+/// Whether an answer says that it is done, or is a refusal of a record under a new key.
 #[tactic(auto, unfolding(crate::specs::Inner::Requests::answer_of))]
 fn is_added_or_refused(answer: &Answer<'_>) -> bool
     ensures { result ≡ fits_done refuses_add (answer_of answer.now) }
@@ -55,7 +55,7 @@ fn is_added_or_refused(answer: &Answer<'_>) -> bool
     }
 }
 
-/// Done, or refused as a change is.
+/// Whether an answer says that it is done, or is a refusal of a change.
 #[tactic(auto, unfolding(crate::specs::Inner::Requests::answer_of))]
 fn is_updated_or_refused(answer: &Answer<'_>) -> bool
     ensures { result ≡ fits_done refuses_update (answer_of answer.now) }
@@ -67,7 +67,7 @@ fn is_updated_or_refused(answer: &Answer<'_>) -> bool
     }
 }
 
-/// A digit that the replies to a halt allow.
+/// Whether an answer is the digit of a reply that the halt allows.
 #[tactic(auto, unfolding(crate::specs::Inner::Requests::answer_of))]
 fn is_allowed_reply(code: HaltCode, answer: &Answer<'_>) -> bool
     ensures { result ≡ fits_reply code (answer_of answer.now) }

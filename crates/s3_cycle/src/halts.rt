@@ -34,7 +34,7 @@ impl Stepper {
         }
     }
 
-    /// Whether a halt indicator is on, as mostly none is.
+    /// Whether one of H1 to H9 is on; mostly none is. The number 0, which no halt indicator has, is looked at with theirs.
     fn has_halt(&self) -> bool
         ensures { result ≡ false → AreOff self.now 0 10 }
     {

@@ -20,7 +20,7 @@ use s3_operations::values::Values;
 use s3_program::program::Program;
 use s3_program::starts::TypeStart;
 
-/// Record identifying indicators go off, by their numbers; a single one without a loop.
+/// Record identifying indicators go off, by their numbers, of which there is mostly one.
 fn turn_off(indicators: &mut Indicators, program: &Program, numbers: &[usize])
     requires { AreNumbersOf program.now.inputs.items numbers.now }
     ensures { (other : MeantIndicator) → on_in indicators.new other ≡ turned_off (indicators_on program.now.inputs.items) other (on_in indicators.old other) }

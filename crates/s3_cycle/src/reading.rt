@@ -46,7 +46,8 @@ impl Stepper {
         clear(&mut self.state.values, &self.program, numbers);
     }
 
-    /// Step 3 of a cycle that begins; where no file is to be read, none has a head.
+    /// Step 3 from the beginning of a cycle. The file of the record before is to be read then, and in the first cycle each file
+    /// that is served. Where no file is to be read, none has a head, and LR goes on.
     fn read_first(&mut self)
         requires running { IsRunning self.old }
         requires begins { CanBegin self.old.program self.old.progress }

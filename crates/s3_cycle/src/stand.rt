@@ -121,7 +121,7 @@ impl Stepper {
         }
     }
 
-    /// What reply 0 goes on from.
+    /// Where a run stands that waits for a reply, by what it would do after reply 0.
     fn stand_before(&self, then: Continuation) -> Stand
         ensures { result ≡ stand_before self.now.program self.now.progress then }
     {

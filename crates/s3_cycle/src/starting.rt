@@ -77,7 +77,6 @@ impl Stepper {
             // nothing is asked for yet
             request: Request::End { at_once: false },
             point: Point::End { at_once: false },
-            // built where it stays, since what is held of control fields is long
             state: State {
                 values,
                 current,

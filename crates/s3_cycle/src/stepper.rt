@@ -33,7 +33,7 @@ pub struct Stepper {
     pub request: Request,
     /// What goes on with the answer.
     pub point: Point,
-    /// The values of the run.
+    /// What the run holds.
     pub state: State,
     /// How far it has come.
     pub progress: Progress,

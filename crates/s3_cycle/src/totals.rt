@@ -139,8 +139,8 @@ impl Stepper {
         }
     }
 
-    /// The time of a record's detail calculations begins. Step 10: MR is set, and the record is the current one of its file. Its
-    /// fields are moved next. The time stands first, where the compiler sees that the selection stays as it is.
+    /// Step 10: MR is set, and the record is the current one of its file. The time of its detail calculations begins, and its
+    /// fields are moved next.
     #[inline(always)]
     fn move_record(&mut self, selection: Selection)
         requires running { IsRunning self.old }

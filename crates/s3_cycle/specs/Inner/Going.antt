@@ -1,9 +1,10 @@
 -- Steps of a suspended run: from where it stands it goes on with the run that is meant.
-use Rattle.std.specs.Prelude.{◌≡◌, ◌≤◌, ◌<◌, ℕ, Bool, true, false, not, ◌||◌, List, length, Some, is_some, slice_get}
+use Rattle.std.specs.Prelude.{◌≡◌, ◌≤◌, ◌<◌, ℕ, Bool, true, false, not, ◌||◌, List, length, Option, Some, is_some, slice_get}
 use Rattle.std.specs.List.{All, list_any, list_all}
 use Rattle.s3_lines.specs.Files.{is_card_reader}
 use Rattle.s3_cards.specs.declared.name.Name.{Name}
 use Rattle.s3_lines.specs.Ranges.{is_between}
+use Rattle.s3_lines.specs.declared.indicator.Indicator.{Indicator}
 use Rattle.s3_lines.specs.declared.sheet.FieldLine.{FieldLine}
 use Rattle.s3_lines.specs.declared.sheet.InputLine.TheVariants.{Field as InputField}
 use Rattle.s3_lines.specs.declared.sheet.Operation.{Operation}
@@ -13,6 +14,7 @@ use Rattle.s3_lines.specs.declared.sheet.Factor.TheVariants.{Named}
 use Rattle.s3_meaning.specs.Source.{Source, overflow_of}
 use Rattle.s3_meaning.specs.Environment.{Environment}
 use Rattle.s3_meaning.specs.Runs.{Run, Rest}
+use Rattle.s3_meaning.specs.Calculating.{first_indicator}
 use Rattle.s3_meaning.specs.Selection as meaning
 use Rattle.s3_program.specs.declared.program.Program.{Program}
 use Rattle.s3_program.specs.declared.program.Reference.{Reference}
@@ -191,17 +193,19 @@ IsHeadRequest program progress place asks.Card = is_card_reader (input_at (input
 IsHeadRequest program progress place (asks.File file (calls.Read length)) = length ≡ (input_at (inputs_in program progress) place).file.record_length
 IsHeadRequest program progress place request = ⊥
 
--- the CHAIN at the place names the file, which is chained
-pub record IsChainOf (program : Program) (place file : ℕ) : Type 0 where
+-- a CHAIN of the program names the file, and has this indicator for no record
+pub record IsChainOf (program : Program) (file : ℕ) (missing : Option Indicator) : Type 0 where
+  pub place : ℕ
   pub line : CalculationLine Reference
   pub there : slice_get program.calculations.items place ≡ Some line
   pub operation : line.operation ≡ Some operation.Chain
   pub names : line.factor2 ≡ Some (Named (File file))
   pub within : file < length program.files.items
+  pub misses : missing ≡ first_indicator line.indicators
 
-abbrev pub IsChainRequest : Program → (place file : ℕ) → Request → Type 0
-IsChainRequest program place file (asks.File slot (calls.Chain length sought)) = IsChainOf program place file × (length ≡ (file_at program file).record_length)
-IsChainRequest program place file request = ⊥
+abbrev pub IsChainRequest : Program → (file : ℕ) → Option Indicator → Request → Type 0
+IsChainRequest program file missing (asks.File slot (calls.Chain length sought)) = IsChainOf program file missing × (length ≡ (file_at program file).record_length)
+IsChainRequest program file missing request = ⊥
 
 abbrev pub is_ask : Request → Bool
 is_ask (asks.Ask code) = true
@@ -211,7 +215,7 @@ abbrev pub Waits : Program → Progress → Request → Point → Type 0
 Waits program progress request (at.Lines w next) = (is_print_or_jump request ≡ true) × IsWalk program progress w
 Waits program progress request (at.Records w next) = (is_record_request request ≡ true) × IsWalk program progress w
 Waits program progress request (at.Head place) = IsHeadRequest program progress place request × IsUnreadAt progress.reading.files.items place
-Waits program progress request (at.Chained place file) = IsChainRequest program place file request × CanCalculate program progress
+Waits program progress request (at.Chained file missing) = IsChainRequest program file missing request × CanCalculate program progress
 Waits program progress request at.Calculations = (request ≡ asks.Jump) × CanCalculate program progress
 Waits program progress request (at.Reply next) = (is_ask request ≡ true) × Continues program progress next
 Waits program progress request (at.End at_once) = request ≡ asks.End at_once

@@ -1,22 +1,22 @@
 -- The rest of a run from where it stands: what follows the answer to the pending request.
 use Rattle.std.specs.Prelude.{ℕ, ◌+◌, ◌-◌, Bool, true, false, ◌||◌, List, [], ◌∷◌, map, filter_map, drop, slice_get, Option, Some, None, unwrap_or, option_map, if◌then◌else◌}
 use Rattle.s3_cards.specs.declared.name.Name.{Name}
+use Rattle.s3_lines.specs.declared.indicator.Indicator.{Indicator}
 use Rattle.s3_lines.specs.declared.indicator.Indicator.TheVariants.{Halt, LastRecord, FirstPage}
 use Rattle.s3_lines.specs.declared.sheet.OutputKind.{OutputKind}
 use Rattle.s3_lines.specs.declared.sheet.FieldLine.{FieldLine}
 use Rattle.s3_lines.specs.declared.sheet.CalculationLine.{CalculationLine}
 use Rattle.s3_meaning.specs.Source.{Source, detail_calculations}
-use Rattle.s3_meaning.specs.Calculations.{name_in}
 use Rattle.s3_meaning.specs.OutputLines.{Output}
 use Rattle.s3_meaning.specs.RecordTypes.{group_fields}
-use Rattle.s3_meaning.specs.Requests.{Answer}
+use Rattle.s3_meaning.specs.Requests.{Answer, Found}
 use Rattle.s3_meaning.specs.Environment.{turn}
-use Rattle.s3_meaning.specs.Selection.{Reading as MeantReading, InputFile, Selected, field_bytes, select}
+use Rattle.s3_meaning.specs.Selection.{Reading as MeantReading, InputFile, Selected, field_bytes, select, type_of}
 use Rattle.s3_meaning.specs.Runs.{Run, Rest, ask, ended, replied}
 use Rattle.s3_meaning.specs.Moving.{fields_moved}
 use Rattle.s3_operations.specs.Inner.Moves.{with_field}
 use Rattle.s3_meaning.specs.Output.{is_heading_or_detail, is_total_line, is_exception, lines_put, stored_or_halted}
-use Rattle.s3_meaning.specs.Calculating.{calculated, on_chain, with_zero_quotient}
+use Rattle.s3_meaning.specs.Calculating.{calculated, chained_to, not_found, with_zero_quotient}
 use Rattle.s3_meaning.specs.Cycle.{halts_shown, cleared, on_read, last_time, selected_or_last, reading_time, overflow_lines, without_overflow, matched, with_totals_due, detail_time, again}
 use Rattle.s3_program.specs.declared.program.Program.{Program}
 use Rattle.s3_program.specs.declared.starts.Starts.{Starts}
@@ -26,7 +26,7 @@ use Rattle.s3_program.specs.declared.starts.Walk.TheVariants as walk
 use Rattle.s3_program.specs.Inner.Valid.{named_input}
 use Rattle.s3_program.specs.Inner.Started.{output_at}
 use Rattle.s3_operations.specs.Inner.Fits.{tables, named_line}
-use Rattle.s3_match.specs.Inner.Types.{kind_at}
+use Rattle.s3_match.specs.Inner.Types.{kind_at, name_of_file}
 use Rattle.s3_match.specs.declared.heads.InputFile as code
 use Rattle.s3_match.specs.Inner.Heads.{file_at}
 use Rattle.s3_match.specs.Inner.Reading.{reading_in, read_behind, input_at}
@@ -43,6 +43,7 @@ use Rattle.s3_cycle.specs.declared.progress.Point.{Point}
 use Rattle.s3_cycle.specs.declared.progress.Point.TheVariants as at
 use Rattle.s3_cycle.specs.declared.stepper.Stepper.{Stepper}
 use Rattle.s3_cycle.specs.Inner.Requests.{request_of}
+use Rattle.s3_cycle.specs.Inner.Entries.{turn_entry}
 use Rattle.s3_cycle.specs.Inner.Environment.{environment}
 
 -- ---- the record that is processed
@@ -222,12 +223,10 @@ division_then source program progress place = on (line_at program place)
     on None e = ended true e
     on (Some line) e = calculating source program progress (with_zero_quotient source line e)
 
-abbrev pub chain_answered : Source → Program → Progress → ℕ → Answer → Rest
-chain_answered source program progress place answer = on (line_at program place)
-  where
-    on : Option (CalculationLine Name) → Rest
-    on None = ended true
-    on (Some line) = on_chain source (again source) line (name_in line.factor2) (calculating source program progress) answer
+abbrev pub chain_answered : Source → Program → Progress → (file : ℕ) → (missing : Option Indicator) → Answer → Rest
+chain_answered source program progress file missing (Found bytes) = λ e.
+    chained_to (again source) (name_of_file program file) bytes (type_of source (name_of_file program file) bytes) (calculating source program progress) (turn_entry missing false e)
+chain_answered source program progress file missing answer = not_found (again source) missing (calculating source program progress)
 
 -- what follows reply 0
 abbrev pub continued : Source → Program → Progress → Continuation → Rest
@@ -243,7 +242,7 @@ abbrev pub answered : Source → Program → Progress → Point → Answer → R
 answered source program progress (at.Lines w next) answer = lines_from source program progress w next
 answered source program progress (at.Records w next) answer = stored_or_halted (again source) (lines_from source program progress w next) answer
 answered source program progress (at.Head place) answer = head_answered source program progress place answer
-answered source program progress (at.Chained place file) answer = chain_answered source program progress place answer
+answered source program progress (at.Chained file missing) answer = chain_answered source program progress file missing answer
 answered source program progress at.Calculations answer = calculating source program progress
 answered source program progress (at.Reply next) answer = replied (again source) (continued source program progress next) answer
 answered source program progress (at.End at_once) answer = ended at_once

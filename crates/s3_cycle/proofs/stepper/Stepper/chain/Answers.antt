@@ -1,13 +1,11 @@
 use Rattle.std.proofs.Common.{ap, sym, ◌∙◌}
-use Rattle.std.specs.Prelude.{slice_get}
 use Rattle.s3_lines.specs.declared.sheet.FileLine.{FileLine}
-use Rattle.s3_lines.specs.declared.sheet.Operation.TheVariants as op
 use Rattle.s3_meaning.specs.Calculating.{forgotten}
-use Rattle.s3_program.specs.declared.program.Program.{Program}
 use Rattle.s3_match.specs.Inner.Types.{name_of_file}
-use Rattle.s3_cycle.specs.Inner.Going.{CanCalculate, IsLineAt}
-use Rattle.s3_cycle.proofs.GoingLemmas.{changed_running, changed_stays, changed_program}
-use Rattle.s3_cycle.proofs.ChainingLemmas.{chain_in, chains_missing, chains_waiting, served_as}
+use Rattle.s3_operations.specs.Inner.Indicators.{is_settable_entry}
+use Rattle.s3_cycle.specs.Inner.Going.{CanCalculate}
+use Rattle.s3_cycle.proofs.GoingLemmas.{changed_running, changed_stays}
+use Rattle.s3_cycle.proofs.ChainingLemmas.{chain_in, chain_settable, chains_missing, chains_waiting, served_as}
 use Rattle.s3_cycle.proofs.SoughtLemmas.{file_as}
 use Rattle.s3_cycle.proofs.stepper.Stepper.chain.Goals as goal
 
@@ -30,28 +28,27 @@ miss-requires-clause-calculates c =
     let s = c.args.self.now in
     changed_stays (λ p progress. CanCalculate p progress) s c.forget.new.self (λ source. forgotten source (name_of_file s.program c.args.chained.file)) c.forget.ensures c.requires.calculates
 
-pub miss-requires-clause-chain : goal.miss-requires-clause-chain
-miss-requires-clause-chain c =
-    let s = c.args.self.now in
-    changed_stays (λ p progress. IsLineAt p c.args.place op.Chain) s c.forget.new.self (λ source. forgotten source (name_of_file s.program c.args.chained.file)) c.forget.ensures c.requires.chain
+pub miss-requires-clause-settable : goal.miss-requires-clause-settable
+miss-requires-clause-settable c =
+    let line = c.requires.chain.line in
+    ap is_settable_entry (c.requires.chained line c.requires.chain.there).misses ∙ chain_settable c.args.self.now.program c.args.place line c.requires.chain.there c.requires.chain.operation
 
 pub returns-then-not-is_served : goal.returns-then-not-is_served
 returns-then-not-is_served c =
     let s = c.args.self.now in
     let line = c.requires.chain.line in
     let is = c.requires.chained line c.requires.chain.there in
-    chains_missing s c.forget.new.self c.miss.new.self c.args.place c.args.chained.file line c.miss.result (chain_in s.program c.args.place line c.args.chained c.requires.chain.there c.requires.chain.operation is) c.forget.ensures
+    chains_missing s c.forget.new.self c.miss.new.self c.args.place c.args.chained.file c.args.chained.missing line c.miss.result (chain_in s.program c.args.place line c.args.chained c.requires.chain.there c.requires.chain.operation is) is.misses c.forget.ensures
     (sym c.if-not-is_served.true ∙ served_as s line c.args.chained c.holds-is_served.result is c.holds-is_served.ensures)
-    (c.miss.ensures line
-    (ap (λ (p : Program). slice_get p.calculations.items c.args.place) (changed_program s c.forget.new.self (λ source. forgotten source (name_of_file s.program c.args.chained.file)) c.forget.ensures) ∙ c.requires.chain.there))
+    c.miss.ensures
 
 pub returns : goal.returns
 returns c =
     let s = c.args.self.now in
     let line = c.requires.chain.line in
     let is = c.requires.chained line c.requires.chain.there in
-    chains_waiting s c.forget.new.self c.wait.new.self c.args.place c.args.chained.file c.args.chained.length line c.sought-sought.result c.requires.running c.requires.calculates
-    (chain_in s.program c.args.place line c.args.chained c.requires.chain.there c.requires.chain.operation is) c.forget.ensures
+    chains_waiting s c.forget.new.self c.wait.new.self c.args.place c.args.chained.file c.args.chained.length c.args.chained.missing line c.sought-sought.result c.requires.running c.requires.calculates
+    (chain_in s.program c.args.place line c.args.chained c.requires.chain.there c.requires.chain.operation is) is.misses c.forget.ensures
     (sym c.if-not-is_served.false ∙ served_as s line c.args.chained c.holds-is_served.result is c.holds-is_served.ensures)
     (is.size ∙ ap (λ (f : FileLine). f.record_length) (sym (file_as s.program line c.args.chained is)))
     (c.sought-sought.ensures line (record { place = c.args.place; there = c.requires.chain.there; bears = c.requires.chain.operation }) is) c.wait.ensures

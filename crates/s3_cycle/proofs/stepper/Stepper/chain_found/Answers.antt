@@ -1,28 +1,23 @@
-use Rattle.std.proofs.Common.{ap, sym, ◌∙◌}
+use Rattle.std.proofs.Common.{sym}
 use Rattle.std.specs.Prelude.{Some, None}
 use Rattle.s3_meaning.specs.Calculating.{chained_to}
-use Rattle.s3_operations.specs.Inner.Indicators.{is_settable_entry}
-use Rattle.s3_cycle.proofs.ChainingLemmas.{chain_settable}
+use Rattle.s3_cycle.proofs.ChainingLemmas.{answered_settable}
 use Rattle.s3_cycle.proofs.FoundLemmas.{found_then}
 use Rattle.s3_cycle.proofs.GoingLemmas.{changed_running}
 use Rattle.s3_cycle.proofs.stepper.Stepper.chain_found.Goals as goal
 
 pub turn_entry-requires-clause-settable : goal.turn_entry-requires-clause-settable
-turn_entry-requires-clause-settable c =
-    let at = c.requires.chain in
-    ap is_settable_entry (c.first_indicator.ensures at.line at.there) ∙ chain_settable c.args.self.now.program c.args.place at.line at.there at.operation
+turn_entry-requires-clause-settable c = answered_settable c.args.self.now.program c.args.file c.args.missing c.requires.chain
 
 pub returns-in-Some : goal.returns-in-Some
 returns-in-Some c =
-    let at = c.requires.chain in
-    found_then c.args.self.now c.turn_entry.new.self c.take_chained.new.self c.args.place c.args.file c.args.bytes.now (Some c.in-Some.start) c.first_indicator.result at (c.first_indicator.ensures at.line at.there) c.turn_entry.ensures
+    found_then c.args.self.now c.turn_entry.new.self c.take_chained.new.self c.args.file c.args.missing c.args.bytes.now (Some c.in-Some.start) c.turn_entry.ensures
     c.in-Some.ensures.found c.take_chained.ensures
 
 pub returns-in-None : goal.returns-in-None
 unfolding chained_to
 returns-in-None c =
-    let at = c.requires.chain in
-    found_then c.args.self.now c.turn_entry.new.self c.halt.new.self c.args.place c.args.file c.args.bytes.now None c.first_indicator.result at (c.first_indicator.ensures at.line at.there) c.turn_entry.ensures
+    found_then c.args.self.now c.turn_entry.new.self c.halt.new.self c.args.file c.args.missing c.args.bytes.now None c.turn_entry.ensures
     c.in-None.ensures.found c.halt.ensures
 
 pub type_in-requires-clause-sound : goal.type_in-requires-clause-sound

@@ -16,8 +16,8 @@ go_on_read-requires-clause-fits c =
 
 pub go_on_chained-requires-clause-fits : goal.go_on_chained-requires-clause-fits
 go_on_chained-requires-clause-fits c =
-    chained_fits c.args.self.now.program c.args.self.now.composition c.in-Chained.place c.in-Chained.file c.args.self.now.request c.args.answer.now
-    (waits_at c.args.self.now (at.Chained c.in-Chained.place c.in-Chained.file) c.requires.waiting c.in-Chained.is).0 c.requires.fits
+    chained_fits c.args.self.now.program c.args.self.now.composition c.in-Chained.file c.in-Chained.missing c.args.self.now.request c.args.answer.now
+    (waits_at c.args.self.now (at.Chained c.in-Chained.file c.in-Chained.missing) c.requires.waiting c.in-Chained.is).0 c.requires.fits
 
 pub go_on_replied-requires-clause-fits : goal.go_on_replied-requires-clause-fits
 go_on_replied-requires-clause-fits c =
