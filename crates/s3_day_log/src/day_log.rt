@@ -44,10 +44,10 @@ impl From<AllocFailed<LevelId>> for LogFault {
 #[derive(Clone, Copy, Debug, PartialEq, Eq, Error)]
 pub enum Refused {
     /// The pack is another one.
-    #[error("the pack isn't that of the log")]
+    #[error("the pack isn't that of the log; give the pack with which the day was begun")]
     Pack,
     /// The deck of this level has another file, at this place from 1, or more or fewer of them.
-    #[error("file {1} of --deck{0} isn't that of the log")]
+    #[error("file {1} of --deck{0} isn't that of the log; give the files with which the day was begun, in their order")]
     Deck(u8, usize),
 }
 

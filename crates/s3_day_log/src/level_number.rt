@@ -6,11 +6,7 @@ use std::alloc::Global;
 
 /// Writes a level.
 pub(crate) fn serialize<S: Serializer>(level: &LevelId, out: &mut S) -> Result<(), S::Error> {
-    let number: u8 = match level {
-        LevelId::One => 1,
-        LevelId::Two => 2,
-    };
-    number.serialize(out)
+    level.number().serialize(out)
 }
 
 /// Reads a level.

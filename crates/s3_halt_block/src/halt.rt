@@ -1,4 +1,4 @@
-//! The block.
+//! The block of a halt, put together of its parts.
 
 use crate::at_start::{AtStart, push_at_start};
 use crate::at_work::{AtWork, push_at_work};
@@ -72,7 +72,7 @@ pub fn push_halt<S: PackStore>(
 }
 
 /// Appends a job by its number and what it does: `job 5, CUSLD`.
-pub fn push_job(text: &mut String, number: u16, job: Option<&JobEntry>) -> Result<(), AllocError> {
+fn push_job(text: &mut String, number: u16, job: Option<&JobEntry>) -> Result<(), AllocError> {
     write!(text, "job {number}")?;
     match job {
         Some(job) => push_program(text, &job.statements),

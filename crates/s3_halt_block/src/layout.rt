@@ -10,13 +10,13 @@ use std::alloc::{AllocError, Global};
 /// The columns of the F sheet for the record length.
 const RECORD_LENGTH: Columns = Columns { from: 24, to: 27 };
 
-/// Those for the length of the key.
+/// The columns of the F sheet for the length of the key.
 const KEY_LENGTH: Columns = Columns { from: 29, to: 30 };
 
-/// That for the index.
+/// The column of the F sheet for the index.
 const INDEX: Columns = Columns { from: 32, to: 32 };
 
-/// Those for the start of the key.
+/// The columns of the F sheet for the first position of the key.
 const KEY_START: Columns = Columns { from: 35, to: 38 };
 
 /// The entries of an F card that say something else than a label.

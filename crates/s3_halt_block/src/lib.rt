@@ -19,5 +19,5 @@ mod room;
 mod slot_words;
 mod stand;
 
-pub use halt::{push_halt, push_job};
-pub use replies::{push_letters, push_prompt, push_replies, push_reply};
+pub use halt::push_halt;
+pub use replies::{push_choice, push_letters, push_replies, push_reply};

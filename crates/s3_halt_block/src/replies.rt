@@ -1,19 +1,11 @@
-//! Letters, replies and prompts.
+//! Letters and replies: which a halt allows, and what each does.
 
 use s3_cards::LevelId;
 use s3_operator::{HaltCode, choices, effect, is_at_start, letters, meaning};
 use std::alloc::AllocError;
 
-/// The replies that some halt allows.
+/// All digits that a reply can have; each halt allows some of them.
 const DIGITS: [u8; 3] = [0, 2, 3];
-
-/// The number of a level.
-pub(crate) fn number_of(level: LevelId) -> u8 {
-    match level {
-        LevelId::One => 1,
-        LevelId::Two => 2,
-    }
-}
 
 /// Appends the two letters of a halt.
 pub fn push_letters(text: &mut String, code: HaltCode) -> Result<(), AllocError> {
@@ -36,13 +28,13 @@ pub fn push_replies(text: &mut String, code: HaltCode) -> Result<(), AllocError>
     Ok(())
 }
 
-/// Appends the question that waits for a reply, `level 2, H1: 0, 2 or 3? `, without the end of a line.
-pub fn push_prompt(text: &mut String, level: LevelId, code: HaltCode) -> Result<(), AllocError> {
-    let number = number_of(level);
+/// Appends what a level's halt may be answered with: `level 2, H1: 0, 2 or 3`.
+pub fn push_choice(text: &mut String, level: LevelId, code: HaltCode) -> Result<(), AllocError> {
+    let number = level.number();
     write!(text, "level {number}, ")?;
     push_letters(text, code)?;
     let choices = choices(code);
-    write!(text, ": {choices}? ")
+    write!(text, ": {choices}")
 }
 
 /// Appends the line that tells what a reply does: `level 2: 0, goes on; the halt indicator goes off`; of one that the halt doesn't
@@ -53,7 +45,7 @@ pub fn push_reply(
     code: HaltCode,
     digit: u8,
 ) -> Result<(), AllocError> {
-    let number = number_of(level);
+    let number = level.number();
     match effect(code, digit) {
         Some(effect) => writeln!(text, "level {number}: {digit}, {effect}"),
         None => {
@@ -72,7 +64,7 @@ pub(crate) fn push_meaning(
     level: LevelId,
     code: HaltCode,
 ) -> Result<(), AllocError> {
-    let number = number_of(level);
+    let number = level.number();
     write!(text, "level {number} halts: ")?;
     push_letters(text, code)?;
     let meaning = meaning(code);

@@ -1,7 +1,6 @@
 //! What room the files of a job ask for, and what is free.
 
 use crate::at_start::push_file_name;
-use crate::replies::number_of;
 use s3_cards::Name;
 use s3_evidence::{Asked, JobFile, is_made, key_of};
 use s3_labels::Slot;
@@ -52,7 +51,7 @@ fn push_asked(
 
 /// Appends what a level's region has free.
 fn push_free(text: &mut String, asked: &Asked<'_>) -> Result<(), AllocError> {
-    let number = number_of(asked.level);
+    let number = asked.level.number();
     let slots = asked.areas.slots(asked.level);
     let region = asked.areas.region(asked.level);
     let tracks = region.sectors / TRACK;
@@ -69,8 +68,9 @@ fn push_free(text: &mut String, asked: &Asked<'_>) -> Result<(), AllocError> {
 /// How many tracks are free.
 #[derive(Clone, Copy)]
 struct FreeTracks {
+    /// All that are free.
     in_all: u32,
-    /// the most that lie one behind the other
+    /// The most that lie one behind the other.
     in_a_row: u32,
 }
 
@@ -119,7 +119,7 @@ fn count_free(slots: &[Slot]) -> usize {
         .count()
 }
 
-/// The tracks of the file of a label that one of this label replaces.
+/// How many tracks the level's file of a label has, which a new file of that label replaces; none where it has no such file.
 fn tracks_of_old(asked: &Asked<'_>, name: Name) -> Option<u32> {
     for slot in asked.areas.slots(asked.level) {
         if let Slot::Sound(label) = slot {

@@ -1,9 +1,9 @@
 //! What is said to who is asked.
 
-use crate::levels::number_of;
+use crate::counts::push_counted;
 use s3_cards::{LevelId, PrintLine, trim_end};
 use s3_halt_block::{push_letters, push_replies};
-use s3_operator::{HaltCode, allowed, choices, meaning};
+use s3_operator::{HaltCode, allowed, meaning};
 use s3_ruled::push_characters;
 use std::alloc::AllocError;
 
@@ -11,26 +11,13 @@ use std::alloc::AllocError;
 const WORDS: &'static str =
     "  show   the halt once more\n  lines  the last printed lines, as lines 2 30 for thirty of level 2\n  stop   ends the day here\n";
 
-/// Appends what a level's halt may be answered with: `level 2, H1: 0, 2 or 3`.
-pub(crate) fn push_choice(
-    text: &mut String,
-    level: LevelId,
-    code: HaltCode,
-) -> Result<(), AllocError> {
-    let number = number_of(level);
-    let choices = choices(code);
-    write!(text, "level {number}, ")?;
-    push_letters(text, code)?;
-    write!(text, ": {choices}")
-}
-
 /// Appends what the replies to a level's halt do, under what it means.
 pub(crate) fn push_help(
     text: &mut String,
     level: LevelId,
     code: HaltCode,
 ) -> Result<(), AllocError> {
-    let number = number_of(level);
+    let number = level.number();
     let meaning = meaning(code);
     write!(text, "level {number}, ")?;
     push_letters(text, code)?;
@@ -50,10 +37,11 @@ pub(crate) fn push_last_lines(
     lines: &[PrintLine],
     most: usize,
 ) -> Result<(), AllocError> {
-    let number = number_of(level);
+    let number = level.number();
     let count = lines.len();
-    let plural = if count == 1 { "" } else { "s" };
-    writeln!(text, "level {number} has printed {count} line{plural}")?;
+    write!(text, "level {number} has printed ")?;
+    push_counted(text, count as u64, "line")?;
+    text.push('\n')?;
     let from = count.saturating_sub(most);
     for line in lines.get(from..).unwrap_or(&[]) {
         push_line(text, line)?;

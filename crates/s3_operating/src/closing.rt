@@ -1,8 +1,8 @@
 //! How a day ended.
 
 use crate::clock::Clock;
+use crate::counts::push_counted;
 use crate::desk::Desk;
-use crate::levels::{number_of, push_counted};
 use crate::progress::{push_job_at, push_last_job};
 use crate::seat::Seat;
 use memchr::memchr_iter;
@@ -29,6 +29,7 @@ pub struct Closing {
 impl<'a, R: Read + Drop, W: Write + Drop, F: Write + Drop, C: Clock + Drop> Desk<'a, R, W, F, C> {
     /// Ends the day: the script is written to its end, the log but for its last line, and what is told of both levels is made.
     pub fn close(&mut self, day: &Day, performed: &Performed) -> Result<Closing, AllocError> {
+        // a day without an entry was never begun
         if !self.has_begun {
             let alloc = self.alloc;
             self.one.read_text(alloc)?;
@@ -108,7 +109,7 @@ fn push_summary(
     end: LevelEnd,
     lines: usize,
 ) -> Result<(), AllocError> {
-    let number = number_of(seat.level);
+    let number = seat.level.number();
     write!(text, "level {number}: ")?;
     push_end(text, seat, end)?;
     if end == LevelEnd::Done {

@@ -35,7 +35,8 @@ impl<'a> JoinedFiles<'a> {
         self.add_file(name, bytes, None)
     }
 
-    /// Likewise the cards that were punched of a file, with the line of the file that each is of, from 1.
+    /// Puts the cards that were punched of a file behind those of the files before, with the line of the file that each is of,
+    /// from 1.
     pub fn add_punched(
         &mut self,
         name: &'a str,

@@ -1,10 +1,9 @@
 //! The operator of the command.
 
 use crate::answers::{Answer, Giver, logged, ruled};
-use crate::asking::{is_allowed, push_choice, push_help, push_last_lines, push_words};
+use crate::asking::{is_allowed, push_help, push_last_lines, push_words};
 use crate::clock::Clock;
 use crate::journal::Journal;
-use crate::levels::{number_of, other};
 use crate::progress::{push_last_job, push_progress};
 use crate::reading::read_line;
 use crate::seat::Seat;
@@ -16,7 +15,7 @@ use s3_cards::LevelId;
 use s3_day_log::{Begun, DayLog};
 use s3_desk::{Bounds, Operator};
 use s3_evidence::Evidence;
-use s3_halt_block::{push_halt, push_letters, push_reply};
+use s3_halt_block::{push_choice, push_halt, push_letters, push_reply};
 use s3_level::Level;
 use s3_operator::HaltCode;
 use s3_replay::Performed;
@@ -28,10 +27,10 @@ use std::io::{Read, Write};
 /// How long a halt is shown at least before a line answers it, in milliseconds: what came sooner was typed before.
 const SOONEST: u64 = 200;
 
-/// How long the work goes on between two lines that tell of it, in milliseconds.
+/// How long the work goes on at least between two lines that tell how far it is, in milliseconds.
 const BETWEEN: u64 = 1_000;
 
-/// How many turns of both levels are taken at least between two looks at the clock for that.
+/// How many turns both levels take at least between two looks at the clock for such a line.
 const TURNS_BETWEEN: u64 = 1_000;
 
 /// Who is asked for what neither a log nor a rule answers.
@@ -403,7 +402,7 @@ impl<'a, R: Read + Drop, W: Write + Drop, F: Write + Drop, C: Clock + Drop> Desk
         code: HaltCode,
         digit: u8,
     ) -> Result<(), AllocError> {
-        let number = number_of(level);
+        let number = level.number();
         write!(text, "level {number}: ")?;
         push_letters(text, code)?;
         text.push_str(" in ")?;
@@ -420,7 +419,7 @@ impl<'a, R: Read + Drop, W: Write + Drop, F: Write + Drop, C: Clock + Drop> Desk
         if let Some(digit) = self.take_kept(level) {
             return Ok(Some(self.answer_of(digit)));
         }
-        let comes_first = self.is_given(other(level));
+        let comes_first = self.is_given(level.other());
         if self.has_ended || comes_first || self.settings.questioned == Questioned::Nobody {
             return Ok(None);
         }
@@ -458,6 +457,7 @@ impl<'a, R: Read + Drop, W: Write + Drop, F: Write + Drop, C: Clock + Drop> Desk
         machine: &Bureau<S>,
         level: LevelId,
     ) -> Result<Option<(LevelId, u8)>, AllocError> {
+        // more than anyone types: the bound is what shows that it ends
         for _line in 0..u64::MAX {
             let asked_at = self.prompt(level)?;
             let Some(line) = read_line(self.alloc, &mut self.reader)? else {
@@ -548,7 +548,7 @@ impl<'a, R: Read + Drop, W: Write + Drop, F: Write + Drop, C: Clock + Drop> Desk
 
     /// A digit without a level: for the one that is asked, unless a person is asked for both.
     fn hear_digit(&mut self, level: LevelId, digit: u8) -> Result<Said, AllocError> {
-        let both = self.asked_in(level, other(level)).is_some();
+        let both = self.asked_in(level, level.other()).is_some();
         if both && self.settings.questioned == Questioned::Person {
             let mut text = String::new(self.alloc);
             writeln!(text, "both levels wait: 1 {digit}, or 2 {digit}?")?;
@@ -565,7 +565,7 @@ impl<'a, R: Read + Drop, W: Write + Drop, F: Write + Drop, C: Clock + Drop> Desk
             Some(code) if is_allowed(Some(code), digit) => return Ok(Said::Reply(to, digit)),
             Some(code) => push_reply(&mut text, to, code, digit)?,
             None => {
-                let number = number_of(to);
+                let number = to.number();
                 writeln!(text, "level {number} shows no halt")?;
             }
         }

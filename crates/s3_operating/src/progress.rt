@@ -1,6 +1,5 @@
 //! How far the work has come, and jobs as they are told.
 
-use crate::levels::number_of;
 use crate::seat::Seat;
 use crate::tally::Counts;
 use s3_ledger::{Ledger, Purpose};
@@ -43,7 +42,7 @@ pub(crate) fn push_progress(
     queued: usize,
     counts: Counts,
 ) -> Result<(), AllocError> {
-    let number = number_of(seat.level);
+    let number = seat.level.number();
     write!(text, "level {number}: ")?;
     if queued == 0 && !level.has_work() {
         return text.push_str("done");

@@ -13,6 +13,7 @@ pub(crate) fn read_line<R: Read>(
 ) -> Result<Option<Vec<u8>>, AllocError> {
     let mut line = Vec::new(alloc);
     let mut is_any = false;
+    // more than anyone types: the bound is what shows that it ends
     for _byte in 0..u64::MAX {
         let Some(byte) = next_byte(reader) else {
             break;

@@ -1,7 +1,7 @@
 //! A level as the desk sees it.
 
 use crate::day_deck::DayDeck;
-use s3_cards::{Deck, LevelId};
+use s3_cards::{CardFault, Deck, DeckFault, LevelId};
 use s3_deck_files::DeckText;
 use s3_ledger::Ledger;
 use s3_operator::HaltCode;
@@ -14,8 +14,8 @@ pub struct Seat<'a> {
     deck: &'a DayDeck<'a>,
     /// The line of a file for each card, once it was asked for.
     places: Option<DeckText<'a>>,
-    /// The number of the card at fault, from 1, and of its fault, where the deck can't be read.
-    pub(crate) unread: Option<(u16, u8)>,
+    /// The number of the card at fault, from 1, and its fault, where the deck can't be read.
+    pub(crate) unread: Option<(u16, CardFault)>,
     pub(crate) ledger: Ledger,
     /// How many halts were shown.
     pub(crate) halts: u64,
@@ -90,13 +90,11 @@ impl<'a> Seat<'a> {
     }
 }
 
-/// The number of the card at fault of a deck, from 1, and of its fault, if it has one.
-fn fault_of(alloc: Global, text: &[u8]) -> Result<Option<(u16, u8)>, AllocError> {
+/// The number of the card at fault of a deck, from 1, and its fault, if it has one.
+fn fault_of(alloc: Global, text: &[u8]) -> Result<Option<(u16, CardFault)>, AllocError> {
     match Deck::read(alloc, text) {
         Ok(_) => Ok(None),
-        Err(fault) => match fault.detail() {
-            Some(detail) => Ok(Some(detail)),
-            None => Err(AllocError),
-        },
+        Err(DeckFault::At(card, fault)) => Ok(Some((card, fault))),
+        Err(DeckFault::NoMemory) => Err(AllocError),
     }
 }

@@ -9,4 +9,4 @@ mod characters;
 mod ruled;
 
 pub use characters::{push_characters, push_name};
-pub use ruled::{Columns, push_marks, push_ruled, push_under_ruler};
+pub use ruled::{Columns, push_marks, push_ruled, push_ruler, push_under_ruler};

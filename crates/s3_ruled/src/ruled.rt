@@ -47,8 +47,8 @@ fn last_marked(marked: &[Columns]) -> usize {
     last
 }
 
-/// Appends `....5...10` and so on, over all columns.
-fn push_ruler(text: &mut String, columns: usize) -> Result<(), AllocError> {
+/// Appends a line with a ruler, `....5...10` and so on, over so many columns.
+pub fn push_ruler(text: &mut String, columns: usize) -> Result<(), AllocError> {
     text.push_str(MARGIN)?;
     for fifth in 0..columns.div_ceil(5) {
         let column = fifth.saturating_add(1).saturating_mul(5);

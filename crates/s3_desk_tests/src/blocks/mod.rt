@@ -2,7 +2,7 @@
 //!
 //! - `at_work`: programs that halt over cards and files.
 //! - `at_start`: jobs that don't start.
-//! - `one_line`: prompts and replies.
+//! - `one_line`: what is asked and replied, in a line each.
 
 mod at_start;
 mod at_work;

@@ -1,19 +1,19 @@
-//! Prompts and replies.
+//! What is asked and replied, in a line each.
 
 use s3_bureau::HaltCode;
 use s3_cards::LevelId;
-use s3_halt_block::{push_prompt, push_replies, push_reply};
+use s3_halt_block::{push_choice, push_replies, push_reply};
 use std::test::Fail;
 
-/// A prompt names the level, the letters and the replies that are allowed.
+/// What may be answered names the level, the letters and the replies that are allowed.
 #[test]
-fn prompts(rt: HostRuntime) -> Result<(), Fail> {
+fn choices(rt: HostRuntime) -> Result<(), Fail> {
     let mut text = String::new(rt.alloc());
-    push_prompt(&mut text, LevelId::Two, HaltCode::HaltIndicator(1))?;
-    assert_eq!(rt; text.as_str(), "level 2, H1: 0, 2 or 3? ");
+    push_choice(&mut text, LevelId::Two, HaltCode::HaltIndicator(1))?;
+    assert_eq!(rt; text.as_str(), "level 2, H1: 0, 2 or 3");
     let mut text = String::new(rt.alloc());
-    push_prompt(&mut text, LevelId::One, HaltCode::FileFull)?;
-    assert_eq!(rt; text.as_str(), "level 1, EX: 2 or 3? ");
+    push_choice(&mut text, LevelId::One, HaltCode::FileFull)?;
+    assert_eq!(rt; text.as_str(), "level 1, EX: 2 or 3");
     Ok(())
 }
 
