@@ -1,41 +1,30 @@
 //! The command's words, and what they ask for.
 ghost use Rattle.std.specs.Prelude.{◌≤◌, ◌≡◌};
 
+use crate::new_pack::new_pack;
 use crate::operate::operate;
+use crate::refusal::{FILE, OUT_OF_MEMORY, fault_of};
 use crate::version::write_version;
 use crate::words::command;
 use clap::error::ErrorKind;
 use clap::{ArgMatches, Error};
-use s3_cli::{
-    CliFault, RunFault, SessionFault, Watched, image, image_with, list, migrate, session_on, tell,
-    write_table,
-};
+use s3_cli::{CliFault, Watched, image_with, list, migrate, session_on, tell, write_table};
 use s3_data_commands::check_pack::check;
 use s3_data_commands::copy::copy;
 use s3_data_commands::delete::delete;
 use s3_data_commands::load::load;
 use s3_data_commands::sort::sort;
 use s3_data_commands::unload::unload;
+use s3_data_commands::words::value_of;
 use s3_host_files::{FileFault, LockedPack, read_pack, read_to_save, save_pack};
+use s3_paper_commands::status::{DONE, REFUSED, WRONG_WORDS};
 use s3_paper_commands::{compile_files, punch_files};
 use std::io::Write;
 use std::{env, fs, io};
 
-/// The exit status of words that can't be read.
-const USAGE: u8 = 2;
-
-/// The exit status where a new file isn't written over what stands there.
-const OCCUPIED: u8 = 1;
-
-const OUT_OF_MEMORY: CliFault = CliFault::Session(SessionFault::Run(RunFault::NoMemory));
-
-const FILE: CliFault = CliFault::Session(SessionFault::File);
-
-/// A run without a pack has a new one, each of whose regions has so many tracks.
-const TRACKS: u16 = 10;
-
-/// Does what the words of the command line ask, and gives the exit status: 0 where it is done, 2 where the words can't be read,
-/// else the status of the refusal, whose line it wrote on standard error (docs/RUNNING.md, "Refusals").
+/// Does what the words of the command line ask, and gives the exit status: 0 where it is done; 4 or 5 where it is done but for what a
+/// person has to look at (docs/OPERATING.md, docs/LISTINGS.md, docs/DATA.md, docs/PACK_CARE.md); 2 where the words can't be read or
+/// followed; else that of the refusal, whose line it wrote on standard error (docs/RUNNING.md, "Refusals").
 pub fn execute(rt: &HostRuntime) -> u8
     ensures { result ≤ 5 }
 {
@@ -46,7 +35,10 @@ pub fn execute(rt: &HostRuntime) -> u8
             rt,
             &OUT_OF_MEMORY,
         ),
-        Err(_) => return misuse(rt, "a word is no UTF-8 text"),
+        Err(_) => return misuse(
+            rt,
+            "one of the words isn't text in UTF-8; rename the file that it names",
+        ),
     };
     let words: Vec<String> = match given.collect(alloc) {
         Ok(words) => words,
@@ -67,7 +59,7 @@ fn misuse(rt: &HostRuntime, reason: &str) -> u8
     ensures { result ≡ 2 }
 {
     let _ = writeln!(rt.stderr(), "error: {reason}");
-    USAGE
+    WRONG_WORDS
 }
 
 fn refuse(rt: &HostRuntime, fault: &CliFault) -> u8
@@ -90,10 +82,10 @@ fn explain(rt: &HostRuntime, error: &Error) -> u8
         error.print(rt)
     };
     if error.use_stderr() {
-        return USAGE;
+        return WRONG_WORDS;
     }
     match shown {
-        Ok(()) => 0,
+        Ok(()) => DONE,
         Err(error) => refuse(rt, &fault_of(&error)),
     }
 }
@@ -117,11 +109,11 @@ fn perform<'a>(rt: &'a HostRuntime, matches: &ArgMatches<'a>, words: &[String]) 
         Some(("init", matches)) => init(rt, matches),
         Some(("list", matches)) => list_files(rt, matches),
         Some(("migrate", matches)) => migrate_pack(rt, matches),
-        // a command that is offered above has a line here
+        // each command that `words::command` offers has its arm above
         _ => return misuse(rt, "there is no such command"),
     };
     match done {
-        Ok(()) => 0,
+        Ok(()) => DONE,
         Err(fault) => refuse(rt, &fault),
     }
 }
@@ -150,35 +142,32 @@ fn pack_to_run(
     match (matches.get_str("pack"), matches.get_str("save")) {
         (Some(path), Some(save)) => read_locked(rt, path, save),
         (Some(path), None) => Ok((read(rt, path)?, None)),
-        (None, _) => {
-            let pack = image(rt.alloc(), None, TRACKS, TRACKS, TRACKS).map_err(CliFault::Image)?;
-            Ok((pack, None))
-        }
+        (None, _) => Ok((new_pack(rt.alloc())?, None)),
     }
 }
 
 /// Whether `bureau init` is to write a new file, and something stands there.
 fn is_occupied(rt: &HostRuntime, matches: &ArgMatches<'_>) -> bool {
-    matches.get_flag("new") && fs::symlink_metadata(rt, file(matches, "save")).is_ok()
+    matches.get_flag("new") && fs::symlink_metadata(rt, value_of(matches, "save")).is_ok()
 }
 
 /// Says that a new pack would be written over what stands there.
 fn refuse_occupied(rt: &HostRuntime, matches: &ArgMatches<'_>) -> u8
     ensures { result ≡ 1 }
 {
-    let path = file(matches, "save");
+    let path = value_of(matches, "save");
     let _ = writeln!(
         rt.stderr(),
         "bureau: {path} is there already; give another name, or leave --new out to write over it"
     );
-    OCCUPIED
+    REFUSED
 }
 
 /// `bureau init`.
 fn init(rt: &HostRuntime, matches: &ArgMatches<'_>) -> Result<(), CliFault> {
     let (old, locked) = match matches.get_str("from") {
         Some(path) => {
-            let (old, locked) = read_locked(rt, path, file(matches, "save"))?;
+            let (old, locked) = read_locked(rt, path, value_of(matches, "save"))?;
             (Some(old), locked)
         }
         None => (None, None),
@@ -193,12 +182,12 @@ fn init(rt: &HostRuntime, matches: &ArgMatches<'_>) -> Result<(), CliFault> {
         quota(matches, "quota2"),
     )
     .map_err(CliFault::Image)?;
-    save_to(rt, file(matches, "save"), locked, &pack)
+    save_to(rt, value_of(matches, "save"), locked, &pack)
 }
 
 /// `bureau list`.
 fn list_files(rt: &HostRuntime, matches: &ArgMatches<'_>) -> Result<(), CliFault> {
-    let pack = read(rt, file(matches, "pack"))?;
+    let pack = read(rt, value_of(matches, "pack"))?;
     let listed = if matches.get_flag("table") {
         write_table(rt.alloc(), &pack, &mut rt.stdout())
     } else {
@@ -209,15 +198,10 @@ fn list_files(rt: &HostRuntime, matches: &ArgMatches<'_>) -> Result<(), CliFault
 
 /// `bureau migrate`.
 fn migrate_pack(rt: &HostRuntime, matches: &ArgMatches<'_>) -> Result<(), CliFault> {
-    let save = file(matches, "save");
-    let (old, locked) = read_locked(rt, file(matches, "pack"), save)?;
+    let save = value_of(matches, "save");
+    let (old, locked) = read_locked(rt, value_of(matches, "pack"), save)?;
     let pack = migrate(rt.alloc(), &old).map_err(CliFault::Migrate)?;
     save_to(rt, save, locked, &pack)
-}
-
-/// The path that a needed word gives.
-fn file<'a>(matches: &ArgMatches<'a>, name: &str) -> &'a str {
-    matches.get_str(name).unwrap_or("")
 }
 
 /// The number of tracks that a word gives; it has one by default.
@@ -257,14 +241,5 @@ fn told(fault: &FileFault) -> CliFault {
     match fault {
         FileFault::InUse => FILE,
         FileFault::Call(error) => fault_of(error),
-    }
-}
-
-/// What a failed call on a file is to a command.
-fn fault_of(error: &io::Error) -> CliFault {
-    if error.kind() == io::ErrorKind::OutOfMemory {
-        OUT_OF_MEMORY
-    } else {
-        FILE
     }
 }

@@ -10,7 +10,9 @@
 #![tactic(auto)]
 
 mod command;
+mod new_pack;
 mod operate;
+mod refusal;
 mod version;
 mod words;
 

@@ -12,30 +12,26 @@ mod paper;
 mod taking_up;
 mod watch;
 
+use crate::refusal::OUT_OF_MEMORY;
 use crate::words::command;
 use begun::{day_begun, test_same};
 use clap::ArgMatches;
 use day::{Prepared, operate_prepared};
-use fault::{DayFault, OUT_OF_MEMORY};
+use fault::DayFault;
 use inherited_words::words_again;
 use inputs::{read_day_pack, read_deck, read_log, read_rules};
 use order::Order;
-use outputs::{Outputs, guard};
+use outputs::{Outputs, test_outputs};
 use s3_cards::LevelId;
 use s3_cli::{CliFault, RunFault, SessionFault};
 use s3_day_log::DayLog;
 use s3_labels::{Pack, Refusal, Refused};
 use s3_operating::Seat;
+use s3_paper_commands::status::{DONE, PASSED_OVER};
 use s3_store::MemoryStore;
 use std::alloc::Global;
 use std::io::Write;
 use taking_up::{list_jobs, taken_up};
-
-/// Standard output failed.
-const FILE: CliFault = CliFault::Session(SessionFault::File);
-
-/// The highest status: that of a day on which both levels are done, and a job was passed over or ended by a reply.
-const PASSED: u8 = 5;
 
 /// A log whose day is done again.
 #[derive(Clone, Copy)]
@@ -52,16 +48,16 @@ pub fn operate<'a>(rt: &'a HostRuntime, matches: &ArgMatches<'a>, words: &[Strin
 {
     match matches.get_str("redo") {
         Some(path) => operate_again(rt, matches, words, path),
-        None => status_of(rt, operate_with(rt, matches, words, None)),
+        None => status_of_day(rt, operate_with(rt, matches, words, None)),
     }
 }
 
 /// The exit status of a day; why it was refused is told.
-fn status_of(rt: &HostRuntime, done: Result<u8, DayFault<'_>>) -> u8
+fn status_of_day(rt: &HostRuntime, done: Result<u8, DayFault<'_>>) -> u8
     ensures { result ≤ 5 }
 {
     match done {
-        Ok(status) => status.min(PASSED),
+        Ok(status) => status.min(PASSED_OVER),
         Err(fault) => fault.tell(&mut rt.stderr()),
     }
 }
@@ -72,7 +68,7 @@ fn operate_again(rt: &HostRuntime, matches: &ArgMatches<'_>, words: &[String], p
 {
     let log = match read_log(rt, path) {
         Ok(log) => log,
-        Err(fault) => return status_of(rt, Err(fault)),
+        Err(fault) => return status_of_day(rt, Err(fault)),
     };
     let whole = match words_again(rt.alloc(), words, matches, &log) {
         Ok(Some(whole)) => whole,
@@ -101,7 +97,7 @@ fn operate_parsed<'a>(
     match parsed.subcommand() {
         Some(("operate", matches)) => {
             let words = whole.get(2..).unwrap_or(&[]);
-            status_of(
+            status_of_day(
                 rt,
                 operate_with(rt, matches, words, Some(Again { path, log })),
             )
@@ -113,15 +109,18 @@ fn operate_parsed<'a>(
 fn refuse_for_memory(rt: &HostRuntime) -> u8
     ensures { result ≤ 5 }
 {
-    status_of(rt, Err(DayFault::Cli(OUT_OF_MEMORY)))
+    status_of_day(rt, Err(DayFault::Cli(OUT_OF_MEMORY)))
 }
 
-/// Refuses a log whose words can't be read.
+/// Refuses a log whose words this program doesn't take.
 fn refuse_log(rt: &HostRuntime, path: &str) -> u8
     ensures { result ≤ 5 }
 {
-    let _ = writeln!(rt.stderr(), "{path}: line 1 has words that can't be read");
-    status_of(rt, Err(DayFault::Redo))
+    let _ = writeln!(
+        rt.stderr(),
+        "{path}: line 1 has words that this program doesn't take; use the program that wrote the log"
+    );
+    status_of_day(rt, Err(DayFault::Redo))
 }
 
 /// Does a day, or lists its jobs. It is refused before the first turn, or not at all but for want of memory or a file that fails.
@@ -138,10 +137,10 @@ fn operate_with<'a>(
     let (text2, read2) = read_deck(rt, LevelId::Two, &order.deck2, is_logged)?;
     if matches.get_flag("jobs") {
         list_jobs(rt, &text1, &text2)?;
-        return Ok(0);
+        return Ok(DONE);
     }
     let rules = read_rules(rt, order.rules)?;
-    guard(rt, &order, matches.get_str("redo"))?;
+    test_outputs(rt, &order, matches.get_str("redo"))?;
     let (pack, checksum, locked) = read_day_pack(rt, &order, is_logged)?;
     let begun = day_begun(alloc, &order, words, checksum, &read1, &read2)?;
     if let Some(again) = again {
@@ -156,8 +155,8 @@ fn operate_with<'a>(
     operate_prepared(
         rt,
         &order,
+        pack,
         Prepared {
-            pack,
             begun,
             one,
             two,

@@ -16,7 +16,7 @@ const SUM: &str = "; sha256 ";
 /// The most bytes that are read of the executable, from its end.
 const TAIL: usize = 512;
 
-/// How far before its end they begin.
+/// The place of the first byte that is read, counted from the end of the file.
 const FROM_END: i64 = -512;
 
 /// Prints the program's name and what the executable was made from, or that it is not stamped. A stamp that is cut or damaged

@@ -1,5 +1,6 @@
 //! The words that the program takes.
 
+use crate::new_pack::{PACK_HELP, TRACKS_TEXT};
 use clap::{Arg, ArgAction, Command, value_parser};
 use s3_data_commands::check_pack::check_command;
 use s3_data_commands::copy::copy_command;
@@ -7,11 +8,9 @@ use s3_data_commands::delete::delete_command;
 use s3_data_commands::load::load_command;
 use s3_data_commands::sort::sort_command;
 use s3_data_commands::unload::unload_command;
+use s3_data_commands::words::{file_word, flag, pack_word, save_word, value_word};
 use s3_paper_commands::{compile_command, punch_command};
 use std::alloc::{AllocError, Global};
-
-/// The regions of a new pack have so many tracks where the words don't say it.
-const TRACKS: &str = "10";
 
 /// The levels of a new pack may have so many lines queued where the words don't say it.
 const QUOTA: &str = "64";
@@ -47,9 +46,7 @@ fn pack_commands<'a>(alloc: Global, command: Command<'a>) -> Result<Command<'a>,
 fn run_command<'a>(alloc: Global) -> Result<Command<'a>, AllocError> {
     Command::new(alloc, "run")
         .about("Runs the decks and the script of standard input")
-        .arg(file_word(alloc, "pack").help(
-            "The pack; a new one with 10 tracks a region if none is given",
-        ))?
+        .arg(file_word(alloc, "pack").help(PACK_HELP))?
         .arg(file_word(alloc, "save").help("Where the pack is written as the run leaves it"))
 }
 
@@ -58,9 +55,7 @@ fn operate_command<'a>(alloc: Global) -> Result<Command<'a>, AllocError> {
         .about(
             "Runs the decks of both levels until they are done, and asks for replies as halts come",
         )
-        .arg(file_word(alloc, "pack").help(
-            "The pack; a new one with 10 tracks a region if none is given",
-        ))?
+        .arg(file_word(alloc, "pack").help(PACK_HELP))?
         .arg(file_word(alloc, "save").help("Where the pack is written once both levels are done"))?
         .arg(files_word(alloc, "deck1").help(
             "The deck of level 1; several files are one deck, and those that end in .rpg or .punch are plain text",
@@ -70,10 +65,10 @@ fn operate_command<'a>(alloc: Global) -> Result<Command<'a>, AllocError> {
             "Rules that answer halts, a line each: LEVEL LETTERS DIGIT [PROGRAM]; with - the replies come from standard input",
         ))?
         .arg(bound_word(alloc, "turns").help(
-            "The most turns that a level takes, if not 1000000000",
+            "The most turns that a level takes; 1000000000 if none is given",
         ))?
         .arg(bound_word(alloc, "lines").help(
-            "The most lines that a level prints, if not 1000000",
+            "The most lines that a level prints; 1000000 if none is given",
         ))?;
     operate_outputs(alloc, command)
 }
@@ -161,11 +156,6 @@ fn migrate_command<'a>(alloc: Global) -> Result<Command<'a>, AllocError> {
         .arg(save_word(alloc))
 }
 
-/// A word that names a file.
-fn file_word<'a>(alloc: Global, name: &'a str) -> Arg<'a> {
-    Arg::new(alloc, name).long(name).value_name("FILE")
-}
-
 /// A word that names a file, and may be given several times.
 fn files_word<'a>(alloc: Global, name: &'a str) -> Arg<'a> {
     file_word(alloc, name).action(ArgAction::Append)
@@ -173,46 +163,24 @@ fn files_word<'a>(alloc: Global, name: &'a str) -> Arg<'a> {
 
 /// A word that names a line of a deck.
 fn line_word<'a>(alloc: Global, name: &'a str) -> Arg<'a> {
-    Arg::new(alloc, name).long(name).value_name("[FILE:]LINE")
+    value_word(alloc, name, "[FILE:]LINE")
 }
 
 /// A word that gives how far a level goes at most, 0 to 4294967295.
 fn bound_word<'a>(alloc: Global, name: &'a str) -> Arg<'a> {
-    Arg::new(alloc, name)
-        .long(name)
-        .value_name("N")
-        .value_parser(value_parser!(u32))
-}
-
-/// A word that stands alone.
-fn flag<'a>(alloc: Global, name: &'a str) -> Arg<'a> {
-    Arg::new(alloc, name).long(name).action(ArgAction::SetTrue)
-}
-
-fn save_word<'a>(alloc: Global) -> Arg<'a> {
-    file_word(alloc, "save")
-        .required(true)
-        .help("Where the pack is written")
-}
-
-fn pack_word<'a>(alloc: Global) -> Arg<'a> {
-    file_word(alloc, "pack").required(true).help("The pack")
+    value_word(alloc, name, "N").value_parser(value_parser!(u32))
 }
 
 /// A word that gives a number of tracks, 0 to 65535.
 fn tracks_word<'a>(alloc: Global, name: &'a str) -> Arg<'a> {
-    Arg::new(alloc, name)
-        .long(name)
-        .value_name("T")
+    value_word(alloc, name, "T")
         .value_parser(value_parser!(u16))
-        .default_value(TRACKS)
+        .default_value(TRACKS_TEXT)
 }
 
 /// A word that gives a number of lines, 0 to 255.
 fn quota_word<'a>(alloc: Global, name: &'a str) -> Arg<'a> {
-    Arg::new(alloc, name)
-        .long(name)
-        .value_name("N")
+    value_word(alloc, name, "N")
         .value_parser(value_parser!(u8))
         .default_value(QUOTA)
 }

@@ -2,10 +2,12 @@
 ghost use Rattle.std.specs.Prelude.{◌≤◌};
 
 use crate::fault::Fault;
-use crate::pack_words::{label_text, mount_sentence, pack_of, value_of};
-use crate::words::file_word;
+use crate::pack_words::{label_text, mount_sentence, pack_of};
+use crate::sentences::output_sentence;
+use crate::words::{pack_word, value_of};
 use clap::{ArgMatches, Command};
 use s3_pack_check::{CheckFault, Wrong, check_pack, push_cause};
+use s3_paper_commands::status::DONE;
 use std::alloc::{AllocError, Global};
 use std::io::Write;
 
@@ -15,7 +17,7 @@ pub fn check_command<'a>(alloc: Global) -> Result<Command<'a>, AllocError> {
         .about(
             "Tells all that is wrong with a pack: damaged labels and indexes, each with the reason",
         )
-        .arg(file_word(alloc, "pack").required(true).help("The pack"))
+        .arg(pack_word(alloc))
 }
 
 /// Does what the words of `bureau check` ask, and gives the exit status: 0 where nothing is wrong with the pack, 4 where something
@@ -24,7 +26,7 @@ pub fn check(rt: &HostRuntime, matches: &ArgMatches<'_>) -> u8
     ensures { result ≤ 4 }
 {
     match check_file(rt, value_of(matches, "pack")) {
-        Ok(()) => 0,
+        Ok(()) => DONE,
         Err(fault) => fault.tell(&mut rt.stderr()),
     }
 }
@@ -40,10 +42,7 @@ fn check_file(rt: &HostRuntime, path: &str) -> Result<(), Fault> {
     };
     let text = text_of(rt.alloc(), &wrongs)?;
     if rt.stdout().write_all(text.as_str().as_bytes()).is_err() {
-        return Err(Fault::File(String::from_str(
-            rt.alloc(),
-            "standard output takes nothing more",
-        )?));
+        return Err(Fault::File(output_sentence(rt.alloc())?));
     }
     if wrongs.is_empty() {
         return Ok(());

@@ -4,12 +4,13 @@ ghost use Rattle.std.specs.Prelude.{◌≤◌, ◌<◌};
 use crate::fault::Fault;
 use crate::pack_words::{
     area_number, care_sentence, keep_input, label_of, label_sentence, mount_sentence,
-    no_room_for_copy, pack_of, pack_to_change, refused, saved, tell_done, value_of,
+    no_room_for_copy, pack_of, pack_to_change, refused, saved, tell_done,
 };
-use crate::words::{file_word, overwrite_word, save_word, value_word};
+use crate::words::{file_word, overwrite_word, save_word, value_of, value_word};
 use clap::{ArgMatches, Command};
 use s3_labels::LabelFault;
 use s3_pack_care::CareFault;
+use s3_paper_commands::status::DONE;
 use std::alloc::{AllocError, Global};
 
 /// The words of the command.
@@ -52,7 +53,7 @@ pub fn copy(rt: &HostRuntime, matches: &ArgMatches<'_>) -> u8
     ensures { result ≤ 4 }
 {
     match copy_file(rt, matches) {
-        Ok(()) => 0,
+        Ok(()) => DONE,
         Err(fault) => fault.tell(&mut rt.stderr()),
     }
 }

@@ -3,19 +3,19 @@ ghost use Rattle.std.specs.Prelude.{◌≤◌, ◌<◌};
 
 use crate::fault::Fault;
 use crate::pack_words::{
-    area_number, care_sentence, label_of, pack_to_change, refused, saved, tell_done, value_of,
-    wrong_words,
+    area_number, care_sentence, label_of, pack_to_change, refused, saved, tell_done, wrong_words,
 };
-use crate::words::{file_word, flag, overwrite_word, save_word, value_word};
+use crate::words::{flag, overwrite_word, pack_word, save_word, value_of, value_word};
 use clap::{ArgMatches, Command, value_parser};
 use s3_pack_care::{CareFault, Chosen};
+use s3_paper_commands::status::DONE;
 use std::alloc::{AllocError, Global};
 
 /// The words of the command.
 pub fn delete_command<'a>(alloc: Global) -> Result<Command<'a>, AllocError> {
     Command::new(alloc, "delete")
         .about("Deletes a file from a pack, or frees a damaged slot")
-        .arg(file_word(alloc, "pack").required(true).help("The pack"))?
+        .arg(pack_word(alloc))?
         .arg(save_word(alloc))?
         .arg(
             value_word(alloc, "area", "AREA")
@@ -38,7 +38,7 @@ pub fn delete(rt: &HostRuntime, matches: &ArgMatches<'_>) -> u8
     ensures { result ≤ 4 }
 {
     match delete_file(rt, matches) {
-        Ok(()) => 0,
+        Ok(()) => DONE,
         Err(fault) => fault.tell(&mut rt.stderr()),
     }
 }

@@ -2,6 +2,7 @@
 ghost use Rattle.std.specs.Prelude.{◌≤◌};
 
 use s3_host_files::FileFault;
+use s3_paper_commands::status::{FILE_FAILED, PERSON_NEEDED, REFUSED, WRONG_WORDS};
 use std::alloc::{AllocError, AllocFailed};
 use std::io;
 use std::io::Write;
@@ -40,11 +41,11 @@ impl Fault {
         ensures { result ≤ 4 }
     {
         let (written, status) = match self {
-            Fault::Usage(sentence) => (writeln!(writer, "error: {sentence}"), 2),
-            Fault::Refused(sentence) => (writeln!(writer, "bureau: {sentence}"), 1),
-            Fault::File(sentence) => (writeln!(writer, "bureau: {sentence}"), 3),
-            Fault::Waits(sentence) => (writeln!(writer, "bureau: {sentence}"), 4),
-            Fault::NoMemory => (writeln!(writer, "bureau: memory"), 1),
+            Fault::Usage(sentence) => (writeln!(writer, "error: {sentence}"), WRONG_WORDS),
+            Fault::Refused(sentence) => (writeln!(writer, "bureau: {sentence}"), REFUSED),
+            Fault::File(sentence) => (writeln!(writer, "bureau: {sentence}"), FILE_FAILED),
+            Fault::Waits(sentence) => (writeln!(writer, "bureau: {sentence}"), PERSON_NEEDED),
+            Fault::NoMemory => (writeln!(writer, "bureau: memory"), REFUSED),
         };
         let _ = written;
         status

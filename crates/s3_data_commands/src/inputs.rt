@@ -160,14 +160,14 @@ fn deck_of(rt: &HostRuntime, text: &DeckText<'_>) -> Result<Deck, Fault> {
         Err(DeckFault::NoMemory) => Err(Fault::NoMemory),
         Err(DeckFault::At(card, fault)) => {
             let place = text.place_of(usize::from(card));
-            let cure = match fault {
+            let words = match fault {
                 CardFault::TooWide => "is over 96 columns; shorten its line",
                 CardFault::BadCharacter =>
                     "has a character that no card can have; write one that cards have, or give the text a name that ends in .rpg, so that it is punched",
                 CardFault::TooMany =>
                     "is the last that a deck can have; cut the source out of the deck",
             };
-            Err(Fault::Refused(format!(in rt.alloc(); "{place} {cure}")?))
+            Err(Fault::Refused(format!(in rt.alloc(); "{place} {words}")?))
         }
     }
 }

@@ -6,11 +6,11 @@ use crate::inputs::{delimiter_of, layout_of};
 use crate::load_sentences::{heading_sentence, load_sentence, value_sentence};
 use crate::pack_words::{
     keep_input, label_of, level_of, no_room_sentence, number_of, pack_of, pack_to_change, saved,
-    tell_done, value_of, wrong_words,
+    tell_done, wrong_words,
 };
 use crate::words::{
-    delimiter_word, file_word, flag, layout_file_word, layout_type_word, layout_word,
-    overwrite_word, save_word, value_word,
+    delimiter_word, flag, layout_file_word, layout_type_word, layout_word, overwrite_word,
+    pack_word, save_word, value_of, value_word,
 };
 use clap::{ArgMatches, Command, value_parser};
 use s3_cards::ebcdic::DIGIT_0;
@@ -18,6 +18,7 @@ use s3_cards::{LevelId, Name, Retention};
 use s3_labels::LabelFault;
 use s3_listing::{file_size, free_room};
 use s3_load::{LoadFault, Order, Room};
+use s3_paper_commands::status::DONE;
 use std::alloc::{AllocError, Global};
 use std::io::Write;
 
@@ -25,7 +26,7 @@ use std::io::Write;
 pub fn load_command<'a>(alloc: Global) -> Result<Command<'a>, AllocError> {
     let command = Command::new(alloc, "load")
         .about("Loads the table in CSV of standard input into a file of a level")
-        .arg(file_word(alloc, "pack").required(true).help("The pack"))?
+        .arg(pack_word(alloc))?
         .arg(save_word(alloc))?
         .arg(
             value_word(alloc, "level", "LEVEL")
@@ -72,7 +73,7 @@ pub fn load(rt: &HostRuntime, matches: &ArgMatches<'_>) -> u8
     ensures { result ≤ 4 }
 {
     match load_table(rt, matches) {
-        Ok(()) => 0,
+        Ok(()) => DONE,
         Err(fault) => fault.tell(&mut rt.stderr()),
     }
 }

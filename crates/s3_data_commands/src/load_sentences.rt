@@ -1,10 +1,22 @@
 //! Sentences of refusals of `load`: what is wrong, where, and what mends it.
 
-use crate::pack_words::{damaged_sentence, label_sentence, label_text, mount_sentence};
+use crate::pack_words::{
+    damaged_sentence, label_sentence, label_text, mount_sentence, no_label_sentence,
+};
 use s3_cells::CellFault;
 use s3_labels::LabelFault;
 use s3_load::{HeadingFault, LoadFault, Reason, ValueFault};
 use std::alloc::{AllocError, Global};
+
+/// The characters that other programs put between the cells of a table, each with what to say where it stands there.
+const DELIMITER_CURES: [(u8, &str); 3] = [
+    (
+        b'\t',
+        "if a tab stands between the cells, say --delimiter \"$(printf '\\t')\"",
+    ),
+    (b';', "if ; stands between the cells, say --delimiter ';'"),
+    (b'|', "if | stands between the cells, say --delimiter '|'"),
+];
 
 /// Why a label can't be used by a load.
 fn load_label_sentence(
@@ -61,7 +73,11 @@ pub fn load_sentence(
 ) -> Result<String, AllocError> {
     match fault {
         LoadFault::NoMemory => Err(AllocError),
-        LoadFault::File => format!(in alloc; "standard input can't be read"),
+        LoadFault::File => {
+            format!(in alloc;
+                "standard input can't be read; give it the table by < FILE or by a pipe"
+            )
+        }
         LoadFault::NoHeading => {
             format!(in alloc;
                 "standard input has no table; its first line has to name the fields of the layout"
@@ -79,7 +95,7 @@ pub fn load_sentence(
         LoadFault::Mount(fault) => mount_sentence(alloc, path, *fault),
         LoadFault::Label(fault) => load_label_sentence(alloc, path, level, label, *fault),
         LoadFault::DamagedSlot(slot) => damaged_sentence(alloc, path, level, *slot),
-        LoadFault::NoName => format!(in alloc; "{label} is no label"),
+        LoadFault::NoName => no_label_sentence(alloc, label),
         LoadFault::NoKey => {
             format!(in alloc;
                 "the key of the F sheet doesn't lie in the records; mend columns 29, 30 and 35 to 38 of the layout's F card"
@@ -105,8 +121,9 @@ pub fn heading_sentence(alloc: Global, fault: &HeadingFault) -> Result<String, A
     match fault {
         HeadingFault::Unknown(column, text) => {
             let shown = shown(alloc, text)?;
+            let cure = unknown_cure(text);
             format!(in alloc;
-                "line 1, column {column}: the layout has no field \"{shown}\"; leave the column out, or name a field as the I sheet does"
+                "line 1, column {column}: the layout has no field \"{shown}\"; {cure}"
             )
         }
         HeadingFault::Twice(name) => {
@@ -134,6 +151,17 @@ pub fn heading_sentence(alloc: Global, fault: &HeadingFault) -> Result<String, A
             )
         }
     }
+}
+
+/// What mends a name in the heading that no field has: where a character that other programs put between cells stands in it, that
+/// character is told as the delimiter that may be meant.
+fn unknown_cure(name: &[u8]) -> &'static str {
+    for (delimiter, cure) in DELIMITER_CURES {
+        if name.contains(&delimiter) {
+            return cure;
+        }
+    }
+    "leave the column out, or name a field as the I sheet does"
 }
 
 /// What is wrong with a row.

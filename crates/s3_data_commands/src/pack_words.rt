@@ -12,11 +12,6 @@ use std::alloc::{AllocError, Global};
 use std::fs;
 use std::io::Write;
 
-/// A needed word's value.
-pub fn value_of<'a>(matches: &ArgMatches<'a>, word: &str) -> &'a str {
-    matches.get_str(word).unwrap_or("")
-}
-
 /// The area that a word names: 0 for the masters, 1 or 2 for a level.
 pub fn area_number(rt: &HostRuntime, text: &str) -> Result<u16, Fault>
     ensures { IfOk result (λ area. area < 3) }
@@ -73,12 +68,17 @@ pub fn label_of(rt: &HostRuntime, text: &str) -> Result<Name, Fault> {
 }
 
 fn no_label(rt: &HostRuntime, text: &str) -> Fault {
-    match format!(in rt.alloc();
-        "{text} is no label; one has 1 to 8 capital letters, digits, $, # or @, and begins with no digit"
-    ) {
+    match no_label_sentence(rt.alloc(), text) {
         Ok(sentence) => Fault::Usage(sentence),
         Err(_) => Fault::NoMemory,
     }
+}
+
+/// Why a text is no label, and what one has.
+pub fn no_label_sentence(alloc: Global, text: &str) -> Result<String, AllocError> {
+    format!(in alloc;
+        "{text} is no label; one has 1 to 8 capital letters, digits, $, # or @, and begins with no digit"
+    )
 }
 
 /// A refusal of words by this sentence.
@@ -211,9 +211,7 @@ pub fn care_sentence(
             "area {area} of {path} has a file {label} already; delete it first, or give another label by --as"
         ),
         CareFault::Damaged(slot) => damaged_sentence(alloc, path, area, slot),
-        CareFault::NoName => format!(in alloc;
-            "{label} is no label; one has 1 to 8 capital letters, digits, $, # or @, and begins with no digit"
-        ),
+        CareFault::NoName => no_label_sentence(alloc, label),
         CareFault::Permanent => format!(in alloc;
             "{label} in area {area} of {path} is permanent; say --permanent if it is meant"
         ),

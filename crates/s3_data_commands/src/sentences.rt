@@ -1,4 +1,4 @@
-//! Sentences of refusals of `unload`: what is wrong, where, and what mends it.
+//! Sentences of refusals of a layout, of `unload` and of standard output: what is wrong, where, and what mends it.
 
 use crate::pack_words::{label_sentence, label_text, mount_sentence};
 use s3_cells::{Field, ShowFault};
@@ -97,9 +97,17 @@ pub fn unload_sentence(
                 "record {record} of {label} has a byte that is no character at position {position}; the lines before it are written, and --as hex shows its bytes"
             )
         }
-        UnloadFault::File => format!(in alloc; "standard output can't be written"),
+        UnloadFault::File => output_sentence(alloc),
         UnloadFault::NoMemory => Err(AllocError),
     }
+}
+
+/// Why standard output took nothing, or not all.
+pub fn output_sentence(alloc: Global) -> Result<String, AllocError> {
+    String::from_str(
+        alloc,
+        "standard output can't be written; see whether what takes it has ended or its disk is full",
+    )
 }
 
 /// Why the value of a field in a record can't be shown.

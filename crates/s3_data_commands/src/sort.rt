@@ -4,13 +4,14 @@ ghost use Rattle.std.specs.Prelude.{◌≤◌, ◌<◌};
 use crate::fault::Fault;
 use crate::pack_words::{
     care_sentence, label_of, label_sentence, level_of, mount_sentence, no_room_for_copy, number_of,
-    pack_to_change, refused, saved, tell_done, value_of,
+    pack_to_change, refused, saved, tell_done,
 };
-use crate::words::{file_word, overwrite_word, save_word, value_word};
+use crate::words::{overwrite_word, pack_word, save_word, value_of, value_word};
 use clap::{ArgMatches, Command};
 use s3_cards::Name;
 use s3_labels::LabelFault;
 use s3_pack_care::CareFault;
+use s3_paper_commands::status::DONE;
 use s3_sort::{Form, SortFault, SortField};
 use std::alloc::{AllocError, Global};
 use std::io::Write;
@@ -19,7 +20,7 @@ use std::io::Write;
 pub fn sort_command<'a>(alloc: Global) -> Result<Command<'a>, AllocError> {
     Command::new(alloc, "sort")
         .about("Sorts the records of a file that has no index and isn't direct")
-        .arg(file_word(alloc, "pack").required(true).help("The pack"))?
+        .arg(pack_word(alloc))?
         .arg(save_word(alloc))?
         .arg(
             value_word(alloc, "level", "LEVEL")
@@ -48,7 +49,7 @@ pub fn sort(rt: &HostRuntime, matches: &ArgMatches<'_>) -> u8
     ensures { result ≤ 4 }
 {
     match sort_file(rt, matches) {
-        Ok(()) => 0,
+        Ok(()) => DONE,
         Err(fault) => fault.tell(&mut rt.stderr()),
     }
 }

@@ -3,13 +3,15 @@ ghost use Rattle.std.specs.Prelude.{◌≤◌};
 
 use crate::fault::Fault;
 use crate::inputs::{delimiter_of, layout_of};
-use crate::pack_words::{area_number, label_of, pack_of, value_of, wrong_words};
+use crate::pack_words::{area_number, label_of, pack_of, wrong_words};
 use crate::sentences::unload_sentence;
 use crate::words::{
-    delimiter_word, file_word, layout_file_word, layout_type_word, layout_word, value_word,
+    delimiter_word, layout_file_word, layout_type_word, layout_word, pack_word, value_of,
+    value_word,
 };
 use clap::{ArgMatches, Command};
 use s3_cards::{LevelId, Name};
+use s3_paper_commands::status::DONE;
 use s3_unload::{Area, LineForm, UnloadFault};
 use std::alloc::{AllocError, Global};
 
@@ -17,7 +19,7 @@ use std::alloc::{AllocError, Global};
 pub fn unload_command<'a>(alloc: Global) -> Result<Command<'a>, AllocError> {
     Command::new(alloc, "unload")
         .about("Writes the records of a file as a table in CSV, as texts or in hexadecimal digits")
-        .arg(file_word(alloc, "pack").required(true).help("The pack"))?
+        .arg(pack_word(alloc))?
         .arg(
             value_word(alloc, "area", "AREA")
                 .required(true)
@@ -43,7 +45,7 @@ pub fn unload(rt: &HostRuntime, matches: &ArgMatches<'_>) -> u8
     ensures { result ≤ 4 }
 {
     match unload_file(rt, matches) {
-        Ok(()) => 0,
+        Ok(()) => DONE,
         Err(fault) => fault.tell(&mut rt.stderr()),
     }
 }

@@ -1,7 +1,12 @@
-//! Words that several commands take.
+//! Words that several commands take, and what they give.
 
-use clap::{Arg, ArgAction};
+use clap::{Arg, ArgAction, ArgMatches};
 use std::alloc::Global;
+
+/// What a needed word gives.
+pub fn value_of<'a>(matches: &ArgMatches<'a>, word: &str) -> &'a str {
+    matches.get_str(word).unwrap_or("")
+}
 
 /// A word that names a file of the host.
 pub fn file_word<'a>(alloc: Global, name: &'a str) -> Arg<'a> {
@@ -16,6 +21,11 @@ pub fn value_word<'a>(alloc: Global, name: &'a str, value: &'a str) -> Arg<'a> {
 /// A word that stands alone.
 pub fn flag<'a>(alloc: Global, name: &'a str) -> Arg<'a> {
     Arg::new(alloc, name).long(name).action(ArgAction::SetTrue)
+}
+
+/// The word for the pack that is read.
+pub fn pack_word<'a>(alloc: Global) -> Arg<'a> {
+    file_word(alloc, "pack").required(true).help("The pack")
 }
 
 /// The word by which another file that is there is written over.

@@ -3,6 +3,7 @@ ghost use Rattle.std.specs.Prelude.{◌≤◌};
 
 use crate::deck::{ReadFiles, read_deck};
 use crate::fault::CommandFault;
+use crate::status::{DONE, FILE_FAILED, PERSON_NEEDED, REFUSED};
 use crate::unread::words_of_unread;
 use clap::{Arg, ArgAction, ArgMatches, Command};
 use s3_cards::{Deck, DeckFault};
@@ -10,15 +11,6 @@ use s3_deck_files::DeckText;
 use s3_source_listing::{Outcome, write_listing};
 use std::alloc::{AllocError, Global};
 use std::io::Write;
-
-/// The exit status of a deck with diagnostics or faulty statements.
-const DIAGNOSED: u8 = 4;
-
-/// The exit status where the files are no deck.
-const NO_DECK: u8 = 1;
-
-/// The exit status where a file can't be read.
-const UNREAD: u8 = 3;
 
 /// The words of `bureau compile`. It is refused only where memory runs out.
 pub fn compile_command<'a>(alloc: Global) -> Result<Command<'a>, AllocError> {
@@ -50,7 +42,7 @@ pub fn compile_files<'a>(rt: &'a HostRuntime, matches: &ArgMatches<'a>) -> u8
     ensures { result ≤ 4 }
 {
     match list_deck(rt, matches) {
-        Ok(status) => status.min(DIAGNOSED),
+        Ok(status) => status.min(PERSON_NEEDED),
         Err(fault) => fault.tell(&mut rt.stderr()),
     }
 }
@@ -61,8 +53,8 @@ fn list_deck<'a>(rt: &'a HostRuntime, matches: &ArgMatches<'a>) -> Result<u8, Co
     let files = matches.get_strs("file").unwrap_or(&[]);
     match read_deck(rt, files)? {
         ReadFiles::Deck(text) => list_text(rt, &text, has_references, files.len() == 1),
-        ReadFiles::Faulty => Ok(NO_DECK),
-        ReadFiles::Unread => Ok(UNREAD),
+        ReadFiles::Faulty => Ok(REFUSED),
+        ReadFiles::Unread => Ok(FILE_FAILED),
     }
 }
 
@@ -78,7 +70,7 @@ fn list_text<'a>(
         Err(DeckFault::NoMemory) => Err(CommandFault::NoMemory),
         Err(DeckFault::At(..)) => {
             tell_unread(rt, text, is_one_file)?;
-            Ok(NO_DECK)
+            Ok(REFUSED)
         }
     }
 }
@@ -99,7 +91,7 @@ fn write_on_output<'a>(
 /// The exit status of a listing. That a deck has no source is told.
 fn status_of(rt: &HostRuntime, outcome: Outcome) -> u8 {
     if outcome.faults > 0 {
-        return DIAGNOSED;
+        return PERSON_NEEDED;
     }
     if outcome.sources == 0 {
         let _ = writeln!(
@@ -107,7 +99,7 @@ fn status_of(rt: &HostRuntime, outcome: Outcome) -> u8 {
             "The deck has no source: no job of it loads $RPG. A source stands in a job: put // LOAD $RPG,F1 and // RUN in front of it, and /* behind it."
         );
     }
-    0
+    DONE
 }
 
 /// Tells why the files are no deck: which cards can't be read, and what is to be done.

@@ -1,6 +1,7 @@
 //! Why a command doesn't do what it is asked.
 ghost use Rattle.std.specs.Prelude.{◌≤◌};
 
+use crate::status::{FILE_FAILED, REFUSED};
 use std::alloc::{AllocError, AllocFailed};
 use std::io;
 use std::io::Write;
@@ -52,9 +53,9 @@ impl<'a> CommandFault<'a> {
         ensures { result ≤ 3 }
     {
         let (written, status) = match self {
-            CommandFault::NoMemory => (writeln!(writer, "bureau: memory"), 1),
-            CommandFault::File(name) => (writeln!(writer, "bureau: file {name}"), 3),
-            CommandFault::Output => (writeln!(writer, "bureau: file"), 3),
+            CommandFault::NoMemory => (writeln!(writer, "bureau: memory"), REFUSED),
+            CommandFault::File(name) => (writeln!(writer, "bureau: file {name}"), FILE_FAILED),
+            CommandFault::Output => (writeln!(writer, "bureau: file"), FILE_FAILED),
         };
         let _ = written;
         status

@@ -1,5 +1,5 @@
 //! The commands around paper, over real files: `bureau punch`, which makes decks of plain text, and `bureau compile`, which lists the
-//! sources of a deck.
+//! sources of a deck. `status` has the exit statuses of all commands of the program.
 //!
 //! What is proved: each call is safe and returns, and gives a status in its range. What a text becomes is proved in `s3_punch`. The
 //! words, the lines that are told and the statuses are tested, by rows. What files and standard output give isn't claimed: they are
@@ -12,6 +12,7 @@ mod compile;
 mod deck;
 mod fault;
 mod punch;
+pub mod status;
 mod unread;
 
 pub use compile::{compile_command, compile_files};

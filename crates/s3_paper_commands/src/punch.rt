@@ -3,6 +3,7 @@ ghost use Rattle.std.specs.Prelude.{◌≤◌};
 
 use crate::characters::is_shown;
 use crate::fault::CommandFault;
+use crate::status::{DONE, REFUSED};
 use clap::{Arg, ArgAction, ArgMatches, Command};
 use s3_host_files::read_within;
 use s3_punch::{Begun, LineChange, PunchFault, PunchReason, Punched, punch};
@@ -11,9 +12,6 @@ use std::io::Write;
 
 /// The most bytes of a file that is read.
 const TEXT_LIMIT: usize = 4_194_304;
-
-/// The exit status where something is wrong with a text.
-const FAULTY: u8 = 1;
 
 /// The words of `bureau punch`. It is refused only where memory runs out.
 pub fn punch_command<'a>(alloc: Global) -> Result<Command<'a>, AllocError> {
@@ -64,8 +62,8 @@ pub fn punch_files<'a>(rt: &HostRuntime, matches: &ArgMatches<'a>) -> u8
     ensures { result ≤ 3 }
 {
     match write_deck(rt, matches) {
-        Ok(true) => 0,
-        Ok(false) => FAULTY,
+        Ok(true) => DONE,
+        Ok(false) => REFUSED,
         Err(fault) => fault.tell(&mut rt.stderr()),
     }
 }

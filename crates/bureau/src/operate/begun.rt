@@ -1,7 +1,7 @@
 //! With what a day is begun, as its log has it.
 
 use super::fault::DayFault;
-use super::inputs::Checked;
+use super::inputs::DeckFiles;
 use super::order::Order;
 use s3_day_log::{Begun, DayLog, NamedFile};
 use std::alloc::{AllocError, Global};
@@ -24,8 +24,8 @@ pub fn day_begun(
     order: &Order<'_>,
     words: &[String],
     pack: Option<String>,
-    deck1: &Checked<'_>,
-    deck2: &Checked<'_>,
+    deck1: &DeckFiles<'_>,
+    deck2: &DeckFiles<'_>,
 ) -> Result<Begun, AllocError> {
     let pack = match (order.pack, pack) {
         (Some(name), Some(sha256)) => Some(NamedFile {

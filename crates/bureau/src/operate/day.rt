@@ -1,23 +1,21 @@
 //! A day, from its first turn to what is told at its end.
 
-use super::FILE;
-use super::fault::{DayFault, OUT_OF_MEMORY};
+use super::fault::DayFault;
 use super::order::Order;
-use super::outputs::{Output, Outputs, forget, write_deck};
+use super::outputs::{Output, Outputs, remove_made, write_deck};
 use super::paper::write_paper;
 use super::watch::Watch;
+use crate::refusal::{FILE, OUT_OF_MEMORY};
 use s3_cli::{CliFault, SessionFault, Watched, write_output};
 use s3_day_log::{Begun, DayLog, DayOver, Event, NamedFile, checksum};
-use s3_desk::{Day, operate_day};
+use s3_desk::{Bounds, Day, operate_day};
 use s3_host_files::{FileFault, LockedPack, save_pack};
 use s3_operating::{Closing, Desk, Journal, Seat, Settings, Tape, Verdict};
+use s3_paper_commands::status::{DONE, PASSED_OVER, PERSON_NEEDED};
 use s3_replay::Performed;
 use s3_replies::Rules;
-use std::alloc::AllocError;
+use std::alloc::{AllocError, Global};
 use std::io::{Stderr, Stdin, Write};
-
-/// The status of a day on which a level isn't done.
-const UNFINISHED: u8 = 4;
 
 /// The most bytes that `run` reads.
 const RUN_LIMIT: u64 = 4_194_304;
@@ -25,11 +23,9 @@ const RUN_LIMIT: u64 = 4_194_304;
 /// The bytes of the markers that `run` wants, with their ends.
 const MARKERS: u64 = 22;
 
-/// A day that is refused no longer.
+/// With what a day that is refused no longer is operated, beside its pack.
 #[derive(Drop)]
 pub struct Prepared<'a> {
-    /// The bytes of the pack.
-    pub pack: Vec<u8>,
     /// With what it is begun, as the log has it.
     pub begun: Begun,
     /// Level 1 with its deck.
@@ -45,14 +41,14 @@ pub struct Prepared<'a> {
 /// The desk of the command.
 pub type OwnDesk<'a> = Desk<'a, Stdin, Stderr, Output, Watch<'a>>;
 
-/// Operates a day, hands out what it leaves, and gives the exit status.
+/// Operates a day over a pack, hands out what it leaves, and gives the exit status.
 pub fn operate_prepared<'n, 'a>(
     rt: &'a HostRuntime,
     order: &Order<'n>,
+    pack: Vec<u8>,
     day: Prepared<'a>,
     outputs: Outputs<'n>,
 ) -> Result<u8, DayFault<'n>> {
-    let alloc = rt.alloc();
     let Outputs {
         script,
         log,
@@ -61,16 +57,40 @@ pub fn operate_prepared<'n, 'a>(
         locked,
         made,
     } = outputs;
+    let text1 = day.one.text();
+    let text2 = day.two.text();
+    let mut desk = desk_of(rt, order, day, script, log);
+    let (day, closing) = match closed(rt.alloc(), pack, text1, text2, &mut desk, order.bounds) {
+        Ok(closed) => closed,
+        Err(fault) => {
+            // where a deck is refused nothing is written, so what was made by trying goes again
+            if desk.refused().is_some() {
+                remove_made(rt, &made);
+            }
+            return Err(fault);
+        }
+    };
+    write_deck(deck1, text1)?;
+    write_deck(deck2, text2)?;
+    let decks = (text1.len() as u64).saturating_add(text2.len() as u64);
+    hand_out(rt, order, &mut desk, &day, &closing, decks, locked)
+}
+
+/// The desk before its day, with the files for the script and the log.
+fn desk_of<'a>(
+    rt: &'a HostRuntime,
+    order: &Order<'_>,
+    day: Prepared<'a>,
+    script: Option<Output>,
+    log: Option<Output>,
+) -> OwnDesk<'a> {
     let Prepared {
-        pack,
         begun,
         one,
         two,
         rules,
         logged,
     } = day;
-    let text1 = one.text();
-    let text2 = two.text();
     let settings = Settings {
         rules,
         logged,
@@ -79,8 +99,8 @@ pub fn operate_prepared<'n, 'a>(
         questioned: order.questioned,
         wants_decks: order.save.is_some(),
     };
-    let mut desk = Desk::new(
-        alloc,
+    Desk::new(
+        rt.alloc(),
         settings,
         one,
         two,
@@ -90,38 +110,31 @@ pub fn operate_prepared<'n, 'a>(
         Journal::new(log),
         begun,
         Watch::new(rt),
-    );
+    )
+}
+
+/// Operates a day to its end, and closes the desk.
+fn closed<'n>(
+    alloc: Global,
+    pack: Vec<u8>,
+    text1: &[u8],
+    text2: &[u8],
+    desk: &mut OwnDesk<'_>,
+    bounds: Bounds,
+) -> Result<(Day, Closing), DayFault<'n>> {
     let mut performed = Performed::new(alloc);
-    let done = operate_day(
-        alloc,
-        pack,
-        text1,
-        text2,
-        &mut desk,
-        order.bounds,
-        &mut performed,
-    );
+    let done = operate_day(alloc, pack, text1, text2, desk, bounds, &mut performed);
     if let Some(level) = desk.refused() {
-        forget(rt, &made);
         return Err(DayFault::Deck(level));
     }
     let day = match done {
         Ok(day) => day,
         Err(fault) => return Err(DayFault::Cli(CliFault::Session(SessionFault::Run(fault)))),
     };
-    let closing = match desk.close(&day, &performed) {
-        Ok(closing) => closing,
-        Err(_) => {
-            if desk.refused().is_some() {
-                forget(rt, &made);
-            }
-            return Err(refusal_of(&desk));
-        }
-    };
-    write_deck(deck1, text1)?;
-    write_deck(deck2, text2)?;
-    let decks = (text1.len() as u64).saturating_add(text2.len() as u64);
-    hand_out(rt, order, &mut desk, &day, &closing, decks, locked)
+    match desk.close(&day, &performed) {
+        Ok(closing) => Ok((day, closing)),
+        Err(_) => Err(refusal_of(desk)),
+    }
 }
 
 /// Writes the reports, tells how both levels ended, and saves the pack.
@@ -194,13 +207,13 @@ fn test_written<'n>(order: &Order<'n>, desk: &OwnDesk<'_>) -> Result<(), DayFaul
 
 fn status_of(verdict: Verdict) -> u8 {
     match verdict {
-        Verdict::Clean => 0,
-        Verdict::Passed => super::PASSED,
-        Verdict::Unfinished => UNFINISHED,
+        Verdict::Clean => DONE,
+        Verdict::Passed => PASSED_OVER,
+        Verdict::Unfinished => PERSON_NEEDED,
     }
 }
 
-/// Saves the pack where that is asked for, and the day is one to be saved. Where it was saved.
+/// Saves the pack where that is asked for, and the day is one to be saved. It answers where it was saved.
 fn save<'a>(
     rt: &HostRuntime,
     order: &Order<'a>,

@@ -1,14 +1,13 @@
 //! Why a day isn't operated, or not to its end.
 ghost use Rattle.std.specs.Prelude.{◌≤◌};
 
+use crate::refusal::OUT_OF_MEMORY;
 use s3_cards::LevelId;
-use s3_cli::{CliFault, RunFault, SessionFault, tell};
+use s3_cli::{CliFault, tell};
+use s3_paper_commands::status::{FILE_FAILED, REFUSED, WRONG_WORDS};
 use std::alloc::{AllocError, AllocFailed};
 use std::io;
 use std::io::Write;
-
-/// No memory is left.
-pub const OUT_OF_MEMORY: CliFault = CliFault::Session(SessionFault::Run(RunFault::NoMemory));
 
 /// Why a day isn't operated, or not to its end.
 #[derive(Drop)]
@@ -28,7 +27,7 @@ pub enum DayFault<'a> {
     /// This output would be written over what is there.
     Exists(&'a str),
     /// The day can't be taken up so.
-    From,
+    NoTakingUp,
     /// The day isn't that of the log.
     Redo,
 }
@@ -61,15 +60,15 @@ impl<'a> DayFault<'a> {
     {
         let (written, status) = match self {
             DayFault::Cli(fault) => return tell(writer, fault),
-            DayFault::Usage(reason) => (writeln!(writer, "error: {reason}"), 2),
-            DayFault::File(name) => (writeln!(writer, "bureau: file {name}"), 3),
-            DayFault::InUse(name) => (writeln!(writer, "bureau: in use {name}"), 1),
-            DayFault::Replies(line) => (writeln!(writer, "bureau: replies {line}"), 1),
-            DayFault::Deck(LevelId::One) => (writeln!(writer, "bureau: deck1"), 1),
-            DayFault::Deck(LevelId::Two) => (writeln!(writer, "bureau: deck2"), 1),
-            DayFault::Exists(name) => (writeln!(writer, "bureau: exists {name}"), 1),
-            DayFault::From => (writeln!(writer, "bureau: from"), 1),
-            DayFault::Redo => (writeln!(writer, "bureau: redo"), 1),
+            DayFault::Usage(reason) => (writeln!(writer, "error: {reason}"), WRONG_WORDS),
+            DayFault::File(name) => (writeln!(writer, "bureau: file {name}"), FILE_FAILED),
+            DayFault::InUse(name) => (writeln!(writer, "bureau: in use {name}"), REFUSED),
+            DayFault::Replies(line) => (writeln!(writer, "bureau: replies {line}"), REFUSED),
+            DayFault::Deck(LevelId::One) => (writeln!(writer, "bureau: deck1"), REFUSED),
+            DayFault::Deck(LevelId::Two) => (writeln!(writer, "bureau: deck2"), REFUSED),
+            DayFault::Exists(name) => (writeln!(writer, "bureau: exists {name}"), REFUSED),
+            DayFault::NoTakingUp => (writeln!(writer, "bureau: from"), REFUSED),
+            DayFault::Redo => (writeln!(writer, "bureau: redo"), REFUSED),
         };
         let _ = written;
         status

@@ -2,8 +2,8 @@
 
 use super::fault::DayFault;
 use super::order::Order;
+use crate::new_pack::new_pack;
 use s3_cards::LevelId;
-use s3_cli::{CliFault, image};
 use s3_day_log::{DayLog, LogFault, NamedFile, checksum};
 use s3_host_files::{FileFault, LockedPack, read_pack, read_to_save, read_within};
 use s3_operating::{DayDeck, JoinedFiles};
@@ -13,10 +13,7 @@ use s3_replies::{Rules, RulesFault};
 use std::alloc::{AllocError, Global};
 use std::io::Write;
 
-/// A day without a pack has a new one, each of whose regions has so many tracks.
-const TRACKS: u16 = 10;
-
-/// The most bytes of a file of a deck, of the rules and of a log that is read.
+/// The most bytes of a file of a deck and of the rules that is read.
 const TEXT_LIMIT: usize = 4_194_304;
 
 /// The most bytes of a log that is read.
@@ -30,9 +27,9 @@ pub fn read_day_pack<'a>(
     is_logged: bool,
 ) -> Result<(Vec<u8>, Option<String>, Option<LockedPack>), DayFault<'a>> {
     let Some(path) = order.pack else {
-        return match image(rt.alloc(), None, TRACKS, TRACKS, TRACKS) {
+        return match new_pack(rt.alloc()) {
             Ok(bytes) => Ok((bytes, None, None)),
-            Err(fault) => Err(DayFault::Cli(CliFault::Image(fault))),
+            Err(fault) => Err(DayFault::Cli(fault)),
         };
     };
     let (bytes, locked) = read_pack_of(rt, path, order.save)?;
@@ -66,12 +63,12 @@ fn read_pack_of<'a>(
 
 /// The names of a deck's files, and the digest of each as it was read.
 #[derive(Drop)]
-pub struct Checked<'a> {
+pub struct DeckFiles<'a> {
     names: Vec<&'a str>,
     checksums: Vec<String>,
 }
 
-impl<'a> Checked<'a> {
+impl<'a> DeckFiles<'a> {
     /// The files as a log has them; none where no digests were asked for.
     pub fn files(&self, alloc: Global) -> Result<Vec<NamedFile>, AllocError> {
         let mut files = Vec::new(alloc);
@@ -92,7 +89,7 @@ pub fn read_deck<'a>(
     level: LevelId,
     paths: &[&'a str],
     is_logged: bool,
-) -> Result<(DayDeck<'a>, Checked<'a>), DayFault<'a>> {
+) -> Result<(DayDeck<'a>, DeckFiles<'a>), DayFault<'a>> {
     let alloc = rt.alloc();
     let is_punched = paths.iter().any(|path| is_plain_text(*path));
     let mut begun = Begun::new(false);
@@ -129,7 +126,7 @@ pub fn read_deck<'a>(
     if is_faulty {
         return Err(DayFault::Deck(level));
     }
-    Ok((DayDeck::Whole(joined), Checked { names, checksums }))
+    Ok((DayDeck::Whole(joined), DeckFiles { names, checksums }))
 }
 
 fn read_text<'a>(rt: &HostRuntime, path: &'a str, limit: usize) -> Result<Vec<u8>, DayFault<'a>> {
@@ -163,14 +160,17 @@ pub fn read_rules<'a>(rt: &HostRuntime, path: Option<&'a str>) -> Result<Rules, 
 pub fn read_log<'a>(rt: &HostRuntime, path: &'a str) -> Result<DayLog, DayFault<'a>> {
     let bytes = read_text(rt, path, LOG_LIMIT)?;
     let Ok(text) = str::from_utf8(&bytes) else {
-        let _ = writeln!(rt.stderr(), "{path} is no log");
+        let _ = writeln!(
+            rt.stderr(),
+            "{path} is no log, for it isn't text in UTF-8; give the file that --log wrote"
+        );
         return Err(DayFault::Redo);
     };
     match DayLog::read(rt.alloc(), text) {
         Ok(log) => Ok(log),
         Err(LogFault::NoMemory) => Err(DayFault::from(AllocError)),
-        Err(LogFault::Line(line)) => {
-            let _ = writeln!(rt.stderr(), "{path}: line {line} is no line of a log");
+        Err(fault) => {
+            let _ = writeln!(rt.stderr(), "{path}: {fault}");
             Err(DayFault::Redo)
         }
     }

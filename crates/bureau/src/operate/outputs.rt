@@ -74,7 +74,7 @@ fn found<'a>(rt: &HostRuntime, name: &'a str) -> Result<Named<'a>, DayFault<'a>>
 }
 
 /// Refuses outputs that are the same file as another output, as one that is read, or as one that is there.
-pub fn guard<'a>(
+pub fn test_outputs<'a>(
     rt: &HostRuntime,
     order: &Order<'a>,
     redo: Option<&'a str>,
@@ -114,7 +114,7 @@ pub fn guard<'a>(
         written.push(output)?;
     }
     match order.paper {
-        Some(paper) => paper.guard(rt, order.overwrites, &read, &written),
+        Some(paper) => paper.test_free(rt, order.overwrites, &read, &written),
         None => Ok(()),
     }
 }
@@ -144,7 +144,7 @@ fn test_apart<'a>(output: &Named<'a>, others: &[Named<'a>]) -> Result<(), DayFau
 }
 
 impl<'a> Outputs<'a> {
-    /// Tries all outputs: after `Ok` each can be written. After a fault those that weren't there aren't there again.
+    /// Tries all outputs: after `Ok` each can be written. After a fault the files that it made are removed.
     pub fn open(
         rt: &HostRuntime,
         order: &Order<'a>,
@@ -169,7 +169,7 @@ impl<'a> Outputs<'a> {
         match outputs.open_all(rt, order) {
             Ok(()) => Ok(outputs),
             Err(fault) => {
-                forget(rt, &outputs.made);
+                remove_made(rt, &outputs.made);
                 Err(fault)
             }
         }
@@ -236,7 +236,7 @@ impl<'a> Outputs<'a> {
 }
 
 /// Removes files that were made by trying, and the folder of the pages.
-pub fn forget(rt: &HostRuntime, made: &[&str]) {
+pub fn remove_made(rt: &HostRuntime, made: &[&str]) {
     for name in made {
         if fs::remove_file(rt, *name).is_err() {
             let _ = fs::remove_dir(rt, *name);

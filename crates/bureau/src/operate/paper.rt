@@ -67,7 +67,7 @@ impl<'a> Paper<'a> {
 
     /// Refuses a folder that isn't empty, unless what is there is written over, and one in which a file stands that is read or
     /// written. A folder that isn't there is made later.
-    pub fn guard(
+    pub fn test_free(
         &self,
         rt: &HostRuntime,
         overwrites: bool,
@@ -96,7 +96,7 @@ impl<'a> Paper<'a> {
         }
     }
 
-    /// Makes the folder, if it isn't there, and tries whether files can be made in it. Whether it was made.
+    /// Makes the folder, if it isn't there, and tries whether files can be made in it. It answers whether it was made.
     pub fn open(&self, rt: &HostRuntime) -> Result<bool, DayFault<'a>> {
         let is_made = match fs::create_dir(rt, self.folder) {
             Ok(()) => true,
@@ -151,7 +151,7 @@ fn tell_paper(
     Ok(())
 }
 
-/// Writes the pages of the jobs of a level, given its report. Of how many jobs there are some.
+/// Writes the pages of the jobs of a level, given its report. It answers of how many jobs there are pages.
 fn write_level<'n>(
     rt: &HostRuntime,
     paper: Paper<'n>,
@@ -239,7 +239,7 @@ fn path_of(
     job: &PrintedJob,
 ) -> Result<String, AllocError> {
     let mut path = String::from_str(alloc, paper.folder)?;
-    let level = number_of(level);
+    let level = level.number();
     let number = job.number;
     write!(path, "/{level}-{number:04}")?;
     if let Some(program) = job.program {
@@ -257,7 +257,7 @@ fn path_of(
 fn title_of(alloc: Global, level: LevelId, job: &PrintedJob) -> Result<String, AllocError> {
     let mut title = String::new(alloc);
     push_program(&mut title, job.program)?;
-    let level = number_of(level);
+    let level = level.number();
     let number = job.number;
     write!(title, "job {number} of level {level}")?;
     if job.date.iter().any(|digit| *digit != DIGIT_0) {
@@ -278,11 +278,4 @@ fn push_program(title: &mut String, program: Option<Name>) -> Result<(), AllocEr
         title.push_str(", ")?;
     }
     Ok(())
-}
-
-fn number_of(level: LevelId) -> u8 {
-    match level {
-        LevelId::One => 1,
-        LevelId::Two => 2,
-    }
 }

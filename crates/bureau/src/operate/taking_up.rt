@@ -1,7 +1,8 @@
 //! A day that is taken up at a line.
 
 use super::fault::DayFault;
-use s3_cards::{Deck, LevelId};
+use crate::refusal::FILE;
+use s3_cards::{CardFault, Deck, DeckFault, LevelId};
 use s3_deck_files::{DeckText, Position};
 use s3_deck_jobs::{jobs_of, left_out_from, lost_settings, push_inherited, push_jobs};
 use s3_operating::{DayDeck, push_unread};
@@ -32,16 +33,13 @@ pub fn taken_up<'a>(
         return Ok(whole);
     };
     let text = whole.with_places(alloc)?;
-    let number = match level {
-        LevelId::One => 1,
-        LevelId::Two => 2,
-    };
+    let number = level.number();
     let Some(card) = text.card_at(&position) else {
         let _ = writeln!(
             rt.stderr(),
-            "level {number}: its deck has no such line as --from{number} names"
+            "level {number}: its deck has no line as --from{number} names; --jobs lists the lines at which its jobs begin"
         );
-        return Err(DayFault::From);
+        return Err(DayFault::NoTakingUp);
     };
     let Some(deck) = cards_of(rt, &text)? else {
         return Ok(whole);
@@ -52,7 +50,7 @@ pub fn taken_up<'a>(
         writeln!(told, "level {number}:")?;
         push_inherited(&mut told, &text, &jobs, &lost)?;
         let _ = rt.stderr().write_all(told.as_bytes());
-        return Err(DayFault::From);
+        return Err(DayFault::NoTakingUp);
     }
     let left_out = left_out_from(alloc, &jobs, card)?;
     Ok(DayDeck::TakenUp(text.without(alloc, &left_out)?))
@@ -69,7 +67,7 @@ pub fn list_jobs<'a>(
     push_level(rt, &mut told, LevelId::Two, &two.with_places(rt.alloc())?)?;
     match rt.stdout().write_all(told.as_bytes()) {
         Ok(()) => Ok(()),
-        Err(_) => Err(DayFault::Cli(super::FILE)),
+        Err(_) => Err(DayFault::Cli(FILE)),
     }
 }
 
@@ -88,13 +86,11 @@ fn push_level<'a>(
             let jobs = jobs_of(rt.alloc(), &deck)?;
             Ok(push_jobs(told, text, &jobs)?)
         }
-        Err(fault) => match fault.detail() {
-            Some(detail) => {
-                tell_unread(rt, level, text, detail)?;
-                Err(DayFault::Deck(level))
-            }
-            None => Err(DayFault::from(AllocError)),
-        },
+        Err(DeckFault::At(card, fault)) => {
+            tell_unread(rt, level, text, (card, fault))?;
+            Err(DayFault::Deck(level))
+        }
+        Err(DeckFault::NoMemory) => Err(DayFault::from(AllocError)),
     }
 }
 
@@ -103,7 +99,7 @@ fn tell_unread(
     rt: &HostRuntime,
     level: LevelId,
     text: &DeckText<'_>,
-    fault: (u16, u8),
+    fault: (u16, CardFault),
 ) -> Result<(), AllocError> {
     let mut told = String::new(rt.alloc());
     push_unread(&mut told, level, text, fault)?;
