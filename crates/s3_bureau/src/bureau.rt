@@ -56,7 +56,6 @@ impl<S: PackStore> Model for Bureau<S> {
 }
 
 /// An entry of a level, so many times at most and at least once. It is proved once, for either level.
-#[inline(always)]
 fn act<S: PackStore>(
     level: &mut Level,
     pack: &mut Pack<Pool<S>>,
@@ -392,7 +391,7 @@ impl<S: PackStore> Bureau<S> {
         self.level(level).halts()
     }
 
-    /// One of the two levels, for what is asked of it: each world that the bureau holds for it, it holds with the pack and the queues.
+    /// Lends a level, for what is asked of it. With the pack and the queues it holds each world that the bureau holds for it.
     pub fn level(&self, level: LevelId) -> &Level
         ensures value { result.now ≡ level_of level self.now }
         ensures world { (w : World) → HoldsFor level self.now w → Holds result.now self.now.beside w }

@@ -50,7 +50,7 @@ pub fn report_text(alloc: Global, lines: &[PrintLine]) -> Result<Vec<u8>, AllocE
 }
 
 impl ReportTables {
-    /// The tables.
+    /// Makes the tables; refused only where memory runs out.
     pub fn new(alloc: Global) -> Result<ReportTables, AllocError>
         ensures { IfOk result AreTables }
     {
@@ -131,7 +131,6 @@ fn lay_codes(room: &mut [u8; REPORT_ROOM], at: usize, shown: &[u16], codes: &[u8
 }
 
 /// Lays out the characters of codes, two at a time.
-#[inline(always)]
 fn lay_pairs(room: &mut [u8; REPORT_ROOM], at: usize, shown: &[u16], codes: &[u8]) -> usize
     requires shown { ShowsPairs shown.now }
     requires all { length shown.now ≡ 65536 }

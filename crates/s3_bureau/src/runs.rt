@@ -37,10 +37,7 @@ use s3_store::{MemoryStore, PackStore, SectorFault};
 use std::alloc::{AllocError, Global};
 use std::num::NonZeroU16;
 
-/// The texts of both levels after a script's entries over a pack, each level over its own deck, and the pack that they leave.
-///
-/// A script with an ill-formed line is refused before anything else, then a pack that isn't mounted. A deck that can't be
-/// read counts as empty, and its level's halt text begins with its fault, as of job 000.
+/// What `run_on` gives or refuses, over a copy of the pack's bytes.
 pub fn run(
     alloc: Global,
     pack: &[u8],

@@ -1,10 +1,10 @@
-//! Why an entry did nothing.
+//! Why a call of a bureau isn't done.
 
 use s3_store::SectorFault;
 use std::alloc::AllocError;
 use thiserror::Error;
 
-/// Why an entry did nothing, as every later one does.
+/// Why a call of a bureau isn't done: it stopped the bureau, or the bureau was over before. Every later call answers `Stopped`.
 #[derive(Clone, Copy, Debug, PartialEq, Eq, Error)]
 pub enum Stop {
     /// A growth was refused: the bureau stops with this answer.

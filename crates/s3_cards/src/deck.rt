@@ -184,7 +184,6 @@ impl Deck {
 
 /// Punches the first line of a text that isn't empty into a card, or gives its fault. Answers how wide the line is, and the
 /// text after it. It is tried first with a likely width, that of the line before, so that its end isn't searched for.
-#[inline(always)]
 fn punch_first<'a>(
     text: &'a [u8],
     likely: usize,
@@ -207,7 +206,6 @@ fn punch_first<'a>(
 
 /// Punches the first line of a text into a card if it is so wide and has no fault, and answers the text after it. Where each
 /// byte in front of a newline is a card character, none of them is a newline, nor a carriage return.
-#[inline(always)]
 #[tactic(auto, using(crate::proofs::DeckLemmas::likely_line))]
 fn punch_likely<'a>(text: &'a [u8], width: usize, card: &mut Card) -> Option<&'a [u8]>
     ensures card { IfSome result (λ after. StartsWithCard text.now card.new after.now) }

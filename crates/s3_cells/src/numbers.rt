@@ -2,13 +2,12 @@
 ghost use Rattle.std.specs.Prelude.{◌≡◌, ◌+◌, ◌*◌, ◌^◌, ◌<◌, ◌≤◌, ◌++◌, ℕ, List, length, map, replicate, min, unsigned_abs, OnOk, IfOk, IfErr, Some, None};
 ghost use Rattle.std.specs.Option.{option_map};
 ghost use Rattle.std.specs.List.{list_all, before_first, after_first, position_or_len};
-ghost use Rattle.s3_decimal.specs.Exact.{is_negative as is_negative_spec};
 ghost use Rattle.s3_decimal.specs.Records.{number_of};
 ghost use Rattle.s3_cells.specs.Inner.Numbers.{digit_character, digit_value, is_digit, is_point, are_digits as are_digits_spec, number_text, decimals_text, sign_text, fifteen, number_read, significant as significant_spec, has_minus as has_minus_spec, without_sign as without_sign_spec, magnitude_read};
 ghost use Rattle.s3_cells.specs.Inner.Refusals.{IsNumberRefusal, IsOfForm};
 
 use crate::fault::CellFault;
-use s3_decimal::{Dec, with_sign, zoned_write};
+use s3_decimal::{Dec, is_negative, with_sign, zoned_write};
 use std::alloc::AllocError;
 
 /// How many digits the longest number has.
@@ -31,12 +30,6 @@ pub fn push_number(text: &mut Vec<u8>, value: i64, decimals: u8) -> Result<(), A
     push_digits(text, significant(whole))?;
     push_decimals(text, fraction)?;
     Ok(())
-}
-
-fn is_negative(value: i64) -> bool
-    ensures { result ≡ is_negative_spec value }
-{
-    value < 0
 }
 
 /// Appends a minus sign to a text where a number is negative.

@@ -13,7 +13,6 @@ use s3_cards::ebcdic::{BLANK, COMMA, DIGIT_0, PERIOD};
 use s3_decimal::{Form, pair_of};
 
 /// Makes a text blank that is as long as some blanks, or up to twice as long: they are laid at both of its ends.
-#[inline(always)]
 fn blank_ends(blanks: &[u8], text: &mut [u8])
     requires blanks { (i : ℕ) → i < length blanks.now → slice_index blanks.now i ≡ BLANK }
     requires reaches { length blanks.now ≤ length text.old }
@@ -42,7 +41,6 @@ fn blank_short(text: &mut [u8])
 }
 
 /// Makes a text blank that is as long as amounts are.
-#[inline(always)]
 fn blank(text: &mut [u8])
     requires some { 1 ≤ length text.old }
     requires few { length text.old ≤ 32 }
@@ -73,7 +71,6 @@ fn put_digit(number: u32, end: usize, text: &mut [u8]) -> u32
 }
 
 /// Writes the last two digits of a number up to `end`, and gives what is left of the number.
-#[inline(always)]
 fn put_pair(number: u32, end: usize, text: &mut [u8]) -> u32
     requires begins { 2 ≤ end }
     requires ends { end ≤ length text.old }
@@ -98,7 +95,6 @@ fn hundreds_of(number: u32) -> u32
 }
 
 /// Writes the last three digits of a number up to `end`, and gives what is left of the number.
-#[inline(always)]
 fn put_three(number: u32, end: usize, text: &mut [u8]) -> u32
     requires begins { 3 ≤ end }
     requires ends { end ≤ length text.old }
@@ -119,7 +115,6 @@ fn put_three(number: u32, end: usize, text: &mut [u8]) -> u32
 }
 
 /// Writes up to three decimals up to `end`, and gives the whole part.
-#[inline(always)]
 fn put_few_decimals(number: u32, count: usize, end: usize, text: &mut [u8]) -> u32
     requires few { count ≤ 3 }
     requires begins { count ≤ end }
@@ -189,7 +184,6 @@ fn put_point(decimals: usize, end: usize, text: &mut [u8]) -> usize
 }
 
 /// Writes the digits of a number below 1,000 over blanks, up to `end`; none of a 0.
-#[inline(always)]
 fn put_few(number: u32, end: usize, text: &mut [u8])
     requires few { number < 1000 }
     requires ends { end ≤ length text.old }

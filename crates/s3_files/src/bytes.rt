@@ -110,7 +110,6 @@ fn read_pieces<P: Sectors>(
 }
 
 /// Reads the bytes of a file from byte `at` of it on, which must lie in its sectors. No sector changes.
-#[inline(always)]
 pub fn read_bytes<P: Sectors>(
     pool: &mut P,
     sectors: &FileSectors,
@@ -156,7 +155,6 @@ fn write_pieces<P: Sectors>(
 
 /// Writes bytes of a file over those from byte `at` of it on, which must lie in its sectors. A refused call may have written
 /// some of them; no sector outside the file changes.
-#[inline(always)]
 pub fn write_bytes<P: Sectors>(
     pool: &mut P,
     sectors: &FileSectors,

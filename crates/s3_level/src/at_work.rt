@@ -29,10 +29,6 @@ impl Level {
 
     /// Takes turns, at most `most` of them and at least one: each performs the pending request of the job at work, or begins the
     /// next job. They are several only where they pass jumps.
-    ///
-    /// The function is a few tests on the way to what is asked for, which are inlined where turns are repeated; what is large or
-    /// rare is called, and not inlined.
-    #[inline(always)]
     #[tactic(auto, using(crate::proofs::Turns::none_open, crate::proofs::Turns::once_up_to, crate::proofs::Turns::once_if_ok))]
     pub(crate) fn step<P: Sectors>(
         &mut self,
@@ -128,7 +124,7 @@ impl Level {
         })
     }
 
-    /// Gives the jump that pends and those behind it, so many at most, their answers: how many they were.
+    /// Gives the jump that pends, and those behind it, so many at most, their answers, and says how many they were.
     #[tactic(auto, using(crate::proofs::Jumping::jumps_taken))]
     fn take_jumps(&mut self, most: NonZeroU16) -> u16
         requires asks { request_by self.old.job ≡ Some asks.Jump }

@@ -139,7 +139,6 @@ fn change<P: Sectors>(
 
 impl OpenJob {
     /// Reads the next data card, if there is one, and goes on with it.
-    #[inline(always)]
     pub fn read_card(&mut self, deck: &Deck)
         requires { asked self.old.cycle ≡ asks.Card }
         ensures resumes { Resumes self.old.cycle self.new.cycle (card_answer (slice_range deck.now self.old.next self.old.end)) }

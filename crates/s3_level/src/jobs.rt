@@ -123,7 +123,7 @@ impl Level {
         self.perform(number, job, pack)
     }
 
-    /// Sets date and switches as a job does.
+    /// Sets the level's date and switches as the statements of a job say.
     fn set(&mut self, job: &JobCards)
         requires { IsTrue (is_sound_date job.now.date) }
         ensures value { self.new ≡ record self.old { switches = switches_after job.now.switches self.old.switches; date = unwrap_or job.now.date self.old.date } }

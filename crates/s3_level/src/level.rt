@@ -21,15 +21,17 @@ pub struct Level {
     pub(crate) alloc: Global,
     pub(crate) id: LevelId,
     pub(crate) deck: Deck,
-    /// the place in the deck after the last job that was begun
+    /// The place in the deck behind the last job that was begun; behind the last card once no job was found there.
     pub(crate) next: usize,
-    /// the number of the next job
+    /// The number of the next job.
     pub(crate) number: JobNumber,
+    /// The programs that were compiled, by their names.
     pub(crate) library: IndexMap<Name, Program>,
+    /// The switches U1 to U8, U1 the highest bit.
     pub(crate) switches: u8,
     pub(crate) date: Date,
     pub(crate) job: Option<OpenJob>,
-    /// the lines that were drained from its queue
+    /// The lines that were drained from its queue.
     pub(crate) lines: Vec<PrintLine>,
     pub(crate) halts: HaltLog,
 }

@@ -25,7 +25,7 @@ impl Level {
     ghost use Rattle.s3_level.specs.Inner.Holds.{Around, Holds};
     ghost use Rattle.s3_level.specs.Inner.Queries.{AreUnread, IsCycleOf, files_of, has_work, is_left, number_of};
 
-    /// For what a halt waits, if one does.
+    /// For what the level halts, while it waits for the reply; none where no halt waits.
     pub fn waits(&self) -> Option<HaltCode>
         ensures world { (beside : Around) (w : World) → Holds self.now beside w → result ≡ waiting w.halts }
     {

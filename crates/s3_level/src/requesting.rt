@@ -20,7 +20,6 @@ impl Level {
     ghost use Rattle.s3_level.specs.Inner.Turning.{request_by, waits_by, Acts, AsksFile, AtWorkBecomes, Serves, FileServed, FileThere, on_files};
 
     /// Reads a card for the job at work.
-    #[inline(always)]
     #[tactic(auto, using(crate::proofs::Running::card_served))]
     pub(crate) fn read_card<P: Sectors>(&mut self, pack: &mut Pack<P>) -> Result<Did, SectorFault>
         requires asks { request_by self.old.job ≡ Some asks.Card }
@@ -35,7 +34,6 @@ impl Level {
     }
 
     /// Gives the job at work its next card, if there is one.
-    #[inline(always)]
     #[tactic(auto, using(crate::proofs::Running::card_taken))]
     fn take_card(&mut self)
         requires { request_by self.old.job ≡ Some asks.Card }
@@ -48,7 +46,6 @@ impl Level {
     }
 
     /// Serves the pending request of the job at work, one to a file.
-    #[inline(always)]
     pub(crate) fn serve_file<P: Sectors>(&mut self, pack: &mut Pack<P>) -> Result<Did, SectorFault>
         requires asks { AsksFile (request_by self.old.job) }
         requires ready { IsReady self.old (seen pack.old.areas (P.state pack.old.pool).contents) }
@@ -66,7 +63,6 @@ impl Level {
     }
 
     /// Gives the pending request of the job at work the answer of its files, if it has that file in use.
-    #[inline(always)]
     fn take_file<P: Sectors>(&mut self, pack: &mut Pack<P>) -> Result<bool, SectorFault>
         requires asks { AsksFile (request_by self.old.job) }
         requires ready { IsReady self.old (seen pack.old.areas (P.state pack.old.pool).contents) }
@@ -82,7 +78,6 @@ impl Level {
     }
 
     /// Prints the line of the job at work, unless the queue is full.
-    #[inline(always)]
     #[tactic(auto, using(crate::proofs::Printing::line_waits))]
     pub(crate) fn print<P: Sectors>(
         &mut self,

@@ -38,7 +38,6 @@ impl Taken {
     }
 
     /// One entry with this answer, or its fault.
-    #[inline(always)]
     pub fn once(answer: Result<Did, SectorFault>) -> Result<Taken, SectorFault>
         ensures { result ≡ once_spec answer }
     {

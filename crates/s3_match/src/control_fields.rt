@@ -64,7 +64,7 @@ fn hold_level(
     }
 }
 
-/// The greatest level that breaks, with one more below it.
+/// The greatest level that breaks so far, once the next lower one is looked at; 0 if none does.
 fn greatest(broken: u8, level: u8, breaks: bool) -> u8
     ensures { result ≡ (if breaks && broken == 0 then level else broken) }
 {

@@ -6,8 +6,7 @@ use std::marker::Model;
 /// The most bytes that the match fields of a record compare: nine fields of 256 characters.
 pub const KEY_BYTES: usize = 2_304;
 
-/// The bytes of a key, in a room on the heap. It is taken at a job's start, and the longest key fits, so that no record takes
-/// memory; what holds a key is short, and is moved to where it stays in a few instructions.
+/// The bytes of a key. Their room is taken at a job's start, and the longest key fits into it, so that no record takes memory.
 #[derive(Drop)]
 pub struct KeyBytes {
     bytes: Vec<u8>,

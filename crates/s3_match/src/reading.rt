@@ -33,6 +33,7 @@ use crate::selection::is_primary;
 use crate::types::{only_type, type_of};
 use s3_lines::indicator::Indicator;
 use s3_lines::sheet::{Designation, FileLine, InputLine};
+use s3_meaning::is_switch_on;
 use s3_program::program::{Program, Reference};
 use s3_program::starts::TypeStart;
 use s3_records::RECORD_BYTES;
@@ -63,7 +64,7 @@ fn is_on_at_first(switches: u8, indicator: Indicator) -> bool
     match indicator {
         Indicator::Level(number) => number == 0,
         Indicator::FirstPage => true,
-        Indicator::Switch(number) => (u16::from(switches) >> 8u8.saturating_sub(number)) % 2 == 1,
+        Indicator::Switch(number) => is_switch_on(switches, number),
         Indicator::General(_)
         | Indicator::LastRecord
         | Indicator::Matching
@@ -207,7 +208,7 @@ impl Reading {
         ensures sound { IfOk result (λ reading. IsReading program.now reading) }
         ensures reading { IfOk result (λ reading. (e : Environment) → BeginsWith switches e → reading_in program.now reading ≡ first_reading (source_named program.now) e) }
     {
-        // A file has long rooms, so that the list isn't to grow.
+        // an input file has long rooms, so the list gets its length at once and moves none of them
         let mut files = Vec::with_capacity(alloc, program.files.len())?;
         for slot in 0..program.files.len() {
             add_first(alloc, &mut files, program, slot, switches)?;

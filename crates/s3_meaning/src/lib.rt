@@ -1,6 +1,6 @@
 //! What an RPG II source means: in specs/ the run of a job over the typed lines of its sheets.
 //!
-//! The crate has definitions, laws of them, and one type that runs, `Current`. `Req` of specs/Cycle.antt is the request that
+//! The crate has definitions, laws of them, and what several crates need of its types: `Current` and `is_switch_on`. `Req` of specs/Cycle.antt is the request that
 //! stands after a list of answers; the twelve steps of a cycle are each a function of what follows it (docs/LANGUAGE.md, "The
 //! cycle").
 //!
@@ -20,6 +20,7 @@
 
 mod current;
 mod laws;
+mod switches;
 
 pub use current::Current;
 pub use laws::{
@@ -28,3 +29,4 @@ pub use laws::{
     replies_at_files_come_out, replies_come_out, the_carriage_comes_out,
     the_carriage_moves_by_lines, the_least_key_is_selected, totals_are_printed,
 };
+pub use switches::is_switch_on;

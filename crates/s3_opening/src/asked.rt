@@ -12,6 +12,7 @@ ghost use Rattle.s3_opening.specs.Asked.{is_switched_on as is_switched_on_spec, 
 use s3_cards::Name;
 use s3_lines::indicator::Indicator;
 use s3_lines::sheet::{FileLine, KeyField};
+use s3_meaning::is_switch_on;
 use s3_ocl::{FileSize, FileStatement};
 use s3_slots::{FileLabel, NewFile, Organization, Size};
 
@@ -20,8 +21,7 @@ fn is_switched_on(switches: u8, condition: Option<Indicator>) -> bool
     ensures { result ≡ is_switched_on_spec switches condition }
 {
     match condition {
-        Some(Indicator::Switch(number)) => (u16::from(switches) >> 8u8.saturating_sub(number)) % 2
-            == 1,
+        Some(Indicator::Switch(number)) => is_switch_on(switches, number),
         _ => true,
     }
 }
@@ -71,7 +71,7 @@ fn has_index(organization: Organization) -> bool
     }
 }
 
-/// Whether a label has an index where the line has a key.
+/// Whether an organization suits an F line: its files have an index exactly where the line has a key.
 fn has_organization(line: &FileLine, organization: Organization) -> bool
     ensures { result ≡ if◌then◌else◌ (is_some line.now.key) (is_indexed organization) (not (is_indexed organization)) }
 {
@@ -93,7 +93,7 @@ pub fn is_of_layout(line: &FileLine, label: &FileLabel) -> bool
         && label.key_start == key_start_of(line.key)
 }
 
-/// How the records of a new file are found.
+/// The organization of a new file: indexed where its line has a key, direct where it is chained, else sequential.
 fn organization_of(line: &FileLine) -> Organization
     ensures { result ≡ organization_spec line.now }
 {

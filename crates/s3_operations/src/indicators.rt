@@ -2,6 +2,7 @@
 ghost use Rattle.s3_operations.specs.Inner.Mirrored.{IsMirrored, ShowsSwitches, StaysOff};
 
 use s3_lines::indicator::Indicator;
+use s3_meaning::is_switch_on;
 
 /// The indicators of a run, each at its number. Those that change stand beside the switches, which don't.
 #[derive(Clone, Copy)]
@@ -24,19 +25,12 @@ impl Indicators {
     ghost use Rattle.s3_operations.specs.Inner.Indicators.{on_in, is_settable};
     ghost use Rattle.s3_operations.specs.Inner.Mirrored.{is_first_on, is_turned, off_at, on_at};
 
-    /// Whether a switch is set.
-    fn is_set(switches: u8, number: u8) -> bool
-        ensures { result ≡ switch_on switches number }
-    {
-        (u16::from(switches) >> 8_u8.saturating_sub(number)) % 2 == 1
-    }
-
     /// Whether the indicator of a number is on before 1P and L0 go on.
     fn is_on_first(switches: u8, number: u16) -> bool
         requires { number < 2048 }
         ensures { result ≡ is_first_on switches number }
     {
-        number % 8 == 7 && Indicators::is_set(switches, (number / 8) as u8)
+        number % 8 == 7 && is_switch_on(switches, (number / 8) as u8)
     }
 
     /// The table before 1P and L0 go on.

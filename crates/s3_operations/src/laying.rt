@@ -14,7 +14,6 @@ fn part<const N: usize>(text: &[u8], at: usize) -> [u8; N]
 }
 
 /// Lays the first and the last characters of a text over another one as long, some of them maybe twice.
-#[inline(always)]
 fn lay_ends<const N: usize>(target: &mut [u8], first: &[u8; N], last: &[u8; N])
     requires reaches { N ≤ length target.old }
     requires covers { length target.old ≤ 2 * N }
@@ -28,7 +27,6 @@ fn lay_ends<const N: usize>(target: &mut [u8], first: &[u8; N], last: &[u8; N])
     }
 }
 
-#[inline(always)]
 fn lay_by_ends<const N: usize>(target: &mut [u8], text: &[u8])
     requires same { length target.old ≡ length text.now }
     requires reaches { N ≤ length text.now }
@@ -40,7 +38,7 @@ fn lay_by_ends<const N: usize>(target: &mut [u8], text: &[u8])
     lay_ends(target, &first, &last);
 }
 
-/// Lays a text of any length over another one as long, which is left to a call.
+/// Lays a text of any length over another one as long.
 #[inline(never)]
 fn lay_whole(target: &mut [u8], text: &[u8])
     requires { length target.old ≡ length text.now }
@@ -49,8 +47,7 @@ fn lay_whole(target: &mut [u8], text: &[u8])
     target.copy_from_slice(text);
 }
 
-/// Lays a text over another one as long. Of a short one the ends are laid: that takes less than a call.
-#[inline(always)]
+/// Lays a text over another one as long: one of 4 to 32 bytes by its two ends, which may lie over each other.
 pub fn lay(target: &mut [u8], text: &[u8])
     requires { length target.old ≡ length text.now }
     ensures { target.new ≡ text.now }
@@ -63,7 +60,6 @@ pub fn lay(target: &mut [u8], text: &[u8])
     }
 }
 
-#[inline(always)]
 fn lay_within_by_ends<const N: usize>(bytes: &mut [u8], from: usize, end: usize, to: usize)
     requires source { from ≤ end }
     requires source_within { end ≤ length bytes.old }

@@ -1,4 +1,4 @@
-//! Numbers that operations take, and the one that they store.
+//! Zero, the entries of resulting indicators, and a field that gets a number.
 ghost use Rattle.std.specs.Prelude.{◌≡◌, true, Some};
 ghost use Rattle.s3_meaning.specs.Environment.{put_number};
 ghost use Rattle.s3_meaning.specs.Source.{digits_of, decimals_of};
@@ -11,7 +11,7 @@ use crate::values::Values;
 use s3_decimal::Dec;
 use s3_program::program::{Program, Reference};
 
-/// Nothing.
+/// The number 0.
 pub const ZERO: Dec = Dec {
     value: 0,
     digits: 1,

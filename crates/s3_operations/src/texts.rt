@@ -182,7 +182,6 @@ impl Texts {
     }
 
     /// Lays a text over the one that lies there, which is as long.
-    #[inline(always)]
     pub fn put(&mut self, span: Span, text: &[u8])
         requires lies { LiesIn self.old span }
         requires same { length text.now ≡ span.to - span.from }

@@ -7,7 +7,7 @@ use crate::indicators::Indicators;
 use crate::texts::Texts;
 use s3_decimal::{Dec, Form};
 
-/// The values of fields and indicators.
+/// What a run computes with: the numbers and texts of its fields and literals, its indicators, and what its last division leaves.
 #[derive(Drop)]
 pub struct Values {
     /// The numbers, by slot, in units of their last decimals; 0 for a field of characters.

@@ -188,7 +188,8 @@ impl Carriage {
         }
     }
 
-    /// So many lines on from a place of print at which no overflow is set, if that sets none either, as mostly.
+    /// Where a line is printed that has a space after alone, and where the carriage moves to behind it. None unless the line is
+    /// printed above line 60 and the carriage moves down to that line at most, as mostly.
     fn printed_above_overflow(self, spacing: &Spacing) -> Option<Printed>
         requires { spacing_in_range spacing.now ≡ true }
         ensures { IfSome result (IsPrinted spacing.now self) }
@@ -212,7 +213,7 @@ impl Carriage {
         Some(Printed { place, behind })
     }
 
-    /// Prints a line, and goes on from there.
+    /// Where a line is printed from here, and where the carriage has moved to behind it.
     pub fn print(self, spacing: &Spacing) -> Printed
         requires { spacing_in_range spacing.now ≡ true }
         ensures { IsPrinted spacing.now self result }
@@ -223,7 +224,7 @@ impl Carriage {
         }
     }
 
-    /// The same, wherever it is.
+    /// Where a line is printed and where the carriage moves to, overflow or not.
     #[inline(never)]
     fn printed(self, spacing: &Spacing) -> Printed
         requires { spacing_in_range spacing.now ≡ true }

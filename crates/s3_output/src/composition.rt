@@ -70,7 +70,7 @@ fn mark_ends(marks: &[bool], field: &mut [bool])
     field[last..].copy_from_slice(marks);
 }
 
-/// Marks a field of any length, which is left to a call.
+/// Marks a field of any length.
 #[inline(never)]
 fn mark_all(field: &mut [bool])
     ensures { field.new ≡ replicate (length field.old) true }
@@ -78,7 +78,7 @@ fn mark_all(field: &mut [bool])
     field.fill(true);
 }
 
-/// Marks a field, in two steps where it has a usual length.
+/// Marks a field: one of a usual length by its two ends, which may lie over each other.
 #[tactic(auto, using(crate::proofs::CompositionLemmas::all_marked))]
 fn mark_field(field: &mut [bool])
     ensures { field.new ≡ replicate (length field.old) true }
@@ -186,7 +186,7 @@ impl Composition {
         &self.codes[..self.length]
     }
 
-    /// Where something is put.
+    /// For each position whether something is put there. Where that isn't told it is so at all of them: blanks count as put then.
     pub fn marks(&self) -> &[bool]
         ensures { result.now ≡ map is_some self.now }
     {

@@ -19,7 +19,7 @@ pub enum DiskRequest {
     Append,
 }
 
-/// A line without ADD for it is an update.
+/// Whether a line without ADD is an update in this file: it is an update file, or a direct load.
 fn is_updated(file: &FileLine) -> bool
     ensures { result ≡ source.is_updated file.now }
 {
@@ -30,7 +30,8 @@ fn is_updated(file: &FileLine) -> bool
     }
 }
 
-/// What a line of a file asks for: update for U and the direct load, else append, or add by key.
+/// What a line of a disk file asks for. Without ADD it is an update, in an update file or a direct load; with ADD it is a record
+/// more by its key, where the file has keys. Else it is a record behind the last one.
 pub fn disk_request(file: &FileLine, is_addition: bool) -> DiskRequest
     ensures { (line : Output) (positions : List (Option ℕ)) (e : Environment) → line.is_addition ≡ is_addition
         → meaning.disk_request file.now line positions e ≡ request_of result file.now positions e }

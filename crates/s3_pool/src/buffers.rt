@@ -161,7 +161,7 @@ impl Buffers {
         }
     }
 
-    /// A new slot gets the spare bytes as those of sector `n`. Few calls come here, so that it stands apart.
+    /// A new slot gets the spare bytes as those of sector `n`. There are at most 16 slots, each of which is made once.
     #[inline(never)]
     fn add(&mut self, n: u16, is_dirty: bool) -> Result<u8, SectorFault>
         requires room { length self.old.slots.items < 16 }
@@ -201,7 +201,6 @@ impl Buffers {
     }
 
     /// Sector `n` goes into a slot, or into a new one, with the spare bytes as its own.
-    #[inline(always)]
     fn take_in(&mut self, slot: Option<u8>, n: u16, is_dirty: bool) -> Result<u8, SectorFault>
         requires in_range { n < length self.old.places.items }
         requires slot { MatchOption slot (length self.old.slots.items < 16) (λ slot. slot < length self.old.slots.items) }
@@ -237,7 +236,6 @@ fn write_back<S: PackStore>(store: &mut S, buffer: &Buffer) -> Result<(), StoreF
 }
 
 /// The slot that was used before all others, whose bytes the store has from now on.
-#[inline(always)]
 fn give_way<S: PackStore>(store: &mut S, buffers: &Buffers) -> Result<u8, StoreFault>
     requires sound { IsSound (S.contents store.old) buffers.now.slots.items }
     requires full { 16 ≤ length buffers.now.slots.items }
@@ -266,7 +264,6 @@ fn make_way<S: PackStore>(store: &mut S, buffers: &Buffers) -> Result<Option<u8>
 }
 
 /// Reads sector `n`, which no buffer holds, into a slot whose bytes the store has, or into a new one. The slot is used.
-#[inline(always)]
 fn read_in<S: PackStore>(
     store: &mut S,
     buffers: &mut Buffers,
@@ -289,7 +286,7 @@ fn read_in<S: PackStore>(
     Ok(slot)
 }
 
-/// Reads sector `n`, which no buffer holds, into a new slot. Few calls come here, so that it stands apart.
+/// Reads sector `n`, which no buffer holds, into a new slot. There are at most 16 slots, each of which is made once.
 #[inline(never)]
 fn fetch_more<S: PackStore>(store: &mut S, buffers: &mut Buffers, n: u16) -> Result<u8, SectorFault>
     requires sound { IsSound (S.contents store.old) buffers.old.slots.items }
@@ -305,8 +302,7 @@ fn fetch_more<S: PackStore>(store: &mut S, buffers: &mut Buffers, n: u16) -> Res
     read_in(store, buffers, None, n)
 }
 
-/// Reads sector `n`, which no buffer holds, into a slot, which is used. It stands apart, so that a sector that is held is found
-/// in the caller.
+/// Reads sector `n`, which no buffer holds, into a slot, which is used.
 #[inline(never)]
 fn fetch<S: PackStore>(store: &mut S, buffers: &mut Buffers, n: u16) -> Result<u8, SectorFault>
     requires sound { IsSound (S.contents store.old) buffers.old.slots.items }
@@ -326,7 +322,6 @@ fn fetch<S: PackStore>(store: &mut S, buffers: &mut Buffers, n: u16) -> Result<u
 }
 
 /// Has sector `n`, which must be there, in the slot that is given, as the one that was used last.
-#[inline(always)]
 pub(crate) fn load<S: PackStore>(
     store: &mut S,
     buffers: &mut Buffers,
@@ -349,7 +344,6 @@ pub(crate) fn load<S: PackStore>(
 
 /// Has sector `n` in the slot that is given, as the one that was used last. Refused with `NoSector` exactly where there is no
 /// such sector.
-#[inline(always)]
 pub(crate) fn load_if_there<S: PackStore>(
     store: &mut S,
     buffers: &mut Buffers,
@@ -419,8 +413,7 @@ fn overlay<S: PackStore>(
 }
 
 /// Has sector `n` have these bytes: in its buffer, or in a new one, or in the store where a spool block would displace another
-/// sector. The sector isn't read. Most sectors that are written whole are spool blocks, and take no other call than the store's.
-#[inline(always)]
+/// sector. The sector isn't read.
 pub(crate) fn overwrite<S: PackStore>(
     store: &mut S,
     buffers: &mut Buffers,

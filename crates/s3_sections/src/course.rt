@@ -13,7 +13,7 @@ use arrayvec::ArrayVec;
 use s3_lines::sheet::CalculationLine;
 use s3_program::program::{Program, Reference};
 
-/// The most calls, each in what the one before calls.
+/// The most subroutines that are open at once.
 pub const MOST_CALLS: usize = 8;
 
 /// Where a run stands, and where it goes on when subroutines are done.
@@ -38,8 +38,7 @@ impl Course {
         }
     }
 
-    /// Begins anew at a spot outside of all subroutines. The room of its returns isn't written again, nor what lies between the parts
-    /// of a spot.
+    /// Begins anew at a spot outside of all subroutines, with no subroutine open.
     pub fn restart(&mut self, here: Spot)
         ensures here { self.new.here ≡ here }
         ensures returns { self.new.returns.items ≡ [] }

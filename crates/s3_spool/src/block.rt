@@ -12,8 +12,7 @@ use s3_cards::{PRINT_POSITIONS, PrintLine};
 /// Where the text of a line begins in its block.
 const TEXT: usize = 4;
 
-/// The most bytes of a known number that are copied without a call. All positions are some more, and so are copied in two
-/// parts.
+/// How many bytes the first of two parts has, in which a line of all positions is laid.
 const FRONT: usize = 128;
 
 /// Puts these bytes into a block, from a place on.
@@ -80,7 +79,6 @@ fn text_length(length: u8) -> usize
 }
 
 /// Makes the positions behind a text blank.
-#[inline(always)]
 fn blank_behind(width: usize, positions: &mut [u8])
     requires { width ≤ length positions.old }
     ensures { positions.new ≡ take width positions.old ++ replicate (length positions.old - width) BLANK }

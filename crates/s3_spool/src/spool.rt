@@ -216,7 +216,6 @@ impl Spool {
     /// Refused `QuotaFull` exactly where the level has as many lines queued as its quota, and by the sectors' faults;
     /// refused, the queues stay, and at `QuotaFull` the sectors are left alone. `sectors` are those of a pack: the spool's
     /// blocks are sectors 25 to 152.
-    #[inline(always)]
     #[tactic(auto)]
     pub fn put_composed<P: Sectors>(
         &mut self,

@@ -1,6 +1,11 @@
--- The other one of the two levels.
+-- The numbers of the two levels, and the other one of each.
+use Rattle.std.specs.Prelude.{ℕ}
 use Rattle.s3_cards.specs.declared.levels.LevelId.{LevelId}
 use Rattle.s3_cards.specs.declared.levels.LevelId.TheVariants.{One, Two}
+
+abbrev pub level_number : LevelId → ℕ
+level_number One = 1
+level_number Two = 2
 
 -- the level that this one isn't
 abbrev pub other : LevelId → LevelId
