@@ -106,9 +106,10 @@ class Counted:
 
 
 def judged(bureau, rust, cobol, limit, aim):
-    """Tells how the built program compares, and gives the status to end with. The limit against plain Rust is told alone."""
-    print("bureau takes %.2f times plain Rust's instructions (the limit is %.1f, the aim %.1f)" % (bureau.counts[0] / rust.counts[0], limit, aim))
-    failed = bureau.growth() > GROWTH
+    """Tells how the built program compares, and gives the status to end with: 1 where a limit is passed."""
+    ratio = bureau.counts[0] / rust.counts[0]
+    print("bureau takes %.2f times plain Rust's instructions (the limit is %.1f, the aim %.1f)" % (ratio, limit, aim))
+    failed = bureau.growth() > GROWTH or ratio > limit
     if cobol is None:
         print("bench: there is no GnuCOBOL (cobc) to compare with", file=sys.stderr)
         return 1 if failed else NO_COBOL
