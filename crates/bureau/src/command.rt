@@ -15,9 +15,9 @@ use s3_data_commands::delete::delete;
 use s3_data_commands::load::load;
 use s3_data_commands::sort::sort;
 use s3_data_commands::unload::unload;
-use s3_data_commands::words::value_of;
 use s3_host_files::{FileFault, LockedPack, read_pack, read_to_save, save_pack};
 use s3_paper_commands::status::{DONE, REFUSED, WRONG_WORDS};
+use s3_paper_commands::words::value_of;
 use s3_paper_commands::{compile_files, punch_files};
 use std::io::Write;
 use std::{env, fs, io};
@@ -94,22 +94,36 @@ fn explain(rt: &HostRuntime, error: &Error) -> u8
 fn perform<'a>(rt: &'a HostRuntime, matches: &ArgMatches<'a>, words: &[String]) -> u8
     ensures { result ≤ 5 }
 {
-    let done = match matches.subcommand() {
-        Some(("operate", matches)) => return operate(rt, matches, words.get(2..).unwrap_or(&[])),
-        Some(("punch", matches)) => return punch_files(rt, matches),
-        Some(("compile", matches)) => return compile_files(rt, matches),
-        Some(("check", matches)) => return check(rt, matches),
-        Some(("copy", matches)) => return copy(rt, matches),
-        Some(("delete", matches)) => return delete(rt, matches),
-        Some(("sort", matches)) => return sort(rt, matches),
-        Some(("unload", matches)) => return unload(rt, matches),
-        Some(("load", matches)) => return load(rt, matches),
-        Some(("run", matches)) => run(rt, matches),
-        Some(("init", matches)) if is_occupied(rt, matches) => return refuse_occupied(rt, matches),
-        Some(("init", matches)) => init(rt, matches),
-        Some(("list", matches)) => list_files(rt, matches),
-        Some(("migrate", matches)) => migrate_pack(rt, matches),
-        // each command that `words::command` offers has its arm above
+    let Some((name, matches)) = matches.subcommand() else {
+        return misuse(rt, "no command is given");
+    };
+    match name {
+        "operate" => operate(rt, matches, words.get(2..).unwrap_or(&[])),
+        "punch" => punch_files(rt, matches),
+        "compile" => compile_files(rt, matches),
+        "check" => check(rt, matches),
+        "copy" => copy(rt, matches),
+        "delete" => delete(rt, matches),
+        "sort" => sort(rt, matches),
+        "unload" => unload(rt, matches),
+        "load" => load(rt, matches),
+        _ => perform_plain(rt, name, matches),
+    }
+}
+
+/// Does what a command asks whose refusals are those of `run`, and gives the exit status.
+fn perform_plain(rt: &HostRuntime, name: &str, matches: &ArgMatches<'_>) -> u8
+    ensures { result ≤ 5 }
+{
+    if name == "init" && is_occupied(rt, matches) {
+        return refuse_occupied(rt, matches);
+    }
+    let done = match name {
+        "run" => run(rt, matches),
+        "init" => init(rt, matches),
+        "list" => list_files(rt, matches),
+        "migrate" => migrate_pack(rt, matches),
+        // each command that `words::command` offers has an arm here or in `perform`
         _ => return misuse(rt, "there is no such command"),
     };
     match done {

@@ -4,10 +4,11 @@ ghost use Rattle.std.specs.Prelude.{◌≤◌};
 use crate::fault::Fault;
 use crate::pack_words::{label_text, mount_sentence, pack_of};
 use crate::sentences::output_sentence;
-use crate::words::{pack_word, value_of};
+use crate::words::pack_word;
 use clap::{ArgMatches, Command};
 use s3_pack_check::{CheckFault, Wrong, check_pack, push_cause};
 use s3_paper_commands::status::DONE;
+use s3_paper_commands::words::value_of;
 use std::alloc::{AllocError, Global};
 use std::io::Write;
 

@@ -6,45 +6,43 @@ use crate::pack_words::{
     area_number, care_sentence, keep_input, label_of, label_sentence, mount_sentence,
     no_room_for_copy, pack_of, pack_to_change, refused, saved, tell_done,
 };
-use crate::words::{file_word, overwrite_word, save_word, value_of, value_word};
+use crate::words::{label_word, overwrite_word};
 use clap::{ArgMatches, Command};
 use s3_labels::LabelFault;
 use s3_pack_care::CareFault;
 use s3_paper_commands::status::DONE;
+use s3_paper_commands::words::{needed_word, value_of, value_word};
 use std::alloc::{AllocError, Global};
 
 /// The words of the command.
 pub fn copy_command<'a>(alloc: Global) -> Result<Command<'a>, AllocError> {
     Command::new(alloc, "copy")
         .about("Copies a file of a pack, with its index, into an area of another or the same")
-        .arg(
-            file_word(alloc, "pack")
-                .required(true)
-                .help("The pack that has the file"),
-        )?
-        .arg(
-            value_word(alloc, "area", "AREA").required(true).help(
-                "The area of the file: 0 for the masters, 1 or 2 for a level",
+        .args(vec![in alloc;
+            needed_word(alloc, "pack", "FILE", "The pack that has the file"),
+            needed_word(
+                alloc,
+                "area",
+                "AREA",
+                "The area of the file: 0 for the masters, 1 or 2 for a level"
             ),
-        )?
-        .arg(
-            value_word(alloc, "label", "LABEL")
-                .required(true)
-                .help("The label of the file"),
-        )?
-        .arg(
-            file_word(alloc, "into")
-                .required(true)
-                .help("The pack that gets the copy"),
-        )?
-        .arg(
-            value_word(alloc, "to-area", "AREA")
-                .required(true)
-                .help("The area that gets it"),
-        )?
-        .arg(save_word(alloc).help("Where the pack with the copy is written"))?
-        .arg(value_word(alloc, "as", "LABEL").help("The label of the copy, if it is another one"))?
-        .arg(overwrite_word(alloc))
+            label_word(alloc),
+            needed_word(alloc, "into", "FILE", "The pack that gets the copy"),
+            needed_word(alloc, "to-area", "AREA", "The area that gets it"),
+            needed_word(
+                alloc,
+                "save",
+                "FILE",
+                "Where the pack with the copy is written"
+            ),
+            value_word(
+                alloc,
+                "as",
+                "LABEL",
+                "The label of the copy, if it is another one"
+            ),
+            overwrite_word(alloc),
+        ]?)
 }
 
 /// Does what the words of `bureau copy` ask, and gives the exit status: 0 where it is done, else that of the refusal, whose

@@ -5,31 +5,36 @@ use crate::fault::Fault;
 use crate::pack_words::{
     area_number, care_sentence, label_of, pack_to_change, refused, saved, tell_done, wrong_words,
 };
-use crate::words::{flag, overwrite_word, pack_word, save_word, value_of, value_word};
+use crate::words::{area_word, overwrite_word, pack_word, save_word};
 use clap::{ArgMatches, Command, value_parser};
 use s3_pack_care::{CareFault, Chosen};
 use s3_paper_commands::status::DONE;
+use s3_paper_commands::words::{flag, value_of, value_word};
 use std::alloc::{AllocError, Global};
 
 /// The words of the command.
 pub fn delete_command<'a>(alloc: Global) -> Result<Command<'a>, AllocError> {
     Command::new(alloc, "delete")
         .about("Deletes a file from a pack, or frees a damaged slot")
-        .arg(pack_word(alloc))?
-        .arg(save_word(alloc))?
-        .arg(
-            value_word(alloc, "area", "AREA")
-                .required(true)
-                .help("0 for the masters, 1 or 2 for a level"),
-        )?
-        .arg(value_word(alloc, "label", "LABEL").help("The label of the file"))?
-        .arg(
-            value_word(alloc, "slot", "N")
-                .value_parser(value_parser!(u16))
-                .help("The slot, 0 to 31, in place of a label; `list --table` shows the numbers"),
-        )?
-        .arg(flag(alloc, "permanent").help("Deletes the file also where it is permanent"))?
-        .arg(overwrite_word(alloc))
+        .args(vec![in alloc;
+            pack_word(alloc),
+            save_word(alloc),
+            area_word(alloc),
+            value_word(alloc, "label", "LABEL", "The label of the file"),
+            value_word(
+                alloc,
+                "slot",
+                "N",
+                "The slot, 0 to 31, in place of a label; `list --table` shows the numbers"
+            )
+            .value_parser(value_parser!(u16)),
+            flag(
+                alloc,
+                "permanent",
+                "Deletes the file also where it is permanent"
+            ),
+            overwrite_word(alloc),
+        ]?)
 }
 
 /// Does what the words of `bureau delete` ask, and gives the exit status: 0 where it is done, else that of the refusal, whose

@@ -1,5 +1,5 @@
 //! The commands `check`, `copy`, `delete`, `sort`, `unload` and `load`: their words, over real files, standard input and standard
-//! output. docs/PACK_CARE.md and docs/DATA.md have them. The words of `words` are those of other commands too.
+//! output. docs/PACK_CARE.md and docs/DATA.md have them. `words` has those that other commands over a pack take too.
 //!
 //! Each call is proved safe and returns, and a status is at most 4. What is told of a pack is proved in `s3_pack_check`, what becomes of
 //! one in `s3_pack_care` and `s3_sort`, what is written of a file in `s3_unload` and `s3_cells`, and what a table gives in `s3_load`.

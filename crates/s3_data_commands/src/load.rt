@@ -9,62 +9,70 @@ use crate::pack_words::{
     tell_done, wrong_words,
 };
 use crate::words::{
-    delimiter_word, flag, layout_file_word, layout_type_word, layout_word, overwrite_word,
-    pack_word, save_word, value_of, value_word,
+    delimiter_word, label_word, layout_file_word, layout_type_word, layout_word, level_word,
+    overwrite_word, pack_word, save_word,
 };
-use clap::{ArgMatches, Command, value_parser};
+use clap::{Arg, ArgMatches, Command, value_parser};
 use s3_cards::ebcdic::DIGIT_0;
 use s3_cards::{LevelId, Name, Retention};
 use s3_labels::LabelFault;
 use s3_listing::{file_size, free_room};
 use s3_load::{LoadFault, Order, Room};
 use s3_paper_commands::status::DONE;
+use s3_paper_commands::words::{flag, value_of, value_word};
 use std::alloc::{AllocError, Global};
 use std::io::Write;
 
 /// The words of the command.
 pub fn load_command<'a>(alloc: Global) -> Result<Command<'a>, AllocError> {
-    let command = Command::new(alloc, "load")
+    Command::new(alloc, "load")
         .about("Loads the table in CSV of standard input into a file of a level")
-        .arg(pack_word(alloc))?
-        .arg(save_word(alloc))?
-        .arg(
-            value_word(alloc, "level", "LEVEL")
-                .required(true)
-                .help("The level of the file, 1 or 2"),
-        )?
-        .arg(
-            value_word(alloc, "label", "LABEL")
-                .required(true)
-                .help("The label of the file"),
-        )?
-        .arg(layout_word(alloc).required(true))?
-        .arg(layout_file_word(alloc))?
-        .arg(layout_type_word(alloc))?;
-    with_file_words(alloc, command)?
-        .arg(flag(alloc, "append").help("Puts the records behind those of the file that is there"))?
-        .arg(flag(alloc, "fill").help("Fields that the table doesn't have are blank or 0"))?
-        .arg(delimiter_word(alloc))?
-        .arg(overwrite_word(alloc))
+        .args(vec![in alloc;
+            pack_word(alloc),
+            save_word(alloc),
+            level_word(alloc),
+            label_word(alloc),
+            layout_word(alloc).required(true),
+            layout_file_word(alloc),
+            layout_type_word(alloc),
+            records_word(alloc),
+            tracks_word(alloc),
+            value_word(alloc, "retain", "R", "T, S or P; T if it isn't said"),
+            value_word(
+                alloc,
+                "date",
+                "MMDDYY",
+                "The date of the file: month, day and year; 000000 if it isn't said"
+            ),
+            flag(
+                alloc,
+                "append",
+                "Puts the records behind those of the file that is there"
+            ),
+            flag(
+                alloc,
+                "fill",
+                "Fields that the table doesn't have are blank or 0"
+            ),
+            delimiter_word(alloc),
+            overwrite_word(alloc),
+        ]?)
 }
 
-/// The words for a new file.
-fn with_file_words<'a>(alloc: Global, command: Command<'a>) -> Result<Command<'a>, AllocError> {
-    command
-        .arg(
-            value_word(alloc, "records", "N")
-                .value_parser(value_parser!(u32))
-                .help("Room for so many records; as many as the table has if it isn't said"),
-        )?
-        .arg(
-            value_word(alloc, "tracks", "N")
-                .value_parser(value_parser!(u16))
-                .help("So many tracks instead"),
-        )?
-        .arg(value_word(alloc, "retain", "R").help("T, S or P; T if it isn't said"))?
-        .arg(value_word(alloc, "date", "MMDDYY").help(
-            "The date of the file: month, day and year; 000000 if it isn't said",
-        ))
+/// The word for the room of a new file in records, 0 to 4294967295.
+fn records_word<'a>(alloc: Global) -> Arg<'a> {
+    value_word(
+        alloc,
+        "records",
+        "N",
+        "Room for so many records; as many as the table has if it isn't said",
+    )
+    .value_parser(value_parser!(u32))
+}
+
+/// The word for the room of a new file in tracks, 0 to 65535.
+fn tracks_word<'a>(alloc: Global) -> Arg<'a> {
+    value_word(alloc, "tracks", "N", "So many tracks instead").value_parser(value_parser!(u16))
 }
 
 /// Does what the words of `bureau load` ask, and gives the exit status: 0 where it is done, else that of the refusal, whose

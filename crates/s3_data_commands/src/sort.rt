@@ -6,12 +6,13 @@ use crate::pack_words::{
     care_sentence, label_of, label_sentence, level_of, mount_sentence, no_room_for_copy, number_of,
     pack_to_change, refused, saved, tell_done,
 };
-use crate::words::{overwrite_word, pack_word, save_word, value_of, value_word};
+use crate::words::{label_word, level_word, overwrite_word, pack_word, save_word};
 use clap::{ArgMatches, Command};
 use s3_cards::Name;
 use s3_labels::LabelFault;
 use s3_pack_care::CareFault;
 use s3_paper_commands::status::DONE;
+use s3_paper_commands::words::{needed_word, value_of, value_word};
 use s3_sort::{Form, SortFault, SortField};
 use std::alloc::{AllocError, Global};
 use std::io::Write;
@@ -20,27 +21,25 @@ use std::io::Write;
 pub fn sort_command<'a>(alloc: Global) -> Result<Command<'a>, AllocError> {
     Command::new(alloc, "sort")
         .about("Sorts the records of a file that has no index and isn't direct")
-        .arg(pack_word(alloc))?
-        .arg(save_word(alloc))?
-        .arg(
-            value_word(alloc, "level", "LEVEL")
-                .required(true)
-                .help("The level of the file, 1 or 2"),
-        )?
-        .arg(
-            value_word(alloc, "label", "LABEL")
-                .required(true)
-                .help("The label of the file"),
-        )?
-        .arg(
-            value_word(alloc, "by", "FIELDS").required(true).help(
-                "The fields by which it is sorted, FROM-TO each with commas between: Z behind one is a zoned number, P a packed one, D the greatest first",
+        .args(vec![in alloc;
+            pack_word(alloc),
+            save_word(alloc),
+            level_word(alloc),
+            label_word(alloc),
+            needed_word(
+                alloc,
+                "by",
+                "FIELDS",
+                "The fields by which it is sorted, FROM-TO each with commas between: Z behind one is a zoned number, P a packed one, D the greatest first"
             ),
-        )?
-        .arg(value_word(alloc, "as", "LABEL").help(
-            "The label of a new file for the sorted records; else the file itself is sorted",
-        ))?
-        .arg(overwrite_word(alloc))
+            value_word(
+                alloc,
+                "as",
+                "LABEL",
+                "The label of a new file for the sorted records; else the file itself is sorted"
+            ),
+            overwrite_word(alloc),
+        ]?)
 }
 
 /// Does what the words of `bureau sort` ask, and gives the exit status: 0 where it is done, else that of the refusal, whose

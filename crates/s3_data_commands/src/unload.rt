@@ -6,12 +6,13 @@ use crate::inputs::{delimiter_of, layout_of};
 use crate::pack_words::{area_number, label_of, pack_of, wrong_words};
 use crate::sentences::unload_sentence;
 use crate::words::{
-    delimiter_word, layout_file_word, layout_type_word, layout_word, pack_word, value_of,
-    value_word,
+    area_word, delimiter_word, label_word, layout_file_word, layout_type_word, layout_word,
+    pack_word,
 };
 use clap::{ArgMatches, Command};
 use s3_cards::{LevelId, Name};
 use s3_paper_commands::status::DONE;
+use s3_paper_commands::words::{value_of, value_word};
 use s3_unload::{Area, LineForm, UnloadFault};
 use std::alloc::{AllocError, Global};
 
@@ -19,24 +20,21 @@ use std::alloc::{AllocError, Global};
 pub fn unload_command<'a>(alloc: Global) -> Result<Command<'a>, AllocError> {
     Command::new(alloc, "unload")
         .about("Writes the records of a file as a table in CSV, as texts or in hexadecimal digits")
-        .arg(pack_word(alloc))?
-        .arg(
-            value_word(alloc, "area", "AREA")
-                .required(true)
-                .help("0 for the masters, 1 or 2 for a level"),
-        )?
-        .arg(
-            value_word(alloc, "label", "LABEL")
-                .required(true)
-                .help("The label of the file"),
-        )?
-        .arg(layout_word(alloc))?
-        .arg(layout_file_word(alloc))?
-        .arg(layout_type_word(alloc))?
-        .arg(value_word(alloc, "as", "FORM").help(
-            "csv, text or hex; csv with a layout, else text, if it isn't said",
-        ))?
-        .arg(delimiter_word(alloc))
+        .args(vec![in alloc;
+            pack_word(alloc),
+            area_word(alloc),
+            label_word(alloc),
+            layout_word(alloc),
+            layout_file_word(alloc),
+            layout_type_word(alloc),
+            value_word(
+                alloc,
+                "as",
+                "FORM",
+                "csv, text or hex; csv with a layout, else text, if it isn't said"
+            ),
+            delimiter_word(alloc),
+        ]?)
 }
 
 /// Does what the words of `bureau unload` ask, and gives the exit status: 0 where it is done, 4 where a value can't be shown and

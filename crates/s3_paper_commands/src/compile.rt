@@ -5,6 +5,7 @@ use crate::deck::{ReadFiles, read_deck};
 use crate::fault::CommandFault;
 use crate::status::{DONE, FILE_FAILED, PERSON_NEEDED, REFUSED};
 use crate::unread::words_of_unread;
+use crate::words::flag;
 use clap::{Arg, ArgAction, ArgMatches, Command};
 use s3_cards::{Deck, DeckFault};
 use s3_deck_files::DeckText;
@@ -18,7 +19,7 @@ pub fn compile_command<'a>(alloc: Global) -> Result<Command<'a>, AllocError> {
         .about(
             "Lists the sources of a deck with their diagnostics, and compiles nothing into a library",
         )
-        .arg(
+        .args(vec![in alloc;
             Arg::new(alloc, "file")
                 .value_name("FILE")
                 .action(ArgAction::Append)
@@ -26,13 +27,12 @@ pub fn compile_command<'a>(alloc: Global) -> Result<Command<'a>, AllocError> {
                 .help(
                     "The deck, where a source stands behind // LOAD $RPG,F1 and // RUN; several files are one deck; one whose name ends in .rpg or .punch is plain text",
                 ),
-        )?
-        .arg(
-            Arg::new(alloc, "cross-reference")
-                .long("cross-reference")
-                .action(ArgAction::SetTrue)
-                .help("Lists each name and each indicator with all cards that name it"),
-        )
+            flag(
+                alloc,
+                "cross-reference",
+                "Lists each name and each indicator with all cards that name it"
+            ),
+        ]?)
 }
 
 /// Does what the words of `bureau compile` ask, and gives the exit status: 0 where every source compiles, 4 where one has diagnostics

@@ -1,5 +1,6 @@
 //! The commands around paper, over real files: `bureau punch`, which makes decks of plain text, and `bureau compile`, which lists the
-//! sources of a deck. `status` has the exit statuses of all commands of the program.
+//! sources of a deck. `status` has the exit statuses of all commands of the program, and
+//! `words` the kinds of their words.
 //!
 //! What is proved: each call is safe and returns, and gives a status in its range. What a text becomes is proved in `s3_punch`. The
 //! words, the lines that are told and the statuses are tested, by rows. What files and standard output give isn't claimed: they are
@@ -14,6 +15,7 @@ mod fault;
 mod punch;
 pub mod status;
 mod unread;
+pub mod words;
 
 pub use compile::{compile_command, compile_files};
 pub use deck::is_plain_text;

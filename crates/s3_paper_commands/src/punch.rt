@@ -4,6 +4,7 @@ ghost use Rattle.std.specs.Prelude.{◌≤◌};
 use crate::characters::is_shown;
 use crate::fault::CommandFault;
 use crate::status::{DONE, REFUSED};
+use crate::words::flag;
 use clap::{Arg, ArgAction, ArgMatches, Command};
 use s3_host_files::read_within;
 use s3_punch::{Begun, LineChange, PunchFault, PunchReason, Punched, punch};
@@ -19,26 +20,20 @@ pub fn punch_command<'a>(alloc: Global) -> Result<Command<'a>, AllocError> {
         .about(
             "Makes a deck of plain text: capitals, tabs to their columns, no comments; on standard output",
         )
-        .arg(
+        .args(vec![in alloc;
             Arg::new(alloc, "file")
                 .value_name("FILE")
                 .num_args(1..)
                 .action(ArgAction::Append)
                 .required(true)
                 .help("The text; several files are one deck"),
-        )?
-        .arg(
-            Arg::new(alloc, "remarks")
-                .long("remarks")
-                .action(ArgAction::SetTrue)
-                .help("Blanks columns 60 to 74 of C cards"),
-        )?
-        .arg(
-            Arg::new(alloc, "report")
-                .long("report")
-                .action(ArgAction::SetTrue)
-                .help("Lists each line that was changed or left out"),
-        )
+            flag(alloc, "remarks", "Blanks columns 60 to 74 of C cards"),
+            flag(
+                alloc,
+                "report",
+                "Lists each line that was changed or left out"
+            ),
+        ]?)
 }
 
 /// How many lines were changed, and how many left out.
