@@ -19,15 +19,17 @@ use clap::ArgMatches;
 use day::{Prepared, operate_prepared};
 use fault::DayFault;
 use inherited_words::words_again;
-use inputs::{read_day_pack, read_deck, read_log, read_rules};
+use inputs::{Decks, read_day_pack, read_log, read_rules};
 use order::Order;
 use outputs::{Outputs, test_outputs};
 use s3_cards::LevelId;
 use s3_cli::{CliFault, RunFault, SessionFault};
 use s3_day_log::DayLog;
+use s3_host_files::LockedPack;
 use s3_labels::{Pack, Refusal, Refused};
 use s3_operating::Seat;
 use s3_paper_commands::status::{DONE, PASSED_OVER};
+use s3_replies::Rules;
 use s3_store::MemoryStore;
 use std::alloc::Global;
 use std::io::Write;
@@ -130,41 +132,67 @@ fn operate_with<'a>(
     words: &[String],
     again: Option<Again<'a>>,
 ) -> Result<u8, DayFault<'a>> {
-    let alloc = rt.alloc();
     let order = Order::read(rt, matches)?;
-    let is_logged = order.log.is_some() || again.is_some();
-    let (text1, read1) = read_deck(rt, LevelId::One, &order.deck1, is_logged)?;
-    let (text2, read2) = read_deck(rt, LevelId::Two, &order.deck2, is_logged)?;
+    let decks = Decks::read(rt, &order, wants_checksums(&order, again))?;
     if matches.get_flag("jobs") {
-        list_jobs(rt, &text1, &text2)?;
+        list_jobs(rt, &decks.one, &decks.two)?;
         return Ok(DONE);
     }
     let rules = read_rules(rt, order.rules)?;
     test_outputs(rt, &order, matches.get_str("redo"))?;
-    let (pack, checksum, locked) = read_day_pack(rt, &order, is_logged)?;
-    let begun = day_begun(alloc, &order, words, checksum, &read1, &read2)?;
+    operate_decks(rt, &order, words, decks, rules, again)
+}
+
+/// Whether the files that are read are known by their checksums: for a log that is written, or for one that is done again.
+fn wants_checksums(order: &Order<'_>, again: Option<Again<'_>>) -> bool {
+    order.log.is_some() || again.is_some()
+}
+
+/// Does a day whose decks and rules are read.
+fn operate_decks<'a>(
+    rt: &'a HostRuntime,
+    order: &Order<'a>,
+    words: &[String],
+    decks: Decks<'a>,
+    rules: Rules,
+    again: Option<Again<'a>>,
+) -> Result<u8, DayFault<'a>> {
+    let Decks {
+        one,
+        two,
+        files1,
+        files2,
+    } = decks;
+    let (pack, checksum, locked) = read_day_pack(rt, order, wants_checksums(order, again))?;
+    let begun = day_begun(rt.alloc(), order, words, checksum, &files1, &files2)?;
     if let Some(again) = again {
         test_same(rt, again.path, again.log, &begun)?;
     }
-    let text1 = taken_up(rt, LevelId::One, text1, order.from1)?;
-    let text2 = taken_up(rt, LevelId::Two, text2, order.from2)?;
-    let one = Seat::new(alloc, LevelId::One, &text1);
-    let two = Seat::new(alloc, LevelId::Two, &text2);
-    let pack = mountable(alloc, pack)?;
-    let outputs = Outputs::open(rt, &order, locked)?;
-    operate_prepared(
-        rt,
-        &order,
-        pack,
-        Prepared {
-            begun,
-            one,
-            two,
-            rules: &rules,
-            logged: again.map(|again| again.log),
-        },
-        outputs,
-    )
+    let deck1 = taken_up(rt, LevelId::One, one, order.from1)?;
+    let deck2 = taken_up(rt, LevelId::Two, two, order.from2)?;
+    let one = Seat::new(rt.alloc(), LevelId::One, &deck1);
+    let two = Seat::new(rt.alloc(), LevelId::Two, &deck2);
+    let day = Prepared {
+        begun,
+        one,
+        two,
+        rules: &rules,
+        logged: again.map(|again| again.log),
+    };
+    operate_over(rt, order, pack, locked, day)
+}
+
+/// Does a day that is prepared over its pack, once the pack and all outputs are tried.
+fn operate_over<'n, 'a>(
+    rt: &'a HostRuntime,
+    order: &Order<'n>,
+    pack: Vec<u8>,
+    locked: Option<LockedPack>,
+    day: Prepared<'a>,
+) -> Result<u8, DayFault<'n>> {
+    let pack = mountable(rt.alloc(), pack)?;
+    let outputs = Outputs::open(rt, order, locked)?;
+    operate_prepared(rt, order, pack, day, outputs)
 }
 
 /// A pack that can be mounted, as it was given; any other is refused, before an output is emptied.

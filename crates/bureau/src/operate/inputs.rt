@@ -82,9 +82,40 @@ impl<'a> DeckFiles<'a> {
     }
 }
 
+/// The decks of a day, and the files that they were read from.
+#[derive(Drop)]
+pub struct Decks<'a> {
+    /// The deck of level 1.
+    pub one: DayDeck<'a>,
+    /// The deck of level 2.
+    pub two: DayDeck<'a>,
+    /// The files of level 1's deck.
+    pub files1: DeckFiles<'a>,
+    /// The files of level 2's deck.
+    pub files2: DeckFiles<'a>,
+}
+
+impl<'a> Decks<'a> {
+    /// The decks that the words name, with the digests of their files, if they are asked for.
+    pub fn read(
+        rt: &HostRuntime,
+        order: &Order<'a>,
+        is_logged: bool,
+    ) -> Result<Decks<'a>, DayFault<'a>> {
+        let (one, files1) = read_deck(rt, LevelId::One, &order.deck1, is_logged)?;
+        let (two, files2) = read_deck(rt, LevelId::Two, &order.deck2, is_logged)?;
+        Ok(Decks {
+            one,
+            two,
+            files1,
+            files2,
+        })
+    }
+}
+
 /// The deck of a level, of these files, and their digests, if they are asked for. A file of plain text is punched; what is wrong with
 /// it is told.
-pub fn read_deck<'a>(
+fn read_deck<'a>(
     rt: &HostRuntime,
     level: LevelId,
     paths: &[&'a str],

@@ -79,8 +79,33 @@ pub fn test_outputs<'a>(
     order: &Order<'a>,
     redo: Option<&'a str>,
 ) -> Result<(), DayFault<'a>> {
-    let alloc = rt.alloc();
-    let mut read = Vec::new(alloc);
+    let mut read = texts_read(rt, order, redo)?;
+    let mut written = Vec::new(rt.alloc());
+    if let Some(name) = order.save {
+        written.push(save_tested(rt, order, name, &read)?)?;
+    }
+    if let Some(name) = order.pack {
+        read.push(found(rt, name)?)?;
+    }
+    for name in [order.script, order.log, order.deck_out1, order.deck_out2] {
+        if let Some(name) = name {
+            let output = output_tested(rt, order, name, &read, &written)?;
+            written.push(output)?;
+        }
+    }
+    match order.paper {
+        Some(paper) => paper.test_free(rt, order.overwrites, &read, &written),
+        None => Ok(()),
+    }
+}
+
+/// What a day reads beside its pack.
+fn texts_read<'a>(
+    rt: &HostRuntime,
+    order: &Order<'a>,
+    redo: Option<&'a str>,
+) -> Result<Vec<Named<'a>>, DayFault<'a>> {
+    let mut read = Vec::new(rt.alloc());
     for name in order.deck1.iter().chain(order.deck2.iter()) {
         read.push(found(rt, *name)?)?;
     }
@@ -89,34 +114,39 @@ pub fn test_outputs<'a>(
             read.push(found(rt, name)?)?;
         }
     }
-    let mut written = Vec::new(alloc);
-    if let Some(name) = order.save {
-        let save = found(rt, name)?;
-        test_apart(&save, &read)?;
-        if !order.overwrites && save.target.is_there() && !is_pack(rt, order, &save)? {
-            return Err(DayFault::Exists(name));
-        }
-        written.push(save)?;
+    Ok(read)
+}
+
+/// Where the pack is saved: no text that is read, and nothing that is there but the pack itself, unless that is written over.
+fn save_tested<'a>(
+    rt: &HostRuntime,
+    order: &Order<'a>,
+    name: &'a str,
+    read: &[Named<'a>],
+) -> Result<Named<'a>, DayFault<'a>> {
+    let save = found(rt, name)?;
+    test_apart(&save, read)?;
+    if !order.overwrites && save.target.is_there() && !is_pack(rt, order, &save)? {
+        return Err(DayFault::Exists(name));
     }
-    if let Some(name) = order.pack {
-        read.push(found(rt, name)?)?;
+    Ok(save)
+}
+
+/// Where something else is written: nothing that is read, no other output, and nothing that is there, unless that is written over.
+fn output_tested<'a>(
+    rt: &HostRuntime,
+    order: &Order<'a>,
+    name: &'a str,
+    read: &[Named<'a>],
+    written: &[Named<'a>],
+) -> Result<Named<'a>, DayFault<'a>> {
+    let output = found(rt, name)?;
+    test_apart(&output, read)?;
+    test_apart(&output, written)?;
+    if !order.overwrites && output.target.is_there() {
+        return Err(DayFault::Exists(name));
     }
-    for name in [order.script, order.log, order.deck_out1, order.deck_out2] {
-        let Some(name) = name else {
-            continue;
-        };
-        let output = found(rt, name)?;
-        test_apart(&output, &read)?;
-        test_apart(&output, &written)?;
-        if !order.overwrites && output.target.is_there() {
-            return Err(DayFault::Exists(name));
-        }
-        written.push(output)?;
-    }
-    match order.paper {
-        Some(paper) => paper.test_free(rt, order.overwrites, &read, &written),
-        None => Ok(()),
-    }
+    Ok(output)
 }
 
 /// Whether the file that the pack is saved to is the one that it is read from.

@@ -20,8 +20,8 @@ fn cards_of(rt: &HostRuntime, text: &DeckText<'_>) -> Result<Option<Deck>, Alloc
     }
 }
 
-/// The deck of a day that is taken up at a line of a level; the whole deck where it can't be read. What jobs that are left out
-/// set for a kept one is told, and the day refused.
+/// The deck of a day that is taken up at a line of a level; the whole deck where it can't be read. It is refused where the deck has
+/// no such line, and as `taken_up_at` refuses it.
 pub fn taken_up<'a>(
     rt: &HostRuntime,
     level: LevelId,
@@ -41,14 +41,27 @@ pub fn taken_up<'a>(
         );
         return Err(DayFault::NoTakingUp);
     };
-    let Some(deck) = cards_of(rt, &text)? else {
-        return Ok(whole);
-    };
-    let jobs = jobs_of(alloc, &deck)?;
+    match cards_of(rt, &text)? {
+        Some(deck) => taken_up_at(rt, level, &text, &deck, card),
+        None => Ok(whole),
+    }
+}
+
+/// The deck of a level without the jobs before a card; refused where a job that is kept lacks what one of these set, which is told.
+fn taken_up_at<'a>(
+    rt: &HostRuntime,
+    level: LevelId,
+    text: &DeckText<'a>,
+    deck: &Deck,
+    card: usize,
+) -> Result<DayDeck<'a>, DayFault<'a>> {
+    let alloc = rt.alloc();
+    let jobs = jobs_of(alloc, deck)?;
     if let Some(lost) = lost_settings(&jobs, card) {
+        let number = level.number();
         let mut told = String::new(alloc);
         writeln!(told, "level {number}:")?;
-        push_inherited(&mut told, &text, &jobs, &lost)?;
+        push_inherited(&mut told, text, &jobs, &lost)?;
         let _ = rt.stderr().write_all(told.as_bytes());
         return Err(DayFault::NoTakingUp);
     }
