@@ -6,6 +6,7 @@ use s3_day_log::{
     NamedFile, Refused, Replier, checksum, line_of, utc_text,
 };
 use s3_operator::HaltCode;
+use std::process::Abort;
 use std::test::Fail;
 
 /// Two checksums.
@@ -157,20 +158,8 @@ fn lines_are_written(rt: HostRuntime) -> Result<(), Fail> {
     Ok(())
 }
 
-/// What is written of a day is read.
-#[test]
-fn a_log_is_read(rt: HostRuntime) -> Result<(), Fail> {
-    let text = whole_day(&rt)?;
-    let log = match DayLog::read(rt.alloc(), text.as_str()) {
-        Ok(log) => log,
-        Err(_fault) => panic!(rt; "the log isn't read"),
-    };
-    assert_eq!(rt; log.begun.words.len(), 2);
-    assert_eq!(rt; log.begun.words[1].as_str(), "day \"1\".job");
-    assert_eq!(rt; log.cut.len(), 1);
-    assert_eq!(rt; log.cut[0], LevelId::Two);
-    assert!(rt; log.is_stopped);
-    assert_eq!(rt; log.status, Some(4));
+/// The digits of the replies that a log has, by level and by how many were given before.
+fn assert_replies(rt: &impl Abort, log: &DayLog) {
     let rows = [
         (LevelId::One, 0, Some(3)),
         (LevelId::One, 1, Some(2)),
@@ -185,16 +174,35 @@ fn a_log_is_read(rt: HostRuntime) -> Result<(), Fail> {
         };
         assert_eq!(rt; digit, want);
     }
-    let mut given = Vec::new(rt.alloc());
-    assert_eq!(rt; log.test(Some(ONE), &given, &[]), Err(Refused::Deck(1, 1)));
-    given.push(text_of(&rt, OTHER)?)?;
-    assert_eq!(rt; log.test(Some(ONE), &given, &[]), Ok(()));
-    assert_eq!(rt; log.test(Some(OTHER), &given, &[]), Err(Refused::Pack));
-    assert_eq!(rt; log.test(None, &given, &[]), Err(Refused::Pack));
-    assert_eq!(rt;
-        log.test(Some(ONE), &given, &given),
-        Err(Refused::Deck(2, 1))
-    );
+}
+
+/// A day done again wants the pack and the files of the log, of which this is the one of level 1's deck.
+fn assert_wants_its_files(rt: &impl Abort, log: &DayLog, deck1: &[String]) {
+    assert_eq!(rt; log.test(Some(ONE), &[], &[]), Err(Refused::Deck(1, 1)));
+    assert_eq!(rt; log.test(Some(ONE), deck1, &[]), Ok(()));
+    assert_eq!(rt; log.test(Some(OTHER), deck1, &[]), Err(Refused::Pack));
+    assert_eq!(rt; log.test(None, deck1, &[]), Err(Refused::Pack));
+    assert_eq!(rt; log.test(Some(ONE), deck1, deck1), Err(Refused::Deck(2, 1)));
+}
+
+/// What is written of a day is read.
+#[test]
+fn a_log_is_read(rt: HostRuntime) -> Result<(), Fail> {
+    let text = whole_day(&rt)?;
+    let log = match DayLog::read(rt.alloc(), text.as_str()) {
+        Ok(log) => log,
+        Err(_fault) => panic!(rt; "the log isn't read"),
+    };
+    assert_eq!(rt; log.begun.words.len(), 2);
+    assert_eq!(rt; log.begun.words[1].as_str(), "day \"1\".job");
+    assert_eq!(rt; log.cut.len(), 1);
+    assert_eq!(rt; log.cut[0], LevelId::Two);
+    assert!(rt; log.is_stopped);
+    assert_eq!(rt; log.status, Some(4));
+    assert_replies(&rt, &log);
+    let mut deck1 = Vec::new(rt.alloc());
+    deck1.push(text_of(&rt, OTHER)?)?;
+    assert_wants_its_files(&rt, &log, &deck1);
     Ok(())
 }
 

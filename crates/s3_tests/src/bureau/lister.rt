@@ -1,6 +1,6 @@
 //! The card lister's eight turns.
 
-use crate::fixtures::bureaus::{TURN_ONE, opened};
+use crate::fixtures::bureaus::{TURN_ONE, finish, opened, step};
 use crate::fixtures::decks::LISTER;
 use crate::fixtures::packs::small_store;
 use s3_bureau::{Bureau, Did, Refusal, RefusedStore, Stop};
@@ -18,11 +18,11 @@ const TURNS: u8 = 8;
 fn lister_ends(rt: HostRuntime) -> Result<(), Fail> {
     let mut bureau = opened(&rt, rt.alloc(), LISTER)?;
     for _turn in 0..TURNS {
-        assert_eq!(rt; bureau.step(TURN_ONE), Ok(Did::Acted));
+        assert_eq!(rt; step(&mut bureau, TURN_ONE), Ok(Did::Acted));
     }
-    assert_eq!(rt; bureau.finish(), Ok(()));
+    assert_eq!(rt; finish(&mut bureau), Ok(()));
     assert_has_listed(&rt, &bureau);
-    assert_eq!(rt; bureau.finish(), Err(Stop::Stopped));
+    assert_eq!(rt; finish(&mut bureau), Err(Stop::Stopped));
     let _store = bureau.into_store();
     Ok(())
 }
@@ -59,22 +59,22 @@ fn lister_ends_or_stays_stopped(rt: HostRuntime) -> Result<(), Fail> {
 /// Takes the lister's turns up to its end, or up to the growth that is refused.
 fn assert_ends_or_stays_stopped(rt: &impl Abort, bureau: &mut Bureau<MemoryStore>) {
     for _turn in 0..TURNS {
-        match bureau.step(TURN_ONE) {
+        match step(bureau, TURN_ONE) {
             Ok(did) => assert_eq!(rt; did, Did::Acted),
             Err(stop) => {
                 assert_eq!(rt; stop, Stop::NoMemory);
-                assert_eq!(rt; bureau.step(TURN_ONE), Err(Stop::Stopped));
-                assert_eq!(rt; bureau.finish(), Err(Stop::Stopped));
-                assert_eq!(rt; bureau.step(TURN_ONE), Err(Stop::Stopped));
+                assert_eq!(rt; step(bureau, TURN_ONE), Err(Stop::Stopped));
+                assert_eq!(rt; finish(bureau), Err(Stop::Stopped));
+                assert_eq!(rt; step(bureau, TURN_ONE), Err(Stop::Stopped));
                 return;
             }
         }
     }
-    match bureau.finish() {
+    match finish(bureau) {
         Ok(()) => assert_has_listed(rt, bureau),
         Err(stop) => assert_eq!(rt; stop, Stop::NoMemory),
     }
-    assert_eq!(rt; bureau.finish(), Err(Stop::Stopped));
+    assert_eq!(rt; finish(bureau), Err(Stop::Stopped));
 }
 
 /// The lister has both lines and no halt.

@@ -1,6 +1,7 @@
 //! Sessions, and one run of them over a store with a fuse.
 
 use crate::bureau::packs::Taken;
+use crate::fixtures::bureaus::{finish, step};
 use s3_bureau::{Bureau, Entry, Refusal, RefusedStore, Stop};
 use s3_cards::{Deck, DeckFault, LevelId, PrintLine, host_byte};
 use s3_store::{FuseStore, MemoryStore, SectorFault};
@@ -130,13 +131,13 @@ fn drained(rt: &impl Abort, session: &Session, bureau: &Bureau<Store>) -> [usize
 /// Each call answers that the bureau is stopped, and no line comes.
 fn assert_stays_stopped(rt: &impl Abort, session: &Session, bureau: &mut Bureau<Store>) {
     let before = drained(rt, session, bureau);
-    assert_eq!(rt; bureau.finish(), Err(Stop::Stopped));
+    assert_eq!(rt; finish(bureau), Err(Stop::Stopped));
     for _round in 0..session.rounds {
         for entry in session.round {
-            assert_eq!(rt; bureau.step(*entry), Err(Stop::Stopped));
+            assert_eq!(rt; step(bureau, *entry), Err(Stop::Stopped));
         }
     }
-    assert_eq!(rt; bureau.finish(), Err(Stop::Stopped));
+    assert_eq!(rt; finish(bureau), Err(Stop::Stopped));
     assert_eq!(rt; drained(rt, session, bureau), before);
 }
 
@@ -149,7 +150,7 @@ fn steps(
     cause: Stop,
 ) -> bool {
     let before = drained(rt, session, bureau);
-    match bureau.step(entry) {
+    match step(bureau, entry) {
         Ok(_) => true,
         Err(stop) => {
             assert_eq!(rt; stop, cause);
@@ -180,8 +181,13 @@ fn play(
 }
 
 /// Closes both levels. Where nothing fails, each has the lines wanted and no halt.
-fn finish(rt: &impl Abort, session: &Session, bureau: &mut Bureau<Store>, cause: Stop) -> End {
-    let end = match bureau.finish() {
+fn assert_finishes(
+    rt: &impl Abort,
+    session: &Session,
+    bureau: &mut Bureau<Store>,
+    cause: Stop,
+) -> End {
+    let end = match finish(bureau) {
         Ok(()) => {
             for level in LEVELS {
                 let count = session.part(level).lines.len();
@@ -226,7 +232,7 @@ pub fn run_over(
     };
     let (mut end, taken) = play(rt, session, &mut bureau, cause.stop());
     if end == End::Whole {
-        end = finish(rt, session, &mut bureau, cause.stop());
+        end = assert_finishes(rt, session, &mut bureau, cause.stop());
     }
     let bytes = bureau.into_store().into_inner().into_bytes();
     Run { end, taken, bytes }

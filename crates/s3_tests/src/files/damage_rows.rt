@@ -3,11 +3,10 @@
 ghost use Rattle.std.specs.Prelude.{◌≡◌, ◌≤◌, ◌<◌, IfOk, length};
 ghost use Rattle.s3_labels.specs.Inner.Areas.{IsReady};
 
-use crate::fixtures::files::{
-    A, B, C, INDEX, Label, RECORDS, blank_store, label_of, new_file, record,
-};
+use crate::fixtures::by_key::{add, close, find, nth, opened};
+use crate::fixtures::files::{A, B, C, INDEX, Label, RECORDS, blank_store, new_file};
 use s3_cards::{LevelId, Name, Retention};
-use s3_keyed::{Keyed, KeyedFault};
+use s3_keyed::KeyedFault;
 use s3_labels::{LabelFault, MountFault, Organization, Pack, Refusal, Refused, Size};
 use s3_store::{MemoryStore, SectorFault, Sectors};
 use std::alloc::Global;
@@ -112,22 +111,22 @@ fn write_pack(store: &mut MemoryStore, sector: u16, at: usize, value: u8) -> Res
 #[derive(Clone, Copy)]
 struct Wanted {
     value: u8,
-    data: &'static [u8],
-    b: &'static [u8],
-    room: &'static [u8],
+    of_data: &'static [u8],
+    of_b: &'static [u8],
+    of_room: &'static [u8],
 }
 
 /// Sets each byte of a sector, from its first on, and compares the letters.
 fn assert_letters(rt: &impl Abort, alloc: Global, sector: u16, wanted: &Wanted) -> Result<(), Fail>
     requires sector { sector < 432 }
-    requires within { length wanted.now.data.now ≤ 256 }
+    requires within { length wanted.now.of_data.now ≤ 256 }
 {
     let mut store = blank_store(alloc)?;
     for (at, ((data, b), room)) in wanted
-        .data
+        .of_data
         .iter()
-        .zip(wanted.b)
-        .zip(wanted.room)
+        .zip(wanted.of_b)
+        .zip(wanted.of_room)
         .enumerate()
     {
         assert!(rt; store.sector_count() >= 432);
@@ -143,15 +142,15 @@ fn assert_letters(rt: &impl Abort, alloc: Global, sector: u16, wanted: &Wanted) 
 fn each_byte_of_a_header(rt: HostRuntime) -> Result<(), Fail> {
     let with_00 = Wanted {
         value: 0x00,
-        data: b"1111111122S2SSS2SD22SS11SS",
-        b: b"1111111122S2SSS2SD22SS11SS",
-        room: b"1111111122F2FFF2FF22FF11FF",
+        of_data: b"1111111122S2SSS2SD22SS11SS",
+        of_b: b"1111111122S2SSS2SD22SS11SS",
+        of_room: b"1111111122F2FFF2FF22FF11FF",
     };
     let with_ff = Wanted {
         value: 0xff,
-        data: b"111111113322222222222211SS",
-        b: b"111111113322222222222211SS",
-        room: b"111111113322222222222211FF",
+        of_data: b"111111113322222222222211SS",
+        of_b: b"111111113322222222222211SS",
+        of_room: b"111111113322222222222211FF",
     };
     assert_letters(&rt, rt.alloc(), 0, &with_00)?;
     assert_letters(&rt, rt.alloc(), 0, &with_ff)
@@ -161,20 +160,20 @@ fn each_byte_of_a_header(rt: HostRuntime) -> Result<(), Fail> {
 fn each_byte_of_a_label(rt: HostRuntime) -> Result<(), Fail> {
     let with_00 = Wanted {
         value: 0x00,
-        data: b"NNNNNNNNNDDSDDSDSDSDSSSDSSSSSSSSSSSDSDSSSSSSSSSSSSSSSSSSSSSSSSSS\
+        of_data: b"NNNNNNNNNDDSDDSDSDSDSSSDSSSSSSSSSSSDSDSSSSSSSSSSSSSSSSSSSSSSSSSS\
 SSSSSSSSSSSSSSSSSSSSSSSSSSSSSSSSSSSSSSSSSSSSSSSSSSSSSSSSSSSSSSSS",
-        b: b"SSSSSSSSSSSSSSSSSSSSSSSSSSSSSSSSSSSSSSSSSSSSSSSSSSSSSSSSSSSSSSSS\
+        of_b: b"SSSSSSSSSSSSSSSSSSSSSSSSSSSSSSSSSSSSSSSSSSSSSSSSSSSSSSSSSSSSSSSS\
 NNNNNNNNNDDSDSSSSDSDSSSDSSSSSSSSSSSSSSSSSSSSSSSSSSSSSSSSSSSSSSSS",
-        room: b"RRRRRRRRRRRFRRFRFRFRFFFRFFFFFFFFFFFRFRFFFFFFFFFFFFFFFFFFFFFFFFFF\
+        of_room: b"RRRRRRRRRRRFRRFRFRFRFFFRFFFFFFFFFFFRFRFFFFFFFFFFFFFFFFFFFFFFFFFF\
 RRRRRRRRRRRFRFFFFRFRFFFRFFFFFFFFFFFFFFFFFFFFFFFFFFFFFFFFFFFFFFFF",
     };
     let with_ff = Wanted {
         value: 0xff,
-        data: b"DNNNNNNNNDDDSDDDDDDDDDDSDDDDSSSSSSDDDDDDDDDDDDSSSSSSSSSSSSSSSSSS\
+        of_data: b"DNNNNNNNNDDDSDDDDDDDDDDSDDDDSSSSSSDDDDDDDDDDDDSSSSSSSSSSSSSSSSSS\
 SSSSSSSSSSSSSSSSSSSSSSSSSSSSSSSSSSSSSSSSSSSSSSSSSSSSSSSSSSSSSSSS",
-        b: b"SSSSSSSSSSSSSSSSSSSSSSSSSSSSSSSSSSSSSSSSSSSSSSSSSSSSSSSSSSSSSSSS\
+        of_b: b"SSSSSSSSSSSSSSSSSSSSSSSSSSSSSSSSSSSSSSSSSSSSSSSSSSSSSSSSSSSSSSSS\
 DNNNNNNNNDDDSDDDDDDDDDDSDDDDSSSSSSDDDDDDDDDDDDSSSSSSSSSSSSSSSSSS",
-        room: b"RRRRRRRRRRRRFRRRRRRRRRRFRRRRFFFFFFRRRRRRRRRRRRFFFFFFFFFFFFFFFFFF\
+        of_room: b"RRRRRRRRRRRRFRRRRRRRRRRFRRRRFFFFFFRRRRRRRRRRRRFFFFFFFFFFFFFFFFFF\
 RRRRRRRRRRRRFRRRRRRRRRRFRRRRFFFFFFRRRRRRRRRRRRFFFFFFFFFFFFFFFFFF",
     };
     assert_letters(&rt, rt.alloc(), LABELS, &with_00)?;
@@ -186,12 +185,11 @@ fn c_a_and_b(alloc: Global) -> Result<MemoryStore, Fail>
     ensures { IfOk result (λ store. length store ≡ 432) }
 {
     let mut store = blank_store(alloc)?;
-    let none = label_of(Organization::Indexed, 4, 0);
-    let mut file = Keyed::check(alloc, &mut store, &none)?;
-    file.add(&mut store, &record(C))?;
-    file.add(&mut store, &record(A))?;
-    file.add(&mut store, &record(B))?;
-    file.close(&mut store)?;
+    let mut file = opened(alloc, &mut store, 4, 0)?;
+    add(&mut file, &mut store, C)?;
+    add(&mut file, &mut store, A)?;
+    add(&mut file, &mut store, B)?;
+    close(file, &mut store)?;
     Ok(store)
 }
 
@@ -199,19 +197,22 @@ fn c_a_and_b(alloc: Global) -> Result<MemoryStore, Fail>
 fn index_letter(alloc: Global, store: &mut MemoryStore) -> u8
     requires { 432 ≤ length store.old }
 {
-    let file = match Keyed::check(alloc, store, &label_of(Organization::Indexed, 4, 3)) {
+    let file = match opened(alloc, store, 4, 3) {
         Ok(file) => file,
         Err(KeyedFault::BadIndex) => return b'B',
         Err(_) => return b'?',
     };
-    let a = file.find(store, &[A]);
-    let b = file.find(store, &[B]);
-    let c = file.find(store, &[C]);
-    let first = file.nth_by_key(store, 0);
-    let last = file.nth_by_key(store, 2);
-    match (a, b, c, first, last) {
-        (Ok(1), Ok(2), Ok(0), Ok(1), Ok(0)) => b'G',
-        _ => b'?',
+    let found = [
+        find(&file, store, A),
+        find(&file, store, B),
+        find(&file, store, C),
+        nth(&file, store, 0),
+        nth(&file, store, 2),
+    ];
+    if found == [Ok(1), Ok(2), Ok(0), Ok(1), Ok(0)] {
+        b'G'
+    } else {
+        b'?'
     }
 }
 
