@@ -5,9 +5,8 @@
 //!   store that fails at each call in turn; each byte of a header, of a label and of an index spoilt.
 //! - `job_files`: the requests and the ends of jobs over packs.
 //! - `openings`: the start of jobs' files over packs.
-//! - `cycle`: programs with files, request by request (matching records, each request to a file with each answer and refusal,
-//!   CHAIN, updates, several files in one selection); and the forms that calculations, fields of records and cards of output
-//!   lines get, what comes behind a calculation, and the guards of output lines, which no contract asks for.
+//! - `cycle`: the forms that calculations, fields of records and cards of output lines get, what comes behind a calculation, and
+//!   the guards of output lines, which no contract asks for and no session shows. Programs with files are worked rows.
 //! - `bureau`: three whole sessions over a store that fails at each call in turn, and where memory runs out; the card lister's
 //!   turns; turns that are taken many at once; and a level by itself.
 //! - `sessions`: a session whose reader or writer fails at each call in turn, or gives and takes a byte a call.

@@ -1,7 +1,6 @@
-//! Sources, punched from pieces, and the codes of records.
+//! Sources, punched from pieces, and lists of texts.
 
-use s3_cards::ebcdic::BLANK;
-use s3_cards::{Deck, code_of_byte, host_byte};
+use s3_cards::Deck;
 use s3_compile::{Program, compile};
 use s3_sheets::read_sheets;
 use std::alloc::{AllocError, Global};
@@ -46,28 +45,6 @@ pub fn program_of(alloc: Global, source: &[&str]) -> Result<Program, Fail> {
     let deck = Deck::read(alloc, &cards)?;
     let lines = read_sheets(alloc, &deck, 0, deck.len())?;
     Ok(compile(alloc, &lines, 0)?)
-}
-
-/// The codes of a text, with blanks behind it; those of `blank` are blanks.
-pub fn codes_of<const N: usize>(text: &str) -> [u8; N] {
-    let mut codes = [BLANK; N];
-    if text == "blank" {
-        return codes;
-    }
-    for (code, byte) in codes.iter_mut().zip(text.bytes()) {
-        *code = code_of_byte(byte).unwrap_or(BLANK);
-    }
-    codes
-}
-
-/// Adds what codes show, without the blanks behind them, to a list of texts; `blank` where they show nothing.
-pub fn list_codes(list: &mut String, alloc: Global, codes: &[u8]) -> Result<(), AllocError> {
-    let mut text = String::new(alloc);
-    for code in codes {
-        text.push(char::from(host_byte(*code)))?;
-    }
-    let shown = text.trim_end();
-    list_text(list, if shown.is_empty() { "blank" } else { shown })
 }
 
 /// Adds a text to a list of texts.
