@@ -1,2 +1,1 @@
 mod OneTrack
-mod Opening

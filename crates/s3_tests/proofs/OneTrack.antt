@@ -1,11 +1,8 @@
--- A file over one run of 24 sectors, and a store of zeros.
-use Rattle.std.proofs.Common.{◌≡◌, ℕ, ◌+◌, ◌/◌, ◌<◌, ◌≤◌, List, [], ◌∷◌, length, take, sym, ap, subst, ◌∙◌, arith}
+-- A file over one run of 24 sectors.
+use Rattle.std.proofs.Common.{◌≡◌, ℕ, ◌+◌, ◌<◌, ◌≤◌, List, [], ◌∷◌, length, sym, ap, subst, ◌∙◌, arith}
 use Rattle.std.proofs.lemmas.List.Elements.{All-append}
 use Rattle.std.proofs.lemmas.List.FromFn.{length-range_with_len, get_or-range_with_len}
 use Rattle.std.specs.List.{All, range_with_len}
-use Rattle.std.proofs.lemmas.List.{length-take}
-use Rattle.s3_store.specs.Contents.{sectors_of as sectors_of_bytes}
-use Rattle.s3_store.proofs.Chunks.{length-first_chunks}
 use Rattle.s3_store.specs.Stretches.{sectors_in}
 use Rattle.s3_store.specs.declared.stretch.Stretch.{Stretch}
 use Rattle.s3_slots.specs.Labels.{sectors_of}
@@ -55,9 +52,3 @@ track_index label at long few key start =
 pub track_stored : (label : FileLabel) (contents : List (List ℕ)) → label.extents ≡ track → 432 ≤ length contents → AreStored (sectors_of label) contents
 unfolding sectors_of
 track_stored label contents at few = subst (λ es. AreStored (sectors_in es) contents) (sym at) (sectors_below (length contents) few)
-
-pub store_length : (bytes : List ℕ) (store : List (List ℕ)) → store ≡ take 65535 (sectors_of_bytes bytes) → length bytes ≡ 110592 → length store ≡ 432
-store_length bytes store at long =
-    let n : length bytes / 256 ≡ 432 = ap (λ n. n / 256) long in
-    let count : length store ≡ length (take 65535 (sectors_of_bytes bytes)) = ap length at in
-    omega (arith, n, count, length-take 65535 (sectors_of_bytes bytes), length-first_chunks (length bytes / 256) bytes)

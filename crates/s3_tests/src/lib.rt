@@ -1,12 +1,10 @@
-//! Tests that cross crates, by what they call.
+//! Tests that cross crates, by what they call. What a session on the built program shows is tested there, by the worked rows of
+//! the folder `rows/`: packs, files and their damage, the start and the end of jobs.
 //!
-//! - `rows`: tables of arithmetic, editing, stores, the pool, new packs, and queues of lines.
-//! - `files`: records in order, by number and by key; the bytes of an index; a run that makes, loads, adds and closes over a
-//!   store that fails at each call in turn; each byte of a header, of a label and of an index spoilt.
-//! - `job_files`: the requests and the ends of jobs over packs.
-//! - `openings`: the start of jobs' files over packs.
+//! - `rows`: tables of arithmetic and of editing, the stores and the pool.
+//! - `files`: a run that makes a file by key, loads it, adds to it and closes it, over a store that fails at each call in turn.
 //! - `cycle`: the forms that calculations, fields of records and cards of output lines get, what comes behind a calculation, and
-//!   the guards of output lines, which no contract asks for and no session shows. Programs with files are worked rows.
+//!   the guards of output lines, which no contract asks for and no session shows.
 //! - `bureau`: three whole sessions over a store that fails at each call in turn, and where memory runs out; the card lister's
 //!   turns; turns that are taken many at once; and a level by itself.
 //! - `sessions`: a session whose reader or writer fails at each call in turn, or gives and takes a byte a call.
@@ -23,10 +21,6 @@ mod cycle;
 mod files;
 #[cfg(test)]
 mod fixtures;
-#[cfg(test)]
-mod job_files;
-#[cfg(test)]
-mod openings;
 #[cfg(test)]
 mod rows;
 #[cfg(test)]

@@ -1,12 +1,13 @@
 //! A run that makes, loads, adds and closes, over a store that fails at each of its calls in turn.
 ghost use Rattle.s3_labels.specs.Inner.Areas.{IsReady};
 
-use crate::fixtures::files::{A, B, C, D, Label, RECORDS, label_of, new_file, record};
+use crate::files::one_file::{TRACK, label, new_file, record};
 use crate::fixtures::packs::new_pack;
-use s3_cards::{LevelId, Retention};
+use s3_cards::LevelId;
+use s3_cards::ebcdic::{LETTER_A, LETTER_B, LETTER_C, LETTER_D};
 use s3_keyed::{Keyed, KeyedFault};
-use s3_labels::{ChangeFault, Organization, Pack, Refusal, RefusedStore, Size};
-use s3_store::{FuseStore, MemoryStore, SectorFault, Sectors, Stretch};
+use s3_labels::{ChangeFault, Pack, Refusal, RefusedStore};
+use s3_store::{FuseStore, MemoryStore, SectorFault, Sectors};
 use std::alloc::Global;
 use std::test::Fail;
 use thiserror::Error;
@@ -39,15 +40,14 @@ fn is_device(fault: RunFault) -> bool {
 
 /// Loads two records, and adds one before them and one between them.
 fn fill<P: Sectors>(alloc: Global, pool: &mut P) -> Result<(), KeyedFault> {
-    let label = label_of(Organization::Indexed, 10, 0);
     if pool.sector_count() < 432 {
         return Ok(());
     }
-    let mut file = Keyed::check(alloc, pool, &label)?;
-    file.load(pool, &record(B))?;
-    file.load(pool, &record(D))?;
-    file.add(pool, &record(C))?;
-    file.add(pool, &record(A))?;
+    let mut file = Keyed::check(alloc, pool, &label())?;
+    file.load(pool, &record(LETTER_B))?;
+    file.load(pool, &record(LETTER_D))?;
+    file.add(pool, &record(LETTER_C))?;
+    file.add(pool, &record(LETTER_A))?;
     file.close(pool)
 }
 
@@ -55,22 +55,11 @@ fn fill<P: Sectors>(alloc: Global, pool: &mut P) -> Result<(), KeyedFault> {
 fn make_and_fill<P: Sectors>(alloc: Global, pack: &mut Pack<P>) -> Result<(), RunFault>
     requires { IsReady pack.old.areas (P.state pack.old.pool).contents }
 {
-    let size = Size::Records(10);
-    let new = new_file(
-        Label::LetterA,
-        Organization::Indexed,
-        Retention::Temporary,
-        size,
-    );
-    let made = match pack.make(LevelId::One, &new) {
-        Ok(label) => label,
+    let made = match pack.make(LevelId::One, &new_file()) {
+        Ok(made) => made,
         Err(fault) => return Err(RunFault::Make(fault)),
     };
-    let place = Stretch {
-        start: RECORDS,
-        sectors: 24,
-    };
-    if made.extents.as_slice() != [place].as_slice() {
+    if made.extents.as_slice() != [TRACK].as_slice() {
         return Err(RunFault::Elsewhere);
     }
     match fill(alloc, &mut pack.pool) {

@@ -1,8 +1,4 @@
-//! Tests that call files: records in order, by number and by key, a run over a store
-//! that fails once, and each byte of a header, a label and an index spoilt.
+//! Tests that call a file by key: a run that makes, loads, adds and closes, over a store that fails once.
 
-mod damage_rows;
 mod fuse_rows;
-mod keyed_rows;
-mod pack_rows;
-mod record_rows;
+mod one_file;

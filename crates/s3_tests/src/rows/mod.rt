@@ -2,6 +2,5 @@
 
 mod decimal_rows;
 mod edit_rows;
-mod pack_rows;
 mod pool_rows;
 mod store_rows;

@@ -66,15 +66,6 @@ fn write_first<S: PackStore>(pool: &mut Pool<S>, count: u8) -> Result<(), PoolFa
     Ok(())
 }
 
-/// Reads the first bytes of sectors 100 to 116.
-fn read_all<S: PackStore>(pool: &mut Pool<S>) -> Result<[u8; 17], PoolFault> {
-    let mut firsts = [0; 17];
-    for i in 0..COUNT {
-        firsts[usize::from(i)] = first_byte(pool, FIRST + u16::from(i))?;
-    }
-    Ok(firsts)
-}
-
 #[test]
 fn the_seventeenth_sector_sends_the_first_one_to_the_store(rt: HostRuntime) -> Result<(), Fail> {
     let mut pool = Pool::new(rt.alloc(), blank_store(rt.alloc())?).map_err(|_| "memory")?;
@@ -86,22 +77,6 @@ fn the_seventeenth_sector_sends_the_first_one_to_the_store(rt: HostRuntime) -> R
         [1, 0, 0, 0, 0, 0, 0, 0, 0, 0, 0, 0, 0, 0, 0, 0, 0]
     );
     assert_eq!(rt; bytes.len(), SECTORS * 256);
-    Ok(())
-}
-
-#[test]
-fn all_are_read_back_and_flushed(rt: HostRuntime) -> Result<(), Fail> {
-    let mut pool = Pool::new(rt.alloc(), blank_store(rt.alloc())?).map_err(|_| "memory")?;
-    let written = write_first(&mut pool, COUNT);
-    let read = read_all(&mut pool);
-    let flushed = pool.flush();
-    let read_again = read_all(&mut pool);
-    let bytes = pool.into_store().into_bytes();
-    assert_eq!(rt; written, Ok(()));
-    assert_eq!(rt; read, Ok(WRITTEN));
-    assert_eq!(rt; flushed, Ok(()));
-    assert_eq!(rt; read_again, Ok(WRITTEN));
-    assert_eq!(rt; first_bytes(&bytes), WRITTEN);
     Ok(())
 }
 

@@ -1,17 +1,12 @@
-//! Rows of the stores, and of sectors over a store and over a pool.
+//! Rows of the stores.
 
-use s3_pool::Pool;
-use s3_store::{FuseStore, MemoryStore, PackStore, SectorFault, Sectors, StoreFault};
+use s3_store::{FuseStore, MemoryStore, PackStore, StoreFault};
 use std::alloc::{AllocError, Global};
 use std::test::Fail;
 
-/// A store of so many bytes, of which byte i has the low eight bits of i / 256.
-fn numbered(alloc: Global, len: usize) -> Result<MemoryStore, AllocError> {
-    let mut bytes = vec![in alloc; 0u8; len]?;
-    for (i, byte) in bytes.iter_mut().enumerate() {
-        *byte = (i / 256 % 256) as u8;
-    }
-    Ok(MemoryStore::from_bytes(bytes))
+/// A store of so many bytes.
+fn store_of(alloc: Global, len: usize) -> Result<MemoryStore, AllocError> {
+    Ok(MemoryStore::from_bytes(vec![in alloc; 0u8; len]?))
 }
 
 #[test]
@@ -24,29 +19,11 @@ fn whole_sectors_alone_are_kept(rt: HostRuntime) -> Result<(), Fail> {
         (65_535 * 256 + 255, 65_535),
         (65_536 * 256, 65_535),
     ] {
-        let store = numbered(rt.alloc(), len)?;
+        let store = store_of(rt.alloc(), len)?;
         assert_eq!(rt; store.sectors(), sectors, "of {len} bytes");
         let bytes = store.into_bytes();
         assert_eq!(rt; bytes.len(), usize::from(sectors) * 256, "of {len} bytes");
     }
-    Ok(())
-}
-
-#[test]
-fn a_sector_is_read_and_set(rt: HostRuntime) -> Result<(), Fail> {
-    let mut store = numbered(rt.alloc(), 1_000)?;
-    assert_eq!(rt; store.sectors(), 3);
-    let mut bytes = [9; 256];
-    assert_eq!(rt; store.read(1, &mut bytes), Ok(()));
-    assert_eq!(rt; bytes, [1; 256]);
-    assert_eq!(rt; store.write(2, &[7; 256]), Ok(()));
-    let kept = store.into_bytes();
-    assert_eq!(rt;
-        &kept[..],
-        [[0; 256], [1; 256], [7; 256]]
-            .concat(rt.alloc())?
-            .as_slice()
-    );
     Ok(())
 }
 
@@ -64,7 +41,7 @@ fn call_store<S: PackStore>(store: &mut S, call: u64) -> Result<(), StoreFault> 
 
 /// The numbers of those of 20 calls that a fuse set to `k` fails at.
 fn failing_calls(alloc: Global, k: u64) -> Result<Vec<u64>, Fail> {
-    let mut store = FuseStore::new(numbered(alloc, 256)?, k);
+    let mut store = FuseStore::new(store_of(alloc, 256)?, k);
     let mut failed = Vec::new(alloc);
     for call in 1..21u64 {
         if call_store(&mut store, call) == Err(StoreFault) {
@@ -81,27 +58,5 @@ fn a_fuse_fails_at_its_call_alone(rt: HostRuntime) -> Result<(), Fail> {
     for k in 1..21u64 {
         assert_eq!(rt; failing_calls(rt.alloc(), k)?.as_slice(), [k].as_slice());
     }
-    Ok(())
-}
-
-/// Copies sector 1 to sector 2, through the trait.
-fn copy_sector<P: Sectors>(sectors: &mut P) -> Result<[u8; 256], SectorFault> {
-    let mut bytes = [0; 256];
-    if sectors.sector_count() > 2 {
-        sectors.read_sector(1, &mut bytes)?;
-        sectors.write_sector(2, &bytes)?;
-        sectors.read_sector(2, &mut bytes)?;
-    }
-    Ok(bytes)
-}
-
-#[test]
-fn sectors_over_a_store_and_over_a_pool(rt: HostRuntime) -> Result<(), Fail> {
-    let mut store = numbered(rt.alloc(), 1_000)?;
-    assert_eq!(rt; copy_sector(&mut store), Ok([1; 256]));
-    let mut pool = Pool::new(rt.alloc(), numbered(rt.alloc(), 1_000)?).map_err(|_| "memory")?;
-    let copied = copy_sector(&mut pool);
-    let _store = pool.into_store();
-    assert_eq!(rt; copied, Ok([1; 256]));
     Ok(())
 }
