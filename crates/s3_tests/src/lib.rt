@@ -6,7 +6,7 @@
 //! - `cycle`: the forms that calculations, fields of records and cards of output lines get, what comes behind a calculation, and
 //!   the guards of output lines, which no contract asks for and no session shows.
 //! - `bureau`: three whole sessions over a store that fails at each call in turn, and where memory runs out; the card lister's
-//!   turns; turns that are taken many at once; and a level by itself.
+//!   turns; and a level by itself.
 //! - `sessions`: a session whose reader or writer fails at each call in turn, or gives and takes a byte a call.
 //!
 //! `fixtures` has what tests of several of them begin with.

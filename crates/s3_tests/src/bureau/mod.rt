@@ -3,7 +3,6 @@
 
 mod decks;
 mod fuse_rows;
-mod jumps;
 mod levels;
 mod lister;
 mod memory_rows;

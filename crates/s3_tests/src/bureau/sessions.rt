@@ -98,7 +98,7 @@ impl Cause {
 const LEVELS: [LevelId; 2] = [LevelId::One, LevelId::Two];
 
 /// Whether a line has this text, and blanks behind it.
-pub fn has_text(line: &PrintLine, text: &[u8]) -> bool {
+fn has_text(line: &PrintLine, text: &[u8]) -> bool {
     let printed = line.text();
     text.len() <= printed.len()
         && printed.iter().enumerate().all(|(at, code)| host_byte(*code)
