@@ -1,4 +1,4 @@
-use Rattle.std.proofs.Common.{refl, arith, ◌≤◌}
+use Rattle.std.proofs.Common.{refl, arith}
 use Rattle.s3_tests.proofs.OneTrack.{track_room, track_index, track_stored}
 use Rattle.s3_tests.proofs.files.one_file.label.Goals as goal
 
