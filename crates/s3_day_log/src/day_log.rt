@@ -1,7 +1,7 @@
 //! A log that is read, so that its day can be done again.
 
-use crate::event::{Begun, Event, LoggedReply, NamedFile, Record};
-use jiff::Timestamp;
+use crate::event::{Begun, Event, LoggedReply, NamedFile};
+use crate::reading::event_of;
 use s3_cards::LevelId;
 use s3_operator::allowed;
 use std::alloc::{AllocError, AllocFailed, Global};
@@ -28,14 +28,8 @@ impl From<AllocError> for LogFault {
     }
 }
 
-impl From<AllocFailed<LoggedReply>> for LogFault {
-    fn from(_: AllocFailed<LoggedReply>) -> LogFault {
-        LogFault::NoMemory
-    }
-}
-
-impl From<AllocFailed<LevelId>> for LogFault {
-    fn from(_: AllocFailed<LevelId>) -> LogFault {
+impl<T: Drop> From<AllocFailed<T>> for LogFault {
+    fn from(_: AllocFailed<T>) -> LogFault {
         LogFault::NoMemory
     }
 }
@@ -159,15 +153,6 @@ fn test_deck(logged: &[NamedFile], given: &[String], level: u8) -> Result<(), Re
         return Err(Refused::Deck(level, logged.len() + 1));
     }
     Ok(())
-}
-
-/// The event of a line; refused where it is none, or has no time.
-fn event_of(alloc: Global, line: &str, number: usize) -> Result<Event, LogFault> {
-    match serde_json::from_str::<Record>(alloc, line) {
-        Ok(record) if record.at.as_str().parse::<Timestamp>().is_ok() => Ok(record.event),
-        Err(fault) if fault.is_memory() => Err(LogFault::NoMemory),
-        _ => Err(LogFault::Line(number)),
-    }
 }
 
 /// Whether the checksums of a day's files are such.

@@ -2,11 +2,9 @@
 
 use s3_cards::LevelId;
 use s3_operator::HaltCode;
-use serde::{Deserialize, Serialize};
-use std::alloc::{AllocError, Global};
 
 /// A file as it was read or saved.
-#[derive(Drop, Serialize, Deserialize)]
+#[derive(Drop)]
 pub struct NamedFile {
     /// Its name, as it was given.
     pub name: String,
@@ -15,12 +13,11 @@ pub struct NamedFile {
 }
 
 /// What a day was begun with.
-#[derive(Drop, Serialize, Deserialize)]
+#[derive(Drop)]
 pub struct Begun {
     /// Each word of the command but the names of outputs.
     pub words: Vec<String>,
     /// The pack; none where the day had a new one in memory.
-    #[serde(skip_serializing_if = "Option::is_none")]
     pub pack: Option<NamedFile>,
     /// The files of level 1's deck, in their order.
     pub deck1: Vec<NamedFile>,
@@ -29,8 +26,7 @@ pub struct Begun {
 }
 
 /// How a job ended.
-#[derive(Clone, Copy, PartialEq, Eq, Serialize, Deserialize)]
-#[serde(rename_all = "snake_case")]
+#[derive(Clone, Copy, PartialEq, Eq)]
 pub enum JobEnd {
     /// It came to its end.
     Ended,
@@ -41,8 +37,7 @@ pub enum JobEnd {
 }
 
 /// Who gave a reply.
-#[derive(Clone, Copy, PartialEq, Eq, Serialize, Deserialize)]
-#[serde(rename_all = "snake_case")]
+#[derive(Clone, Copy, PartialEq, Eq)]
 pub enum Replier {
     /// A rule.
     Rule,
@@ -55,10 +50,9 @@ pub enum Replier {
 }
 
 /// A job that has begun.
-#[derive(Drop, Serialize, Deserialize)]
+#[derive(Drop)]
 pub struct JobBegun {
     /// The level.
-    #[serde(with = "crate::level_number")]
     pub level: LevelId,
     /// The number of the job.
     pub job: u16,
@@ -69,10 +63,9 @@ pub struct JobBegun {
 }
 
 /// A job that is over.
-#[derive(Clone, Copy, Serialize, Deserialize)]
+#[derive(Clone, Copy)]
 pub struct JobOver {
     /// The level.
-    #[serde(with = "crate::level_number")]
     pub level: LevelId,
     /// The number of the job.
     pub job: u16,
@@ -83,28 +76,24 @@ pub struct JobOver {
 }
 
 /// A halt that waits.
-#[derive(Clone, Copy, Serialize, Deserialize)]
+#[derive(Clone, Copy)]
 pub struct LoggedHalt {
     /// The level.
-    #[serde(with = "crate::level_number")]
     pub level: LevelId,
     /// The number of the job.
     pub job: u16,
     /// What it halts for.
-    #[serde(with = "crate::halt_word")]
     pub code: HaltCode,
     /// The number of the last data card that was read, or of the first detail's card; none where there is neither.
     pub card: Option<u16>,
 }
 
 /// A reply that was given.
-#[derive(Clone, Copy, Serialize, Deserialize)]
+#[derive(Clone, Copy)]
 pub struct LoggedReply {
     /// The level.
-    #[serde(with = "crate::level_number")]
     pub level: LevelId,
     /// What it halted for.
-    #[serde(with = "crate::halt_word")]
     pub code: HaltCode,
     /// The digit; in a log that was read, one that the halt allows.
     pub digit: u8,
@@ -113,7 +102,7 @@ pub struct LoggedReply {
 }
 
 /// A day that is over.
-#[derive(Drop, Serialize, Deserialize)]
+#[derive(Drop)]
 pub struct DayOver {
     /// The exit status.
     pub status: u8,
@@ -122,8 +111,7 @@ pub struct DayOver {
 }
 
 /// An event of a day. One that has more than one field has them in a struct of its own.
-#[derive(Drop, Serialize, Deserialize)]
-#[serde(tag = "event", rename_all = "snake_case")]
+#[derive(Drop)]
 pub enum Event {
     /// The first one: the day begins.
     Begin {
@@ -141,31 +129,10 @@ pub enum Event {
     /// A level has taken as many turns, or printed as many lines, as it may.
     Cut {
         /// The level.
-        #[serde(with = "crate::level_number")]
         level: LevelId,
     },
     /// The operator ended the day.
     Stop,
     /// The last one: the day is over.
     End(DayOver),
-}
-
-/// A line of the log.
-#[derive(Drop, Serialize, Deserialize)]
-pub(crate) struct Record {
-    /// When it was, in UTC.
-    pub(crate) at: String,
-    /// What it was.
-    #[serde(flatten)]
-    pub(crate) event: Event,
-}
-
-/// The line of an event, with its line feed. The time is text, as `utc_text` gives it.
-pub fn line_of(alloc: Global, at: String, event: Event) -> Result<String, AllocError> {
-    let record = Record { at, event };
-    let Ok(mut line) = serde_json::to_string(alloc, &record) else {
-        return Err(AllocError);
-    };
-    line.push('\n')?;
-    Ok(line)
 }

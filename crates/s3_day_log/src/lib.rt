@@ -9,13 +9,15 @@ mod checksums;
 mod clock_text;
 mod day_log;
 mod event;
-mod halt_word;
-mod level_number;
+mod members;
+mod reading;
+mod words;
+mod writing;
 
 pub use checksums::checksum;
 pub use clock_text::utc_text;
 pub use day_log::{DayLog, LogFault, Refused};
 pub use event::{
     Begun, DayOver, Event, JobBegun, JobEnd, JobOver, LoggedHalt, LoggedReply, NamedFile, Replier,
-    line_of,
 };
+pub use writing::line_of;
