@@ -231,10 +231,10 @@ const OUTPUTS: &str = "6:O 7:PRINT 15:D 24:01
 6:O 14:OR 24:U1
 6:O 43:5 45:'E'";
 
-/// How many groups a line has behind the first one.
+/// How many groups that count elsewhere than at overflow a line has behind the first one.
 fn list_guards(names: &mut String, lines: &[OutputInstruction]) -> Result<(), Fail> {
     for line in lines {
-        let name = match line.guard.others.len() {
+        let name = match line.guard.elsewhere.others.len() {
             0 => "none",
             1 => "one",
             2 => "two",
@@ -261,11 +261,10 @@ fn lines_get_their_guards(rt: HostRuntime) -> Result<(), Fail> {
     let texts = Texts::of(alloc, &program)?;
     let sheet = OutputSheet::of(alloc, &program, &texts, overflow_of(&program.files))?;
     let mut names = String::new(alloc);
-    list_guards(&mut names, &sheet.beginning)?;
-    list_guards(&mut names, &sheet.exceptions)?;
+    list_guards(&mut names, &sheet.lines)?;
     assert_eq!(&rt;
         names.as_str(),
-        "none, none, none, none, none, none, one, two, more"
+        "none, none, none, none, none, none, none, one, two, more"
     );
     Ok(())
 }
@@ -305,8 +304,7 @@ fn output_cards_get_their_forms(rt: HostRuntime) -> Result<(), Fail> {
     let texts = Texts::of(alloc, &program)?;
     let sheet = OutputSheet::of(alloc, &program, &texts, overflow_of(&program.files))?;
     let mut names = String::new(alloc);
-    list_fields(&mut names, &sheet.beginning)?;
-    list_fields(&mut names, &sheet.totals)?;
+    list_fields(&mut names, &sheet.lines)?;
     assert_eq!(&rt;
         names.as_str(),
         "number, number, text, text, constant, page, constant"
