@@ -11,7 +11,7 @@ use Rattle.s3_lines.specs.declared.sheet.Shape.TheVariants.{Numeric}
 use Rattle.s3_lines.specs.Ranges.{shape_in_range, shape_of_positions}
 use Rattle.s3_meaning.specs.Selection.{compared, is_below}
 use Rattle.s3_match.specs.declared.levels.LevelField.{LevelField}
-use Rattle.s3_match.specs.Inner.Levels.{compared_at, is_ranged}
+use Rattle.s3_match.specs.Inner.LevelField.{compared_at, is_ranged}
 
 -- ---- items in front of what is still to come
 pub room : (items rest all : List ℕ) (x n : ℕ) → items ++ x ∷ rest ≡ all → length all ≤ n → length items < n

@@ -1,10 +1,11 @@
 -- The fields of a record type line by line.
-use Rattle.std.proofs.Common.{◌≡◌, ℕ, ◌+◌, ◌<◌, ◌≤◌, ◌&&◌, length, drop, get_or, List, [], ◌∷◌, Bool, true, false, refl, sym, ◌∙◌, ap, zero, suc, arith, add-zero}
+use Rattle.std.proofs.Common.{◌≡◌, ℕ, ◌+◌, ◌<◌, ◌≤◌, ◌==◌, ◌&&◌, length, drop, get_or, List, [], ◌∷◌, Bool, true, false, refl, sym, ◌∙◌, ap, zero, suc, arith, add-zero}
 use Rattle.std.specs.Prelude.{Option, Some, None, is_some, IsTrue, IfSome, unwrap_or, option_map, map, filter, find, if◌then◌else◌}
-use Rattle.std.specs.Option.{option_or}
+use Rattle.std.specs.Option.{option_and_then, option_or}
 use Rattle.std.specs.List.{list_all}
 use Rattle.std.proofs.lemmas.Bool.{and_parts, true≢false}
-use Rattle.std.proofs.lemmas.List.{at_drop_more, at_drop_all, length-drop, get_or-drop}
+use Rattle.std.proofs.lemmas.Bool.Decides.{nat_tests}
+use Rattle.std.proofs.lemmas.List.{at_drop_more, at_drop_all, drop-drop, length-drop, get_or-drop}
 use Rattle.s3_cards.specs.declared.name.Name.{Name}
 use Rattle.s3_lines.specs.declared.indicator.Indicator.{Indicator}
 use Rattle.s3_lines.specs.declared.sheet.FieldLine.{FieldLine}
@@ -20,15 +21,15 @@ use Rattle.s3_program.specs.declared.program.Reference.{Reference}
 use Rattle.s3_program.specs.declared.starts.TypeStart.{TypeStart}
 use Rattle.s3_program.specs.Lines.{map_field}
 use Rattle.s3_program.specs.Inner.Positions.{are_in_range}
-use Rattle.s3_program.specs.Inner.Started.{type_on}
-use Rattle.s3_program.specs.Inner.Starts.{is_type}
+use Rattle.s3_program.specs.Inner.Started.{type_at, type_on}
+use Rattle.s3_program.specs.Inner.Starts.{fields_begin, first_from}
 use Rattle.s3_program.specs.Inner.Stands.{parts_of}
 use Rattle.s3_program.specs.Tables.{Tables}
 use Rattle.s3_program.specs.Inner.Tables.{name_of}
 use Rattle.s3_program.specs.Inner.Valid.{named_input, meant_input}
 use Rattle.s3_program.proofs.SlotLemmas.{kept}
 use Rattle.s3_match.specs.Inner.Types.{tables_in, kind_at, no_type, is_type_start}
-use Rattle.s3_match.specs.Inner.Fields.{named_field, is_own, has_level, level_of, field_on, begins_group, first_field, indicator_on, field_at}
+use Rattle.s3_match.specs.Inner.Fields.{named_field, is_own, has_level, level_of, field_on, begins_group, first_field, indicator_on, field_of_type, field_at}
 
 -- ---- a loop over lines
 field_here : (indicator : Indicator) (key : Key) (level : Option ℕ) (inputs : List (InputLine Reference)) (from k : ℕ) (d : InputLine Reference) → k < length inputs
@@ -118,9 +119,23 @@ started_on tables inputs start (AndCodes codes ∷ lines) is = absurd (true≢fa
 started_on tables inputs start (OrCodes indicator codes ∷ lines) is = record { fields = refl; there = omega arith; indicator = λ d. refl }
 started_on tables inputs start (InputField field ∷ lines) is = absurd (true≢false (sym is))
 
+pub type_is : (program : Program) (start : TypeStart) → is_type_start program start ≡ true → is_some (type_at (tables_in program) program.inputs.items start) ≡ true
+type_is program start is = (and_parts (is_some (type_at (tables_in program) program.inputs.items start)) (start.fields == fields_begin (start.place + 1) (drop (start.place + 1) program.inputs.items)) is).0
+
+fields_are : (program : Program) (start : TypeStart) → is_type_start program start ≡ true → start.fields ≡ fields_begin (start.place + 1) (drop (start.place + 1) program.inputs.items)
+fields_are program start is =
+    number start.fields _ (and_parts (is_some (type_at (tables_in program) program.inputs.items start)) (start.fields == fields_begin (start.place + 1) (drop (start.place + 1) program.inputs.items)) is).1
+  where
+    number : (m n : ℕ) → (m == n) ≡ true → m ≡ n
+    number m n h = grind (arith, nat_tests, h)
+
 started : (program : Program) (start : TypeStart) → is_type_start program start ≡ true
     → Started (tables_in program) program.inputs.items start (drop start.place program.inputs.items) (kind_at program start)
-started program start is = started_on (tables_in program) program.inputs.items start (drop start.place program.inputs.items) is
+started program start is = started_on (tables_in program) program.inputs.items start (drop start.place program.inputs.items) (type_is program start is)
+
+pub kind_fields : (program : Program) (start : TypeStart) → is_type_start program start ≡ true
+    → (kind_at program start).fields ≡ group_fields (map (named_input (tables_in program)) (drop start.fields program.inputs.items))
+kind_fields program start is = (started program start is).fields
 
 pub start_within : (program : Program) (start : TypeStart) → is_type_start program start ≡ true → start.place < length program.inputs.items
 start_within program start is = omega (arith, length-drop start.place program.inputs.items, (started program start is).there)
@@ -134,7 +149,27 @@ pub field_is : (program : Program) (start : TypeStart) (key : Key) (level : Opti
 field_is program start key level indicator is e =
     ap (λ (i : Indicator). option_map (named_field program) (first_field i key level (drop start.fields program.inputs.items))) e
     ∙ fields_named (kind_at program start) key level (tables_in program) (drop start.fields program.inputs.items)
-    ∙ ap (λ (fields : List (FieldLine Name)). find (λ field. has_level level (level_of key field)) (filter (is_field_of (kind_at program start)) fields)) (sym (started program start is).fields)
+    ∙ ap (λ (fields : List (FieldLine Name)). find (λ field. has_level level (level_of key field)) (filter (is_field_of (kind_at program start)) fields)) (sym (kind_fields program start is))
+
+-- no field stands among the AND and OR lines before the first one
+behind_codes : (indicator : Indicator) (key : Key) (level : Option ℕ) (all : List (InputLine Reference)) (k : ℕ) (lines : List (InputLine Reference)) → drop k all ≡ lines
+    → first_field indicator key level lines ≡ first_field indicator key level (drop (fields_begin k lines) all)
+unfolding first_field first_from
+behind_codes indicator key level all k [] here = ap (first_field indicator key level) (sym here)
+behind_codes indicator key level all k (Record file other codes ∷ lines) here = ap (first_field indicator key level) (sym here)
+behind_codes indicator key level all k (AndCodes codes ∷ lines) here = behind_codes indicator key level all (k + 1) lines (sym (drop-drop 1 k all) ∙ ap (drop 1) here)
+behind_codes indicator key level all k (OrCodes other codes ∷ lines) here = behind_codes indicator key level all (k + 1) lines (sym (drop-drop 1 k all) ∙ ap (drop 1) here)
+behind_codes indicator key level all k (InputField field ∷ lines) here = ap (first_field indicator key level) (sym here)
+
+pub type_field : (program : Program) (start : TypeStart) (key : Key) (level : Option ℕ) → is_type_start program start ≡ true
+    → option_map (named_field program) (field_of_type key level (drop start.place program.inputs.items)) ≡ field_at program start key level
+type_field program start key level is =
+    ap (option_map (named_field program))
+    (at_drop_more (field_of_type key level) program.inputs.items start.place (AndCodes []) (start_within program start is)
+    ∙ ap (option_and_then (λ indicator. first_field indicator key level (drop (start.place + 1) program.inputs.items))) (start_indicator program start (AndCodes []) is)
+    ∙ behind_codes (kind_at program start).indicator key level program.inputs.items (start.place + 1) (drop (start.place + 1) program.inputs.items) refl
+    ∙ ap (λ (k : ℕ). first_field (kind_at program start).indicator key level (drop k program.inputs.items)) (sym (fields_are program start is)))
+    ∙ field_is program start key level (kind_at program start).indicator is refl
 
 -- ---- fields are in range
 ranged_on : (indicator : Indicator) (key : Key) (level : Option ℕ) (tables : Tables) (lines : List (InputLine Reference)) → list_all input_in_range (map (meant_input tables) lines) ≡ true
@@ -164,19 +199,3 @@ unfolding are_in_range
 field_ranged program k indicator key level =
     let ranged = (and_parts _ _ (and_parts _ _ (and_parts _ _ (kept (parts_of program) program.valid).ranged).0).0).1 in
     ranged_on indicator key level (tables_in program) (drop k program.inputs.items) (all_behind input_in_range (meant_input (tables_in program)) k program.inputs.items ranged)
-
--- ---- whether a type starts at a line
-start_on : (tables : Tables) (inputs : List (InputLine Reference)) (start : TypeStart) (line : InputLine Reference) (lines : List (InputLine Reference)) → is_some (type_on tables inputs start (line ∷ lines)) ≡ is_type line
-start_on tables inputs start (Record file indicator codes) lines = refl
-start_on tables inputs start (AndCodes codes) lines = refl
-start_on tables inputs start (OrCodes indicator codes) lines = refl
-start_on tables inputs start (InputField field) lines = refl
-
-pub starts_there : (program : Program) (start : TypeStart) (d : InputLine Reference) (starts : Bool) → start.place < length program.inputs.items
-    → starts ≡ is_type (get_or program.inputs.items start.place d) → starts ≡ is_type_start program start
-starts_there program start d starts within e =
-    e ∙ sym (at_drop_more (λ (lines : List (InputLine Reference)). is_some (type_on (tables_in program) program.inputs.items start lines)) program.inputs.items start.place d within
-    ∙ start_on (tables_in program) program.inputs.items start (get_or program.inputs.items start.place d) (drop (start.place + 1) program.inputs.items))
-
-pub starts_nowhere : (program : Program) (start : TypeStart) → length program.inputs.items ≤ start.place → false ≡ is_type_start program start
-starts_nowhere program start past = sym (at_drop_all (λ (lines : List (InputLine Reference)). is_some (type_on (tables_in program) program.inputs.items start lines)) program.inputs.items start.place past)

@@ -1,11 +1,10 @@
 -- Control fields are held for the levels that a type names.
-use Rattle.std.proofs.Common.{◌≡◌, ℕ, ◌+◌, ◌<◌, ◌≤◌, ◌==◌, ◌&&◌, ◌||◌, length, map, drop, get_or, List, [], ◌∷◌, Bool, true, false, refl, sym, ◌∙◌, ap, arith}
+use Rattle.std.proofs.Common.{◌≡◌, ℕ, ◌==◌, ◌&&◌, ◌||◌, map, drop, List, [], ◌∷◌, Bool, true, false, refl, sym, ◌∙◌, ap, arith}
 use Rattle.std.specs.Prelude.{Option, Some, None, is_some, not, find, unwrap_or, IsTrue, IfSome, option_map, if◌then◌else◌}
 use Rattle.std.specs.Option.{option_or}
 use Rattle.std.specs.List.{list_any}
 use Rattle.std.proofs.lemmas.Bool.{and_parts, true≢false}
 use Rattle.std.proofs.lemmas.Bool.Decides.{nat_tests}
-use Rattle.std.proofs.lemmas.List.{at_drop_more, at_drop_all}
 use Rattle.s3_cards.specs.declared.name.Name.{Name}
 use Rattle.s3_cards.specs.Names.{no_name}
 use Rattle.s3_lines.specs.declared.indicator.Indicator.{Indicator}
@@ -21,24 +20,23 @@ use Rattle.s3_program.specs.declared.mark.Key.TheVariants as key
 use Rattle.s3_program.specs.declared.program.Program.{Program}
 use Rattle.s3_program.specs.declared.program.Reference.{Reference}
 use Rattle.s3_program.specs.declared.starts.TypeStart.{TypeStart}
-use Rattle.s3_program.specs.Inner.Starts.{is_type}
 use Rattle.s3_program.specs.Inner.Stands.{source_named}
 use Rattle.s3_program.specs.Tables.{Tables}
 use Rattle.s3_program.specs.Inner.Tables.{name_of}
 use Rattle.s3_program.specs.Inner.Valid.{named, named_input}
 use Rattle.s3_match.specs.Inner.Types.{tables_in, is_type_start, kind_at}
-use Rattle.s3_match.specs.Inner.Fields.{named_field, is_own, has_level, first_field, field_at}
-use Rattle.s3_match.specs.Inner.Controls.{names_some_level, some_type_names_level, breaks_at, break_of}
+use Rattle.s3_match.specs.Inner.Fields.{named_field, is_own, has_level, first_field, field_at, names_level, some_type_names_level}
+use Rattle.s3_match.specs.declared.levels.LevelFields.{LevelFields}
+use Rattle.s3_match.specs.Inner.Controls.{breaks_at, break_of}
+use Rattle.s3_match.specs.Inner.Levels.{AreFieldsOf}
 use Rattle.s3_match.proofs.FieldLemmas.{field_is, field_ranged}
 use Rattle.s3_match.proofs.LevelLemmas.{none_of_type}
-use Rattle.s3_match.proofs.KeyLemmas.{control_is, level_any, any_found, is_some_map}
+use Rattle.s3_match.proofs.KeyLemmas.{control_is, level_any, any_found}
 
 -- ---- whether some level is named
-pub any_named : (program : Program) (start : TypeStart) (field : Option (FieldLine Reference)) (found : Bool) → found ≡ is_some field
-    → option_map (named_field program) field ≡ field_at program start key.Control None → found ≡ has_control_fields (kind_at program start)
-any_named program start field found is e =
-    is ∙ sym (is_some_map (named_field program) field) ∙ ap is_some e
-    ∙ any_found (λ (field : FieldLine Name). has_level None field.control_level) (own_fields (kind_at program start))
+any_named : (program : Program) (start : TypeStart) → is_some (field_at program start key.Control None) ≡ has_control_fields (kind_at program start)
+any_named program start =
+    any_found (λ (field : FieldLine Name). has_level None field.control_level) (own_fields (kind_at program start))
     ∙ (λ i. list_any (λ field. level_any field.control_level i) (own_fields (kind_at program start)))
 
 -- a field that is found has the level
@@ -96,25 +94,6 @@ pub none_is_held : (program : Program) (start : TypeStart) (bytes : List ℕ) (h
 none_is_held program start bytes held none n = sym (ap (λ (v : Option (List ℕ)). option_or v (held n)) (no_control program start bytes n none))
 
 -- ---- whether a program has control fields
-types_at : (lines : List (InputLine Reference)) (k : ℕ) (d : InputLine Reference) → k < length lines → some_type_names_level lines ≡ some_type_names_level (drop k lines)
-    → some_type_names_level lines ≡ (if is_type (get_or lines k d) then list_any names_some_level (drop (k + 1) lines) else some_type_names_level (drop (k + 1) lines))
-unfolding some_type_names_level
-types_at lines k d within before = before ∙ at_drop_more some_type_names_level lines k d within
-
-pub types_begin : (lines : List (InputLine Reference)) (k : ℕ) (d : InputLine Reference) (some starts : Bool) → k < length lines → some_type_names_level lines ≡ some_type_names_level (drop k lines)
-    → starts ≡ is_type (get_or lines k d) → starts ≡ true → some ≡ list_any names_some_level (drop (k + 1) lines) → some ≡ some_type_names_level lines
-types_begin lines k d some starts within before is on named =
-    named ∙ sym (types_at lines k d within before ∙ ap (λ (b : Bool). if b then list_any names_some_level (drop (k + 1) lines) else some_type_names_level (drop (k + 1) lines)) (sym is ∙ on))
-
-pub no_type_yet : (lines : List (InputLine Reference)) (k : ℕ) (d : InputLine Reference) (starts : Bool) → k < length lines → some_type_names_level lines ≡ some_type_names_level (drop k lines)
-    → starts ≡ is_type (get_or lines k d) → starts ≡ false → some_type_names_level lines ≡ some_type_names_level (drop (k + 1) lines)
-no_type_yet lines k d starts within before is off =
-    types_at lines k d within before ∙ ap (λ (b : Bool). if b then list_any names_some_level (drop (k + 1) lines) else some_type_names_level (drop (k + 1) lines)) (sym is ∙ off)
-
-pub no_type_at_all : (lines : List (InputLine Reference)) (k : ℕ) → length lines ≤ k → some_type_names_level lines ≡ some_type_names_level (drop k lines) → false ≡ some_type_names_level lines
-unfolding some_type_names_level
-no_type_at_all lines k past before = sym (before ∙ at_drop_all some_type_names_level lines k past)
-
 abbrev controlled : FieldLine Name → Bool
 controlled field = is_some field.control_level
 
@@ -124,7 +103,7 @@ or_again false b c e = e
 
 -- behind a type's line
 open_levels : (tables : Tables) (file : Name) (lines : List (InputLine Reference))
-    → (list_any controlled (group_fields (map (named_input tables) lines)) || list_any (λ kind. list_any controlled kind.fields) (types_from file (map (named_input tables) lines))) ≡ list_any names_some_level lines
+    → (list_any controlled (group_fields (map (named_input tables) lines)) || list_any (λ kind. list_any controlled kind.fields) (types_from file (map (named_input tables) lines))) ≡ list_any (names_level key.Control) lines
 open_levels tables file [] = refl
 open_levels tables file (Record next indicator codes ∷ lines) = open_levels tables (name_of tables next) lines
 open_levels tables file (AndCodes codes ∷ lines) = open_levels tables file lines
@@ -132,12 +111,12 @@ open_levels tables file (OrCodes indicator codes ∷ lines) =
     or_again (list_any controlled (group_fields (map (named_input tables) lines))) (list_any (λ kind. list_any controlled kind.fields) (types_from file (map (named_input tables) lines))) _ (open_levels tables file lines)
 open_levels tables file (InputField field ∷ lines) = by (is_some field.control_level) (open_levels tables file lines)
   where
-    by : (b : Bool) → (list_any controlled (group_fields (map (named_input tables) lines)) || list_any (λ kind. list_any controlled kind.fields) (types_from file (map (named_input tables) lines))) ≡ list_any names_some_level lines
-        → (b || list_any controlled (group_fields (map (named_input tables) lines)) || list_any (λ kind. list_any controlled kind.fields) (types_from file (map (named_input tables) lines))) ≡ (b || list_any names_some_level lines)
+    by : (b : Bool) → (list_any controlled (group_fields (map (named_input tables) lines)) || list_any (λ kind. list_any controlled kind.fields) (types_from file (map (named_input tables) lines))) ≡ list_any (names_level key.Control) lines
+        → (b || list_any controlled (group_fields (map (named_input tables) lines)) || list_any (λ kind. list_any controlled kind.fields) (types_from file (map (named_input tables) lines))) ≡ (b || list_any (names_level key.Control) lines)
     by true later = refl
     by false later = later
 
-levels_shown : (tables : Tables) (file : Name) (lines : List (InputLine Reference)) → list_any (λ kind. list_any controlled kind.fields) (types_from file (map (named_input tables) lines)) ≡ some_type_names_level lines
+levels_shown : (tables : Tables) (file : Name) (lines : List (InputLine Reference)) → list_any (λ kind. list_any controlled kind.fields) (types_from file (map (named_input tables) lines)) ≡ some_type_names_level key.Control lines
 unfolding some_type_names_level
 levels_shown tables file [] = refl
 levels_shown tables file (Record next indicator codes ∷ lines) = open_levels tables (name_of tables next) lines
@@ -145,6 +124,16 @@ levels_shown tables file (AndCodes codes ∷ lines) = levels_shown tables file l
 levels_shown tables file (OrCodes indicator codes ∷ lines) = open_levels tables file lines
 levels_shown tables file (InputField field ∷ lines) = levels_shown tables file lines
 
-pub program_levels : (program : Program) (some : Bool) → some ≡ some_type_names_level program.inputs.items → some ≡ has_levels (source_named program)
+program_levels : (program : Program) → some_type_names_level key.Control program.inputs.items ≡ has_levels (source_named program)
 unfolding named
-program_levels program some is = is ∙ sym (levels_shown (tables_in program) no_name program.inputs.items)
+program_levels program = sym (levels_shown (tables_in program) no_name program.inputs.items)
+
+-- ---- whether total time is due behind a type
+pub due_with : (program : Program) (start : TypeStart) (fields : LevelFields) → AreFieldsOf key.Control program start fields → true ≡ some_type_names_level key.Control program.inputs.items
+    → fields.is_any ≡ (not (has_levels (source_named program)) || has_control_fields (kind_at program start))
+due_with program start fields are is =
+    are.any ∙ any_named program start ∙ ap (λ (b : Bool). not b || has_control_fields (kind_at program start)) (is ∙ program_levels program)
+
+pub due_without : (program : Program) (start : TypeStart) → false ≡ some_type_names_level key.Control program.inputs.items
+    → true ≡ (not (has_levels (source_named program)) || has_control_fields (kind_at program start))
+due_without program start is = ap (λ (b : Bool). not b || has_control_fields (kind_at program start)) (is ∙ program_levels program)

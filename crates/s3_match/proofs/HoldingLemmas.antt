@@ -15,7 +15,8 @@ use Rattle.s3_match.specs.declared.held.HeldField.{HeldField}
 use Rattle.s3_match.specs.declared.levels.LevelField.{LevelField}
 use Rattle.s3_match.specs.Inner.Types.{is_type_start, kind_at}
 use Rattle.s3_match.specs.Inner.Controls.{held_in, breaks_at, break_of}
-use Rattle.s3_match.specs.Inner.Levels.{AreByLevel, compared_at, field_in}
+use Rattle.s3_match.specs.Inner.LevelField.{compared_at, field_in}
+use Rattle.s3_match.specs.Inner.Levels.{AreByLevel}
 use Rattle.s3_match.specs.Inner.Holding.{AreHeld, AreHeldTo, breaks_by, held_by, value_by}
 use Rattle.s3_match.proofs.KeyLemmas.{from_one, level_here, to_nine}
 use Rattle.s3_match.proofs.LevelLemmas.{control_at}

@@ -17,7 +17,8 @@ use Rattle.s3_match.specs.Inner.Types.{kind_at}
 use Rattle.s3_match.specs.declared.levels.LevelField.{LevelField}
 use Rattle.s3_match.specs.declared.levels.LevelFields.{LevelFields}
 use Rattle.s3_match.specs.Inner.Fields.{has_level, field_at}
-use Rattle.s3_match.specs.Inner.Levels.{AreByLevel, AreFieldsOf, compared_at, field_in, prepared}
+use Rattle.s3_match.specs.Inner.LevelField.{compared_at, field_in, prepared}
+use Rattle.s3_match.specs.Inner.Levels.{AreByLevel, AreFieldsOf}
 use Rattle.s3_match.specs.Inner.Keys.{key_by, match_values}
 
 -- ---- fields at a level
@@ -120,7 +121,7 @@ same_values program start fields bytes [] are within = refl
 same_values program start fields bytes (n ∷ ns) are within =
     let parts = and_parts (is_between 1 9 n) (list_all (is_between 1 9) ns) within in
     ap (λ (o : Option LevelField). flat_map (compared_at bytes) (cons_option o (filter_map (field_in fields.fields) ns)))
-    (are.each n (from_one n parts.0) (to_nine n parts.0) ∙ ap (option_map prepared) (match_is program start n))
+    (are n (from_one n parts.0) (to_nine n parts.0) ∙ ap (option_map prepared) (match_is program start n))
     ∙ prepared_first bytes (match_field (kind_at program start) n) (filter_map (field_in fields.fields) ns) (filter_map (match_field (kind_at program start)) ns) (same_values program start fields bytes ns are parts.1)
 
 pub key_of_type : (program : Program) (start : TypeStart) (fields : LevelFields) (bytes : List ℕ) → AreFieldsOf key.Match program start fields → key_by fields bytes ≡ match_key (kind_at program start) bytes

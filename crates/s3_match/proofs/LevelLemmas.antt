@@ -1,12 +1,13 @@
 -- Match and control fields as they are prepared.
-use Rattle.std.proofs.Common.{◌≡◌, ℕ, zero, suc, length, get_or, replicate, set, ◌==◌, ◌+◌, ◌-◌, ◌<◌, ◌≤◌, ◌++◌, List, [], ◌∷◌, Bool, true, false, refl, sym, ◌∙◌, ap, subst, arith}
-use Rattle.std.specs.Prelude.{Option, Some, None, IsTrue, IfSome, is_some, find, option_map, slice_get, unwrap_or, if◌then◌else◌}
-use Rattle.std.specs.List.{All}
+use Rattle.std.proofs.Common.{◌≡◌, ℕ, zero, suc, length, get_or, drop, replicate, set, ◌==◌, ◌+◌, ◌-◌, ◌<◌, ◌≤◌, List, [], ◌∷◌, Bool, true, false, refl, sym, ◌∙◌, ap, arith}
+use Rattle.std.specs.Prelude.{Option, Some, None, IsTrue, is_some, find, option_map, slice_get, slice_index_or, unwrap_or, if◌then◌else◌}
 use Rattle.std.proofs.lemmas.Bool.{true≢false}
 use Rattle.std.proofs.lemmas.Bool.Decides.{nat_tests}
-use Rattle.std.proofs.lemmas.List.Elements.{All-append}
 use Rattle.s3_cards.specs.declared.name.Name.{Name}
+use Rattle.s3_lines.specs.Ranges.{if_given}
 use Rattle.s3_lines.specs.declared.sheet.FieldLine.{FieldLine}
+use Rattle.s3_lines.specs.declared.sheet.InputLine.{InputLine}
+use Rattle.s3_lines.specs.declared.sheet.InputLine.TheVariants.{Record, And as AndCodes, Or as OrCodes, Field as InputField}
 use Rattle.s3_meaning.specs.Source.{own_fields}
 use Rattle.s3_meaning.specs.Selection.{compared_field, control_value}
 use Rattle.s3_program.specs.declared.mark.Key.{Key}
@@ -14,18 +15,16 @@ use Rattle.s3_program.specs.declared.mark.Key.TheVariants as key
 use Rattle.s3_program.specs.declared.program.Program.{Program}
 use Rattle.s3_program.specs.declared.program.Reference.{Reference}
 use Rattle.s3_program.specs.declared.starts.TypeStart.{TypeStart}
+use Rattle.s3_program.specs.Inner.Starts.{is_type}
 use Rattle.s3_match.specs.declared.levels.LevelField.{LevelField}
-use Rattle.s3_match.specs.declared.levels.TypeLevels.{TypeLevels}
-use Rattle.s3_match.specs.Inner.Types.{kind_at}
-use Rattle.s3_match.specs.Inner.Fields.{named_field, has_level, level_of, field_at}
-use Rattle.s3_match.specs.Inner.Levels.{AreByLevel, AreFieldsOf, AreRanged, IsPrepared, compared_at, field_in, is_ranged, prepared}
+use Rattle.s3_match.specs.declared.levels.LevelFields.{LevelFields}
+use Rattle.s3_match.specs.Inner.Types.{is_type_start, kind_at}
+use Rattle.s3_match.specs.Inner.Fields.{named_field, has_level, level_of, indicator_on, field_of_type, field_at}
+use Rattle.s3_match.specs.Inner.LevelField.{AreRanged, compared_at, field_in, is_ranged, prepared}
+use Rattle.s3_match.specs.Inner.Levels.{AreByLevel, AreFieldsAt}
 use Rattle.s3_match.specs.Inner.Holding.{value_by}
-use Rattle.s3_match.proofs.KeyLemmas.{control_is}
-
--- ---- one field
-pub none_named : (program : Program) (o : Option (FieldLine Reference)) (named : Option (FieldLine Name)) → option_map (named_field program) o ≡ named → is_some o ≡ is_some named
-none_named program None named e = ap is_some e
-none_named program (Some field) named e = ap is_some e
+use Rattle.s3_match.proofs.FieldLemmas.{start_indicator, type_field}
+use Rattle.s3_match.proofs.KeyLemmas.{control_is, is_some_map}
 
 -- ---- where a type has no field, it has none at any level
 none_at : (key : Key) (n : ℕ) (fields : List (FieldLine Name)) → is_some (find (λ field. has_level None (level_of key field)) fields) ≡ false → find (λ field. has_level (Some n) (level_of key field)) fields ≡ None
@@ -54,22 +53,65 @@ no_field_in (suc (suc (suc (suc (suc (suc (suc (suc zero)))))))) = refl
 no_field_in (suc (suc (suc (suc (suc (suc (suc (suc (suc zero))))))))) = refl
 no_field_in (suc (suc (suc (suc (suc (suc (suc (suc (suc (suc n)))))))))) = refl
 
-pub no_fields : (key : Key) (program : Program) (start : TypeStart) → is_some (field_at program start key None) ≡ false → AreFieldsOf key program start (record { is_any = false; fields = replicate 9 None })
-no_fields key program start none = record {
-  any = sym none;
-  by_level = record {
-    each = λ n one nine. no_field_in n ∙ sym (ap (option_map prepared) (none_of_type key program start n none));
-    ranged = λ n. subst (λ (o : Option LevelField). IfSome o (λ f. IsTrue (is_ranged f))) (sym (no_field_in n)) tt;
+-- ---- the fields of the type that starts at a line
+any_there : (key : Key) (program : Program) (place : ℕ) (start : TypeStart) → is_type_start program start ≡ true → start.place ≡ place
+    → is_some (field_of_type key None (drop place program.inputs.items)) ≡ is_some (field_at program start key None)
+any_there key program place start is there =
+    ap (λ (k : ℕ). is_some (field_of_type key None (drop k program.inputs.items))) (sym there)
+    ∙ sym (is_some_map (named_field program) (field_of_type key None (drop start.place program.inputs.items)))
+    ∙ ap is_some (type_field program start key None is)
+
+prepared_named : (program : Program) (o : Option (FieldLine Reference)) → option_map prepared o ≡ option_map prepared (option_map (named_field program) o)
+prepared_named program None = refl
+prepared_named program (Some field) = refl
+
+pub no_fields : (key : Key) (program : Program) (place : ℕ) (fields : LevelFields) → fields.is_any ≡ false → fields.fields ≡ replicate 9 None
+    → is_some (field_of_type key None (drop place program.inputs.items)) ≡ false → AreFieldsAt key program place fields
+no_fields key program place fields off blank none = record {
+  of_type = λ start is there.
+      let nothing : is_some (field_at program start key None) ≡ false = sym (any_there key program place start is there) ∙ none in
+      record {
+        any = off ∙ sym nothing;
+        by_level = λ n one nine. ap (λ (xs : List (Option LevelField)). field_in xs n) blank ∙ no_field_in n ∙ sym (ap (option_map prepared) (none_of_type key program start n nothing));
+      };
+}
+
+pub some_fields : (key : Key) (program : Program) (place : ℕ) (fields : LevelFields) → fields.is_any ≡ is_some (field_of_type key None (drop place program.inputs.items))
+    → ((n : ℕ) → 1 ≤ n → n ≤ 9 → field_in fields.fields n ≡ option_map prepared (field_of_type key (Some n) (drop place program.inputs.items))) → AreFieldsAt key program place fields
+some_fields key program place fields any each = record {
+  of_type = λ start is there. record {
+    any = any ∙ any_there key program place start is there;
+    by_level = λ n one nine.
+        each n one nine
+        ∙ ap (λ (k : ℕ). option_map prepared (field_of_type key (Some n) (drop k program.inputs.items))) (sym there)
+        ∙ prepared_named program (field_of_type key (Some n) (drop start.place program.inputs.items))
+        ∙ ap (option_map prepared) (type_field program start key (Some n) is);
   };
 }
 
--- ---- one type more
-pub prepared_more : (program : Program) (types new : List TypeLevels) (levels : TypeLevels) → new ≡ types ++ levels ∷ [] → All (IsPrepared program) types → IsPrepared program levels → All (IsPrepared program) new
-prepared_more program types new levels e before here = subst (All (IsPrepared program)) (sym e) (All-append (IsPrepared program) types (levels ∷ []) before one)
+-- at a line where no type starts nothing is asked for
+pub no_type_there : (key : Key) (program : Program) (place : ℕ) (fields : LevelFields) (d : InputLine Reference) → is_type (get_or program.inputs.items place d) ≡ false → AreFieldsAt key program place fields
+no_type_there key program place fields d none = record {
+  of_type = λ start is there.
+      absurd (true≢false (sym (ap is_some (start_indicator program start d is)) ∙ ap (λ (k : ℕ). is_some (indicator_on (get_or program.inputs.items k d))) there ∙ no_indicator (get_or program.inputs.items place d) none));
+}
   where
-    one : (k : ℕ) (d : TypeLevels) → k < length (levels ∷ []) → IsPrepared program (get_or (levels ∷ []) k d)
-    one zero d h = here
-    one (suc k) d h = absurd (omega (arith, h))
+    no_indicator : (line : InputLine Reference) → is_type line ≡ false → is_some (indicator_on line) ≡ false
+    no_indicator (Record file indicator codes) none = absurd (true≢false none)
+    no_indicator (AndCodes codes) none = refl
+    no_indicator (OrCodes indicator codes) none = absurd (true≢false none)
+    no_indicator (InputField field) none = refl
+
+field_here : (fields : List (Option LevelField)) (k : ℕ) → get_or fields k None ≡ unwrap_or (slice_get fields k) None
+field_here [] k = refl
+field_here (field ∷ fields) zero = refl
+field_here (field ∷ fields) (suc k) = field_here fields k
+
+pub ranged_at : (fields : List (Option LevelField)) (level : ℕ) → 1 ≤ level → AreRanged fields → if_given is_ranged (slice_index_or fields (level - 1) None) ≡ true
+ranged_at fields zero one ranged = absurd (omega (arith, one))
+ranged_at fields (suc n) one ranged =
+    let here : suc n - 1 ≡ n = omega arith in
+    ap (λ (k : ℕ). if_given is_ranged (get_or fields k None)) here ∙ ap (if_given is_ranged) (field_here fields n) ∙ ranged (suc n)
 
 -- ---- what the control field of a level compares
 prepared_map : (bytes : List ℕ) (o : Option (FieldLine Name)) → option_map (compared_at bytes) (option_map prepared o) ≡ option_map (compared_field bytes) o
@@ -79,7 +121,7 @@ prepared_map bytes (Some field) = refl
 pub control_at : (program : Program) (start : TypeStart) (fields : List (Option LevelField)) (bytes : List ℕ) (n : ℕ) → AreByLevel key.Control program start fields → 1 ≤ n → n ≤ 9
     → value_by fields bytes n ≡ control_value (kind_at program start) bytes n
 control_at program start fields bytes n are one nine =
-    ap (option_map (compared_at bytes)) (are.each n one nine)
+    ap (option_map (compared_at bytes)) (are n one nine)
     ∙ prepared_map bytes (field_at program start key.Control (Some n))
     ∙ ap (option_map (compared_field bytes)) (control_is program start n)
 
@@ -116,10 +158,10 @@ fields_more fields i field at within before is (suc k) one most = by (k == i) re
         let other : k ≡ i → ⊥ = other_number k i h in
         ap (λ (o : Option (Option LevelField)). unwrap_or o None) (put_elsewhere fields i k field other) ∙ before (suc k) one (omega (arith, most, other))
 
-pub ranged_more : (fields : List (Option LevelField)) (i : ℕ) (field : Option LevelField) → i < length fields → AreRanged fields → IfSome field (λ f. IsTrue (is_ranged f)) → AreRanged (set fields i field)
-ranged_more fields i field within ranged here zero = tt
+pub ranged_more : (fields : List (Option LevelField)) (i : ℕ) (field : Option LevelField) → i < length fields → AreRanged fields → IsTrue (if_given is_ranged field) → AreRanged (set fields i field)
+ranged_more fields i field within ranged here zero = refl
 ranged_more fields i field within ranged here (suc k) = by (k == i) refl
   where
-    by : (b : Bool) → (k == i) ≡ b → IfSome (unwrap_or (slice_get (set fields i field) k) None) (λ f. IsTrue (is_ranged f))
-    by true h = subst (λ (o : Option LevelField). IfSome o (λ f. IsTrue (is_ranged f))) (sym (ap (λ (m : ℕ). unwrap_or (slice_get (set fields i field) m) None) (same_number k i h) ∙ put_here fields i field None within)) here
-    by false h = subst (λ (o : Option LevelField). IfSome o (λ f. IsTrue (is_ranged f))) (sym (ap (λ (o : Option (Option LevelField)). unwrap_or o None) (put_elsewhere fields i k field (other_number k i h)))) (ranged (suc k))
+    by : (b : Bool) → (k == i) ≡ b → if_given is_ranged (unwrap_or (slice_get (set fields i field) k) None) ≡ true
+    by true h = ap (if_given is_ranged) (ap (λ (m : ℕ). unwrap_or (slice_get (set fields i field) m) None) (same_number k i h) ∙ put_here fields i field None within) ∙ here
+    by false h = ap (λ (o : Option (Option LevelField)). if_given is_ranged (unwrap_or o None)) (put_elsewhere fields i k field (other_number k i h)) ∙ ranged (suc k)

@@ -9,6 +9,7 @@ use Rattle.std.proofs.lemmas.List.Elements.{All-set}
 use Rattle.std.proofs.lemmas.Option.{slice_get-get_or}
 use Rattle.s3_lines.specs.declared.sheet.FileLine.{FileLine}
 use Rattle.s3_meaning.specs.Selection as meaning
+use Rattle.s3_program.specs.declared.mark.Key.TheVariants as key
 use Rattle.s3_program.specs.declared.program.Program.{Program}
 use Rattle.s3_program.specs.Inner.Tables.{name_in}
 use Rattle.s3_program.specs.FileEntries.{file_entry}
@@ -53,11 +54,12 @@ slots_stay files k x y within there same =
     ∙ set-get_or (slots_of files) k 0
 
 pub still_sound : (program : Program) (old new : Reading) (k : ℕ) (x y : InputFile) → k < length old.files.items → x ≡ get_or old.files.items k x → new.files.items ≡ set old.files.items k y
-    → new.levels ≡ old.levels → new.only_types ≡ old.only_types → new.type_numbers ≡ old.type_numbers → new.line_numbers ≡ old.line_numbers → y.file ≡ x.file → IsInput program y → IsReading program old → IsReading program new
-still_sound program old new k x y within there e told types numbers lines same sound reading = record {
+    → new.match_levels ≡ old.match_levels → new.control_levels ≡ old.control_levels → new.only_types ≡ old.only_types → new.type_numbers ≡ old.type_numbers → new.line_numbers ≡ old.line_numbers → y.file ≡ x.file → IsInput program y → IsReading program old → IsReading program new
+still_sound program old new k x y within there e matches controls types numbers lines same sound reading = record {
   inputs = subst (All (IsInput program)) (sym e) (All-set (IsInput program) old.files.items k y sound reading.inputs);
   slots = ap slots_of e ∙ slots_stay old.files.items k x y within there same ∙ reading.slots;
-  levels = subst (AreLevels program) (sym told) reading.levels;
+  match_levels = subst (AreLevels key.Match program) (sym matches) reading.match_levels;
+  control_levels = subst (AreLevels key.Control program) (sym controls) reading.control_levels;
   only_types = subst (λ (xs : List (Option TypeStart)). AreOnlyTypes program xs) (sym (ap (λ v. v.items) types)) reading.only_types;
   type_numbers = subst (λ (xs : List ℕ). AreNumbersOf program.inputs.items xs) (sym (ap (λ v. v.items) numbers)) reading.type_numbers;
   line_numbers = subst (λ (xs : List ℕ). AreLineNumbers program.inputs.items xs) (sym (ap (λ v. v.items) lines)) reading.line_numbers;

@@ -1,9 +1,10 @@
 -- The type of a record: the first start of its file whose codes hold is that of the meaning's type.
-use Rattle.std.proofs.Common.{◌≡◌, ℕ, ◌<◌, ◌==◌, ◌&&◌, ◌++◌, length, drop, List, [], ◌∷◌, Bool, true, false, refl, sym, ◌∙◌, ap, inl, inr, arith, subst}
-use Rattle.std.specs.Prelude.{Option, Some, None, is_some, IsTrue, IfSome, unwrap_or, option_map, map, filter, filter_map, find, nat_lt}
+use Rattle.std.proofs.Common.{◌≡◌, ℕ, ◌+◌, ◌<◌, ◌==◌, ◌&&◌, ◌++◌, length, drop, List, [], ◌∷◌, Bool, true, false, refl, sym, ◌∙◌, ap, arith, subst}
+use Rattle.std.specs.Prelude.{Option, Some, None, is_some, IsTrue, IfSome, unwrap_or, option_map, map, filter, filter_map, find, nat_lt, if◌then◌else◌}
 use Rattle.std.specs.List.{list_all}
-use Rattle.std.proofs.lemmas.Bool.{and_parts, true≢false, cases_Bool}
-use Rattle.std.proofs.lemmas.List.{length-map}
+use Rattle.std.proofs.lemmas.Bool.{and_parts, true≢false}
+use Rattle.std.proofs.lemmas.Bool.Decides.{nat_tests}
+use Rattle.std.proofs.lemmas.List.{drop-drop, length-map}
 use Rattle.std.proofs.lemmas.List.Folds.{list_all-append}
 use Rattle.s3_cards.specs.declared.name.Name.{Name}
 use Rattle.s3_cards.specs.Names.{same_name}
@@ -17,14 +18,14 @@ use Rattle.s3_program.specs.declared.program.Program.{Program}
 use Rattle.s3_program.specs.declared.program.Reference.{Reference}
 use Rattle.s3_program.specs.declared.starts.TypeStart.{TypeStart}
 use Rattle.s3_program.specs.Inner.Started.{type_on, type_at}
-use Rattle.s3_program.specs.Inner.Starts.{is_type_of, types_of_file, type_starts}
+use Rattle.s3_program.specs.Inner.Starts.{fields_begin, file_slot, is_type_of, types_of_file, type_starts, type_starts_from}
 use Rattle.s3_program.specs.Inner.Stands.{parts_of, source_named}
 use Rattle.s3_program.specs.Tables.{Tables}
 use Rattle.s3_program.specs.Inner.Tables.{name_in}
 use Rattle.s3_program.specs.Inner.Valid.{named_input}
 use Rattle.s3_program.proofs.SlotLemmas.{kept}
 use Rattle.s3_program.proofs.StartedLemmas.{types_stand}
-use Rattle.s3_program.proofs.TypeLemmas.{same_file, starts_have_files}
+use Rattle.s3_program.proofs.TypeLemmas.{both, same_file, starts_have_files}
 use Rattle.s3_match.specs.Inner.Types.{tables_in, name_of_file, kind_at, no_type, is_type_start, entry_holds, further_hold, type_holds, first_that_holds}
 
 -- ---- codes
@@ -70,16 +71,6 @@ holds_on tables inputs start name bytes (AndCodes codes ∷ lines) own e = nothi
 holds_on tables inputs start name bytes (OrCodes indicator codes ∷ lines) own e = (λ i. e i && sym (codes_all bytes tables codes lines) i)
 holds_on tables inputs start name bytes (InputField field ∷ lines) own e = nothing own
 
--- where a type's codes hold a type starts
-starts_on : (tables : Tables) (inputs : List (InputLine Reference)) (start : TypeStart) (bytes : List ℕ) (lines : List (InputLine Reference))
-    → type_holds bytes lines ≡ true → is_some (type_on tables inputs start lines) ≡ true
-unfolding type_holds
-starts_on tables inputs start bytes [] h = absurd (true≢false (sym h))
-starts_on tables inputs start bytes (Record file indicator codes ∷ lines) h = refl
-starts_on tables inputs start bytes (AndCodes codes ∷ lines) h = absurd (true≢false (sym h))
-starts_on tables inputs start bytes (OrCodes indicator codes ∷ lines) h = refl
-starts_on tables inputs start bytes (InputField field ∷ lines) h = absurd (true≢false (sym h))
-
 -- ---- the first of many
 same_first : {X Y : Type 0} (at : X → Option Y) (d : Y) (own holds : X → Bool) (p : Y → Bool) (x : X) (xs : List X) (o : Option Y) (b h : Bool)
     → at x ≡ o → own x ≡ b → holds x ≡ h → passes p o ≡ (b && h)
@@ -117,20 +108,63 @@ type_found program file bytes within =
     fits : file < length program.files.items → file < length (tables_in program).files
     fits h = grind (arith, length-map, h)
 
--- what is found is a type
-found_passes : {X : Type 0} (p : X → Bool) (xs : List X) → IfSome (find p xs) (λ x. p x ≡ true)
-found_passes p [] = tt
-found_passes p (x ∷ xs) = elim (cases_Bool (p x)) [
-  | inl is ↦ rw is is
-  | inr not_it ↦ rw not_it (found_passes p xs)
-]
+-- ---- each start of a file is one of a type
+same : (n : ℕ) → (n == n) ≡ true
+same n = grind (arith, nat_tests)
 
-pub type_starts_there : (program : Program) (bytes : List ℕ) (starts : List TypeStart) (found : Option TypeStart) → found ≡ first_that_holds bytes program.inputs.items starts
-    → IfSome found (λ start. IsTrue (is_type_start program start))
-type_starts_there program bytes starts found e =
-    subst (λ (o : Option TypeStart). IfSome o (λ start. IsTrue (is_type_start program start))) (sym e)
-    (on (first_that_holds bytes program.inputs.items starts) (found_passes (λ start. type_holds bytes (drop start.place program.inputs.items)) starts))
+-- a type starts at the place of this line, its fields behind it
+abbrev begins : Tables → List (InputLine Reference) → TypeStart → Bool
+begins tables all start = is_some (type_at tables all start) && start.fields == fields_begin (start.place + 1) (drop (start.place + 1) all)
+
+line_behind : (all : List (InputLine Reference)) (k : ℕ) (line : InputLine Reference) (lines : List (InputLine Reference)) → drop k all ≡ line ∷ lines → drop (k + 1) all ≡ lines
+line_behind all k line lines here = sym (drop-drop 1 k all) ∙ ap (drop 1) here
+
+type_begins : (tables : Tables) (all : List (InputLine Reference)) (file k : ℕ) (line : InputLine Reference) (lines : List (InputLine Reference)) → drop k all ≡ line ∷ lines
+    → is_some (type_on tables all (record { file = file; place = k; fields = fields_begin (k + 1) lines }) (line ∷ lines)) ≡ true
+    → begins tables all (record { file = file; place = k; fields = fields_begin (k + 1) lines }) ≡ true
+type_begins tables all file k line lines here is =
+    both _ _ (ap (λ (ls : List (InputLine Reference)). is_some (type_on tables all (record { file = file; place = k; fields = fields_begin (k + 1) lines }) ls)) here ∙ is)
+    (ap (λ (ls : List (InputLine Reference)). fields_begin (k + 1) lines == fields_begin (k + 1) ls) (line_behind all k line lines here) ∙ same (fields_begin (k + 1) lines))
+
+starts_from : (tables : Tables) (all : List (InputLine Reference)) (last k : ℕ) (lines : List (InputLine Reference)) → drop k all ≡ lines → list_all (begins tables all) (type_starts_from last k lines) ≡ true
+unfolding type_starts_from
+starts_from tables all last k [] here = refl
+starts_from tables all last k (Record file indicator codes ∷ lines) here =
+    both _ _ (type_begins tables all (file_slot last file) k (Record file indicator codes) lines here refl)
+    (starts_from tables all (file_slot last file) (k + 1) lines (line_behind all k (Record file indicator codes) lines here))
+starts_from tables all last k (AndCodes codes ∷ lines) here = starts_from tables all last (k + 1) lines (line_behind all k (AndCodes codes) lines here)
+starts_from tables all last k (OrCodes indicator codes ∷ lines) here =
+    both _ _ (type_begins tables all last k (OrCodes indicator codes) lines here refl) (starts_from tables all last (k + 1) lines (line_behind all k (OrCodes indicator codes) lines here))
+starts_from tables all last k (InputField field ∷ lines) here = starts_from tables all last (k + 1) lines (line_behind all k (InputField field) lines here)
+
+pub all_starts : (program : Program) → list_all (is_type_start program) (type_starts program.files.items program.inputs.items) ≡ true
+all_starts program = starts_from (tables_in program) program.inputs.items (length program.files.items) 0 program.inputs.items refl
+
+all_kept : {X : Type 0} (p q : X → Bool) (xs : List X) → list_all p xs ≡ true → list_all p (filter q xs) ≡ true
+all_kept p q [] all = refl
+all_kept p q (x ∷ xs) all =
+    let parts = and_parts (p x) (list_all p xs) all in
+    step (q x) refl parts.0 (all_kept p q xs parts.1)
   where
-    on : (o : Option TypeStart) → IfSome o (λ start. type_holds bytes (drop start.place program.inputs.items) ≡ true) → IfSome o (λ start. IsTrue (is_type_start program start))
-    on None holds = tt
-    on (Some start) holds = starts_on (tables_in program) program.inputs.items start bytes (drop start.place program.inputs.items) holds
+    step : (b : Bool) → q x ≡ b → p x ≡ true → list_all p (filter q xs) ≡ true → list_all p (filter q (x ∷ xs)) ≡ true
+    step true is here later = rw is (both _ _ here later)
+    step false is here later = rw is later
+
+pub own_are_starts : (program : Program) (file : ℕ) → list_all (is_type_start program) (types_of_file (type_starts program.files.items program.inputs.items) file) ≡ true
+own_are_starts program file = all_kept (is_type_start program) (is_type_of file) (type_starts program.files.items program.inputs.items) (all_starts program)
+
+found_among : {X : Type 0} (p q : X → Bool) (xs : List X) → list_all q xs ≡ true → IfSome (find p xs) (λ x. IsTrue (q x))
+found_among p q [] all = tt
+found_among p q (x ∷ xs) all =
+    let parts = and_parts (q x) (list_all q xs) all in
+    by (p x) parts.0 (found_among p q xs parts.1)
+  where
+    by : (b : Bool) → q x ≡ true → IfSome (find p xs) (λ x. IsTrue (q x)) → IfSome (if b then Some x else find p xs) (λ x. IsTrue (q x))
+    by true here later = here
+    by false here later = later
+
+pub type_starts_there : (program : Program) (file : ℕ) (bytes : List ℕ) (found : Option TypeStart)
+    → found ≡ first_that_holds bytes program.inputs.items (types_of_file (type_starts program.files.items program.inputs.items) file) → IfSome found (λ start. IsTrue (is_type_start program start))
+type_starts_there program file bytes found e =
+    subst (λ (o : Option TypeStart). IfSome o (λ start. IsTrue (is_type_start program start))) (sym e)
+    (found_among (λ start. type_holds bytes (drop start.place program.inputs.items)) (is_type_start program) (types_of_file (type_starts program.files.items program.inputs.items) file) (own_are_starts program file))

@@ -8,6 +8,7 @@ pub mod Heads
 pub mod Holding
 pub mod Keys
 pub mod Laws
+pub mod LevelField
 pub mod Levels
 pub mod Reading
 pub mod Selecting

@@ -4,7 +4,7 @@ ghost use Rattle.std.specs.Prelude.{◌≡◌, ◌≤◌, ◌==◌, ◌&&◌, �
 ghost use Rattle.s3_meaning.specs.Selection.{same_key};
 ghost use Rattle.s3_match.specs.Inner.Controls.{held_in};
 ghost use Rattle.s3_match.specs.Inner.Keys.{held_key};
-ghost use Rattle.s3_match.specs.Inner.Levels.{AreRanged, compared_at, is_ranged};
+ghost use Rattle.s3_match.specs.Inner.LevelField.{compared_at, is_ranged};
 ghost use Rattle.s3_match.specs.Inner.Holding as spec;
 
 use crate::held::HeldField;
@@ -54,7 +54,6 @@ fn hold_level(
     requires nine { length held.old ≡ 9 }
     requires from_one { 1 ≤ level }
     requires to_nine { level ≤ 9 }
-    requires ranged { AreRanged fields.now.fields }
     ensures breaks { result ≡ spec.breaks_by fields.now.fields bytes.now (held_in held.old) level }
     ensures held { (other : ℕ) → held_in held.new other ≡ (if other == level then spec.held_by fields.now.fields bytes.now (held_in held.old) other else held_in held.old other) }
 {
@@ -80,8 +79,7 @@ pub fn hold_fields(
     fields: &LevelFields,
     bytes: &[u8],
 ) -> u8
-    requires nine { length held.old ≡ 9 }
-    requires ranged { AreRanged fields.now.fields }
+    requires { length held.old ≡ 9 }
     ensures { spec.AreHeld fields.now.fields bytes.now held.old held.new result }
 {
     let mut broken = 0;

@@ -1,17 +1,15 @@
 //! Finds the match and control fields of a record type.
 
-ghost use Rattle.std.specs.Prelude.{◌≡◌, drop, IsTrue, IfSome, option_map};
+ghost use Rattle.std.specs.Prelude.{◌≡◌, ◌<◌, drop, length, IsTrue, IfSome};
 ghost use Rattle.std.specs.List.{list_any};
 ghost use Rattle.s3_lines.specs.Inner.Ranges.{field_in_range};
 ghost use Rattle.s3_program.specs.Inner.Starts.{is_type};
-ghost use Rattle.s3_match.specs.Inner.Types.{is_type_start, kind_at};
 ghost use Rattle.s3_match.specs.Inner.Fields as spec;
 
 use s3_lines::indicator::Indicator;
 use s3_lines::sheet::{FieldLine, InputLine};
 use s3_program::mark::Key;
 use s3_program::program::{Program, Reference};
-use s3_program::starts::TypeStart;
 
 /// A field with an entry in 63-64 is one of the types with that indicator alone.
 fn is_own(indicator: Indicator, relation: Option<Indicator>) -> bool
@@ -56,14 +54,14 @@ fn names_level(line: &InputLine<Reference>, key: Key) -> bool
 }
 
 /// Whether any of some lines has a match field, or a control field.
-pub(crate) fn some_names_level(lines: &[InputLine<Reference>], key: Key) -> bool
+fn some_names_level(lines: &[InputLine<Reference>], key: Key) -> bool
     ensures { result ≡ list_any (spec.names_level key) lines.now }
 {
     lines.iter().any(|line| names_level(line, key))
 }
 
 /// The field on a line, if the type with that indicator has it at the level.
-pub(crate) fn field_on(
+fn field_on(
     line: &InputLine<Reference>,
     indicator: Indicator,
     key: Key,
@@ -84,7 +82,7 @@ pub(crate) fn field_on(
 }
 
 /// Whether the fields above it end at a line.
-pub(crate) fn begins_group(line: &InputLine<Reference>) -> bool
+fn begins_group(line: &InputLine<Reference>) -> bool
     ensures { result ≡ spec.begins_group line.now }
 {
     match line {
@@ -126,35 +124,20 @@ pub(crate) fn indicator_on(line: &InputLine<Reference>) -> Option<Indicator>
     }
 }
 
-/// The record identifying indicator of a type.
-pub fn indicator_of(program: &Program, start: TypeStart) -> Indicator
-    requires { IsTrue (is_type_start program.now start) }
-    ensures { result ≡ (kind_at program.now start).indicator }
-{
-    match indicator_on(&program.inputs[start.place]) {
-        Some(indicator) => indicator,
-        None => unreachable!(),
-    }
-}
-
-/// The first match field, or the first control field, of a type at a level, 1 to 9; at any level, where none is asked for.
-pub fn field_at(
+/// The first match field, or the first control field, at a level, 1 to 9, of the type that starts at a line; at any level, where
+/// none is asked for.
+pub(crate) fn field_of_type(
     program: &Program,
-    start: TypeStart,
+    place: usize,
     key: Key,
     level: Option<u8>,
 ) -> Option<FieldLine<Reference>>
-    requires { IsTrue (is_type_start program.now start) }
-    ensures field { option_map (spec.named_field program.now) result ≡ spec.field_at program.now start key level }
+    requires { place < length program.now.inputs.items }
+    ensures field { result ≡ spec.field_of_type key level (drop place program.now.inputs.items) }
     ensures ranged { IfSome result (λ field. IsTrue (field_in_range field)) }
 {
-    first_field(
-        &program.inputs,
-        start.fields,
-        indicator_of(program, start),
-        key,
-        level,
-    )
+    let indicator = indicator_on(&program.inputs[place])?;
+    first_field(&program.inputs, place + 1, indicator, key, level)
 }
 
 /// Whether a record type starts at a line.
@@ -167,12 +150,15 @@ pub(crate) fn starts_type(line: &InputLine<Reference>) -> bool
     }
 }
 
-/// Whether a record type starts there.
-pub(crate) fn is_start(program: &Program, start: TypeStart) -> bool
-    ensures { result ≡ is_type_start program.now start }
+/// Whether a line behind the start of a type has a match field, or a control field.
+#[tactic(auto, using(crate::proofs::NamedLemmas::types_begin, crate::proofs::NamedLemmas::no_type_yet, crate::proofs::NamedLemmas::no_type_at_all))]
+pub(crate) fn some_type_names_level(lines: &[InputLine<Reference>], key: Key) -> bool
+    ensures { result ≡ spec.some_type_names_level key lines.now }
 {
-    if start.place >= program.inputs.len() {
-        return false;
+    for place in 0..lines.len() {
+        if starts_type(&lines[place]) {
+            return some_names_level(&lines[place + 1..], key);
+        }
     }
-    starts_type(&program.inputs[start.place])
+    false
 }

@@ -1,16 +1,15 @@
 //! The primary and secondary files, each with the record at its head.
 
-ghost use Rattle.std.specs.Prelude.{◌≡◌, ◌≤◌, ◌<◌, length, not, true, false, IfOk, IsTrue, if◌then◌else◌};
+ghost use Rattle.std.specs.Prelude.{◌≡◌, ◌≤◌, ◌<◌, length, not, true, false, IfOk};
 ghost use Rattle.s3_meaning.specs.Cycle.{counted_read};
-ghost use Rattle.s3_meaning.specs.Selection as meaning;
+ghost use Rattle.s3_program.specs.declared.mark.Key.TheVariants as key;
 ghost use Rattle.s3_program.specs.declared.program.Program.{Program};
-ghost use Rattle.s3_match.specs.Inner.Types.{is_type_start, kind_at};
+ghost use Rattle.s3_match.specs.Inner.Types.{is_type_start};
 ghost use Rattle.s3_match.specs.Inner.Levels.{AreLevels};
 ghost use Rattle.s3_match.specs.Inner.Heads as spec;
 
 use crate::keys::RecordKey;
 use crate::levels::Levels;
-use s3_program::program::Program;
 use s3_program::starts::TypeStart;
 use s3_records::{RECORD_BYTES, Record};
 use std::alloc::{AllocError, Global};
@@ -118,24 +117,14 @@ impl InputFile {
 
     /// Puts a record of a type at the head and answers true, if it is in sequence: its key isn't below that of the last head with
     /// match fields. Else nothing stands at the head.
-    pub fn put(
-        &mut self,
-        program: &Program,
-        start: TypeStart,
-        levels: &Levels,
-        bytes: &[u8],
-    ) -> bool
+    pub fn put(&mut self, start: TypeStart, levels: &Levels, bytes: &[u8]) -> bool
         requires unread { spec.is_unread self.old ≡ true }
-        requires starts { IsTrue (is_type_start program.now start) }
-        requires prepared { AreLevels program.now levels.now }
         requires fits { length bytes.now ≤ RECORD_BYTES }
-        ensures in_sequence { result ≡ meaning.in_sequence (meaning.match_key (kind_at program.now start) bytes.now) (spec.input_of program.now self.old).last_key }
-        ensures input { spec.input_of program.now self.new ≡ (if result then spec.put program.now start bytes.now (spec.input_of program.now self.old) else spec.input_of program.now self.old) }
-        ensures sound { spec.IsInput program.now self.new }
+        ensures put { (program : Program) → AreLevels key.Match program levels.now → is_type_start program start ≡ true → spec.IsPut program start bytes.now self.old self.new result }
         ensures slot { self.new.file ≡ self.old.file }
         ensures unread { spec.is_unread self.new ≡ not result }
     {
-        self.key.read(program, start, levels, bytes);
+        self.key.read(start, levels, bytes);
         if self.key.is_less(&self.last_key) {
             return false;
         }

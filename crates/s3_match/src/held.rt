@@ -22,7 +22,7 @@ impl HeldField {
     ghost use Rattle.std.specs.Prelude.{◌≡◌, ◌≤◌, None, Some, IsTrue, length};
     ghost use Rattle.s3_meaning.specs.Selection.{same_key};
     ghost use Rattle.s3_match.specs.Inner.Keys.{held_key};
-    ghost use Rattle.s3_match.specs.Inner.Levels.{compared_at, is_ranged};
+    ghost use Rattle.s3_match.specs.Inner.LevelField.{compared_at, is_ranged};
 
     /// No control field is held.
     pub fn none() -> HeldField

@@ -1,16 +1,17 @@
 //! Keys: what the match fields of a record compare, and the control field of a level.
 
-ghost use Rattle.std.specs.Prelude.{◌≡◌, ◌+◌, ◌≤◌, ◌++◌, [], None, IfOk, IsTrue, length, unwrap_or, option_map};
+ghost use Rattle.std.specs.Prelude.{◌≡◌, ◌+◌, ◌≤◌, ◌++◌, [], None, true, IfOk, IsTrue, length, unwrap_or, option_map};
 ghost use Rattle.s3_meaning.specs.Selection as meaning;
 ghost use Rattle.s3_match.specs.Inner.Keys as spec;
 ghost use Rattle.s3_match.specs.Inner.Types.{is_type_start, kind_at};
-ghost use Rattle.s3_match.specs.Inner.Levels.{AreLevels, AreRanged, compared_at, field_in, is_ranged};
+ghost use Rattle.s3_match.specs.Inner.LevelField.{compared_at, field_in, is_ranged};
+ghost use Rattle.s3_match.specs.Inner.Levels.{AreLevels};
+ghost use Rattle.s3_program.specs.declared.mark.Key.TheVariants as key;
+ghost use Rattle.s3_program.specs.declared.program.Program.{Program};
 
 use crate::compared::{field_bytes, is_below, push_compared};
 use crate::key_bytes::{KEY_BYTES, KeyBytes};
 use crate::levels::{LEVELS, LevelField, LevelFields, Levels};
-use s3_program::mark::Key;
-use s3_program::program::Program;
 use s3_program::starts::TypeStart;
 use std::alloc::{AllocError, Global};
 
@@ -27,7 +28,6 @@ pub struct RecordKey {
 fn push_field(compared: &mut KeyBytes, fields: &LevelFields, level: u8, bytes: &[u8])
     requires from_one { 1 ≤ level }
     requires to_nine { level ≤ 9 }
-    requires ranged { AreRanged fields.now.fields }
     requires room { length compared.old + 256 ≤ KEY_BYTES }
     ensures items { compared.new ≡ compared.old ++ unwrap_or (option_map (compared_at bytes.now) (field_in fields.now.fields level)) [] }
     ensures bound { length compared.new ≤ length compared.old + 256 }
@@ -39,8 +39,7 @@ fn push_field(compared: &mut KeyBytes, fields: &LevelFields, level: u8, bytes: &
 
 /// Puts what the match fields compare one behind another, M9 first.
 fn push_match_fields(compared: &mut KeyBytes, fields: &LevelFields, bytes: &[u8])
-    requires ranged { AreRanged fields.now.fields }
-    requires none { compared.old ≡ [] }
+    requires { compared.old ≡ [] }
     ensures { compared.new ≡ spec.match_values fields.now bytes.now meaning.levels }
 {
     for step in 0..LEVELS {
@@ -60,34 +59,18 @@ impl RecordKey {
     }
 
     /// Becomes the key of a record of a type; none where the type has no match fields.
-    pub fn read(&mut self, program: &Program, start: TypeStart, levels: &Levels, bytes: &[u8])
-        requires starts { IsTrue (is_type_start program.now start) }
-        requires prepared { AreLevels program.now levels.now }
-        ensures { spec.key_in self.new ≡ meaning.match_key (kind_at program.now start) bytes.now }
+    pub fn read(&mut self, start: TypeStart, levels: &Levels, bytes: &[u8])
+        ensures { (program : Program) → AreLevels key.Match program levels.now → is_type_start program start ≡ true → spec.key_in self.new ≡ meaning.match_key (kind_at program start) bytes.now }
     {
-        if levels.names(Key::Match) {
-            self.read_named(program, start, levels, bytes);
-        } else {
-            self.is_given = false;
-        }
-    }
-
-    /// Reads the match fields of a record, in a program that has some.
-    #[inline(never)]
-    fn read_named(&mut self, program: &Program, start: TypeStart, levels: &Levels, bytes: &[u8])
-        requires starts { IsTrue (is_type_start program.now start) }
-        requires prepared { AreLevels program.now levels.now }
-        ensures { spec.key_in self.new ≡ meaning.match_key (kind_at program.now start) bytes.now }
-    {
-        match levels.prepared(start, Key::Match) {
+        match levels.of_type(start) {
             Some(fields) => self.read_fields(fields, bytes),
-            None => self.read_fields(&LevelFields::of(program, start, Key::Match), bytes),
+            None => self.is_given = false,
         }
     }
 
     /// Becomes the key of a record whose type has these match fields; none where it has none.
+    #[inline(never)]
     fn read_fields(&mut self, fields: &LevelFields, bytes: &[u8])
-        requires { AreRanged fields.now.fields }
         ensures { spec.key_in self.new ≡ spec.key_by fields.now bytes.now }
     {
         self.is_given = fields.is_any;

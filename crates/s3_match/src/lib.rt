@@ -5,13 +5,15 @@
 //!
 //! What is proved:
 //! - `Reading::type_of` and `type_in` give the first type of a file all of whose codes hold, by where types start;
+//! - the match and control fields of each record type are prepared, none left out (`Levels::of_type`);
 //! - a key is what the match fields compare, M9 first, in 2,304 bytes at most (`RecordKey::read`), and its order is that of keys
 //!   (`is_less`, `is_same`);
 //! - what a job reads first (`Reading::first`), which file is read next (`first_unread_from`), and that a record is put at the head
 //!   of its file exactly where it is in sequence (`Reading::put`);
 //! - which head is processed next, also at the end (`select`), and what is left once it is taken (`Reading::take`); MR
 //!   (`is_matched`) and the end by E (`has_met_end`);
-//! - the greatest level that breaks, and what is held after it (`Controls::break_and_hold`);
+//! - the greatest level that breaks, and what is held after it (`Controls::break_and_hold`), and whether total time is due behind a
+//!   record (`makes_totals_due`);
 //! - only `Reading::first` takes memory.
 //!
 //! Laws of these: `files_are_read_in_turn`, `an_answer_stands_at_its_file`, `ties_go_to_the_first`,

@@ -11,13 +11,13 @@ ghost use Rattle.s3_meaning.specs.Cycle.{counted_read, first_reading};
 ghost use Rattle.s3_meaning.specs.Environment.{Environment, on_at_first};
 ghost use Rattle.s3_meaning.specs.Source.{is_designated, is_input};
 ghost use Rattle.s3_meaning.specs.Selection as meaning;
-ghost use Rattle.s3_meaning.specs.Selection.{Selected, in_sequence, match_key};
+ghost use Rattle.s3_meaning.specs.Selection.{Selected};
 ghost use Rattle.s3_program.specs.declared.program.Program.{Program};
 ghost use Rattle.s3_program.specs.Inner.Stands.{source_named};
 ghost use Rattle.s3_match.specs.Inner.BeginningEnvironment.{BeginsWith, holds_at_first};
 ghost use Rattle.s3_match.specs.Inner.Choice.{IsHeadAt};
 ghost use Rattle.s3_match.specs.declared.heads.InputFile.{InputFile};
-ghost use Rattle.s3_match.specs.Inner.Heads.{ended, file_at, put as put_head};
+ghost use Rattle.s3_match.specs.Inner.Heads.{ended, file_at};
 ghost use Rattle.s3_match.specs.Inner.Beginning.{IsFirst, AreFirst};
 ghost use Rattle.s3_match.specs.Inner.Keys.{key_in};
 ghost use Rattle.s3_match.specs.Inner.Reading as spec;
@@ -34,6 +34,7 @@ use crate::types::{only_type, type_of};
 use s3_lines::indicator::Indicator;
 use s3_lines::sheet::{Designation, FileLine, InputLine};
 use s3_meaning::is_switch_on;
+use s3_program::mark::Key;
 use s3_program::program::{Program, Reference};
 use s3_program::starts::TypeStart;
 use s3_records::RECORD_BYTES;
@@ -47,8 +48,10 @@ pub struct Reading {
     pub files: Vec<InputFile>,
     /// The key of the last selected primary record with match fields.
     pub primary_key: RecordKey,
-    /// The match and control fields of its record types.
-    pub levels: Levels,
+    /// The match fields of its record types.
+    pub match_levels: Levels,
+    /// Their control fields.
+    pub control_levels: Levels,
     /// For each file of the program, by slot, the type of all its records where its first type has no codes; else none.
     pub only_types: Vec<Option<TypeStart>>,
     /// The numbers (`Indicator::number`) of all record identifying indicators of the program.
@@ -216,7 +219,8 @@ impl Reading {
         Ok(Reading {
             files,
             primary_key: RecordKey::none(alloc)?,
-            levels: Levels::of(alloc, program)?,
+            match_levels: Levels::of(alloc, program, Key::Match)?,
+            control_levels: Levels::of(alloc, program, Key::Control)?,
             only_types: only_types(alloc, program)?,
             type_numbers: type_numbers(alloc, program)?,
             line_numbers: line_numbers(alloc, program)?,
@@ -330,16 +334,12 @@ impl Reading {
 
     /// Puts a record of a type at the head of the file at a place and answers true, if it is in sequence: its key isn't below
     /// that of the file's last head with match fields. Else it answers false.
-    pub fn put(&mut self, program: &Program, place: usize, start: TypeStart, bytes: &[u8]) -> bool
+    pub fn put(&mut self, place: usize, start: TypeStart, bytes: &[u8]) -> bool
         requires unread { IsUnreadAt self.old.files.items place }
-        requires sound { IsReading program.now self.old }
-        requires starts { IsTrue (is_type_start program.now start) }
         requires fits { length bytes.now ≤ RECORD_BYTES }
-        ensures in_sequence { result ≡ in_sequence (match_key (kind_at program.now start) bytes.now) (input_at (reading_in program.now self.old).files place).last_key }
-        ensures sound { IsReading program.now self.new }
+        ensures put { (program : Program) → IsReading program self.old → is_type_start program start ≡ true → spec.IsPut program place start bytes.now self.old self.new result }
         ensures unread { spec.is_unread_at self.new.files.items place ≡ not result }
-        ensures reading { reading_in program.now self.new ≡ (if result then changed_at place (put_head program.now start bytes.now) (reading_in program.now self.old) else reading_in program.now self.old) }
     {
-        self.files[place].put(program, start, &self.levels, bytes)
+        self.files[place].put(start, &self.match_levels, bytes)
     }
 }

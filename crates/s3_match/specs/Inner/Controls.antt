@@ -1,17 +1,11 @@
 -- The control fields that are held, and what breaks.
-use Rattle.std.specs.Prelude.{◌≡◌, ℕ, zero, suc, Bool, false, not, ◌&&◌, List, [], ◌∷◌, Option, None, is_some, find, slice_get, unwrap_or, if◌then◌else◌}
+use Rattle.std.specs.Prelude.{◌≡◌, ℕ, zero, suc, Bool, not, ◌&&◌, List, Option, None, is_some, find, slice_get, unwrap_or}
 use Rattle.std.specs.Option.{option_and_then, option_or}
-use Rattle.std.specs.List.{list_any}
-use Rattle.s3_lines.specs.declared.sheet.InputLine.{InputLine}
 use Rattle.s3_meaning.specs.RecordTypes.{RecordType}
 use Rattle.s3_meaning.specs.Selection.{control_value, same_key, levels}
-use Rattle.s3_program.specs.declared.mark.Key.TheVariants as key
 use Rattle.s3_program.specs.declared.program.Program.{Program}
-use Rattle.s3_program.specs.declared.program.Reference.{Reference}
 use Rattle.s3_program.specs.declared.starts.TypeStart.{TypeStart}
-use Rattle.s3_program.specs.Inner.Starts.{is_type}
 use Rattle.s3_match.specs.declared.held.HeldField.{HeldField}
-use Rattle.s3_match.specs.Inner.Fields.{names_level}
 use Rattle.s3_match.specs.Inner.Keys.{held_key}
 use Rattle.s3_match.specs.Inner.Types.{kind_at}
 
@@ -32,13 +26,3 @@ break_of held kind bytes = unwrap_or (find (breaks_at held kind bytes) levels) 0
 pub record Breaks (program : Program) (start : TypeStart) (bytes : List ℕ) (old new : List HeldField) (broken : ℕ) : Type 0 where
   pub breaks : broken ≡ break_of (held_in old) (kind_at program start) bytes
   pub held : (n : ℕ) → held_in new n ≡ option_or (control_value (kind_at program start) bytes n) (held_in old n)
-
--- ---- on the lines as they stand
--- a field with a control level
-abbrev pub names_some_level : InputLine Reference → Bool
-names_some_level = names_level key.Control
-
--- such a field behind the line where the first record type starts
-unfoldable pub some_type_names_level : List (InputLine Reference) → Bool
-some_type_names_level [] = false
-some_type_names_level (line ∷ lines) = if is_type line then list_any names_some_level lines else some_type_names_level lines

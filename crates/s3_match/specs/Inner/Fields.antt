@@ -1,6 +1,6 @@
 -- The match and control fields of record types, on the lines as they stand.
 use Rattle.std.specs.Prelude.{ℕ, ◌==◌, Bool, true, false, not, ◌||◌, ◌&&◌, List, [], ◌∷◌, Option, Some, None, is_some, find, if◌then◌else◌}
-use Rattle.std.specs.Option.{option_or}
+use Rattle.std.specs.Option.{option_and_then, option_or}
 use Rattle.std.specs.List.{list_any}
 use Rattle.s3_cards.specs.declared.name.Name.{Name}
 use Rattle.s3_lines.specs.declared.indicator.Indicator.{Indicator}
@@ -15,6 +15,7 @@ use Rattle.s3_program.specs.declared.program.Program.{Program}
 use Rattle.s3_program.specs.declared.program.Reference.{Reference}
 use Rattle.s3_program.specs.declared.starts.TypeStart.{TypeStart}
 use Rattle.s3_program.specs.Lines.{map_field}
+use Rattle.s3_program.specs.Inner.Starts.{is_type}
 use Rattle.s3_program.specs.Inner.Tables.{name_of}
 use Rattle.s3_match.specs.Inner.Types.{tables_in, kind_at}
 
@@ -57,15 +58,22 @@ indicator_on (AndCodes codes) = None
 indicator_on (OrCodes indicator codes) = Some indicator
 indicator_on (InputField field) = None
 
--- ---- whether any line has such a field
+-- such a field of the type that starts at the first of these lines
+abbrev pub field_of_type : Key → Option ℕ → List (InputLine Reference) → Option (FieldLine Reference)
+field_of_type key level [] = None
+field_of_type key level (line ∷ lines) = option_and_then (λ indicator. first_field indicator key level lines) (indicator_on line)
+
+-- ---- whether any type has such a field
 abbrev pub names_level : Key → InputLine Reference → Bool
 names_level key (Record file indicator codes) = false
 names_level key (AndCodes codes) = false
 names_level key (OrCodes indicator codes) = false
 names_level key (InputField field) = is_some (level_of key field)
 
-abbrev pub some_names_level : Program → Key → Bool
-some_names_level program key = list_any (names_level key) program.inputs.items
+-- such a line behind that where the first record type starts
+unfoldable pub some_type_names_level : Key → List (InputLine Reference) → Bool
+some_type_names_level key [] = false
+some_type_names_level key (line ∷ lines) = if is_type line then list_any (names_level key) lines else some_type_names_level key lines
 
 -- ---- by what the type's own fields are
 abbrev pub field_at : Program → TypeStart → Key → Option ℕ → Option (FieldLine Name)

@@ -6,7 +6,7 @@ use Rattle.s3_meaning.specs.Selection.{levels, same_key}
 use Rattle.s3_match.specs.declared.held.HeldField.{HeldField}
 use Rattle.s3_match.specs.declared.levels.LevelField.{LevelField}
 use Rattle.s3_match.specs.Inner.Controls.{held_in}
-use Rattle.s3_match.specs.Inner.Levels.{compared_at, field_in}
+use Rattle.s3_match.specs.Inner.LevelField.{compared_at, field_in}
 
 -- what the field of a level compares
 abbrev pub value_by : List (Option LevelField) → List ℕ → ℕ → Option (List ℕ)

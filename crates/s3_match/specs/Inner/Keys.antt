@@ -4,7 +4,7 @@ use Rattle.s3_meaning.specs.Selection.{levels}
 use Rattle.s3_match.specs.declared.held.HeldField.{HeldField}
 use Rattle.s3_match.specs.declared.keys.RecordKey.{RecordKey}
 use Rattle.s3_match.specs.declared.levels.LevelFields.{LevelFields}
-use Rattle.s3_match.specs.Inner.Levels.{compared_at, field_in}
+use Rattle.s3_match.specs.Inner.LevelField.{compared_at, field_in}
 
 abbrev pub key_in : RecordKey → Option (List ℕ)
 key_in key = if key.is_given then Some key.bytes else None

@@ -1,5 +1,5 @@
 -- Record types by where they start among the I lines of a program.
-use Rattle.std.specs.Prelude.{ℕ, ◌≡◌, IfSome, Bool, true, false, ◌&&◌, List, [], ◌∷◌, Option, Some, None, is_some, unwrap_or, find, drop}
+use Rattle.std.specs.Prelude.{ℕ, ◌≡◌, ◌+◌, ◌==◌, IfSome, Bool, true, false, ◌&&◌, List, [], ◌∷◌, Option, Some, None, is_some, unwrap_or, find, drop}
 use Rattle.std.specs.List.{list_all}
 use Rattle.s3_cards.specs.declared.name.Name.{Name}
 use Rattle.s3_cards.specs.Names.{no_name}
@@ -14,7 +14,7 @@ use Rattle.s3_program.specs.declared.program.Reference.{Reference}
 use Rattle.s3_program.specs.declared.starts.TypeStart.{TypeStart}
 use Rattle.s3_program.specs.Inner.Stands.{parts_of}
 use Rattle.s3_program.specs.Inner.Started.{type_at}
-use Rattle.s3_program.specs.Inner.Starts.{types_of_file, type_starts}
+use Rattle.s3_program.specs.Inner.Starts.{fields_begin, types_of_file, type_starts}
 use Rattle.s3_program.specs.Tables.{Tables}
 use Rattle.s3_program.specs.Inner.Tables.{name_in}
 use Rattle.s3_program.specs.Inner.Valid.{tables_of}
@@ -30,9 +30,11 @@ name_of_file program file = name_in (tables_in program).files file
 abbrev pub no_type : RecordType
 no_type = record { file = no_name; indicator = LastRecord; codes = []; fields = [] }
 
--- whether a record type starts there
+-- whether a record type starts there, with its fields behind its AND and OR lines
 abbrev pub is_type_start : Program → TypeStart → Bool
-is_type_start program start = is_some (type_at (tables_in program) program.inputs.items start)
+is_type_start program start =
+    is_some (type_at (tables_in program) program.inputs.items start)
+    && start.fields == fields_begin (start.place + 1) (drop (start.place + 1) program.inputs.items)
 
 -- the record type that starts there
 abbrev pub kind_at : Program → TypeStart → RecordType

@@ -7,8 +7,8 @@ use Rattle.s3_match.proofs.keys.push_match_fields.Goals as goal
 
 pub loop-step-init : goal.loop-step-init
 loop-step-init c = record {
-  items = none_yet c.args.fields.now c.args.bytes.now c.args.compared.now c.requires.none;
-  room = no_room_taken c.args.compared.now c.requires.none;
+  items = none_yet c.args.fields.now c.args.bytes.now c.args.compared.now c.requires;
+  room = no_room_taken c.args.compared.now c.requires;
 }
 
 pub push_field-requires-clause-room : goal.push_field-requires-clause-room

@@ -8,4 +8,4 @@ returns-clause-found c =
     ap (option_map (kind_at c.args.program.now)) c.type_by_codes.ensures ∙ type_found c.args.program.now c.args.file c.args.bytes.now c.requires
 
 pub returns-clause-starts : goal.returns-clause-starts
-returns-clause-starts c = type_starts_there c.args.program.now c.args.bytes.now _ _ c.type_by_codes.ensures
+returns-clause-starts c = type_starts_there c.args.program.now c.args.file c.args.bytes.now _ c.type_by_codes.ensures

@@ -5,7 +5,7 @@ use Rattle.s3_match.proofs.reading.Reading.count_read.Goals as goal
 
 pub returns-clause-sound : goal.returns-clause-sound
 returns-clause-sound c = λ program sound.
-    still_sound program c.args.self.now _ c.args.place c.index_mut.result.now c.count_read.new.self c.requires.unread.within c.index_mut.ensures.value refl refl refl refl refl c.count_read.ensures.slot
+    still_sound program c.args.self.now _ c.args.place c.index_mut.result.now c.count_read.new.self c.requires.unread.within c.index_mut.ensures.value refl refl refl refl refl refl c.count_read.ensures.slot
     (headless program c.count_read.new.self (unread_headless c.count_read.new.self c.count_read.ensures.unread)) sound
 
 pub returns-clause-unread : goal.returns-clause-unread

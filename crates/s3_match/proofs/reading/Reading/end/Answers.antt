@@ -5,7 +5,7 @@ use Rattle.s3_match.proofs.reading.Reading.end.Goals as goal
 
 pub returns-clause-sound : goal.returns-clause-sound
 returns-clause-sound c = λ program sound.
-    still_sound program c.args.self.now _ c.args.place c.index_mut.result.now c.end.new.self c.requires.within c.index_mut.ensures.value refl refl refl refl refl c.end.ensures.slot (headless program c.end.new.self c.end.ensures.head) sound
+    still_sound program c.args.self.now _ c.args.place c.index_mut.result.now c.end.new.self c.requires.within c.index_mut.ensures.value refl refl refl refl refl refl c.end.ensures.slot (headless program c.end.new.self c.end.ensures.head) sound
 
 pub returns-clause-reading : goal.returns-clause-reading
 returns-clause-reading c = λ program.

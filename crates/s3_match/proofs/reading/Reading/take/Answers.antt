@@ -6,7 +6,7 @@ use Rattle.s3_match.proofs.reading.Reading.take.Goals as goal
 
 pub returns-clause-sound : goal.returns-clause-sound
 returns-clause-sound c =
-    still_sound c.args.program.now c.args.self.now _ c.args.place c.index_mut.result.now c.vacate.new.self c.requires.head.within c.index_mut.ensures.value refl refl refl refl refl c.vacate.ensures.slot
+    still_sound c.args.program.now c.args.self.now _ c.args.place c.index_mut.result.now c.vacate.new.self c.requires.head.within c.index_mut.ensures.value refl refl refl refl refl refl c.vacate.ensures.slot
     (headless c.args.program.now c.vacate.new.self (unread_headless c.vacate.new.self c.vacate.ensures.unread)) c.requires.sound
 
 pub returns-clause-taken : goal.returns-clause-taken

@@ -17,4 +17,4 @@ returns-then-is_some-clause-starts c =
     let told = c.requires.sound.only_types in
     let within : c.args.file < length c.args.self.now.only_types.items = omega (arith, told.many, c.requires.within) in
     let is = subst (IsOnlyType c.args.program.now c.args.file) (sym c.index.ensures) (told.each c.args.file _ within) in
-    type_starts_there c.args.program.now c.args.bytes.now _ _ (only_found c.args.program.now c.args.file c.args.bytes.now c.index.result.now is (sym c.is_some.ensures ∙ c.if-is_some.true))
+    type_starts_there c.args.program.now c.args.file c.args.bytes.now _ (only_found c.args.program.now c.args.file c.args.bytes.now c.index.result.now is (sym c.is_some.ensures ∙ c.if-is_some.true))

@@ -1,6 +1,0 @@
-use Rattle.std.proofs.Common.{◌≡◌, drop}
-use Rattle.s3_match.specs.Inner.Controls.{some_type_names_level}
-use Rattle.s3_match.proofs.controls.some_type_names_level.Given as goal
-
-abbrev pub invariant-loop-place : goal.invariant-loop-place
-invariant-loop-place l = some_type_names_level l.lines ≡ some_type_names_level (drop l.place l.lines)
