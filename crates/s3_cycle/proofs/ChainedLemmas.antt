@@ -34,7 +34,8 @@ use Rattle.s3_cycle.specs.Inner.Fields.{found_from}
 use Rattle.s3_cycle.specs.Inner.Going.{AreWithin, CanCalculate, CanMove, Changes, GoesOn, IsRunning, IsTime, held_by, here, own}
 use Rattle.s3_cycle.proofs.CurrentLemmas.{current_set}
 use Rattle.s3_cycle.proofs.GoingLemmas.{goes_as, goes_changed, goes_then}
-use Rattle.s3_cycle.proofs.HeadLemmas.{EndWithin, at_most, file_there, kind_fields}
+use Rattle.s3_cycle.proofs.HeadLemmas.{EndWithin, at_most, file_there}
+use Rattle.s3_match.proofs.FieldLemmas.{kind_fields}
 
 -- the fields of a record of a type end within it
 pub chained_within : (p : Program) (file : ℕ) (start : TypeStart) (bytes : List ℕ) → file < length p.files.items → is_type_start p start ≡ true → type_of (source_named p) (name_of_file p file) bytes ≡ Some (kind_at p start)

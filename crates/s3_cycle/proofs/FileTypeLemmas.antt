@@ -3,7 +3,7 @@ use Rattle.std.proofs.Common.{◌≡◌, ℕ, ◌+◌, ◌<◌, ◌&&◌, ◌||�
 use Rattle.std.specs.Prelude.{Option, Some, None, is_some, unwrap_or, filter, filter_map, nat_lt, if◌then◌else◌}
 use Rattle.std.specs.List.{list_any, list_all}
 use Rattle.std.proofs.lemmas.Bool.{and_parts, true≢false}
-use Rattle.std.proofs.lemmas.List.{drop-drop, get_or-map, length-map}
+use Rattle.std.proofs.lemmas.List.{get_or-map, length-map}
 use Rattle.s3_cards.specs.declared.name.Name.{Name}
 use Rattle.s3_cards.specs.Names.{same_name}
 use Rattle.s3_lines.specs.Indicators.{indicator_number}
@@ -16,13 +16,15 @@ use Rattle.s3_program.specs.declared.program.Program.{Program}
 use Rattle.s3_program.specs.declared.program.Reference.{Reference}
 use Rattle.s3_program.specs.declared.starts.TypeStart.{TypeStart}
 use Rattle.s3_program.specs.Inner.Started.{type_at, type_on}
-use Rattle.s3_program.specs.Inner.Starts.{fields_begin, file_slot, is_type_of, types_of_file, type_starts, type_starts_from}
+use Rattle.s3_program.specs.Inner.Starts.{is_type_of, types_of_file, type_starts}
 use Rattle.s3_program.specs.Inner.Stands.{parts_of, source_named}
 use Rattle.s3_program.specs.Tables.{Tables}
 use Rattle.s3_program.specs.Inner.Tables.{name_in}
 use Rattle.s3_program.proofs.SlotLemmas.{kept}
 use Rattle.s3_program.proofs.StartedLemmas.{types_stand}
 use Rattle.s3_program.proofs.TypeLemmas.{both, same_file, starts_have_files}
+use Rattle.s3_match.proofs.FieldLemmas.{type_is}
+use Rattle.s3_match.proofs.TypeLemmas.{all_starts}
 use Rattle.s3_match.specs.Inner.Types.{tables_in, is_type_start, kind_at, name_of_file, no_type}
 use Rattle.s3_operations.specs.declared.indicators.Indicators.{Indicators}
 use Rattle.s3_operations.specs.declared.values.Values.{Values}
@@ -45,34 +47,6 @@ one_type_off p old new starts k number d other v within is set before =
     turned_to old new (shown p (get_or starts k d)) other false number is set
     ∙ ap (λ (i : Indicator). if same_indicator other i then false else on_in old other) (sym here)
     ∙ one_off (shown_by p starts) k (shown p d) other v (on_in old other) (omega (arith, within, length-map starts (shown p))) before
-
--- ---- each start of a file is one of a type
-starts_from : (tables : Tables) (all : List (InputLine Reference)) (last k : ℕ) (lines : List (InputLine Reference)) → drop k all ≡ lines
-    → list_all (λ start. is_some (type_at tables all start)) (type_starts_from last k lines) ≡ true
-unfolding type_starts_from
-starts_from tables all last k [] here = refl
-starts_from tables all last k (Record file indicator codes ∷ lines) here =
-    both _ _ (ap (λ (ls : List (InputLine Reference)). is_some (type_on tables all (record { file = file_slot last file; place = k; fields = fields_begin (k + 1) lines }) ls)) here) (starts_from tables all (file_slot last file) (k + 1) lines (sym (drop-drop 1 k all) ∙ ap (drop 1) here))
-starts_from tables all last k (AndCodes codes ∷ lines) here = starts_from tables all last (k + 1) lines (sym (drop-drop 1 k all) ∙ ap (drop 1) here)
-starts_from tables all last k (OrCodes indicator codes ∷ lines) here =
-    both _ _ (ap (λ (ls : List (InputLine Reference)). is_some (type_on tables all (record { file = last; place = k; fields = fields_begin (k + 1) lines }) ls)) here) (starts_from tables all last (k + 1) lines (sym (drop-drop 1 k all) ∙ ap (drop 1) here))
-starts_from tables all last k (InputField field ∷ lines) here = starts_from tables all last (k + 1) lines (sym (drop-drop 1 k all) ∙ ap (drop 1) here)
-
-all_starts : (p : Program) → list_all (is_type_start p) (type_starts p.files.items p.inputs.items) ≡ true
-all_starts p = starts_from (tables_in p) p.inputs.items (length p.files.items) 0 p.inputs.items refl
-
-all_kept : {X : Type 0} (p q : X → Bool) (xs : List X) → list_all p xs ≡ true → list_all p (filter q xs) ≡ true
-all_kept p q [] all = refl
-all_kept p q (x ∷ xs) all =
-    let parts = and_parts (p x) (list_all p xs) all in
-    step (q x) refl parts.0 (all_kept p q xs parts.1)
-  where
-    step : (b : Bool) → q x ≡ b → p x ≡ true → list_all p (filter q xs) ≡ true → list_all p (filter q (x ∷ xs)) ≡ true
-    step true is here later = rw is (both _ _ here later)
-    step false is here later = rw is later
-
-pub own_are_starts : (p : Program) (file : ℕ) → list_all (is_type_start p) (types_of_file (type_starts p.files.items p.inputs.items) file) ≡ true
-own_are_starts p file = all_kept (is_type_start p) (is_type_of file) (type_starts p.files.items p.inputs.items) (all_starts p)
 
 -- ---- the types of the source by their starts
 abbrev passes : {Y : Type 0} → (Y → Bool) → Option Y → Bool
@@ -132,7 +106,7 @@ own_types p file other within =
     (λ (kind : RecordType). same_name kind.file (name_of_file p file) && same_indicator other kind.indicator)
     (λ start good.
     let parts = and_parts (has_file p start) (is_type_start p start) good in
-    type_passes (tables_in p) p.inputs.items start (λ name. same_name name (name_of_file p file)) other (drop start.place p.inputs.items) parts.1
+    type_passes (tables_in p) p.inputs.items start (λ name. same_name name (name_of_file p file)) other (drop start.place p.inputs.items) (type_is p start parts.1)
     ∙ ap (λ b. b && same_indicator other (shown p start)) (same_file (tables_in p).files start.file file keeps.files_distinct parts.0 (fits within)))
     (type_starts p.files.items p.inputs.items) (all_both (has_file p) (is_type_start p) (type_starts p.files.items p.inputs.items) (starts_have_files p) (all_starts p)))
     ∙ ap (list_any (λ (kind : RecordType). same_name kind.file (name_of_file p file) && same_indicator other kind.indicator)) (types_stand p)

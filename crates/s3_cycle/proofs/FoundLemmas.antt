@@ -1,5 +1,5 @@
 -- The record that a CHAIN finds.
-use Rattle.std.proofs.Common.{◌≡◌, ℕ, List, [], ◌∷◌, false, sym, ap, ◌∙◌, subst}
+use Rattle.std.proofs.Common.{◌≡◌, ℕ, List, false, sym, ap, subst}
 use Rattle.std.specs.Prelude.{Option, option_map}
 use Rattle.s3_lines.specs.declared.indicator.Indicator.{Indicator}
 use Rattle.s3_meaning.specs.RecordTypes.{RecordType}

@@ -1,5 +1,5 @@
 -- The fields of the records at heads stand within them, as files are read and heads taken.
-use Rattle.std.proofs.Common.{◌≡◌, ℕ, ◌<◌, ◌≤◌, length, get_or, map, drop, List, [], ◌∷◌, Bool, true, false, refl, sym, ◌∙◌, ap, subst, zero, suc, arith}
+use Rattle.std.proofs.Common.{◌≡◌, ℕ, ◌<◌, ◌≤◌, length, get_or, map, List, [], ◌∷◌, Bool, true, false, refl, sym, ◌∙◌, ap, subst, zero, suc, arith}
 use Rattle.std.specs.Prelude.{Option, Some, None, is_some, unwrap_or, slice_get, nat_le, if◌then◌else◌}
 use Rattle.std.specs.List.{All, list_all}
 use Rattle.std.proofs.lemmas.Bool.{and_parts, true≢false}
@@ -10,17 +10,12 @@ use Rattle.s3_cards.specs.declared.name.Name.{Name}
 use Rattle.s3_cards.specs.Names.{same_name}
 use Rattle.s3_lines.specs.declared.sheet.FieldLine.{FieldLine}
 use Rattle.s3_lines.specs.declared.sheet.FileLine.{FileLine}
-use Rattle.s3_lines.specs.declared.sheet.InputLine.{InputLine}
-use Rattle.s3_lines.specs.declared.sheet.InputLine.TheVariants.{Record, And as AndCodes, Or as OrCodes, Field as InputField}
 use Rattle.s3_meaning.specs.RecordTypes.{RecordType}
 use Rattle.s3_meaning.specs.Selection as meaning
 use Rattle.s3_meaning.specs.Selection.{type_of}
 use Rattle.s3_program.specs.declared.program.Program.{Program}
-use Rattle.s3_program.specs.declared.program.Reference.{Reference}
 use Rattle.s3_program.specs.declared.starts.TypeStart.{TypeStart}
 use Rattle.s3_program.specs.Inner.Stands.{source_named}
-use Rattle.s3_program.specs.Inner.Started.{type_on}
-use Rattle.s3_operations.specs.Inner.Fits.{tables}
 use Rattle.s3_cycle.proofs.WithinLemmas.{fields_within, file_found}
 use Rattle.s3_match.specs.declared.heads.InputFile.{InputFile}
 use Rattle.s3_match.specs.declared.heads.Standing.{Standing}
@@ -29,9 +24,9 @@ use Rattle.s3_match.specs.declared.reading.Reading.{Reading}
 use Rattle.s3_match.specs.Inner.Heads.{no_file, file_at, input_of, standing_as, put, IsInput}
 use Rattle.s3_match.specs.Inner.Reading.{reading_in, input_at, changed_at, IsReading}
 use Rattle.s3_match.specs.Inner.Selecting.{inputs_of}
-use Rattle.s3_match.specs.Inner.Types.{no_type, is_type_start, kind_at}
+use Rattle.s3_match.specs.Inner.Types.{kind_at}
+use Rattle.s3_match.proofs.FieldLemmas.{kind_fields}
 use Rattle.s3_match.proofs.ReadingLemmas.{input_there, input_slot}
-use Rattle.s3_cycle.specs.Inner.Rest.{fields_at}
 use Rattle.s3_cycle.specs.declared.stepper.Stepper.{Stepper}
 use Rattle.s3_meaning.specs.Cycle.{counted_read}
 use Rattle.s3_cycle.specs.Inner.Going.{IsHeadWithin, IsRunning}
@@ -44,17 +39,6 @@ abbrev pub IsWithin : meaning.InputFile → Type 0
 IsWithin input = (head : meaning.Head) → input.standing ≡ meaning.Stands head → EndWithin head.bytes head.kind.fields
 
 -- ---- heads as they are kept, and as they are meant
-pub kind_fields : (program : Program) (start : TypeStart) → is_type_start program start ≡ true → (kind_at program start).fields ≡ fields_at program start.fields
-kind_fields program start starts = by (drop start.place program.inputs.items) starts
-  where
-    by : (lines : List (InputLine Reference)) → is_some (type_on (tables program) program.inputs.items start lines) ≡ true
-        → (unwrap_or (type_on (tables program) program.inputs.items start lines) no_type).fields ≡ fields_at program start.fields
-    by [] h = absurd (true≢false (sym h))
-    by (Record file indicator codes ∷ lines) h = refl
-    by (AndCodes codes ∷ lines) h = absurd (true≢false (sym h))
-    by (OrCodes indicator codes ∷ lines) h = refl
-    by (InputField field ∷ lines) h = absurd (true≢false (sym h))
-
 head_on : meaning.Standing → Option meaning.Head
 head_on (meaning.Stands head) = Some head
 head_on meaning.Unread = None

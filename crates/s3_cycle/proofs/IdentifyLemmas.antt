@@ -21,6 +21,7 @@ use Rattle.s3_operations.specs.Inner.Held.{held, Changes as ChangesValues}
 use Rattle.s3_operations.specs.Inner.Indicating.{type_indicator, with_levels_to}
 use Rattle.s3_operations.specs.Inner.Indicators.{is_settable, is_settable_entry}
 use Rattle.s3_operations.proofs.IndicatingLemmas.{types_settable}
+use Rattle.s3_match.proofs.FieldLemmas.{type_is}
 use Rattle.s3_match.specs.declared.controls.Controls.{Controls}
 use Rattle.s3_match.specs.declared.heads.InputFile.{InputFile}
 use Rattle.s3_match.specs.Inner.Controls.{break_of, held_in}
@@ -41,7 +42,7 @@ all_behind (suc k) [] all = refl
 all_behind (suc k) (line ∷ lines) all = all_behind k lines (and_parts (is_settable_entry (type_indicator line)) (list_all is_settable_entry (map type_indicator lines)) all).1
 
 pub kind_settable : (program : Program) (start : TypeStart) → is_type_start program start ≡ true → is_settable (kind_at program start).indicator ≡ true
-kind_settable program start starts = by (drop start.place program.inputs.items) (all_behind start.place program.inputs.items (types_settable program)) starts
+kind_settable program start starts = by (drop start.place program.inputs.items) (all_behind start.place program.inputs.items (types_settable program)) (type_is program start starts)
   where
     by : (lines : List (InputLine Reference)) → list_all is_settable_entry (map type_indicator lines) ≡ true → is_some (type_on (tables program) program.inputs.items start lines) ≡ true
         → is_settable (unwrap_or (type_on (tables program) program.inputs.items start lines) no_type).indicator ≡ true

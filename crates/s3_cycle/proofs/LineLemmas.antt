@@ -1,9 +1,10 @@
 -- Lines of the O sheet that are put out together: which of them are passed over, and what one that is due does.
-use Rattle.std.proofs.Common.{◌≡◌, ℕ, zero, suc, ◌+◌, ◌<◌, ◌≤◌, Bool, true, false, ◌&&◌, if◌then◌else◌, List, [], ◌∷◌, length, drop, filter, get_or, Option, Some, None, refl, sym, ◌∙◌, ap, true≢false, arith}
+use Rattle.std.proofs.Common.{◌≡◌, ℕ, zero, suc, ◌+◌, ◌<◌, ◌≤◌, Bool, true, false, ◌&&◌, if◌then◌else◌, List, [], ◌∷◌, ◌++◌, length, drop, get_or, Option, Some, None, Fits, w64, refl, sym, ◌∙◌, ap, subst, true≢false, arith}
 use Rattle.std.specs.Prelude.{slice_get, unwrap_or, option_map, is_some, filter_map}
 use Rattle.std.specs.List.{cons_option}
 use Rattle.std.proofs.lemmas.Bool.{and_parts}
-use Rattle.std.proofs.lemmas.Option.{slice_get-map, slice_get_read}
+use Rattle.std.proofs.lemmas.List.{length-append, length-map}
+use Rattle.std.proofs.lemmas.Option.{slice_get-map, slice_get_read, slice_get_within}
 use Rattle.s3_cards.specs.declared.name.Name.{Name}
 use Rattle.s3_cards.specs.Names.{no_name}
 use Rattle.s3_lines.specs.declared.sheet.FileLine.{FileLine}
@@ -27,14 +28,15 @@ use Rattle.s3_program.specs.Inner.Started.{output_at, output_on}
 use Rattle.s3_program.specs.Inner.Stands.{source_named}
 use Rattle.s3_program.specs.Inner.Tables.{name_in}
 use Rattle.s3_program.specs.FileEntries.{file_entry}
+use Rattle.s3_operations.proofs.ValueLemmas.{get_left}
 use Rattle.s3_operations.specs.Inner.Fits.{tables}
 use Rattle.s3_output.specs.Inner.Lines.{IsLineAt, IsStart}
 use Rattle.s3_output.proofs.LawLemmas.{line_starts, file_there, walked_start}
 use Rattle.s3_output.proofs.StartLemmas.{StartsAt, starts_at}
 use Rattle.s3_instructions.specs.declared.output.instruction.OutputInstruction.{OutputInstruction}
-use Rattle.s3_instructions.specs.declared.output.sheet.OutputSheet.{OutputSheet}
-use Rattle.s3_instructions.specs.Inner.Guards.{guard_holds}
-use Rattle.s3_instructions.specs.Inner.OutputLines.{AreLines, AreOutputs, is_used, lines_of}
+use Rattle.s3_instructions.specs.Inner.OutputGroups.{line_guard_holds}
+use Rattle.s3_instructions.specs.Inner.OutputLines.{IsLine, is_used, own_starts}
+use Rattle.s3_instructions.proofs.OutputPlaceLemmas.{get_right, own_left, passes_kept}
 use Rattle.s3_cycle.specs.declared.stepper.Stepper.{Stepper}
 use Rattle.s3_cycle.specs.Inner.Rest.{starts_of, outputs_from, is_wanted, is_at_overflow, lines_then}
 use Rattle.s3_cycle.specs.Inner.Environment.{environment, others}
@@ -58,15 +60,6 @@ drop_past [] zero past = refl
 drop_past [] (suc k) past = refl
 drop_past (x ∷ xs) zero past = absurd (omega arith)
 drop_past (x ∷ xs) (suc k) past = drop_past xs k (omega arith)
-
-kept_passes : {X : Type 0} (test : X → Bool) (xs : List X) (k : ℕ) (x : X) → slice_get (filter test xs) k ≡ Some x → test x ≡ true
-kept_passes test [] k x there = cc
-kept_passes test (y ∷ ys) k x there = by (test y) refl k there (λ j. kept_passes test ys j x)
-  where
-    by : (b : Bool) → test y ≡ b → (k : ℕ) → slice_get (if b then y ∷ filter test ys else filter test ys) k ≡ Some x → ((j : ℕ) → slice_get (filter test ys) j ≡ Some x → test x ≡ true) → test x ≡ true
-    by true passes zero there rest = let same : y ≡ x = cc in ap test (sym same) ∙ passes
-    by true passes (suc k) there rest = rest k there
-    by false passes k there rest = rest k there
 
 is_there : {X : Type 0} (o : Option X) → is_some o ≡ true → (x : X) × (o ≡ Some x)
 is_there None some = absurd (true≢false (sym some))
@@ -140,7 +133,7 @@ line_of p w place start there =
     let at : slice_get (walked w p.files.items p.outputs.items) place ≡ Some start = ap (λ starts. slice_get starts place) (sym (starts_walked p w)) ∙ there in
     let is : IsStart p start = walked_start p w place start at in
     let found = is_there (output_at (tables p) p.outputs.items start) (line_starts p start is) in
-    let walks : is_walked w start.kind ≡ true = kept_passes (λ (s : OutputStart). is_walked w s.kind) (output_starts p.files.items p.outputs.items) place start at in (
+    let walks : is_walked w start.kind ≡ true = passes_kept (λ (s : OutputStart). is_walked w s.kind) (output_starts p.files.items p.outputs.items) place start at in (
       found.0,
       record {
         starts = is;
@@ -221,27 +214,108 @@ due_by : (c : Stepper) (w : Walk) (start : OutputStart) (line : Output) → IsLi
     → is_due c w start ≡ (is_used (held_by c) (slice_get c.program.files.items start.file) && line_holds (own c) (is_at_overflow w) (held_by c) line)
 due_by c w start line line_is = ap (λ o. is_used (held_by c) (slice_get c.program.files.items start.file) && is_held c w o) line_is
 
--- a line that is put out together with others has its guard at overflow, or elsewhere
-pub lines_are : (p : Program) (sheet : OutputSheet) (w : Walk) → AreOutputs p sheet → AreLines p (starts_of p.starts w) (is_at_overflow w) (lines_of sheet w)
-lines_are p sheet walk.Beginning are = are.beginning
-lines_are p sheet walk.Totals are = are.totals
-lines_are p sheet walk.Exceptions are = are.exceptions
-lines_are p sheet walk.Overflow are = are.overflow
+-- the instruction at a place is that of the line that starts there
+pub line_read : (c : Stepper) (number : ℕ) (instruction : OutputInstruction) (start : OutputStart) → IsRunning c → slice_get (own_starts c.program.starts) number ≡ Some start
+    → instruction ≡ get_or c.outputs.lines.items number instruction → IsLine c.program start instruction
+line_read c number instruction start running there read =
+    let lines = c.outputs.lines.items in
+    let are = running.outputs.lines in
+    let inside : number < length lines = omega (arith, slice_get_within (own_starts c.program.starts) number start there, are.count) in
+    are.each number start instruction there (slice_get_read lines (length lines) number instruction refl inside read)
 
-pub lines_count : (c : Stepper) (w : Walk) → IsRunning c → length (lines_of c.outputs w) ≡ length (starts_of c.program.starts w)
-lines_count c w running = (lines_are c.program c.outputs w running.outputs).count
+-- it is there, wherever a line stands that is put out together with others
+pub line_within : (c : Stepper) (w : Walk) (place number : ℕ) → IsRunning c → slice_get (own_starts c.program.starts) number ≡ slice_get (starts_of c.program.starts w) place → place < length (starts_of c.program.starts w)
+    → number < length c.outputs.lines.items
+line_within c w place number running same within =
+    let at = there_is (starts_of c.program.starts w) place within in
+    omega (arith, slice_get_within (own_starts c.program.starts) number at.0 (same ∙ at.1), running.outputs.lines.count)
 
 -- it is due where its guard holds
-pub due_guarded : (c : Stepper) (w : Walk) (place : ℕ) (lines : List OutputInstruction) (instruction : OutputInstruction) (holds : Bool) → IsRunning c → lines ≡ lines_of c.outputs w
-    → place < length lines → instruction ≡ get_or lines place instruction → holds ≡ guard_holds c.state.values.indicators instruction.guard
+pub due_guarded : (c : Stepper) (w : Walk) (place number : ℕ) (instruction : OutputInstruction) (at_overflow holds : Bool) → IsRunning c → slice_get (own_starts c.program.starts) number ≡ slice_get (starts_of c.program.starts w) place
+    → instruction ≡ get_or c.outputs.lines.items number instruction → at_overflow ≡ is_at_overflow w → holds ≡ line_guard_holds c.state.values.indicators at_overflow instruction.guard
     → (start : OutputStart) → slice_get (starts_of c.program.starts w) place ≡ Some start → holds ≡ is_due c w start
 unfolding environment
-due_guarded c w place lines instruction holds running same within read held_is start there =
+due_guarded c w place number instruction at_overflow holds running same read time held_is start there =
     let line = line_of c.program w place start there in
-    let at : slice_get (lines_of c.outputs w) place ≡ Some instruction = ap (λ ls. slice_get ls place) (sym same) ∙ slice_get_read lines (length lines) place instruction refl within read in
     held_is
-    ∙ ((lines_are c.program c.outputs w running.outputs).each place start instruction there at).guard c.state.values (others c.program c.state) line.0 line.1.there
-    ∙ sym (due_by c w start line.0 line.1.there)
+    ∙ (ap (λ at. line_guard_holds c.state.values.indicators at instruction.guard) time
+    ∙ ((line_read c number instruction start running (same ∙ there) read).guard (is_at_overflow w) c.state.values (others c.program c.state) line.0 line.1.there
+    ∙ sym (due_by c w start line.0 line.1.there)))
+
+-- ---- where instructions stand
+pub beginning_number : (c : Stepper) (w : Walk) (place : ℕ) → w ≡ walk.Beginning → place < length (starts_of c.program.starts w) → slice_get (own_starts c.program.starts) place ≡ slice_get (starts_of c.program.starts w) place
+beginning_number c w place is =
+    let s = c.program.starts in
+    subst (λ v. place < length (starts_of s v) → slice_get (own_starts s) place ≡ slice_get (starts_of s v) place) (sym is)
+    (λ within. own_left s place (omega (arith, within)) ∙ get_left s.beginning.items s.totals.items place within)
+
+pub totals_number : (c : Stepper) (w : Walk) (place : ℕ) → IsRunning c → w ≡ walk.Totals → place < length (starts_of c.program.starts w)
+    → slice_get (own_starts c.program.starts) (c.outputs.totals + place) ≡ slice_get (starts_of c.program.starts w) place
+totals_number c w place running is =
+    let s = c.program.starts in
+    subst (λ v. place < length (starts_of s v) → slice_get (own_starts s) (c.outputs.totals + place) ≡ slice_get (starts_of s v) place) (sym is)
+    (λ within. ap (λ n. slice_get (own_starts s) (n + place)) running.outputs.totals
+    ∙ (own_left s (length s.beginning.items + place) (omega (arith, within)) ∙ get_right s.beginning.items s.totals.items place))
+
+pub exceptions_number : (c : Stepper) (w : Walk) (place : ℕ) → IsRunning c → w ≡ walk.Exceptions → slice_get (own_starts c.program.starts) (c.outputs.exceptions + place) ≡ slice_get (starts_of c.program.starts w) place
+exceptions_number c w place running is =
+    let s = c.program.starts in
+    let e : c.outputs.exceptions + place ≡ length (s.beginning.items ++ s.totals.items) + place =
+    omega (arith, running.outputs.exceptions, running.outputs.totals, length-append s.beginning.items s.totals.items) in
+    ap (slice_get (own_starts s)) e ∙ (get_right (s.beginning.items ++ s.totals.items) s.exceptions.items place ∙ ap (λ v. slice_get (starts_of s v) place) (sym is))
+
+overflow_count : (c : Stepper) → IsRunning c → length c.outputs.overflow.items ≡ length c.program.starts.overflow.items
+overflow_count c running =
+    let s = c.program.starts in
+    sym (length-map c.outputs.overflow.items (slice_get (own_starts s)))
+    ∙ (ap (λ (os : List (Option OutputStart)). length os) running.outputs.overflow ∙ length-map s.overflow.items (λ (x : OutputStart). Some x))
+
+pub overflow_within : (c : Stepper) (w : Walk) (place : ℕ) → IsRunning c → w ≡ walk.Overflow → place < length (starts_of c.program.starts w) → place < length c.outputs.overflow.items
+overflow_within c w place running is within = omega (arith, within, ap (λ v. length (starts_of c.program.starts v)) is, overflow_count c running)
+
+some_is : {X : Type 0} (x y : X) → Some x ≡ Some y → x ≡ y
+some_is x y h = ap (λ o. unwrap_or o x) h
+
+pub overflow_number : (c : Stepper) (w : Walk) (place number : ℕ) → IsRunning c → w ≡ walk.Overflow → place < length (starts_of c.program.starts w) → number ≡ get_or c.outputs.overflow.items place number
+    → slice_get (own_starts c.program.starts) number ≡ slice_get (starts_of c.program.starts w) place
+overflow_number c w place number running is within read =
+    let s = c.program.starts in
+    let there : slice_get c.outputs.overflow.items place ≡ Some number =
+    slice_get_read c.outputs.overflow.items (length c.outputs.overflow.items) place number refl (overflow_within c w place running is within) read in
+    let at = there_is (starts_of s w) place within in
+    let same : Some (slice_get (own_starts s) number) ≡ Some (Some at.0) =
+    sym (slice_get-map (slice_get (own_starts s)) c.outputs.overflow.items place ∙ ap (option_map (slice_get (own_starts s))) there)
+    ∙ (ap (λ (os : List (Option OutputStart)). slice_get os place) running.outputs.overflow
+    ∙ (slice_get-map (λ (x : OutputStart). Some x) s.overflow.items place ∙ ap (option_map (λ (x : OutputStart). Some x)) (ap (λ v. slice_get (starts_of s v) place) (sym is) ∙ at.1))) in
+    some_is _ _ same ∙ sym at.1
+
+-- their numbers fit
+pub totals_fit : (c : Stepper) (w : Walk) (place : ℕ) → IsRunning c → w ≡ walk.Totals → place < length (starts_of c.program.starts w) → Fits w64 (c.outputs.totals + place)
+totals_fit c w place running is within =
+    let s = c.program.starts in
+    record { fits = omega (arith, within, ap (λ v. length (starts_of s v)) is, running.outputs.totals, s.beginning.ok.0, s.beginning.small, s.totals.ok.0, s.totals.small) }
+
+pub exceptions_fit : (c : Stepper) (w : Walk) (place : ℕ) → IsRunning c → w ≡ walk.Exceptions → place < length (starts_of c.program.starts w) → Fits w64 (c.outputs.exceptions + place)
+exceptions_fit c w place running is within =
+    let s = c.program.starts in
+    record {
+      fits = omega (
+        arith,
+        within,
+        ap (λ v. length (starts_of s v)) is,
+        running.outputs.totals,
+        running.outputs.exceptions,
+        running.outputs.lines.count,
+        length-append s.beginning.items s.totals.items,
+        length-append (s.beginning.items ++ s.totals.items) s.exceptions.items,
+        c.outputs.lines.ok.0,
+        c.outputs.lines.small,
+      );
+    }
+
+-- a place of a walk
+pub due_within : (c : Stepper) (w : Walk) (place : ℕ) → IsDue c w place → place < length (starts_of c.program.starts w)
+due_within c w place due = slice_get_within (starts_of c.program.starts w) place due.start due.there
 
 -- ---- the next one that is due
 pub passes_none : (c : Stepper) (w : Walk) (next : ℕ) → PassesTo c w next next

@@ -48,12 +48,12 @@ use Rattle.s3_output.specs.declared.requests.DiskRequest.{DiskRequest}
 use Rattle.s3_output.specs.declared.requests.DiskRequest.TheVariants as disk
 use Rattle.s3_output.specs.Inner.Carriages.{place, place_moved}
 use Rattle.s3_output.specs.Inner.Requests as disk_spec
-use Rattle.s3_output.specs.Inner.Lines.{IsLineAt, IsStart}
+use Rattle.s3_output.specs.Inner.Lines.{IsLineAt, IsStart, file_of}
 use Rattle.s3_instructions.specs.declared.output.instruction.LineRequest.{LineRequest}
 use Rattle.s3_instructions.specs.declared.output.instruction.LineRequest.TheVariants as lines
 use Rattle.s3_instructions.specs.declared.output.instruction.OutputInstruction.{OutputInstruction}
 use Rattle.s3_instructions.specs.Inner.Composing.{Composes}
-use Rattle.s3_instructions.specs.Inner.OutputLines.{IsLineRequest, IsPrinting, IsStoring, IsWhole, is_told, is_used, lines_of}
+use Rattle.s3_instructions.specs.Inner.OutputLines.{IsLineRequest, IsPrinting, IsStoring, IsWhole, is_told, is_used, own_starts}
 use Rattle.s3_instructions.specs.Inner.Putting.{FitsLine}
 use Rattle.s3_instructions.proofs.ComposeLemmas.{line_fits}
 use Rattle.s3_match.specs.Inner.Heads.{no_file, file_at}
@@ -70,11 +70,11 @@ use Rattle.s3_cycle.specs.Inner.Environment.{environment, others}
 use Rattle.s3_cycle.specs.Inner.Going.{own, held_by, here, AreSound, IsRunning, IsWalk, GoesOn, Changes, puts_record}
 use Rattle.s3_cycle.specs.Inner.Entries.{turn_entry}
 use Rattle.s3_cycle.specs.Inner.Lines.{is_held, is_due, IsDue}
-use Rattle.s3_cycle.specs.Inner.Printing.{AsksFor, CanStore, ComposesLine}
+use Rattle.s3_cycle.specs.Inner.Printing.{AsksFor, CanCompose, CanStore, ComposesLine}
 use Rattle.s3_cycle.proofs.GoingLemmas.{goes_wait, goes_then, changed_running, changed_program, changes_both}
 use Rattle.s3_cycle.proofs.AnswerLemmas.{at_most, file_ranged}
 use Rattle.s3_cycle.proofs.FileLemmas.{IsPutOnDisk, file_tabled, line_taken, put_on_disk}
-use Rattle.s3_cycle.proofs.LineLemmas.{IsLineOf, line_due, line_of, lines_are}
+use Rattle.s3_cycle.proofs.LineLemmas.{IsLineOf, line_due, line_of, line_read}
 
 -- ---- the carriage
 -- the overflow indicator is no switch
@@ -324,47 +324,56 @@ pub record IsDueLine (c : Stepper) (w : Walk) (place : ℕ) (start : OutputStart
   pub slot : instruction.file ≡ start.file
   pub whole : IsWhole c.program start instruction
 
-pub due_line : (c : Stepper) (w : Walk) (place : ℕ) (instructions : List OutputInstruction) (instruction : OutputInstruction) (start : OutputStart) → IsRunning c → IsDue c w place → instructions ≡ lines_of c.outputs w
-    → instruction ≡ get_or instructions place instruction → slice_get (starts_of c.program.starts w) place ≡ Some start → IsDueLine c w place start instruction
-due_line c w place instructions instruction start running due same read there =
-    let own_start : due.start ≡ start = ap (λ (o : Option OutputStart). unwrap_or o start) (sym due.there ∙ there) in
-    let on : is_due c w start ≡ true = ap (is_due c w) (sym own_start) ∙ due.due in
-    let put = is_put c w place start there on in
-    let are = lines_are c.program c.outputs w running.outputs in
-    let inside : place < length instructions = omega (arith, slice_get_within (starts_of c.program.starts w) place start there, are.count, ap length same) in
-    let at : slice_get (lines_of c.outputs w) place ≡ Some instruction = ap (λ ls. slice_get ls place) (sym same) ∙ slice_get_read instructions (length instructions) place instruction refl inside read in
-    let is = are.each place start instruction there at in
+pub due_line : (c : Stepper) (w : Walk) (place number : ℕ) (instruction : OutputInstruction) → IsRunning c → (due : IsDue c w place) → slice_get (own_starts c.program.starts) number ≡ slice_get (starts_of c.program.starts w) place
+    → instruction ≡ get_or c.outputs.lines.items number instruction → IsDueLine c w place due.start instruction
+due_line c w place number instruction running due same read =
+    let put = is_put c w place due.start due.there due.due in
+    let is = line_read c number instruction due.start running (same ∙ due.there) read in
     record {
       line = put.0;
       put = put.1;
       slot = is.slot;
-      whole = is.whole (ap is_some (file_within c.program start.file put.1.within));
+      whole = is.whole (ap is_some (file_within c.program due.start.file put.1.within));
     }
 
-pub due_fits : (c : Stepper) (w : Walk) (place : ℕ) (instructions : List OutputInstruction) (instruction : OutputInstruction) → IsRunning c → IsDue c w place → instructions ≡ lines_of c.outputs w
-    → instruction ≡ get_or instructions place instruction → FitsLine c.state.values instruction
-due_fits c w place instructions instruction running due same read =
-    let is = due_line c w place instructions instruction due.start running due same read due.there in
-    line_fits c.program c.state.values due.start instruction running.state.values is.put.is_line.starts is.whole
+-- it can be composed
+pub due_composed : (c : Stepper) (w : Walk) (place number : ℕ) → (due : IsDue c w place) → slice_get (own_starts c.program.starts) number ≡ slice_get (starts_of c.program.starts w) place → CanCompose c number
+due_composed c w place number due same =
+    let put = is_put c w place due.start due.there due.due in
+    record {
+      start = due.start;
+      there = same ∙ due.there;
+      starts = put.1.is_line.starts;
+      file = ap is_some (file_within c.program due.start.file put.1.within);
+    }
+
+pub composing_within : (c : Stepper) (number : ℕ) → IsRunning c → CanCompose c number → number < length c.outputs.lines.items
+composing_within c number running can = omega (arith, slice_get_within (own_starts c.program.starts) number can.start can.there, running.outputs.lines.count)
+
+pub line_fitting : (c : Stepper) (number : ℕ) (instruction : OutputInstruction) → IsRunning c → CanCompose c number → instruction ≡ get_or c.outputs.lines.items number instruction → FitsLine c.state.values instruction
+line_fitting c number instruction running can read =
+    line_fits c.program c.state.values can.start instruction running.state.values can.starts ((line_read c number instruction can.start running can.there read).whole can.file)
 
 -- values and positions that a line composes, whatever its program is
 abbrev pub ComposesAll : OutputInstruction → (old new : Values) → List (Option ℕ) → Type 0
 ComposesAll instruction old new positions =
     (p : Program) (start : OutputStart) → AreValues p old → IsStart p start → IsWhole p start instruction → Composes p start instruction.length (is_told instruction.request) old new positions
 
-pub composes_line : (old new : Stepper) (w : Walk) (place : ℕ) (instructions : List OutputInstruction) (instruction : OutputInstruction) (values : Values) (positions : List (Option ℕ)) → IsRunning old → IsDue old w place
-    → instructions ≡ lines_of old.outputs w → instruction ≡ get_or instructions place instruction
+pub composes_line : (old new : Stepper) (number : ℕ) (instruction : OutputInstruction) (values : Values) (positions : List (Option ℕ)) → IsRunning old → CanCompose old number
+    → instruction ≡ get_or old.outputs.lines.items number instruction
     → new ≡ record old { state = record old.state { values = values }; composition = new.composition } → new.composition ≡ positions → ComposesAll instruction old.state.values values positions
-    → (start : OutputStart) → slice_get (starts_of old.program.starts w) place ≡ Some start → ComposesLine old new start
+    → (start : OutputStart) → slice_get (own_starts old.program.starts) number ≡ Some start → ComposesLine old new start
 unfolding environment
-composes_line old new w place instructions instruction values positions running due same_lines read same composed_so all start there =
-    let is : IsDueLine old w place start instruction = due_line old w place instructions instruction start running due same_lines read there in
-    let composes : Composes old.program start instruction.length (is_told instruction.request) old.state.values values positions = all old.program start running.state.values is.put.is_line.starts is.whole in
-    let at : is.whole.file ≡ file_at old.program start.file = sym (ap (λ o. unwrap_or o no_file) is.whole.there) in
+composes_line old new number instruction values positions running can read same composed_so all start there =
+    let one : can.start ≡ start = ap (λ (o : Option OutputStart). unwrap_or o start) (sym can.there ∙ there) in
+    let starts : IsStart old.program start = subst (λ (s : OutputStart). IsStart old.program s) one can.starts in
+    let whole : IsWhole old.program start instruction = (line_read old number instruction start running there read).whole (ap (λ (s : OutputStart). is_some (file_of old.program s)) (sym one) ∙ can.file) in
+    let composes : Composes old.program start instruction.length (is_told instruction.request) old.state.values values positions = all old.program start running.state.values starts whole in
+    let at : whole.file ≡ file_at old.program start.file = sym (ap (λ o. unwrap_or o no_file) whole.there) in
     let is_state : new.state ≡ record old.state { values = values } = ap (λ (k : Stepper). k.state) same in
-    let as_long : instruction.length ≡ (file_at old.program start.file).record_length = is.whole.size ∙ ap (λ (f : FileLine). f.record_length) at in
+    let as_long : instruction.length ≡ (file_at old.program start.file).record_length = whole.size ∙ ap (λ (f : FileLine). f.record_length) at in
     let told : is_told instruction.request ≡ not (is_printer (file_at old.program start.file).device) =
-    told_is old.program start is.whole.file instruction.request is.whole.request ∙ ap (λ (f : FileLine). not (is_printer f.device)) at in
+    told_is old.program start whole.file instruction.request whole.request ∙ ap (λ (f : FileLine). not (is_printer f.device)) at in
     record {
       same = same ∙ ap (λ (s : State). let k : Stepper = record old { state = s; composition = new.composition } in k) (sym is_state);
       sound = let P : State → Type 0 = λ s. AreSound old.program s in subst P (sym is_state) (record { values = composes.sound; current = running.state.current });
@@ -429,12 +438,13 @@ pub record IsComposed (old mid : Stepper) (w : Walk) (place : ℕ) (start : Outp
   pub slot : instruction.file ≡ start.file
   pub whole : IsWhole old.program start instruction
 
-pub is_composed : (old mid : Stepper) (w : Walk) (place : ℕ) (instructions : List OutputInstruction) (instruction : OutputInstruction) → IsRunning old → (due : IsDue old w place)
-    → ((start : OutputStart) → slice_get (starts_of old.program.starts w) place ≡ Some start → ComposesLine old mid start) → instructions ≡ lines_of old.outputs w
-    → instruction ≡ get_or instructions place instruction → (line : Output) × IsComposed old mid w place due.start line instruction
-is_composed old mid w place instructions instruction running due composing same read =
-    let is = due_line old w place instructions instruction due.start running due same read due.there in
-    (is.line, record { put = is.put; composes = composing due.start due.there; slot = is.slot; whole = is.whole })
+pub is_composed : (old mid : Stepper) (w : Walk) (place number : ℕ) (instruction : OutputInstruction) → IsRunning old → (due : IsDue old w place)
+    → slice_get (own_starts old.program.starts) number ≡ slice_get (starts_of old.program.starts w) place
+    → ((start : OutputStart) → slice_get (own_starts old.program.starts) number ≡ Some start → ComposesLine old mid start)
+    → instruction ≡ get_or old.outputs.lines.items number instruction → (line : Output) × IsComposed old mid w place due.start line instruction
+is_composed old mid w place number instruction running due same composing read =
+    let is = due_line old w place number instruction running due same read in
+    (is.line, record { put = is.put; composes = composing due.start (same ∙ due.there); slot = is.slot; whole = is.whole })
 
 whole_file : (old : Stepper) (start : OutputStart) (instruction : OutputInstruction) (whole : IsWhole old.program start instruction) → whole.file ≡ file_at old.program start.file
 whole_file old start instruction whole = sym (ap (λ o. unwrap_or o no_file) whole.there)

@@ -15,7 +15,8 @@ use Rattle.s3_cycle.specs.declared.progress.Time.TheVariants as time
 use Rattle.s3_cycle.specs.Inner.Rest.{details_done, fields_from, first_details, record_moved, selected_bytes, selected_of}
 use Rattle.s3_cycle.specs.Inner.Fields.{selected_from}
 use Rattle.s3_cycle.specs.Inner.Going.{own, held_by, here, CanMove, Changes, GoesOn, IsRunning, IsTaken}
-use Rattle.s3_cycle.proofs.FieldLemmas.{at_details, details_move, details_running, selected_begun, type_fields}
+use Rattle.s3_cycle.proofs.FieldLemmas.{at_details, details_move, details_running, selected_begun}
+use Rattle.s3_match.proofs.FieldLemmas.{kind_fields}
 use Rattle.s3_cycle.proofs.GoingLemmas.{changed_running, changed_stays, changes_both, goes_as, goes_changed, goes_then}
 
 abbrev with_record : Stepper → Selection → Environment → Environment
@@ -33,7 +34,7 @@ record_is_moved old mid two new selection taken first second goes =
     changes_both old mid two (λ source. turn Matching selection.is_matched) (λ source. with_record old selection) first (subst P first.stays second) in
     goes_as old new _ _
     (ap (λ (fields : List (FieldLine Name)). fields_moved (again (own old)) fields (selected_bytes old.progress selection) (first_details (own old) old.program old.progress selection)
-    (with_record old selection (turn Matching selection.is_matched (held_by old)))) (type_fields old.program selection taken.record_there.starts))
+    (with_record old selection (turn Matching selection.is_matched (held_by old)))) (kind_fields old.program selection.start taken.record_there.starts))
     (goes_changed old two new (λ source e. with_record old selection (turn Matching selection.is_matched e)) (selected_from selection selection.start.fields) both goes)
 
 -- ---- the time of its details, which begins first

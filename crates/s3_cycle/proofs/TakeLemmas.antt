@@ -15,7 +15,8 @@ use Rattle.s3_match.specs.Inner.Heads.{file_at, input_of}
 use Rattle.s3_match.specs.Inner.Reading.{bytes_at, head_with, reading_in, IsReading, IsUnreadAt}
 use Rattle.s3_match.specs.Inner.Selecting.{selected_at, inputs_of}
 use Rattle.s3_match.specs.Inner.Types.{is_type_start, kind_at}
-use Rattle.s3_cycle.proofs.HeadLemmas.{EndWithin, IsWithin, kind_fields, heads_kept, heads_meant, vacated_within}
+use Rattle.s3_match.proofs.FieldLemmas.{kind_fields}
+use Rattle.s3_cycle.proofs.HeadLemmas.{EndWithin, IsWithin, heads_kept, heads_meant, vacated_within}
 use Rattle.s3_match.specs.Inner.Choice.{IsHeadAt}
 use Rattle.s3_cycle.specs.declared.stepper.Stepper.{Stepper}
 use Rattle.s3_cycle.specs.Inner.Selecting.{Takes}

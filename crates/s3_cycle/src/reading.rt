@@ -140,7 +140,7 @@ impl Stepper {
         ensures { GoesOn self.old self.new (here self.old (λ source program progress. on_record source (again source) (inputs_in program progress) place bytes.now (heads_read source program progress))) }
     {
         let reading = &mut self.progress.reading;
-        if reading.put(&self.program, place, start, bytes) {
+        if reading.put(place, start, bytes) {
             self.read_behind(place);
         } else {
             self.halt(HaltCode::OutOfSequence, Continuation::Head { place });

@@ -84,8 +84,8 @@ impl Stepper {
         let files = &self.progress.reading.files;
         let bytes = files[selection.place].bytes.as_slice();
         let controls = &mut self.state.controls;
-        let levels = &self.progress.reading.levels;
-        let level = controls.break_and_hold(&self.program, selection.start, levels, bytes);
+        let levels = &self.progress.reading.control_levels;
+        let level = controls.break_and_hold(selection.start, levels, bytes);
         self.state.values.raise_levels(&self.program, level);
     }
 }

@@ -11,7 +11,7 @@ use crate::progress::{Continuation, Moves, Point, Time};
 use crate::request::Sought;
 use crate::stepper::Stepper;
 use s3_instructions::calculation::{Asked, Chained};
-use s3_program::starts::{OutputStart, Walk};
+use s3_program::starts::Walk;
 
 /// Where a run that halts stands in its source: a line by its place among those of its sheet, from 0, a file by its slot, in the
 /// order of the F sheet.
@@ -65,19 +65,6 @@ fn chained(asked: &Asked) -> Option<&Chained>
 }
 
 impl Stepper {
-    /// The lines that are put out together.
-    fn starts(&self, walk: Walk) -> &[OutputStart]
-        ensures { result.now ≡ starts_of self.now.program.starts walk }
-    {
-        let starts = &self.program.starts;
-        match walk {
-            Walk::Beginning => &starts.beginning,
-            Walk::Totals => &starts.totals,
-            Walk::Exceptions => &starts.exceptions,
-            Walk::Overflow => &starts.overflow,
-        }
-    }
-
     /// The output line before the next one of those that are put out together.
     fn output_before(&self, walk: Walk, next: usize) -> Stand
         ensures { result ≡ output_before self.now.program walk next }

@@ -1,5 +1,5 @@
 -- The line that is composed, and the record that is put into its file.
-use Rattle.std.specs.Prelude.{◌≡◌, ℕ, List, Option, not, length, replicate}
+use Rattle.std.specs.Prelude.{◌≡◌, ℕ, true, List, Option, Some, is_some, not, length, replicate, slice_get}
 use Rattle.s3_lines.specs.Files.{is_printer}
 use Rattle.s3_meaning.specs.Environment.{Environment}
 use Rattle.s3_meaning.specs.OutputLines.{Output}
@@ -8,13 +8,21 @@ use Rattle.s3_program.specs.declared.program.Program.{Program}
 use Rattle.s3_program.specs.declared.starts.OutputStart.{OutputStart}
 use Rattle.s3_output.specs.declared.requests.DiskRequest.{DiskRequest}
 use Rattle.s3_output.specs.Inner.Compositions.{first_position}
-use Rattle.s3_output.specs.Inner.Lines.{IsLineAt}
+use Rattle.s3_output.specs.Inner.Lines.{IsLineAt, IsStart, file_of}
 use Rattle.s3_output.specs.Inner.Requests as disk
+use Rattle.s3_instructions.specs.Inner.OutputLines.{own_starts}
 use Rattle.s3_match.specs.Inner.Heads.{file_at}
 use Rattle.s3_cycle.specs.declared.stepper.Stepper.{Stepper}
 use Rattle.s3_cycle.specs.Inner.Requests.{IsDiskFile, TakesRecord}
 use Rattle.s3_cycle.specs.Inner.Environment.{environment}
 use Rattle.s3_cycle.specs.Inner.Going.{AreSound, own, held_by}
+
+-- the line whose instruction stands there has a file
+pub record CanCompose (c : Stepper) (number : ℕ) : Type 0 where
+  pub start : OutputStart
+  pub there : slice_get (own_starts c.program.starts) number ≡ Some start
+  pub starts : IsStart c.program start
+  pub file : is_some (file_of c.program start) ≡ true
 
 -- values and the composed record alone have changed, as the meaning composes the line; one that is printed is blank at first
 pub record ComposesLine (old new : Stepper) (start : OutputStart) : Type 0 where

@@ -4,7 +4,8 @@ use Rattle.s3_program.proofs.TypeLemmas.{as_many, own_starts}
 use Rattle.s3_match.specs.Inner.Types.{is_type_start}
 use Rattle.s3_operations.specs.Inner.Indicators.{on_in}
 use Rattle.s3_cycle.specs.Inner.Clearing.{shown_by, turned_off}
-use Rattle.s3_cycle.proofs.FileTypeLemmas.{own_are_starts, types_of_cleared}
+use Rattle.s3_match.proofs.TypeLemmas.{own_are_starts}
+use Rattle.s3_cycle.proofs.FileTypeLemmas.{types_of_cleared}
 use Rattle.s3_cycle.proofs.indicating.clear_types_of.Goals as goal
 
 pub index-requires : goal.index-requires
