@@ -1,15 +1,13 @@
 -- A file is closed: what is held without it, and the other files that are open.
-use Rattle.std.proofs.Common.{◌≡◌, ◌≤◌, ◌&&◌, ◌||◌, ℕ, suc, Bool, true, false, not, List, [], ◌∷◌, map, length, arith, subst, refl, ap, ap₂, sym, ◌∙◌}
+use Rattle.std.proofs.Common.{◌≡◌, ◌&&◌, ◌||◌, ℕ, suc, Bool, true, false, not, List, [], ◌∷◌, map, length, arith, subst, refl, ap, ap₂, sym, ◌∙◌}
 use Rattle.std.specs.Prelude.{slice_get, Some, Result, Ok, Err, OnOk, if◌then◌else◌}
 use Rattle.std.specs.List.{All, Contains}
 use Rattle.s3_cards.specs.declared.levels.LevelId.{LevelId}
-use Rattle.s3_cards.specs.declared.levels.LevelId.TheVariants.{One, Two}
 use Rattle.s3_cards.specs.declared.name.Name.{Name}
 use Rattle.s3_cards.specs.Names.{same_name}
 use Rattle.s3_cards.proofs.NameLemmas.{same_name-equal}
-use Rattle.s3_store.specs.Inner.State.{PoolState, ChangesWithin, KeepsInStep}
+use Rattle.s3_store.specs.Inner.State.{PoolState, ChangesWithin}
 use Rattle.s3_store.specs.declared.sector_fault.SectorFault.{SectorFault}
-use Rattle.s3_store.proofs.Frames.{step_from_within, step_trans}
 use Rattle.s3_slots.specs.Header.{region_of}
 use Rattle.s3_slots.specs.Labels.{sectors_of}
 use Rattle.s3_slots.specs.Making.{counted, dropped}
@@ -20,18 +18,18 @@ use Rattle.s3_slots.specs.declared.slot.Slot.{Slot}
 use Rattle.s3_slots.specs.declared.slot.Standing.{Standing}
 use Rattle.s3_slots.specs.declared.slot.Standing.TheVariants.{Present}
 use Rattle.s3_labels.specs.Inner.Areas.{Areas, slots_at, with_slots, MayHave, IsReady as IsPackReady}
-use Rattle.s3_labels.specs.Areas.{area_of, IsLabelSector}
-use Rattle.s3_labels.proofs.Changes.{header_with}
 use Rattle.s3_job_files.specs.declared.file.OpenFile.{OpenFile}
 use Rattle.s3_job_files.specs.Kept.{Kept, kept_on}
 use Rattle.s3_job_files.specs.Files.{Files, area_by}
 use Rattle.s3_job_files.specs.Closing.{closed_by, closed_slots, file_closed, files_closed, is_kept_for_job, is_scratch}
-use Rattle.s3_job_files.specs.Inner.Holds.{Seen, seen, slots_by, IsUsable, Stands, AreOpen, IsReady, IsOutOfReach, Closes, job_file_of, is_open, HoldsRecords, HoldsFiles, records_of, count_of}
+use Rattle.s3_job_files.specs.Inner.Packs.{ChangesLabels}
+use Rattle.s3_job_files.specs.Inner.Holds.{Seen, seen, slots_by, IsUsable, Stands, AreOpen, IsReady, Closes, job_file_of, is_open, HoldsRecords, HoldsFiles, records_of, count_of}
 use Rattle.s3_job_files.proofs.Lists.{all_contained}
 use Rattle.s3_job_files.proofs.Held.{on_pack_by}
 use Rattle.s3_job_files.proofs.Frames.{SameAt, same_kept, same_records}
 use Rattle.s3_job_files.proofs.OneFile.{count_allowed, count_records}
-use Rattle.s3_job_files.proofs.Putting.{SameBut, differ_sym, differs_at, file_spares, high_by, own_sound, same_apart, same_masters, stands_over}
+use Rattle.s3_job_files.proofs.Packs.{header_kept, masters_kept, not_label}
+use Rattle.s3_job_files.proofs.Putting.{SameBut, differ_sym, differs_at, high_by, own_sound, same_apart, same_masters, stands_over}
 use Rattle.s3_job_files.proofs.Slots.{counted_else, counted_here, dropped_else, dropped_none}
 
 -- ---- the files that are left
@@ -68,15 +66,11 @@ pub record IsClosed (level : LevelId) (file : OpenFile) (areas new_areas : Areas
   pub here : (label : FileLabel) → standing label.name (slots_at level new_areas) ≡ Present label → same_name file.label.name label.name ≡ true
       → kept_on label new ≡ record { records = records_of file.records old; has_good_index = true }
 
-masters_with : (level : LevelId) (slots : List Slot) (areas : Areas) → (with_slots level slots areas).masters ≡ areas.masters
-masters_with One slots areas = refl
-masters_with Two slots areas = refl
-
 header_is : (level : LevelId) (file : OpenFile) (areas new_areas : Areas) (old new : List (List ℕ)) → IsClosed level file areas new_areas old new → new_areas.header ≡ areas.header
-header_is level file areas new_areas old new closed = ap (λ (a : Areas). a.header) closed.alone ∙ header_with level (slots_at level new_areas) areas
+header_is level file areas new_areas old new closed = header_kept level areas new_areas closed.alone
 
 masters_are : (level : LevelId) (file : OpenFile) (areas new_areas : Areas) (old new : List (List ℕ)) → IsClosed level file areas new_areas old new → new_areas.masters ≡ areas.masters
-masters_are level file areas new_areas old new closed = ap (λ (a : Areas). a.masters) closed.alone ∙ masters_with level (slots_at level new_areas) areas
+masters_are level file areas new_areas old new closed = masters_kept level areas new_areas closed.alone
 
 module _ (level : LevelId) (file : OpenFile) (rest : List OpenFile) (areas new_areas : Areas) (old new : List (List ℕ)) (ready : IsReady level (file ∷ rest) (seen areas old)) (own : file.is_master ≡ false)
     (closed : IsClosed level file areas new_areas old new) where
@@ -159,11 +153,6 @@ closes_own level file areas new_areas old new own closed = record {
   files = λ rest files ready held. closed_files level file rest areas new_areas old new ready own closed files held;
 }
 
--- ---- label sectors lie before the regions
-not_label : (level : LevelId) (n : ℕ) → 168 ≤ n → IsLabelSector (area_of level) n → ⊥
-not_label One n high is = omega (arith, high, is.1)
-not_label Two n high is = omega (arith, high, is.1)
-
 -- ---- its label is dropped
 goes : (file : OpenFile) (n : ℕ) (slots : List Slot) → standing file.label.name slots ≡ Present file.label → (file.is_made && is_kept_for_job file.label.retention) ≡ true
     → closed_slots (job_file_of file) n slots ≡ dropped file.label.name slots
@@ -177,43 +166,40 @@ stays file n slots stands is =
     ap (λ (standing : Standing). if file.is_made && is_scratch standing then dropped file.label.name slots else counted file.label.name n slots) stands
     ∙ ap (λ (b : Bool). if b then dropped file.label.name slots else counted file.label.name n slots) is
 
-dropped_closed : (level : LevelId) (file : OpenFile) (areas new_areas : Areas) (s t : PoolState) → IsPackReady areas s.contents → standing file.label.name (slots_at level areas) ≡ Present file.label
+dropped_closed : {done : Unit {0}} (level : LevelId) (file : OpenFile) (areas new_areas : Areas) (s t : PoolState) → IsPackReady areas s.contents → standing file.label.name (slots_at level areas) ≡ Present file.label
     → (file.is_made && is_kept_for_job file.label.retention) ≡ true → slots_at level new_areas ≡ dropped file.label.name (slots_at level areas)
-    → new_areas ≡ with_slots level (slots_at level new_areas) areas → ChangesWithin (IsLabelSector (area_of level)) s t → IsPackReady new_areas t.contents
-    → IsClosed level file areas new_areas s.contents t.contents
-dropped_closed level file areas new_areas s t pack stands is slots alone within ready = record {
+    → ChangesLabels level (Ok done) areas new_areas s t → IsClosed level file areas new_areas s.contents t.contents
+dropped_closed level file areas new_areas s t pack stands is slots labels = record {
   slots = slots ∙ sym (goes file (count_of file.records) (slots_at level areas) stands is);
-  alone = alone;
-  ready = ready;
-  same = λ n high out. within.contents n (not_label level n high);
+  alone = labels.leaves.others.areas;
+  ready = labels.leaves.others.pack;
+  same = λ n high out. labels.within.contents n (not_label level n (omega (arith, high)));
   others = λ name other. ap (standing name) slots ∙ dropped_else file.label.name (slots_at level areas) file.label name stands other;
   here = λ label after same. absurd (dropped_none _ file.label.name (slots_at level areas) file.label label (pack.own level) stands (sym (ap (standing label.name) slots) ∙ after) same);
 }
 
 pub closes_dropped : (level : LevelId) (file : OpenFile) (areas new_areas : Areas) (s t : PoolState) (result : Result (Unit {0}) SectorFault) → IsPackReady areas s.contents → Stands level (seen areas s.contents) file
     → file.is_master ≡ false → (file.is_made && is_kept_for_job file.label.retention) ≡ true → OnOk result (slots_at level new_areas ≡ dropped file.label.name (slots_at level areas))
-    → new_areas ≡ with_slots level (slots_at level new_areas) areas → ChangesWithin (IsLabelSector (area_of level)) s t → IsPackReady new_areas t.contents
-    → OnOk result (Closes level file (seen areas s.contents) (seen new_areas t.contents))
-closes_dropped level file areas new_areas s t (Ok _) pack stands own is slots alone within ready =
-    closes_own level file areas new_areas s.contents t.contents own (dropped_closed level file areas new_areas s t pack (own_sound level (seen areas s.contents) file stands own) is slots alone within ready)
-closes_dropped level file areas new_areas s t (Err _) pack stands own is slots alone within ready = tt
+    → ChangesLabels level result areas new_areas s t → OnOk result (Closes level file (seen areas s.contents) (seen new_areas t.contents))
+closes_dropped level file areas new_areas s t (Ok done) pack stands own is slots labels =
+    closes_own level file areas new_areas s.contents t.contents own (dropped_closed level file areas new_areas s t pack (own_sound level (seen areas s.contents) file stands own) is slots labels)
+closes_dropped level file areas new_areas s t (Err fault) pack stands own is slots labels = tt
 
 -- ---- its count is set
 grown_sectors : (label : FileLabel) (n : ℕ) → sectors_of (record label { count = n }) ≡ sectors_of label
 unfolding sectors_of
 grown_sectors label n = refl
 
-counted_closed : (level : LevelId) (file : OpenFile) (areas new_areas : Areas) (s u t : PoolState) → IsPackReady areas s.contents → standing file.label.name (slots_at level areas) ≡ Present file.label
+counted_closed : {done : Unit {0}} (level : LevelId) (file : OpenFile) (areas new_areas : Areas) (s u t : PoolState) → IsPackReady areas s.contents → standing file.label.name (slots_at level areas) ≡ Present file.label
     → (file.is_made && is_kept_for_job file.label.retention) ≡ false
     → kept_on (record file.label { count = count_of file.records }) u.contents ≡ record { records = records_of file.records s.contents; has_good_index = true }
     → ChangesWithin (Contains (sectors_of file.label)) s u → slots_at level new_areas ≡ counted file.label.name (count_of file.records) (slots_at level areas)
-    → new_areas ≡ with_slots level (slots_at level new_areas) areas → ChangesWithin (IsLabelSector (area_of level)) u t → IsPackReady new_areas t.contents
-    → IsClosed level file areas new_areas s.contents t.contents
-counted_closed level file areas new_areas s u t pack stands is kept first slots alone second ready = record {
+    → ChangesLabels level (Ok done) areas new_areas u t → IsClosed level file areas new_areas s.contents t.contents
+counted_closed level file areas new_areas s u t pack stands is kept first slots labels = record {
   slots = slots ∙ sym (stays file (count_of file.records) (slots_at level areas) stands is);
-  alone = alone;
-  ready = ready;
-  same = λ n high out. second.contents n (not_label level n high) ∙ first.contents n out;
+  alone = labels.leaves.others.areas;
+  ready = labels.leaves.others.pack;
+  same = λ n high out. labels.within.contents n (not_label level n (omega (arith, high))) ∙ first.contents n out;
   others = λ name other. ap (standing name) slots ∙ counted_else file.label.name (count_of file.records) (slots_at level areas) file.label name stands other;
   here = λ label after same.
       let grown : FileLabel = record file.label { count = count_of file.records } in
@@ -223,29 +209,19 @@ counted_closed level file areas new_areas s u t pack stands is kept first slots 
       let both : Present grown ≡ Present label = sym now ∙ after in
       let is_grown : grown ≡ label = cc in
       ap (λ (l : FileLabel). kept_on l t.contents) (sym is_grown) ∙ same_kept u.contents t.contents grown (subst (All (SameAt u.contents t.contents)) (sym (grown_sectors file.label (count_of file.records)))
-      (all_contained (SameAt u.contents t.contents) (sectors_of file.label) (λ n inside. second.contents n (not_label level n (high_by false level areas s.contents file.label n pack stands inside))))) ∙ kept;
+      (all_contained (SameAt u.contents t.contents) (sectors_of file.label) (λ n inside. labels.within.contents n (not_label level n (let high = high_by false level areas s.contents file.label n pack stands inside in omega (arith, high)))))) ∙ kept;
 }
 
 pub closes_counted : (level : LevelId) (file : OpenFile) (n : ℕ) (areas new_areas : Areas) (s u t : PoolState) (result : Result (Unit {0}) SectorFault) → IsPackReady areas s.contents
     → Stands level (seen areas s.contents) file → file.is_master ≡ false → (file.is_made && is_kept_for_job file.label.retention) ≡ false → n ≡ count_of file.records
     → kept_on (record file.label { count = count_of file.records }) u.contents ≡ record { records = records_of file.records s.contents; has_good_index = true }
     → ChangesWithin (Contains (sectors_of file.label)) s u → OnOk result (slots_at level new_areas ≡ counted file.label.name n (slots_at level areas))
-    → new_areas ≡ with_slots level (slots_at level new_areas) areas → ChangesWithin (IsLabelSector (area_of level)) u t → IsPackReady new_areas t.contents
-    → OnOk result (Closes level file (seen areas s.contents) (seen new_areas t.contents))
-closes_counted level file n areas new_areas s u t (Ok _) pack stands own is counts kept first slots alone second ready =
+    → ChangesLabels level result areas new_areas u t → OnOk result (Closes level file (seen areas s.contents) (seen new_areas t.contents))
+closes_counted level file n areas new_areas s u t (Ok done) pack stands own is counts kept first slots labels =
     closes_own level file areas new_areas s.contents t.contents own
     (counted_closed level file areas new_areas s u t pack (own_sound level (seen areas s.contents) file stands own) is kept first
-    (slots ∙ ap (λ m. counted file.label.name m (slots_at level areas)) counts) alone second ready)
-closes_counted level file n areas new_areas s u t (Err _) pack stands own is counts kept first slots alone second ready = tt
-
--- ---- what that spares
-pub label_spares : (level : LevelId) (header : Header) (s t : PoolState) → ChangesWithin (IsLabelSector (area_of level)) s t → KeepsInStep (IsOutOfReach level header) s t
-label_spares level header s t within = step_from_within (IsLabelSector (area_of level)) (IsOutOfReach level header) s t (λ n out inside. out.labels inside) within
-
-pub close_spares : (level : LevelId) (areas : Areas) (s u t : PoolState) (file : OpenFile) → IsPackReady areas s.contents → Stands level (seen areas s.contents) file → file.is_master ≡ false
-    → ChangesWithin (Contains (sectors_of file.label)) s u → ChangesWithin (IsLabelSector (area_of level)) u t → KeepsInStep (IsOutOfReach level areas.header) s t
-close_spares level areas s u t file pack stands own first second =
-    step_trans (IsOutOfReach level areas.header) s u t (file_spares level areas s u file.label pack (own_sound level (seen areas s.contents) file stands own) first) (label_spares level areas.header u t second)
+    (slots ∙ ap (λ m. counted file.label.name m (slots_at level areas)) counts) labels)
+closes_counted level file n areas new_areas s u t (Err fault) pack stands own is counts kept first slots labels = tt
 
 -- ---- what the calls ask
 pub usable_alone : (level : LevelId) (areas : Areas) (contents : List (List ℕ)) (file : OpenFile) → IsPackReady areas contents → Stands level (seen areas contents) file → IsUsable contents file.label file.records
@@ -280,10 +256,3 @@ unfolding files_closed
 closes_first level files file rest s t u is ready closes more =
     subst (λ (l : List OpenFile). ClosesAll level l s u) (sym is)
     (λ held holds. more (file_closed (job_file_of file) held) (closes.files rest held (subst (λ (l : List OpenFile). IsReady level l s) is ready) holds))
-
--- ---- what lies out of reach stays so
-pub spares_all : (level : LevelId) (areas mid : Areas) (s t u : PoolState) → mid ≡ with_slots level (slots_at level mid) areas → KeepsInStep (IsOutOfReach level areas.header) s t
-    → KeepsInStep (IsOutOfReach level mid.header) t u → KeepsInStep (IsOutOfReach level areas.header) s u
-spares_all level areas mid s t u alone first second =
-    step_trans (IsOutOfReach level areas.header) s t u first
-    (subst (λ (h : Header). KeepsInStep (IsOutOfReach level h) t u) (ap (λ (a : Areas). a.header) alone ∙ header_with level (slots_at level mid) areas) second)

@@ -8,6 +8,8 @@ pub mod Held
 pub mod Reading
 pub mod Putting
 pub mod Slots
+pub mod Said
+pub mod Packs
 pub mod Labels
 pub mod Closed
 pub mod Fitting
@@ -15,5 +17,4 @@ pub mod Opened
 pub mod Checked
 pub mod Staying
 pub mod Starting
-pub mod Said
 pub mod Overlaid

@@ -1,10 +1,7 @@
 -- What the files of a job hold stays held where their level's slots, those of the masters and the sectors of both regions stay.
-use Rattle.std.proofs.Common.{◌≡◌, ◌≤◌, ℕ, Bool, true, false, List, [], length, arith, subst, refl, ap, sym, ◌∙◌}
+use Rattle.std.proofs.Common.{◌≡◌, ℕ, Bool, true, false, List, [], subst, ap, sym, ◌∙◌}
 use Rattle.std.specs.List.{All}
-use Rattle.s3_cards.specs.Inner.Levels.{other}
 use Rattle.s3_cards.specs.declared.levels.LevelId.{LevelId}
-use Rattle.s3_cards.specs.declared.levels.LevelId.TheVariants.{One, Two}
-use Rattle.s3_store.specs.Inner.State.{PoolState, KeepsInStep}
 use Rattle.s3_store.specs.declared.stretch.Stretch.{Stretch}
 use Rattle.s3_slots.specs.Header.{region_of}
 use Rattle.s3_slots.specs.Inner.Kept.{AreKept}
@@ -15,13 +12,10 @@ use Rattle.s3_slots.specs.declared.header.Header.{Header}
 use Rattle.s3_slots.specs.declared.label.FileLabel.{FileLabel}
 use Rattle.s3_slots.specs.declared.slot.Slot.{Slot}
 use Rattle.s3_slots.specs.declared.slot.Standing.TheVariants.{Present}
-use Rattle.s3_labels.specs.Inner.Areas.{Areas, slots_at, with_slots, IsReady as IsPackReady}
-use Rattle.s3_labels.specs.Areas.{area_of, IsLabelSector}
-use Rattle.s3_labels.proofs.Changes.{header_with}
-use Rattle.s3_labels.proofs.Regions.{accepted_placed}
+use Rattle.s3_labels.specs.Inner.Areas.{slots_at, IsReady as IsPackReady}
 use Rattle.s3_job_files.specs.declared.file.OpenFile.{OpenFile}
 use Rattle.s3_job_files.specs.Files.{Area, FilesInUse}
-use Rattle.s3_job_files.specs.Inner.Holds.{Seen, seen, slots_by, IsReady, IsOutOfReach, KeepsAll, Holds}
+use Rattle.s3_job_files.specs.Inner.Holds.{Seen, slots_by, IsReady, KeepsAll, Holds}
 use Rattle.s3_job_files.proofs.Frames.{SameAt, same_kept, same_of, same_records}
 use Rattle.s3_job_files.proofs.Lists.{all_contained}
 use Rattle.s3_job_files.proofs.Standings.{present_inside}
@@ -101,43 +95,4 @@ held_over level items old new in_use ready same held = record {
         };
   };
   job_files = held.job_files;
-}
-
--- ---- the other level
-high_out : (level : LevelId) (n : ℕ) → 168 ≤ n → IsLabelSector (area_of level) n → ⊥
-high_out One n high is = omega (arith, high, is.1)
-high_out Two n high is = omega (arith, high, is.1)
-
--- the other level's region and that of the masters are out of reach
-out_other : (level : LevelId) (areas : Areas) (contents : List (List ℕ)) (n : ℕ) → IsPackReady areas contents → IsIn (region_of (other level) areas.header) n → IsOutOfReach level areas.header n
-out_other level areas contents n pack inside =
-    let placed = accepted_placed (length contents) areas.header pack.header in
-    record { labels = high_out level n (placed.level (other level) n inside).0; region = λ here. apart level here inside }
-  where
-    apart : (l : LevelId) → IsIn (region_of l areas.header) n → IsIn (region_of (other l) areas.header) n → ⊥
-    apart One here there = (accepted_placed (length contents) areas.header pack.header).levels_apart n here there
-    apart Two here there = (accepted_placed (length contents) areas.header pack.header).levels_apart n there here
-
-out_masters : (level : LevelId) (areas : Areas) (contents : List (List ℕ)) (n : ℕ) → IsPackReady areas contents → IsIn areas.header.masters n → IsOutOfReach level areas.header n
-out_masters level areas contents n pack inside =
-    let placed = accepted_placed (length contents) areas.header pack.header in
-    record { labels = high_out level n (placed.masters n inside).0; region = λ here. placed.masters_apart level n here inside }
-
-masters_with : (level : LevelId) (slots : List Slot) (areas : Areas) → (with_slots level slots areas).masters ≡ areas.masters
-masters_with One slots areas = refl
-masters_with Two slots areas = refl
-
-other_with : (level : LevelId) (slots : List Slot) (areas : Areas) → slots_at (other level) (with_slots level slots areas) ≡ slots_at (other level) areas
-other_with One slots areas = refl
-other_with Two slots areas = refl
-
--- where a level spares what is out of its reach, the other one sees the same
-pub other_sees : (level : LevelId) (areas new_areas : Areas) (s t : PoolState) → IsPackReady areas s.contents → new_areas ≡ with_slots level (slots_at level new_areas) areas
-    → KeepsInStep (IsOutOfReach level areas.header) s t → SeesSame (other level) (seen areas s.contents) (seen new_areas t.contents)
-other_sees level areas new_areas s t pack alone spares = record {
-  header = ap (λ (a : Areas). a.header) alone ∙ header_with level (slots_at level new_areas) areas;
-  masters = ap (λ (a : Areas). a.masters) alone ∙ masters_with level (slots_at level new_areas) areas;
-  slots = ap (slots_at (other level)) alone ∙ other_with level (slots_at level new_areas) areas;
-  own_sectors = λ n inside. spares.contents n (out_other level areas s.contents n pack inside);
-  master_sectors = λ n inside. spares.contents n (out_masters level areas s.contents n pack inside);
 }

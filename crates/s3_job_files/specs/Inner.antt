@@ -1,6 +1,7 @@
 -- What the contracts of a run and of a session don't reach: words of inner functions, of proofs and of other calls.
 pub mod Calls
 pub mod Holds
+pub mod Packs
 pub mod Records
 pub mod Refusals
 pub mod Samples

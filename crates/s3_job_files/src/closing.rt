@@ -1,17 +1,14 @@
 //! The end of a job: its files are closed.
-ghost use Rattle.std.specs.Prelude.{◌≡◌, ◌+◌, [], map, None, IfErr, OnOk};
-ghost use Rattle.s3_store.specs.Inner.State.{ChangesWithin, KeepsInStep};
-ghost use Rattle.s3_store.specs.Inner.Failures.{failed_transfers};
+ghost use Rattle.std.specs.Prelude.{◌≡◌, [], map, None, IfErr, OnOk};
 ghost use Rattle.s3_slots.specs.Making.{counted, dropped};
 ghost use Rattle.s3_slots.specs.Inner.Making.{refusal};
 ghost use Rattle.s3_slots.specs.Slots.{standing};
-ghost use Rattle.s3_labels.specs.Areas.{area_of, IsLabelSector};
-ghost use Rattle.s3_labels.specs.Inner.Areas.{slots_at, with_slots, IsOfSectors, IsReady as IsPackReady, MayHave};
-ghost use Rattle.s3_labels.specs.Inner.Labelled.{KeepsSaid};
+ghost use Rattle.s3_labels.specs.Inner.Areas.{slots_at, IsOfSectors, IsReady as IsPackReady, MayHave};
 ghost use Rattle.s3_job_files.specs.Files.{Files};
 ghost use Rattle.s3_job_files.specs.Closing.{files_closed};
 ghost use Rattle.s3_job_files.specs.Inner.Refusals.{sectors_answer};
-ghost use Rattle.s3_job_files.specs.Inner.Holds.{seen, job_file_of, Closes, HoldsFiles, IsOutOfReach, IsReady, Stands};
+ghost use Rattle.s3_job_files.specs.Inner.Holds.{seen, job_file_of, Closes, HoldsFiles, IsReady, Stands};
+ghost use Rattle.s3_job_files.specs.Inner.Packs.{ChangesLabels, LeavesPack};
 
 use crate::file::OpenFile;
 use s3_cards::{LevelId, Name};
@@ -31,22 +28,18 @@ fn changed(change: Result<(), ChangeFault>) -> Result<(), SectorFault>
 }
 
 /// Drops the label of a file that a level has.
-#[tactic(auto, using(crate::proofs::Labels::dropped_by, crate::proofs::Labels::drop_refused, crate::proofs::Labels::failed_same))]
+#[tactic(auto, using(crate::proofs::Labels::dropped_by, crate::proofs::Labels::drop_refused))]
 fn drop_label<P: Sectors>(level: LevelId, name: Name, pack: &mut Pack<P>) -> Result<(), SectorFault>
     requires ready { IsPackReady pack.old.areas (P.state pack.old.pool).contents }
     requires there { refusal (standing name (slots_at level pack.old.areas)) ≡ None }
     ensures dropped { OnOk result (slots_at level pack.new.areas ≡ dropped name (slots_at level pack.old.areas)) }
-    ensures others { pack.new.areas ≡ with_slots level (slots_at level pack.new.areas) pack.old.areas }
-    ensures within { ChangesWithin (IsLabelSector (area_of level)) (P.state pack.old.pool) (P.state pack.new.pool) }
-    ensures says { OnOk result (KeepsSaid level pack.old.areas (P.state pack.old.pool).contents pack.new.areas (P.state pack.new.pool).contents) }
-    ensures ready { IsPackReady pack.new.areas (P.state pack.new.pool).contents }
-    ensures failures { (P.state pack.new.pool).failures ≡ (P.state pack.old.pool).failures + failed_transfers result }
+    ensures labels { ChangesLabels level result pack.old.areas pack.new.areas (P.state pack.old.pool) (P.state pack.new.pool) }
 {
     changed(pack.drop_label(level, name))
 }
 
 /// Sets the count of a file that a level has.
-#[tactic(auto, using(crate::proofs::Labels::counted_by, crate::proofs::Labels::count_refused, crate::proofs::Labels::failed_same))]
+#[tactic(auto, using(crate::proofs::Labels::counted_by, crate::proofs::Labels::count_refused))]
 fn set_count<P: Sectors>(
     level: LevelId,
     name: Name,
@@ -57,11 +50,7 @@ fn set_count<P: Sectors>(
     requires there { refusal (standing name (slots_at level pack.old.areas)) ≡ None }
     requires room { MayHave count (standing name (slots_at level pack.old.areas)) }
     ensures counted { OnOk result (slots_at level pack.new.areas ≡ counted name count (slots_at level pack.old.areas)) }
-    ensures others { pack.new.areas ≡ with_slots level (slots_at level pack.new.areas) pack.old.areas }
-    ensures within { ChangesWithin (IsLabelSector (area_of level)) (P.state pack.old.pool) (P.state pack.new.pool) }
-    ensures says { OnOk result (KeepsSaid level pack.old.areas (P.state pack.old.pool).contents pack.new.areas (P.state pack.new.pool).contents) }
-    ensures ready { IsPackReady pack.new.areas (P.state pack.new.pool).contents }
-    ensures failures { (P.state pack.new.pool).failures ≡ (P.state pack.old.pool).failures + failed_transfers result }
+    ensures labels { ChangesLabels level result pack.old.areas pack.new.areas (P.state pack.old.pool) (P.state pack.new.pool) }
 {
     changed(pack.set_count(level, name, count))
 }
@@ -75,11 +64,7 @@ fn close_file<P: Sectors>(
     requires ready { IsPackReady pack.old.areas (P.state pack.old.pool).contents }
     requires stands { Stands level (seen pack.old.areas (P.state pack.old.pool).contents) file }
     ensures closes { OnOk result (Closes level file (seen pack.old.areas (P.state pack.old.pool).contents) (seen pack.new.areas (P.state pack.new.pool).contents)) }
-    ensures others { pack.new.areas ≡ with_slots level (slots_at level pack.new.areas) pack.old.areas }
-    ensures spares { KeepsInStep (IsOutOfReach level pack.old.areas.header) (P.state pack.old.pool) (P.state pack.new.pool) }
-    ensures says { OnOk result (KeepsSaid level pack.old.areas (P.state pack.old.pool).contents pack.new.areas (P.state pack.new.pool).contents) }
-    ensures ready { IsPackReady pack.new.areas (P.state pack.new.pool).contents }
-    ensures failures { (P.state pack.new.pool).failures ≡ (P.state pack.old.pool).failures + failed_transfers result }
+    ensures leaves { LeavesPack level result pack.old.areas pack.new.areas (P.state pack.old.pool) (P.state pack.new.pool) }
 {
     if file.is_master {
         return Ok(());
@@ -102,11 +87,7 @@ pub fn close_all<P: Sectors>(
     requires ready { IsReady level files.items (seen pack.old.areas (P.state pack.old.pool).contents) }
     ensures closes { OnOk result ((held : Files) → HoldsFiles level files.items (seen pack.old.areas (P.state pack.old.pool).contents) held → HoldsFiles level [] (seen pack.new.areas (P.state pack.new.pool).contents) (files_closed (map job_file_of files.items) held)) }
     ensures ready { OnOk result (IsReady level [] (seen pack.new.areas (P.state pack.new.pool).contents)) }
-    ensures pack { IsPackReady pack.new.areas (P.state pack.new.pool).contents }
-    ensures others { pack.new.areas ≡ with_slots level (slots_at level pack.new.areas) pack.old.areas }
-    ensures spares { KeepsInStep (IsOutOfReach level pack.old.areas.header) (P.state pack.old.pool) (P.state pack.new.pool) }
-    ensures says { OnOk result (KeepsSaid level pack.old.areas (P.state pack.old.pool).contents pack.new.areas (P.state pack.new.pool).contents) }
-    ensures failures { (P.state pack.new.pool).failures ≡ (P.state pack.old.pool).failures + failed_transfers result }
+    ensures leaves { LeavesPack level result pack.old.areas pack.new.areas (P.state pack.old.pool) (P.state pack.new.pool) }
 {
     for file in files {
         close_file(level, file, pack)?;

@@ -1,6 +1,7 @@
 pub mod NewFiles
 pub mod Refusals
 pub mod Steps
+pub mod Readings
 pub mod Lines
 pub mod Made
 pub mod Worlds
@@ -10,4 +11,3 @@ pub mod MadeFiles
 pub mod OneByOne
 pub mod OfLines
 pub mod Started
-pub mod Said

@@ -1,27 +1,25 @@
 -- The tests of all lines of a job, one after another.
 use Rattle.std.proofs.Common.{◌≡◌, ◌≤◌, ◌<◌, ◌+◌, slice_index_or, ℕ, zero, suc, Bool, true, List, [], ◌∷◌, map, drop, length, arith, refl, ap, ap₂, sym, ◌∙◌, subst}
 use Rattle.std.proofs.lemmas.Bool.{and_parts}
-use Rattle.std.specs.Prelude.{Some, Err, slice_get}
+use Rattle.std.specs.Prelude.{Some, Ok, Err, slice_get}
 use Rattle.std.specs.List.{list_all}
 use Rattle.s3_cards.specs.declared.levels.LevelId.{LevelId}
 use Rattle.s3_lines.specs.declared.sheet.FileLine.{FileLine}
-use Rattle.s3_store.specs.Inner.State.{PoolState, KeepsContents}
-use Rattle.s3_store.proofs.Frames.{keeps_trans}
+use Rattle.s3_store.specs.Inner.State.{PoolState}
 use Rattle.s3_labels.specs.Inner.Areas.{Areas}
 use Rattle.s3_job_files.specs.Inner.Holds.{seen}
 use Rattle.s3_opening.specs.declared.fault.OpeningFault.{OpeningFault}
 use Rattle.s3_opening.specs.declared.starts.Start.{Start}
 use Rattle.s3_opening.specs.Opening.{Settings}
-use Rattle.s3_opening.specs.Inner.Starts.{step_in, TestsTo, AreRight}
+use Rattle.s3_opening.specs.Inner.Starts.{step_in, AreRight, ReadsPack, TestsTo}
 use Rattle.s3_opening.specs.Inner.Tests.{passed, tested_lines}
+use Rattle.s3_opening.proofs.Readings.{reads_ok, reads_then}
 use Rattle.s3_opening.proofs.Steps.{lines_first, lines_refused}
 
 -- the first i lines are tested, and nothing has changed
 pub record IsTesting (level : LevelId) (settings : Settings) (lines : List FileLine) (areas now : Areas) (s t : PoolState) (old starts : List Start) (i : ℕ) : Type 0 where
   pub rest : tested_lines level (seen areas s.contents) settings (drop i lines) (map step_in starts) ≡ tested_lines level (seen areas s.contents) settings lines (map step_in old)
-  pub areas_same : now ≡ areas
-  pub keeps : KeepsContents s t
-  pub failures : t.failures ≡ s.failures
+  pub reads : ReadsPack (Ok (tt {0})) areas now s t
   pub right : AreRight level (seen areas s.contents) starts
 
 drop_at : (lines : List FileLine) (i : ℕ) (line : FileLine) → slice_get lines i ≡ Some line → drop i lines ≡ line ∷ drop (i + 1) lines
@@ -29,19 +27,17 @@ drop_at [] i line h = absurd cc
 drop_at (first ∷ lines) zero line h = let same : first ≡ line = cc in rw same refl
 drop_at (first ∷ lines) (suc i) line h = let e : suc i + 1 ≡ suc (i + 1) = omega arith in rw e (drop_at lines i line h)
 
-same_seen : (areas now : Areas) (s t : PoolState) → now ≡ areas → KeepsContents s t → seen now t.contents ≡ seen areas s.contents
-same_seen areas now s t same keeps = ap₂ seen same keeps.contents
+same_seen : (areas now : Areas) (s t : PoolState) → ReadsPack (Ok (tt {0})) areas now s t → seen now t.contents ≡ seen areas s.contents
+same_seen areas now s t reads = ap₂ seen reads.areas reads.keeps.contents
 
-pub testing_on : (level : LevelId) (settings : Settings) (lines : List FileLine) (areas now after : Areas) (s t u : PoolState) (old starts more : List Start) (i : ℕ) (line : FileLine)
+pub testing_on : {done : Unit {0}} (level : LevelId) (settings : Settings) (lines : List FileLine) (areas now after : Areas) (s t u : PoolState) (old starts more : List Start) (i : ℕ) (line : FileLine)
     → IsTesting level settings lines areas now s t old starts i → slice_get lines i ≡ Some line → tested_lines level (seen now t.contents) settings (line ∷ []) (map step_in starts) ≡ passed (map step_in more)
-    → AreRight level (seen now t.contents) more → after ≡ now → KeepsContents t u → u.failures ≡ t.failures + 0 → IsTesting level settings lines areas after s u old more (i + 1)
-testing_on level settings lines areas now after s t u old starts more i line so here first right same keeps failures =
-    let at : seen now t.contents ≡ seen areas s.contents = same_seen areas now s t so.areas_same so.keeps in record {
+    → AreRight level (seen now t.contents) more → ReadsPack (Ok done) now after t u → IsTesting level settings lines areas after s u old more (i + 1)
+testing_on level settings lines areas now after s t u old starts more i line so here first right reads =
+    let at : seen now t.contents ≡ seen areas s.contents = same_seen areas now s t so.reads in record {
       rest = sym (lines_first level (seen areas s.contents) settings line (drop (i + 1) lines) (map step_in starts) (map step_in more) (subst (λ one. tested_lines level one settings (line ∷ []) (map step_in starts) ≡ passed (map step_in more)) at first))
           ∙ sym (ap (λ list. tested_lines level (seen areas s.contents) settings list (map step_in starts)) (drop_at lines i line here)) ∙ so.rest;
-      areas_same = same ∙ so.areas_same;
-      keeps = keeps_trans s t u so.keeps keeps;
-      failures = omega (arith, failures, so.failures);
+      reads = reads_ok tt (reads_then so.reads reads);
       right = subst (λ one. AreRight level one more) at right;
     }
 
@@ -52,7 +48,7 @@ pub testing_fails : (T : Type 0) (level : LevelId) (settings : Settings) (lines 
 testing_fails T level settings lines areas now s t old starts more i line fault so here first =
     subst (λ meant. TestsTo {T = T} meant (map step_in more) (Err fault)) (sym (ap (λ list. tested_lines level (seen areas s.contents) settings list (map step_in starts)) (drop_at lines i line here)) ∙ so.rest)
     (lines_refused T level (seen areas s.contents) settings line (drop (i + 1) lines) (map step_in starts) (map step_in more) fault
-    (subst (λ one. TestsTo {T = T} (tested_lines level one settings (line ∷ []) (map step_in starts)) (map step_in more) (Err fault)) (same_seen areas now s t so.areas_same so.keeps) first))
+    (subst (λ one. TestsTo {T = T} (tested_lines level one settings (line ∷ []) (map step_in starts)) (map step_in more) (Err fault)) (same_seen areas now s t so.reads) first))
 
 drop_all : (xs : List FileLine) (i : ℕ) → length xs ≤ i → drop i xs ≡ []
 drop_all [] zero h = refl

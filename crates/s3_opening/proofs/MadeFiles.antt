@@ -1,14 +1,16 @@
 -- A file is made: what is held of the others, and of it.
 use Rattle.std.proofs.Common.{◌≡◌, ◌≤◌, ◌+◌, ℕ, zero, suc, inl, inr, Bool, true, false, List, [], ◌∷◌, length, replicate, arith, refl, ap, sym, ◌∙◌, subst}
-use Rattle.std.specs.Prelude.{slice_get, Option, Some, None, Result, Ok, Err, if◌then◌else◌}
+use Rattle.std.specs.Prelude.{slice_get, Option, Some, None, Result, Ok, Err, OnOk, if◌then◌else◌}
 use Rattle.std.specs.List.{All, Contains, list_any, position_from}
 use Rattle.std.proofs.lemmas.Bool.{true≢false}
 use Rattle.s3_cards.specs.declared.levels.LevelId.{LevelId}
-use Rattle.s3_cards.specs.declared.levels.LevelId.TheVariants.{One, Two}
 use Rattle.s3_cards.specs.declared.name.Name.{Name}
 use Rattle.s3_cards.specs.Names.{same_name}
 use Rattle.s3_cards.proofs.NameLemmas.{same_name-self, same_name-equal}
+use Rattle.s3_store.specs.Inner.Failures.{failed_transfers}
 use Rattle.s3_store.specs.Inner.State.{PoolState, ChangesWithin, KeepsInStep}
+use Rattle.s3_store.specs.declared.sector_fault.SectorFault.{SectorFault}
+use Rattle.s3_store.specs.declared.sector_fault.SectorFault.TheVariants.{Device, NoMemory}
 use Rattle.s3_store.specs.declared.stretch.Stretch.{Stretch}
 use Rattle.s3_store.proofs.Frames.{step_from_within}
 use Rattle.s3_slots.specs.Header.{region_of}
@@ -31,15 +33,19 @@ use Rattle.s3_slots.specs.declared.slot.Standing.TheVariants.{Present}
 use Rattle.s3_slots.proofs.Judging.{made_kept}
 use Rattle.s3_slots.proofs.Keeping.{formed_parts, extents_inside}
 use Rattle.s3_slots.proofs.Runs.{none_at}
-use Rattle.s3_labels.specs.Inner.Areas.{Areas, region_at, slots_at, with_slots, AreFilled, IsOfDirect, IsOfMake, IsReady as IsPackReady}
-use Rattle.s3_labels.specs.Areas.{area_of, IsLabelSector}
-use Rattle.s3_labels.proofs.Changes.{header_with}
+use Rattle.s3_labels.specs.Inner.Areas.{Areas, region_at, slots_at, with_slots, AreFilled, IsOfDirect, IsOfMake, IsReady as IsPackReady, failed_change}
+use Rattle.s3_labels.specs.Inner.Labelled.{KeepsSaid}
+use Rattle.s3_labels.specs.declared.fault.ChangeFault.{ChangeFault}
+use Rattle.s3_labels.specs.declared.fault.ChangeFault.TheVariants.{Sectors as SectorsFailed}
+use Rattle.s3_labels.specs.Areas.{area_of}
 use Rattle.s3_labels.proofs.Regions.{ready_region}
 use Rattle.s3_job_files.specs.declared.file.OpenFile.{OpenFile}
 use Rattle.s3_job_files.specs.Kept.{Kept, kept_on, nothing_kept}
 use Rattle.s3_job_files.specs.Files.{Files, area_by}
+use Rattle.s3_job_files.specs.Inner.Packs.{LeavesPack}
 use Rattle.s3_job_files.specs.Inner.Holds.{seen, slots_by, Stands, IsReady, IsOutOfReach, HoldsRecords, HoldsFiles, is_open}
 use Rattle.s3_job_files.proofs.Frames.{SameAt, same_kept, same_records, same_of}
+use Rattle.s3_job_files.proofs.Packs.{header_kept, masters_kept, not_label, pack_closed}
 use Rattle.s3_job_files.proofs.Putting.{differ_sym, pack_over, same_apart, same_masters}
 use Rattle.s3_job_files.proofs.Lists.{found_passes}
 use Rattle.s3_opening.specs.Opening.{first_kept, with_new}
@@ -84,10 +90,6 @@ sound_stands region slots i label kept here = by (position_from (bears label.nam
         (only_sound label.name found.element at slots i label region kept here refl there (found_passes (bears label.name) slots at found.element e there))
 
 -- ---- what a make changes
-not_label : (level : LevelId) (n : ℕ) → 168 ≤ n → IsLabelSector (area_of level) n → ⊥
-not_label One n high is = omega (arith, high, is.1)
-not_label Two n high is = omega (arith, high, is.1)
-
 -- the direct file of the label is the one that stands under it
 direct_is : (region : Stretch) (slots : List Slot) (i : ℕ) (label : FileLabel) (name : Name) (n : ℕ) → AreKept region slots → slice_get slots i ≡ Some (Sound label) → label.name ≡ name
     → IsOfDirect slots name n → Contains (sectors_of label) n
@@ -102,7 +104,7 @@ pub made_same : (level : LevelId) (new : NewFile) (label : FileLabel) (i : ℕ) 
     → (n : ℕ) → 168 ≤ n → ¬ Contains (sectors_of label) n → slice_get t.contents n ≡ slice_get s.contents n
 made_same level new label i region slots came s t is kept here named within n high out =
     within.contents n (λ inside. elim (subst (λ r. IsOfMake (area_of level) new.name r n) is inside) [
-      | inl a ↦ not_label level n high a
+      | inl a ↦ not_label level n (omega (arith, high)) a
       | inr direct ↦ out (direct_is region slots i label new.name n kept here named direct)
     ])
 
@@ -111,7 +113,7 @@ unfolding sectors_of
 slot_inside region slots i label n kept there inside = extents_inside region label.extents n (formed_parts region label (kept.formed i label there)).room inside
 
 -- it spares what is out of the level's reach, refused or not
-pub make_spares : (level : LevelId) (new : NewFile) (areas : Areas) (s t : PoolState) → IsPackReady areas s.contents → IsNewFile new
+make_spares : (level : LevelId) (new : NewFile) (areas : Areas) (s t : PoolState) → IsPackReady areas s.contents → IsNewFile new
     → ChangesWithin (IsOfMake (area_of level) new.name (made areas.header.format (region_at level areas) areas.masters new (slots_at level areas))) s t
     → KeepsInStep (IsOutOfReach level areas.header) s t
 make_spares level new areas s t pack proper within =
@@ -130,16 +132,12 @@ make_spares level new areas s t pack proper within =
         ]) within
 
 -- ---- what is held of the others
-masters_with : (level : LevelId) (slots : List Slot) (areas : Areas) → (with_slots level slots areas).masters ≡ areas.masters
-masters_with One slots areas = refl
-masters_with Two slots areas = refl
-
 module _ (level : LevelId) (new : NewFile) (label : FileLabel) (areas new_areas : Areas) (old fresh : List (List ℕ)) (made : IsMade level new label areas new_areas old fresh) where
   header_is : new_areas.header ≡ areas.header
-  header_is = ap (λ (a : Areas). a.header) made.alone ∙ header_with level (slots_at level new_areas) areas
+  header_is = header_kept level areas new_areas made.alone
 
   masters_are : new_areas.masters ≡ areas.masters
-  masters_are = ap (λ (a : Areas). a.masters) made.alone ∙ masters_with level (slots_at level new_areas) areas
+  masters_are = masters_kept level areas new_areas made.alone
 
   name_is : label.name ≡ new.name
   unfolding new_label
@@ -240,12 +238,30 @@ made_is level new label areas new_areas s t ready ok alone label_is on_pack writ
   alone = alone;
   ready = ready;
   count = within.count;
+  on_pack = on_pack;
   fresh_label = label_is;
   stands = sound_stands (region_at level new_areas) (slots_at level new_areas) written.slot label (ready.own level) written.there;
   same = made_same level new label written.slot (region_at level new_areas) (slots_at level new_areas) (made areas.header.format (region_at level areas) areas.masters new (slots_at level areas)) s t
       ok (ready.own level) written.there (ap (λ (l : FileLabel). l.name) label_is) within;
   kept = new_kept new label t.contents label_is (of_pack_room (length t.contents) label on_pack) blank;
 }
+
+-- refused or not, it leaves the other level's as it was
+pub make_leaves : {T : Type 0} {level : LevelId} {new : NewFile} {areas new_areas : Areas} {s t : PoolState} (result : Result T SectorFault) → IsPackReady areas s.contents → IsNewFile new → IsPackReady new_areas t.contents
+    → new_areas ≡ with_slots level (slots_at level new_areas) areas
+    → ChangesWithin (IsOfMake (area_of level) new.name (made areas.header.format (region_at level areas) areas.masters new (slots_at level areas))) s t
+    → OnOk result (KeepsSaid level areas s.contents new_areas t.contents) → t.failures ≡ s.failures + failed_transfers result → LeavesPack level result areas new_areas s t
+make_leaves {level = level} {new = new} {areas = areas} {s = s} {t = t} result before proper ready alone within says failures =
+    pack_closed result ready alone (make_spares level new areas s t before proper within) says failures
+
+-- where its sectors failed, so did as many transfers
+pub make_failed : (T : Type 0) (fault : ChangeFault) (of_sectors : SectorFault) (s t : PoolState) → fault ≡ SectorsFailed of_sectors → t.failures ≡ s.failures + failed_change {T = T} (Err fault)
+    → t.failures ≡ s.failures + failed_transfers {T = T} (Err of_sectors)
+make_failed T fault of_sectors s t is failures = failures ∙ ap (λ n. s.failures + n) (ap (λ f. failed_change {T = T} (Err f)) is ∙ by of_sectors)
+  where
+    by : (stop : SectorFault) → failed_change {T = T} (Err (SectorsFailed stop)) ≡ failed_transfers {T = T} (Err stop)
+    by Device = refl
+    by NoMemory = refl
 
 first_good : (new : NewFile) → (first_kept new).has_good_index ≡ true
 first_good new = by (is_direct new.organization)

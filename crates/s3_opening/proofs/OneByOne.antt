@@ -1,5 +1,5 @@
 -- One start after another: what is held, and what is left.
-use Rattle.std.proofs.Common.{◌≡◌, ◌+◌, ℕ, zero, suc, Bool, true, false, not, ◌&&◌, ◌||◌, List, [], ◌∷◌, ◌++◌, map, length, rules, refl, ap, sym, ◌∙◌, subst}
+use Rattle.std.proofs.Common.{◌≡◌, ◌+◌, ℕ, zero, suc, Bool, true, false, not, ◌&&◌, ◌||◌, List, [], ◌∷◌, ◌++◌, map, length, rules, append-nil, append_assoc, refl, ap, sym, ◌∙◌, subst}
 use Rattle.std.specs.Prelude.{slice_get, Some, Result, Ok, Err, IsOk, IfOk, if◌then◌else◌}
 use Rattle.std.specs.List.{list_any}
 use Rattle.std.proofs.lemmas.Bool.{true≢false}
@@ -10,6 +10,7 @@ use Rattle.s3_cards.specs.declared.name.Name.{Name}
 use Rattle.s3_cards.specs.Names.{same_name}
 use Rattle.s3_cards.proofs.NameLemmas.{same_name-self}
 use Rattle.s3_operator.specs.declared.halt_code.HaltCode.{HaltCode}
+use Rattle.s3_store.specs.Inner.Calls.{Reads}
 use Rattle.s3_store.specs.Inner.State.{PoolState, KeepsContents}
 use Rattle.s3_store.specs.declared.sector_fault.SectorFault.{SectorFault}
 use Rattle.s3_store.specs.declared.stretch.Stretch.{Stretch}
@@ -26,7 +27,7 @@ use Rattle.s3_slots.proofs.Runs.{none_at}
 use Rattle.s3_labels.specs.Inner.Areas.{Areas, region_at, slots_at, with_slots}
 use Rattle.s3_job_files.specs.Kept.{kept_on}
 use Rattle.s3_job_files.specs.Files.{Files, FilesInUse, area_by}
-use Rattle.s3_job_files.specs.Inner.Holds.{Seen, seen, slots_by, AreOf, Stands, Holds, HoldsFiles, HoldsRecords, is_open, job_file_of}
+use Rattle.s3_job_files.specs.Inner.Holds.{Seen, seen, slots_by, AreOf, Stands, HoldsFiles, HoldsRecords, is_open, job_file_of}
 use Rattle.s3_job_files.specs.declared.file.OpenFile.{OpenFile}
 use Rattle.s3_job_files.proofs.Opened.{opened_ready, opened_holds}
 use Rattle.s3_opening.specs.declared.starts.Start.{Start}
@@ -35,14 +36,11 @@ use Rattle.s3_opening.specs.Opening.{after_make, first_kept, job_file, make_file
 use Rattle.s3_opening.specs.Inner.Tests.{label_of, news_of, taken, taken_one}
 use Rattle.s3_opening.specs.Inner.Starts.{step_in, AreRight, IsOpened, IsPlanned, IsRight}
 use Rattle.s3_opening.specs.Inner.OpenFiles.{HoldsStarted}
-use Rattle.s3_opening.specs.Inner.Starting.{AddsFiles, AreFrom, AreNew, CanStart, IsMade, IsOpenedNew, Readies, Starts, labels_left, labels_open}
+use Rattle.s3_opening.specs.Inner.Starting.{AddsFiles, AreFrom, AreNew, CanStart, HoldsAll, IsMade, IsOpenedNew, Readies, Starts, labels_left, labels_open}
 use Rattle.s3_opening.proofs.MadeFiles.{made_files, opened_still, ready_still}
+use Rattle.s3_opening.proofs.Steps.{list_any_mapped}
 
 -- ---- names that are new
-any_mapped : {X Y : Type 0} (f : X → Y) (test : Y → Bool) (xs : List X) → list_any test (map f xs) ≡ list_any (λ x. test (f x)) xs
-any_mapped f test [] = refl
-any_mapped f test (x ∷ xs) = ap (λ b. test (f x) || b) (any_mapped f test xs)
-
 get_first : {X : Type 0} (xs ys : List X) (k : ℕ) (x : X) → slice_get xs k ≡ Some x → slice_get (xs ++ ys) k ≡ Some x
 get_first [] ys k x there = absurd cc
 get_first (z ∷ xs) ys zero x there = there
@@ -75,7 +73,7 @@ later_differs level items s start later rest i can there =
 -- no open file has its label
 unopened : (level : LevelId) (items : List OpenFile) (s : Seen) (start : Start) (rest : List Start) → CanStart level items s (start ∷ rest)
     → list_any (λ (one : OpenFile). same_name one.label.name (label_of (step_in start))) items ≡ false
-unopened level items s start rest can = sym (any_mapped (λ (file : OpenFile). file.label.name) (λ n. same_name n (label_of (step_in start))) items) ∙ can.new.0
+unopened level items s start rest can = sym (list_any_mapped (λ (file : OpenFile). file.label.name) (λ n. same_name n (label_of (step_in start))) items) ∙ can.new.0
 
 -- ---- plans
 ok_from : (n m : ℕ) (format : Format) (region : Stretch) (masters : List Slot) (news : List NewFile) (slots : List Slot) → IsOk (planned n format region masters news slots) → IsOk (planned m format region masters news slots)
@@ -240,17 +238,17 @@ module _ (level : LevelId) (name : Name) (new : NewFile) (label : FileLabel) (ar
     };
   }
 
-pub readies_made : (level : LevelId) (name : Name) (new : NewFile) (label : FileLabel) (areas new_areas : Areas) (old : List (List ℕ)) (t u : PoolState) (file : OpenFile) → IsMade level new label areas new_areas old t.contents
+readies_made : (level : LevelId) (name : Name) (new : NewFile) (label : FileLabel) (areas new_areas : Areas) (old : List (List ℕ)) (t u : PoolState) (file : OpenFile) → IsMade level new label areas new_areas old t.contents
     → KeepsContents t u → IsOpenedNew name label t.contents file → Readies level (ToMake name new) file (seen areas old) (seen new_areas u.contents)
 readies_made level name new label areas new_areas old t u file is keeps opened =
     subst (λ contents. Readies level (ToMake name new) file (seen areas old) (seen new_areas contents)) (sym keeps.contents)
     (readies_fresh level name new label areas new_areas old t.contents file is opened)
 
 pub readies_if_made : (level : LevelId) (name : Name) (new : NewFile) (label : FileLabel) (areas new_areas : Areas) (old : List (List ℕ)) (t u : PoolState) (result : Result OpenFile SectorFault)
-    → IsMade level new label areas new_areas old t.contents → KeepsContents t u → IfOk result (IsOpenedNew name label t.contents)
+    → IsMade level new label areas new_areas old t.contents → Reads result t u → IfOk result (IsOpenedNew name label t.contents)
     → IfOk result (λ file. Readies level (ToMake name new) file (seen areas old) (seen new_areas u.contents))
-readies_if_made level name new label areas new_areas old t u (Ok file) is keeps opened = readies_made level name new label areas new_areas old t u file is keeps opened
-readies_if_made level name new label areas new_areas old t u (Err fault) is keeps opened = tt
+readies_if_made level name new label areas new_areas old t u (Ok file) is reads opened = readies_made level name new label areas new_areas old t u file is reads.keeps opened
+readies_if_made level name new label areas new_areas old t u (Err fault) is reads opened = tt
 
 -- ---- a start by its kind
 pub readies_open : (level : LevelId) (start : Start) (file : OpenFile) (s : Seen) → start ≡ Opened file → IsRight level s start → Readies level start file s s
@@ -282,21 +280,13 @@ starts_pushed level start file items later old new readies pushed = record {
     free rest can = ap (λ n. list_any (λ (one : OpenFile). same_name one.label.name n) items) readies.label ∙ unopened level items old start rest can
 
 -- ---- one after another
-pub adds_none : (items : List OpenFile) → AddsFiles [] items items
-adds_none items = record { more = []; behind = append_none items; from = tt }
-  where
-    append_none : (xs : List OpenFile) → xs ≡ xs ++ []
-    append_none [] = refl
-    append_none (x ∷ xs) = ap (λ zs. x ∷ zs) (append_none xs)
-
-append_more : (xs ys zs : List OpenFile) → (xs ++ ys) ++ zs ≡ xs ++ (ys ++ zs)
-append_more [] ys zs = refl
-append_more (x ∷ xs) ys zs = ap (λ more. x ∷ more) (append_more xs ys zs)
+adds_none : (items : List OpenFile) → AddsFiles [] items items
+adds_none items = record { more = []; behind = sym (append-nil items); from = tt }
 
 adds_both : (start : Start) (rest : List Start) (items mid later : List OpenFile) → AddsFiles (start ∷ []) items mid → AddsFiles rest mid later → AddsFiles (start ∷ rest) items later
 adds_both start rest items mid later first more = record {
   more = first.more ++ more.more;
-  behind = more.behind ∙ ap (λ xs. xs ++ more.more) first.behind ∙ append_more items first.more more.more;
+  behind = more.behind ∙ ap (λ xs. xs ++ more.more) first.behind ∙ append_assoc items first.more more.more;
   from = both first.more first.from;
 }
   where
@@ -316,10 +306,6 @@ can_next level starts start rest items mid old between is first can = first.can 
 
 pub can_one : (level : LevelId) (starts : List Start) (start : Start) (rest : List Start) (items : List OpenFile) (old : Seen) → starts ≡ start ∷ rest → CanStart level items old starts → CanStart level items old (start ∷ [])
 can_one level starts start rest items old is can = can_first level items old start rest (subst (CanStart level items old) is can)
-
--- whatever was held with some files is held with those that these starts add
-abbrev pub HoldsAll : LevelId → List Start → (items later : List OpenFile) → (old new : Seen) → Type 0
-HoldsAll level starts items later old new = (in_use : FilesInUse) → Holds level items old in_use → HoldsStarted level later new (taken (map step_in starts) in_use)
 
 pub holds_all : (level : LevelId) (starts : List Start) (start : Start) (rest : List Start) (items mid later : List OpenFile) (old between new : Seen) → starts ≡ start ∷ rest → Starts level start items mid old between
     → CanStart level items old starts → HoldsAll level rest mid later between new → HoldsAll level starts items later old new

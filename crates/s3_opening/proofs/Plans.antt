@@ -9,7 +9,7 @@ use Rattle.s3_slots.specs.declared.making.LabelFault.{LabelFault}
 use Rattle.s3_slots.specs.declared.making.NewFile.{NewFile}
 use Rattle.s3_lines.specs.declared.sheet.FileLine.{FileLine}
 use Rattle.s3_slots.specs.declared.slot.Slot.{Slot}
-use Rattle.s3_store.specs.Inner.State.{PoolState, KeepsContents}
+use Rattle.s3_store.specs.Inner.State.{PoolState}
 use Rattle.s3_labels.specs.Inner.Areas.{Areas, IsPlanRefusal, IsReady as IsPackReady, region_at, slots_at}
 use Rattle.s3_labels.specs.declared.fault.PlanFault.{PlanFault}
 use Rattle.s3_labels.specs.declared.fault.PlanFault.TheVariants.{File, NoMemory as NoMemoryToPlan}
@@ -21,7 +21,7 @@ use Rattle.s3_job_files.specs.Inner.Holds.{HoldsFiles, Seen, seen}
 use Rattle.s3_opening.specs.declared.starts.Start.{Start}
 use Rattle.s3_opening.specs.declared.starts.Start.TheVariants.{Opened, ToMake}
 use Rattle.s3_opening.specs.Opening.{Settings, halt_of_make, none_in_use, opened, unless_halted}
-use Rattle.s3_opening.specs.Inner.Starts.{step_in, first_refusal, fault_of_plan, AreRight, Comes, IsHaltOfPlan, IsPlanned, PlansTo, TestsTo}
+use Rattle.s3_opening.specs.Inner.Starts.{step_in, first_refusal, fault_of_plan, AreRight, Comes, IsHaltOfPlan, IsPlanned, PlansTo, TestsTo, ReadsPack}
 use Rattle.s3_opening.specs.Inner.Tests.{Step, ending, finished, new_of, news_of, taken, tested_lines}
 
 abbrev pub news_in : List Start → List NewFile
@@ -70,13 +70,13 @@ plan_tells T level areas starts news given fault refusal same is refused told =
     (tells T level areas starts news given fault same is refused)
 
 -- ---- where nothing has changed
-pub ready_kept : (areas now : Areas) (s t : PoolState) → now ≡ areas → KeepsContents s t → IsPackReady areas s.contents → IsPackReady now t.contents
-ready_kept areas now s t same keeps ready = subst (λ one. IsPackReady one.areas one.contents) (sym (ap₂ seen same keeps.contents)) ready
+pub ready_kept : {T : Type 0} {result : Result T OpeningFault} {areas now : Areas} {s t : PoolState} → ReadsPack result areas now s t → IsPackReady areas s.contents → IsPackReady now t.contents
+ready_kept reads ready = subst (λ one. IsPackReady one.areas one.contents) (sym (ap₂ seen reads.areas reads.keeps.contents)) ready
 
-pub right_kept : (level : LevelId) (areas now : Areas) (s t : PoolState) (starts given : List Start) → now ≡ areas → KeepsContents s t → given ≡ starts → AreRight level (seen areas s.contents) starts
-    → AreRight level (seen now t.contents) given
-right_kept level areas now s t starts given same keeps is right =
-    subst (λ one. AreRight level one given) (sym (ap₂ seen same keeps.contents)) (subst (AreRight level (seen areas s.contents)) (sym is) right)
+pub right_kept : {T : Type 0} {result : Result T OpeningFault} {areas now : Areas} {s t : PoolState} (level : LevelId) (starts given : List Start) → ReadsPack result areas now s t → given ≡ starts
+    → AreRight level (seen areas s.contents) starts → AreRight level (seen now t.contents) given
+right_kept {areas = areas} {s = s} level starts given reads is right =
+    subst (λ one. AreRight level one given) (sym (ap₂ seen reads.areas reads.keeps.contents)) (subst (AreRight level (seen areas s.contents)) (sym is) right)
 
 -- ---- the start of a job
 plan_agrees : (level : LevelId) (pack : Seen) (files : Files) (steps : List Step) → HoldsFiles level [] pack files

@@ -2,19 +2,15 @@
 use Rattle.std.proofs.Common.{◌≡◌, ◌+◌, ℕ, List, [], map, refl, ap, ap₂, sym, ◌∙◌, subst}
 use Rattle.std.specs.Prelude.{filter, Result, Ok, Err, IsOk}
 use Rattle.s3_cards.specs.declared.levels.LevelId.{LevelId}
-use Rattle.s3_cards.specs.declared.levels.LevelId.TheVariants.{One, Two}
 use Rattle.s3_lines.specs.declared.sheet.FileLine.{FileLine}
 use Rattle.s3_slots.specs.Inner.Making.{planned}
 use Rattle.s3_slots.specs.declared.making.LabelFault.{LabelFault}
 use Rattle.s3_slots.specs.declared.slot.Slot.{Slot}
-use Rattle.s3_store.specs.Inner.State.{PoolState, KeepsContents, KeepsInStep}
+use Rattle.s3_store.specs.Inner.State.{PoolState}
 use Rattle.s3_store.specs.Inner.Failures.{failed_transfers}
-use Rattle.s3_store.specs.declared.sector_fault.SectorFault.{SectorFault}
-use Rattle.s3_store.specs.declared.sector_fault.SectorFault.TheVariants.{Device, NoMemory}
-use Rattle.s3_store.proofs.Frames.{step_from_keeps, step_trans}
-use Rattle.s3_labels.specs.Inner.Areas.{Areas, region_at, slots_at, with_slots, IsReady as IsPackReady}
+use Rattle.s3_labels.specs.Inner.Areas.{Areas, region_at, slots_at, IsReady as IsPackReady}
 use Rattle.s3_job_files.specs.Files.{Files}
-use Rattle.s3_job_files.specs.Inner.Holds.{Seen, seen, HoldsFiles, IsOutOfReach}
+use Rattle.s3_job_files.specs.Inner.Holds.{Seen, seen, HoldsFiles}
 use Rattle.s3_job_files.specs.declared.file.OpenFile.{OpenFile}
 use Rattle.s3_job_files.specs.declared.job_files.JobFiles.{JobFiles}
 use Rattle.s3_job_files.proofs.Starting.{ready_none}
@@ -23,12 +19,13 @@ use Rattle.s3_opening.specs.declared.fault.OpeningFault.TheVariants.{Halted, Sec
 use Rattle.s3_opening.specs.declared.starts.Start.{Start}
 use Rattle.s3_opening.specs.Asked.{is_used}
 use Rattle.s3_opening.specs.Opening.{Settings, none_in_use, opened}
-use Rattle.s3_opening.specs.Inner.OpenFiles.{IfHalted, StartsAs}
+use Rattle.s3_opening.specs.Inner.OpenFiles.{StartsAs}
 use Rattle.s3_opening.specs.Inner.Starting.{AreStartsOf, CanStart}
-use Rattle.s3_opening.specs.Inner.Starts.{step_in, failed_opening, first_refusal, AreRight, Comes, PlansTo, TestsTo}
+use Rattle.s3_opening.specs.Inner.Starts.{step_in, failed_opening, first_refusal, AreRight, Comes, PlansTo, ReadsPack, TestsTo}
 use Rattle.s3_opening.specs.Inner.Tests.{Step, Tested, news_of, passed, tested_lines}
 use Rattle.s3_opening.proofs.OfLines.{starts_new, starts_of_lines}
 use Rattle.s3_opening.proofs.Plans.{comes, with_value}
+use Rattle.s3_opening.proofs.Readings.{transfers_same}
 
 -- ---- the tests
 abbrev plan_of : LevelId → Areas → List Start → Result (List Slot) (ℕ × LabelFault)
@@ -79,10 +76,6 @@ module _ (level : LevelId) (areas now : Areas) (contents : List (List ℕ)) (set
   are_starts = starts_of_lines level (seen areas contents) settings lines starts right all_passed
 
 -- only a transfer of the tests has failed: the plan transfers nothing
-transfers_same : (T U : Type 0) (fault : SectorFault) → failed_transfers {T = T} (Err fault) ≡ failed_transfers {T = U} (Err fault)
-transfers_same T U Device = refl
-transfers_same T U NoMemory = refl
-
 failed_same : (T : Type 0) (value : T) (meant : Result (List Slot) (ℕ × LabelFault)) (tested plan : Result (Unit {0}) OpeningFault) → PlansTo meant plan
     → failed_opening (with_value value (first_refusal tested plan)) ≡ failed_opening tested
 failed_same T value meant (Ok _) (Ok _) plans = refl
@@ -93,24 +86,22 @@ failed_same T value meant (Err (Halted code)) (Ok _) plans = refl
 failed_same T value meant (Err (Halted code)) (Err (Halted other)) plans = refl
 failed_same T value meant (Err (Halted code)) (Err (Sectors fault)) plans = ap (λ f. failed_transfers {T = T} (Err f)) plans
 
-pub failures_of : (T : Type 0) (value : T) (meant : Result (List Slot) (ℕ × LabelFault)) (tested plan : Result (Unit {0}) OpeningFault) (fault : OpeningFault) (s t : PoolState) → PlansTo meant plan
-    → Err fault ≡ first_refusal tested plan → t.failures ≡ s.failures + failed_opening tested → t.failures ≡ s.failures + failed_opening {T = T} (Err fault)
-failures_of T value meant tested plan fault s t plans came failed =
-    failed ∙ ap (λ n. s.failures + n) (sym (failed_same T value meant tested plan plans) ∙ sym (ap (λ r. failed_opening (with_value value r)) came))
-
-pub failures_none : (meant : Result (List Slot) (ℕ × LabelFault)) (tested plan : Result (Unit {0}) OpeningFault) (done : Unit {0}) (s t : PoolState) → PlansTo meant plan
-    → Ok done ≡ first_refusal tested plan → t.failures ≡ s.failures + failed_opening tested → t.failures ≡ s.failures + 0
-failures_none meant tested plan done s t plans came failed =
-    failed ∙ ap (λ n. s.failures + n) (sym (failed_same (Unit {0}) tt meant tested plan plans) ∙ sym (ap (λ r. failed_opening (with_value tt r)) came))
+pub reads_planned : {T : Type 0} {old new : Areas} {s t : PoolState} (value : T) (meant : Result (List Slot) (ℕ × LabelFault)) (tested plan result : Result (Unit {0}) OpeningFault) → PlansTo meant plan
+    → result ≡ first_refusal tested plan → ReadsPack tested old new s t → ReadsPack (with_value value result) old new s t
+reads_planned {T = T} {s = s} value meant tested plan result plans came reads = record {
+  areas = reads.areas;
+  keeps = reads.keeps;
+  failures = reads.failures ∙ ap (λ n. s.failures + n) (sym (failed_same T value meant tested plan plans) ∙ sym (ap (λ r. failed_opening (with_value value r)) came));
+}
 
 pub right_none : (level : LevelId) (s : Seen) (starts : List Start) → starts ≡ [] → AreRight level s starts
 right_none level s starts none = subst (AreRight level s) (sym none) (λ i start there. absurd cc)
 
 -- ---- the files behind them
-pub can_after : (level : LevelId) (areas now : Areas) (s t : PoolState) (items : List OpenFile) (starts : List Start) → now ≡ areas → KeepsContents s t → items ≡ [] → CanStart level [] (seen areas s.contents) starts
-    → CanStart level items (seen now t.contents) starts
-can_after level areas now s t items starts same keeps none can =
-    subst (λ (list : List OpenFile). CanStart level list (seen now t.contents) starts) (sym none) (subst (λ one. CanStart level [] one starts) (sym (ap₂ seen same keeps.contents)) can)
+pub can_after : {T : Type 0} {first : T} (level : LevelId) (areas now : Areas) (s t : PoolState) (items : List OpenFile) (starts : List Start) → ReadsPack (Ok first) areas now s t → items ≡ []
+    → CanStart level [] (seen areas s.contents) starts → CanStart level items (seen now t.contents) starts
+can_after level areas now s t items starts reads none can =
+    subst (λ (list : List OpenFile). CanStart level list (seen now t.contents) starts) (sym none) (subst (λ one. CanStart level [] one starts) (sym (ap₂ seen reads.areas reads.keeps.contents)) can)
 
 pub halts_as : {T : Type 0} (level : LevelId) (old pack : Seen) (settings : Settings) (lines : List FileLine) (shown : T → List Step) (fault : OpeningFault)
     → ((files : Files) → HoldsFiles level [] old files → Comes shown (none_in_use files) (opened settings lines files) (Err fault))
@@ -123,19 +114,3 @@ pub halts_result : {T : Type 0} (level : LevelId) (old pack : Seen) (settings : 
     → (files : Files) → HoldsFiles level [] old files → StartsAs level pack (opened settings lines files) result
 halts_result level old pack settings lines shown fault result is meant files held =
     subst (StartsAs level pack (opened settings lines files)) (sym is) (halts_as level old pack settings lines shown fault meant files held)
-
-pub if_halted : (fault : OpeningFault) (P : Type 0) → P → IfHalted fault P
-if_halted (Halted code) P p = p
-if_halted (Sectors fault) P p = tt
-
-same_slots : (level : LevelId) (areas : Areas) → areas ≡ with_slots level (slots_at level areas) areas
-same_slots One areas = refl
-same_slots Two areas = refl
-
-pub others_same : (level : LevelId) (areas now : Areas) → now ≡ areas → now ≡ with_slots level (slots_at level now) areas
-others_same level areas now same = subst (λ (a : Areas). now ≡ with_slots level (slots_at level now) a) same (same_slots level now)
-
-pub spares_after : (level : LevelId) (areas now : Areas) (s t u : PoolState) → now ≡ areas → KeepsContents s t → KeepsInStep (IsOutOfReach level now.header) t u → KeepsInStep (IsOutOfReach level areas.header) s u
-spares_after level areas now s t u same keeps spares =
-    step_trans (IsOutOfReach level areas.header) s t u (step_from_keeps (IsOutOfReach level areas.header) s t keeps)
-    (subst (λ (a : Areas). KeepsInStep (IsOutOfReach level a.header) t u) same spares)

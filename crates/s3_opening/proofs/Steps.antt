@@ -25,7 +25,7 @@ use Rattle.s3_slots.specs.declared.making.NewFile.{NewFile}
 use Rattle.s3_slots.proofs.Keeping.{push_cases}
 use Rattle.std.proofs.lemmas.List.{map-append}
 
-list_any_mapped : {X Y : Type 0} (f : X → Y) (test : Y → Bool) (xs : List X) → list_any test (map f xs) ≡ list_any (λ x. test (f x)) xs
+pub list_any_mapped : {X Y : Type 0} (f : X → Y) (test : Y → Bool) (xs : List X) → list_any test (map f xs) ≡ list_any (λ x. test (f x)) xs
 list_any_mapped f test [] = refl
 list_any_mapped f test (x ∷ xs) = ap (λ b. test (f x) || b) (list_any_mapped f test xs)
 

@@ -1,9 +1,8 @@
 //! Whether the files of a job can be had: all tests, and the plan of what is made, with nothing changed.
-ghost use Rattle.std.specs.Prelude.{◌≡◌, ◌+◌, [], true, filter, filter_map, map, IfOk};
+ghost use Rattle.std.specs.Prelude.{◌≡◌, [], true, filter, filter_map, map, IfOk};
 ghost use Rattle.std.specs.List.{list_all};
 ghost use Rattle.s3_lines.specs.Inner.Ranges.{file_in_range};
 ghost use Rattle.s3_ocl.specs.Inner.Sound.{is_sound_file};
-ghost use Rattle.s3_store.specs.Inner.State.{KeepsContents};
 ghost use Rattle.s3_slots.specs.Inner.Making.{planned};
 ghost use Rattle.s3_labels.specs.Inner.Areas.{slots_at, region_at, IsReady as IsPackReady};
 ghost use Rattle.s3_job_files.specs.Files.{Files};
@@ -11,7 +10,7 @@ ghost use Rattle.s3_job_files.specs.Inner.Holds.{seen, HoldsFiles};
 ghost use Rattle.s3_opening.specs.Asked.{is_used};
 ghost use Rattle.s3_opening.specs.Opening.{halt_of_make as halt_of_make_spec, none_in_use, opened};
 ghost use Rattle.s3_opening.specs.Inner.Tests.{news_of as news_of_spec, new_of};
-ghost use Rattle.s3_opening.specs.Inner.Starts.{settings_of, step_in, failed_opening, fault_of_plan, first_refusal as first_refusal_spec, AreRight, Comes, PlansTo};
+ghost use Rattle.s3_opening.specs.Inner.Starts.{settings_of, step_in, fault_of_plan, first_refusal as first_refusal_spec, AreRight, Comes, PlansTo, ReadsPack};
 ghost use Rattle.s3_opening.specs.Inner.Starting.{AreStartsOf, CanStart};
 
 use crate::fault::OpeningFault;
@@ -94,9 +93,9 @@ fn first_refusal(
     }
 }
 
-#[tactic(auto, using(crate::proofs::Plans::ready_kept, crate::proofs::Plans::right_kept, crate::proofs::Started::right_none))]
 /// What the files of a job come to at its start, each opened or to be made; or for which halt the job doesn't start. Nothing is
 /// changed.
+#[tactic(auto, using(crate::proofs::Started::right_none))]
 pub fn test_files<P: Sectors>(
     alloc: Global,
     level: LevelId,
@@ -110,9 +109,7 @@ pub fn test_files<P: Sectors>(
     ensures comes { (files : Files) → HoldsFiles level [] (seen pack.old.areas (P.state pack.old.pool).contents) files → Comes (λ starts. map step_in starts.items) (none_in_use files) (opened (settings_of settings.now) lines.now files) result }
     ensures can { IfOk result (λ starts. CanStart level [] (seen pack.old.areas (P.state pack.old.pool).contents) starts.items) }
     ensures of_lines { IfOk result (λ starts. AreStartsOf settings.now.statements.now (filter (is_used settings.now.switches) lines.now) starts.items) }
-    ensures keeps { KeepsContents (P.state pack.old.pool) (P.state pack.new.pool) }
-    ensures areas { pack.new.areas ≡ pack.old.areas }
-    ensures failures { (P.state pack.new.pool).failures ≡ (P.state pack.old.pool).failures + failed_opening result }
+    ensures reads { ReadsPack result pack.old.areas pack.new.areas (P.state pack.old.pool) (P.state pack.new.pool) }
 {
     let mut starts = Vec::new(alloc);
     let tested = test_lines(alloc, level, pack, settings, lines, &mut starts);

@@ -1,23 +1,23 @@
 //! The start of a job: its files are made and opened, once all tests have passed.
-ghost use Rattle.std.specs.Prelude.{◌≡◌, ◌+◌, [], ◌∷◌, true, length, map, IfOk, IfErr, IsOk, OnOk};
+ghost use Rattle.std.specs.Prelude.{◌≡◌, ◌+◌, [], ◌∷◌, true, length, IfOk, IfErr, IsOk, OnOk};
 ghost use Rattle.std.specs.List.{list_all};
 ghost use Rattle.s3_lines.specs.Inner.Ranges.{file_in_range};
 ghost use Rattle.s3_ocl.specs.Inner.Sound.{is_sound_file};
+ghost use Rattle.s3_store.specs.Inner.Calls.{Reads};
 ghost use Rattle.s3_store.specs.Inner.State.{KeepsContents, KeepsInStep};
-ghost use Rattle.s3_store.specs.Inner.Failures.{failed_transfers};
 ghost use Rattle.s3_slots.specs.Inner.Kept.{IsOfPack};
 ghost use Rattle.s3_slots.specs.Making.{made};
 ghost use Rattle.s3_slots.specs.Inner.Making.{IsNewFile};
 ghost use Rattle.s3_labels.specs.Inner.Areas.{region_at, slots_at, with_slots, IsReady as IsPackReady};
 ghost use Rattle.s3_labels.specs.Inner.Labelled.{KeepsSaid};
-ghost use Rattle.s3_job_files.specs.Files.{Files, FilesInUse};
-ghost use Rattle.s3_job_files.specs.Inner.Holds.{seen, Holds, HoldsFiles, IsOutOfReach, IsReady};
+ghost use Rattle.s3_job_files.specs.Files.{Files};
+ghost use Rattle.s3_job_files.specs.Inner.Holds.{seen, HoldsFiles, IsOutOfReach, IsReady};
+ghost use Rattle.s3_job_files.specs.Inner.Packs.{LeavesPack};
 ghost use Rattle.s3_job_files.specs.Kept.{kept_on};
 ghost use Rattle.s3_opening.specs.Opening.{opened};
-ghost use Rattle.s3_opening.specs.Inner.OpenFiles.{AreOfLines, HoldsStarted, IfHalted, StartsAs};
-ghost use Rattle.s3_opening.specs.Inner.Starting.{AddsFiles, CanStart, IsMade, IsOpenedNew, Readies, Starts};
+ghost use Rattle.s3_opening.specs.Inner.OpenFiles.{AreOfLines, IfHalted, StartsAs};
+ghost use Rattle.s3_opening.specs.Inner.Starting.{CanStart, IsMade, IsOpenedNew, Readies, Starts, StartsAll};
 ghost use Rattle.s3_opening.specs.Inner.Starts.{settings_of, step_in, failed_opening, IsPlanned, IsRight};
-ghost use Rattle.s3_opening.specs.Inner.Tests.{taken};
 ghost use Rattle.s3_opening.specs.declared.starts.Start.TheVariants.{ToMake};
 
 use crate::fault::OpeningFault;
@@ -42,12 +42,7 @@ fn make_label<P: Sectors>(
     requires proper { IsNewFile new.now }
     requires planned { IsOk (made pack.old.areas.header.format (region_at level pack.old.areas) pack.old.areas.masters new.now (slots_at level pack.old.areas)) }
     ensures made { IfOk result (λ label. IsMade level new.now label pack.old.areas pack.new.areas (P.state pack.old.pool).contents (P.state pack.new.pool).contents) }
-    ensures on_pack { IfOk result (IsOfPack (length (P.state pack.new.pool).contents)) }
-    ensures pack { IsPackReady pack.new.areas (P.state pack.new.pool).contents }
-    ensures others { pack.new.areas ≡ with_slots level (slots_at level pack.new.areas) pack.old.areas }
-    ensures spares { KeepsInStep (IsOutOfReach level pack.old.areas.header) (P.state pack.old.pool) (P.state pack.new.pool) }
-    ensures says { OnOk result (KeepsSaid level pack.old.areas (P.state pack.old.pool).contents pack.new.areas (P.state pack.new.pool).contents) }
-    ensures failures { (P.state pack.new.pool).failures ≡ (P.state pack.old.pool).failures + failed_transfers result }
+    ensures leaves { LeavesPack level result pack.old.areas pack.new.areas (P.state pack.old.pool) (P.state pack.new.pool) }
 {
     match pack.make(level, new) {
         Ok(label) => Ok(label),
@@ -66,8 +61,7 @@ fn open_made<P: Sectors>(
     requires on_pack { IsOfPack (length (P.state pool.old).contents) label }
     requires good { (kept_on label (P.state pool.old).contents).has_good_index ≡ true }
     ensures opened { IfOk result (IsOpenedNew name label (P.state pool.old).contents) }
-    ensures keeps { KeepsContents (P.state pool.old) (P.state pool.new) }
-    ensures failures { (P.state pool.new).failures ≡ (P.state pool.old).failures + failed_transfers result }
+    ensures reads { Reads result (P.state pool.old) (P.state pool.new) }
 {
     match OpenFile::open(alloc, pool, name, label, false, true)? {
         Some(file) => Ok(file),
@@ -87,11 +81,7 @@ fn make_file<P: Sectors>(
     requires proper { IsNewFile new.now }
     requires planned { IsOk (made pack.old.areas.header.format (region_at level pack.old.areas) pack.old.areas.masters new.now (slots_at level pack.old.areas)) }
     ensures readies { IfOk result (λ file. Readies level (ToMake name new.now) file (seen pack.old.areas (P.state pack.old.pool).contents) (seen pack.new.areas (P.state pack.new.pool).contents)) }
-    ensures pack { IsPackReady pack.new.areas (P.state pack.new.pool).contents }
-    ensures others { pack.new.areas ≡ with_slots level (slots_at level pack.new.areas) pack.old.areas }
-    ensures spares { KeepsInStep (IsOutOfReach level pack.old.areas.header) (P.state pack.old.pool) (P.state pack.new.pool) }
-    ensures says { OnOk result (KeepsSaid level pack.old.areas (P.state pack.old.pool).contents pack.new.areas (P.state pack.new.pool).contents) }
-    ensures failures { (P.state pack.new.pool).failures ≡ (P.state pack.old.pool).failures + failed_transfers result }
+    ensures leaves { LeavesPack level result pack.old.areas pack.new.areas (P.state pack.old.pool) (P.state pack.new.pool) }
 {
     let label = make_label(level, new, pack)?;
     open_made(alloc, &mut pack.pool, name, label)
@@ -108,11 +98,7 @@ fn file_of<P: Sectors>(
     requires right { IsRight level (seen pack.old.areas (P.state pack.old.pool).contents) start }
     requires planned { IsPlanned level pack.old.areas (step_in start ∷ []) }
     ensures readies { IfOk result (λ file. Readies level start file (seen pack.old.areas (P.state pack.old.pool).contents) (seen pack.new.areas (P.state pack.new.pool).contents)) }
-    ensures pack { IsPackReady pack.new.areas (P.state pack.new.pool).contents }
-    ensures others { pack.new.areas ≡ with_slots level (slots_at level pack.new.areas) pack.old.areas }
-    ensures spares { KeepsInStep (IsOutOfReach level pack.old.areas.header) (P.state pack.old.pool) (P.state pack.new.pool) }
-    ensures says { OnOk result (KeepsSaid level pack.old.areas (P.state pack.old.pool).contents pack.new.areas (P.state pack.new.pool).contents) }
-    ensures failures { (P.state pack.new.pool).failures ≡ (P.state pack.old.pool).failures + failed_transfers result }
+    ensures leaves { LeavesPack level result pack.old.areas pack.new.areas (P.state pack.old.pool) (P.state pack.new.pool) }
 {
     match start {
         Start::Opened(file) => Ok(file),
@@ -130,11 +116,7 @@ fn start_file<P: Sectors>(
 ) -> Result<(), SectorFault>
     requires can { CanStart level files.old.items (seen pack.old.areas (P.state pack.old.pool).contents) (start ∷ []) }
     ensures starts { OnOk result (Starts level start files.old.items files.new.items (seen pack.old.areas (P.state pack.old.pool).contents) (seen pack.new.areas (P.state pack.new.pool).contents)) }
-    ensures pack { IsPackReady pack.new.areas (P.state pack.new.pool).contents }
-    ensures others { pack.new.areas ≡ with_slots level (slots_at level pack.new.areas) pack.old.areas }
-    ensures spares { KeepsInStep (IsOutOfReach level pack.old.areas.header) (P.state pack.old.pool) (P.state pack.new.pool) }
-    ensures says { OnOk result (KeepsSaid level pack.old.areas (P.state pack.old.pool).contents pack.new.areas (P.state pack.new.pool).contents) }
-    ensures failures { (P.state pack.new.pool).failures ≡ (P.state pack.old.pool).failures + failed_transfers result }
+    ensures leaves { LeavesPack level result pack.old.areas pack.new.areas (P.state pack.old.pool) (P.state pack.new.pool) }
 {
     let file = file_of(alloc, level, pack, start)?;
     files.push(file)?;
@@ -150,14 +132,8 @@ fn start_all<P: Sectors>(
     files: &mut Vec<OpenFile>,
 ) -> Result<(), SectorFault>
     requires can { CanStart level files.old.items (seen pack.old.areas (P.state pack.old.pool).contents) starts.items }
-    ensures holds { OnOk result ((in_use : FilesInUse) → Holds level files.old.items (seen pack.old.areas (P.state pack.old.pool).contents) in_use → HoldsStarted level files.new.items (seen pack.new.areas (P.state pack.new.pool).contents) (taken (map step_in starts.items) in_use)) }
-    ensures ready { OnOk result (IsReady level files.new.items (seen pack.new.areas (P.state pack.new.pool).contents)) }
-    ensures adds { OnOk result (AddsFiles starts.items files.old.items files.new.items) }
-    ensures pack { IsPackReady pack.new.areas (P.state pack.new.pool).contents }
-    ensures others { pack.new.areas ≡ with_slots level (slots_at level pack.new.areas) pack.old.areas }
-    ensures spares { KeepsInStep (IsOutOfReach level pack.old.areas.header) (P.state pack.old.pool) (P.state pack.new.pool) }
-    ensures says { OnOk result (KeepsSaid level pack.old.areas (P.state pack.old.pool).contents pack.new.areas (P.state pack.new.pool).contents) }
-    ensures failures { (P.state pack.new.pool).failures ≡ (P.state pack.old.pool).failures + failed_transfers result }
+    ensures starts { OnOk result (StartsAll level starts.items files.old.items files.new.items (seen pack.old.areas (P.state pack.old.pool).contents) (seen pack.new.areas (P.state pack.new.pool).contents)) }
+    ensures leaves { LeavesPack level result pack.old.areas pack.new.areas (P.state pack.old.pool) (P.state pack.new.pool) }
 {
     for start in starts {
         start_file(alloc, level, pack, start, files)?;

@@ -1,15 +1,14 @@
 //! The tests of a job's files, which change nothing.
-ghost use Rattle.std.specs.Prelude.{◌≡◌, ◌+◌, [], ◌∷◌, true, length, map, IfOk};
+ghost use Rattle.std.specs.Prelude.{◌≡◌, [], ◌∷◌, true, length, map, IfOk};
 ghost use Rattle.std.specs.List.{list_all};
 ghost use Rattle.s3_lines.specs.Inner.Ranges.{file_in_range};
 ghost use Rattle.s3_lines.specs.Files.{is_disk};
 ghost use Rattle.s3_ocl.specs.Inner.Sound.{is_sound_file};
 ghost use Rattle.s3_slots.specs.Inner.Kept.{IsOfPack};
-ghost use Rattle.s3_store.specs.Inner.State.{KeepsContents};
 ghost use Rattle.s3_labels.specs.Inner.Areas.{IsReady as IsPackReady};
 ghost use Rattle.s3_job_files.specs.Inner.Holds.{seen, job_file_of};
 ghost use Rattle.s3_opening.specs.Inner.Tests.{line_refusal as line_refusal_spec, halt_of_find as halt_of_find_spec, tested_standing, tested_file, step_of, tested_lines};
-ghost use Rattle.s3_opening.specs.Inner.Starts.{settings_of, step_in, Gives, TestsTo, failed_opening, IsOpened, IsRight, AreRight, IsKeptFile};
+ghost use Rattle.s3_opening.specs.Inner.Starts.{settings_of, step_in, Gives, ReadsPack, TestsTo, IsOpened, IsRight, AreRight, IsKeptFile};
 
 use crate::asked::{is_new, is_of_layout, is_used, new_file, statement_of};
 use crate::fault::OpeningFault;
@@ -42,22 +41,21 @@ fn line_refusal(line: &FileLine, is_master: bool, label: &FileLabel) -> Option<H
 /// A file that stands, if the line may have it.
 fn open_standing<P: Sectors>(
     alloc: Global,
-    pool: &mut P,
+    pack: &mut Pack<P>,
     line: &FileLine,
     label: FileLabel,
     is_master: bool,
 ) -> Result<OpenFile, OpeningFault>
-    requires on_pack { IsOfPack (length (P.state pool.old).contents) label }
-    ensures file { Gives job_file_of (tested_standing line.now is_master label (P.state pool.old).contents) result }
+    requires on_pack { IsOfPack (length (P.state pack.old.pool).contents) label }
+    ensures file { Gives job_file_of (tested_standing line.now is_master label (P.state pack.old.pool).contents) result }
     ensures is { IfOk result (λ file. (file.label ≡ label) × (file.is_master ≡ is_master)) }
-    ensures kept { IfOk result (λ file. IsKeptFile (P.state pool.old).contents label file.records) }
-    ensures keeps { KeepsContents (P.state pool.old) (P.state pool.new) }
-    ensures failures { (P.state pool.new).failures ≡ (P.state pool.old).failures + failed_opening result }
+    ensures kept { IfOk result (λ file. IsKeptFile (P.state pack.old.pool).contents label file.records) }
+    ensures reads { ReadsPack result pack.old.areas pack.new.areas (P.state pack.old.pool) (P.state pack.new.pool) }
 {
     if let Some(code) = line_refusal(line, is_master, &label) {
         return Err(OpeningFault::Halted(code));
     }
-    match OpenFile::open(alloc, pool, line.name, label, is_master, false)? {
+    match OpenFile::open(alloc, &mut pack.pool, line.name, label, is_master, false)? {
         Some(file) => Ok(file),
         None => Err(OpeningFault::Halted(HaltCode::BadIndex)),
     }
@@ -74,12 +72,10 @@ fn open_file<P: Sectors>(
     requires ready { IsPackReady pack.old.areas (P.state pack.old.pool).contents }
     ensures file { Gives job_file_of (tested_file level (seen pack.old.areas (P.state pack.old.pool).contents) line.now name) result }
     ensures opened { IfOk result (IsOpened level (seen pack.old.areas (P.state pack.old.pool).contents)) }
-    ensures keeps { KeepsContents (P.state pack.old.pool) (P.state pack.new.pool) }
-    ensures areas { pack.new.areas ≡ pack.old.areas }
-    ensures failures { (P.state pack.new.pool).failures ≡ (P.state pack.old.pool).failures + failed_opening result }
+    ensures reads { ReadsPack result pack.old.areas pack.new.areas (P.state pack.old.pool) (P.state pack.new.pool) }
 {
     match pack.find(level, name) {
-        Ok((label, is_master)) => open_standing(alloc, &mut pack.pool, line, label, is_master),
+        Ok((label, is_master)) => open_standing(alloc, pack, line, label, is_master),
         Err(fault) => Err(OpeningFault::Halted(halt_of_find(fault))),
     }
 }
@@ -98,8 +94,8 @@ fn halt_of_find(fault: LabelFault) -> HaltCode
     }
 }
 
-#[tactic(auto, using(crate::proofs::Steps::stated_sound, crate::proofs::Steps::any_mapped), unfolding(crate::specs::Inner::Tests::step_of))]
 /// What a file that the job uses comes to, behind those that passed so far.
+#[tactic(auto, using(crate::proofs::Steps::stated_sound, crate::proofs::Steps::any_mapped), unfolding(crate::specs::Inner::Tests::step_of))]
 fn start_of<P: Sectors>(
     alloc: Global,
     level: LevelId,
@@ -114,9 +110,7 @@ fn start_of<P: Sectors>(
     requires statements { list_all is_sound_file settings.now.statements.now ≡ true }
     ensures step { Gives step_in (step_of level (seen pack.old.areas (P.state pack.old.pool).contents) (settings_of settings.now) (map step_in starts.now) line.now) result }
     ensures right { IfOk result (IsRight level (seen pack.old.areas (P.state pack.old.pool).contents)) }
-    ensures keeps { KeepsContents (P.state pack.old.pool) (P.state pack.new.pool) }
-    ensures areas { pack.new.areas ≡ pack.old.areas }
-    ensures failures { (P.state pack.new.pool).failures ≡ (P.state pack.old.pool).failures + failed_opening result }
+    ensures reads { ReadsPack result pack.old.areas pack.new.areas (P.state pack.old.pool) (P.state pack.new.pool) }
 {
     let Some(statement) = statement_of(line.name, settings.statements) else {
         return Err(OpeningFault::Halted(HaltCode::NoLabel));
@@ -148,9 +142,7 @@ fn test_line<P: Sectors>(
     requires right { AreRight level (seen pack.old.areas (P.state pack.old.pool).contents) starts.old.items }
     ensures tested { TestsTo (tested_lines level (seen pack.old.areas (P.state pack.old.pool).contents) (settings_of settings.now) (line.now ∷ []) (map step_in starts.old.items)) (map step_in starts.new.items) result }
     ensures right { AreRight level (seen pack.old.areas (P.state pack.old.pool).contents) starts.new.items }
-    ensures keeps { KeepsContents (P.state pack.old.pool) (P.state pack.new.pool) }
-    ensures areas { pack.new.areas ≡ pack.old.areas }
-    ensures failures { (P.state pack.new.pool).failures ≡ (P.state pack.old.pool).failures + failed_opening result }
+    ensures reads { ReadsPack result pack.old.areas pack.new.areas (P.state pack.old.pool) (P.state pack.new.pool) }
 {
     if !is_used(settings.switches, line) {
         return Ok(());
@@ -180,9 +172,7 @@ pub fn test_lines<P: Sectors>(
     requires right { AreRight level (seen pack.old.areas (P.state pack.old.pool).contents) starts.old.items }
     ensures tested { TestsTo (tested_lines level (seen pack.old.areas (P.state pack.old.pool).contents) (settings_of settings.now) lines.now (map step_in starts.old.items)) (map step_in starts.new.items) result }
     ensures right { AreRight level (seen pack.old.areas (P.state pack.old.pool).contents) starts.new.items }
-    ensures keeps { KeepsContents (P.state pack.old.pool) (P.state pack.new.pool) }
-    ensures areas { pack.new.areas ≡ pack.old.areas }
-    ensures failures { (P.state pack.new.pool).failures ≡ (P.state pack.old.pool).failures + failed_opening result }
+    ensures reads { ReadsPack result pack.old.areas pack.new.areas (P.state pack.old.pool) (P.state pack.new.pool) }
 {
     for line in lines {
         match test_line(alloc, level, pack, settings, line, starts) {

@@ -148,10 +148,3 @@ records_in name (Err code) = []
 -- the records that are kept under a label of the level after the start
 abbrev pub records_under : ℕ → List FileLine → List (List ℕ)
 records_under letter lines = records_in (named letter) (opened (settings 0 everyone) lines (with_free 1))
-
-abbrev pub slots_in : Result FilesInUse HaltCode → List Slot
-slots_in (Ok in_use) = in_use.files.own.slots
-slots_in (Err code) = []
-
-abbrev pub slots_after : List FileLine → List Slot
-slots_after lines = slots_in (opened (settings 0 everyone) lines (with_free 1))

@@ -7,6 +7,7 @@ use Rattle.s3_cards.specs.Names.{same_name}
 use Rattle.s3_lines.specs.declared.sheet.FileLine.{FileLine}
 use Rattle.s3_ocl.specs.declared.contents.FileStatement.{FileStatement}
 use Rattle.s3_operator.specs.declared.halt_code.HaltCode.{HaltCode}
+use Rattle.s3_slots.specs.Inner.Kept.{IsOfPack}
 use Rattle.s3_slots.specs.Labels.{is_indexed, sectors_of}
 use Rattle.s3_slots.specs.Making.{made, new_label}
 use Rattle.s3_slots.specs.Slots.{standing}
@@ -22,7 +23,7 @@ use Rattle.s3_opening.specs.declared.starts.Start.{Start}
 use Rattle.s3_opening.specs.declared.starts.Start.TheVariants.{Opened, ToMake}
 use Rattle.s3_opening.specs.Asked.{key_length_of, key_start_of}
 use Rattle.s3_opening.specs.Opening.{first_kept, statement_of, with_file}
-use Rattle.s3_opening.specs.Inner.Tests.{label_of, taken_one}
+use Rattle.s3_opening.specs.Inner.Tests.{label_of, taken, taken_one}
 use Rattle.s3_opening.specs.Inner.Starts.{step_in, AreRight, IsPlanned}
 use Rattle.s3_opening.specs.Inner.OpenFiles.{HoldsStarted, IsOfLine}
 
@@ -34,6 +35,7 @@ pub record IsMade (level : LevelId) (new : NewFile) (label : FileLabel) (areas n
   pub alone : new_areas ≡ with_slots level (slots_at level new_areas) areas
   pub ready : IsPackReady new_areas fresh
   pub count : length fresh ≡ length old
+  pub on_pack : IsOfPack (length fresh) label
   pub fresh_label : label ≡ new_label new label.extents
   pub stands : standing label.name (slots_at level new_areas) ≡ Present label
   pub same : (n : ℕ) → 168 ≤ n → ¬ Contains (sectors_of label) n → slice_get fresh n ≡ slice_get old n
@@ -108,6 +110,17 @@ pub record Starts (level : LevelId) (start : Start) (old_files new_files : List 
   pub can : (rest : List Start) → CanStart level old_files old (start ∷ rest) → CanStart level new_files new rest
   pub holds : (in_use : FilesInUse) → CanStart level old_files old (start ∷ []) → Holds level old_files old in_use
       → HoldsStarted level new_files new (taken_one (step_in start) in_use)
+
+-- ---- one start after another
+-- whatever was held with some files is held with those that these starts add
+abbrev pub HoldsAll : LevelId → List Start → (items later : List OpenFile) → (old new : Seen) → Type 0
+HoldsAll level starts items later old new = (in_use : FilesInUse) → Holds level items old in_use → HoldsStarted level later new (taken (map step_in starts) in_use)
+
+-- all of them have come behind the others
+pub record StartsAll (level : LevelId) (starts : List Start) (old_files new_files : List OpenFile) (old new : Seen) : Type 0 where
+  pub adds : AddsFiles starts old_files new_files
+  pub ready : IsReady level new_files new
+  pub holds : HoldsAll level starts old_files new_files old new
 
 -- ---- of which lines they are
 -- the new file that a line asks for

@@ -1,9 +1,10 @@
 -- The files of a job as the code has them at its start, and what calls on them answer.
-use Rattle.std.specs.Prelude.{◌≡◌, ℕ, Bool, true, List, slice_get, Option, Some, None, Result, Ok, Err, IsOk, ⊤, if◌then◌else◌}
+use Rattle.std.specs.Prelude.{◌≡◌, ◌+◌, ℕ, Bool, true, List, slice_get, Option, Some, None, Result, Ok, Err, IsOk, ⊤, if◌then◌else◌}
 use Rattle.s3_cards.specs.declared.levels.LevelId.{LevelId}
 use Rattle.s3_operator.specs.declared.halt_code.HaltCode.{HaltCode}
 use Rattle.s3_slots.specs.Inner.Making.{IsNewFile, planned}
 use Rattle.s3_store.specs.Inner.Failures.{failed_transfers}
+use Rattle.s3_store.specs.Inner.State.{PoolState, KeepsContents}
 use Rattle.s3_job_files.specs.Kept.{kept_on}
 use Rattle.s3_job_files.specs.Files.{FilesInUse}
 use Rattle.s3_job_files.specs.Inner.Holds.{AreOf, Seen, Stands, HoldsRecords, job_file_of, count_of, records_of}
@@ -49,6 +50,12 @@ abbrev pub failed_opening : {T : Type 0} → Result T OpeningFault → ℕ
 failed_opening (Ok _) = 0
 failed_opening (Err (Halted code)) = 0
 failed_opening {T} (Err (Sectors fault)) = failed_transfers {T = T} (Err fault)
+
+-- no slot and no sector changes, and each transfer that failed is counted
+pub record ReadsPack {T : Type 0} (result : Result T OpeningFault) (old new : Areas) (s t : PoolState) : Type 0 where
+  pub areas : new ≡ old
+  pub keeps : KeepsContents s t
+  pub failures : t.failures ≡ s.failures + failed_opening result
 
 -- what a file with a bad index halts for
 abbrev pub halt_unless_good : (has_good_index : Bool) → Option HaltCode

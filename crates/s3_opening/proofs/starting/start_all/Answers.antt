@@ -1,9 +1,18 @@
 use Rattle.std.proofs.Common.{rules, length, arith, ap, sym, ◌∙◌}
 use Rattle.std.specs.Vec.Iter.{into_iter_items}
 use Rattle.s3_job_files.specs.Inner.Holds.{seen}
-use Rattle.s3_job_files.proofs.Closed.{spares_all}
+use Rattle.s3_job_files.proofs.Packs.{pack_err, pack_kept, pack_ok, pack_then}
 use Rattle.s3_opening.proofs.OneByOne.{adds_all, adds_nothing, can_next, can_one, holds_all, holds_none}
 use Rattle.s3_opening.proofs.starting.start_all.Goals as goal
+
+pub loop-start-init : goal.loop-start-init
+loop-start-init g c = record {
+  left = search rules;
+  can = search rules;
+  holds = search rules;
+  adds = search rules;
+  leaves = pack_kept c.args.level c.args.pack.now.areas _ _ c.requires.can.ready.pack;
+}
 
 pub start_file-requires : goal.start_file-requires
 start_file-requires g c = record {
@@ -26,20 +35,18 @@ loop-start-preserved g c =
       can = can_next c.args.level left c.in-Some.start rest items more old new first started before.can;
       holds = λ later last others. before.holds later last (holds_all c.args.level left c.in-Some.start rest items more later old new last first started before.can others);
       adds = λ later others. before.adds later (adds_all left c.in-Some.start rest items more later old new c.args.level first started others);
-      others = search rules;
-      spares = spares_all c.args.level c.args.pack.now.areas c.loop-start.pack.areas _ _ _ before.others before.spares c.start_file.ensures.spares;
-      says = λ said. c.in_ok-start_file.ensures.says (before.says said);
-      failures = search rules;
+      leaves = pack_ok _ (pack_then before.leaves c.in_ok-start_file.ensures.leaves);
     }
 
-pub returns-in_err-start_file-clause-spares : goal.returns-in_err-start_file-clause-spares
-returns-in_err-start_file-clause-spares g c =
-    spares_all c.args.level c.args.pack.now.areas c.loop-start.pack.areas _ _ _ c.loop-start.invariant.others c.loop-start.invariant.spares c.start_file.ensures.spares
+pub returns-in_err-start_file-clause-leaves : goal.returns-in_err-start_file-clause-leaves
+returns-in_err-start_file-clause-leaves g c = pack_err _ c.from_residual.ensures.1 (pack_then c.loop-start.invariant.leaves c.in_err-start_file.ensures.leaves)
 
-pub returns-clause-holds : goal.returns-clause-holds
-returns-clause-holds g c =
-    c.loop-start.invariant.holds _ _ (holds_none c.args.level (into_iter_items c.loop-start.start-iterator) c.loop-start.files.items _ (sym c.loop-start.invariant.left ∙ c.in-None.ensures.steps.0))
-
-pub returns-clause-adds : goal.returns-clause-adds
-returns-clause-adds g c =
-    c.loop-start.invariant.adds _ (adds_nothing (into_iter_items c.loop-start.start-iterator) c.loop-start.files.items (sym c.loop-start.invariant.left ∙ c.in-None.ensures.steps.0))
+pub returns-clause-starts : goal.returns-clause-starts
+returns-clause-starts g c =
+    let done = c.loop-start.invariant in
+    let none = sym done.left ∙ c.in-None.ensures.steps.0 in
+    record {
+      adds = done.adds _ (adds_nothing (into_iter_items c.loop-start.start-iterator) c.loop-start.files.items none);
+      ready = done.can.ready;
+      holds = done.holds _ _ (holds_none c.args.level (into_iter_items c.loop-start.start-iterator) c.loop-start.files.items _ none);
+    }

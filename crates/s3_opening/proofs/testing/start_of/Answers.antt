@@ -3,6 +3,7 @@ use Rattle.std.specs.Option.{option_copied}
 use Rattle.s3_opening.specs.Inner.Starts.{settings_of}
 use Rattle.s3_opening.specs.Inner.Tests.{opening}
 use Rattle.s3_opening.proofs.Steps.{label_taken, none_stated, stated_sound, step_made, step_opened, step_refused}
+use Rattle.s3_opening.proofs.Readings.{reads_err, reads_halted, reads_none, reads_ok}
 use Rattle.s3_opening.proofs.testing.start_of.Goals as goal
 
 pub new_file-requires-clause-statement : goal.new_file-requires-clause-statement
@@ -39,3 +40,18 @@ returns-in-Err-clause-step g c =
     (step_opened c.args.level _ (settings_of c.args.settings.now) c.args.starts.now c.args.line.now c.in-Some.statement.now (sym c.statement_of.ensures ∙ ap option_copied c.in-Some.is) (sym c.is_taken.ensures ∙ c.if-is_taken.false)
     (sym c.is_new.ensures ∙ c.if-is_new.false))
     c.in-Err.ensures.file
+
+pub returns-in_default-clause-reads : goal.returns-in_default-clause-reads
+returns-in_default-clause-reads g c = reads_halted _
+
+pub returns-then-is_taken-clause-reads : goal.returns-then-is_taken-clause-reads
+returns-then-is_taken-clause-reads g c = reads_halted _
+
+pub returns-then-is_new-clause-reads : goal.returns-then-is_new-clause-reads
+returns-then-is_new-clause-reads g c = reads_none _
+
+pub returns-in-Ok-clause-reads : goal.returns-in-Ok-clause-reads
+returns-in-Ok-clause-reads g c = reads_ok _ c.in-Ok.ensures.reads
+
+pub returns-in-Err-clause-reads : goal.returns-in-Err-clause-reads
+returns-in-Err-clause-reads g c = reads_err c.in-Err.ensures.reads

@@ -2,6 +2,7 @@ use Rattle.std.proofs.Common.{sym, ◌∙◌}
 use Rattle.s3_opening.specs.Inner.Starts.{step_in, settings_of}
 use Rattle.s3_opening.specs.declared.starts.Start.{Start}
 use Rattle.s3_opening.proofs.Steps.{line_unused, line_taken, line_refused, right_pushed}
+use Rattle.s3_opening.proofs.Readings.{reads_err, reads_none, reads_ok, reads_spent}
 use Rattle.s3_opening.proofs.testing.test_line.Goals as goal
 
 pub returns-then-not-is_used-clause-tested : goal.returns-then-not-is_used-clause-tested
@@ -18,3 +19,15 @@ returns-in_ok-push-in-Ok-clause-right g c =
 pub returns-in-Err-clause-tested : goal.returns-in-Err-clause-tested
 returns-in-Err-clause-tested g c =
     line_refused (Unit {0}) Start step_in c.args.level _ (settings_of c.args.settings.now) c.args.line.now c.args.starts.now.items c.deref.result.now c.in-Err.fault (sym c.is_used.ensures ∙ c.if-not-is_used.false) c.deref.ensures.value c.in-Err.ensures.step
+
+pub returns-then-not-is_used-clause-reads : goal.returns-then-not-is_used-clause-reads
+returns-then-not-is_used-clause-reads g c = reads_none _
+
+pub returns-in_err-push-in-Ok-clause-reads : goal.returns-in_err-push-in-Ok-clause-reads
+returns-in_err-push-in-Ok-clause-reads g c = reads_spent _ c.from_residual.ensures.1 c.in-Ok.ensures.reads
+
+pub returns-in_ok-push-in-Ok-clause-reads : goal.returns-in_ok-push-in-Ok-clause-reads
+returns-in_ok-push-in-Ok-clause-reads g c = reads_ok _ c.in-Ok.ensures.reads
+
+pub returns-in-Err-clause-reads : goal.returns-in-Err-clause-reads
+returns-in-Err-clause-reads g c = reads_err c.in-Err.ensures.reads
