@@ -3,7 +3,6 @@
 
 mod decks;
 mod fuse_rows;
-mod levels;
 mod lister;
 mod memory_rows;
 mod packs;
