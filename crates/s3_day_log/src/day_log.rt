@@ -52,10 +52,6 @@ pub struct DayLog {
     pub begun: Begun,
     /// The replies, in the order in which they were given.
     pub replies: Vec<LoggedReply>,
-    /// The levels that were cut, in the order in which they were.
-    pub cut: Vec<LevelId>,
-    /// Whether the operator ended the day.
-    pub is_stopped: bool,
     /// The exit status; none where the desk was killed.
     pub status: Option<u8>,
 }
@@ -75,8 +71,6 @@ impl DayLog {
         let mut log = DayLog {
             begun: day,
             replies: Vec::new(alloc),
-            cut: Vec::new(alloc),
-            is_stopped: false,
             status: None,
         };
         log.read_rest(alloc, rest)?;
@@ -102,15 +96,17 @@ impl DayLog {
     fn take(&mut self, event: Event, number: usize) -> Result<(), LogFault> {
         match event {
             Event::Begin { .. } => return Err(LogFault::Line(number)),
-            Event::JobBegins(_) | Event::JobEnds(_) | Event::Halt(_) => {}
+            Event::JobBegins(_)
+            | Event::JobEnds(_)
+            | Event::Halt(_)
+            | Event::Cut { .. }
+            | Event::Stop => {}
             Event::Reply(reply) => {
                 if !allowed(reply.code, reply.digit) {
                     return Err(LogFault::Line(number));
                 }
                 self.replies.push(reply)?;
             }
-            Event::Cut { level } => self.cut.push(level)?,
-            Event::Stop => self.is_stopped = true,
             Event::End(day) => self.status = Some(day.status),
         }
         Ok(())
