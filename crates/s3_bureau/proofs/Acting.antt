@@ -7,16 +7,17 @@ use Rattle.s3_store.specs.declared.sector_fault.SectorFault.{SectorFault}
 use Rattle.s3_store.specs.Inner.State.{KeepsContents}
 use Rattle.s3_labels.specs.Inner.Areas.{Areas, IsReady as IsPackReady}
 use Rattle.s3_labels.specs.Inner.Labelled.{KeepsSaid}
-use Rattle.s3_level.proofs.Said.{said_same}
 use Rattle.s3_spool.specs.Inner.Queues.{Blocks}
 use Rattle.s3_job_files.specs.Inner.Holds.{seen}
+use Rattle.s3_job_files.specs.Inner.Packs.{KeepsOthers}
+use Rattle.s3_job_files.proofs.Said.{said_same}
 use Rattle.s3_solo.specs.declared.action.Action.TheVariants.{Turn, Reply, Drain}
 use Rattle.s3_solo.specs.declared.action.Did.{Did}
 use Rattle.s3_solo.specs.World.{World}
 use Rattle.s3_solo.specs.Solo.{step_of}
 use Rattle.s3_level.specs.declared.level.Level.{Level}
 use Rattle.s3_level.specs.declared.taken.Taken.{Taken}
-use Rattle.s3_level.specs.Inner.Holds.{AreAll, Around, Holds, IsQuiet, IsReady, IsUntouched, IsUpTo, KeepsOthers, Repeats, Spares, Stays, Steps, around, once}
+use Rattle.s3_level.specs.Inner.Holds.{AreAll, Around, Holds, IsQuiet, IsReady, IsUntouched, IsUpTo, Repeats, Spares, Stays, Steps, around, once}
 use Rattle.s3_level.proofs.Beside.{spares_files}
 use Rattle.s3_level.proofs.Turns.{steps_once}
 use Rattle.s3_bureau.specs.Inner.Calls.{Acts}

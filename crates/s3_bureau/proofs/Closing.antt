@@ -15,14 +15,15 @@ use Rattle.s3_labels.proofs.Labelled.{judged_as_said}
 use Rattle.s3_spool.specs.Inner.Queues.{Blocks, blocks_of, queue_of, quota_of}
 use Rattle.s3_spool.proofs.QueueLemmas.{queue_length}
 use Rattle.s3_job_files.specs.Inner.Holds.{seen}
+use Rattle.s3_job_files.specs.Inner.Packs.{KeepsOthers}
+use Rattle.s3_job_files.proofs.Said.{said_same}
 use Rattle.s3_solo.specs.Lines.{Lines, all_drained}
 use Rattle.s3_solo.specs.Serving.{job_ended, over}
 use Rattle.s3_solo.specs.Solo.{closed}
 use Rattle.s3_solo.specs.World.{World, JobAtWork}
 use Rattle.s3_level.specs.declared.level.Level.{Level}
-use Rattle.s3_level.specs.Inner.Holds.{AreAll, Around, Becomes, Holds, HoldsParts, IsReady, KeepsOthers, Spares, Stays, around}
+use Rattle.s3_level.specs.Inner.Holds.{AreAll, Around, Becomes, Holds, HoldsParts, IsReady, Spares, Stays, around}
 use Rattle.s3_level.proofs.Beside.{spares_files, spares_then}
-use Rattle.s3_level.proofs.Said.{said_same}
 use Rattle.s3_bureau.specs.Sharing.{IsCommon, IsOwn}
 use Rattle.s3_bureau.specs.Inner.Held.{IsDone, IsReadyFor}
 use Rattle.s3_bureau.specs.Inner.Calls.{BothTo, ClosesBoth, ClosesLevel, ClosesTo, MountsAs}

@@ -18,6 +18,7 @@ use Rattle.s3_labels.specs.Contents.{contents_of}
 use Rattle.s3_labels.specs.Inner.Images.{in_second, migrated_bytes}
 use Rattle.s3_labels.specs.Untangled.{IsUntangled}
 use Rattle.s3_labels.proofs.Headers.{header_of}
+use Rattle.s3_labels.proofs.Makes.{few_areas}
 use Rattle.s3_labels.proofs.Migrated.{IsOfOne, behind_same, length_migrated, slot_of_one}
 use Rattle.s3_labels.proofs.MigratedPacks.{area_kept, migrated_is, migrated_mounted}
 use Rattle.s3_labels.proofs.Sectors.{seen_sector, slot_here}
@@ -68,10 +69,6 @@ module _ (old : List ℕ) (region : Stretch) (area : ℕ) (few : area < 3) (room
 
 room_of : (old : List ℕ) (header : Header) → mounted (contents_of old) ≡ Ok header → 25 ≤ length old / 256
 room_of old header m = let is = header_of (contents_of old) header m in let last = seen_sector old 167 (omega (arith, is.room)) in omega (arith, last.1)
-
-few_areas : (level : LevelId) → area_of level < 3
-few_areas One = omega arith
-few_areas Two = omega arith
 
 pub migrated_untangled : MigratedIsUntangled
 migrated_untangled old new header level mounts is untangled =

@@ -13,12 +13,12 @@ use Rattle.s3_slots.specs.declared.slot.Slot.{Slot}
 use Rattle.s3_labels.specs.Inner.Areas.{Areas, ArePlaced, slots_at, with_slots, IsReady as IsPackReady}
 use Rattle.s3_labels.specs.Areas.{IsLabelSector, area_of}
 use Rattle.s3_labels.specs.Inner.Labelled.{KeepsSaid, SaysSlots}
-use Rattle.s3_labels.proofs.Changes.{header_with}
 use Rattle.s3_labels.proofs.Labelled.{says_kept}
 use Rattle.s3_labels.proofs.Regions.{accepted_placed}
 use Rattle.s3_spool.specs.Inner.Queues.{queue_of, quota_of}
 use Rattle.s3_job_files.specs.Files.{FilesInUse}
 use Rattle.s3_job_files.specs.Inner.Holds.{Holds as HoldsInUse, seen, job_file_of, IsReady as AreFilesReady}
+use Rattle.s3_job_files.proofs.Packs.{header_kept, masters_kept, not_label}
 use Rattle.s3_job_files.proofs.Staying.{SeesSame, sees_back, held_over, ready_over}
 use Rattle.s3_solo.specs.World.{World}
 use Rattle.s3_level.specs.declared.level.Level.{Level}
@@ -33,13 +33,9 @@ placed areas contents pack = accepted_placed (length contents) areas.header pack
 -- a sector of a region
 high_beyond : (level : LevelId) (header : Header) (n : ℕ) → 168 ≤ n → (IsIn (region_of level header) n → ⊥) → IsBeyond level header n
 high_beyond level header n high out = record {
-  files = record { labels = λ is. labels level is; region = out };
+  files = record { labels = not_label level n (omega (arith, high)); region = out };
   block = λ low few. omega (arith, high, few);
 }
-  where
-    labels : (l : LevelId) → IsLabelSector (area_of l) n → ⊥
-    labels One is = omega (arith, high, is.1)
-    labels Two is = omega (arith, high, is.1)
 
 -- a sector before the blocks that isn't one of the level's labels
 low_beyond : (level : LevelId) (areas : Areas) (contents : List (List ℕ)) (n : ℕ) → IsPackReady areas contents → n < 25 → (IsLabelSector (area_of level) n → ⊥) → IsBeyond level areas.header n
@@ -93,13 +89,9 @@ other_spared level old new pack spares = spared (IsOwn (other level) old.areas.h
 
 -- ---- the header stays
 pub header_spared : (level : LevelId) (old new : Around) → Spares level old new → new.areas.header ≡ old.areas.header
-header_spared level old new spares = ap (λ (a : Areas). a.header) spares.areas ∙ header_with level (slots_at level new.areas) old.areas
+header_spared level old new spares = header_kept level old.areas new.areas spares.areas
 
 -- ---- the other level
-masters_with : (level : LevelId) (slots : List Slot) (areas : Areas) → (with_slots level slots areas).masters ≡ areas.masters
-masters_with One slots areas = refl
-masters_with Two slots areas = refl
-
 other_with : (level : LevelId) (slots : List Slot) (areas : Areas) → slots_at (other level) (with_slots level slots areas) ≡ slots_at (other level) areas
 other_with One slots areas = refl
 other_with Two slots areas = refl
@@ -109,7 +101,7 @@ other_sees : (level : LevelId) (old new : Around) → IsPackReady old.areas old.
     → SeesSame (other level) (seen old.areas old.state.contents) (seen new.areas new.state.contents)
 other_sees level old new pack spares = record {
   header = header_spared level old new spares;
-  masters = ap (λ (a : Areas). a.masters) spares.areas ∙ masters_with level (slots_at level new.areas) old.areas;
+  masters = masters_kept level old.areas new.areas spares.areas;
   slots = ap (slots_at (other level)) spares.areas ∙ other_with level (slots_at level new.areas) old.areas;
   own_sectors = λ n inside. spares.sectors.contents n (other_beyond level old.areas old.state.contents n pack (inr inside));
   master_sectors = λ n inside. spares.sectors.contents n (common_beyond level old.areas old.state.contents n pack (inr (inr (inl inside))));

@@ -1,39 +1,36 @@
 -- What a call of one level leaves of the pack and the queues beside it.
-use Rattle.std.proofs.Common.{◌≡◌, ◌⊎◌, inl, inr, ℕ, ◌<◌, ◌≤◌, List, length, slice_get, Some, Result, Ok, refl, sym, ap, subst, ◌∙◌, leb, true, false, arith}
+use Rattle.std.proofs.Common.{◌≡◌, ◌⊎◌, inl, inr, ℕ, ◌<◌, ◌≤◌, List, length, slice_get, Result, refl, sym, ap, subst, ◌∙◌, leb, true, false, arith}
 use Rattle.std.proofs.lemmas.Bool.Decides.{leb_tells}
 use Rattle.s3_cards.specs.Inner.Levels.{other}
 use Rattle.s3_cards.specs.Printed.{Printed}
 use Rattle.s3_cards.specs.declared.levels.LevelId.{LevelId}
 use Rattle.s3_cards.specs.declared.levels.LevelId.TheVariants.{One, Two}
 use Rattle.s3_store.specs.Inner.State.{PoolState, ChangesWithin, KeepsContents, KeepsInStep}
-use Rattle.s3_slots.specs.Header.{accepted, region_of}
+use Rattle.s3_slots.specs.Header.{region_of}
 use Rattle.s3_slots.specs.Stretches.{IsIn}
 use Rattle.s3_slots.specs.declared.header.Header.{Header}
 use Rattle.s3_labels.specs.Inner.Areas.{Areas, slots_at, with_slots, IsReady as IsPackReady}
-use Rattle.s3_labels.specs.Areas.{IsLabelSector, area_of}
-use Rattle.s3_labels.proofs.Changes.{header_with}
 use Rattle.s3_labels.proofs.Regions.{accepted_placed, ready_region}
 use Rattle.s3_job_files.specs.Inner.Holds.{IsOutOfReach, seen}
+use Rattle.s3_job_files.specs.Inner.Packs.{KeepsOthers}
+use Rattle.s3_job_files.proofs.Packs.{header_kept, not_label, with_again, with_own}
+use Rattle.s3_job_files.proofs.Putting.{pack_over}
 use Rattle.s3_job_files.proofs.Staying.{SeesSame, ready_over as files_ready_over}
 use Rattle.s3_spool.specs.Inner.Queues.{Blocks, IsFreeSector, block_sector, blocks_of, lines_in, queue_of, quota_of, times}
 use Rattle.s3_spool.proofs.QueueLemmas.{SameBlocks, same_queue}
 use Rattle.s3_solo.specs.World.{World}
 use Rattle.s3_level.specs.declared.level.Level.{Level}
 use Rattle.s3_level.specs.declared.taken.Taken.{Taken}
-use Rattle.s3_level.specs.Inner.Holds.{AreAll, Around, HoldsParts, IsBeyond, IsQueuedSector, IsReady, KeepsOthers, Shown, Spares, around, open_files, shown, with_seen}
+use Rattle.s3_level.specs.Inner.Holds.{AreAll, Around, HoldsParts, IsBeyond, IsQueuedSector, IsReady, Shown, Spares, around, open_files, shown, with_seen}
 use Rattle.s3_level.specs.Inner.Turning.{TakesTurns}
 
 -- ---- sectors
 -- the sectors of the blocks are out of reach of a level's files
 block_out : (level : LevelId) (areas : Areas) (contents : List (List ℕ)) (n : ℕ) → IsPackReady areas contents → 25 ≤ n → n < 153 → IsOutOfReach level areas.header n
 block_out level areas contents n pack low high = record {
-  labels = λ is. labels level is;
+  labels = not_label level n low;
   region = λ inside. omega (arith, ((accepted_placed (length contents) areas.header pack.header).level level n inside).0);
 }
-  where
-    labels : (l : LevelId) → IsLabelSector (area_of l) n → ⊥
-    labels One is = omega (arith, is.1)
-    labels Two is = omega (arith, is.1)
 
 same_blocks : (level : LevelId) (areas : Areas) (s t : PoolState) → IsPackReady areas s.contents → KeepsInStep (IsOutOfReach level areas.header) s t → SameBlocks s.contents t.contents
 same_blocks level areas s t pack keeps b few = keeps.contents (block_sector b) (block_out level areas s.contents (block_sector b) pack (omega arith) (omega arith))
@@ -62,15 +59,6 @@ put_sees level areas blocks s t pack within = record {
   master_sectors = λ n inside. within.contents n (masters_no_block areas s.contents blocks n pack inside);
 }
 
--- the pack stays ready where as many sectors are there
-pub ready_as_long : (areas : Areas) (old new : List (List ℕ)) → length new ≡ length old → IsPackReady areas old → IsPackReady areas new
-ready_as_long areas old new long pack = record {
-  header = subst (λ (n : ℕ). accepted n (Some areas.header) ≡ Ok areas.header) (sym long) pack.header;
-  few = subst (λ (n : ℕ). n ≤ 65535) (sym long) pack.few;
-  own = pack.own;
-  masters = pack.masters;
-}
-
 -- the spool blocks lie on a pack that is ready
 pub spool_room : (areas : Areas) (contents : List (List ℕ)) → IsPackReady areas contents → 153 ≤ length contents
 spool_room areas contents ready = let r = ready_region One areas contents ready in omega (arith, r.low, r.high)
@@ -79,7 +67,7 @@ spool_room areas contents ready = let r = ready_region One areas contents ready 
 pub ready_put : (level : Level) (areas : Areas) (blocks : Blocks) (s t : PoolState) → IsReady level (seen areas s.contents) → ChangesWithin (IsFreeSector blocks) s t → IsReady level (seen areas t.contents)
 ready_put level areas blocks s t ready within = record {
   files = files_ready_over level.id (open_files level.job) (seen areas s.contents) (seen areas t.contents) ready.files (put_sees level.id areas blocks s t ready.files.pack within)
-      (ready_as_long areas s.contents t.contents within.count ready.files.pack);
+      (pack_over areas s.contents t.contents within.count ready.files.pack);
   job = ready.job;
 }
 
@@ -161,7 +149,7 @@ spares_files level old new blocks s t pack are keeps = record {
 pub spares_none : (level : LevelId) (beside : Around) → IsPackReady beside.areas beside.state.contents → AreAll beside.blocks → Spares level beside beside
 spares_none level beside pack are = record {
   pack = pack;
-  areas = same_slots level;
+  areas = with_own level beside.areas;
   sectors = record { count = refl; contents = λ n beyond. refl; stored = λ n beyond in_step. in_step };
   queue = refl;
   queue_blocks = refl;
@@ -169,15 +157,11 @@ spares_none level beside pack are = record {
   quotas = λ one_or_two. refl;
   blocks = are;
 }
-  where
-    same_slots : (l : LevelId) → beside.areas ≡ with_slots l (slots_at l beside.areas) beside.areas
-    same_slots One = refl
-    same_slots Two = refl
 
 pub spares_then : (level : LevelId) (old middle new : Around) → Spares level old middle → Spares level middle new → Spares level old new
 spares_then level old middle new first second = record {
   pack = second.pack;
-  areas = second.areas ∙ ap (with_slots level (slots_at level new.areas)) first.areas ∙ over level (slots_at level new.areas) (slots_at level middle.areas) old.areas;
+  areas = second.areas ∙ ap (with_slots level (slots_at level new.areas)) first.areas ∙ with_again level (slots_at level middle.areas) (slots_at level new.areas) old.areas;
   sectors = record {
     count = second.sectors.count ∙ first.sectors.count;
     contents = λ n beyond. second.sectors.contents n (along n beyond) ∙ first.sectors.contents n beyond;
@@ -194,18 +178,11 @@ spares_then level old middle new first second = record {
   blocks = second.blocks;
 }
   where
-    over : (l : LevelId) (a b : List _) (areas : Areas) → with_slots l a (with_slots l b areas) ≡ with_slots l a areas
-    over One a b areas = refl
-    over Two a b areas = refl
-
-    header : middle.areas.header ≡ old.areas.header
-    header = ap (λ (a : Areas). a.header) first.areas ∙ header_with level (slots_at level middle.areas) old.areas
-
     still : (n : ℕ) → IsQueuedSector (other level) old.blocks n → IsQueuedSector (other level) middle.blocks n
     still n is = record { block = is.block; place = is.place; queued = subst (λ (queue : List ℕ). 0 < times is.block queue) (sym first.queue_blocks) is.queued }
 
     along : (n : ℕ) → IsBeyond level old.areas.header n → IsBeyond level middle.areas.header n
-    along n beyond = subst (λ (h : Header). IsBeyond level h n) (sym header) beyond
+    along n beyond = subst (λ (h : Header). IsBeyond level h n) (sym (header_kept level old.areas middle.areas first.areas)) beyond
 
 -- a line that is put
 pub spares_put : (level : LevelId) (areas : Areas) (blocks after : Blocks) (s t : PoolState) → IsPackReady areas s.contents
@@ -216,8 +193,8 @@ pub spares_put : (level : LevelId) (areas : Areas) (blocks after : Blocks) (s t 
     → AreAll after
     → Spares level (around areas s blocks) (around areas t after)
 spares_put level areas blocks after s t pack within queue same quotas are = record {
-  pack = ready_as_long areas s.contents t.contents within.count pack;
-  areas = same_slots level;
+  pack = pack_over areas s.contents t.contents within.count pack;
+  areas = with_own level areas;
   sectors = record {
     count = within.count;
     contents = λ n beyond. within.contents n (apart n beyond);
@@ -234,10 +211,6 @@ spares_put level areas blocks after s t pack within queue same quotas are = reco
   blocks = are;
 }
   where
-    same_slots : (l : LevelId) → areas ≡ with_slots l (slots_at l areas) areas
-    same_slots One = refl
-    same_slots Two = refl
-
     apart : (n : ℕ) → IsBeyond level areas.header n → ¬ IsFreeSector blocks n
     apart n beyond is = beyond.block (free_is_block blocks n is).0 (free_is_block blocks n is).1
 
@@ -254,7 +227,7 @@ pub spares_taken : (level : LevelId) (areas : Areas) (blocks after : Blocks) (s 
     → Spares level (around areas s blocks) (around areas t after)
 spares_taken level areas blocks after s t pack keeps same quotas are = record {
   pack = subst (IsPackReady areas) (sym keeps.contents) pack;
-  areas = same_slots level;
+  areas = with_own level areas;
   sectors = record {
     count = ap length keeps.contents;
     contents = λ n beyond. ap (λ (c : List (List ℕ)). slice_get c n) keeps.contents;
@@ -271,10 +244,6 @@ spares_taken level areas blocks after s t pack keeps same quotas are = record {
   blocks = are;
 }
   where
-    same_slots : (l : LevelId) → areas ≡ with_slots l (slots_at l areas) areas
-    same_slots One = refl
-    same_slots Two = refl
-
     stays : (n : ℕ) → slice_get s.stored n ≡ slice_get s.contents n → (slice_get t.stored n ≡ slice_get s.stored n) ⊎ (slice_get t.stored n ≡ slice_get s.contents n) → slice_get t.stored n ≡ slice_get t.contents n
     stays n in_step (inl same) = same ∙ in_step ∙ ap (λ (c : List (List ℕ)). slice_get c n) (sym keeps.contents)
     stays n in_step (inr new) = new ∙ ap (λ (c : List (List ℕ)). slice_get c n) (sym keeps.contents)

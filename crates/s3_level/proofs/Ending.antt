@@ -13,10 +13,11 @@ use Rattle.s3_level.specs.declared.level.Level.{Level}
 use Rattle.s3_store.specs.Inner.State.{PoolState}
 use Rattle.s3_labels.specs.Inner.Areas.{Areas, IsReady as IsPackReady}
 use Rattle.s3_job_files.specs.Inner.Holds.{seen}
+use Rattle.s3_job_files.specs.Inner.Packs.{KeepsOthers}
 use Rattle.s3_spool.specs.Inner.Queues.{Blocks}
 use Rattle.s3_solo.specs.Inner.Asked.{IsAsked}
 use Rattle.s3_level.proofs.Beside.{shown_moved}
-use Rattle.s3_level.specs.Inner.Holds.{AreAll, Becomes, Holds, HoldsAtWork, KeepsOthers, around, shown, HoldsJob, HoldsParts, IsAtWorkReady, IsReady, Shown, open_files, with_seen}
+use Rattle.s3_level.specs.Inner.Holds.{AreAll, Becomes, Holds, HoldsAtWork, around, shown, HoldsJob, HoldsParts, IsAtWorkReady, IsReady, Shown, open_files, with_seen}
 
 -- the job at work is over
 pub job_closed : (s : Shown) {T E : Type 0} (result : Result T E) (old new : Level) (job : OpenJob) (before after : Seen) → old.job ≡ Some job → IsReady old before

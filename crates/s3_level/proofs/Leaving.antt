@@ -11,7 +11,10 @@ use Rattle.s3_labels.specs.Inner.Areas.{Areas, slots_at, with_slots, IsReady as 
 use Rattle.s3_labels.specs.Inner.Labelled.{KeepsSaid}
 use Rattle.s3_spool.specs.Inner.Queues.{Blocks}
 use Rattle.s3_job_files.specs.Inner.Holds.{seen, IsOutOfReach, Seen, IsReady as AreFilesReady}
+use Rattle.s3_job_files.specs.Inner.Packs.{LeavesPack}
 use Rattle.s3_job_files.specs.declared.job_files.JobFiles.{JobFiles}
+use Rattle.s3_job_files.proofs.Packs.{pack_closed, pack_err, pack_kept, pack_ok, pack_read, pack_spent, pack_then}
+use Rattle.s3_job_files.proofs.Said.{said_then}
 use Rattle.s3_opening.specs.Inner.OpenFiles.{IfHalted}
 use Rattle.s3_opening.specs.Inner.Starts.{failed_opening}
 use Rattle.s3_opening.specs.declared.fault.OpeningFault.{OpeningFault}
@@ -21,58 +24,12 @@ use Rattle.s3_solo.specs.declared.action.Did.{Did}
 use Rattle.s3_level.specs.declared.job.OpenJob.{OpenJob}
 use Rattle.s3_level.specs.declared.level.Level.{Level}
 use Rattle.s3_level.specs.declared.taken.Taken.{Taken}
-use Rattle.s3_level.specs.Inner.Calls.{CanServe, KeepsJob, Leaves, LeavesAll, LeavesPack, ServesJob}
+use Rattle.s3_level.specs.Inner.Calls.{CanServe, KeepsJob, Leaves, LeavesAll, ServesJob}
 use Rattle.s3_level.specs.Inner.Holds.{AreAll, Around, IsAtWorkReady, IsReady, Spares, Stays, around, once, open_files}
 use Rattle.s3_level.specs.Inner.Turning.{HasFile, KeepsPlace, ServesFile}
 use Rattle.s3_level.proofs.Beside.{spares_files, spares_none, spares_then}
 use Rattle.s3_level.proofs.Ending.{ready_over}
 use Rattle.s3_level.proofs.Files.{level_of, stays_then, then_ready}
-use Rattle.s3_level.proofs.Others.{others_closed, others_kept, others_same, others_spared, others_then}
-use Rattle.s3_level.proofs.Said.{said_same, said_then}
-
-on_ok : {T E : Type 0} {A : Type 0} (result : Result T E) → A → OnOk result A
-on_ok (Ok answer) it = it
-on_ok (Err fault) it = tt
-
--- ---- the pack
--- past an answer another one is given
-pub pack_ok : {T U : Type 0} {level : LevelId} {first : T} {old new : Areas} {s t : PoolState} (answer : U) → LeavesPack level (Ok first) old new s t → LeavesPack level (Ok answer) old new s t
-pack_ok answer leaves = record { others = leaves.others; says = leaves.says; failures = leaves.failures }
-
--- a fault is passed on
-pub pack_err : {T U : Type 0} {level : LevelId} {fault : SectorFault} {old new : Areas} {s t : PoolState} (result : Result U SectorFault) → IsErrAnd result (λ f. f ≡ fault) → LeavesPack {T = T} level (Err fault) old new s t
-    → LeavesPack level result old new s t
-pack_err (Ok answer) is leaves = absurd is
-pack_err {U = U} {s = s} {t = t} (Err f) is leaves = record {
-  others = leaves.others;
-  says = tt;
-  failures = subst (λ (g : SectorFault). t.failures ≡ s.failures + failed_transfers {T = U} (Err g)) (sym is) leaves.failures;
-}
-
--- nothing was done
-pub pack_kept : {T : Type 0} (level : LevelId) (areas : Areas) (s : PoolState) (answer : T) → IsPackReady areas s.contents → LeavesPack level (Ok answer) areas areas s s
-pack_kept level areas s answer ready = record { others = others_same level areas s ready; says = λ said. said; failures = omega arith }
-
--- memory ran out behind what was done
-pub pack_spent : {T U : Type 0} {level : LevelId} {first : T} {old new : Areas} {s t : PoolState} (result : Result U SectorFault) → IsErrAnd result (λ f. f ≡ NoMemory) → LeavesPack level (Ok first) old new s t → LeavesPack level result old new s t
-pack_spent (Ok answer) is leaves = absurd is
-pack_spent (Err f) is leaves = rw is (record { others = leaves.others; says = tt; failures = leaves.failures })
-
--- slots of the level's own were set
-pub pack_closed : {T : Type 0} {level : LevelId} {old new : Areas} {s t : PoolState} (result : Result T SectorFault) → IsPackReady new t.contents → new ≡ with_slots level (slots_at level new) old → KeepsInStep (IsOutOfReach level old.header) s t
-    → OnOk result (KeepsSaid level old s.contents new t.contents) → t.failures ≡ s.failures + failed_transfers result → LeavesPack level result old new s t
-pack_closed {level = level} {old = old} {new = new} {s = s} {t = t} result pack alone spares says failures = record { others = others_closed level old new s t pack alone spares; says = says; failures = failures }
-
--- no slot was set
-pub pack_changed : {T : Type 0} {level : LevelId} {old new : Areas} {s t : PoolState} (result : Result T SectorFault) → IsPackReady new t.contents → KeepsInStep (IsOutOfReach level old.header) s t → new ≡ old
-    → KeepsSaid level old s.contents new t.contents → t.failures ≡ s.failures + failed_transfers result → LeavesPack level result old new s t
-pack_changed {level = level} {old = old} {new = new} {s = s} {t = t} result pack spares same says failures = record { others = others_spared level old new s t pack spares same; says = on_ok result says; failures = failures }
-
--- no sector changed either
-pub pack_read : {T : Type 0} {level : LevelId} {old new : Areas} {s t : PoolState} (result : Result T SectorFault) → IsPackReady old s.contents → KeepsContents s t → new ≡ old → t.failures ≡ s.failures + failed_transfers result
-    → LeavesPack level result old new s t
-pack_read {level = level} {old = old} {new = new} {s = s} {t = t} result pack keeps same failures =
-    record { others = others_kept level old new s t pack keeps same; says = on_ok result (said_same level old new s t keeps same); failures = failures }
 
 -- ---- the files at the start of a job
 -- they were opened
@@ -88,17 +45,8 @@ if_halted {fault = Sectors stop} is it = cc
 -- the job halts, and nothing was done
 pub pack_halted : {level : LevelId} {fault : OpeningFault} {code : HaltCode} {old new : Areas} {s t : PoolState} → fault ≡ Halted code → IsPackReady old s.contents → IfHalted fault (new ≡ old) → IfHalted fault (KeepsContents s t)
     → t.failures ≡ s.failures + failed_opening {T = JobFiles} (Err fault) → LeavesPack level (Ok (tt {0})) old new s t
-pack_halted {fault = Halted code} is pack same keeps failures = pack_read (Ok (tt {0})) pack keeps same failures
-pack_halted {fault = Sectors fault} is pack same keeps failures = cc
-
--- ---- one call behind another
-pub pack_then : {T U : Type 0} {level : LevelId} {first : T} {old middle new : Areas} {s t u : PoolState} (result : Result U SectorFault) → LeavesPack level (Ok first) old middle s t → LeavesPack level result middle new t u
-    → LeavesPack level result old new s u
-pack_then {level = level} {old = old} {middle = middle} {new = new} {s = s} {t = t} {u = u} result first second = record {
-  others = others_then level old middle new s t u first.others second.others;
-  says = said_then result level level old middle new s.contents t.contents u.contents refl first.says second.says;
-  failures = second.failures ∙ ap (λ (n : ℕ). n + failed_transfers result) (let same : t.failures ≡ s.failures = omega (arith, first.failures) in same);
-}
+pack_halted {fault = Halted code} is ready same keeps failures = pack_read ready same (record { keeps = keeps; failures = failures })
+pack_halted {fault = Sectors fault} is ready same keeps failures = cc
 
 -- ---- the job at work
 -- a request was served
@@ -178,7 +126,7 @@ pub leaves_then : {T U : Type 0} {first : T} {result : Result U SectorFault} {ol
 leaves_then {result = result} {old = old} {middle = middle} {new = new} {between = between} {after = after} {t = t} {u = u} first second = record {
   stays = stays_then old middle new first.stays second.stays;
   ready = second.ready;
-  pack = pack_then result first.pack (subst (λ (level : LevelId). LeavesPack level result between after t u) first.stays.id second.pack);
+  pack = pack_then first.pack (subst (λ (level : LevelId). LeavesPack level result between after t u) first.stays.id second.pack);
 }
 
 -- the job at work had its request served
@@ -256,6 +204,7 @@ all_then {result = result} {old = old} {middle = middle} {new = new} {before = b
   stays = stays_then old middle new first.stays second.stays;
   ready = second.ready;
   spares = spares_then old.id before between after first.spares (subst (λ (level : LevelId). Spares level between after) first.stays.id second.spares);
-  says = said_then result old.id middle.id before.areas between.areas after.areas before.state.contents between.state.contents after.state.contents first.stays.id first.says second.says;
+  says = said_then result old.id before.areas between.areas after.areas before.state.contents between.state.contents after.state.contents first.says
+      (subst (λ (level : LevelId). OnOk result (KeepsSaid level between.areas between.state.contents after.areas after.state.contents)) first.stays.id second.says);
   failures = second.failures ∙ ap (λ (n : ℕ). n + failed_transfers result) (let same : between.state.failures ≡ before.state.failures = omega (arith, first.failures) in same);
 }

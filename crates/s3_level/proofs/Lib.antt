@@ -8,7 +8,6 @@ pub mod Replies
 pub mod Starting
 pub mod Beginning
 pub mod Compiling
-pub mod Others
 pub mod Leaving
 pub mod Said
 pub mod Beside

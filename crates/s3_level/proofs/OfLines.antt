@@ -1,7 +1,7 @@
 -- The open file of a request: it is that of the F line that allows the request.
 use Rattle.std.proofs.Common.{◌≡◌, ◌<◌, ◌≤◌, ◌+◌, ℕ, zero, suc, Bool, true, false, List, [], ◌∷◌, length, map, filter, get_or, refl, sym, ap, ◌∙◌, subst, arith}
 use Rattle.std.specs.Prelude.{slice_get, Option, Some, None, is_some, unwrap_or, nat_le, cond}
-use Rattle.std.specs.List.{list_all, position_from}
+use Rattle.std.specs.List.{position_from}
 use Rattle.std.proofs.lemmas.Bool.{and_parts}
 use Rattle.std.proofs.lemmas.Bool.Decides.{nat_tests}
 use Rattle.std.proofs.lemmas.List.{length-map}
@@ -27,6 +27,7 @@ use Rattle.s3_job_files.specs.Inner.Holds.{AllAt, OpenedAs, TakesRecord as Takes
 use Rattle.s3_job_files.specs.declared.file.OpenFile.{OpenFile}
 use Rattle.s3_job_files.proofs.Lists.{found_passes, get_mapped, position_map, within_get}
 use Rattle.s3_slots.specs.Labels.{is_indexed}
+use Rattle.s3_slots.proofs.Runs.{all_at}
 use Rattle.s3_opening.specs.Asked.{is_used, key_length_of}
 use Rattle.s3_opening.specs.Inner.OpenFiles.{AreOfEach, IsLaidOutAs, IsOfLine}
 use Rattle.s3_meaning.specs.Source.{Source}
@@ -59,11 +60,6 @@ in_filtered {X} test (y ∷ xs) i x there = by (test y) i there (λ j is. in_fil
     by true zero there behind = (0, there)
     by true (suc i) there behind = let later = behind i there in (suc later.0, later.1)
     by false i there behind = let later = behind i there in (suc later.0, later.1)
-
-all_at : {X : Type 0} (test : X → Bool) (xs : List X) (k : ℕ) (x : X) → list_all test xs ≡ true → slice_get xs k ≡ Some x → test x ≡ true
-all_at test [] k x all there = absurd cc
-all_at test (y ∷ xs) zero x all there = ap test (sym (some_same y x there)) ∙ (and_parts (test y) (list_all test xs) all).0
-all_at test (y ∷ xs) (suc k) x all there = all_at test xs k x (and_parts (test y) (list_all test xs) all).1 there
 
 -- each open file is of one of the lines
 line_of : (lines : List FileLine) (items : List OpenFile) (place : ℕ) (file : OpenFile) → AreOfEach lines items → slice_get items place ≡ Some file

@@ -8,6 +8,7 @@ use Rattle.s3_labels.specs.Inner.Areas.{Areas, IsReady as IsPackReady}
 use Rattle.s3_meaning.specs.Output.{filled}
 use Rattle.s3_meaning.specs.Requests.{Print, Done}
 use Rattle.s3_job_files.specs.Inner.Holds.{seen, job_file_of}
+use Rattle.s3_job_files.specs.Inner.Packs.{KeepsOthers}
 use Rattle.s3_job_files.proofs.Staying.{held_over}
 use Rattle.s3_spool.specs.Inner.Queues.{Blocks, IsFreeSector, blocks_of, queue_of, quota_of}
 use Rattle.s3_spool.proofs.QueueLemmas.{queue_length}
@@ -21,7 +22,7 @@ use Rattle.s3_solo.specs.World.{World, JobAtWork}
 use Rattle.s3_solo.specs.Serving.{acted, answered, idle, line_put, served}
 use Rattle.s3_level.specs.declared.job.OpenJob.{OpenJob}
 use Rattle.s3_level.specs.declared.level.Level.{Level}
-use Rattle.s3_level.specs.Inner.Holds.{AreAll, Shown, HoldsParts, HoldsAtWork, IsReady, KeepsOthers, Becomes, around, open_files, shown, with_seen}
+use Rattle.s3_level.specs.Inner.Holds.{AreAll, Shown, HoldsParts, HoldsAtWork, IsReady, Becomes, around, open_files, shown, with_seen}
 use Rattle.s3_level.specs.Inner.Turning.{AtWorkBecomes, Serves, request_by, waits_by}
 use Rattle.s3_level.proofs.Beside.{put_sees, shown_after}
 

@@ -10,6 +10,7 @@ use Rattle.s3_operator.specs.Halts.{is_waiting}
 use Rattle.s3_job_files.specs.Inner.Holds.{seen}
 use Rattle.s3_job_files.specs.Requests.{Served}
 use Rattle.s3_job_files.specs.Requests as files
+use Rattle.s3_job_files.proofs.Said.{said_same}
 use Rattle.s3_ocl.specs.Jobs.{Job}
 use Rattle.s3_ocl.specs.declared.faults.FaultyJob.{FaultyJob}
 use Rattle.s3_solo.specs.declared.action.Action.{Action}
@@ -24,7 +25,7 @@ use Rattle.s3_level.specs.declared.level.Level.{Level}
 use Rattle.s3_level.specs.declared.taken.Taken.{Taken}
 use Rattle.s3_level.specs.Inner.Holds.{AreAll, Around, Holds, IsReady, Repeats, Spares, Stays}
 use Rattle.s3_level.proofs.Beside.{spares_none, spares_then}
-use Rattle.s3_level.proofs.Said.{said_same}
+use Rattle.s3_level.proofs.Files.{stays_then}
 
 -- ---- entries one after another
 solo_then : (n m : ℕ) (action : Action) (w : World) → solo (solo w (replicate n action)) (replicate m action) ≡ solo w (replicate (n + m) action)
@@ -120,9 +121,6 @@ none_yet n level beside none ready are =
       stays = record { id = refl; deck = refl; drained = refl };
       first = λ _. refl;
     })
-
-stays_then : (old middle new : Level) → Stays old middle → Stays middle new → Stays old new
-stays_then old middle new first second = record { id = second.id ∙ first.id; deck = second.deck ∙ first.deck; drained = second.drained ∙ first.drained }
 
 pub spares_after : (old middle : Level) (before between after : Around) → Stays old middle → Spares old.id before between → Spares middle.id between after → Spares old.id before after
 spares_after old middle before between after stays first second = spares_then old.id before between after first (subst (λ (l : LevelId). Spares l between after) stays.id second)

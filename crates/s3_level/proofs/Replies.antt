@@ -15,10 +15,11 @@ use Rattle.s3_solo.specs.World.{World, JobAtWork}
 use Rattle.s3_solo.specs.Serving.{Outcome, acted, answered, pending}
 use Rattle.s3_solo.specs.Solo.{refused, replied, reply_given, resumed}
 use Rattle.s3_solo.specs.Inner.Asked.{halt_asked}
-use Rattle.s3_level.specs.Inner.Holds.{AreAll, Around, KeepsOthers, Shown, Holds, HoldsParts, HoldsAtWork, Becomes, Steps, around, shown, with_seen}
+use Rattle.s3_level.specs.Inner.Holds.{AreAll, Around, Shown, Holds, HoldsParts, HoldsAtWork, Becomes, Steps, around, shown, with_seen}
 use Rattle.s3_store.specs.Inner.State.{PoolState}
 use Rattle.s3_labels.specs.Inner.Areas.{Areas, IsReady as IsPackReady}
 use Rattle.s3_job_files.specs.Inner.Holds.{seen}
+use Rattle.s3_job_files.specs.Inner.Packs.{KeepsOthers}
 use Rattle.s3_spool.specs.Inner.Queues.{Blocks}
 use Rattle.s3_level.proofs.Beside.{shown_moved}
 use Rattle.s3_level.specs.Inner.Turning.{AtWorkBecomes, FitsJob, MayReply}

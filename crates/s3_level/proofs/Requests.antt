@@ -18,6 +18,7 @@ use Rattle.s3_meaning.specs.declared.current.Current.{Current}
 use Rattle.s3_job_files.specs.Inner.Calls.{found_answer, put_answer}
 use Rattle.s3_job_files.specs.Files.{FilesInUse, FileAtWork, place_named}
 use Rattle.s3_job_files.specs.Inner.Holds.{AllAt, Seen, seen, IsReady as AreFilesReady, Holds as HoldsInUse, Meets, Serves as Serving, job_file_of}
+use Rattle.s3_job_files.specs.Inner.Packs.{LeavesPack}
 use Rattle.s3_job_files.specs.Inner.Records.{changes_of}
 use Rattle.s3_job_files.specs.Requests as meant
 use Rattle.s3_job_files.specs.Requests.{Served, served_named, served_on, record_read, record_chained, record_appended, record_added, record_updated}
@@ -35,7 +36,7 @@ use Rattle.s3_cycle.specs.Inner.Following.{Resumes, asked, is_fit, put, waits}
 use Rattle.s3_cycle.specs.Inner.Requests.{Allows, answer_of, request_to, sought_of}
 use Rattle.s3_cycle.proofs.FollowLemmas.{waits_file}
 use Rattle.s3_level.specs.declared.job.OpenJob.{OpenJob}
-use Rattle.s3_level.specs.Inner.Calls.{CanServe, KeepsOpened, LeavesPack, ServesJob}
+use Rattle.s3_level.specs.Inner.Calls.{CanServe, KeepsOpened, ServesJob}
 use Rattle.s3_level.specs.Inner.Turning.{HasFile, KeepsPlace, ServesFile, SuitsSought}
 use Rattle.s3_level.proofs.Leaving.{job_failed, job_passed, job_served}
 use Rattle.s3_level.proofs.OfLines.{IsCalled, job_stays, place_at, place_within}

@@ -6,12 +6,13 @@ ghost use Rattle.s3_job_files.specs.Closing.{files_closed};
 ghost use Rattle.s3_job_files.specs.Inner.Calls.{found_answer, put_answer};
 ghost use Rattle.s3_job_files.specs.Requests.{record_chained, record_updated};
 ghost use Rattle.s3_job_files.specs.Inner.Holds.{seen, AllAt, Serves, Holds as HoldsInUse, IsReady as AreFilesReady};
+ghost use Rattle.s3_job_files.specs.Inner.Packs.{LeavesPack};
 ghost use Rattle.s3_meaning.specs.Inner.Requests.{fits_done, refuses_update};
 ghost use Rattle.s3_cycle.specs.Inner.Following.{PassesJumps, Resumes, asked, is_fit};
 ghost use Rattle.s3_cycle.specs.Inner.Requests.{answer_of, sought_of};
 ghost use Rattle.s3_cycle.specs.declared.request.Request.TheVariants as asks;
 ghost use Rattle.s3_solo.specs.Serving.{card_answer};
-ghost use Rattle.s3_level.specs.Inner.Calls.{CanServe, KeepsOpened, LeavesPack, ServesJob};
+ghost use Rattle.s3_level.specs.Inner.Calls.{CanServe, KeepsOpened, ServesJob};
 ghost use Rattle.s3_level.specs.Inner.Holds.{IsJobReady, places_of};
 ghost use Rattle.s3_level.specs.Inner.Turning.{AsksFile, KeepsPlace, SuitsSought};
 

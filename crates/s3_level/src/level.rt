@@ -44,6 +44,7 @@ impl Level {
     ghost use Rattle.s3_store.specs.Inner.State.{KeepsContents};
     ghost use Rattle.s3_spool.specs.Inner.Queues.{Blocks, blocks_of};
     ghost use Rattle.s3_job_files.specs.Inner.Holds.{seen};
+    ghost use Rattle.s3_job_files.specs.Inner.Packs.{KeepsOthers};
     ghost use Rattle.s3_solo.specs.declared.action.Action.TheVariants.{Turn, Reply, Drain};
     ghost use Rattle.s3_solo.specs.declared.action.Did.TheVariants.{Acted, Idle, Refused};
     ghost use Rattle.s3_operator.specs.Inner.Halts.{halt_of};
@@ -52,7 +53,7 @@ impl Level {
     ghost use Rattle.s3_solo.specs.World.{World, at_start};
     ghost use Rattle.s3_solo.specs.Serving.{job_ended};
     ghost use Rattle.s3_solo.specs.Solo.{step_of};
-    ghost use Rattle.s3_level.specs.Inner.Holds.{Around, AreAll, around, Holds, IsFresh, IsQuiet, IsReady, IsUpTo, Becomes, Repeats, Steps, Stays, Spares, KeepsOthers};
+    ghost use Rattle.s3_level.specs.Inner.Holds.{Around, AreAll, around, Holds, IsFresh, IsQuiet, IsReady, IsUpTo, Becomes, Repeats, Steps, Stays, Spares};
 
     /// A level with this deck, before its first entry.
     pub fn new(alloc: Global, id: LevelId, deck: Deck) -> Level

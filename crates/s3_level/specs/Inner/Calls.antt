@@ -1,28 +1,20 @@
 -- What calls on the parts of a level leave as it was and tell, refused or not. These words serve the contracts of private functions alone.
 use Rattle.std.specs.Prelude.{◌≡◌, ◌≤◌, ◌+◌, ℕ, Bool, false, List, length, map, None, Result, IfOk, IsTrue, OnErr, OnOk}
 use Rattle.std.specs.List.{list_all}
-use Rattle.s3_cards.specs.declared.levels.LevelId.{LevelId}
 use Rattle.s3_store.specs.Inner.Failures.{failed_transfers}
 use Rattle.s3_store.specs.Inner.State.{PoolState}
 use Rattle.s3_store.specs.declared.sector_fault.SectorFault.{SectorFault}
 use Rattle.s3_labels.specs.Inner.Areas.{Areas}
 use Rattle.s3_labels.specs.Inner.Labelled.{KeepsSaid}
 use Rattle.s3_job_files.specs.Inner.Holds.{Seen, seen, opened_as, IsReady as AreFilesReady}
+use Rattle.s3_job_files.specs.Inner.Packs.{LeavesPack}
 use Rattle.s3_job_files.specs.declared.job_files.JobFiles.{JobFiles}
 use Rattle.s3_ocl.specs.Inner.Sound.{is_sound_date, is_sound_file}
 use Rattle.s3_ocl.specs.Jobs.{Job}
 use Rattle.s3_level.specs.declared.job.OpenJob.{OpenJob}
 use Rattle.s3_level.specs.declared.level.Level.{Level}
-use Rattle.s3_level.specs.Inner.Holds.{Around, IsJobReady, IsReady, IsUntouched, KeepsOthers, Spares, Stays}
+use Rattle.s3_level.specs.Inner.Holds.{Around, IsJobReady, IsReady, IsUntouched, Spares, Stays}
 use Rattle.s3_level.specs.Inner.Turning.{HasFile, KeepsPlace, ServesFile}
-
--- ---- the pack
--- The masters and the other level are as they were, and each transfer that failed is counted. Labels that said the level's slots still
--- do after an answer.
-pub record LeavesPack {T : Type 0} (level : LevelId) (result : Result T SectorFault) (old new : Areas) (s t : PoolState) : Type 0 where
-  pub others : KeepsOthers level old new s t
-  pub says : OnOk result (KeepsSaid level old s.contents new t.contents)
-  pub failures : t.failures ≡ s.failures + failed_transfers result
 
 -- ---- the job at work
 -- the level of a job's files, and what they were opened as

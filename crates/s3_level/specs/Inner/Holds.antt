@@ -183,13 +183,6 @@ IsUntouched old new s t = (new ≡ old) × (t ≡ s)
 abbrev pub IsQuiet : Did → (old new : Areas) → (s t : PoolState) → Type 0
 IsQuiet did old new s t = did ≢ Acted → IsUntouched old new s t
 
--- What the files of one level leave as it was, refused or not: the slots of the masters and of the other level, and all sectors out of
--- its reach.
-pub record KeepsOthers (level : LevelId) (old new : Areas) (s t : PoolState) : Type 0 where
-  pub pack : IsPackReady new t.contents
-  pub areas : new ≡ with_slots level (slots_at level new) old
-  pub sectors : KeepsInStep (IsOutOfReach level old.header) s t
-
 -- a sector beyond a level: neither of its labels nor of its region nor a spool block
 pub record IsBeyond (level : LevelId) (header : Header) (n : ℕ) : Type 0 where
   pub files : IsOutOfReach level header n

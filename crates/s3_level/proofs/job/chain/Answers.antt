@@ -1,10 +1,10 @@
 use Rattle.std.proofs.Common.{ap, rules, sym, ◌∙◌, length}
 use Rattle.s3_meaning.specs.Requests.{Key, RecordNumber}
 use Rattle.s3_job_files.specs.Inner.Calls.{found_answer}
+use Rattle.s3_job_files.proofs.Packs.{pack_read}
 use Rattle.s3_cycle.specs.Inner.Requests.{sought_of}
 use Rattle.s3_cycle.specs.declared.request.Sought.TheVariants as sought
 use Rattle.s3_level.proofs.Requests.{chains_same, key_sought}
-use Rattle.s3_level.proofs.Leaving.{pack_read}
 use Rattle.s3_level.proofs.job.chain.Goals as goal
 
 pub chain_key-requires-clause-indexed : goal.chain_key-requires-clause-indexed
@@ -24,7 +24,7 @@ returns-in-RecordNumber-clause-serves g c =
     (ap RecordNumber (search rules) ∙ sym (ap sought_of c.in-RecordNumber.is)) c.chain_number.ensures.serves
 
 pub returns-in-Key-clause-pack : goal.returns-in-Key-clause-pack
-returns-in-Key-clause-pack g c = pack_read c.chain_key.result c.requires.ready.pack c.chain_key.ensures.keeps c.chain_key.ensures.areas c.chain_key.ensures.failures
+returns-in-Key-clause-pack g c = pack_read c.requires.ready.pack c.chain_key.ensures.areas (record { keeps = c.chain_key.ensures.keeps; failures = c.chain_key.ensures.failures })
 
 pub returns-in-RecordNumber-clause-pack : goal.returns-in-RecordNumber-clause-pack
-returns-in-RecordNumber-clause-pack g c = pack_read c.chain_number.result c.requires.ready.pack c.chain_number.ensures.keeps c.chain_number.ensures.areas c.chain_number.ensures.failures
+returns-in-RecordNumber-clause-pack g c = pack_read c.requires.ready.pack c.chain_number.ensures.areas (record { keeps = c.chain_number.ensures.keeps; failures = c.chain_number.ensures.failures })

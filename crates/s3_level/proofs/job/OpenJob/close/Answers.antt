@@ -1,4 +1,4 @@
-use Rattle.s3_level.proofs.Leaving.{pack_closed}
+use Rattle.s3_job_files.proofs.Packs.{pack_closed}
 use Rattle.s3_level.proofs.job.OpenJob.close.Goals as goal
 
 pub returns-clause-pack : goal.returns-clause-pack

@@ -2,8 +2,8 @@ use Rattle.std.proofs.Common.{Bool, Ok, arith, refl, rules, ap, ◌∙◌}
 use Rattle.s3_job_files.specs.Inner.Calls.{found_answer, put_answer}
 use Rattle.s3_job_files.specs.declared.records.Put.{Put}
 use Rattle.s3_job_files.specs.Requests.{record_read, record_chained, record_appended, record_added, record_updated}
+use Rattle.s3_job_files.proofs.Packs.{pack_changed, pack_read}
 use Rattle.s3_cycle.specs.Inner.Requests.{sought_of}
-use Rattle.s3_level.proofs.Leaving.{pack_changed, pack_read}
 use Rattle.s3_level.proofs.OfLines.{add_indexed, add_takes, append_takes, called, called_within, chain_long, chain_suits, few_chained, few_read, read_long, update_own}
 use Rattle.s3_level.proofs.Requests.{call_fits, file_failed, file_served, is_there, length_fits, not_in_use, resumes_meant}
 use Rattle.s3_level.proofs.job.OpenJob.serve.Goals as goal
@@ -32,7 +32,7 @@ read_next-requires-clause-long g c =
 pub returns-in_err-found-in-Read : goal.returns-in_err-found-in-Read
 returns-in_err-found-in-Read g c =
     file_failed {T = Bool} c.from_residual.result c.from_residual.ensures.1 (called c.requires.can.job c.pending.ensures.request c.pending.ensures.file c.in-File.is c.in-Read.is (c.index.result.now, c.index.ensures, c.in-Some.is)) c.requires.can (record { number = refl; next = refl; end = refl; level = c.read_next.ensures.level })
-    (pack_read _ c.requires.can.files.pack c.read_next.ensures.keeps c.read_next.ensures.areas c.in_err-found-in-Read.ensures.failures)
+    (pack_read c.requires.can.files.pack c.read_next.ensures.areas (record { keeps = c.read_next.ensures.keeps; failures = c.in_err-found-in-Read.ensures.failures }))
 
 pub resume-requires : goal.resume-requires
 resume-requires g c =
@@ -43,7 +43,7 @@ pub returns-in_ok-found-in-Read : goal.returns-in_ok-found-in-Read
 returns-in_ok-found-in-Read g c =
     file_served record_read (found_answer c.in_ok-found-in-Read.found c.read_next.new.bytes) (called c.requires.can.job c.pending.ensures.request c.pending.ensures.file c.in-File.is c.in-Read.is (c.index.result.now, c.index.ensures, c.in-Some.is)) refl c.requires.can c.in_ok-found-in-Read.ensures.serves c.read_next.ensures.ready (record { level = c.read_next.ensures.level; opened = c.read_next.ensures.opened }) refl
     (resumes_meant c.args.self.now.cycle c.resume.new.self c.record_answer.result (found_answer c.in_ok-found-in-Read.found c.read_next.new.bytes) c.record_answer.ensures c.resume.ensures) (record { number = refl; next = refl; end = refl; level = c.read_next.ensures.level })
-    (pack_read (Ok c.in_ok-found-in-Read.found) c.requires.can.files.pack c.read_next.ensures.keeps c.read_next.ensures.areas c.in_ok-found-in-Read.ensures.failures)
+    (pack_read {result = Ok c.in_ok-found-in-Read.found} c.requires.can.files.pack c.read_next.ensures.areas (record { keeps = c.read_next.ensures.keeps; failures = c.in_ok-found-in-Read.ensures.failures }))
 
 pub chain-requires-clause-there : goal.chain-requires-clause-there
 chain-requires-clause-there g c =
@@ -88,7 +88,7 @@ append-requires-clause-takes g c =
 pub returns-in_err-put-in-Append : goal.returns-in_err-put-in-Append
 returns-in_err-put-in-Append g c =
     file_failed {T = Put} c.from_residual-in_err-put-in-Append.result c.from_residual-in_err-put-in-Append.ensures.1 (called c.requires.can.job c.pending.ensures.request c.pending.ensures.file c.in-File.is c.in-Append.is (c.index.result.now, c.index.ensures, c.in-Some.is)) c.requires.can (record { number = refl; next = refl; end = refl; level = c.append.ensures.level })
-    (pack_changed _ c.append.ensures.pack c.append.ensures.spares c.append.ensures.areas c.append.ensures.says c.in_err-put-in-Append.ensures.failures)
+    (pack_changed _ c.append.ensures.pack c.append.ensures.areas c.append.ensures.spares c.append.ensures.says c.in_err-put-in-Append.ensures.failures)
 
 pub resume-requires-in-Append : goal.resume-requires-in-Append
 resume-requires-in-Append g c =
@@ -98,7 +98,7 @@ pub returns-in_ok-put-in-Append : goal.returns-in_ok-put-in-Append
 returns-in_ok-put-in-Append g c =
     file_served (record_appended c.record.result.now) (put_answer c.in_ok-put-in-Append.put) (called c.requires.can.job c.pending.ensures.request c.pending.ensures.file c.in-File.is c.in-Append.is (c.index.result.now, c.index.ensures, c.in-Some.is)) (ap record_appended c.record.ensures.value) c.requires.can c.in_ok-put-in-Append.ensures.serves c.in_ok-put-in-Append.ensures.ready (record { level = c.append.ensures.level; opened = c.append.ensures.opened }) refl
     (resumes_meant c.args.self.now.cycle c.resume-in-Append.new.self c.answer_of_put.result (put_answer c.in_ok-put-in-Append.put) c.answer_of_put.ensures c.resume-in-Append.ensures) (record { number = refl; next = refl; end = refl; level = c.append.ensures.level })
-    (pack_changed (Ok c.in_ok-put-in-Append.put) c.append.ensures.pack c.append.ensures.spares c.append.ensures.areas c.append.ensures.says c.in_ok-put-in-Append.ensures.failures)
+    (pack_changed (Ok c.in_ok-put-in-Append.put) c.append.ensures.pack c.append.ensures.areas c.append.ensures.spares c.append.ensures.says c.in_ok-put-in-Append.ensures.failures)
 
 pub add-requires-clause-there : goal.add-requires-clause-there
 add-requires-clause-there g c =
@@ -115,7 +115,7 @@ add-requires-clause-takes g c =
 pub returns-in_err-put-in-Add : goal.returns-in_err-put-in-Add
 returns-in_err-put-in-Add g c =
     file_failed {T = Put} c.from_residual-in_err-put-in-Add.result c.from_residual-in_err-put-in-Add.ensures.1 (called c.requires.can.job c.pending.ensures.request c.pending.ensures.file c.in-File.is c.in-Add.is (c.index.result.now, c.index.ensures, c.in-Some.is)) c.requires.can (record { number = refl; next = refl; end = refl; level = c.add.ensures.level })
-    (pack_changed _ c.add.ensures.pack c.add.ensures.spares c.add.ensures.areas c.add.ensures.says c.in_err-put-in-Add.ensures.failures)
+    (pack_changed _ c.add.ensures.pack c.add.ensures.areas c.add.ensures.spares c.add.ensures.says c.in_err-put-in-Add.ensures.failures)
 
 pub resume-requires-in-Add : goal.resume-requires-in-Add
 resume-requires-in-Add g c =
@@ -125,7 +125,7 @@ pub returns-in_ok-put-in-Add : goal.returns-in_ok-put-in-Add
 returns-in_ok-put-in-Add g c =
     file_served (record_added c.record-in-Add.result.now) (put_answer c.in_ok-put-in-Add.put) (called c.requires.can.job c.pending.ensures.request c.pending.ensures.file c.in-File.is c.in-Add.is (c.index.result.now, c.index.ensures, c.in-Some.is)) (ap record_added c.record-in-Add.ensures.value) c.requires.can c.in_ok-put-in-Add.ensures.serves c.in_ok-put-in-Add.ensures.ready (record { level = c.add.ensures.level; opened = c.add.ensures.opened }) refl
     (resumes_meant c.args.self.now.cycle c.resume-in-Add.new.self c.answer_of_put-in-Add.result (put_answer c.in_ok-put-in-Add.put) c.answer_of_put-in-Add.ensures c.resume-in-Add.ensures) (record { number = refl; next = refl; end = refl; level = c.add.ensures.level })
-    (pack_changed (Ok c.in_ok-put-in-Add.put) c.add.ensures.pack c.add.ensures.spares c.add.ensures.areas c.add.ensures.says c.in_ok-put-in-Add.ensures.failures)
+    (pack_changed (Ok c.in_ok-put-in-Add.put) c.add.ensures.pack c.add.ensures.areas c.add.ensures.spares c.add.ensures.says c.in_ok-put-in-Add.ensures.failures)
 
 pub change-requires-clause-there : goal.change-requires-clause-there
 change-requires-clause-there g c =

@@ -9,11 +9,11 @@ use Rattle.s3_opening.specs.Opening.{opened}
 use Rattle.s3_opening.specs.Inner.OpenFiles.{HoldsStarted, StartsAs}
 use Rattle.s3_opening.specs.declared.fault.OpeningFault.{OpeningFault}
 use Rattle.s3_store.specs.Inner.State.{KeepsContents}
-use Rattle.s3_level.proofs.Others.{others_closed}
 use Rattle.s3_level.proofs.Starting.{files_opened, files_refused, halts_so, no_program}
 use Rattle.s3_level.specs.Inner.Holds.{Becomes, HoldsParts, IsReady, with_seen}
 use Rattle.s3_job_files.specs.Inner.Holds.{Seen, seen}
-use Rattle.s3_level.proofs.Leaving.{if_halted, leaves_kept, leaves_memory, leaves_spent, pack_halted, pack_opened, pack_then, ready_kept, still}
+use Rattle.s3_job_files.proofs.Packs.{pack_then}
+use Rattle.s3_level.proofs.Leaving.{if_halted, leaves_kept, leaves_memory, leaves_spent, pack_halted, pack_opened, ready_kept, still}
 use Rattle.s3_level.proofs.level.Level.run.Goals as goal
 
 pub returns-in_default-clause-world : goal.returns-in_default-clause-world
@@ -55,7 +55,7 @@ pub returns-in_ok-program-in-Ok-clause-leaves : goal.returns-in_ok-program-in-Ok
 returns-in_ok-program-in-Ok-clause-leaves g c = record {
   stays = c.run_over.ensures.leaves.stays;
   ready = c.run_over.ensures.leaves.ready;
-  pack = pack_then c.run_over.result (pack_opened c.in-Ok.files c.open_files.ensures.pack c.open_files.ensures.others c.open_files.ensures.spares c.in-Ok.ensures.says c.in-Ok.ensures.failures) c.run_over.ensures.leaves.pack;
+  pack = pack_then (pack_opened c.in-Ok.files c.open_files.ensures.pack c.open_files.ensures.others c.open_files.ensures.spares c.in-Ok.ensures.says c.in-Ok.ensures.failures) c.run_over.ensures.leaves.pack;
 }
 
 pub returns-in_err-program-in-Ok-clause-leaves : goal.returns-in_err-program-in-Ok-clause-leaves
@@ -83,7 +83,7 @@ returns-in-Err-Sectors-clause-leaves g c = record {
   stays = still c.args.self.now;
   ready = tt;
   pack = record {
-    others = others_closed c.args.self.now.id c.args.pack.now.areas c.open_files.new.pack.areas (g.P.Sectors.state c.args.pack.now.pool) (g.P.Sectors.state c.open_files.new.pack.pool) c.open_files.ensures.pack c.open_files.ensures.others c.open_files.ensures.spares;
+    others = record { pack = c.open_files.ensures.pack; areas = c.open_files.ensures.others; sectors = c.open_files.ensures.spares };
     says = tt;
     failures = search rules;
   };
