@@ -2,24 +2,22 @@
 ghost use Rattle.std.specs.Prelude.{◌≤◌};
 
 use crate::fault::Fault;
-use crate::pack_words::{label_text, mount_sentence, pack_of};
+use crate::pack_words::{label_text, mount_sentence, pack_of, refused};
 use crate::sentences::output_sentence;
-use crate::words::pack_word;
-use clap::{ArgMatches, Command};
+use crate::words::PACK;
+use clap::ArgMatches;
 use s3_pack_check::{CheckFault, Wrong, check_pack, push_cause};
 use s3_paper_commands::status::DONE;
-use s3_paper_commands::words::value_of;
+use s3_paper_commands::words::{CommandWords, value_of};
 use std::alloc::{AllocError, Global};
 use std::io::Write;
 
-/// The words of the command.
-pub fn check_command<'a>(alloc: Global) -> Result<Command<'a>, AllocError> {
-    Command::new(alloc, "check")
-        .about(
-            "Tells all that is wrong with a pack: damaged labels and indexes, each with the reason",
-        )
-        .arg(pack_word(alloc))
-}
+/// `bureau check` and its words.
+pub const CHECK: CommandWords = CommandWords {
+    name: "check",
+    about: "Tells all that is wrong with a pack: damaged labels and indexes, each with the reason",
+    words: &[PACK],
+};
 
 /// Does what the words of `bureau check` ask, and gives the exit status: 0 where nothing is wrong with the pack, 4 where something
 /// is, which standard output tells a line each; else that of the refusal, whose sentence it wrote on standard error.
@@ -33,29 +31,50 @@ pub fn check(rt: &HostRuntime, matches: &ArgMatches<'_>) -> u8
 }
 
 fn check_file(rt: &HostRuntime, path: &str) -> Result<(), Fault> {
+    let wrongs = wrongs_of(rt, path)?;
+    write_wrongs(rt, &wrongs)?;
+    match wrongs.len() {
+        0 => Ok(()),
+        count => Err(waits(rt.alloc(), path, count)),
+    }
+}
+
+/// All that is wrong with the pack at a path.
+fn wrongs_of(rt: &HostRuntime, path: &str) -> Result<Vec<Wrong>, Fault> {
     let pack = pack_of(rt, path)?;
-    let wrongs = match check_pack(rt.alloc(), &pack) {
-        Ok(wrongs) => wrongs,
-        Err(CheckFault::NoMemory) => return Err(Fault::NoMemory),
-        Err(CheckFault::Mount(fault)) => {
-            return Err(Fault::Refused(mount_sentence(rt.alloc(), path, fault)?));
-        }
-    };
-    let text = text_of(rt.alloc(), &wrongs)?;
-    if rt.stdout().write_all(text.as_str().as_bytes()).is_err() {
-        return Err(Fault::File(output_sentence(rt.alloc())?));
+    match check_pack(rt.alloc(), &pack) {
+        Ok(wrongs) => Ok(wrongs),
+        Err(CheckFault::NoMemory) => Err(Fault::NoMemory),
+        Err(CheckFault::Mount(fault)) => Err(refused(mount_sentence(rt.alloc(), path, fault))),
     }
-    if wrongs.is_empty() {
-        return Ok(());
+}
+
+/// Writes a line for each slot with which something is wrong on standard output.
+fn write_wrongs(rt: &HostRuntime, wrongs: &[Wrong]) -> Result<(), Fault> {
+    let text = text_of(rt.alloc(), wrongs)?;
+    match rt.stdout().write_all(text.as_str().as_bytes()) {
+        Ok(()) => Ok(()),
+        Err(_) => Err(Fault::File(output_sentence(rt.alloc())?)),
     }
-    let slots = match wrongs.len() {
-        1 => format!(in rt.alloc(); "1 slot of {path} needs"),
-        count => format!(in rt.alloc(); "{count} slots of {path} need"),
+}
+
+/// That so many slots of a pack need a person.
+fn waits(alloc: Global, path: &str, count: usize) -> Fault {
+    match waiting_sentence(alloc, path, count) {
+        Ok(sentence) => Fault::Waits(sentence),
+        Err(_) => Fault::NoMemory,
+    }
+}
+
+fn waiting_sentence(alloc: Global, path: &str, count: usize) -> Result<String, AllocError> {
+    let slots = match count {
+        1 => format!(in alloc; "1 slot of {path} needs"),
+        _ => format!(in alloc; "{count} slots of {path} need"),
     }?;
     let slots = slots.as_str();
-    Err(Fault::Waits(format!(in rt.alloc();
+    format!(in alloc;
         "{slots} a person: put back the bytes of a label that are known, or free its slot by `bureau delete --slot`, and load a file again whose index is wrong"
-    )?))
+    )
 }
 
 /// A line for each slot with which something is wrong.

@@ -1,49 +1,59 @@
 //! `bureau copy`: a file copied into an area.
-ghost use Rattle.std.specs.Prelude.{◌≤◌, ◌<◌};
+ghost use Rattle.std.specs.Prelude.{◌≤◌, ◌<◌, IfOk};
 
 use crate::fault::Fault;
 use crate::pack_words::{
     area_number, care_sentence, keep_input, label_of, label_sentence, mount_sentence,
     no_room_for_copy, pack_of, pack_to_change, refused, saved, tell_done,
 };
-use crate::words::{label_word, overwrite_word};
-use clap::{ArgMatches, Command};
+use crate::words::{LABEL, OVERWRITE};
+use clap::ArgMatches;
+use s3_cards::Name;
 use s3_labels::LabelFault;
 use s3_pack_care::CareFault;
 use s3_paper_commands::status::DONE;
-use s3_paper_commands::words::{needed_word, value_of, value_word};
+use s3_paper_commands::words::{CommandWords, Takes, Word, value_of};
 use std::alloc::{AllocError, Global};
 
-/// The words of the command.
-pub fn copy_command<'a>(alloc: Global) -> Result<Command<'a>, AllocError> {
-    Command::new(alloc, "copy")
-        .about("Copies a file of a pack, with its index, into an area of another or the same")
-        .args(vec![in alloc;
-            needed_word(alloc, "pack", "FILE", "The pack that has the file"),
-            needed_word(
-                alloc,
-                "area",
-                "AREA",
-                "The area of the file: 0 for the masters, 1 or 2 for a level"
-            ),
-            label_word(alloc),
-            needed_word(alloc, "into", "FILE", "The pack that gets the copy"),
-            needed_word(alloc, "to-area", "AREA", "The area that gets it"),
-            needed_word(
-                alloc,
-                "save",
-                "FILE",
-                "Where the pack with the copy is written"
-            ),
-            value_word(
-                alloc,
-                "as",
-                "LABEL",
-                "The label of the copy, if it is another one"
-            ),
-            overwrite_word(alloc),
-        ]?)
-}
+/// `bureau copy` and its words.
+pub const COPY: CommandWords = CommandWords {
+    name: "copy",
+    about: "Copies a file of a pack, with its index, into an area of another or the same",
+    words: &[
+        Word {
+            name: "pack",
+            takes: Takes::Needed("FILE"),
+            help: "The pack that has the file",
+        },
+        Word {
+            name: "area",
+            takes: Takes::Needed("AREA"),
+            help: "The area of the file: 0 for the masters, 1 or 2 for a level",
+        },
+        LABEL,
+        Word {
+            name: "into",
+            takes: Takes::Needed("FILE"),
+            help: "The pack that gets the copy",
+        },
+        Word {
+            name: "to-area",
+            takes: Takes::Needed("AREA"),
+            help: "The area that gets it",
+        },
+        Word {
+            name: "save",
+            takes: Takes::Needed("FILE"),
+            help: "Where the pack with the copy is written",
+        },
+        Word {
+            name: "as",
+            takes: Takes::Value("LABEL"),
+            help: "The label of the copy, if it is another one",
+        },
+        OVERWRITE,
+    ],
+};
 
 /// Does what the words of `bureau copy` ask, and gives the exit status: 0 where it is done, else that of the refusal, whose
 /// sentence it wrote on standard error; then nothing was saved.
@@ -56,52 +66,120 @@ pub fn copy(rt: &HostRuntime, matches: &ArgMatches<'_>) -> u8
     }
 }
 
+/// What is copied, and where to.
+#[derive(Clone, Copy)]
+struct Order<'a> {
+    /// The pack that has the file.
+    path: &'a str,
+    area: u16,
+    label: &'a str,
+    name: Name,
+    /// The pack that gets the copy.
+    into: &'a str,
+    to_area: u16,
+    new_label: &'a str,
+    new_name: Name,
+    /// Where the pack with the copy is written.
+    save: &'a str,
+}
+
+impl<'a> Order<'a> {
+    /// What the words ask for.
+    fn read(rt: &HostRuntime, matches: &ArgMatches<'a>) -> Result<Order<'a>, Fault>
+        ensures area { IfOk result (λ order. order.area < 3) }
+        ensures to_area { IfOk result (λ order. order.to_area < 3) }
+    {
+        let area = area_number(rt, value_of(matches, "area"))?;
+        let to_area = area_number(rt, value_of(matches, "to-area"))?;
+        let label = value_of(matches, "label");
+        let name = label_of(rt, label)?;
+        let new_label = matches.get_str("as").unwrap_or(label);
+        let new_name = label_of(rt, new_label)?;
+        Ok(Order {
+            path: value_of(matches, "pack"),
+            area,
+            label,
+            name,
+            into: value_of(matches, "into"),
+            to_area,
+            new_label,
+            new_name,
+            save: value_of(matches, "save"),
+        })
+    }
+}
+
 fn copy_file(rt: &HostRuntime, matches: &ArgMatches<'_>) -> Result<(), Fault> {
-    let area = area_number(rt, value_of(matches, "area"))?;
-    let to_area = area_number(rt, value_of(matches, "to-area"))?;
-    let label = value_of(matches, "label");
-    let name = label_of(rt, label)?;
-    let new_label = matches.get_str("as").unwrap_or(label);
-    let new_name = label_of(rt, new_label)?;
-    let save = value_of(matches, "save");
-    let path = value_of(matches, "pack");
-    let (into, locked) = pack_to_change(rt, matches, value_of(matches, "into"), save)?;
+    let order = Order::read(rt, matches)?;
+    let (into, locked) = pack_to_change(rt, matches, order.into, order.save)?;
     if locked.is_none() {
-        keep_input(rt, save, path)?;
+        keep_input(rt, order.save, order.path)?;
     }
-    let from = pack_of(rt, path)?;
+    let pack = with_copy(rt, order, into)?;
+    saved(rt, order.save, locked, &pack)?;
+    Ok(tell_copied(rt, order)?)
+}
+
+/// The pack that gets the copy, with it.
+fn with_copy(rt: &HostRuntime, order: Order<'_>, into: Vec<u8>) -> Result<Vec<u8>, Fault>
+    requires area { order.area < 3 }
+    requires to_area { order.to_area < 3 }
+{
+    let from = pack_of(rt, order.path)?;
+    let Order {
+        area,
+        name,
+        to_area,
+        new_name,
+        ..
+    } = order;
     match s3_pack_care::copy(rt.alloc(), from, area, name, into, to_area, new_name) {
-        Ok(pack) => saved(rt, save, locked, &pack)?,
-        Err(CareFault::Label(LabelFault::NoSpace)) => {
-            let into = value_of(matches, "into");
-            return Err(Fault::Refused(no_room_for_copy(
-                rt, path, area, name, into, to_area, new_label,
-            )?));
-        }
-        Err(fault) => return Err(refusal(rt.alloc(), matches, area, to_area, fault)),
+        Ok(pack) => Ok(pack),
+        Err(CareFault::Label(LabelFault::NoSpace)) => Err(no_room_for_copy(
+            rt,
+            order.path,
+            area,
+            name,
+            order.into,
+            to_area,
+            order.new_label,
+        )),
+        Err(fault) => Err(refused(refusal_sentence(rt.alloc(), order, fault))),
     }
+}
+
+/// Why nothing is copied: what the pack lacks that has the file, or what doesn't allow it in the pack that was to get the copy.
+fn refusal_sentence(
+    alloc: Global,
+    order: Order<'_>,
+    fault: CareFault,
+) -> Result<String, AllocError> {
+    match fault {
+        CareFault::SourceMount(fault) => mount_sentence(alloc, order.path, fault),
+        CareFault::SourceLabel(fault) => label_sentence(
+            alloc,
+            order.path,
+            order.area,
+            order.label,
+            fault,
+        ),
+        _ => care_sentence(alloc, order.into, order.to_area, order.new_label, fault),
+    }
+}
+
+/// Tells what was copied.
+fn tell_copied(rt: &HostRuntime, order: Order<'_>) -> Result<(), AllocError> {
+    let Order {
+        area,
+        label,
+        to_area,
+        new_label,
+        save,
+        ..
+    } = order;
     let sentence = format!(in rt.alloc();
         "{label} of area {area} is copied into area {to_area} of {save} as {new_label}"
     )?;
     tell_done(rt, sentence.as_str());
     Ok(())
-}
-
-/// Why nothing is copied: what the pack lacks that has the file, or what doesn't allow it in the pack that was to get the copy.
-fn refusal(
-    alloc: Global,
-    matches: &ArgMatches<'_>,
-    area: u16,
-    to_area: u16,
-    fault: CareFault,
-) -> Fault {
-    let from = value_of(matches, "pack");
-    let into = value_of(matches, "into");
-    let label = value_of(matches, "label");
-    let new_label = matches.get_str("as").unwrap_or(label);
-    refused(match fault {
-        CareFault::SourceMount(fault) => mount_sentence(alloc, from, fault),
-        CareFault::SourceLabel(fault) => label_sentence(alloc, from, area, label, fault),
-        _ => care_sentence(alloc, into, to_area, new_label, fault),
-    })
 }

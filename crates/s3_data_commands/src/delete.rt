@@ -5,37 +5,38 @@ use crate::fault::Fault;
 use crate::pack_words::{
     area_number, care_sentence, label_of, pack_to_change, refused, saved, tell_done, wrong_words,
 };
-use crate::words::{area_word, overwrite_word, pack_word, save_word};
-use clap::{ArgMatches, Command, value_parser};
+use crate::words::{AREA, LABEL, OVERWRITE, PACK, SAVE};
+use clap::ArgMatches;
 use s3_pack_care::{CareFault, Chosen};
 use s3_paper_commands::status::DONE;
-use s3_paper_commands::words::{flag, value_of, value_word};
+use s3_paper_commands::words::{CommandWords, Takes, Word, value_of};
 use std::alloc::{AllocError, Global};
 
-/// The words of the command.
-pub fn delete_command<'a>(alloc: Global) -> Result<Command<'a>, AllocError> {
-    Command::new(alloc, "delete")
-        .about("Deletes a file from a pack, or frees a damaged slot")
-        .args(vec![in alloc;
-            pack_word(alloc),
-            save_word(alloc),
-            area_word(alloc),
-            value_word(alloc, "label", "LABEL", "The label of the file"),
-            value_word(
-                alloc,
-                "slot",
-                "N",
-                "The slot, 0 to 31, in place of a label; `list --table` shows the numbers"
-            )
-            .value_parser(value_parser!(u16)),
-            flag(
-                alloc,
-                "permanent",
-                "Deletes the file also where it is permanent"
-            ),
-            overwrite_word(alloc),
-        ]?)
-}
+/// `bureau delete` and its words.
+pub const DELETE: CommandWords = CommandWords {
+    name: "delete",
+    about: "Deletes a file from a pack, or frees a damaged slot",
+    words: &[
+        PACK,
+        SAVE,
+        AREA,
+        Word {
+            takes: Takes::Value("LABEL"),
+            ..LABEL
+        },
+        Word {
+            name: "slot",
+            takes: Takes::U16("N"),
+            help: "The slot, 0 to 31, in place of a label; `list --table` shows the numbers",
+        },
+        Word {
+            name: "permanent",
+            takes: Takes::Nothing,
+            help: "Deletes the file also where it is permanent",
+        },
+        OVERWRITE,
+    ],
+};
 
 /// Does what the words of `bureau delete` ask, and gives the exit status: 0 where it is done, else that of the refusal, whose
 /// sentence it wrote on standard error; then nothing was saved.
@@ -51,15 +52,27 @@ pub fn delete(rt: &HostRuntime, matches: &ArgMatches<'_>) -> u8
 fn delete_file(rt: &HostRuntime, matches: &ArgMatches<'_>) -> Result<(), Fault> {
     let area = area_number(rt, value_of(matches, "area"))?;
     let chosen = chosen_file(rt, matches)?;
-    let path = value_of(matches, "pack");
     let save = value_of(matches, "save");
-    let (pack, locked) = pack_to_change(rt, matches, path, save)?;
-    let is_permanent_meant = matches.get_flag("permanent");
-    match s3_pack_care::delete(rt.alloc(), pack, area, chosen, is_permanent_meant) {
-        Ok(pack) => saved(rt, save, locked, &pack)?,
-        Err(fault) => return Err(refusal(rt.alloc(), matches, area, fault)),
-    }
+    let (pack, locked) = pack_to_change(rt, matches, value_of(matches, "pack"), save)?;
+    let pack = without(rt.alloc(), matches, area, chosen, pack)?;
+    saved(rt, save, locked, &pack)?;
     Ok(tell_deleted(rt, matches, area, save)?)
+}
+
+/// A pack without the file that is meant.
+fn without(
+    alloc: Global,
+    matches: &ArgMatches<'_>,
+    area: u16,
+    chosen: Chosen,
+    pack: Vec<u8>,
+) -> Result<Vec<u8>, Fault>
+    requires { area < 3 }
+{
+    match s3_pack_care::delete(alloc, pack, area, chosen, matches.get_flag("permanent")) {
+        Ok(pack) => Ok(pack),
+        Err(fault) => Err(refused(refusal_sentence(alloc, matches, area, fault))),
+    }
 }
 
 /// The file that the words mean.
@@ -75,31 +88,19 @@ fn chosen_file(rt: &HostRuntime, matches: &ArgMatches<'_>) -> Result<Chosen, Fau
 }
 
 /// Why nothing is deleted.
-fn refusal(alloc: Global, matches: &ArgMatches<'_>, area: u16, fault: CareFault) -> Fault {
-    refused(refusal_sentence(alloc, matches, area, fault))
-}
-
 fn refusal_sentence(
     alloc: Global,
     matches: &ArgMatches<'_>,
     area: u16,
     fault: CareFault,
 ) -> Result<String, AllocError> {
-    let path = value_of(matches, "pack");
     let slot = matches.get_one::<u16>("slot").unwrap_or(0);
-    let file = match matches.get_str("label") {
-        Some(label) => String::from_str(alloc, label)?,
-        None => format!(in alloc; "the file in slot {slot}")?,
+    let file = match (matches.get_str("label"), fault) {
+        (Some(label), _) => String::from_str(alloc, label)?,
+        (None, CareFault::NoFile | CareFault::NoSlot) => format!(in alloc; "slot {slot}")?,
+        (None, _) => format!(in alloc; "the file in slot {slot}")?,
     };
-    match fault {
-        CareFault::NoFile => format!(in alloc;
-            "slot {slot} in area {area} of {path} has no file; `bureau list --pack {path} --table` shows the slots that have one"
-        ),
-        CareFault::NoSlot => format!(in alloc;
-            "area {area} of {path} has no slot {slot}; its slots are 0 to 31"
-        ),
-        _ => care_sentence(alloc, path, area, file.as_str(), fault),
-    }
+    care_sentence(alloc, value_of(matches, "pack"), area, file.as_str(), fault)
 }
 
 /// Tells what was deleted.

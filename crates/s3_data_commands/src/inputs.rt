@@ -2,7 +2,7 @@
 ghost use Rattle.std.specs.Prelude.{◌≤◌, length, IfOk, IfSome};
 
 use crate::fault::{Fault, of_call};
-use crate::pack_words::{label_of, wrong_words};
+use crate::pack_words::{label_of, refused, wrong_words};
 use crate::sentences::layout_sentence;
 use clap::ArgMatches;
 use s3_blame::diagnostic_words;
@@ -43,19 +43,33 @@ pub fn layout_of(
     let choice = choice_of(rt, matches)?;
     let text = text_at(rt, path)?;
     let deck = deck_of(rt, &text)?;
-    let Some(source) = source_of(rt, &deck)? else {
-        return Err(Fault::Refused(format!(in rt.alloc();
+    match source_of(rt, &deck)? {
+        Some(source) => layout_in(rt, path, &text, &deck, source, choice),
+        None => Err(refused(format!(in rt.alloc();
             "the deck {path} has no source: no job of it compiles one, and it doesn't begin with the cards of one; give the deck of a program, or the cards of its source alone"
-        )?));
-    };
-    match read_layout(rt.alloc(), &deck, source.from, source.to, choice) {
+        ))),
+    }
+}
+
+/// The layout of a source in a deck. Each diagnostic of its cards is told.
+fn layout_in(
+    rt: &HostRuntime,
+    path: &str,
+    text: &DeckText<'_>,
+    deck: &Deck,
+    source: CardRange,
+    choice: Choice,
+) -> Result<SourceLayout, Fault>
+    requires order { source.from ≤ source.to }
+    requires within { source.to ≤ length deck.now }
+{
+    match read_layout(rt.alloc(), deck, source.from, source.to, choice) {
         Ok(layout) => Ok(layout),
-        Err(LayoutFault::NoMemory) => Err(Fault::NoMemory),
         Err(fault) => {
             if let LayoutFault::Card { .. } = fault {
-                tell_cards(rt, &text, &deck, source);
+                tell_cards(rt, text, deck, source);
             }
-            Err(Fault::Refused(layout_sentence(rt.alloc(), path, &fault)?))
+            Err(refused(layout_sentence(rt.alloc(), path, &fault)))
         }
     }
 }
@@ -108,18 +122,23 @@ fn text_at<'a>(rt: &HostRuntime, path: &'a str) -> Result<DeckText<'a>, Fault> {
     };
     let mut text = DeckText::new(rt.alloc());
     if is_plain_text(path) {
-        let punched = punched_of(rt, &bytes)?;
-        if !punched.faults.is_empty() {
-            tell_punched(rt, path, &punched);
-            return Err(Fault::Refused(format!(in rt.alloc();
-                "the text {path} can't be punched; mend what is told above"
-            )?));
-        }
-        add_punched(&mut text, path, punched)?;
+        add_punched(&mut text, path, sound_punched(rt, path, &bytes)?)?;
     } else {
         text.add(path, bytes)?;
     }
     Ok(text)
+}
+
+/// What is punched of the plain text of a file; what is wrong with it is told.
+fn sound_punched(rt: &HostRuntime, path: &str, text: &[u8]) -> Result<Punched, Fault> {
+    let punched = punched_of(rt, text)?;
+    if punched.faults.is_empty() {
+        return Ok(punched);
+    }
+    tell_punched(rt, path, &punched);
+    Err(refused(format!(in rt.alloc();
+        "the text {path} can't be punched; mend what is told above"
+    )))
 }
 
 /// What is punched of a plain text: one that doesn't begin with a statement is a source from its first line on, with the tabs of one.
@@ -160,15 +179,19 @@ fn deck_of(rt: &HostRuntime, text: &DeckText<'_>) -> Result<Deck, Fault> {
         Err(DeckFault::NoMemory) => Err(Fault::NoMemory),
         Err(DeckFault::At(card, fault)) => {
             let place = text.place_of(usize::from(card));
-            let words = match fault {
-                CardFault::TooWide => "is over 96 columns; shorten its line",
-                CardFault::BadCharacter =>
-                    "has a character that no card can have; write one that cards have, or give the text a name that ends in .rpg, so that it is punched",
-                CardFault::TooMany =>
-                    "is the last that a deck can have; cut the source out of the deck",
-            };
-            Err(Fault::Refused(format!(in rt.alloc(); "{place} {words}")?))
+            let words = words_of(fault);
+            Err(refused(format!(in rt.alloc(); "{place} {words}")))
         }
+    }
+}
+
+/// Why a card can't be read, and what helps.
+fn words_of(fault: CardFault) -> &'static str {
+    match fault {
+        CardFault::TooWide => "is over 96 columns; shorten its line",
+        CardFault::BadCharacter =>
+            "has a character that no card can have; write one that cards have, or give the text a name that ends in .rpg, so that it is punched",
+        CardFault::TooMany => "is the last that a deck can have; cut the source out of the deck",
     }
 }
 

@@ -5,75 +5,73 @@ use crate::fault::Fault;
 use crate::inputs::{delimiter_of, layout_of};
 use crate::load_sentences::{heading_sentence, load_sentence, value_sentence};
 use crate::pack_words::{
-    keep_input, label_of, level_of, no_room_sentence, number_of, pack_of, pack_to_change, saved,
-    tell_done, wrong_words,
+    keep_input, label_of, level_of, no_room_sentence, number_of, pack_to_change, refused, room_in,
+    saved, tell_done, wrong_words,
 };
 use crate::words::{
-    delimiter_word, label_word, layout_file_word, layout_type_word, layout_word, level_word,
-    overwrite_word, pack_word, save_word,
+    DELIMITER, LABEL, LAYOUT, LAYOUT_FILE, LAYOUT_TYPE, LEVEL, OVERWRITE, PACK, SAVE,
 };
-use clap::{Arg, ArgMatches, Command, value_parser};
+use clap::ArgMatches;
 use s3_cards::ebcdic::DIGIT_0;
 use s3_cards::{LevelId, Name, Retention};
 use s3_labels::LabelFault;
-use s3_listing::{file_size, free_room};
+use s3_layout::SourceLayout;
+use s3_listing::file_size;
 use s3_load::{LoadFault, Order, Room};
 use s3_paper_commands::status::DONE;
-use s3_paper_commands::words::{flag, value_of, value_word};
+use s3_paper_commands::words::{CommandWords, Takes, Word, value_of};
 use std::alloc::{AllocError, Global};
 use std::io::Write;
 
-/// The words of the command.
-pub fn load_command<'a>(alloc: Global) -> Result<Command<'a>, AllocError> {
-    Command::new(alloc, "load")
-        .about("Loads the table in CSV of standard input into a file of a level")
-        .args(vec![in alloc;
-            pack_word(alloc),
-            save_word(alloc),
-            level_word(alloc),
-            label_word(alloc),
-            layout_word(alloc).required(true),
-            layout_file_word(alloc),
-            layout_type_word(alloc),
-            records_word(alloc),
-            tracks_word(alloc),
-            value_word(alloc, "retain", "R", "T, S or P; T if it isn't said"),
-            value_word(
-                alloc,
-                "date",
-                "MMDDYY",
-                "The date of the file: month, day and year; 000000 if it isn't said"
-            ),
-            flag(
-                alloc,
-                "append",
-                "Puts the records behind those of the file that is there"
-            ),
-            flag(
-                alloc,
-                "fill",
-                "Fields that the table doesn't have are blank or 0"
-            ),
-            delimiter_word(alloc),
-            overwrite_word(alloc),
-        ]?)
-}
-
-/// The word for the room of a new file in records, 0 to 4294967295.
-fn records_word<'a>(alloc: Global) -> Arg<'a> {
-    value_word(
-        alloc,
-        "records",
-        "N",
-        "Room for so many records; as many as the table has if it isn't said",
-    )
-    .value_parser(value_parser!(u32))
-}
-
-/// The word for the room of a new file in tracks, 0 to 65535.
-fn tracks_word<'a>(alloc: Global) -> Arg<'a> {
-    value_word(alloc, "tracks", "N", "So many tracks instead").value_parser(value_parser!(u16))
-}
+/// `bureau load` and its words.
+pub const LOAD: CommandWords = CommandWords {
+    name: "load",
+    about: "Loads the table in CSV of standard input into a file of a level",
+    words: &[
+        PACK,
+        SAVE,
+        LEVEL,
+        LABEL,
+        Word {
+            takes: Takes::Needed("FILE"),
+            ..LAYOUT
+        },
+        LAYOUT_FILE,
+        LAYOUT_TYPE,
+        Word {
+            name: "records",
+            takes: Takes::U32("N"),
+            help: "Room for so many records; as many as the table has if it isn't said",
+        },
+        Word {
+            name: "tracks",
+            takes: Takes::U16("N"),
+            help: "So many tracks instead",
+        },
+        Word {
+            name: "retain",
+            takes: Takes::Value("R"),
+            help: "T, S or P; T if it isn't said",
+        },
+        Word {
+            name: "date",
+            takes: Takes::Value("MMDDYY"),
+            help: "The date of the file: month, day and year; 000000 if it isn't said",
+        },
+        Word {
+            name: "append",
+            takes: Takes::Nothing,
+            help: "Puts the records behind those of the file that is there",
+        },
+        Word {
+            name: "fill",
+            takes: Takes::Nothing,
+            help: "Fields that the table doesn't have are blank or 0",
+        },
+        DELIMITER,
+        OVERWRITE,
+    ],
+};
 
 /// Does what the words of `bureau load` ask, and gives the exit status: 0 where it is done, else that of the refusal, whose
 /// sentences it wrote on standard error; then no pack is changed.
@@ -86,51 +84,87 @@ pub fn load(rt: &HostRuntime, matches: &ArgMatches<'_>) -> u8
     }
 }
 
+/// What the words ask for, but for the layout.
+#[derive(Clone, Copy)]
+struct LoadWords<'a> {
+    path: &'a str,
+    save: &'a str,
+    level: LevelId,
+    label: &'a str,
+    name: Name,
+    /// The deck that has the layout.
+    source: &'a str,
+    room: Room,
+    retention: Retention,
+    date: [u8; 6],
+    appends: bool,
+    fills: bool,
+    delimiter: u8,
+}
+
+impl<'a> LoadWords<'a> {
+    /// What the words ask for.
+    fn read(rt: &HostRuntime, matches: &ArgMatches<'a>) -> Result<LoadWords<'a>, Fault> {
+        let level = level_of(rt, value_of(matches, "level"))?;
+        let label = value_of(matches, "label");
+        let name = label_of(rt, label)?;
+        test_words(rt, matches)?;
+        Ok(LoadWords {
+            path: value_of(matches, "pack"),
+            save: value_of(matches, "save"),
+            level,
+            label,
+            name,
+            source: value_of(matches, "layout"),
+            room: room_of(rt, matches)?,
+            retention: retention_of(rt, matches)?,
+            date: date_of(rt, matches)?,
+            appends: matches.get_flag("append"),
+            fills: matches.get_flag("fill"),
+            delimiter: delimiter_of(rt, matches)?,
+        })
+    }
+}
+
 fn load_table(rt: &HostRuntime, matches: &ArgMatches<'_>) -> Result<(), Fault> {
-    let level = level_of(rt, value_of(matches, "level"))?;
-    let label = value_of(matches, "label");
-    let name = label_of(rt, label)?;
-    test_words(rt, matches)?;
-    let room = room_of(rt, matches)?;
-    let retention = retention_of(rt, matches)?;
-    let date = date_of(rt, matches)?;
-    let delimiter = delimiter_of(rt, matches)?;
-    let source = value_of(matches, "layout");
-    let layout = layout_of(rt, matches, source)?;
-    let path = value_of(matches, "pack");
-    let save = value_of(matches, "save");
-    let (pack, locked) = pack_to_change(rt, matches, path, save)?;
-    keep_input(rt, save, source)?;
+    let words = LoadWords::read(rt, matches)?;
+    let layout = layout_of(rt, matches, words.source)?;
+    let (pack, locked) = pack_to_change(rt, matches, words.path, words.save)?;
+    keep_input(rt, words.save, words.source)?;
+    let loaded = loaded(rt, &words, &layout, &pack)?;
+    saved(rt, words.save, locked, &loaded)?;
+    Ok(tell_loaded(rt, &words, &loaded)?)
+}
+
+/// A pack with the table of standard input in the file that the words name.
+fn loaded(
+    rt: &HostRuntime,
+    words: &LoadWords<'_>,
+    layout: &SourceLayout,
+    pack: &[u8],
+) -> Result<Vec<u8>, Fault> {
     let order = Order {
-        level,
-        name,
+        level: words.level,
+        name: words.name,
         layout: &layout.layout,
         key: layout.key,
-        room,
-        retention,
-        date,
-        appends: matches.get_flag("append"),
-        fills: matches.get_flag("fill"),
-        delimiter,
+        room: words.room,
+        retention: words.retention,
+        date: words.date,
+        appends: words.appends,
+        fills: words.fills,
+        delimiter: words.delimiter,
     };
-    let loaded = match s3_load::load(rt.alloc(), &pack, &order, rt.stdin()) {
-        Ok(loaded) => loaded,
-        Err(fault) => return Err(fault_of(rt, matches, level, &fault)),
-    };
-    saved(rt, save, locked, &loaded)?;
-    Ok(tell_loaded(rt, save, number_of(level), label, name, &loaded)?)
+    match s3_load::load(rt.alloc(), pack, &order, rt.stdin()) {
+        Ok(loaded) => Ok(loaded),
+        Err(fault) => Err(fault_of(rt, words, &fault)),
+    }
 }
 
 /// Tells into which file the table was loaded, and how many records that has now.
-fn tell_loaded(
-    rt: &HostRuntime,
-    save: &str,
-    level: u16,
-    label: &str,
-    name: Name,
-    loaded: &[u8],
-) -> Result<(), AllocError> {
-    let records = match file_size(rt.alloc(), loaded, level, name) {
+fn tell_loaded(rt: &HostRuntime, words: &LoadWords<'_>, loaded: &[u8]) -> Result<(), AllocError> {
+    let level = number_of(words.level);
+    let records = match file_size(rt.alloc(), loaded, level, words.name) {
         Ok(Some(size)) => size.records,
         _ => 0,
     };
@@ -139,6 +173,7 @@ fn tell_loaded(
         records => format!(in rt.alloc(); "{records} records")?,
     };
     let records = records.as_str();
+    let LoadWords { label, save, .. } = *words;
     let sentence = format!(in rt.alloc();
         "{label} of level {level} of {save} is loaded: it has {records} now"
     )?;
@@ -164,11 +199,11 @@ fn room_of(rt: &HostRuntime, matches: &ArgMatches<'_>) -> Result<Room, Fault> {
 
 /// How long the file is to be kept.
 fn retention_of(rt: &HostRuntime, matches: &ArgMatches<'_>) -> Result<Retention, Fault> {
-    match matches.get_str("retain") {
-        None | Some("T") => Ok(Retention::Temporary),
-        Some("S") => Ok(Retention::Scratch),
-        Some("P") => Ok(Retention::Permanent),
-        Some(_) => Err(wrong_words(rt.alloc(), "a file is retained as T, S or P")),
+    match matches.get_str("retain").unwrap_or("T") {
+        "T" => Ok(Retention::Temporary),
+        "S" => Ok(Retention::Scratch),
+        "P" => Ok(Retention::Permanent),
+        _ => Err(wrong_words(rt.alloc(), "a file is retained as T, S or P")),
     }
 }
 
@@ -227,44 +262,51 @@ fn test_words(rt: &HostRuntime, matches: &ArgMatches<'_>) -> Result<(), Fault> {
 }
 
 /// What a refusal is to the command; what is wrong with the heading or the rows is told before it, a line each.
-fn fault_of(
-    rt: &HostRuntime,
-    matches: &ArgMatches<'_>,
-    level: LevelId,
-    fault: &LoadFault,
-) -> Fault {
-    let path = value_of(matches, "pack");
-    let label = value_of(matches, "label");
-    let appends = matches.get_flag("append");
+fn fault_of(rt: &HostRuntime, words: &LoadWords<'_>, fault: &LoadFault) -> Fault {
     if tell_all(rt, fault).is_err() {
         return Fault::NoMemory;
     }
     if let LoadFault::Label(LabelFault::NoSpace) = fault {
-        return no_room(rt, path, level, label).unwrap_or_else(|fault| fault);
+        return no_room(rt, words);
     }
-    let sentence = match load_sentence(rt.alloc(), path, number_of(level), label, appends, fault) {
-        Ok(sentence) => sentence,
-        Err(_) => return Fault::NoMemory,
-    };
-    match fault {
-        LoadFault::NoMemory => Fault::NoMemory,
-        LoadFault::File => Fault::File(sentence),
-        _ => Fault::Refused(sentence),
+    match (fault, sentence_of(rt.alloc(), words, fault)) {
+        (_, Err(_)) => Fault::NoMemory,
+        (LoadFault::File, Ok(sentence)) => Fault::File(sentence),
+        (_, Ok(sentence)) => Fault::Refused(sentence),
     }
 }
 
-/// Why a level has no room for a file.
-fn no_room(rt: &HostRuntime, path: &str, level: LevelId, label: &str) -> Result<Fault, Fault> {
-    let area = number_of(level);
-    let pack = pack_of(rt, path)?;
-    let Ok(room) = free_room(rt.alloc(), &pack, area) else {
-        return Err(Fault::NoMemory);
-    };
-    let reason = no_room_sentence(rt.alloc(), path, area, label, None, room)?;
-    let reason = reason.as_str();
-    Ok(Fault::Refused(format!(in rt.alloc();
-        "{reason}; delete a file there, or ask for less by --records or --tracks"
-    )?))
+fn sentence_of(
+    alloc: Global,
+    words: &LoadWords<'_>,
+    fault: &LoadFault,
+) -> Result<String, AllocError> {
+    load_sentence(
+        alloc,
+        words.path,
+        number_of(words.level),
+        words.label,
+        words.appends,
+        fault,
+    )
+}
+
+/// That a level has no room for a file.
+fn no_room(rt: &HostRuntime, words: &LoadWords<'_>) -> Fault {
+    let area = number_of(words.level);
+    match room_in(rt, words.path, area) {
+        Ok(Some(room)) => refused(no_room_sentence(
+            rt.alloc(),
+            words.path,
+            area,
+            words.label,
+            None,
+            room,
+            "ask for less by --records or --tracks",
+        )),
+        Ok(None) => Fault::NoMemory,
+        Err(fault) => fault,
+    }
 }
 
 /// Tells what is wrong with the heading or the rows, a line each.

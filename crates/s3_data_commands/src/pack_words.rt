@@ -185,7 +185,7 @@ pub fn tell_done(rt: &HostRuntime, sentence: &str) {
     let _ = writeln!(rt.stderr(), "bureau: {sentence}");
 }
 
-/// Why nothing is done to the files of a pack, as one sentence.
+/// Why nothing is done to the files of a pack, as one sentence. The file is named by its label, or in words by its slot.
 pub fn care_sentence(
     alloc: Global,
     path: &str,
@@ -202,10 +202,10 @@ pub fn care_sentence(
             alloc, path, area, label, fault,
         ),
         CareFault::NoFile => format!(in alloc;
-            "the slot in area {area} of {path} has no file; `bureau list --pack {path} --table` shows the slots that have one"
+            "{label} in area {area} of {path} has no file; `bureau list --pack {path} --table` shows the slots that have one"
         ),
         CareFault::NoSlot => format!(in alloc;
-            "area {area} of {path} has no such slot; its slots are 0 to 31"
+            "area {area} of {path} has no {label}; its slots are 0 to 31"
         ),
         CareFault::Exists => format!(in alloc;
             "area {area} of {path} has a file {label} already; delete it first, or give another label by --as"
@@ -299,7 +299,8 @@ pub fn label_sentence(
     }
 }
 
-/// Why an area has no room for a file that takes so many tracks, where that is known: with the tracks that are free there.
+/// Why an area has no room for a file that takes so many tracks, where that is known: with the tracks that are free there, and what
+/// helps beside the deletion of another file.
 pub fn no_room_sentence(
     alloc: Global,
     path: &str,
@@ -307,6 +308,7 @@ pub fn no_room_sentence(
     label: &str,
     wanted: Option<u16>,
     room: FreeRoom,
+    otherwise: &str,
 ) -> Result<String, AllocError> {
     let taken = match wanted {
         Some(1) => String::from_str(alloc, ", which takes 1 track")?,
@@ -317,11 +319,11 @@ pub fn no_room_sentence(
     let free = room.tracks;
     let in_a_row = room.in_a_row;
     format!(in alloc;
-        "area {area} of {path} has no room for {label}{taken} (tracks that are free there: {free}, in a row at most {in_a_row})"
+        "area {area} of {path} has no room for {label}{taken} (tracks that are free there: {free}, in a row at most {in_a_row}); delete a file there, or {otherwise}"
     )
 }
 
-/// Why a copy of a file has no room in an area of a pack.
+/// That a copy of a file has no room in an area of a pack.
 pub fn no_room_for_copy(
     rt: &HostRuntime,
     from: &str,
@@ -330,17 +332,37 @@ pub fn no_room_for_copy(
     into: &str,
     area: u16,
     label: &str,
-) -> Result<String, Fault> {
-    let source = pack_of(rt, from)?;
-    let target = pack_of(rt, into)?;
-    let wanted = match file_size(rt.alloc(), &source, from_area, name) {
-        Ok(Some(size)) => Some(size.tracks),
-        _ => None,
+) -> Fault {
+    let wanted = match tracks_of(rt, from, from_area, name) {
+        Ok(tracks) => tracks,
+        Err(fault) => return fault,
     };
-    let Ok(room) = free_room(rt.alloc(), &target, area) else {
-        return Ok(label_sentence(rt.alloc(), into, area, label, LabelFault::NoSpace)?);
-    };
-    let reason = no_room_sentence(rt.alloc(), into, area, label, wanted, room)?;
-    let reason = reason.as_str();
-    Ok(format!(in rt.alloc(); "{reason}; delete a file there, or make a larger pack")?)
+    match room_in(rt, into, area) {
+        Ok(Some(room)) => refused(no_room_sentence(
+            rt.alloc(),
+            into,
+            area,
+            label,
+            wanted,
+            room,
+            "make a larger pack",
+        )),
+        Ok(None) => refused(label_sentence(rt.alloc(), into, area, label, LabelFault::NoSpace)),
+        Err(fault) => fault,
+    }
+}
+
+/// How many tracks a file of the pack at a path takes, if it has the file.
+fn tracks_of(rt: &HostRuntime, path: &str, area: u16, name: Name) -> Result<Option<u16>, Fault> {
+    let pack = pack_of(rt, path)?;
+    match file_size(rt.alloc(), &pack, area, name) {
+        Ok(Some(size)) => Ok(Some(size.tracks)),
+        _ => Ok(None),
+    }
+}
+
+/// How much room an area of the pack at a path has, if that can be told.
+pub fn room_in(rt: &HostRuntime, path: &str, area: u16) -> Result<Option<FreeRoom>, Fault> {
+    let pack = pack_of(rt, path)?;
+    Ok(free_room(rt.alloc(), &pack, area).ok())
 }

@@ -1,46 +1,44 @@
 //! `bureau sort`: the records of a file sorted.
-ghost use Rattle.std.specs.Prelude.{◌≤◌, ◌<◌};
+ghost use Rattle.std.specs.Prelude.{◌≤◌, ◌<◌, IfOk};
 
 use crate::fault::Fault;
 use crate::pack_words::{
     care_sentence, label_of, label_sentence, level_of, mount_sentence, no_room_for_copy, number_of,
     pack_to_change, refused, saved, tell_done,
 };
-use crate::words::{label_word, level_word, overwrite_word, pack_word, save_word};
-use clap::{ArgMatches, Command};
+use crate::words::{LABEL, LEVEL, OVERWRITE, PACK, SAVE};
+use clap::ArgMatches;
 use s3_cards::Name;
 use s3_labels::LabelFault;
 use s3_pack_care::CareFault;
 use s3_paper_commands::status::DONE;
-use s3_paper_commands::words::{needed_word, value_of, value_word};
+use s3_paper_commands::words::{CommandWords, Takes, Word, value_of};
 use s3_sort::{Form, SortFault, SortField};
 use std::alloc::{AllocError, Global};
 use std::io::Write;
 
-/// The words of the command.
-pub fn sort_command<'a>(alloc: Global) -> Result<Command<'a>, AllocError> {
-    Command::new(alloc, "sort")
-        .about("Sorts the records of a file that has no index and isn't direct")
-        .args(vec![in alloc;
-            pack_word(alloc),
-            save_word(alloc),
-            level_word(alloc),
-            label_word(alloc),
-            needed_word(
-                alloc,
-                "by",
-                "FIELDS",
-                "The fields by which it is sorted, FROM-TO each with commas between: Z behind one is a zoned number, P a packed one, D the greatest first"
-            ),
-            value_word(
-                alloc,
-                "as",
-                "LABEL",
-                "The label of a new file for the sorted records; else the file itself is sorted"
-            ),
-            overwrite_word(alloc),
-        ]?)
-}
+/// `bureau sort` and its words.
+pub const SORT: CommandWords = CommandWords {
+    name: "sort",
+    about: "Sorts the records of a file that has no index and isn't direct",
+    words: &[
+        PACK,
+        SAVE,
+        LEVEL,
+        LABEL,
+        Word {
+            name: "by",
+            takes: Takes::Needed("FIELDS"),
+            help: "The fields by which it is sorted, FROM-TO each with commas between: Z behind one is a zoned number, P a packed one, D the greatest first",
+        },
+        Word {
+            name: "as",
+            takes: Takes::Value("LABEL"),
+            help: "The label of a new file for the sorted records; else the file itself is sorted",
+        },
+        OVERWRITE,
+    ],
+};
 
 /// Does what the words of `bureau sort` ask, and gives the exit status: 0 where it is done, else that of the refusal, whose
 /// sentence it wrote on standard error; then nothing was saved.
@@ -53,60 +51,115 @@ pub fn sort(rt: &HostRuntime, matches: &ArgMatches<'_>) -> u8
     }
 }
 
+/// What is sorted, and by what.
+#[derive(Drop)]
+struct Order<'a> {
+    path: &'a str,
+    save: &'a str,
+    level: u16,
+    label: &'a str,
+    name: Name,
+    /// The text that names the fields.
+    by: &'a str,
+    fields: Vec<SortField>,
+    /// A copy of the file is sorted, and not the file itself.
+    is_copied: bool,
+    /// The label of the file with the sorted records.
+    new_label: &'a str,
+    new_name: Name,
+}
+
+impl<'a> Order<'a> {
+    /// What the words ask for.
+    fn read(rt: &HostRuntime, matches: &ArgMatches<'a>) -> Result<Order<'a>, Fault>
+        ensures { IfOk result (λ order. order.level < 3) }
+    {
+        let level = number_of(level_of(rt, value_of(matches, "level"))?);
+        let label = value_of(matches, "label");
+        let name = label_of(rt, label)?;
+        let by = value_of(matches, "by");
+        let fields = fields_of(rt.alloc(), by)?;
+        let new_label = matches.get_str("as").unwrap_or(label);
+        let new_name = label_of(rt, new_label)?;
+        Ok(Order {
+            path: value_of(matches, "pack"),
+            save: value_of(matches, "save"),
+            level,
+            label,
+            name,
+            by,
+            fields,
+            is_copied: matches.get_str("as").is_some(),
+            new_label,
+            new_name,
+        })
+    }
+}
+
 fn sort_file(rt: &HostRuntime, matches: &ArgMatches<'_>) -> Result<(), Fault> {
-    let level = number_of(level_of(rt, value_of(matches, "level"))?);
-    let label = value_of(matches, "label");
-    let name = label_of(rt, label)?;
-    let by = value_of(matches, "by");
-    let fields = fields_of(rt.alloc(), by)?;
-    let path = value_of(matches, "pack");
-    let save = value_of(matches, "save");
-    let new_label = matches.get_str("as").unwrap_or(label);
-    let new_name = label_of(rt, new_label)?;
-    let (pack, locked) = pack_to_change(rt, matches, path, save)?;
-    let pack = if matches.get_str("as").is_some() {
-        with_copy(rt, path, pack, level, label, name, new_label, new_name)?
+    let order = Order::read(rt, matches)?;
+    let (pack, locked) = pack_to_change(rt, matches, order.path, order.save)?;
+    let pack = if order.is_copied {
+        with_copy(rt, &order, pack)?
     } else {
         pack
     };
-    match s3_sort::sort(rt.alloc(), pack, level, new_name, &fields) {
-        Ok(pack) => saved(rt, save, locked, &pack)?,
-        Err(fault) => {
-            return Err(refused(sort_sentence(rt.alloc(), path, level, label, &fields, fault)));
-        }
-    }
-    let sentence = format!(in rt.alloc();
-        "{new_label} of level {level} of {save} is sorted by {by}"
-    )?;
-    tell_done(rt, sentence.as_str());
-    Ok(())
+    let pack = sorted(rt.alloc(), &order, pack)?;
+    saved(rt, order.save, locked, &pack)?;
+    Ok(tell_sorted(rt, &order)?)
 }
 
 /// A pack with a copy of a file of a level beside it.
-fn with_copy(
-    rt: &HostRuntime,
-    path: &str,
-    pack: Vec<u8>,
-    level: u16,
-    label: &str,
-    name: Name,
-    new_label: &str,
-    new_name: Name,
-) -> Result<Vec<u8>, Fault>
-    requires { level < 3 }
+fn with_copy(rt: &HostRuntime, order: &Order<'_>, pack: Vec<u8>) -> Result<Vec<u8>, Fault>
+    requires { order.now.level < 3 }
 {
     let alloc = rt.alloc();
+    let Order {
+        path,
+        level,
+        label,
+        name,
+        new_label,
+        new_name,
+        ..
+    } = *order;
     let from = Vec::from_slice(alloc, &pack)?;
     match s3_pack_care::copy(alloc, from, level, name, pack, level, new_name) {
         Ok(pack) => Ok(pack),
         Err(CareFault::SourceLabel(fault)) => {
             Err(refused(label_sentence(alloc, path, level, label, fault)))
         }
-        Err(CareFault::Label(LabelFault::NoSpace)) => Err(Fault::Refused(no_room_for_copy(
+        Err(CareFault::Label(LabelFault::NoSpace)) => Err(no_room_for_copy(
             rt, path, level, name, path, level, new_label,
-        )?)),
+        )),
         Err(fault) => Err(refused(care_sentence(alloc, path, level, new_label, fault))),
     }
+}
+
+/// A pack with the records of a file sorted.
+fn sorted(alloc: Global, order: &Order<'_>, pack: Vec<u8>) -> Result<Vec<u8>, Fault>
+    requires { order.now.level < 3 }
+{
+    match s3_sort::sort(alloc, pack, order.level, order.new_name, &order.fields) {
+        Ok(pack) => Ok(pack),
+        Err(fault) => Err(refused(sort_sentence(alloc, order, fault))),
+    }
+}
+
+/// Tells what was sorted.
+fn tell_sorted(rt: &HostRuntime, order: &Order<'_>) -> Result<(), AllocError> {
+    let Order {
+        save,
+        level,
+        by,
+        new_label,
+        ..
+    } = *order;
+    let sentence = format!(in rt.alloc();
+        "{new_label} of level {level} of {save} is sorted by {by}"
+    )?;
+    tell_done(rt, sentence.as_str());
+    Ok(())
 }
 
 /// The fields that a text names; what is wrong with its parts is told of all of them at once.
@@ -198,14 +251,13 @@ fn place_of(text: &str) -> Option<u16> {
 }
 
 /// Why a file isn't sorted, and what helps.
-fn sort_sentence(
-    alloc: Global,
-    path: &str,
-    level: u16,
-    label: &str,
-    fields: &[SortField],
-    fault: SortFault,
-) -> Result<String, AllocError> {
+fn sort_sentence(alloc: Global, order: &Order<'_>, fault: SortFault) -> Result<String, AllocError> {
+    let Order {
+        path,
+        level,
+        label,
+        ..
+    } = *order;
     match fault {
         SortFault::Mount(fault) => mount_sentence(alloc, path, fault),
         SortFault::Label(fault) => label_sentence(alloc, path, level, label, fault),
@@ -213,7 +265,7 @@ fn sort_sentence(
         SortFault::NotInOrder => format!(in alloc;
             "{label} of level {level} of {path} is indexed or direct, and its records have their places; a program can copy them into a file in order, which can be sorted"
         ),
-        SortFault::Field(_, length) => misfit_sentence(alloc, label, fields, length),
+        SortFault::Field(_, length) => misfit_sentence(alloc, label, &order.fields, length),
     }
 }
 

@@ -5,37 +5,33 @@ use crate::fault::Fault;
 use crate::inputs::{delimiter_of, layout_of};
 use crate::pack_words::{area_number, label_of, pack_of, wrong_words};
 use crate::sentences::unload_sentence;
-use crate::words::{
-    area_word, delimiter_word, label_word, layout_file_word, layout_type_word, layout_word,
-    pack_word,
-};
-use clap::{ArgMatches, Command};
+use crate::words::{AREA, DELIMITER, LABEL, LAYOUT, LAYOUT_FILE, LAYOUT_TYPE, PACK};
+use clap::ArgMatches;
 use s3_cards::{LevelId, Name};
 use s3_paper_commands::status::DONE;
-use s3_paper_commands::words::{value_of, value_word};
+use s3_paper_commands::words::{CommandWords, Takes, Word, value_of};
 use s3_unload::{Area, LineForm, UnloadFault};
-use std::alloc::{AllocError, Global};
+use std::alloc::Global;
 
-/// The words of the command.
-pub fn unload_command<'a>(alloc: Global) -> Result<Command<'a>, AllocError> {
-    Command::new(alloc, "unload")
-        .about("Writes the records of a file as a table in CSV, as texts or in hexadecimal digits")
-        .args(vec![in alloc;
-            pack_word(alloc),
-            area_word(alloc),
-            label_word(alloc),
-            layout_word(alloc),
-            layout_file_word(alloc),
-            layout_type_word(alloc),
-            value_word(
-                alloc,
-                "as",
-                "FORM",
-                "csv, text or hex; csv with a layout, else text, if it isn't said"
-            ),
-            delimiter_word(alloc),
-        ]?)
-}
+/// `bureau unload` and its words.
+pub const UNLOAD: CommandWords = CommandWords {
+    name: "unload",
+    about: "Writes the records of a file as a table in CSV, as texts or in hexadecimal digits",
+    words: &[
+        PACK,
+        AREA,
+        LABEL,
+        LAYOUT,
+        LAYOUT_FILE,
+        LAYOUT_TYPE,
+        Word {
+            name: "as",
+            takes: Takes::Value("FORM"),
+            help: "csv, text or hex; csv with a layout, else text, if it isn't said",
+        },
+        DELIMITER,
+    ],
+};
 
 /// Does what the words of `bureau unload` ask, and gives the exit status: 0 where it is done, 4 where a value can't be shown and
 /// the rows before it are written; else that of the refusal, whose sentence it wrote on standard error.
@@ -57,10 +53,7 @@ fn unload_file(rt: &HostRuntime, matches: &ArgMatches<'_>) -> Result<(), Fault> 
     let form = form_of(rt, matches)?;
     test_words(rt, matches, form)?;
     let done = match (form, matches.get_str("layout")) {
-        (Some(form), _) => {
-            let pack = pack_of(rt, path)?;
-            s3_unload::unload_lines(rt.alloc(), &pack, area, name, form, &mut rt.stdout())
-        }
+        (Some(form), _) => unload_lines(rt, path, area, name, form)?,
         (None, Some(layout)) => unload_table(rt, matches, path, area, name, layout)?,
         (None, None) => {
             return Err(wrong_words(
@@ -73,6 +66,18 @@ fn unload_file(rt: &HostRuntime, matches: &ArgMatches<'_>) -> Result<(), Fault> 
         Ok(()) => Ok(()),
         Err(fault) => Err(fault_of(rt.alloc(), path, number, label, &fault)),
     }
+}
+
+/// Writes the records of a file as lines.
+fn unload_lines(
+    rt: &HostRuntime,
+    path: &str,
+    area: Area,
+    name: Name,
+    form: LineForm,
+) -> Result<Result<(), UnloadFault>, Fault> {
+    let pack = pack_of(rt, path)?;
+    Ok(s3_unload::unload_lines(rt.alloc(), &pack, area, name, form, &mut rt.stdout()))
 }
 
 /// Writes the table of a file.
@@ -109,11 +114,15 @@ fn area_of(number: u16) -> Area {
 
 /// The form of lines that the words ask for; none for a table.
 fn form_of(rt: &HostRuntime, matches: &ArgMatches<'_>) -> Result<Option<LineForm>, Fault> {
-    match (matches.get_str("as"), matches.get_str("layout")) {
-        (Some("text"), _) | (None, None) => Ok(Some(LineForm::Text)),
-        (Some("hex"), _) => Ok(Some(LineForm::Hexadecimal)),
-        (Some("csv"), _) | (None, Some(_)) => Ok(None),
-        (Some(_), _) => Err(wrong_words(rt.alloc(), "a file is unloaded as csv, text or hex")),
+    let default = match matches.get_str("layout") {
+        Some(_) => "csv",
+        None => "text",
+    };
+    match matches.get_str("as").unwrap_or(default) {
+        "text" => Ok(Some(LineForm::Text)),
+        "hex" => Ok(Some(LineForm::Hexadecimal)),
+        "csv" => Ok(None),
+        _ => Err(wrong_words(rt.alloc(), "a file is unloaded as csv, text or hex")),
     }
 }
 
@@ -141,14 +150,12 @@ fn test_words(
 
 /// What a refusal is to the command.
 fn fault_of(alloc: Global, path: &str, area: u16, label: &str, fault: &UnloadFault) -> Fault {
-    let sentence = match unload_sentence(alloc, path, area, label, fault) {
-        Ok(sentence) => sentence,
-        Err(_) => return Fault::NoMemory,
-    };
-    match fault {
-        UnloadFault::NoMemory => Fault::NoMemory,
-        UnloadFault::File => Fault::File(sentence),
-        UnloadFault::Hidden(_, _, _) | UnloadFault::NoCharacter(_, _) => Fault::Waits(sentence),
-        _ => Fault::Refused(sentence),
+    match (fault, unload_sentence(alloc, path, area, label, fault)) {
+        (_, Err(_)) => Fault::NoMemory,
+        (UnloadFault::File, Ok(sentence)) => Fault::File(sentence),
+        (UnloadFault::Hidden(..) | UnloadFault::NoCharacter(..), Ok(sentence)) => {
+            Fault::Waits(sentence)
+        }
+        (_, Ok(sentence)) => Fault::Refused(sentence),
     }
 }

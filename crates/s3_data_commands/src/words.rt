@@ -1,83 +1,73 @@
 //! Words that several commands over a pack take.
 
-use clap::Arg;
-use s3_paper_commands::words::{file_word, flag, needed_word, value_word};
-use std::alloc::Global;
+use s3_paper_commands::words::{Takes, Word};
 
-/// The word for the pack that is read.
-pub fn pack_word<'a>(alloc: Global) -> Arg<'a> {
-    needed_word(alloc, "pack", "FILE", "The pack")
-}
+/// The pack that is read.
+pub const PACK: Word = Word {
+    name: "pack",
+    takes: Takes::Needed("FILE"),
+    help: "The pack",
+};
 
-/// The word for where the pack is written.
-pub fn save_word<'a>(alloc: Global) -> Arg<'a> {
-    needed_word(alloc, "save", "FILE", "Where the pack is written")
-}
+/// Where the pack is written.
+pub const SAVE: Word = Word {
+    name: "save",
+    takes: Takes::Needed("FILE"),
+    help: "Where the pack is written",
+};
 
-/// The word by which another file that is there is written over.
-pub fn overwrite_word<'a>(alloc: Global) -> Arg<'a> {
-    flag(
-        alloc,
-        "overwrite",
-        "Writes over a file that is there and isn't the pack's",
-    )
-}
+/// Another file that is there is written over.
+pub const OVERWRITE: Word = Word {
+    name: "overwrite",
+    takes: Takes::Nothing,
+    help: "Writes over a file that is there and isn't the pack's",
+};
 
-/// The word for the area of a file.
-pub fn area_word<'a>(alloc: Global) -> Arg<'a> {
-    needed_word(
-        alloc,
-        "area",
-        "AREA",
-        "0 for the masters, 1 or 2 for a level",
-    )
-}
+/// The area of a file.
+pub const AREA: Word = Word {
+    name: "area",
+    takes: Takes::Needed("AREA"),
+    help: "0 for the masters, 1 or 2 for a level",
+};
 
-/// The word for the level of a file.
-pub fn level_word<'a>(alloc: Global) -> Arg<'a> {
-    needed_word(alloc, "level", "LEVEL", "The level of the file, 1 or 2")
-}
+/// The level of a file.
+pub const LEVEL: Word = Word {
+    name: "level",
+    takes: Takes::Needed("LEVEL"),
+    help: "The level of the file, 1 or 2",
+};
 
-/// The word for the label of a file.
-pub fn label_word<'a>(alloc: Global) -> Arg<'a> {
-    needed_word(alloc, "label", "LABEL", "The label of the file")
-}
+/// The label of a file.
+pub const LABEL: Word = Word {
+    name: "label",
+    takes: Takes::Needed("LABEL"),
+    help: "The label of the file",
+};
 
-/// The word for the source that has the fields of the records.
-pub fn layout_word<'a>(alloc: Global) -> Arg<'a> {
-    file_word(
-        alloc,
-        "layout",
-        "A deck with the RPG source whose I sheet has the fields; one in .rpg or .punch is plain text",
-    )
-}
+/// The source that has the fields of the records.
+pub const LAYOUT: Word = Word {
+    name: "layout",
+    takes: Takes::Value("FILE"),
+    help: "A deck with the RPG source whose I sheet has the fields; one in .rpg or .punch is plain text",
+};
 
-/// The word for the file of a layout that is meant.
-pub fn layout_file_word<'a>(alloc: Global) -> Arg<'a> {
-    value_word(
-        alloc,
-        "file",
-        "NAME",
-        "The file of the source, where it has several on DISK",
-    )
-}
+/// The file of a layout that is meant.
+pub const LAYOUT_FILE: Word = Word {
+    name: "file",
+    takes: Takes::Value("NAME"),
+    help: "The file of the source, where it has several on DISK",
+};
 
-/// The word for the type of records that is meant.
-pub fn layout_type_word<'a>(alloc: Global) -> Arg<'a> {
-    value_word(
-        alloc,
-        "type",
-        "INDICATOR",
-        "The type of records, where the file has several",
-    )
-}
+/// The type of records that is meant.
+pub const LAYOUT_TYPE: Word = Word {
+    name: "type",
+    takes: Takes::Value("INDICATOR"),
+    help: "The type of records, where the file has several",
+};
 
-/// The word for what stands between the cells of a table.
-pub fn delimiter_word<'a>(alloc: Global) -> Arg<'a> {
-    value_word(
-        alloc,
-        "delimiter",
-        "C",
-        "The character between the cells, a comma if it isn't said",
-    )
-}
+/// What stands between the cells of a table.
+pub const DELIMITER: Word = Word {
+    name: "delimiter",
+    takes: Takes::Value("C"),
+    help: "The character between the cells, a comma if it isn't said",
+};

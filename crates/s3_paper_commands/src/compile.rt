@@ -5,35 +5,31 @@ use crate::deck::{ReadFiles, read_deck};
 use crate::fault::CommandFault;
 use crate::status::{DONE, FILE_FAILED, PERSON_NEEDED, REFUSED};
 use crate::unread::words_of_unread;
-use crate::words::flag;
-use clap::{Arg, ArgAction, ArgMatches, Command};
+use crate::words::{CommandWords, Takes, Word};
+use clap::ArgMatches;
 use s3_cards::{Deck, DeckFault};
 use s3_deck_files::DeckText;
 use s3_source_listing::{Outcome, write_listing};
 use std::alloc::{AllocError, Global};
 use std::io::Write;
 
-/// The words of `bureau compile`. It is refused only where memory runs out.
-pub fn compile_command<'a>(alloc: Global) -> Result<Command<'a>, AllocError> {
-    Command::new(alloc, "compile")
-        .about(
-            "Lists the sources of a deck with their diagnostics, and compiles nothing into a library",
-        )
-        .args(vec![in alloc;
-            Arg::new(alloc, "file")
-                .value_name("FILE")
-                .action(ArgAction::Append)
-                .required(true)
-                .help(
-                    "The deck, where a source stands behind // LOAD $RPG,F1 and // RUN; several files are one deck; one whose name ends in .rpg or .punch is plain text",
-                ),
-            flag(
-                alloc,
-                "cross-reference",
-                "Lists each name and each indicator with all cards that name it"
-            ),
-        ]?)
-}
+/// `bureau compile` and its words.
+pub const COMPILE: CommandWords = CommandWords {
+    name: "compile",
+    about: "Lists the sources of a deck with their diagnostics, and compiles nothing into a library",
+    words: &[
+        Word {
+            name: "file",
+            takes: Takes::FollowingFiles,
+            help: "The deck, where a source stands behind // LOAD $RPG,F1 and // RUN; several files are one deck; one whose name ends in .rpg or .punch is plain text",
+        },
+        Word {
+            name: "cross-reference",
+            takes: Takes::Nothing,
+            help: "Lists each name and each indicator with all cards that name it",
+        },
+    ],
+};
 
 /// Does what the words of `bureau compile` ask, and gives the exit status: 0 where every source compiles, 4 where one has diagnostics
 /// or a job has faulty statements, 3 where a file can't be read or the listing can't be written, 1 where the files are no deck or memory

@@ -1,6 +1,5 @@
 //! The commands around paper, over real files: `bureau punch`, which makes decks of plain text, and `bureau compile`, which lists the
-//! sources of a deck. `status` has the exit statuses of all commands of the program, and
-//! `words` the kinds of their words.
+//! sources of a deck. `status` has the exit statuses of all commands of the program, and `words` the kinds of their words.
 //!
 //! What is proved: each call is safe and returns, and gives a status in its range. What a text becomes is proved in `s3_punch`. The
 //! words, the lines that are told and the statuses are tested, by rows. What files and standard output give isn't claimed: they are
@@ -17,6 +16,6 @@ pub mod status;
 mod unread;
 pub mod words;
 
-pub use compile::{compile_command, compile_files};
+pub use compile::{COMPILE, compile_files};
 pub use deck::is_plain_text;
-pub use punch::{punch_command, punch_files, tell_punched};
+pub use punch::{PUNCH, punch_files, tell_punched};

@@ -4,8 +4,8 @@ ghost use Rattle.std.specs.Prelude.{◌≤◌};
 use crate::characters::is_shown;
 use crate::fault::CommandFault;
 use crate::status::{DONE, REFUSED};
-use crate::words::flag;
-use clap::{Arg, ArgAction, ArgMatches, Command};
+use crate::words::{CommandWords, Takes, Word};
+use clap::ArgMatches;
 use s3_host_files::read_within;
 use s3_punch::{Begun, LineChange, PunchFault, PunchReason, Punched, punch};
 use std::alloc::{AllocError, Global};
@@ -14,27 +14,28 @@ use std::io::Write;
 /// The most bytes of a file that is read.
 const TEXT_LIMIT: usize = 4_194_304;
 
-/// The words of `bureau punch`. It is refused only where memory runs out.
-pub fn punch_command<'a>(alloc: Global) -> Result<Command<'a>, AllocError> {
-    Command::new(alloc, "punch")
-        .about(
-            "Makes a deck of plain text: capitals, tabs to their columns, no comments; on standard output",
-        )
-        .args(vec![in alloc;
-            Arg::new(alloc, "file")
-                .value_name("FILE")
-                .num_args(1..)
-                .action(ArgAction::Append)
-                .required(true)
-                .help("The text; several files are one deck"),
-            flag(alloc, "remarks", "Blanks columns 60 to 74 of C cards"),
-            flag(
-                alloc,
-                "report",
-                "Lists each line that was changed or left out"
-            ),
-        ]?)
-}
+/// `bureau punch` and its words.
+pub const PUNCH: CommandWords = CommandWords {
+    name: "punch",
+    about: "Makes a deck of plain text: capitals, tabs to their columns, no comments; on standard output",
+    words: &[
+        Word {
+            name: "file",
+            takes: Takes::FollowingFiles,
+            help: "The text; several files are one deck",
+        },
+        Word {
+            name: "remarks",
+            takes: Takes::Nothing,
+            help: "Blanks columns 60 to 74 of C cards",
+        },
+        Word {
+            name: "report",
+            takes: Takes::Nothing,
+            help: "Lists each line that was changed or left out",
+        },
+    ],
+};
 
 /// How many lines were changed, and how many left out.
 #[derive(Clone, Copy)]
