@@ -1,6 +1,6 @@
 -- Room for the digits of an amount, and blanks in front of them.
-use Rattle.std.proofs.Common.{◌≡◌, ◌≢◌, ℕ, zero, suc, ◌+◌, ◌-◌, ◌*◌, ◌/◌, ◌^◌, ◌<◌, ◌≤◌, refl, arith, sym, ◌∙◌, ap, Bool, true, false, not, ◌&&◌, nat_lt, if◌then◌else◌, List, length, slice_set, get_or, get_or-set_other, get_or-set_same, Option, Some, None, subst}
-use Rattle.std.specs.Prelude.{is_some, nat_le, unwrap_or, ◌==◌, ◌%◌}
+use Rattle.std.proofs.Common.{◌≡◌, ◌≢◌, ℕ, zero, suc, ◌+◌, ◌-◌, ◌*◌, ◌/◌, ◌^◌, ◌<◌, ◌≤◌, refl, arith, sym, ◌∙◌, ap, Bool, true, false, not, ◌&&◌, nat_lt, if◌then◌else◌, List, length, slice_set, get_or, get_or-set_other, get_or-set_same, Some, None, subst}
+use Rattle.std.specs.Prelude.{is_some, unwrap_or, ◌==◌, ◌%◌}
 use Rattle.std.proofs.lemmas.Bool.{true≢false}
 use Rattle.std.proofs.Math.Nat.{div-eq_of_lt}
 use Rattle.std.proofs.lemmas.Bool.Decides.{nat_tests}
@@ -8,7 +8,7 @@ use Rattle.std.proofs.lemmas.List.{length-set}
 use Rattle.std.proofs.lemmas.Nat.{le-div}
 use Rattle.s3_decimal.proofs.Powers.{ten_le, ten_pos}
 use Rattle.s3_edit.specs.declared.code.Amount.{Amount}
-use Rattle.s3_edit.specs.declared.code.EditCode.TheVariants.{Edited, Zoned, Date, Suppressed}
+use Rattle.s3_edit.specs.declared.code.EditCode.TheVariants.{Edited}
 use Rattle.s3_edit.specs.declared.code.Sign.{Sign}
 use Rattle.s3_edit.specs.declared.code.Sign.TheVariants.{Never, Credit, Minus}
 use Rattle.s3_edit.specs.Inner.Passes.{whole_at}

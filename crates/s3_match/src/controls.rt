@@ -1,6 +1,8 @@
 //! Control breaks: the control field that is held for each level.
 
 ghost use Rattle.std.specs.Prelude.{◌≡◌, ◌||◌, ℕ, IfOk, None, not, true};
+ghost use Rattle.std.specs.Option.{option_or};
+ghost use Rattle.s3_meaning.specs.Selection.{control_value};
 ghost use Rattle.s3_meaning.specs.Source.{has_control_fields, has_levels};
 ghost use Rattle.s3_program.specs.Inner.Stands.{source_named};
 ghost use Rattle.s3_match.specs.Inner.Types.{is_type_start, kind_at};
@@ -61,7 +63,8 @@ impl Controls {
     /// are held, for the levels that the type names.
     #[inline(always)]
     pub fn break_and_hold(&mut self, start: TypeStart, levels: &Levels, bytes: &[u8]) -> u8
-        ensures { (program : Program) → AreLevels key.Control program levels.now → is_type_start program start ≡ true → spec.Breaks program start bytes.now self.old.held self.new.held result }
+        ensures level { (program : Program) → AreLevels key.Control program levels.now → is_type_start program start ≡ true → result ≡ spec.break_of (spec.held_in self.old.held) (kind_at program start) bytes.now }
+        ensures held { (program : Program) → AreLevels key.Control program levels.now → is_type_start program start ≡ true → (level : ℕ) → spec.held_in self.new.held level ≡ option_or (control_value (kind_at program start) bytes.now level) (spec.held_in self.old.held level) }
     {
         match levels.of_type(start) {
             Some(fields) => self.hold(fields, bytes),

@@ -1,10 +1,11 @@
 //! The primary and secondary files, each with the record at its head.
 
-ghost use Rattle.std.specs.Prelude.{◌≡◌, ◌≤◌, ◌<◌, length, not, true, false, IfOk};
+ghost use Rattle.std.specs.Prelude.{◌≡◌, ◌≤◌, ◌<◌, length, not, true, false, IfOk, if◌then◌else◌};
 ghost use Rattle.s3_meaning.specs.Cycle.{counted_read};
+ghost use Rattle.s3_meaning.specs.Selection.{in_sequence, match_key};
 ghost use Rattle.s3_program.specs.declared.mark.Key.TheVariants as key;
 ghost use Rattle.s3_program.specs.declared.program.Program.{Program};
-ghost use Rattle.s3_match.specs.Inner.Types.{is_type_start};
+ghost use Rattle.s3_match.specs.Inner.Types.{is_type_start, kind_at};
 ghost use Rattle.s3_match.specs.Inner.Levels.{AreLevels};
 ghost use Rattle.s3_match.specs.Inner.Heads as spec;
 
@@ -120,7 +121,9 @@ impl InputFile {
     pub fn put(&mut self, start: TypeStart, levels: &Levels, bytes: &[u8]) -> bool
         requires unread { spec.is_unread self.old ≡ true }
         requires fits { length bytes.now ≤ RECORD_BYTES }
-        ensures put { (program : Program) → AreLevels key.Match program levels.now → is_type_start program start ≡ true → spec.IsPut program start bytes.now self.old self.new result }
+        ensures in_sequence { (program : Program) → AreLevels key.Match program levels.now → is_type_start program start ≡ true → result ≡ in_sequence (match_key (kind_at program start) bytes.now) (spec.input_of program self.old).last_key }
+        ensures input { (program : Program) → AreLevels key.Match program levels.now → is_type_start program start ≡ true → spec.input_of program self.new ≡ (if result then spec.put program start bytes.now (spec.input_of program self.old) else spec.input_of program self.old) }
+        ensures sound { (program : Program) → AreLevels key.Match program levels.now → is_type_start program start ≡ true → spec.IsInput program self.new }
         ensures slot { self.new.file ≡ self.old.file }
         ensures unread { spec.is_unread self.new ≡ not result }
     {

@@ -11,13 +11,13 @@ ghost use Rattle.s3_meaning.specs.Cycle.{counted_read, first_reading};
 ghost use Rattle.s3_meaning.specs.Environment.{Environment, on_at_first};
 ghost use Rattle.s3_meaning.specs.Source.{is_designated, is_input};
 ghost use Rattle.s3_meaning.specs.Selection as meaning;
-ghost use Rattle.s3_meaning.specs.Selection.{Selected};
+ghost use Rattle.s3_meaning.specs.Selection.{Selected, in_sequence, match_key};
 ghost use Rattle.s3_program.specs.declared.program.Program.{Program};
 ghost use Rattle.s3_program.specs.Inner.Stands.{source_named};
 ghost use Rattle.s3_match.specs.Inner.BeginningEnvironment.{BeginsWith, holds_at_first};
 ghost use Rattle.s3_match.specs.Inner.Choice.{IsHeadAt};
 ghost use Rattle.s3_match.specs.declared.heads.InputFile.{InputFile};
-ghost use Rattle.s3_match.specs.Inner.Heads.{ended, file_at};
+ghost use Rattle.s3_match.specs.Inner.Heads.{ended, file_at, put as put_head};
 ghost use Rattle.s3_match.specs.Inner.Beginning.{IsFirst, AreFirst};
 ghost use Rattle.s3_match.specs.Inner.Keys.{key_in};
 ghost use Rattle.s3_match.specs.Inner.Reading as spec;
@@ -337,7 +337,9 @@ impl Reading {
     pub fn put(&mut self, place: usize, start: TypeStart, bytes: &[u8]) -> bool
         requires unread { IsUnreadAt self.old.files.items place }
         requires fits { length bytes.now ≤ RECORD_BYTES }
-        ensures put { (program : Program) → IsReading program self.old → is_type_start program start ≡ true → spec.IsPut program place start bytes.now self.old self.new result }
+        ensures in_sequence { (program : Program) → IsReading program self.old → is_type_start program start ≡ true → result ≡ in_sequence (match_key (kind_at program start) bytes.now) (input_at (reading_in program self.old).files place).last_key }
+        ensures sound { (program : Program) → IsReading program self.old → is_type_start program start ≡ true → IsReading program self.new }
+        ensures reading { (program : Program) → IsReading program self.old → is_type_start program start ≡ true → reading_in program self.new ≡ (if result then changed_at place (put_head program start bytes.now) (reading_in program self.old) else reading_in program self.old) }
         ensures unread { spec.is_unread_at self.new.files.items place ≡ not result }
     {
         self.files[place].put(start, &self.match_levels, bytes)

@@ -1,5 +1,5 @@
 -- The heads of the primary and secondary files as they are kept, and the lists not yet read that they stand for.
-use Rattle.std.specs.Prelude.{ℕ, ◌≡◌, Bool, true, false, List, None, slice_get, unwrap_or, if◌then◌else◌}
+use Rattle.std.specs.Prelude.{ℕ, ◌≡◌, Bool, true, false, List, None, slice_get, unwrap_or}
 use Rattle.std.specs.Option.{option_or}
 use Rattle.s3_cards.specs.Names.{no_name}
 use Rattle.s3_lines.specs.declared.sheet.Device.TheVariants.{Disk}
@@ -91,12 +91,6 @@ put program start bytes input =
       standing = meaning.Stands (record { number = input.reads; bytes = bytes; kind = kind_at program start });
       last_key = option_or (match_key (kind_at program start) bytes) input.last_key;
     }
-
--- it is put there if it is in sequence; else what is meant stays
-pub record IsPut (program : Program) (start : TypeStart) (bytes : List ℕ) (old new : InputFile) (is_put : Bool) : Type 0 where
-  pub in_sequence : is_put ≡ meaning.in_sequence (match_key (kind_at program start) bytes) (input_of program old).last_key
-  pub input : input_of program new ≡ (if is_put then put program start bytes (input_of program old) else input_of program old)
-  pub sound : IsInput program new
 
 -- the bytes are kept, and nothing else changes
 pub record Keeps (old new : InputFile) (bytes : List ℕ) : Type 0 where

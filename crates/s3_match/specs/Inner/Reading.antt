@@ -1,5 +1,5 @@
 -- What the cycle holds of its reading, and the files that are still to be read.
-use Rattle.std.specs.Prelude.{ℕ, ◌≡◌, ◌+◌, ◌<◌, ◌≤◌, Bool, true, false, List, [], ◌++◌, map, filter, filter_map, take, drop, length, get_or, Option, slice_get, slice_set, slice_index_or, unwrap_or, option_map, None, if◌then◌else◌}
+use Rattle.std.specs.Prelude.{ℕ, ◌≡◌, ◌+◌, ◌<◌, ◌≤◌, Bool, true, false, List, [], ◌++◌, map, filter, filter_map, take, drop, length, get_or, Option, slice_get, slice_set, slice_index_or, unwrap_or, option_map, None}
 use Rattle.std.specs.List.{All, range_with_len}
 use Rattle.s3_lines.specs.Indicators.{indicator_number}
 use Rattle.s3_lines.specs.declared.indicator.Indicator.{Indicator}
@@ -17,7 +17,7 @@ use Rattle.s3_match.specs.declared.heads.InputFile.{InputFile}
 use Rattle.s3_match.specs.declared.reading.Reading.{Reading}
 use Rattle.s3_match.specs.Inner.Types.{IsOnlyType, kind_at}
 use Rattle.s3_match.specs.Inner.Fields.{indicator_on}
-use Rattle.s3_match.specs.Inner.Heads.{no_file, file_at, is_unread, put, IsInput}
+use Rattle.s3_match.specs.Inner.Heads.{no_file, file_at, is_unread, IsInput}
 use Rattle.s3_match.specs.Inner.Levels.{AreLevels}
 use Rattle.s3_match.specs.Inner.Selecting.{reading_of}
 
@@ -96,12 +96,6 @@ head_with program input start = record {
   file = file_at program input.file;
   head = record { number = input.reads; bytes = input.bytes; kind = kind_at program start };
 }
-
--- a record is put at the head of the file at a place, if it is in sequence
-pub record IsPut (program : Program) (place : ℕ) (start : TypeStart) (bytes : List ℕ) (old new : Reading) (is_put : Bool) : Type 0 where
-  pub in_sequence : is_put ≡ meaning.in_sequence (meaning.match_key (kind_at program start) bytes) (input_at (reading_in program old).files place).last_key
-  pub sound : IsReading program new
-  pub reading : reading_in program new ≡ (if is_put then changed_at place (put program start bytes) (reading_in program old) else reading_in program old)
 
 -- ---- reading on
 -- none of the files from a place on, and before another, is to be read

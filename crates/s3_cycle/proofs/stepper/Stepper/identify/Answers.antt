@@ -14,8 +14,7 @@ returns c =
     let taken = changed_stays (λ program progress. IsTaken program progress c.args.selection) c.args.self.now c.identify_type.new.self _ c.identify_type.ensures c.requires.taken in
     let reading = changed_stays (λ program progress. IsReading program progress.reading) c.args.self.now c.identify_type.new.self _ c.identify_type.ensures c.requires.reading in
     let bytes = bytes_there c.identify_type.new.self.progress.reading.files.items c.args.selection.place c.index.result.now taken.record_there.within c.index.ensures in
-    let broken = c.break_and_hold-level.ensures c.identify_type.new.self.program reading.control_levels taken.record_there.starts in
     identifies c.args.self.now c.identify_type.new.self c.raise_levels.new.self c.break_and_hold-level.new.self c.args.selection (kind_at c.args.self.now.program c.args.selection.start).indicator c.break_and_hold-level.result c.identify_type.ensures refl
-    (broken.breaks ∙ ap (break_of (held_in c.identify_type.new.self.state.controls.held) (kind_at c.identify_type.new.self.program c.args.selection.start)) (c.as_slice-bytes.ensures ∙ bytes))
+    (c.break_and_hold-level.ensures.level c.identify_type.new.self.program reading.control_levels taken.record_there.starts ∙ ap (break_of (held_in c.identify_type.new.self.state.controls.held) (kind_at c.identify_type.new.self.program c.args.selection.start)) (c.as_slice-bytes.ensures ∙ bytes))
     c.raise_levels.ensures
-    (λ n. broken.held n ∙ (λ i. option_or (control_value (kind_at c.identify_type.new.self.program c.args.selection.start) ((c.as_slice-bytes.ensures ∙ bytes) i) n) (held_in c.identify_type.new.self.state.controls.held n)))
+    (λ n. c.break_and_hold-level.ensures.held c.identify_type.new.self.program reading.control_levels taken.record_there.starts n ∙ (λ i. option_or (control_value (kind_at c.identify_type.new.self.program c.args.selection.start) ((c.as_slice-bytes.ensures ∙ bytes) i) n) (held_in c.identify_type.new.self.state.controls.held n)))
