@@ -51,10 +51,12 @@ impl<'v, 'a> Members<'v, 'a> {
         }
     }
 
+    /// The text of this name.
     pub(crate) fn text(self, name: &str) -> Result<&'a str, LogFault> {
         self.value(name)?.as_str().ok_or(self.fault)
     }
 
+    /// The text of this name, if there is one.
     pub(crate) fn optional_text(self, name: &str) -> Result<Option<&'a str>, LogFault> {
         match self.optional(name)? {
             Some(Value::String(text)) => Ok(Some(*text)),
@@ -63,20 +65,22 @@ impl<'v, 'a> Members<'v, 'a> {
         }
     }
 
+    /// The whole number of this name, not below zero.
     pub(crate) fn number(self, name: &str) -> Result<u64, LogFault> {
         self.value(name)?.as_u64().ok_or(self.fault)
     }
 
-    /// A number of 0 to 255.
+    /// The number of 0 to 255 of this name.
     pub(crate) fn byte(self, name: &str) -> Result<u8, LogFault> {
         u8::try_from(self.number(name)?).ok().ok_or(self.fault)
     }
 
-    /// A number of 0 to 65535.
+    /// The number of 0 to 65535 of this name.
     pub(crate) fn short(self, name: &str) -> Result<u16, LogFault> {
         self.short_of(self.value(name)?)
     }
 
+    /// The number of 0 to 65535 of this name, if there is one.
     pub(crate) fn optional_short(self, name: &str) -> Result<Option<u16>, LogFault> {
         match self.optional(name)? {
             Some(value) => Ok(Some(self.short_of(value)?)),
@@ -106,10 +110,12 @@ impl<'v, 'a> Members<'v, 'a> {
         }
     }
 
+    /// The members of the object of this name.
     pub(crate) fn members(self, name: &str) -> Result<Members<'v, 'a>, LogFault> {
         Members::of(self.value(name)?, self.fault)
     }
 
+    /// The members of the object of this name, if there is one.
     pub(crate) fn optional_members(self, name: &str) -> Result<Option<Members<'v, 'a>>, LogFault> {
         match self.optional(name)? {
             Some(value) => Ok(Some(Members::of(value, self.fault)?)),
@@ -117,6 +123,7 @@ impl<'v, 'a> Members<'v, 'a> {
         }
     }
 
+    /// The items of the list of this name.
     pub(crate) fn list(self, name: &str) -> Result<&'v [Value<'a>], LogFault> {
         match self.value(name)? {
             Value::Array(items) => Ok(items.as_slice()),

@@ -5,6 +5,7 @@ use s3_labels::{AreaSlots, FileLabel, Organization, Slot, Standing, area_of};
 use s3_lines::indicator::Indicator;
 use s3_lines::sheet::{FileLine, Line, SheetLine};
 use s3_ocl::FileStatement;
+use s3_opening::is_new;
 use s3_operator::HaltCode;
 use s3_slots::standing_of;
 use std::alloc::{AllocError, Global};
@@ -103,7 +104,7 @@ impl<'a> Asked<'a> {
         if matches!(code, HaltCode::DuplicateLabel) {
             return has_label(files.get(..place).unwrap_or(&[]), statement.label);
         }
-        if is_made(&file.line) {
+        if is_new(&file.line) {
             self.halts_for_made(code, statement.label)
         } else {
             self.halts_for_opened(code, &file.line, statement.label)
@@ -159,11 +160,6 @@ impl<'a> Asked<'a> {
             self.areas.slots(self.level)
         }
     }
-}
-
-/// Whether the start of the job makes a file: it is a load.
-pub fn is_made(line: &FileLine) -> bool {
-    line.usage.is_output() && !line.has_additions
 }
 
 /// The length and the first position of a line's key, 0 and 0 where it has none.

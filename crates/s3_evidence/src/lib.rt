@@ -13,7 +13,7 @@ mod looking;
 mod reading;
 mod wanted;
 
-pub use at_fault::{Asked, Found, JobFile, is_made, key_of};
+pub use at_fault::{Asked, Found, JobFile, key_of};
 pub use begun::{Begun, Source};
 pub use evidence::{Evidence, IndexFlaw};
 pub use looking::look;

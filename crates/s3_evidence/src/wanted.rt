@@ -1,6 +1,6 @@
 //! What is to be read of the pack for a halt.
 
-use crate::at_fault::{Asked, Found, JobFile, is_made};
+use crate::at_fault::{Asked, Found, JobFile};
 use crate::begun::{Begun, Source};
 use s3_bureau::Bureau;
 use s3_cards::{LevelId, Name};
@@ -11,6 +11,7 @@ use s3_level::Level;
 use s3_lines::sheet::{
     CalculationTime, FileLine, Line, Operation, OutputKind, OutputLine, SheetLine,
 };
+use s3_opening::is_new;
 use s3_operator::HaltCode;
 use s3_store::PackStore;
 use std::alloc::{AllocError, Global};
@@ -275,7 +276,7 @@ fn wanted_at_start<S: PackStore>(
 fn file_wanted(asked: &Asked<'_>, files: &[JobFile], place: usize) -> Option<Wanted> {
     let file = files.get(place)?;
     let label = file.statement?.label;
-    if is_made(&file.line) {
+    if is_new(&file.line) {
         return slot_wanted(asked, label, area_of(asked.level));
     }
     match asked.found(label) {

@@ -5,9 +5,10 @@ use crate::layout::push_layouts;
 use crate::room::push_room;
 use crate::slot_words::push_slot_at_fault;
 use s3_cards::{LevelId, Name};
-use s3_evidence::{Asked, Begun, Evidence, Found, IndexFlaw, JobFile, is_made};
+use s3_evidence::{Asked, Begun, Evidence, Found, IndexFlaw, JobFile};
 use s3_labels::AreaSlots;
 use s3_level::Level;
+use s3_opening::is_new;
 use s3_operator::HaltCode;
 use s3_ruled::{push_characters, push_name};
 use std::alloc::{AllocError, Global};
@@ -127,7 +128,7 @@ fn words_behind(code: HaltCode, file: &JobFile) -> &'static str {
     match code {
         HaltCode::NoLabel => ": no file has that label",
         HaltCode::DuplicateLabel => ", which an earlier file of the job has too",
-        HaltCode::MasterForUpdate if is_made(&file.line) => ", which a master has",
+        HaltCode::MasterForUpdate if is_new(&file.line) => ", which a master has",
         HaltCode::MasterForUpdate => ", which is a master, and the program would change it",
         _ => "",
     }

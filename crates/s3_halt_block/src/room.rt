@@ -2,10 +2,11 @@
 
 use crate::at_start::push_file_name;
 use s3_cards::Name;
-use s3_evidence::{Asked, JobFile, is_made, key_of};
+use s3_evidence::{Asked, JobFile, key_of};
 use s3_labels::Slot;
 use s3_lines::sheet::FileLine;
 use s3_ocl::{FileSize, FileStatement};
+use s3_opening::is_new;
 use s3_store::Stretch;
 use std::alloc::AllocError;
 
@@ -26,7 +27,7 @@ pub(crate) fn push_room(
 ) -> Result<(), AllocError> {
     for file in files {
         if let Some(statement) = &file.statement {
-            if is_made(&file.line) {
+            if is_new(&file.line) {
                 push_asked(text, asked, file, statement)?;
             }
         }

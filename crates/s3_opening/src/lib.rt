@@ -26,6 +26,7 @@ mod starting;
 mod starts;
 mod testing;
 
+pub use asked::is_new;
 pub use fault::OpeningFault;
 pub use laws::{
     a_made_file_is_refused_in_order, an_opened_file_is_refused_in_order,
