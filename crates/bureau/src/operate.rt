@@ -31,7 +31,6 @@ use s3_operating::Seat;
 use s3_paper_commands::status::{DONE, PASSED_OVER};
 use s3_replies::Rules;
 use s3_store::MemoryStore;
-use std::alloc::Global;
 use std::io::Write;
 use taking_up::{list_jobs, taken_up};
 
@@ -190,16 +189,28 @@ fn operate_over<'n, 'a>(
     locked: Option<LockedPack>,
     day: Prepared<'a>,
 ) -> Result<u8, DayFault<'n>> {
-    let pack = mountable(rt.alloc(), pack)?;
+    let pack = mountable(rt, order.pack, pack)?;
     let outputs = Outputs::open(rt, order, locked)?;
     operate_prepared(rt, order, pack, day, outputs)
 }
 
-/// A pack that can be mounted, as it was given; any other is refused, before an output is emptied.
-fn mountable<'a>(alloc: Global, pack: Vec<u8>) -> Result<Vec<u8>, DayFault<'a>> {
-    match Pack::over(alloc, MemoryStore::from_bytes(pack)) {
+/// A pack that can be mounted, as it was given; any other is refused, before an output is emptied, and what tells why is named.
+fn mountable<'a>(
+    rt: &HostRuntime,
+    path: Option<&str>,
+    pack: Vec<u8>,
+) -> Result<Vec<u8>, DayFault<'a>> {
+    match Pack::over(rt.alloc(), MemoryStore::from_bytes(pack)) {
         Ok(Pack { pool, areas: _ }) => Ok(pool.into_bytes()),
-        Err(Refused { pool: _, fault }) => Err(DayFault::Cli(refused(fault))),
+        Err(Refused { pool: _, fault }) => {
+            if let (Refusal::BadPack(_), Some(path)) = (&fault, path) {
+                let _ = writeln!(
+                    rt.stderr(),
+                    "the pack {path} can't be used; `bureau check --pack {path}` says why"
+                );
+            }
+            Err(DayFault::Cli(refused(fault)))
+        }
     }
 }
 

@@ -15,6 +15,7 @@ use s3_paper_commands::status::{DONE, PASSED_OVER, PERSON_NEEDED};
 use s3_replay::Performed;
 use s3_replies::Rules;
 use std::alloc::{AllocError, Global};
+use std::io;
 use std::io::{Stderr, Stdin, Write};
 
 /// The most bytes that `run` reads.
@@ -155,12 +156,13 @@ fn hand_out<'n>(
     }
     test_written(order, desk)?;
     if written.is_err() {
+        desk.tell("the reports can't be written to standard output, and no pack is saved\n");
         return Err(DayFault::Cli(FILE));
     }
     if let Some(paper) = order.paper {
         write_paper(rt, paper, desk, &day.outcome)?;
     }
-    let saved = save(rt, order, closing, &day.outcome.pack, locked)?;
+    let saved = save(rt, order, desk, closing, &day.outcome.pack, locked)?;
     let is_unfinished = closing.verdict == Verdict::Unfinished;
     tell_saved(rt, order, desk, saved, is_unfinished)?;
     let status = status_of(closing.verdict);
@@ -213,10 +215,11 @@ fn status_of(verdict: Verdict) -> u8 {
     }
 }
 
-/// Saves the pack where that is asked for, and the day is one to be saved. It answers where it was saved.
+/// Saves the pack where that is asked for, and the day is one to be saved. It answers where it was saved; why it couldn't be is told.
 fn save<'a>(
     rt: &HostRuntime,
     order: &Order<'a>,
+    desk: &mut OwnDesk<'_>,
     closing: &Closing,
     pack: &[u8],
     locked: Option<LockedPack>,
@@ -230,8 +233,24 @@ fn save<'a>(
     match save_pack(rt, path, locked, pack) {
         Ok(()) => Ok(Some(path)),
         Err(FileFault::InUse) => Err(DayFault::InUse(path)),
-        Err(FileFault::Call(error)) => Err(DayFault::of(&error, path)),
+        Err(FileFault::Call(error)) => {
+            tell_unsaved(rt, desk, path, &error)?;
+            Err(DayFault::of(&error, path))
+        }
     }
+}
+
+/// Tells why the pack couldn't be saved.
+fn tell_unsaved(
+    rt: &HostRuntime,
+    desk: &mut OwnDesk<'_>,
+    path: &str,
+    error: &io::Error,
+) -> Result<(), AllocError> {
+    let mut text = String::new(rt.alloc());
+    writeln!(text, "the pack is not saved in {path}: {error}")?;
+    desk.tell(text.as_str());
+    Ok(())
 }
 
 /// Tells what became of the pack.
@@ -248,7 +267,7 @@ fn tell_saved(
         (Some(_), Some(path)) if is_unfinished => {
             writeln!(
                 text,
-                "the pack is saved in {path}, though a level isn't done"
+                "the pack is saved in {path}, though a level isn't done: a job that is taken up begins anew, over the records that it has put"
             )?
         }
         (Some(_), Some(path)) => writeln!(text, "the pack is saved in {path}")?,

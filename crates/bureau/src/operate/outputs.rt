@@ -73,19 +73,21 @@ fn found<'a>(rt: &HostRuntime, name: &'a str) -> Result<Named<'a>, DayFault<'a>>
     }
 }
 
-/// Refuses outputs that are the same file as another output, as one that is read, or as one that is there.
+/// Refuses a pack that isn't there, so that a misspelt name isn't taken for an output over another pack; and outputs that are the
+/// same file as another output, as one that is read, or as one that is there.
 pub fn test_outputs<'a>(
     rt: &HostRuntime,
     order: &Order<'a>,
     redo: Option<&'a str>,
 ) -> Result<(), DayFault<'a>> {
     let mut read = texts_read(rt, order, redo)?;
+    let pack = pack_found(rt, order)?;
     let mut written = Vec::new(rt.alloc());
     if let Some(name) = order.save {
         written.push(save_tested(rt, order, name, &read)?)?;
     }
-    if let Some(name) = order.pack {
-        read.push(found(rt, name)?)?;
+    if let Some(pack) = pack {
+        read.push(pack)?;
     }
     for name in [order.script, order.log, order.deck_out1, order.deck_out2] {
         if let Some(name) = name {
@@ -97,6 +99,18 @@ pub fn test_outputs<'a>(
         Some(paper) => paper.test_free(rt, order.overwrites, &read, &written),
         None => Ok(()),
     }
+}
+
+/// Where the pack is that a day is given.
+fn pack_found<'a>(rt: &HostRuntime, order: &Order<'a>) -> Result<Option<Named<'a>>, DayFault<'a>> {
+    let Some(name) = order.pack else {
+        return Ok(None);
+    };
+    let pack = found(rt, name)?;
+    if !pack.target.is_there() {
+        return Err(DayFault::File(name));
+    }
+    Ok(Some(pack))
 }
 
 /// What a day reads beside its pack.
