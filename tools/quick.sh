@@ -31,7 +31,7 @@ compile() {
         say "compiling the program without its proof: about two minutes on two processors"
     else
         tests=--tested
-        say "compiling the program without its proof, with run-time tests: about two minutes on one processor"
+        say "compiling the program without its proof, with run-time tests: two to three minutes on one processor"
     fi
     mkdir -p "$kept"
     watch "$here/tools/unproved" "$kept/unstamped" $tests || { cat "$log" >&2; say "the program doesn't compile"; exit $failed; }
