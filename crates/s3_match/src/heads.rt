@@ -11,8 +11,8 @@ ghost use Rattle.s3_match.specs.Inner.Heads as spec;
 
 use crate::keys::RecordKey;
 use crate::levels::Levels;
+use s3_decimal::{RECORD_BYTES, Record};
 use s3_program::starts::TypeStart;
-use s3_records::{RECORD_BYTES, Record};
 use std::alloc::{AllocError, Global};
 
 /// The most records that a file has: the bytes of the largest pack.

@@ -31,13 +31,13 @@ use crate::keys::RecordKey;
 use crate::levels::Levels;
 use crate::selection::is_primary;
 use crate::types::{only_type, type_of};
+use s3_decimal::RECORD_BYTES;
 use s3_lines::indicator::Indicator;
 use s3_lines::sheet::{Designation, FileLine, InputLine};
 use s3_meaning::is_switch_on;
 use s3_program::mark::Key;
 use s3_program::program::{Program, Reference};
 use s3_program::starts::TypeStart;
-use s3_records::RECORD_BYTES;
 use std::alloc::{AllocError, Global};
 
 /// The primary and secondary files of a run as far as they are read, and what their keys are matched with. A file is called by its

@@ -4,7 +4,7 @@ use Rattle.std.specs.Prelude.{slice_range}
 use Rattle.std.proofs.Math.Seq.{take-add}
 use Rattle.std.proofs.lemmas.List.{drop-drop, drop-take, length-take-le, take-take}
 use Rattle.s3_decimal.specs.Inner.Words.{in_base}
-use Rattle.s3_records.specs.Inner.Reaching.{EndsWord}
+use Rattle.s3_decimal.specs.Inner.Reaching.{EndsWord}
 
 -- the record ends where the buffer does, or before
 pub record_size : (buffer : List ℕ) (size : ℕ) → length buffer ≡ 1032 → size ≤ 1024 → length (slice_range buffer 8 (8 + size)) ≡ size

@@ -1,8 +1,8 @@
 use Rattle.std.proofs.Common.{List, ℕ, ◌+◌, ◌≤◌, ◌-◌, ap, length, subst, arith}
 use Rattle.std.specs.Prelude.{slice_range}
-use Rattle.s3_records.specs.Inner.Reaching.{EndsWord}
-use Rattle.s3_records.proofs.BufferLemmas.{ends_word}
-use Rattle.s3_records.proofs.record.Record.word_before.Goals as goal
+use Rattle.s3_decimal.specs.Inner.Reaching.{EndsWord}
+use Rattle.s3_decimal.proofs.BufferLemmas.{ends_word}
+use Rattle.s3_decimal.proofs.record.Record.word_before.Goals as goal
 
 pub returns : goal.returns
 returns c =
