@@ -1,4 +1,4 @@
-//! The decimal operations and `edit` in plain Rust, over the same table as `s3_bench_decimal`.
+//! The decimal operations and `edit` in plain Rust, over the same table as `s3_bench`.
 //!
 //! They are written as one would write them without proofs, and give the same results.
 

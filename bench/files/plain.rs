@@ -1,4 +1,4 @@
-//! What `crates/s3_bench_files` does, written plainly in Rust, over a pool of 16 buffers as in `bench/pool/plain.rs`.
+//! What `file_walks` of `crates/s3_bench` does, written plainly in Rust, over a pool of 16 buffers as in `bench/pool/plain.rs`.
 
 use std::collections::HashMap;
 use std::env;

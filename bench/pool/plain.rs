@@ -1,4 +1,4 @@
-//! What `crates/s3_bench_pool` does, written plainly in Rust: a `Vec` of 16 buffers, linked in the order of their
+//! What `pool_walks` of `crates/s3_bench` does, written plainly in Rust: a `Vec` of 16 buffers, linked in the order of their
 //! last use, and a map from sectors to them.
 
 use std::collections::HashMap;

@@ -7,8 +7,8 @@ ghost use Rattle.s3_blame.specs.Inner.Tested.{AreTested};
 
 use crate::lines::later_entries;
 use s3_cards::Deck;
+use s3_decks::Columns;
 use s3_lines::Diagnostic;
-use s3_ruled::Columns;
 use s3_sheets::{FaultyEntry, SheetFault, faulty_entries, read_sheets};
 use std::alloc::{AllocError, Global};
 

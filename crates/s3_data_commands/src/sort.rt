@@ -10,10 +10,9 @@ use crate::words::{LABEL, LEVEL, OVERWRITE, PACK, SAVE};
 use clap::ArgMatches;
 use s3_cards::Name;
 use s3_labels::LabelFault;
-use s3_pack_care::CareFault;
+use s3_pack_care::{CareFault, Form, SortFault, SortField};
 use s3_paper_commands::status::DONE;
 use s3_paper_commands::words::{CommandWords, Takes, Word, value_of};
-use s3_sort::{Form, SortFault, SortField};
 use std::alloc::{AllocError, Global};
 use std::io::Write;
 
@@ -140,7 +139,7 @@ fn with_copy(rt: &HostRuntime, order: &Order<'_>, pack: Vec<u8>) -> Result<Vec<u
 fn sorted(alloc: Global, order: &Order<'_>, pack: Vec<u8>) -> Result<Vec<u8>, Fault>
     requires { order.now.level < 3 }
 {
-    match s3_sort::sort(alloc, pack, order.level, order.new_name, &order.fields) {
+    match s3_pack_care::sort(alloc, pack, order.level, order.new_name, &order.fields) {
         Ok(pack) => Ok(pack),
         Err(fault) => Err(refused(sort_sentence(alloc, order, fault))),
     }

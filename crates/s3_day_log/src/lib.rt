@@ -1,14 +1,19 @@
-//! The log of a day: JSON lines, one event a line with its time in UTC, and its reading, from which the day can be done again.
+//! A day at the desk on record: its log, as JSON lines with the time of each event in UTC, which is read back to do the day again;
+//! and the job accounting of a level: which jobs have begun, how many lines each has printed, how each ended, and which are left.
 //! docs/OPERATING.md has the events.
 //!
-//! `checksum` is proved to be the SHA-256 digest. What is written of an event, and that it is read back, is tested.
+//! What is proved: `checksum` is the SHA-256 digest; how a job that is over ended; what a reply changes in the accounting; and what
+//! became of a day by how its levels ended. Tested: what is written of an event, that it is read back, which jobs have begun, and
+//! to which job a line belongs.
 
 #![tactic(auto)]
 
 mod checksums;
 mod clock_text;
 mod day_log;
+mod endings;
 mod event;
+mod ledger;
 mod members;
 mod reading;
 mod words;
@@ -17,7 +22,9 @@ mod writing;
 pub use checksums::checksum;
 pub use clock_text::utc_text;
 pub use day_log::{DayLog, LogFault, Refused};
+pub use endings::{LevelEnd, Verdict, became, end_of};
 pub use event::{
     Begun, DayOver, Event, JobBegun, JobEnd, JobOver, LoggedHalt, LoggedReply, NamedFile, Replier,
 };
+pub use ledger::{BegunJob, Ledger, Purpose};
 pub use writing::line_of;

@@ -2,7 +2,7 @@
 
 use s3_cards::ebcdic::{LETTER_B, LETTER_G, LETTER_J, LETTER_O, LETTER_P, LETTER_R};
 use s3_cards::{Deck, Name};
-use s3_deck_jobs::{JobEntry, Statements, jobs_of};
+use s3_decks::{JobEntry, Statements, jobs_of};
 use s3_level::Level;
 use s3_lines::sheet::{Line, SheetLine};
 use s3_ocl::{JobCards, Switch};

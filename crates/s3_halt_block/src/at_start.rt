@@ -5,12 +5,12 @@ use crate::layout::push_layouts;
 use crate::room::push_room;
 use crate::slot_words::push_slot_at_fault;
 use s3_cards::{LevelId, Name};
+use s3_decks::{push_characters, push_name};
 use s3_evidence::{Asked, Begun, Evidence, Found, IndexFlaw, JobFile};
 use s3_labels::AreaSlots;
 use s3_level::Level;
 use s3_opening::is_new;
 use s3_operator::HaltCode;
-use s3_ruled::{push_characters, push_name};
 use std::alloc::{AllocError, Global};
 
 /// A job that doesn't start.

@@ -1,7 +1,7 @@
 //! The bad digits of a number.
 
+use s3_decks::Columns;
 use s3_lines::sheet::{FieldForm, FieldLine};
-use s3_ruled::Columns;
 use std::alloc::{AllocError, Global};
 
 /// The bytes of a number that have a bad digit, by their positions in its record.

@@ -1,8 +1,7 @@
 //! Cards of a deck, each with its place and under a ruler.
 
 use s3_cards::{Card, Deck};
-use s3_deck_files::DeckText;
-use s3_ruled::{Columns, push_ruled};
+use s3_decks::{Columns, DeckText, push_ruled};
 use std::alloc::AllocError;
 
 /// The cards of a deck, and where they stand in its files.

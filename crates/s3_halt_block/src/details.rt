@@ -3,11 +3,10 @@
 use crate::cards::DeckCards;
 use s3_blame::{FaultyEntry, columns_of, diagnostic_words, entries_of};
 use s3_cards::trim_end;
-use s3_deck_jobs::{Statements, keyword_columns};
+use s3_decks::{Columns, Statements, keyword_columns, push_marks, push_under_ruler};
 use s3_evidence::Begun;
 use s3_lines::Diagnostic;
 use s3_operator::{Halt, HaltCode};
-use s3_ruled::{Columns, push_marks, push_under_ruler};
 use std::alloc::{AllocError, Global};
 
 /// The most details that are shown.

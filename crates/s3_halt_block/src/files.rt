@@ -1,7 +1,7 @@
 //! The files of a job at work.
 
+use s3_decks::push_name;
 use s3_job_files::OpenFile;
-use s3_ruled::push_name;
 use std::alloc::AllocError;
 
 /// Appends a line for a file of a job: how many records it has, how many of them were read, and which was chained last.

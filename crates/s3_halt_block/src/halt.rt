@@ -7,12 +7,10 @@ use crate::details::push_details;
 use crate::replies::{push_meaning, push_replies};
 use s3_bureau::Bureau;
 use s3_cards::{LevelId, Name};
-use s3_deck_files::DeckText;
-use s3_deck_jobs::{JobEntry, Statements};
+use s3_decks::{DeckText, JobEntry, Statements, push_name};
 use s3_evidence::{Begun, Evidence, Source};
 use s3_level::Level;
 use s3_operator::Halt;
-use s3_ruled::push_name;
 use s3_store::PackStore;
 use std::alloc::{AllocError, Global};
 

@@ -2,9 +2,9 @@
 
 use crate::at_start::AtStart;
 use s3_cards::Name;
+use s3_decks::Columns;
 use s3_evidence::{Asked, Found, JobFile, key_of};
 use s3_labels::{FileLabel, Organization};
-use s3_ruled::Columns;
 use std::alloc::{AllocError, Global};
 
 /// The columns of the F sheet for the record length.

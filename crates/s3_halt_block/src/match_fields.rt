@@ -1,8 +1,8 @@
 //! The match fields of a file's records.
 
 use s3_cards::Name;
+use s3_decks::Columns;
 use s3_lines::sheet::{InputLine, Line, SheetLine};
-use s3_ruled::Columns;
 use std::alloc::{AllocError, Global};
 
 /// Where the match fields of the types of a file's records lie.

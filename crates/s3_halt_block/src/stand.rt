@@ -6,10 +6,10 @@ use crate::causes::push_causes;
 use crate::match_fields::match_fields;
 use s3_cards::Name;
 use s3_cycle::{Sought, Stand};
+use s3_decks::{Columns, push_characters, push_name, push_ruled};
 use s3_evidence::Evidence;
 use s3_lines::sheet::{FieldLine, FileLine, InputLine, Line, SheetLine};
 use s3_operator::HaltCode;
-use s3_ruled::{Columns, push_characters, push_name, push_ruled};
 use std::alloc::{AllocError, Global};
 
 /// What of the stand is shown with the last data card.

@@ -9,3 +9,9 @@ pub mod RowLaws
 pub mod TableLemmas
 pub mod UndamagedSlots
 pub mod WholePacks
+pub mod Bytes
+pub mod KeyOrders
+pub mod KeyedAlike
+pub mod LoadedFiles
+pub mod Marks
+pub mod ReadAgain

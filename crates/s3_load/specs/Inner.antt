@@ -5,3 +5,4 @@ pub mod Filling
 pub mod KeyOrder
 pub mod Loaded
 pub mod Tables
+pub mod RoundTrip

@@ -15,6 +15,13 @@
 //!   an index is the one of all of them. Each other slot is as it was, and its file has the same bytes; the slot of an old file
 //!   of the label, in whose place a new one comes, is free, if the new one hasn't got it (`load`);
 //! - a new file is made only where no slot of the level's area is damaged (`load`);
+//! - a table that was loaded into a new file is unloaded again: the file's records, as `unload` takes them, are one for each row,
+//!   in the order of their keys, or, without a key, in the order of the rows; each shows the value of the row's cell in each
+//!   column (`what_is_loaded_is_unloaded`);
+//! - records that were unloaded and then loaded into a new file are the same records, in the order of their keys, or, without a key,
+//!   in their old order, if the layout has each byte of a record, its fields have different names, and each value can be shown
+//!   (`what_is_unloaded_is_loaded`). Neither theorem covers records that are appended, or a pack on which an earlier slot of the
+//!   area has the same label;
 //! - each call is safe and returns; a pack is handed out only where all of the table was taken, and the pack that is given is never
 //!   changed, so a refused load leaves it as it was.
 //!
@@ -30,8 +37,10 @@ mod loading;
 mod order;
 mod rows;
 mod table;
+mod table_laws;
 
 pub use fault::{HeadingFault, LoadFault, Reason, ValueFault};
 pub use laws::{a_loaded_row_is_unloaded, an_unloaded_record_is_loaded};
 pub use loading::load;
 pub use order::{Order, Room};
+pub use table_laws::{what_is_loaded_is_unloaded, what_is_unloaded_is_loaded};

@@ -2,9 +2,9 @@
 
 use crate::counts::push_counted;
 use s3_cards::{LevelId, PrintLine, trim_end};
+use s3_decks::push_characters;
 use s3_halt_block::{push_letters, push_replies};
 use s3_operator::{HaltCode, allowed, meaning};
-use s3_ruled::push_characters;
 use std::alloc::AllocError;
 
 /// What else may be typed.

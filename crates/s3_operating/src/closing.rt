@@ -8,12 +8,12 @@ use crate::seat::Seat;
 use memchr::memchr_iter;
 use s3_bureau::LevelTexts;
 use s3_cards::LevelId;
+use s3_day_log::{BegunJob, Ledger, LevelEnd, Purpose, Verdict, became};
+use s3_decks::push_name;
 use s3_desk::{Day, End};
 use s3_halt_block::push_letters;
-use s3_ledger::{BegunJob, Ledger, LevelEnd, Purpose, Verdict, became};
 use s3_operator::{is_at_start, meaning};
 use s3_replay::Performed;
-use s3_ruled::push_name;
 use std::alloc::AllocError;
 use std::io::{Read, Write};
 

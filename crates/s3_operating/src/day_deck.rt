@@ -1,6 +1,6 @@
 //! The deck of a level on a day.
 
-use s3_deck_files::DeckText;
+use s3_decks::DeckText;
 use std::alloc::{AllocError, Global};
 
 /// A file of a deck.

@@ -30,7 +30,7 @@ pub use day_deck::{DayDeck, JoinedFiles};
 pub use desk::{Desk, Questioned, Settings};
 pub use journal::Journal;
 pub use printed::PrintedJob;
-pub use s3_ledger::Verdict;
+pub use s3_day_log::Verdict;
 pub use seat::Seat;
 pub use tape::Tape;
 pub use unread::push_unread;

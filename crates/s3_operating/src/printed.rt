@@ -4,7 +4,7 @@ use crate::clock::Clock;
 use crate::desk::Desk;
 use s3_cards::ebcdic::DIGIT_0;
 use s3_cards::{LevelId, Name};
-use s3_ledger::Ledger;
+use s3_day_log::Ledger;
 use std::alloc::{AllocError, Global};
 use std::io::{Read, Write};
 

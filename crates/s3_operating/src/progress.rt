@@ -2,9 +2,9 @@
 
 use crate::seat::Seat;
 use crate::tally::Counts;
-use s3_ledger::{Ledger, Purpose};
+use s3_day_log::{Ledger, Purpose};
+use s3_decks::push_name;
 use s3_level::Level;
-use s3_ruled::push_name;
 use std::alloc::AllocError;
 
 /// Appends the last job that was begun: `job 2, BILL`.

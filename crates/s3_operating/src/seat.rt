@@ -2,8 +2,8 @@
 
 use crate::day_deck::DayDeck;
 use s3_cards::{CardFault, Deck, DeckFault, LevelId};
-use s3_deck_files::DeckText;
-use s3_ledger::Ledger;
+use s3_day_log::Ledger;
+use s3_decks::DeckText;
 use s3_operator::HaltCode;
 use std::alloc::{AllocError, Global};
 

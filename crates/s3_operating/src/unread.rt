@@ -1,8 +1,7 @@
 //! A deck that can't be read, in words.
 
 use s3_cards::{COLUMNS, CardFault, LevelId, code_of_byte, first_line};
-use s3_deck_files::DeckText;
-use s3_ruled::push_ruler;
+use s3_decks::{DeckText, push_ruler};
 use std::alloc::AllocError;
 
 /// The most columns of a card that are shown.

@@ -6,3 +6,8 @@ pub mod Made
 pub mod Placed
 pub mod Refusals
 pub mod Relabelled
+pub mod Arranged
+pub mod Ranks
+pub mod SortRefusals
+pub mod RowLemmas
+pub mod SortedPacks

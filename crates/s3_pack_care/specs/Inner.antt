@@ -2,3 +2,6 @@
 pub mod Copied
 pub mod Deleted
 pub mod Kept
+pub mod Keys
+pub mod Rows
+pub mod Sorted

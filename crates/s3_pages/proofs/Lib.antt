@@ -4,3 +4,7 @@ pub mod PageRuns
 pub mod PartLemmas
 pub mod RowLemmas
 pub mod WriteLemmas
+pub mod PageBodies
+pub mod Pieces
+pub mod Ranges
+pub mod TableLemmas

@@ -4,3 +4,8 @@ pub mod Pages
 pub mod PagesLeft
 pub mod Parts
 pub mod Shown
+pub mod Bodies
+pub mod Documents
+pub mod Drawing
+pub mod Objects
+pub mod Tables

@@ -1,26 +1,37 @@
-//! Printed lines as the pages of a job: which page has which lines, which lines are of which job, and the pages as a text.
-//! docs/OPERATING.md has the rules, under "Paper".
+//! Printed lines as the pages of a job: which page has which lines, which lines belong to which job, and the pages as a text and as a
+//! PDF document of forms with 132 columns and 66 lines. docs/OPERATING.md has the rules, under "Paper".
 //!
 //! What is proved, for all printed lines:
 //!
-//! - `Pages` gives the pages of a job's lines, one after another: each line stands on its page, and nothing else does
-//!   (`pages`, `Iterator::next`, `pages_have_all_lines`).
-//! - `parts` gives so many lines to each job as it printed, and the rest to the last one; all parts together are all lines in
-//!   order (`parts`, `whole`).
-//! - `push_page` appends the text of a page: each line at its line, those at one place over each other, and nothing else.
-//! - `write_text` writes exactly the text of the pages, with a form feed between two (`wrote`).
+//! - `Pages` gives the pages of a job's lines, one after another. Each line is on its page, and a page has no other lines (`pages`,
+//!   `Iterator::next`, `pages_have_all_lines`).
+//! - `parts` gives each job as many lines as it printed, and the rest to the last job. All parts together are all lines in order
+//!   (`parts`, `whole`).
+//! - `push_page` appends the text of a page: each line at its line number, overprinted lines over each other.
+//! - `write_text` writes exactly the text of the pages, with a form feed between two pages (`wrote`).
+//! - `write_pdf` writes exactly the bytes that are defined for the lines (`wrote`): numbered objects one after another, and a table
+//!   with the place of each (`file_of`, `places`). Each page of the job has one page of the document, and each of its lines is
+//!   drawn once, at its line number. `write_pdf` refuses a document as too long only if it has more pages or bytes than it may have
+//!   (`too_long`).
 //!
-//! Nobody says what a writer that fails has written. That `NoMemory` is answered only where memory was refused, no contract says.
+//! Not specified: what a writer that fails has written, and that `NoMemory` comes only if memory was refused. That PDF readers show
+//! the document as forms is tested by `tools/test-paper`.
 #![tactic(auto)]
 
+mod bodies;
+mod document;
+mod drawing;
 mod fault;
 mod laws;
+mod numbers;
+mod object_table;
 mod page_by_page;
 mod page_text;
 mod partition;
 mod shown;
 mod written;
 
+pub use document::{MOST_PAGES, write_pdf};
 pub use fault::PaperFault;
 pub use laws::pages_have_all_lines;
 pub use page_by_page::Pages;

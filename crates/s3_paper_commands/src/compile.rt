@@ -8,7 +8,7 @@ use crate::unread::words_of_unread;
 use crate::words::{CommandWords, Takes, Word};
 use clap::ArgMatches;
 use s3_cards::{Deck, DeckFault};
-use s3_deck_files::DeckText;
+use s3_decks::DeckText;
 use s3_source_listing::{Outcome, write_listing};
 use std::alloc::{AllocError, Global};
 use std::io::Write;

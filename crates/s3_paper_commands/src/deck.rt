@@ -3,7 +3,7 @@ ghost use Rattle.std.specs.Prelude.{◌≤◌, IfOk};
 
 use crate::fault::CommandFault;
 use crate::punch::tell_punched;
-use s3_deck_files::DeckText;
+use s3_decks::DeckText;
 use s3_host_files::read_within;
 use s3_punch::{Begun, Punched, punch};
 use std::alloc::AllocError;

@@ -3,7 +3,7 @@
 use crate::characters::{TAB, is_shown};
 use bstr::ByteSlice;
 use s3_cards::{COLUMNS, code_of_byte, first_line, to_ebcdic};
-use s3_deck_files::{CardPlace, DeckText, FilePlace};
+use s3_decks::{CardPlace, DeckText, FilePlace};
 use s3_punch::PunchReason;
 use std::alloc::{AllocError, Global};
 

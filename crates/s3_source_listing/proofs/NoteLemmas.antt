@@ -5,7 +5,7 @@ use Rattle.std.proofs.lemmas.List.Elements.{filter_more}
 use Rattle.s3_blame.specs.Inner.Columns.{columns_of, is_of, span}
 use Rattle.s3_lines.specs.declared.diagnostic.Diagnostic.{Diagnostic}
 use Rattle.s3_sheets.specs.declared.parts.FaultyEntry.{FaultyEntry}
-use Rattle.s3_ruled.specs.declared.ruled.Columns.{Columns}
+use Rattle.s3_decks.specs.declared.ruled.Columns.{Columns}
 use Rattle.s3_source_listing.specs.Inner.Notes.{is_on, marks_of, marks_under, numbers_under}
 
 -- the entries of a card, with one entry more

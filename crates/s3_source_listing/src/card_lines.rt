@@ -2,7 +2,7 @@
 
 use s3_blame::diagnostic_words;
 use s3_cards::{Card, trim_end};
-use s3_ruled::{Columns, push_characters, push_marks};
+use s3_decks::{Columns, push_characters, push_marks};
 use std::alloc::AllocError;
 
 /// How many columns of a card a listing shows.

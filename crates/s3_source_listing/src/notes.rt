@@ -5,8 +5,8 @@ ghost use Rattle.s3_source_listing.specs.Inner.Notes.{is_on, number_of, marked_o
 
 use indexmap::IndexMap;
 use s3_blame::{FaultyEntry, columns_of};
+use s3_decks::Columns;
 use s3_lines::Diagnostic;
-use s3_ruled::Columns;
 use std::alloc::{AllocError, Global};
 
 /// A diagnostic of a card, with the columns to blame.

@@ -9,9 +9,8 @@ use crate::notes::{CardNotes, notes_of_cards, notes_under};
 use crate::tables::push_tables;
 use s3_blame::{FaultyEntry, entries_of, told};
 use s3_cards::{Card, Deck, trim_end};
-use s3_deck_jobs::{keyword_columns, program_of};
+use s3_decks::{keyword_columns, program_of, push_characters};
 use s3_lines::Diagnostic;
-use s3_ruled::push_characters;
 use s3_sheets::{SheetFault, read_sheets};
 use std::alloc::{AllocError, Global};
 

@@ -7,9 +7,9 @@ use crate::indicators::push_indicator;
 use crate::names::Sort;
 use s3_blame::Known;
 use s3_cards::{Name, trim_end};
+use s3_decks::push_characters;
 use s3_lines::indicator::Indicator;
 use s3_lines::sheet::{FileLine, KeyField, Line, Shape, SheetLine};
-use s3_ruled::push_characters;
 use std::alloc::{AllocError, Global};
 
 /// Appends the tables of a source. With cross-reference each name and each indicator has all cards that name it.

@@ -8,15 +8,24 @@
 //! - `bureau`: three whole sessions over a store that fails at each call in turn, and where memory runs out; and the card lister's
 //!   turns.
 //! - `sessions`: a session whose reader or writer fails at each call in turn, or gives and takes a byte a call.
+//! - `documents`: PDF documents that no command asks for.
 //!
-//! `fixtures` has what tests of several of them begin with.
+//! `fixtures` has what several of these tests begin with.
+//!
+//! What is proved: a tab goes to the first column of each entry that the rules of a sheet's cards have (`stops_as_in_rules`), so
+//! no stop is missing after a rule is added.
 
 #![tactic(auto)]
+
+ghost use Rattle.std.specs.Prelude.{◌≡◌, true};
+ghost use Rattle.s3_tests.specs.Inner.Starts.{stops_are_starts};
 
 #[cfg(test)]
 mod bureau;
 #[cfg(test)]
 mod cycle;
+#[cfg(test)]
+mod documents;
 #[cfg(test)]
 mod files;
 #[cfg(test)]
@@ -25,3 +34,9 @@ mod fixtures;
 mod rows;
 #[cfg(test)]
 mod sessions;
+
+/// The first column of each entry that the rules of the sheets have is a stop of its sheet.
+#[tactic(auto, unfolding(s3_sheets::specs::Tables::header_rules, s3_sheets::specs::Tables::file_rules, s3_sheets::specs::Tables::record_rules, s3_sheets::specs::Tables::record_and_rules, s3_sheets::specs::Tables::record_or_rules, s3_sheets::specs::Tables::field_rules, s3_sheets::specs::Tables::calculation_rules, s3_sheets::specs::Tables::output_line_rules, s3_sheets::specs::Tables::output_group_rules, s3_sheets::specs::Tables::output_field_rules))]
+pub fn stops_as_in_rules()
+    ensures { stops_are_starts ≡ true }
+{}

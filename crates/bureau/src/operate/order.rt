@@ -3,7 +3,7 @@
 use super::fault::DayFault;
 use super::paper::Paper;
 use clap::ArgMatches;
-use s3_deck_files::Position;
+use s3_decks::Position;
 use s3_desk::Bounds;
 use s3_operating::Questioned;
 use std::alloc::AllocError;

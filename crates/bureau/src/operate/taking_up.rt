@@ -3,8 +3,9 @@
 use super::fault::DayFault;
 use crate::refusal::FILE;
 use s3_cards::{CardFault, Deck, DeckFault, LevelId};
-use s3_deck_files::{DeckText, Position};
-use s3_deck_jobs::{jobs_of, left_out_from, lost_settings, push_inherited, push_jobs};
+use s3_decks::{
+    DeckText, Position, jobs_of, left_out_from, lost_settings, push_inherited, push_jobs,
+};
 use s3_operating::{DayDeck, push_unread};
 use std::alloc::AllocError;
 use std::io::Write;

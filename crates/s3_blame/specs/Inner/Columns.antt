@@ -1,7 +1,7 @@
 -- The columns that are marked for a diagnostic.
 use Rattle.std.specs.Prelude.{◌==◌, Bool, ◌&&◌, List, map, filter}
 use Rattle.s3_lines.specs.declared.diagnostic.Diagnostic.{Diagnostic}
-use Rattle.s3_ruled.specs.declared.ruled.Columns.{Columns}
+use Rattle.s3_decks.specs.declared.ruled.Columns.{Columns}
 use Rattle.s3_sheets.specs.declared.parts.FaultyEntry.{FaultyEntry}
 
 abbrev pub is_of : Diagnostic → FaultyEntry → Bool

@@ -4,7 +4,7 @@ use Rattle.std.specs.Option.{option_map_or}
 use Rattle.indexmap.specs.IndexMap.{IndexMap, get}
 use Rattle.s3_blame.specs.Inner.Columns.{columns_of}
 use Rattle.s3_lines.specs.declared.diagnostic.Diagnostic.{Diagnostic}
-use Rattle.s3_ruled.specs.declared.ruled.Columns.{Columns}
+use Rattle.s3_decks.specs.declared.ruled.Columns.{Columns}
 use Rattle.s3_sheets.specs.declared.parts.FaultyEntry.{FaultyEntry}
 use Rattle.s3_source_listing.specs.declared.notes.Note.{Note}
 

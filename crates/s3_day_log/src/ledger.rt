@@ -1,0 +1,248 @@
+//! The jobs of a level's deck, as they begin and end.
+ghost use Rattle.std.specs.Prelude.{◌≡◌};
+ghost use Rattle.s3_day_log.specs.Inner.Endings.{behind_reply, has_passed};
+
+use s3_cards::{Deck, Name};
+use s3_decks::{JobEntry, Statements, jobs_of, program_of};
+use s3_level::Level;
+use s3_ocl::JobCards;
+use s3_operator::{HaltCode, is_at_start};
+use std::alloc::{AllocError, Global};
+
+/// What a job was begun for.
+#[derive(Clone, Copy)]
+pub enum Purpose {
+    /// To compile the program of this name.
+    Compiles(Name),
+    /// To run the program of this name.
+    Runs(Name),
+    /// Its statements are faulty.
+    Unknown,
+}
+
+impl Purpose {
+    /// The program that the job compiles or runs, if its statements name one.
+    pub fn program(self) -> Option<Name> {
+        match self {
+            Purpose::Compiles(name) => Some(name),
+            Purpose::Runs(name) => Some(name),
+            Purpose::Unknown => None,
+        }
+    }
+}
+
+/// A job that was begun.
+#[derive(Clone, Copy)]
+pub struct BegunJob {
+    pub purpose: Purpose,
+    /// The number of its first card, from 1.
+    pub card: usize,
+    /// How many lines it has printed.
+    pub lines: u64,
+    /// What it was ended or passed over for, and by which reply.
+    pub ending: Option<(HaltCode, u8)>,
+    pub is_over: bool,
+}
+
+/// The jobs of a level: those that were begun, and those that are left.
+#[derive(Drop)]
+pub struct Ledger {
+    jobs: Vec<JobEntry>,
+    begun: Vec<BegunJob>,
+    /// The place in the deck behind the last job that was begun.
+    place: usize,
+    /// Whether the last job that was begun is at work, or its halt waits.
+    is_open: bool,
+    /// How many lines are counted for jobs.
+    counted: usize,
+}
+
+impl Ledger {
+    /// A ledger without jobs.
+    pub fn new(alloc: Global) -> Ledger {
+        Ledger {
+            jobs: Vec::new(alloc),
+            begun: Vec::new(alloc),
+            place: 0,
+            is_open: false,
+            counted: 0,
+        }
+    }
+
+    /// Takes the jobs of a deck, before the first one is begun.
+    pub fn read(&mut self, alloc: Global, deck: &Deck) -> Result<(), AllocError> {
+        self.jobs = jobs_of(alloc, deck)?;
+        Ok(())
+    }
+
+    /// The jobs that were begun, in order. The first one is job 1.
+    pub fn begun(&self) -> &[BegunJob] {
+        &self.begun
+    }
+
+    /// How many jobs are left that weren't begun.
+    pub fn jobs_left(&self) -> usize {
+        self.jobs.len().saturating_sub(self.begun.len())
+    }
+
+    /// The number of the first card, from 1, of the job at a place among all jobs.
+    pub fn first_card(&self, place: usize) -> Option<usize> {
+        Some(self.jobs.get(place)?.first_card())
+    }
+
+    /// The date that the job at a place among all jobs sets, if its statements are sound and have one.
+    pub fn date_given(&self, place: usize) -> Option<[u8; 6]> {
+        match &self.jobs.get(place)?.statements {
+            Statements::Sound(job) => job.date(),
+            Statements::Faulty(_) => None,
+        }
+    }
+
+    /// The number of the last data card, from 1, that the job at work has read; `None` where there is none.
+    pub fn last_card(&self, level: &Level) -> Option<u16> {
+        let cards = level.unread()?;
+        let entry = self.jobs.get(self.begun.len().checked_sub(1)?)?;
+        let Statements::Sound(job) = &entry.statements else {
+            return None;
+        };
+        if cards.next > job.data_from() {
+            u16::try_from(cards.next).ok()
+        } else {
+            None
+        }
+    }
+
+    /// Whether the last job that was begun isn't over.
+    pub fn is_open(&self) -> bool {
+        self.is_open
+    }
+
+    /// The program of the last job that was begun, if its statements name one.
+    pub fn program(&self) -> Option<Name> {
+        self.begun.last()?.purpose.program()
+    }
+
+    /// How many jobs are over: these, from the first one on.
+    pub fn jobs_over(&self) -> usize {
+        self.begun.len().saturating_sub(usize::from(self.is_open))
+    }
+
+    /// Looks at a level that has gone on, with how many lines it has printed, those that are queued among them.
+    pub fn follow(&mut self, level: &Level, lines: usize) -> Result<(), AllocError> {
+        let is_open = level.is_at_work() || level.waits().is_some();
+        if level.place() == self.place && is_open == self.is_open {
+            return Ok(());
+        }
+        if self.is_open {
+            self.count_lines(lines);
+        }
+        self.place = level.place();
+        self.is_open = is_open;
+        for _job in 0..self.jobs.len() {
+            if !self.begin_next(level.deck())? {
+                break;
+            }
+        }
+        if !is_open {
+            self.mark_last_over();
+        }
+        self.count_lines(lines);
+        Ok(())
+    }
+
+    /// Counts the lines that were printed since the last count for the job that was begun last.
+    fn count_lines(&mut self, lines: usize) {
+        let new = lines.saturating_sub(self.counted);
+        if let Some(job) = self.begun.last_mut() {
+            job.lines = job.lines.saturating_add(new as u64);
+        }
+        self.counted = lines;
+    }
+
+    /// Takes note of the next job, if it has begun. Whether it has.
+    fn begin_next(&mut self, deck: &Deck) -> Result<bool, AllocError> {
+        let Some(job) = self.next_begun(deck) else {
+            return Ok(false);
+        };
+        self.mark_last_over();
+        self.begun.push(job)?;
+        Ok(true)
+    }
+
+    /// The next job, if it has begun.
+    fn next_begun(&self, deck: &Deck) -> Option<BegunJob> {
+        let entry = self.jobs.get(self.begun.len())?;
+        if entry.after() > self.place {
+            return None;
+        }
+        Some(BegunJob {
+            purpose: purpose_of(entry, deck),
+            card: entry.first_card(),
+            lines: 0,
+            ending: None,
+            is_over: false,
+        })
+    }
+
+    /// Marks the last job that was begun as over.
+    fn mark_last_over(&mut self) {
+        if let Some(job) = self.begun.last_mut() {
+            job.is_over = true;
+        }
+    }
+
+    /// Takes note of a reply to the halt of the last job that was begun.
+    pub fn reply(&mut self, code: HaltCode, digit: u8)
+        ensures { self.new.begun.items ≡ behind_reply code digit self.old.begun.items }
+    {
+        if digit == 0 {
+            return;
+        }
+        let is_at_start = is_at_start(code);
+        if is_at_start {
+            self.is_open = false;
+        }
+        if let Some(job) = self.begun.last_mut() {
+            job.ending = Some((code, digit));
+            job.is_over = job.is_over || is_at_start;
+        }
+    }
+
+    /// Whether a job was passed over, or ended by a reply.
+    pub fn has_passed(&self) -> bool
+        ensures { result ≡ has_passed self.now.begun.items }
+    {
+        self.begun.iter().any(|job| job.ending.is_some())
+    }
+
+    /// The last job that was begun is over.
+    fn close_last(&mut self) {
+        self.is_open = false;
+        self.mark_last_over();
+    }
+
+    /// Ends the ledger of a level that has printed so many lines in all, and has no job at work where it is done.
+    pub fn close(&mut self, lines: usize, is_done: bool) {
+        if self.is_open {
+            self.count_lines(lines);
+        }
+        if is_done {
+            self.close_last();
+        }
+    }
+}
+
+/// What a job is begun for.
+fn purpose_of(entry: &JobEntry, deck: &Deck) -> Purpose {
+    match &entry.statements {
+        Statements::Sound(job) if job.is_compile() => Purpose::Compiles(compiled_by(job, deck)),
+        Statements::Sound(job) => Purpose::Runs(job.program()),
+        Statements::Faulty(_) => Purpose::Unknown,
+    }
+}
+
+/// The program that a job compiles.
+fn compiled_by(job: &JobCards, deck: &Deck) -> Name {
+    let cards = deck.cards().get(job.data_from()..job.data_to());
+    program_of(cards.unwrap_or(&[]))
+}

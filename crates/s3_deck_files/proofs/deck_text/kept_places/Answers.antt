@@ -1,9 +1,0 @@
-use Rattle.std.proofs.Common.{◌∙◌, arith, map}
-use Rattle.s3_deck_files.specs.Inner.Decks.{line_seen}
-use Rattle.s3_deck_files.proofs.Keeping.{place_more}
-use Rattle.s3_deck_files.proofs.deck_text.kept_places.Goals as goal
-
-pub loop-place-preserved : goal.loop-place-preserved
-loop-place-preserved c =
-    c.in_ok-keep_place.ensures
-    ∙ place_more c.args.left_out.now (map line_seen c.loop-place.found.items) c.args.places.now c.loop-place.place _ c.loop-place.invariant (omega (arith, c.loop-place-test.true))

@@ -1,2 +1,0 @@
--- What the contracts of a run and of a session don't reach: decks from files.
-pub mod Decks

@@ -1,0 +1,3 @@
+-- What the contracts of a run and of a session don't reach: decks from files.
+pub mod Decks
+pub mod Days

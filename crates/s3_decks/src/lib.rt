@@ -1,0 +1,40 @@
+//! Decks as people handle them: put together from files, with the line of the file for each card; their jobs listed, and taken up
+//! again from a line on; and cards and names as characters, under a ruler, with marked columns. docs/OPERATING.md has the rules,
+//! docs/MESSAGES.md has examples of marked cards.
+//!
+//! What is proved:
+//!
+//! - The text of a deck is that of its files, each with its last line ended (`add`), or the cards that were punched from them
+//!   (`add_punched`). `place_of` gives the line of a file that a card is, and `card_at` the card that a line is. `without` leaves
+//!   exactly the lines and places of the cards that are in none of the ranges.
+//! - `jobs_of` gives the jobs of a deck as the job stream has them. `left_out_from` gives the cards of exactly those jobs that begin
+//!   before a card and compile nothing.
+//!
+//! Tested: what an argument says as a `Position`, the texts of places, which date and switches a kept job loses, and what is shown
+//! of cards and names.
+
+#![tactic(auto)]
+
+mod characters;
+mod day_deck;
+mod deck_text;
+mod inherited;
+mod job_list;
+mod keyword;
+mod listing;
+mod place;
+mod position;
+mod program;
+mod ruled;
+
+pub use characters::{push_characters, push_name};
+pub use day_deck::left_out_from;
+pub use deck_text::{CardRange, DeckText};
+pub use inherited::{Inherited, InheritedDate, InheritedSwitches, lost_settings};
+pub use job_list::{JobEntry, Statements, jobs_of};
+pub use keyword::keyword_columns;
+pub use listing::{push_inherited, push_jobs};
+pub use place::{CardPlace, FilePlace};
+pub use position::Position;
+pub use program::program_of;
+pub use ruled::{Columns, push_marks, push_ruled, push_ruler, push_under_ruler};

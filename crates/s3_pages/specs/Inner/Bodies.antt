@@ -1,0 +1,57 @@
+-- The objects of a document of forms.
+use Rattle.std.specs.Prelude.{ℕ, ◌+◌, ◌*◌, ◌/◌, Bool, List, [], ◌∷◌, ◌++◌, codes, if◌then◌else◌}
+use Rattle.std.specs.Fmt.{decimal}
+use Rattle.std.specs.List.{flat_map, range_with_len}
+use Rattle.s3_cards.specs.Printed.{Printed}
+use Rattle.s3_pages.specs.Inner.Drawing.{drawn_page, stream_body, text_in}
+
+-- object 1: ten columns to the inch
+unfoldable pub font_body : List ℕ
+font_body = codes "<< /Type /Font /Subtype /Type1 /BaseFont /Courier /Encoding /WinAnsiEncoding >>"
+
+-- eleven bars of three lines, with three lines between two
+unfoldable pub bars : List ℕ
+bars =
+    codes "0.9 0.96 0.9 rg\n36 756 999 36 re\n36 684 999 36 re\n36 612 999 36 re\n36 540 999 36 re\n36 468 999 36 re\n36 396 999 36 re\n"
+    ++ codes "36 324 999 36 re\n36 252 999 36 re\n36 180 999 36 re\n36 108 999 36 re\n36 36 999 36 re\nf"
+
+-- object 2: the form on which all pages are printed, 14 7/8 by 11 inches, with bars or plain
+unfoldable pub form_body : Bool → List ℕ
+form_body has_bars = stream_body (codes "/Type /XObject /Subtype /Form /BBox [0 0 1071 792] ") (if has_bars then bars else [])
+
+-- object 3: what all pages are drawn with
+unfoldable pub resources_body : List ℕ
+resources_body = codes "<< /Font << /F 1 0 R >> /XObject << /B 2 0 R >> >>"
+
+-- a page, whose contents are the next object
+unfoldable pub page_body : (tree contents : ℕ) → List ℕ
+page_body tree contents = codes "<< /Type /Page /Parent " ++ decimal tree ++ codes " 0 R /Contents " ++ decimal contents ++ codes " 0 R >>"
+
+-- the pages of a job, two objects each, from a number on
+abbrev pub page_bodies : (tree number : ℕ) → List (List Printed) → List (List ℕ)
+page_bodies tree number [] = []
+page_bodies tree number (page ∷ pages) = page_body tree (number + 1) ∷ stream_body [] (drawn_page page) ∷ page_bodies tree (number + 2) pages
+
+-- a page among all pages, by its place
+unfoldable pub kid : ℕ → List ℕ
+kid place = decimal (4 + 2 * place) ++ codes " 0 R "
+
+-- all pages
+unfoldable pub tree_body : ℕ → List ℕ
+tree_body count =
+    codes "<< /Type /Pages /MediaBox [0 0 1071 792] /Resources 3 0 R /Count " ++ decimal count ++ codes " /Kids [" ++ flat_map kid (range_with_len 0 count)
+    ++ codes "] >>"
+
+-- page 0 comes behind each 9,999 pages from page 1 on, and then page 1
+unfoldable pub label_turn : ℕ → List ℕ
+label_turn turn = codes " " ++ decimal (10000 * turn + 9999) ++ codes " << /P (0) >> " ++ decimal (10000 * turn + 10000) ++ codes " << /S /D >>"
+
+-- the root: the pages, and their numbers as they were printed
+unfoldable pub root_body : (tree count : ℕ) → List ℕ
+root_body tree count =
+    codes "<< /Type /Catalog /Pages " ++ decimal tree ++ codes " 0 R /ViewerPreferences << /DisplayDocTitle true >> /PageLabels << /Nums [0 << /S /D >>"
+    ++ flat_map label_turn (range_with_len 0 (count / 10000)) ++ codes "] >> >>"
+
+-- what is told of the document
+unfoldable pub info_body : List ℕ → List ℕ
+info_body title = codes "<< /Title " ++ text_in title ++ codes " /Producer (bureau) >>"

@@ -1,4 +1,0 @@
-pub mod PageBodies
-pub mod Pieces
-pub mod Ranges
-pub mod TableLemmas

@@ -1,8 +1,0 @@
--- The pages so far.
-use Rattle.std.proofs.Common.{◌≡◌, ◌++◌, vec_items}
-use Rattle.std.specs.List.{flat_map, range_with_len}
-use Rattle.s3_pdf_forms.specs.Inner.Bodies.{kid}
-use Rattle.s3_pdf_forms.proofs.bodies.push_kids.Given as goal
-
-abbrev pub invariant-loop-place : goal.invariant-loop-place
-invariant-loop-place l = vec_items l.text ≡ vec_items l.initial.text ++ flat_map kid (range_with_len 0 l.place)

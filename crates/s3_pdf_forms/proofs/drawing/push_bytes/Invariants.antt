@@ -1,8 +1,0 @@
--- The bytes so far.
-use Rattle.std.proofs.Common.{◌≡◌, ◌++◌, take, vec_items}
-use Rattle.std.specs.List.{flat_map}
-use Rattle.s3_pdf_forms.specs.Inner.Drawing.{escaped}
-use Rattle.s3_pdf_forms.proofs.drawing.push_bytes.Given as goal
-
-abbrev pub invariant-loop-byte : goal.invariant-loop-byte
-invariant-loop-byte l = vec_items l.text ≡ vec_items l.initial.text ++ flat_map escaped (take l.byte-index l.bytes)

@@ -1,6 +1,0 @@
--- What the contracts of a run and of a session don't reach: words of inner functions, of proofs and of other calls.
-pub mod Bodies
-pub mod Documents
-pub mod Drawing
-pub mod Objects
-pub mod Tables

@@ -1,4 +1,0 @@
--- What the contracts of a run and of a session don't reach: words of inner functions, of proofs and of other calls.
-pub mod Keys
-pub mod Rows
-pub mod Sorted

@@ -1,2 +1,0 @@
--- What the contracts of a run and of a session don't reach: words of inner functions, of proofs and of other calls.
-pub mod RoundTrip

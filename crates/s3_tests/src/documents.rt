@@ -1,0 +1,37 @@
+//! Documents that no command asks for: without lines, and with more pages than one may have. A whole one stands in a worked row,
+//! `operate-paper-pdf`; `tools/test-paper` has others read by programs for PDF.
+
+use s3_cards::ebcdic::BLANK;
+use s3_cards::{PRINT_POSITIONS, PrintLine};
+use s3_pages::{PaperFault, write_pdf};
+use std::test::Fail;
+
+/// A document without lines begins and ends as any other.
+#[test]
+fn a_document_without_lines_is_an_empty_form(rt: HostRuntime) -> Result<(), Fail> {
+    let mut bytes = Vec::new(rt.alloc());
+    write_pdf(rt.alloc(), b"LIST (1)", &[], false, &mut bytes)?;
+    assert!(rt;
+        bytes
+            .as_slice()
+            .starts_with(b"%PDF-1.4\n1 0 obj\n".as_slice())
+    );
+    assert!(rt; bytes.as_slice().ends_with(b"\n%%EOF\n".as_slice()));
+    Ok(())
+}
+
+/// Page 9,998 comes 9,999 pages behind page 9,999, so 401 such pairs have over 4,000,000 pages. Nothing is written.
+#[test]
+fn a_document_of_too_many_pages_is_refused(rt: HostRuntime) -> Result<(), Fail> {
+    let blank = [BLANK; PRINT_POSITIONS];
+    let mut lines = Vec::new(rt.alloc());
+    for _pair in 0..401 {
+        lines.push(PrintLine::with_text(9_999, 1, &blank))?;
+        lines.push(PrintLine::with_text(9_998, 1, &blank))?;
+    }
+    let mut bytes = Vec::new(rt.alloc());
+    let refused = write_pdf(rt.alloc(), b"A", &lines, true, &mut bytes);
+    assert!(rt; refused == Err(PaperFault::TooLong));
+    assert_eq!(rt; bytes.len(), 0);
+    Ok(())
+}
