@@ -2,7 +2,7 @@
 //! output. docs/PACK_CARE.md and docs/DATA.md have them. `words` has those that other commands over a pack take too.
 //!
 //! Each call is proved safe and returns, and a status is at most 4. What is told of a pack is proved in `s3_pack_check`, what becomes of
-//! one in `s3_pack_care` and `s3_sort`, what is written of a file in `s3_unload` and `s3_cells`, and what a table gives in `s3_load`.
+//! one in `s3_pack_care`, what is written of a file in `s3_unload` and `s3_cells`, and what a table gives in `s3_load`.
 //! That the words are followed, which source of a deck is the layout, and the words of refusals are tested with rows. What files,
 //! standard input and standard output give and take isn't claimed: they are used as the toolchain offers them.
 #![tactic(auto)]

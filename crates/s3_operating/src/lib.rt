@@ -3,7 +3,7 @@
 //! docs/OPERATING.md has all of it.
 //!
 //! What is proved: each call is safe and returns. No contract says what is told or written: that is tested. What a day gives is
-//! proved of `s3_desk`, for this operator as for any, and how its jobs ended of `s3_ledger`.
+//! proved of `s3_desk`, for this operator as for any, and how its jobs ended of `s3_day_log`.
 
 #![tactic(auto)]
 
