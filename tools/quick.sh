@@ -24,7 +24,7 @@ look() {
     ! try_fits || kind=tested
 }
 
-# Prints what tools/unproved depends on in addition to the sources: the kit, where it is, and the tool itself.
+# Prints what tools/unproved depends on, apart from the sources: the kit, its place, and the tool itself.
 circumstances() {
     echo "$(toolchain), $(readlink -f "$(command -v rt)"), $(sha256sum < "$here/tools/unproved")"
 }
