@@ -1,6 +1,6 @@
-# The program without waiting for its proof: what bureau and check do beside kept.sh, and read behind it.
+# bureau and check read this file after kept.sh, for a program without waiting for its proof.
 
-# Sets $made_from and $kind to what stands for the sources as they are, and compiles it where it isn't kept.
+# Sets $made_from and $kind to the executable that fits the sources. Compiles it first if it isn't kept.
 choose() {
     look
     until is_kept; do
@@ -12,31 +12,53 @@ choose() {
     done
 }
 
-# Sources that the gate has passed, with this toolchain, need no run-time tests. The toolchain isn't asked where that is known.
+# Sources that the full check has proved need no run-time tests, whatever toolchain compiles them.
 look() {
     made_from=$(sources)
     kind=proved
-    is_kept && return
-    kind=plain
-    [ "$made_from" = "$(recorded sources)" ] && { is_kept || [ "$(toolchain)" = "$(recorded toolchain)" ]; } && return
+    ! is_kept || return 0
     kind=tested
+    is_recorded "$made_from" || return 0
+    kind=plain
+    ! is_kept || return 0
+    ! try_fits || kind=tested
+}
+
+# Prints what tools/unproved depends on, apart from the sources: the kit, its place, and the tool itself.
+circumstances() {
+    echo "$(toolchain), $(readlink -f "$(command -v rt)"), $(sha256sum < "$here/tools/unproved")"
+}
+
+# The file that names the circumstances in which tools/unproved failed, so that `rt try` built the program in its place.
+by_try() {
+    echo "$kept/tested-$made_from/by-try"
+}
+
+# Whether the executable of `rt try` is kept and still fits. A new kit or a new tools/unproved gets another attempt.
+try_fits() {
+    [ -x "$kept/tested-$made_from/bureau" ] && [ -e "$(by_try)" ] || return 1
+    ! command -v rt > /dev/null || [ "$(circumstances)" = "$(cat "$(by_try)")" ]
 }
 
 compile() {
     need_toolchain
     log=$kept/log
     when_stopped="the compilation was stopped"
-    tests=
+    mkdir -p "$kept"
+    outcome=0
     if [ $kind = plain ]; then
         say "compiling the program without its proof: about two minutes on two processors"
+        watch "$here/tools/unproved" "$kept/unstamped" || outcome=$?
     else
-        tests=--tested
         say "compiling the program without its proof, with run-time tests: two to three minutes on one processor"
+        watch "$here/tools/unproved" "$kept/unstamped" --tested || outcome=$?
     fi
-    mkdir -p "$kept"
-    watch "$here/tools/unproved" "$kept/unstamped" $tests || { cat "$log" >&2; say "the program doesn't compile"; exit $failed; }
+    tried_for=
+    [ $outcome -ne 3 ] || compile_by_try
+    [ $outcome -eq 0 ] || { cat "$log" >&2; say "the program doesn't compile"; exit $failed; }
     if [ "$made_from" = "$(sources)" ]; then
         keep "$kept/unstamped"
+        [ -z "$tried_for" ] || echo "$tried_for" > "$(by_try)"
         say "compiled in $taken seconds"
     else
         say "the sources were changed while they were compiled"
@@ -44,14 +66,41 @@ compile() {
     rm -f "$kept/unstamped"
 }
 
+# The status 3 of tools/unproved says that it didn't find its way into the kit; its message says what it looked for.
+compile_by_try() {
+    cat "$log" >&2
+    say "tools/unproved doesn't work with this kit, so rt try builds the program: the executable is slow and has run-time tests"
+    kind=tested
+    tried_for=$(circumstances)
+    outcome=0
+    watch "$here/tools/unproved" "$kept/unstamped" --by-try || outcome=$?
+}
+
 progress() {
     echo "compiling"
 }
 
-# Which executable runs, where it isn't a proved one.
+# Prints which executable runs, unless it is a proved one. samples/month-end/run knows the message by its first words.
 tell() {
     case $kind in
-        plain) say "runs without a proof made here; the gate has proved these sources, and ./prove proves them here" ;;
-        tested) say "runs without a proof, with run-time tests; $(differences "$made_from" | sed '2,$s/^/and /' | tr '\n' ';' | sed 's/;$//; s/;/; /g')" ;;
+        plain) say "runs without a proof made here; $(whose_proof)" ;;
+        tested) say "runs without a proof, with run-time tests; $(why_tested)" ;;
     esac
+}
+
+whose_proof() {
+    made=$(made_with)
+    if [ "${made:-none}" = "$(recorded logic)" ]; then
+        echo "the full check has proved these sources, and ./prove proves them here"
+    else
+        echo "PROVED is of the logic $(recorded logic), the toolchain that compiled this executable has ${made:-none}, and ./check --full proves these sources with this toolchain"
+    fi
+}
+
+why_tested() {
+    if is_recorded "$made_from"; then
+        echo "tools/unproved doesn't work with this kit, so rt try built it"
+    else
+        why_not_recorded "$made_from"
+    fi
 }
