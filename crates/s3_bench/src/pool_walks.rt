@@ -9,7 +9,7 @@ use s3_store::PackStore;
 use std::alloc::Global;
 
 /// Which sectors are used, one after another.
-#[derive(Clone, Copy, PartialEq, Eq)]
+#[derive(Clone, Copy)]
 enum Order {
     Sequential,
     Random,

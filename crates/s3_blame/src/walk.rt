@@ -10,7 +10,7 @@ use s3_lines::sheet::{
 use std::alloc::{AllocError, Global};
 
 /// A match or control level.
-#[derive(Clone, Copy, Debug, PartialEq, Eq)]
+#[derive(Clone, Copy, PartialEq, Eq)]
 pub enum Key {
     /// L1 to L9.
     Control(u8),

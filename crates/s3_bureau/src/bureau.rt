@@ -19,7 +19,7 @@ use std::marker::Model;
 use std::num::NonZeroU16;
 
 /// How far a bureau has come.
-#[derive(Clone, Copy, PartialEq, Eq)]
+#[derive(Clone, Copy)]
 enum Phase {
     /// Entries are taken.
     Open,

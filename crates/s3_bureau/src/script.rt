@@ -7,7 +7,6 @@ use super::entry::Entry;
 use s3_cards::{LevelId, first_line, number_spelled};
 use s3_level::Action;
 use std::alloc::{AllocFailed, Global};
-use thiserror::Error;
 
 /// What a line of a script asks for: an entry, so many times.
 #[derive(Clone, Copy)]
@@ -19,13 +18,11 @@ pub struct Command {
 }
 
 /// Why a script can't be read.
-#[derive(Clone, Copy, Debug, Error)]
+#[derive(Clone, Copy)]
 pub enum ScriptFault {
     /// Memory ran out: a growth was refused.
-    #[error("out of memory")]
     NoMemory,
     /// The number of the first ill-formed line, from 1.
-    #[error("line {0} is ill formed")]
     Line(usize),
 }
 

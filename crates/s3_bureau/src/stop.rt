@@ -2,19 +2,15 @@
 
 use s3_store::SectorFault;
 use std::alloc::AllocError;
-use thiserror::Error;
 
 /// Why a call of a bureau isn't done: it stopped the bureau, or the bureau was over before. Every later call answers `Stopped`.
-#[derive(Clone, Copy, Debug, PartialEq, Eq, Error)]
+#[derive(Clone, Copy, Debug, PartialEq, Eq)]
 pub enum Stop {
     /// A growth was refused: the bureau stops with this answer.
-    #[error("out of memory")]
     NoMemory,
     /// A transfer of the store failed: the bureau stops with this answer.
-    #[error("a transfer failed")]
     Device,
     /// The bureau was stopped before, or is finished.
-    #[error("stopped")]
     Stopped,
 }
 

@@ -12,7 +12,6 @@ use super::ebcdic::BLANK;
 use memchr::memchr;
 use std::alloc::{AllocError, AllocFailed, Global};
 use std::marker::Model;
-use thiserror::Error;
 
 /// The columns of a card.
 pub const COLUMNS: usize = 96;
@@ -27,16 +26,13 @@ pub type Card = [u8; COLUMNS];
 const MAX_CARDS: usize = 9_999;
 
 /// What is wrong with a card of a text.
-#[derive(Clone, Copy, Debug, PartialEq, Eq, Error)]
+#[derive(Clone, Copy, Debug)]
 pub enum CardFault {
     /// The card's line has over 96 bytes.
-    #[error("wider than 96 columns")]
     TooWide,
     /// The card's line has a byte that is no card character.
-    #[error("a character that no card can have")]
     BadCharacter,
     /// The card is the 9,999th one, and the text has more.
-    #[error("more than 9,999 cards")]
     TooMany,
 }
 
@@ -54,13 +50,11 @@ impl CardFault {
 }
 
 /// Why a text is no deck.
-#[derive(Debug, Drop, Error)]
+#[derive(Debug, Drop)]
 pub enum DeckFault {
     /// There is no memory for the cards.
-    #[error("out of memory")]
     NoMemory,
     /// The number of the first card at fault, from 1, and what is wrong with it; of too many cards, 9,999.
-    #[error("card {0}: {1}")]
     At(u16, CardFault),
 }
 

@@ -11,7 +11,7 @@ use super::texts::{are_blank, word_len};
 
 /// A name of a program, a file, a label or a field: a letter, `$`, `#` or `@`, then these or digits. A file and a label
 /// have at most 8 characters, the others at most 6.
-#[derive(Clone, Copy, Debug, PartialEq, Eq, Hash)]
+#[derive(Clone, Copy, PartialEq, Eq, Hash)]
 pub struct Name {
     /// The name's characters in EBCDIC, padded with blanks on the right.
     pub codes: [u8; 8],

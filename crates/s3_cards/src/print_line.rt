@@ -9,7 +9,7 @@ use std::marker::Model;
 pub const PRINT_POSITIONS: usize = 132;
 
 /// A printed line: its page, its line on the page, and as its text the 1 to 132 EBCDIC bytes of the print record.
-#[derive(Clone, Copy, Debug)]
+#[derive(Clone, Copy)]
 pub struct PrintLine {
     page: u16,
     line: u8,

@@ -1,7 +1,7 @@
 //! How long files are kept.
 
 /// How long a file on a pack is kept.
-#[derive(Clone, Copy, Debug, PartialEq, Eq)]
+#[derive(Clone, Copy)]
 pub enum Retention {
     /// T: until a job makes a file of its label again.
     Temporary,

@@ -5,22 +5,18 @@ ghost use Rattle.s3_cli.specs.declared.input.ReadFault.TheVariants.{TooLong, NoM
 
 use crate::watched::Source;
 use std::alloc::{AllocError, Global};
-use thiserror::Error;
 
 /// The most bytes that are asked of a reader at once.
 const CHUNK: usize = 4_096;
 
 /// Why not all of a reader's bytes were kept.
-#[derive(Clone, Copy, Debug, Error)]
+#[derive(Clone, Copy)]
 pub enum ReadFault {
     /// The reader gave more bytes than the limit.
-    #[error("too long")]
     TooLong,
     /// A read failed.
-    #[error("a read failed")]
     Failed,
     /// Memory ran out: the room was refused.
-    #[error("out of memory")]
     NoMemory,
 }
 

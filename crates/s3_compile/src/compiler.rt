@@ -15,16 +15,13 @@ use s3_lines::sheet::Line;
 use s3_program::program::Program;
 use s3_program::translate;
 use std::alloc::{AllocError, Global};
-use thiserror::Error;
 
 /// Why lines don't become a program.
-#[derive(Debug, Drop, Error)]
+#[derive(Debug, Drop)]
 pub enum CompileFault {
     /// Memory ran out; nothing is known of the source.
-    #[error("out of memory")]
     NoMemory,
     /// The diagnostics 5 to 12 of the source, by card and then number; at least one.
-    #[error("a source with diagnostics")]
     Diagnostics(Vec<Diagnostic>),
 }
 

@@ -11,7 +11,7 @@ use thiserror::Error;
 const CHECKSUM: usize = 64;
 
 /// Why a text is no log.
-#[derive(Clone, Copy, Debug, PartialEq, Eq, Error)]
+#[derive(Clone, Copy, Debug, Error)]
 pub enum LogFault {
     /// There is no memory for it.
     #[error("out of memory")]
@@ -35,7 +35,7 @@ impl<T: Drop> From<AllocFailed<T>> for LogFault {
 }
 
 /// What differs between a logged day and the files that are given for it.
-#[derive(Clone, Copy, Debug, PartialEq, Eq, Error)]
+#[derive(Clone, Copy, Debug, Error)]
 pub enum Refused {
     /// The pack is another one.
     #[error("the pack isn't that of the log; give the pack with which the day was begun")]

@@ -7,7 +7,7 @@ use crate::ledger::{BegunJob, Ledger};
 use s3_operator::is_at_start;
 
 /// How a level ended.
-#[derive(Clone, Copy, Debug, PartialEq, Eq)]
+#[derive(Clone, Copy)]
 pub enum LevelEnd {
     /// No job is at work, none is left, and all its lines are printed.
     Done,
@@ -24,7 +24,7 @@ pub enum LevelEnd {
 }
 
 /// What became of a day.
-#[derive(Clone, Copy, Debug, PartialEq, Eq)]
+#[derive(Clone, Copy)]
 pub enum Verdict {
     /// Both levels are done, and each job came to its end.
     Clean,

@@ -26,7 +26,7 @@ pub struct Begun {
 }
 
 /// How a job ended.
-#[derive(Clone, Copy, PartialEq, Eq)]
+#[derive(Clone, Copy)]
 pub enum JobEnd {
     /// It came to its end.
     Ended,
@@ -37,7 +37,7 @@ pub enum JobEnd {
 }
 
 /// Who gave a reply.
-#[derive(Clone, Copy, PartialEq, Eq)]
+#[derive(Clone, Copy)]
 pub enum Replier {
     /// A rule.
     Rule,

@@ -5,7 +5,6 @@ ghost use Rattle.s3_decimal.specs.Records.{cleaned};
 
 use crate::number::Dec;
 use crate::scale::with_sign;
-use thiserror::Error;
 
 /// The four bits of the minus sign.
 pub const MINUS: u8 = 0xd;
@@ -14,8 +13,7 @@ pub const MINUS: u8 = 0xd;
 pub const PLUS: u8 = 0xf;
 
 /// Why a field isn't read as a number: one of its digits is above 9.
-#[derive(Clone, Copy, Debug, PartialEq, Eq, Error)]
-#[error("a digit is above 9")]
+#[derive(Clone, Copy, Debug)]
 pub struct BadDigit {
     /// The number that the field holds where each bad digit counts as 0.
     pub number: Dec,

@@ -6,11 +6,9 @@ ghost use Rattle.s3_decimal.specs.declared.rounding.Rounding.TheVariants.{Trunca
 use crate::number::{Dec, Form};
 use crate::rounding::Rounding;
 use crate::scale::{kept, left_over, magnitude_at, store, whole_units, wide_with_sign};
-use thiserror::Error;
 
 /// The divisor is zero.
-#[derive(Clone, Copy, Debug, PartialEq, Eq, Error)]
-#[error("the divisor is zero")]
+#[derive(Clone, Copy, Debug, PartialEq, Eq)]
 pub struct ZeroDivisor;
 
 /// The quotient and the remainder of a division.

@@ -9,7 +9,7 @@ use s3_ocl::{JobCards, Switch};
 const SWITCHES: usize = 8;
 
 /// The date that a kept job would inherit.
-#[derive(Clone, Copy, Debug, PartialEq, Eq)]
+#[derive(Clone, Copy)]
 pub struct InheritedDate {
     /// The date mmddyy, in EBCDIC.
     pub digits: [u8; 6],
@@ -18,7 +18,7 @@ pub struct InheritedDate {
 }
 
 /// The switches that a kept job would inherit.
-#[derive(Clone, Copy, Debug, PartialEq, Eq)]
+#[derive(Clone, Copy)]
 pub struct InheritedSwitches {
     /// What its SWITCH has to say of U1 to U8, with what it says already.
     pub card: [Switch; SWITCHES],
@@ -27,7 +27,7 @@ pub struct InheritedSwitches {
 }
 
 /// What a kept job would inherit from jobs that are left out. In the deck of the day it has to be said by cards of its own.
-#[derive(Clone, Copy, Debug, PartialEq, Eq)]
+#[derive(Clone, Copy)]
 pub struct Inherited {
     /// The place of the kept job among all jobs of the deck, from 0.
     pub job: usize,

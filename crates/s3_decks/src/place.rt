@@ -6,7 +6,7 @@ use std::fmt;
 use std::fmt::Display;
 
 /// A line of a file.
-#[derive(Clone, Copy, Debug, PartialEq, Eq)]
+#[derive(Clone, Copy)]
 pub struct FilePlace<'a> {
     /// The file's name, as it was given.
     pub file: &'a str,
@@ -32,7 +32,7 @@ impl<'a> Display for FilePlace<'a> {
 }
 
 /// A card of a deck: `card 28 (day1.job, line 28)`.
-#[derive(Clone, Copy, Debug, PartialEq, Eq)]
+#[derive(Clone, Copy)]
 pub struct CardPlace<'a> {
     /// The number of the card in the deck, from 1.
     pub card: usize,

@@ -6,7 +6,7 @@ use s3_cards::number_spelled;
 const DIGITS: usize = 7;
 
 /// A line that is named in the command.
-#[derive(Clone, Copy, Debug, PartialEq, Eq)]
+#[derive(Clone, Copy)]
 pub struct Position<'a> {
     /// The file; `None` where the line is one of the whole deck.
     pub file: Option<&'a str>,

@@ -8,7 +8,7 @@ use std::alloc::AllocError;
 const MARGIN: &'static str = "    ";
 
 /// Columns that are marked, from 1.
-#[derive(Clone, Copy, Debug, PartialEq, Eq)]
+#[derive(Clone, Copy)]
 pub struct Columns {
     /// The first one.
     pub from: usize,

@@ -26,7 +26,7 @@ use std::num::NonZeroU16;
 const STRIDE: u16 = 1_000;
 
 /// What came of a level's going on.
-#[derive(Clone, Copy, Debug, PartialEq, Eq)]
+#[derive(Clone, Copy)]
 enum Went {
     /// It has gone on.
     On,
@@ -37,7 +37,7 @@ enum Went {
 }
 
 /// A level at the desk.
-#[derive(Clone, Copy, Debug)]
+#[derive(Clone, Copy)]
 struct Seat {
     /// How far it may still go.
     left: Bounds,

@@ -1,7 +1,7 @@
 //! How far a level goes at most, and where it was left.
 
 /// How far a level goes at most.
-#[derive(Clone, Copy, Debug)]
+#[derive(Clone, Copy)]
 pub struct Bounds {
     /// So many turns.
     pub turns: u32,
@@ -10,7 +10,7 @@ pub struct Bounds {
 }
 
 /// Where a level was left.
-#[derive(Clone, Copy, Debug, PartialEq, Eq)]
+#[derive(Clone, Copy)]
 pub enum End {
     /// No job is at work, none is left, and no line is queued.
     Done,
@@ -21,7 +21,7 @@ pub enum End {
 }
 
 /// Where both levels were left.
-#[derive(Clone, Copy, Debug, PartialEq, Eq)]
+#[derive(Clone, Copy)]
 pub struct Ends {
     /// Level one.
     pub one: End,

@@ -1,7 +1,7 @@
 //! What the pack has about a halt.
 
 /// What is wrong with the index of a file. Entries and records are counted from 1.
-#[derive(Clone, Copy, Debug, PartialEq, Eq)]
+#[derive(Clone, Copy)]
 pub enum IndexFlaw {
     /// The key of this entry doesn't come behind that of the entry before.
     Order(u32),

@@ -6,7 +6,7 @@ use s3_store::SectorFault;
 use thiserror::Error;
 
 /// Why a call on a file of records is refused.
-#[derive(Clone, Copy, Debug, PartialEq, Eq, Error)]
+#[derive(Clone, Copy, Debug, Error)]
 pub enum FileFault {
     /// The file has no record at that place.
     #[error("no such record")]

@@ -6,7 +6,7 @@ use s3_store::SectorFault;
 use thiserror::Error;
 
 /// Why a call on a file with keys is refused.
-#[derive(Clone, Copy, Debug, PartialEq, Eq, Error)]
+#[derive(Clone, Copy, Debug, Error)]
 pub enum KeyedFault {
     /// No record has that key, or there is none at that place.
     #[error("no such record")]

@@ -2,16 +2,13 @@
 use s3_slots::{LabelFault, MountFault};
 use s3_store::SectorFault;
 use std::alloc::{AllocError, AllocFailed};
-use thiserror::Error;
 
 /// Why a pack isn't mounted.
-#[derive(Clone, Copy, Debug, PartialEq, Eq, Error)]
+#[derive(Clone, Copy, Debug, PartialEq, Eq)]
 pub enum Refusal {
     /// The pack's header isn't accepted.
-    #[error("not a pack")]
     BadPack(MountFault),
     /// The pack's sectors couldn't be read, or memory was refused.
-    #[error("its sectors can't be read")]
     Sectors(SectorFault),
 }
 
@@ -27,13 +24,11 @@ impl From<SectorFault> for Refusal {
 }
 
 /// Why a label isn't changed.
-#[derive(Clone, Copy, Debug, PartialEq, Eq, Error)]
+#[derive(Clone, Copy, Debug)]
 pub enum ChangeFault {
     /// The slots don't allow the change, and nothing changed.
-    #[error("the labels don't allow it")]
     Label(LabelFault),
     /// The pack's sectors couldn't be read or written.
-    #[error("its sectors can't be read or written")]
     Sectors(SectorFault),
 }
 
@@ -60,13 +55,11 @@ impl From<SectorFault> for ChangeFault {
 }
 
 /// Why a list of files couldn't be made.
-#[derive(Clone, Copy, Debug, PartialEq, Eq, Error)]
+#[derive(Clone, Copy)]
 pub enum PlanFault {
     /// The first file that would be refused, by its place in the list from 0, and why.
-    #[error("file {0} would be refused")]
     File(usize, LabelFault),
     /// A growth was refused.
-    #[error("out of memory")]
     NoMemory,
 }
 
@@ -82,19 +75,15 @@ impl From<AllocError> for PlanFault {
 }
 
 /// Why a new pack isn't written.
-#[derive(Clone, Copy, Debug, PartialEq, Eq, Error)]
+#[derive(Clone, Copy, Debug, PartialEq, Eq)]
 pub enum ImageFault {
     /// The old pack isn't mounted.
-    #[error("the old pack can't be mounted")]
     Mount(MountFault),
     /// There are more than 2,723 tracks.
-    #[error("too many tracks")]
     TooLarge,
     /// A growth was refused.
-    #[error("out of memory")]
     NoMemory,
     /// The quotas aren't 1 to 127, together at most 128.
-    #[error("no such quotas")]
     BadQuota,
 }
 
@@ -110,16 +99,13 @@ impl From<AllocError> for ImageFault {
 }
 
 /// Why a pack isn't brought into the second format.
-#[derive(Clone, Copy, Debug, PartialEq, Eq, Error)]
+#[derive(Clone, Copy, Debug)]
 pub enum MigrateFault {
     /// The pack isn't mounted.
-    #[error("the pack can't be mounted")]
     Mount(MountFault),
     /// The pack is in the second format already.
-    #[error("the pack is in the second format")]
     AlreadyNew,
     /// A growth was refused.
-    #[error("out of memory")]
     NoMemory,
 }
 

@@ -3,16 +3,13 @@ ghost use Rattle.std.specs.Prelude.{◌≡◌};
 
 use s3_cards::Name;
 use std::alloc::{AllocError, AllocFailed};
-use thiserror::Error;
 
 /// Why the cards of a source are no layout.
-#[derive(Debug, Drop, Error)]
+#[derive(Drop)]
 pub enum LayoutFault {
     /// Memory was refused.
-    #[error("out of memory")]
     NoMemory,
     /// The cards have faults; the first is this one of the card with this number.
-    #[error("card {card} has diagnostic {number}")]
     Card {
         /// The number of the card, from 1.
         card: u16,
@@ -20,28 +17,20 @@ pub enum LayoutFault {
         number: u8,
     },
     /// No line of the F sheet is of a file on disk.
-    #[error("the source has no file on disk")]
     NoFile,
     /// The source has several files on disk, and none is named.
-    #[error("the source has several files on disk")]
     SeveralFiles,
     /// The source has no file of the name that is given on disk.
-    #[error("the source has no such file on disk")]
     OtherFile,
     /// The file has several types of records, and none is named.
-    #[error("the file has several types of records")]
     SeveralTypes,
     /// The file has no type of records with the indicator that is given.
-    #[error("the file has no such type of records")]
     OtherType,
     /// The records of the type have no fields.
-    #[error("the source has no field of these records")]
     NoFields,
     /// This field has a form that no program can have: its length or its decimals don't suit it.
-    #[error("a field has a length or decimals that no program can have")]
     NoForm(Name),
     /// This field is there twice.
-    #[error("a field is there twice")]
     Twice(Name),
 }
 

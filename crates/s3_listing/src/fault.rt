@@ -1,19 +1,15 @@
 //! Why nothing, or not all, is listed.
 use s3_labels::MountFault;
 use std::alloc::AllocError;
-use thiserror::Error;
 
 /// Why the files of a pack aren't listed.
-#[derive(Clone, Copy, Debug, PartialEq, Eq, Error)]
+#[derive(Clone, Copy)]
 pub enum ListFault {
     /// The pack isn't mounted, for what is wrong with its header.
-    #[error("the pack can't be mounted")]
     Mount(MountFault),
     /// Memory was refused.
-    #[error("out of memory")]
     NoMemory,
     /// The writer failed; some of the list may be written.
-    #[error("the list can't be written")]
     File,
 }
 

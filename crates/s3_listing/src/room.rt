@@ -11,7 +11,7 @@ use std::alloc::Global;
 const TRACK: u16 = 24;
 
 /// The tracks of a region that no file has.
-#[derive(Clone, Copy, Debug, PartialEq, Eq)]
+#[derive(Clone, Copy)]
 pub struct FreeRoom {
     /// How many there are.
     pub tracks: u16,
@@ -32,7 +32,7 @@ pub fn free_room(alloc: Global, pack: &[u8], area: u16) -> Result<FreeRoom, List
 }
 
 /// How large a file is.
-#[derive(Clone, Copy, Debug, PartialEq, Eq)]
+#[derive(Clone, Copy)]
 pub struct FileSize {
     /// The tracks that it takes.
     pub tracks: u16,

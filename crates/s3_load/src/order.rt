@@ -5,7 +5,7 @@ use s3_cells::Layout;
 use s3_lines::sheet::KeyField;
 
 /// How much room a new file is to have.
-#[derive(Clone, Copy, Debug, PartialEq, Eq)]
+#[derive(Clone, Copy)]
 pub enum Room {
     /// For the records of the table, and at least one.
     ForTable,

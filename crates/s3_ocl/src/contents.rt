@@ -13,7 +13,7 @@ use std::alloc::{AllocError, Global};
 use std::marker::Model;
 
 /// How large a FILE statement makes a new file.
-#[derive(Clone, Copy, Debug, PartialEq, Eq)]
+#[derive(Clone, Copy)]
 pub enum FileSize {
     /// Room for 1 to 999,999 records.
     Records(u32),
@@ -22,7 +22,7 @@ pub enum FileSize {
 }
 
 /// What a FILE statement says.
-#[derive(Clone, Copy, Debug, PartialEq, Eq)]
+#[derive(Clone, Copy)]
 pub struct FileStatement {
     /// The name by which the program knows the file.
     pub name: Name,

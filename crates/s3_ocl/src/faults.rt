@@ -13,7 +13,7 @@ use super::values::Value;
 use thiserror::Error;
 
 /// What is wrong with a job.
-#[derive(Clone, Copy, Debug, PartialEq, Eq, Error)]
+#[derive(Clone, Copy, Debug, Error)]
 pub enum JobFault {
     /// A card that doesn't begin with `//` and a blank where a statement should stand.
     #[error("no statement")]
@@ -264,7 +264,7 @@ pub fn statement_fault(contents: &Contents, statement: &Statement) -> Option<Mar
 }
 
 /// A job with a fault: its first one, by card and then by number.
-#[derive(Clone, Copy, Debug, PartialEq, Eq)]
+#[derive(Clone, Copy)]
 pub struct FaultyJob {
     /// What is wrong there.
     pub fault: JobFault,

@@ -21,16 +21,13 @@ use s3_cards::ebcdic::BLANK;
 use s3_cards::{Card, Deck, Name};
 use std::alloc::{AllocError, Global};
 use std::marker::Model;
-use thiserror::Error;
 
 /// Why the next job of a deck was not read.
-#[derive(Debug, Drop, Error)]
+#[derive(Drop)]
 pub enum OclFault {
     /// There was no memory for the job.
-    #[error("out of memory")]
     NoMemory,
     /// The job has a fault.
-    #[error("a faulty job")]
     Faulty(FaultyJob),
 }
 

@@ -9,7 +9,7 @@ use s3_cards::ebcdic::{BLANK, DIGIT_0, DIGIT_1, LETTER_P, LETTER_S, LETTER_T, LE
 use s3_cards::{Name, Retention, go_on_in_name, is_digit, is_word, number_spelled};
 
 /// What a SWITCH statement does with one switch.
-#[derive(Clone, Copy, Debug, PartialEq, Eq)]
+#[derive(Clone, Copy)]
 pub enum Switch {
     /// 1: the switch goes on.
     On,

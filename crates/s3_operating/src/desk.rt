@@ -33,7 +33,7 @@ const BETWEEN: u64 = 1_000;
 const TURNS_BETWEEN: u64 = 1_000;
 
 /// Who is asked for what neither a log nor a rule answers.
-#[derive(Clone, Copy, Debug, PartialEq, Eq)]
+#[derive(Clone, Copy)]
 pub enum Questioned {
     /// Nobody: such a halt stays unanswered.
     Nobody,

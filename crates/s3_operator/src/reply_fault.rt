@@ -1,15 +1,11 @@
 //! Why a reply is refused.
 
-use thiserror::Error;
-
 /// Why a reply is refused.
-#[derive(Clone, Copy, Debug, PartialEq, Eq, Error)]
+#[derive(Clone, Copy)]
 pub enum ReplyFault {
     /// No halt waits for a reply.
-    #[error("no halt waits for a reply")]
     NotHalted,
     /// The halt that waits doesn't allow the digit.
-    #[error("the halt doesn't allow this reply")]
     NotAllowed,
 }
 

@@ -9,7 +9,7 @@ ghost use Rattle.s3_output.specs.Inner.Requests.{request_of};
 use s3_lines::sheet::{Designation, FileLine, FileUse};
 
 /// What a line of a disk file asks for.
-#[derive(Clone, Copy, Debug, PartialEq, Eq)]
+#[derive(Clone, Copy)]
 pub enum DiskRequest {
     /// The current record is written back with what was put.
     Update,

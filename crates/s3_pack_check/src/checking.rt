@@ -20,7 +20,7 @@ use s3_store::{MemoryStore, Sectors, Stretch};
 use std::alloc::Global;
 
 /// What is wrong with a slot.
-#[derive(Clone, Copy, Debug, PartialEq, Eq)]
+#[derive(Clone, Copy)]
 pub enum Cause {
     /// The label can't be used.
     Label(Damage),
@@ -29,7 +29,7 @@ pub enum Cause {
 }
 
 /// A slot with which something is wrong.
-#[derive(Clone, Copy, Debug, PartialEq, Eq)]
+#[derive(Clone, Copy)]
 pub struct Wrong {
     /// The area: 0 for the masters, 1 and 2 for the levels.
     pub area: u16,

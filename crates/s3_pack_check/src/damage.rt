@@ -13,7 +13,7 @@ use s3_store::Stretch;
 use thiserror::Error;
 
 /// Why the label of a slot can't be used: the first of these that is so.
-#[derive(Clone, Copy, Debug, PartialEq, Eq, Error)]
+#[derive(Clone, Copy, Debug, Error)]
 pub enum Damage {
     /// The slot's first byte is neither 0 nor 1.
     #[error("its first byte is neither 0, for a free slot, nor 1, for a used one")]

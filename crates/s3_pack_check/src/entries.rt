@@ -9,7 +9,7 @@ use byteorder::{BigEndian, ByteOrder};
 use s3_labels::FileLabel;
 
 /// What is wrong with an entry of an index. Records are counted from 1.
-#[derive(Clone, Copy, Debug, PartialEq, Eq)]
+#[derive(Clone, Copy)]
 pub enum EntryFlaw {
     /// Its key isn't above that of the entry before it.
     Order,
@@ -20,7 +20,7 @@ pub enum EntryFlaw {
 }
 
 /// An entry of an index with which something is wrong.
-#[derive(Clone, Copy, Debug, PartialEq, Eq)]
+#[derive(Clone, Copy)]
 pub struct WrongEntry {
     /// The place of the entry in the index, from 0.
     pub place: u32,

@@ -1,16 +1,13 @@
 //! Why a pack isn't checked.
 use s3_labels::MountFault;
 use std::alloc::{AllocError, AllocFailed};
-use thiserror::Error;
 
 /// Why a pack isn't checked.
-#[derive(Clone, Copy, Debug, PartialEq, Eq, Error)]
+#[derive(Clone, Copy)]
 pub enum CheckFault {
     /// The pack isn't mounted, for what is wrong with its header.
-    #[error("the pack can't be mounted")]
     Mount(MountFault),
     /// Memory was refused.
-    #[error("out of memory")]
     NoMemory,
 }
 

@@ -10,7 +10,7 @@ const LAST_PAGE: u32 = 9_999;
 
 /// The pages of a job's printed lines, from page 1 on. Each is the list of the lines that were printed on it, in the order in which
 /// they were printed; an empty page is an empty list. There is at least one page.
-#[derive(Clone, Copy, Debug, Drop)]
+#[derive(Clone, Copy, Drop)]
 pub struct Pages<'a> {
     /// How many empty pages come before the next one that has lines.
     empty: u32,

@@ -6,7 +6,7 @@ use std::fmt;
 use std::fmt::Display;
 
 /// What is done to a line of a text, so that it becomes a card.
-#[derive(Clone, Copy, Debug, PartialEq, Eq)]
+#[derive(Clone, Copy, PartialEq, Eq)]
 pub struct Changes {
     /// It is left out.
     pub is_left_out: bool,
@@ -51,7 +51,7 @@ impl Changes {
 }
 
 /// What is done to a line.
-#[derive(Clone, Copy, Debug, PartialEq, Eq)]
+#[derive(Clone, Copy)]
 pub struct LineChange {
     /// The number of the line, from 1.
     pub line: usize,

@@ -20,7 +20,7 @@ use std::alloc::{AllocError, Global};
 const MAX_CARDS: usize = 9_999;
 
 /// How the punching of a text begins.
-#[derive(Clone, Copy, Debug, PartialEq, Eq)]
+#[derive(Clone, Copy)]
 pub struct Begun {
     /// The part of the deck that its first line stands in.
     pub part: Part,

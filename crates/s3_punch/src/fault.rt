@@ -3,7 +3,7 @@
 use thiserror::Error;
 
 /// What is wrong at a place of a text.
-#[derive(Clone, Copy, Debug, PartialEq, Eq, Error)]
+#[derive(Clone, Copy, Debug, Error)]
 pub enum PunchReason {
     /// No card has the character, and the table has no plain one for it.
     #[error("no card has the character {0}; write one that cards have in its place")]
@@ -26,7 +26,7 @@ pub enum PunchReason {
 }
 
 /// A place of a text at which something is wrong.
-#[derive(Clone, Copy, Debug, PartialEq, Eq)]
+#[derive(Clone, Copy)]
 pub struct PunchFault {
     /// The number of the line, from 1.
     pub line: usize,

@@ -12,7 +12,7 @@ const COMMENT: char = '#';
 const PIECES: char = '%';
 
 /// How a line of a text has its card.
-#[derive(Clone, Copy, Debug, PartialEq, Eq)]
+#[derive(Clone, Copy)]
 pub enum LineForm {
     /// In pieces, behind a `%`.
     InPieces,

@@ -4,7 +4,7 @@ ghost use Rattle.std.specs.List.{prefix_len};
 ghost use Rattle.s3_punch.specs.Inner.Parts.{behind_load as behind_load_spec, behind_run as behind_run_spec, behind_statement as behind_statement_spec, behind_word, is_behind_run as is_behind_run_spec, is_blank, is_data as is_data_spec, is_mark, is_separator as is_separator_spec, is_source as is_source_spec, is_statement as is_statement_spec, keyword as keyword_spec, names_compiler as names_compiler_spec, parameters as parameters_spec, part_behind as part_behind_spec, word_of};
 
 /// The part of a deck that a card stands in.
-#[derive(Clone, Copy, Debug, PartialEq, Eq)]
+#[derive(Clone, Copy)]
 pub enum Part {
     /// Between jobs, or among the statements of a job in front of its LOAD.
     Statements,

@@ -3,7 +3,7 @@
 use thiserror::Error;
 
 /// What is wrong with a line of the rules.
-#[derive(Clone, Copy, Debug, PartialEq, Eq, Error)]
+#[derive(Clone, Copy, Debug, Error)]
 pub enum LineFault {
     /// There are fewer than three words on it.
     #[error("a rule is LEVEL LETTERS DIGIT, and a PROGRAM if it is for one alone")]
@@ -29,7 +29,7 @@ pub enum LineFault {
 }
 
 /// A line of the rules that is ill formed.
-#[derive(Clone, Copy, Debug, PartialEq, Eq, Error)]
+#[derive(Clone, Copy, Debug, Error)]
 #[error("line {number}: {fault}")]
 pub struct IllFormedLine {
     /// The number of the line, from 1; empty lines and comments count.

@@ -9,16 +9,13 @@ use s3_cards::{LevelId, Name, first_line};
 use s3_operator::HaltCode;
 use std::alloc::{AllocError, AllocFailed, Global};
 use std::marker::Model;
-use thiserror::Error;
 
 /// Why there are no rules.
-#[derive(Debug, Drop, Error)]
+#[derive(Drop)]
 pub enum RulesFault {
     /// There is no memory for the rules.
-    #[error("out of memory")]
     NoMemory,
     /// The lines that are ill formed, one at least, in their order.
-    #[error("ill formed lines")]
     IllFormed(Vec<IllFormedLine>),
 }
 

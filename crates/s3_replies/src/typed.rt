@@ -10,7 +10,7 @@ pub const LINES_SHOWN: usize = 10;
 const DIGITS: usize = 7;
 
 /// What an operator types in answer to a prompt.
-#[derive(Clone, Copy, Debug, PartialEq, Eq)]
+#[derive(Clone, Copy)]
 pub enum Typed {
     /// An empty line.
     Nothing,

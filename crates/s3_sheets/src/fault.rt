@@ -2,16 +2,13 @@
 
 use s3_lines::Diagnostic;
 use std::alloc::AllocError;
-use thiserror::Error;
 
 /// Why the sheets of a source weren't read.
-#[derive(Debug, Drop, Error)]
+#[derive(Debug, Drop)]
 pub enum SheetFault {
     /// Memory ran out.
-    #[error("out of memory")]
     NoMemory,
     /// The diagnostics of the cards, by card and then number; at least one.
-    #[error("a source with diagnostics")]
     Diagnostics(Vec<Diagnostic>),
 }
 

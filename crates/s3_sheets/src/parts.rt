@@ -40,7 +40,7 @@ pub struct Part {
 }
 
 /// An entry of a card that is at fault by a diagnostic.
-#[derive(Clone, Copy, Debug, PartialEq, Eq)]
+#[derive(Clone, Copy)]
 pub struct FaultyEntry {
     /// The number of the card in its deck, from 1.
     pub card: u16,

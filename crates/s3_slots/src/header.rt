@@ -8,7 +8,7 @@ use byteorder::{BigEndian, ByteOrder};
 use s3_store::Stretch;
 
 /// How a pack is laid out: files of the first format have one extent, those of the second up to four.
-#[derive(Clone, Copy, Debug, PartialEq, Eq)]
+#[derive(Clone, Copy)]
 pub enum Format {
     /// The first format, `S3PACK01`: a file has one extent, and each level may have 64 lines queued.
     First,
@@ -17,7 +17,7 @@ pub enum Format {
 }
 
 /// The header of a pack.
-#[derive(Clone, Copy, Debug, PartialEq, Eq)]
+#[derive(Clone, Copy)]
 pub struct Header {
     /// How the pack is laid out.
     pub format: Format,

@@ -9,7 +9,7 @@ use s3_cards::{Name, Retention, is_name};
 use s3_store::{Extents, Stretch};
 
 /// How the records of a file are found.
-#[derive(Clone, Copy, Debug, PartialEq, Eq)]
+#[derive(Clone, Copy)]
 pub enum Organization {
     /// Sequential, S: one after another.
     Sequential,

@@ -17,7 +17,7 @@ use s3_cards::{Name, Retention};
 use s3_store::{Extents, Stretch};
 
 /// Why a call on labels is refused.
-#[derive(Clone, Copy, Debug, PartialEq, Eq)]
+#[derive(Clone, Copy, Debug)]
 pub enum LabelFault {
     /// No file of the area has that label.
     NotFound,
@@ -34,7 +34,7 @@ pub enum LabelFault {
 }
 
 /// How large a new file is to be.
-#[derive(Clone, Copy, Debug, PartialEq, Eq)]
+#[derive(Clone, Copy)]
 pub enum Size {
     /// Room for so many records, 1 to 999,999.
     Records(u32),
@@ -43,7 +43,7 @@ pub enum Size {
 }
 
 /// A file that is to be made.
-#[derive(Clone, Copy, Debug, PartialEq, Eq)]
+#[derive(Clone, Copy)]
 pub struct NewFile {
     /// The label that the file gets.
     pub name: Name,

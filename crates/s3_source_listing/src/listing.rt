@@ -11,7 +11,7 @@ use std::io;
 use std::io::Write;
 
 /// What a deck's listing has.
-#[derive(Clone, Copy, Debug, PartialEq, Eq)]
+#[derive(Clone, Copy, PartialEq, Eq)]
 pub struct Outcome {
     /// How many sources it has.
     pub sources: usize,

@@ -6,7 +6,7 @@ use s3_lines::sheet::{
 };
 
 /// What a name stands for.
-#[derive(Clone, Copy, PartialEq, Eq)]
+#[derive(Clone, Copy)]
 pub enum Sort {
     /// A file.
     File,

@@ -3,19 +3,15 @@ ghost use Rattle.std.specs.Prelude.{◌≡◌};
 ghost use Rattle.s3_spool.specs.declared.fault.SpoolFault.TheVariants.{Sectors as SectorsFault};
 
 use s3_store::SectorFault;
-use thiserror::Error;
 
 /// Why a queue of printed lines refuses a call.
-#[derive(Clone, Copy, Debug, PartialEq, Eq, Error)]
+#[derive(Clone, Copy)]
 pub enum SpoolFault {
     /// The level has as many lines queued as its quota allows.
-    #[error("the level's quota of queued lines is used up")]
     QuotaFull,
     /// The level has no line queued.
-    #[error("no line is queued")]
     Empty,
     /// A transfer failed, or memory was refused.
-    #[error("{0}")]
     Sectors(SectorFault),
 }
 

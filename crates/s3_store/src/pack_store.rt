@@ -2,11 +2,8 @@
 ghost use Rattle.std.specs.Prelude.{◌≡◌, ◌+◌, ◌<◌, ℕ, List, length, slice_get, slice_set, Some, OnOk, OnErr};
 ghost use Rattle.s3_store.specs.Inner.Failures.{failed_calls};
 
-use thiserror::Error;
-
 /// Why a store refuses a call: the transfer failed.
-#[derive(Clone, Copy, Debug, PartialEq, Eq, Error)]
-#[error("a transfer failed")]
+#[derive(Clone, Copy, PartialEq, Eq)]
 pub struct StoreFault;
 
 /// Sectors of 256 bytes on some device, numbered from 0.

@@ -5,7 +5,7 @@ use s3_labels::{ImageFault, image};
 use std::alloc::Global;
 
 /// The levels that took an entry, whether it was performed or not.
-#[derive(Clone, Copy, Debug)]
+#[derive(Clone, Copy)]
 pub struct Taken {
     one: bool,
     two: bool,

@@ -49,7 +49,7 @@ impl Session {
 }
 
 /// The call in which a run's transfer failed.
-#[derive(Clone, Copy, Debug, PartialEq, Eq)]
+#[derive(Clone, Copy)]
 pub enum End {
     /// None did.
     Whole,

@@ -13,7 +13,7 @@ use std::test::Fail;
 use thiserror::Error;
 
 /// Why a run ends early.
-#[derive(Clone, Copy, Debug, PartialEq, Eq, Error)]
+#[derive(Clone, Copy, Debug, Error)]
 enum RunFault {
     #[error("the pack isn't mounted")]
     Mount(Refusal),

@@ -130,7 +130,7 @@ fn a_spool_block_goes_past_a_full_pool(rt: HostRuntime) -> Result<(), Fail> {
 }
 
 /// What a run over a store that may fail once came to.
-#[derive(Clone, Copy, Debug, PartialEq, Eq)]
+#[derive(Clone, Copy)]
 struct Run {
     /// How many calls answered that a transfer had failed.
     faults: u32,
