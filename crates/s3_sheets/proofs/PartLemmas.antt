@@ -25,8 +25,8 @@ use Rattle.s3_sheets.specs.Sheets.{before, lacks_file, exceeds, kind_at, standin
 use Rattle.s3_sheets.specs.Tables.{rules_of, rule, maybe, field_rules}
 use Rattle.s3_sheets.specs.Inner.Parts.{fault_number, rule_part, combined_parts, position_parts, standing_parts, parts_with, length_at, parts_at, entry_of, fails, entries_of, entries_below, faulty_entries, has_entry, has_record_length, has_surplus_decimals, has_surplus, IsToldByEntries}
 use Rattle.s3_sheets.specs.Inner.RuleViews.{rule_view}
-use Rattle.s3_sheets.specs.Inner.Progress.{Kept, length_named, kept_behind, standing_behind}
-use Rattle.s3_sheets.proofs.ProgressLemmas.{IsKept, kept_next, standing_same}
+use Rattle.s3_sheets.specs.Inner.Progress.{Kept, nothing_kept, length_named, kept_behind, standing_behind}
+use Rattle.s3_sheets.proofs.ProgressLemmas.{IsKept, none_kept, kept_next, standing_same}
 use Rattle.s3_sheets.specs.declared.faults.Fault.{Fault}
 use Rattle.s3_sheets.specs.declared.faults.Fault.TheVariants.{WrongEntry, WrongName, WrongNumber}
 use Rattle.s3_sheets.specs.declared.kind.CardKind.{CardKind}
@@ -101,6 +101,9 @@ all_rules number card rules i old found so_far e =
 pub record FoundSoFar (from : ℕ) (cards : List (List ℕ)) (n : ℕ) (found : List FaultyEntry) (kept : Kept) : Type 0 where
   pub entries : found ≡ entries_below from cards n
   pub progress : IsKept cards n kept
+
+pub none_found : (from : ℕ) (cards : List (List ℕ)) (found : List FaultyEntry) (kept : Kept) → found ≡ [] → kept ≡ nothing_kept → FoundSoFar from cards 0 found kept
+none_found from cards found kept none first = record { entries = none; progress = let P : Kept → Type 0 = λ k. IsKept cards 0 k in subst P (sym first) (none_kept cards) }
 
 length_same : (cards : List (List ℕ)) (n : ℕ) (kept : Kept) → IsKept cards n kept
     → length_for (kind_of (card_at cards n)) (length_named kept (card_at cards n)) kept.input_length kept.output_length ≡ length_at cards n

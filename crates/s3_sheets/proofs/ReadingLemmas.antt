@@ -24,8 +24,13 @@ pub record ReadSoFar (from : ℕ) (cards : List (List ℕ)) (n : ℕ) (diagnosti
   pub lines : typed ≡ lines_below from cards n
   pub progress : IsKept cards n kept
 
-pub nothing_read : (from : ℕ) (cards : List (List ℕ)) → ReadSoFar from cards 0 [] [] nothing_kept
-nothing_read from cards = record { found = refl; lines = refl; progress = none_kept cards }
+pub nothing_read : (from : ℕ) (cards : List (List ℕ)) (diagnostics : List Diagnostic) (typed : List Line) (kept : Kept)
+    → diagnostics ≡ [] → typed ≡ [] → kept ≡ nothing_kept → ReadSoFar from cards 0 diagnostics typed kept
+nothing_read from cards diagnostics typed kept none no_lines first = record {
+  found = none;
+  lines = no_lines;
+  progress = let P : Kept → Type 0 = λ k. IsKept cards 0 k in subst P (sym first) (none_kept cards);
+}
 
 filter_of_map : {X Y : Type 0} (p : Y → Bool) (f : X → Y) (xs : List X) → filter p (map f xs) ≡ map f (filter (λ x. p (f x)) xs)
 filter_of_map p f [] = refl
@@ -92,21 +97,27 @@ unmapped : {X Y : Type 0} (f : X → Y) (xs : List X) → map f xs ≡ [] → xs
 unmapped f [] e = refl
 unmapped f (x ∷ xs) e = absurd cc
 
-pub no_diagnostics : (from : ℕ) (cards : List (List ℕ)) (n : ℕ) (found : List Diagnostic) (lines : List Line) (kept : Kept)
-    → ReadSoFar from cards n found lines kept → n ≡ length cards → length found ≡ 0
+pub all_found : (from : ℕ) (cards : List (List ℕ)) (n : ℕ) (found : List Diagnostic) (lines : List Line) (kept : Kept)
+    → ReadSoFar from cards n found lines kept → n ≡ length cards → found ≡ sheet_diagnostics from cards
+unfolding sheet_diagnostics
+all_found from cards n found lines kept so_far e = so_far.found ∙ ap (λ m. map (diagnostic from) (filter (holds cards) (pairs m))) e
+
+pub all_lines : (from : ℕ) (cards : List (List ℕ)) (n : ℕ) (found : List Diagnostic) (lines : List Line) (kept : Kept)
+    → ReadSoFar from cards n found lines kept → n ≡ length cards → lines ≡ lines_of from cards
+unfolding lines_of
+all_lines from cards n found lines kept so_far e = so_far.lines ∙ ap (lines_below from cards) e
+
+pub no_diagnostics : (from : ℕ) (cards : List (List ℕ)) (found : List Diagnostic) (lines : List Line)
+    → found ≡ sheet_diagnostics from cards → lines ≡ lines_of from cards → length found ≡ 0
     → (sheet_diagnostics from cards ≡ []) × (lines ≡ lines_of from cards) × (are_read lines ≡ true) × (cards_ascend from lines ≡ true)
 unfolding sheet_diagnostics lines_of
-no_diagnostics from cards n found lines kept so_far e none =
-    let here : ReadSoFar from cards (length cards) found lines kept = subst (λ (m : ℕ). ReadSoFar from cards m found lines kept) e so_far in
-    let empty : map (diagnostic from) (filter (holds cards) (pairs (length cards))) ≡ [] = sym here.found ∙ empty_list found none in
+no_diagnostics from cards found lines of_found of_lines short =
+    let empty : map (diagnostic from) (filter (holds cards) (pairs (length cards))) ≡ [] = sym of_found ∙ empty_list found short in
     let none : filter (holds cards) (pairs (length cards)) ≡ [] = unmapped (diagnostic from) (filter (holds cards) (pairs (length cards))) empty in
     let held : IsHeld from (length cards) (lines_below from cards (length cards)) (kept_at cards (length cards)) =
     all_held from cards (length cards) (omega arith) none in
-    (empty, here.lines, ap are_read here.lines ∙ all_read from cards (length cards) (omega arith) none, ap (cards_ascend from) here.lines ∙ held.ascending)
+    (empty, of_lines, ap are_read of_lines ∙ all_read from cards (length cards) (omega arith) none, ap (cards_ascend from) of_lines ∙ held.ascending)
 
-pub some_diagnostics : (from : ℕ) (cards : List (List ℕ)) (n : ℕ) (found : List Diagnostic) (lines : List Line) (kept : Kept)
-    → ReadSoFar from cards n found lines kept → n ≡ length cards → 0 < length found → (found ≡ [] → ⊥) × (found ≡ sheet_diagnostics from cards)
-unfolding sheet_diagnostics
-some_diagnostics from cards n found lines kept so_far e some =
-    let here : ReadSoFar from cards (length cards) found lines kept = subst (λ (m : ℕ). ReadSoFar from cards m found lines kept) e so_far in
-    (λ empty. absurd (omega (arith, ap length empty)), here.found)
+pub some_diagnostics : (from : ℕ) (cards : List (List ℕ)) (found : List Diagnostic) → found ≡ sheet_diagnostics from cards → 0 < length found
+    → (found ≡ [] → ⊥) × (found ≡ sheet_diagnostics from cards)
+some_diagnostics from cards found of_found some = (λ empty. absurd (omega (arith, ap length empty)), of_found)

@@ -1,8 +1,9 @@
 //! The entries that are at fault where a card has a diagnostic: what each condition is made of, entry by entry.
 
-ghost use Rattle.std.specs.Prelude.{◌≡◌, ◌≤◌, ◌+◌, ◌^◌, ◌++◌, length, map, true, OnOk, IfOk, slice_range};
+ghost use Rattle.std.specs.Prelude.{◌≡◌, ◌≤◌, ◌+◌, ◌^◌, [], ◌++◌, length, map, true, OnOk, IfOk, slice_range};
 ghost use Rattle.std.specs.List.{list_all};
 ghost use Rattle.s3_sheets.specs.Inner.Parts as spec;
+ghost use Rattle.s3_sheets.specs.Inner.Progress.{nothing_kept};
 ghost use Rattle.s3_lines.specs.Ranges.{shape_of_positions};
 ghost use Rattle.s3_lines.specs.declared.sheet.Shape.TheVariants.{Numeric};
 ghost use Rattle.s3_sheets.specs.Lines.{file_line as file_line_spec};
@@ -389,6 +390,28 @@ fn push_card(
     push_positions(found, number, kind, card, length)
 }
 
+/// Adds the entries of cards that are at fault to an empty list. The caller owns both values, so that no early return here drops
+/// them.
+fn find_entries(
+    found: &mut Vec<FaultyEntry>,
+    progress: &mut Progress,
+    cards: &[Card],
+    from: usize,
+) -> Result<(), AllocError>
+    requires short { from + length cards.now ≤ 9_999 }
+    requires none_found { found.old.items ≡ [] }
+    requires first { progress.old ≡ nothing_kept }
+    ensures { OnOk result (found.new.items ≡ spec.faulty_entries from cards.now) }
+{
+    for (place, card) in cards.iter().enumerate() {
+        let number = (from + place + 1) as u16;
+        let length = progress.position_length(card);
+        let standing = progress.enter(card)?;
+        push_card(found, number, card, standing, length)?;
+    }
+    Ok(())
+}
+
 /// The entries of cards that are at fault.
 fn entries_of_cards(
     alloc: Global,
@@ -400,12 +423,7 @@ fn entries_of_cards(
 {
     let mut found = Vec::new(alloc);
     let mut progress = Progress::new(alloc);
-    for (place, card) in cards.iter().enumerate() {
-        let number = (from + place + 1) as u16;
-        let length = progress.position_length(card);
-        let standing = progress.enter(card)?;
-        push_card(&mut found, number, card, standing, length)?;
-    }
+    find_entries(&mut found, &mut progress, cards, from)?;
     Ok(found)
 }
 

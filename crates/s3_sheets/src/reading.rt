@@ -1,9 +1,10 @@
 //! Reading the sheets of a source.
 
-ghost use Rattle.std.specs.Prelude.{◌≡◌, ◌≤◌, ◌<◌, ◌+◌, ◌++◌, length, OnOk, slice_range};
+ghost use Rattle.std.specs.Prelude.{◌≡◌, ◌≤◌, ◌<◌, ◌+◌, [], ◌++◌, length, OnOk, slice_range};
 ghost use Rattle.std.specs.Option.{option_to_list};
-ghost use Rattle.s3_sheets.specs.Lines.{line_of as line_of_spec};
-ghost use Rattle.s3_sheets.specs.Sheets.{card_holds};
+ghost use Rattle.s3_sheets.specs.Lines.{line_of as line_of_spec, lines_of};
+ghost use Rattle.s3_sheets.specs.Sheets.{card_holds, sheet_diagnostics};
+ghost use Rattle.s3_sheets.specs.Inner.Progress.{nothing_kept};
 ghost use Rattle.s3_sheets.specs.Inner.Sheets.{card_diagnostics, Reads};
 
 use crate::fault::SheetFault;
@@ -56,6 +57,31 @@ fn add_line(lines: &mut Vec<Line>, number: u16, card: &Card) -> Result<(), Alloc
     Ok(())
 }
 
+/// Reads cards that stand from a place of their deck on: adds their lines and their diagnostics to what was empty. The caller owns
+/// both, so that no early return here drops them.
+fn enter_cards(
+    progress: &mut Progress,
+    lines: &mut Vec<Line>,
+    found: &mut Vec<Diagnostic>,
+    cards: &[Card],
+    from: usize,
+) -> Result<(), AllocError>
+    requires short { from + length cards.now ≤ 9_999 }
+    requires first { progress.old ≡ nothing_kept }
+    requires no_lines { lines.old.items ≡ [] }
+    requires none_found { found.old.items ≡ [] }
+    ensures lines { OnOk result (lines.new.items ≡ lines_of from cards.now) }
+    ensures found { OnOk result (found.new.items ≡ sheet_diagnostics from cards.now) }
+{
+    for (place, card) in cards.iter().enumerate() {
+        let number = (from + place + 1) as u16;
+        let standing = progress.enter(card)?;
+        diagnose(found, number, standing)?;
+        add_line(lines, number, card)?;
+    }
+    Ok(())
+}
+
 /// The lines of cards that stand from a place of their deck on, or their diagnostics.
 fn read_cards(alloc: Global, cards: &[Card], from: usize) -> Result<Vec<Line>, SheetFault>
     requires { from + length cards.now ≤ 9_999 }
@@ -64,12 +90,7 @@ fn read_cards(alloc: Global, cards: &[Card], from: usize) -> Result<Vec<Line>, S
     let mut lines = Vec::new(alloc);
     let mut found = Vec::new(alloc);
     let mut progress = Progress::new(alloc);
-    for (place, card) in cards.iter().enumerate() {
-        let number = (from + place + 1) as u16;
-        let standing = progress.enter(card)?;
-        diagnose(&mut found, number, standing)?;
-        add_line(&mut lines, number, card)?;
-    }
+    enter_cards(&mut progress, &mut lines, &mut found, cards, from)?;
     if found.is_empty() {
         Ok(lines)
     } else {

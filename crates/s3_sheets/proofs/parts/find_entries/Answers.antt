@@ -1,6 +1,9 @@
 use Rattle.std.proofs.Common.{arith}
-use Rattle.s3_sheets.proofs.PartLemmas.{card_found, all_found}
-use Rattle.s3_sheets.proofs.parts.entries_of_cards.Goals as goal
+use Rattle.s3_sheets.proofs.PartLemmas.{none_found, card_found, all_found}
+use Rattle.s3_sheets.proofs.parts.find_entries.Goals as goal
+
+pub loop-place-init : goal.loop-place-init
+loop-place-init c = none_found _ _ _ _ c.requires.none_found c.requires.first
 
 pub loop-place-preserved : goal.loop-place-preserved
 loop-place-preserved c =
