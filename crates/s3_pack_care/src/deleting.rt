@@ -21,7 +21,7 @@ use s3_store::{MemoryStore, Sectors};
 use std::alloc::Global;
 
 /// Which file of an area is meant.
-#[derive(Clone, Copy, Debug, PartialEq, Eq)]
+#[derive(Clone, Copy)]
 pub enum Chosen {
     /// The sound file of this label.
     Label(Name),

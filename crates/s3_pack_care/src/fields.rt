@@ -3,7 +3,7 @@ ghost use Rattle.std.specs.Prelude.{◌≡◌};
 ghost use Rattle.s3_pack_care.specs.Inner.Keys.{fits as fits_spec, most_bytes as most_bytes_spec};
 
 /// How the bytes of a field are compared.
-#[derive(Clone, Copy, Debug, PartialEq, Eq)]
+#[derive(Clone, Copy)]
 pub enum Form {
     /// As characters: byte by byte, by their codes.
     Characters,
@@ -14,7 +14,7 @@ pub enum Form {
 }
 
 /// A field of a record by which records are sorted.
-#[derive(Clone, Copy, Debug, PartialEq, Eq)]
+#[derive(Clone, Copy)]
 pub struct SortField {
     /// The first byte of the field, from 1.
     pub from: u16,

@@ -2,25 +2,19 @@
 use crate::CareFault;
 use s3_labels::{LabelFault, MountFault};
 use std::alloc::{AllocError, AllocFailed};
-use thiserror::Error;
 
 /// Why a file isn't sorted.
-#[derive(Clone, Copy, Debug, PartialEq, Eq, Error)]
+#[derive(Clone, Copy)]
 pub enum SortFault {
     /// The pack isn't mounted, for what is wrong with its header.
-    #[error("the pack can't be mounted")]
     Mount(MountFault),
     /// The area has no sound file of the label.
-    #[error("the labels don't allow it")]
     Label(LabelFault),
     /// The file has an index, or its records are found by their numbers.
-    #[error("the file isn't one of records in order")]
     NotInOrder,
     /// The first field that doesn't fit the records, by its place from 0, and their length.
-    #[error("field {0} doesn't fit records of {1} bytes")]
     Field(usize, u16),
     /// Memory was refused.
-    #[error("out of memory")]
     NoMemory,
 }
 
