@@ -57,7 +57,6 @@ fn mount_source(
 
 /// Reads the file of a label in an area of a mounted pack. Refused with `SourceLabel` where there is no such file, and with
 /// `NoMemory`.
-#[tactic(auto, using(crate::proofs::Refusals::source_absent, crate::proofs::Refusals::source_blocked))]
 fn read_file(
     alloc: Global,
     store: &mut MemoryStore,
