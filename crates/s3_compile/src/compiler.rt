@@ -78,5 +78,7 @@ pub fn compile(alloc: Global, lines: &[Line], run_card: u16) -> Result<Program, 
     ensures { Compiles lines.now run_card result }
 {
     let mut known = empty_tables(alloc);
-    compile_with(alloc, &mut known, lines, run_card)
+    let result = compile_with(alloc, &mut known, lines, run_card);
+    drop(known);
+    result
 }

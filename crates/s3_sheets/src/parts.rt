@@ -423,7 +423,9 @@ fn entries_of_cards(
 {
     let mut found = Vec::new(alloc);
     let mut progress = Progress::new(alloc);
-    find_entries(&mut found, &mut progress, cards, from)?;
+    let done = find_entries(&mut found, &mut progress, cards, from);
+    drop(progress);
+    done?;
     Ok(found)
 }
 

@@ -82,20 +82,37 @@ fn enter_cards(
     Ok(())
 }
 
+/// The lines of cards that stand from a place of their deck on, or their diagnostics; nothing is kept of earlier cards.
+fn read_with(
+    alloc: Global,
+    progress: &mut Progress,
+    cards: &[Card],
+    from: usize,
+) -> Result<Vec<Line>, SheetFault>
+    requires short { from + length cards.now ≤ 9_999 }
+    requires first { progress.old ≡ nothing_kept }
+    ensures { Reads from cards.now result }
+{
+    let mut lines = Vec::new(alloc);
+    let mut found = Vec::new(alloc);
+    enter_cards(progress, &mut lines, &mut found, cards, from)?;
+    if found.is_empty() {
+        Ok(lines)
+    } else {
+        drop(lines);
+        Err(SheetFault::Diagnostics(found))
+    }
+}
+
 /// The lines of cards that stand from a place of their deck on, or their diagnostics.
 fn read_cards(alloc: Global, cards: &[Card], from: usize) -> Result<Vec<Line>, SheetFault>
     requires { from + length cards.now ≤ 9_999 }
     ensures { Reads from cards.now result }
 {
-    let mut lines = Vec::new(alloc);
-    let mut found = Vec::new(alloc);
     let mut progress = Progress::new(alloc);
-    enter_cards(&mut progress, &mut lines, &mut found, cards, from)?;
-    if found.is_empty() {
-        Ok(lines)
-    } else {
-        Err(SheetFault::Diagnostics(found))
-    }
+    let result = read_with(alloc, &mut progress, cards, from);
+    drop(progress);
+    result
 }
 
 /// The typed lines of the cards of a deck from place `from` up to but without place `to`, or their diagnostics.

@@ -1,7 +1,7 @@
 use Rattle.std.proofs.Common.{◌≡◌, ◌<◌, arith, length}
 use Rattle.std.proofs.lemmas.Bool.Decides.{nat_tests}
 use Rattle.s3_sheets.proofs.ReadingLemmas.{no_diagnostics, some_diagnostics}
-use Rattle.s3_sheets.proofs.reading.read_cards.Goals as goal
+use Rattle.s3_sheets.proofs.reading.read_with.Goals as goal
 
 pub returns-then-is_empty : goal.returns-then-is_empty
 returns-then-is_empty c =
