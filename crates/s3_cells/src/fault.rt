@@ -5,16 +5,13 @@ use std::alloc::AllocError;
 use thiserror::Error;
 
 /// Why a field of a record isn't shown.
-#[derive(Clone, Copy, Debug, PartialEq, Eq, Error)]
+#[derive(Clone, Copy)]
 pub enum ShowFault {
     /// The text has a byte that is no character; its position in the record, from 1.
-    #[error("a byte that is no character")]
     NoCharacter(u16),
     /// The number has a digit above 9.
-    #[error("a digit above 9")]
     NoNumber,
     /// Memory was refused.
-    #[error("out of memory")]
     NoMemory,
 }
 
@@ -29,7 +26,7 @@ impl From<AllocError> for ShowFault {
 }
 
 /// Why a cell isn't taken into a field.
-#[derive(Clone, Copy, Debug, PartialEq, Eq, Error)]
+#[derive(Clone, Copy, Debug, Error)]
 pub enum CellFault {
     /// The cell is no number.
     #[error("this is no number")]

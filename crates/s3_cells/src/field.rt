@@ -8,7 +8,7 @@ use crate::kind::FieldKind;
 use s3_cards::Name;
 
 /// A field of a record.
-#[derive(Clone, Copy, Debug, PartialEq, Eq)]
+#[derive(Clone, Copy)]
 pub struct Field {
     /// Its name.
     pub name: Name,
