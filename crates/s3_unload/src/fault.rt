@@ -4,37 +4,27 @@ ghost use Rattle.std.specs.Prelude.{◌≡◌};
 use s3_cells::{Field, ShowFault};
 use s3_labels::{MountFault, Refusal};
 use std::alloc::{AllocError, AllocFailed};
-use thiserror::Error;
 
 /// Why a file isn't unloaded, or not whole.
-#[derive(Clone, Copy, Debug, PartialEq, Eq, Error)]
+#[derive(Clone, Copy)]
 pub enum UnloadFault {
     /// The pack isn't mounted, for what is wrong with its header.
-    #[error("the pack can't be mounted")]
     Mount(MountFault),
     /// The area has no file of that label.
-    #[error("the area has no such file")]
     NotFound,
     /// A damaged slot has that label.
-    #[error("the label is damaged")]
     DamagedLabel,
     /// The index isn't that of the records.
-    #[error("the index is not that of the records")]
     BadIndex,
     /// The records of the file have this length, and those of the layout another one.
-    #[error("the records of the file have {0} bytes")]
     OtherLength(u16),
     /// The value of a field in the record with this number, from 1, can't be shown.
-    #[error("record {0} has a value that can't be shown")]
     Hidden(u32, Field, ShowFault),
     /// A byte of a record has no character: the number of the record, and the position of the byte in it, both from 1.
-    #[error("record {0} has a byte without a character at {1}")]
     NoCharacter(u32, u16),
     /// Memory was refused.
-    #[error("out of memory")]
     NoMemory,
     /// The writer failed; some may be written.
-    #[error("the output can't be written")]
     File,
 }
 

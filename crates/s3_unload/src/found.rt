@@ -13,7 +13,7 @@ use s3_store::MemoryStore;
 use std::alloc::Global;
 
 /// An area of a pack.
-#[derive(Clone, Copy, Debug, PartialEq, Eq)]
+#[derive(Clone, Copy)]
 pub enum Area {
     /// Area 0: the masters.
     Masters,

@@ -20,7 +20,7 @@ use std::alloc::{AllocError, Global};
 use std::io::Write;
 
 /// How a record is written as a line.
-#[derive(Clone, Copy, Debug, PartialEq, Eq)]
+#[derive(Clone, Copy)]
 pub enum LineForm {
     /// As its characters.
     Text,
