@@ -99,7 +99,7 @@ impl Known {
         Ok(known)
     }
 
-    /// Adds what lines define. Fields of records go before results, wherever they are.
+    /// Adds what lines define. Fields of records take precedence over results.
     fn add_all(&mut self, lines: &[Line]) -> Result<(), AllocError> {
         for line in lines {
             self.add(line)?;

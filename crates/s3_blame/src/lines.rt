@@ -79,7 +79,7 @@ fn entries_of_card(
     Ok(found)
 }
 
-/// Appends the entries to blame for the diagnostics of the card of the line at a place, and goes on behind that line.
+/// Appends the entries to blame for the diagnostics of one line's card, and passes that line.
 #[tactic(auto, using(crate::proofs::PartLemmas::more_on_lines))]
 fn pass_line(
     alloc: Global,
@@ -101,7 +101,7 @@ fn pass_line(
     walk.pass(alloc, known, line)
 }
 
-/// The entries to blame for diagnostics of lines of which that much is known.
+/// The entries to blame for diagnostics of lines, given what the lines define.
 fn entries_of_lines(
     alloc: Global,
     known: &Known,
