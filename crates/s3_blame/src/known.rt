@@ -95,14 +95,19 @@ impl Known {
             tags: IndexMap::new(alloc),
             subroutines: IndexMap::new(alloc),
         };
-        // fields of records go before results, wherever they stand
-        for line in lines {
-            known.add(line)?;
-        }
-        for line in lines {
-            known.add_result(line)?;
-        }
+        known.add_all(lines)?;
         Ok(known)
+    }
+
+    /// Adds what lines define. Fields of records take precedence over results.
+    fn add_all(&mut self, lines: &[Line]) -> Result<(), AllocError> {
+        for line in lines {
+            self.add(line)?;
+        }
+        for line in lines {
+            self.add_result(line)?;
+        }
+        Ok(())
     }
 
     fn add(&mut self, line: &Line) -> Result<(), AllocError> {

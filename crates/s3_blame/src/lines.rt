@@ -1,5 +1,5 @@
 //! The entries to blame for 5 to 12.
-ghost use Rattle.std.specs.Prelude.{◌≡◌, true, IfOk};
+ghost use Rattle.std.specs.Prelude.{◌≡◌, true, IfOk, OnOk};
 ghost use Rattle.std.specs.List.{list_all};
 ghost use Rattle.s3_blame.specs.Inner.Entries.{entries_on};
 ghost use Rattle.s3_blame.specs.Inner.Marks.{are_of, are_listed_on, is_listed};
@@ -79,8 +79,48 @@ fn entries_of_card(
     Ok(found)
 }
 
-/// The entries to blame for diagnostics 5 to 12 of lines, in the order of the lines. Each line is looked at once.
+/// Appends the entries to blame for the diagnostics of one line's card, and passes that line.
 #[tactic(auto, using(crate::proofs::PartLemmas::more_on_lines))]
+fn pass_line(
+    alloc: Global,
+    known: &Known,
+    walk: &mut Walk,
+    lines: &[Line],
+    place: usize,
+    told: &[Diagnostic],
+    found: &mut Vec<FaultyEntry>,
+) -> Result<(), AllocError>
+    ensures { OnOk result (list_all (is_listed lines.now) found.old.items ≡ true → list_all (is_listed lines.now) found.new.items ≡ true) }
+{
+    let Some(line) = lines.get(place) else {
+        return Ok(());
+    };
+    let later = lines.get(place + 1..).unwrap_or(&[]);
+    let more = entries_of_card(alloc, known, walk, line, later, told)?;
+    found.extend_from_slice(&more)?;
+    walk.pass(alloc, known, line)
+}
+
+/// The entries to blame for diagnostics of lines, given what the lines define.
+fn entries_of_lines(
+    alloc: Global,
+    known: &Known,
+    lines: &[Line],
+    told: &[Diagnostic],
+) -> Result<Vec<FaultyEntry>, AllocError>
+    ensures { IfOk result (λ found. list_all (is_listed lines.now) found.items ≡ true) }
+{
+    let mut walk = Walk::new(alloc);
+    let mut found = Vec::new(alloc);
+    let mut rest = told;
+    for (place, line) in lines.iter().enumerate() {
+        rest = from_card(rest, line.card);
+        pass_line(alloc, known, &mut walk, lines, place, rest, &mut found)?;
+    }
+    Ok(found)
+}
+
+/// The entries to blame for diagnostics 5 to 12 of lines, in the order of the lines. Each line is looked at once.
 pub fn later_entries(
     alloc: Global,
     lines: &[Line],
@@ -89,15 +129,5 @@ pub fn later_entries(
     ensures { IfOk result (λ found. list_all (is_listed lines.now) found.items ≡ true) }
 {
     let known = Known::of(alloc, lines)?;
-    let mut walk = Walk::new(alloc);
-    let mut found = Vec::new(alloc);
-    let mut rest = told;
-    for (place, line) in lines.iter().enumerate() {
-        rest = from_card(rest, line.card);
-        let later = lines.get(place + 1..).unwrap_or(&[]);
-        let more = entries_of_card(alloc, &known, &walk, line, later, rest)?;
-        found.extend_from_slice(&more)?;
-        walk.pass(alloc, &known, line)?;
-    }
-    Ok(found)
+    entries_of_lines(alloc, &known, lines, told)
 }

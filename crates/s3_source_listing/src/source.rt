@@ -126,10 +126,23 @@ fn push_all_cards(
     requires { range.to ≤ 9_999 }
 {
     let notes = notes_of_cards(alloc, &faults.diagnostics, &faults.entries)?;
-    push_ruler(text)?;
-    push_run(text, deck, &notes, run_card)?;
-    push_cards(text, deck, range, &notes)?;
+    push_noted_cards(text, deck, range, run_card, &notes)?;
     push_count(text, &faults.diagnostics)
+}
+
+/// Appends the cards of a source under a ruler, each with its notes.
+fn push_noted_cards(
+    text: &mut String,
+    deck: &Deck,
+    range: SourceRange,
+    run_card: u16,
+    notes: &CardNotes,
+) -> Result<(), AllocError>
+    requires { range.to ≤ 9_999 }
+{
+    push_ruler(text)?;
+    push_run(text, deck, notes, run_card)?;
+    push_cards(text, deck, range, notes)
 }
 
 /// Appends what a source has, if its cards have no fault of their own.

@@ -91,8 +91,18 @@ fn push_key(text: &mut String, key: KeyField) -> Result<(), AllocError> {
 
 fn push_fields(text: &mut String, alloc: Global, lines: &[Line]) -> Result<(), AllocError> {
     let known = Known::of(alloc, lines)?;
+    push_known_fields(text, alloc, lines, &known)
+}
+
+/// Appends the table of the fields of lines, with what all of them define.
+fn push_known_fields(
+    text: &mut String,
+    alloc: Global,
+    lines: &[Line],
+    known: &Known,
+) -> Result<(), AllocError> {
     let mut table = String::new(alloc);
-    push_fields_with(&mut table, alloc, lines, &known)?;
+    push_fields_with(&mut table, alloc, lines, known)?;
     push_table(
         text,
         "fields  kind    length  decimals  cards",
