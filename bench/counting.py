@@ -1,11 +1,15 @@
 """What the benchmarks share that count whole runs: cards, sessions, plain programs, and instructions counted by valgrind."""
 
+import argparse
 import os
 import re
 import shutil
 import subprocess
 import sys
 import tempfile
+from typing import NamedTuple
+
+import packs
 
 TOP = os.path.join(os.path.dirname(os.path.abspath(__file__)), "..")
 BUILT = os.path.join(TOP, "crates", "bureau", "out", "bureau")
@@ -115,6 +119,103 @@ def judged(bureau, rust, cobol, limit, aim):
         return 1 if failed else NO_COBOL
     print("bureau takes %.4f times GnuCOBOL's instructions" % (bureau.counts[0] / cobol.counts[0]))
     return 1 if failed or bureau.counts[0] >= cobol.counts[0] else 0
+
+
+class Bounds(NamedTuple):
+    """The most that the built program may take, in times another program's instructions, and the aims to reach."""
+
+    rust: float
+    rust_aim: float
+    cobol: float = None
+    cobol_aim: float = None
+
+    def judge(self, bureau, rust, cobol):
+        """Prints how the built program compares, and returns the status: 1 if a limit is passed."""
+        failed = bureau.growth() > GROWTH or passes(bureau, rust, self.rust, self.rust_aim)
+        if self.cobol is None:
+            return 1 if failed else 0
+        if cobol is None:
+            print("bench: there is no GnuCOBOL (cobc) to compare with", file=sys.stderr)
+            return 1 if failed else NO_COBOL
+        return 1 if passes(bureau, cobol, self.cobol, self.cobol_aim) or failed else 0
+
+
+def passes(bureau, other, limit, aim):
+    """Prints how many times the other program's instructions the built program takes; whether that is above the limit."""
+    ratio = bureau.counts[0] / other.counts[0]
+    print("bureau takes %.3f times the instructions of %s (limit %.2f, aim %.2f)" % (ratio, other.name, limit, aim))
+    return ratio > limit
+
+
+class Work(NamedTuple):
+    """The work of one size: what each program reads, and what it must show and leave.
+
+    `pack` is the pack before the run and `wanted` the pack after it, both None if no job has a file. `loaded` has the texts that
+    `load.cob` makes GnuCOBOL's files of."""
+
+    session: str
+    cards: str
+    report: str
+    pack: bytes = None
+    wanted: bytes = None
+    loaded: dict = {}
+
+    def files(self):
+        return {"session.txt": self.session, "cards.txt": self.cards, "report.txt": self.report} | ({} if self.pack is None else {"before.pack": self.pack})
+
+    def with_pack(self, name, command, given, shown, folder):
+        """The instructions of a program that changes the pack; a wrong report or a wrong pack ends the benchmark."""
+        count = instructions_for(shown, name, command, given, folder)
+        if self.wanted is not None:
+            packs.expect(os.path.join(folder, "after.pack"), self.wanted, name)
+        return count
+
+    def in_rust(self, program, folder):
+        return self.with_pack("plain Rust", [program] + ([] if self.pack is None else ["before.pack", "after.pack"]), self.cards, self.report, folder)
+
+    def by_bureau(self, exe, folder):
+        command = [exe, "run"] + ([] if self.pack is None else ["--pack", "before.pack", "--save", "after.pack"])
+        return self.with_pack("bureau", command, self.session, output((self.report, "")), folder)
+
+    def in_cobol(self, program, loader):
+        """In a folder of its own, because GnuCOBOL's files are there."""
+        with tempfile.TemporaryDirectory() as folder:
+            keep(folder, self.loaded)
+            if loader:
+                run([loader], "", folder)
+            return instructions_for(self.report, "GnuCOBOL", [program], self.cards, folder)
+
+
+def arguments(what, size):
+    """The options of a benchmark whose size is a number of `what`."""
+    parser = argparse.ArgumentParser()
+    parser.add_argument("--exe", default=BUILT)
+    parser.add_argument("--" + what, dest="size", type=int, default=size)
+    parser.add_argument("--keep")
+    return parser.parse_args()
+
+
+def compared(here, what, size, made, each, bounds):
+    """Runs a benchmark: counts the three programs over `made(size)` and over half of it, prints the counts, and returns the status."""
+    options = arguments(what, size)
+    exe = os.path.abspath(options.exe)
+    rust, cobol, bureau = Counted("plain Rust", []), Counted("GnuCOBOL", []), Counted("bureau", [])
+    with tempfile.TemporaryDirectory() as folder:
+        in_rust, in_cobol = plain_rust(here, folder), plain_cobol(here, folder)
+        loader = plain_cobol(here, folder, "load") if os.path.exists(os.path.join(here, "load.cob")) else None
+        for count in (options.size, options.size // 2):
+            work = made(count)
+            keep(folder, work.files())
+            if options.keep and count == options.size:
+                keep(options.keep, work.files())
+            rust.counts.append(work.in_rust(in_rust, folder))
+            if in_cobol:
+                cobol.counts.append(work.in_cobol(in_cobol, loader))
+            bureau.counts.append(work.by_bureau(exe, folder))
+    cobol = cobol if cobol.counts else None
+    for counted in filter(None, (rust, cobol, bureau)):
+        counted.tell(options.size, each)
+    return bounds.judge(bureau, rust, cobol)
 
 
 def keep(folder, files):
