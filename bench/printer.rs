@@ -54,8 +54,17 @@ impl Printer {
         }
     }
 
-    /// With commas and so many decimals; the sign stands in the last columns.
+    /// With commas and so many decimals; the sign is in the last columns.
     pub fn amount(&mut self, number: i64, decimals: usize, sign: Sign, end: usize) {
+        self.edited::<true>(number, decimals, sign, end);
+    }
+
+    /// As `amount`, without commas.
+    pub fn ungrouped(&mut self, number: i64, decimals: usize, sign: Sign, end: usize) {
+        self.edited::<false>(number, decimals, sign, end);
+    }
+
+    fn edited<const HAS_COMMAS: bool>(&mut self, number: i64, decimals: usize, sign: Sign, end: usize) {
         let mut place = self.sign(number < 0, sign, end);
         let mut rest = number.unsigned_abs();
         for _ in 0..decimals {
@@ -71,7 +80,7 @@ impl Printer {
         }
         let mut shown = 0;
         while rest > 0 {
-            if shown > 0 && shown % 3 == 0 {
+            if HAS_COMMAS && shown > 0 && shown % 3 == 0 {
                 place -= 1;
                 self.text[place] = b',';
             }
