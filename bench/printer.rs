@@ -110,6 +110,19 @@ impl Printer {
         }
     }
 
+    /// So many digits as they are punched, a number below zero with zone D in its last column.
+    pub fn punched(&mut self, number: i64, digits: usize, end: usize) {
+        let mut rest = number.unsigned_abs();
+        for place in self.text[end - digits..end].iter_mut().rev() {
+            *place = b'0' + (rest % 10) as u8;
+            rest /= 10;
+        }
+        if number < 0 {
+            let last = &mut self.text[end - 1];
+            *last = if *last == b'0' { b'}' } else { *last - b'1' + b'J' };
+        }
+    }
+
     pub fn date(&mut self, date: i64, end: usize) {
         let mut rest = date;
         for place in (end - 8..end).rev() {
@@ -177,6 +190,17 @@ impl Printer {
 /// Digits on a card or in a record, without a sign.
 pub fn zoned(bytes: &[u8]) -> i64 {
     bytes.iter().fold(0, |number, &byte| number * 10 + i64::from(byte & 15))
+}
+
+/// The digits on a card of a number that may be below zero.
+pub fn signed(bytes: &[u8]) -> i64 {
+    let (&last, front) = bytes.split_last().expect("a number has digits");
+    let front = zoned(front) * 10;
+    match last {
+        b'}' => -front,
+        b'J'..=b'R' => -(front + i64::from(last - b'J') + 1),
+        _ => front + i64::from(last & 15),
+    }
 }
 
 /// Divided by a power of ten, half adjusted.
