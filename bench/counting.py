@@ -109,39 +109,25 @@ class Counted:
         print("%s: %d instructions, %d %s without the start; twice the work takes %.2f times as many" % (self.name, whole, each, what, self.growth()), flush=True)
 
 
-def judged(bureau, rust, cobol, limit, aim):
-    """Tells how the built program compares, and gives the status to end with: 1 where a limit is passed."""
-    ratio = bureau.counts[0] / rust.counts[0]
-    print("bureau takes %.2f times plain Rust's instructions (the limit is %.1f, the aim %.1f)" % (ratio, limit, aim))
-    failed = bureau.growth() > GROWTH or ratio > limit
-    if cobol is None:
-        print("bench: there is no GnuCOBOL (cobc) to compare with", file=sys.stderr)
-        return 1 if failed else NO_COBOL
-    print("bureau takes %.4f times GnuCOBOL's instructions" % (bureau.counts[0] / cobol.counts[0]))
-    return 1 if failed or bureau.counts[0] >= cobol.counts[0] else 0
-
-
 class Bounds(NamedTuple):
     """The most that the built program may take, in times another program's instructions, and the aims to reach."""
 
     rust: float
     rust_aim: float
-    cobol: float = None
-    cobol_aim: float = None
+    cobol: float = 1.0
+    cobol_aim: float = 1.0
 
     def judge(self, bureau, rust, cobol):
         """Prints how the built program compares, and returns the status: 1 if a limit is passed."""
-        failed = bureau.growth() > GROWTH or passes(bureau, rust, self.rust, self.rust_aim)
-        if self.cobol is None:
-            return 1 if failed else 0
+        passed = [bureau.growth() > GROWTH, passes(bureau, rust, self.rust, self.rust_aim)]
         if cobol is None:
             print("bench: there is no GnuCOBOL (cobc) to compare with", file=sys.stderr)
-            return 1 if failed else NO_COBOL
-        return 1 if passes(bureau, cobol, self.cobol, self.cobol_aim) or failed else 0
+            return 1 if any(passed) else NO_COBOL
+        return 1 if passes(bureau, cobol, self.cobol, self.cobol_aim) or any(passed) else 0
 
 
 def passes(bureau, other, limit, aim):
-    """Prints how many times the other program's instructions the built program takes; whether that is above the limit."""
+    """Prints how many times the other program's instructions the built program takes, and returns whether that is above the limit."""
     ratio = bureau.counts[0] / other.counts[0]
     print("bureau takes %.3f times the instructions of %s (limit %.2f, aim %.2f)" % (ratio, other.name, limit, aim))
     return ratio > limit
@@ -150,37 +136,38 @@ def passes(bureau, other, limit, aim):
 class Work(NamedTuple):
     """The work of one size: what each program reads, and what it must show and leave.
 
-    `pack` is the pack before the run and `wanted` the pack after it, both None if no job has a file. `loaded` has the texts that
-    `load.cob` makes GnuCOBOL's files of."""
+    `pack` is the pack before the run, or None if no job has a file. `wanted` is the pack after the run, or None if no job changes
+    it. `for_cobol` has the files of GnuCOBOL, or the texts that `load.cob` makes them of."""
 
     session: str
     cards: str
     report: str
     pack: bytes = None
     wanted: bytes = None
-    loaded: dict = {}
+    for_cobol: dict = {}
 
     def files(self):
         return {"session.txt": self.session, "cards.txt": self.cards, "report.txt": self.report} | ({} if self.pack is None else {"before.pack": self.pack})
 
-    def with_pack(self, name, command, given, shown, folder):
-        """The instructions of a program that changes the pack; a wrong report or a wrong pack ends the benchmark."""
+    def count(self, name, command, given, shown, folder):
+        """The instructions of a program; a wrong report or a wrong pack ends the benchmark."""
         count = instructions_for(shown, name, command, given, folder)
         if self.wanted is not None:
             packs.expect(os.path.join(folder, "after.pack"), self.wanted, name)
         return count
 
     def in_rust(self, program, folder):
-        return self.with_pack("plain Rust", [program] + ([] if self.pack is None else ["before.pack", "after.pack"]), self.cards, self.report, folder)
+        names = ([] if self.pack is None else ["before.pack"]) + ([] if self.wanted is None else ["after.pack"])
+        return self.count("plain Rust", [program] + names, self.cards, self.report, folder)
 
     def by_bureau(self, exe, folder):
-        command = [exe, "run"] + ([] if self.pack is None else ["--pack", "before.pack", "--save", "after.pack"])
-        return self.with_pack("bureau", command, self.session, output((self.report, "")), folder)
+        options = ([] if self.pack is None else ["--pack", "before.pack"]) + ([] if self.wanted is None else ["--save", "after.pack"])
+        return self.count("bureau", [exe, "run"] + options, self.session, output((self.report, "")), folder)
 
     def in_cobol(self, program, loader):
         """In a folder of its own, because GnuCOBOL's files are there."""
         with tempfile.TemporaryDirectory() as folder:
-            keep(folder, self.loaded)
+            keep(folder, self.for_cobol)
             if loader:
                 run([loader], "", folder)
             return instructions_for(self.report, "GnuCOBOL", [program], self.cards, folder)

@@ -10,8 +10,19 @@ pub enum Sign {
     Credit,
 }
 
-/// The line that is being made, and where the printer stands.
+type Pieces = &'static [(&'static [u8], usize)];
+
+/// The headings of a report: titles with the date and the number of the page, then columns, if there are any.
+pub struct Headings {
+    pub titles: Pieces,
+    pub date: (i64, usize),
+    pub page_end: usize,
+    pub columns: Pieces,
+}
+
+/// The line that is being made, and the printer's place.
 pub struct Printer {
+    headings: i64,
     page: usize,
     line: usize,
     overflow: bool,
@@ -21,12 +32,42 @@ pub struct Printer {
 
 impl Printer {
     pub fn new(report: Vec<u8>) -> Self {
-        Printer { page: 1, line: 1, overflow: false, text: [b' '; 132], report }
+        Printer { headings: 0, page: 1, line: 1, overflow: false, text: [b' '; 132], report }
     }
 
-    /// Whether headings are due.
-    pub fn is_full(&self) -> bool {
-        self.overflow
+    /// A printer whose first page has its headings.
+    pub fn headed(headings: &Headings, report: Vec<u8>) -> Self {
+        let mut printer = Printer::new(report);
+        printer.put_headings(headings);
+        printer
+    }
+
+    /// Prints headings on a new page if they are due.
+    pub fn begin_record(&mut self, headings: &Headings) {
+        if self.overflow {
+            self.put_headings(headings);
+        }
+    }
+
+    fn put_headings(&mut self, headings: &Headings) {
+        self.headings += 1;
+        self.first_line();
+        self.pieces(headings.titles);
+        self.date(headings.date.0, headings.date.1);
+        self.text(b"PAGE", headings.page_end - 5);
+        self.whole(self.headings, false, headings.page_end);
+        self.print(2);
+        if !headings.columns.is_empty() {
+            self.pieces(headings.columns);
+            self.print(2);
+        }
+        self.overflow = false;
+    }
+
+    fn pieces(&mut self, pieces: Pieces) {
+        for (text, end) in pieces {
+            self.text(text, *end);
+        }
     }
 
     pub fn text(&mut self, text: &[u8], end: usize) {
@@ -149,16 +190,11 @@ impl Printer {
         }
     }
 
-    /// Goes to the first line of a page, for the first of the headings.
-    pub fn first_line(&mut self) {
+    fn first_line(&mut self) {
         if self.line > 1 {
             self.page = (self.page + 1) % 10_000;
             self.line = 1;
         }
-    }
-
-    pub fn headings_are_done(&mut self) {
-        self.overflow = false;
     }
 
     /// Prints the line that was made, and begins the next.

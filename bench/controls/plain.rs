@@ -6,21 +6,25 @@ use std::io::{Read, Write};
 #[path = "../printer.rs"]
 mod printer;
 
-use printer::{Printer, Sign, half_adjusted, signed, zoned};
+use printer::{Headings, Printer, Sign, half_adjusted, signed, zoned};
 
-const DATE: i64 = 61876;
-const HEADS: [(&[u8], usize); 10] = [
-    (b"MAN", 4),
-    (b"ORDER", 10),
-    (b"DATE", 16),
-    (b"UNITS", 32),
-    (b"AMOUNT", 45),
-    (b"EACH", 58),
-    (b"COST", 72),
-    (b"MARGIN", 85),
-    (b"PERCENT", 95),
-    (b"QUOTA", 101),
-];
+const HEADINGS: Headings = Headings {
+    titles: &[(b"SALES BY REGION, BRANCH", 23), (b"AND SALESMAN", 36)],
+    date: (61876, 60),
+    page_end: 95,
+    columns: &[
+        (b"MAN", 4),
+        (b"ORDER", 10),
+        (b"DATE", 16),
+        (b"UNITS", 32),
+        (b"AMOUNT", 45),
+        (b"EACH", 58),
+        (b"COST", 72),
+        (b"MARGIN", 85),
+        (b"PERCENT", 95),
+        (b"QUOTA", 101),
+    ],
+};
 
 /// The columns of the control fields on a card, up to the end of the region, the branch and the salesman.
 const CONTROLS: std::ops::Range<usize> = 1..10;
@@ -58,7 +62,6 @@ fn part_of(margin: i64, amount: i64) -> i64 {
 
 struct Sales<'a> {
     printer: Printer,
-    pages: i64,
     /// The card whose control fields are the last ones.
     last: &'a [u8],
     salesman: Sums,
@@ -68,31 +71,12 @@ struct Sales<'a> {
 }
 
 impl<'a> Sales<'a> {
-    fn headings(&mut self) {
-        self.pages += 1;
-        let printer = &mut self.printer;
-        printer.first_line();
-        printer.text(b"SALES BY REGION, BRANCH", 23);
-        printer.text(b"AND SALESMAN", 36);
-        printer.date(DATE, 60);
-        printer.text(b"PAGE", 90);
-        printer.whole(self.pages, false, 95);
-        printer.print(2);
-        for (text, end) in HEADS {
-            printer.text(text, end);
-        }
-        printer.print(2);
-        printer.headings_are_done();
-    }
-
     fn card(&mut self, card: &'a [u8]) {
         if card[CONTROLS] != self.last[CONTROLS] {
             self.totals_before(card);
             self.last = card;
         }
-        if self.printer.is_full() {
-            self.headings();
-        }
+        self.printer.begin_record(&HEADINGS);
         let (units, amount, cost) = (signed(&card[21..26]), signed(&card[26..35]), signed(&card[35..44]));
         let margin = amount - cost;
         let each = if units == 0 { 0 } else { half_adjusted(amount * 100 / units, 10) };
@@ -213,8 +197,7 @@ fn main() -> std::io::Result<()> {
     let mut input = String::new();
     std::io::stdin().lock().read_to_string(&mut input)?;
     let none = Sums::default();
-    let mut sales = Sales { printer: Printer::new(Vec::new()), pages: 0, last: input.as_bytes(), salesman: none, branch: none, region: none, all: none };
-    sales.headings();
+    let mut sales = Sales { printer: Printer::headed(&HEADINGS, Vec::new()), last: input.as_bytes(), salesman: none, branch: none, region: none, all: none };
     for line in input.lines() {
         sales.card(line.as_bytes());
     }

@@ -12,44 +12,21 @@ mod pack;
 mod printer;
 
 use pack::{CHARACTERS, File, pack, packed};
-use printer::{Printer, Sign, half_adjusted, zoned};
+use printer::{Headings, Printer, Sign, half_adjusted, zoned};
 
-const DATE: i64 = 61876;
 const DATE_IN_RECORDS: [u8; 6] = [0xF0, 0xF6, 0xF1, 0xF8, 0xF7, 0xF6];
-
-/// A report and its heading.
-struct Report {
-    title: &'static [u8],
-    pages: i64,
-    printer: Printer,
-}
-
-impl Report {
-    fn new(title: &'static [u8], report: Vec<u8>) -> Self {
-        let mut report = Report { title, pages: 0, printer: Printer::new(report) };
-        report.heading();
-        report
-    }
-
-    fn heading(&mut self) {
-        self.pages += 1;
-        self.printer.first_line();
-        self.printer.text(self.title, self.title.len());
-        self.printer.date(DATE, 40);
-        self.printer.text(b"PAGE", 80);
-        self.printer.whole(self.pages, false, 85);
-        self.printer.print(2);
-        self.printer.headings_are_done();
-    }
-
-    /// The printer, after a heading if one is due.
-    fn line(&mut self) -> &mut Printer {
-        if self.printer.is_full() {
-            self.heading();
-        }
-        &mut self.printer
-    }
-}
+const RUNS: Headings = Headings {
+    titles: &[(b"RUNS OF MACHINES", 16)],
+    date: (61876, 40),
+    page_end: 85,
+    columns: &[],
+};
+const MACHINES: Headings = Headings {
+    titles: &[(b"MACHINES", 8)],
+    date: (61876, 40),
+    page_end: 85,
+    columns: &[],
+};
 
 /// Adds to a packed number of a record.
 fn add_packed(amount: i64, bytes: &mut [u8]) {
@@ -68,11 +45,11 @@ fn count_up(digits: &mut [u8]) {
 }
 
 fn runs(sectors: &mut [u8], file: &File, cards: &str) -> Vec<u8> {
-    let mut report = Report::new(b"RUNS OF MACHINES", Vec::new());
+    let mut printer = Printer::headed(&RUNS, Vec::new());
     let (mut all_hours, mut all_pieces, mut all_cost, mut lost) = (0, 0, 0, 0);
     for card in cards.lines().map(str::as_bytes) {
         let (number, hours, pieces, scrap) = (zoned(&card[1..5]), zoned(&card[5..9]), zoned(&card[9..14]), zoned(&card[14..18]));
-        let printer = report.line();
+        printer.begin_record(&RUNS);
         if number < 1 || number as usize > file.count {
             lost += 1;
             printer.whole(number, false, 4);
@@ -115,7 +92,6 @@ fn runs(sectors: &mut [u8], file: &File, cards: &str) -> Vec<u8> {
         printer.amount(all_cost, 2, Sign::Never, 85);
         printer.print(1);
     }
-    let printer = &mut report.printer;
     printer.space(1);
     printer.whole(lost, true, 6);
     printer.text(b"NO SUCH MACHINE", 22);
@@ -123,18 +99,18 @@ fn runs(sectors: &mut [u8], file: &File, cards: &str) -> Vec<u8> {
     printer.amount(all_pieces, 0, Sign::Never, 69);
     printer.amount(all_cost, 2, Sign::Never, 85);
     printer.print(1);
-    report.printer.report()
+    printer.report()
 }
 
 fn list(sectors: &[u8], file: &File, report: Vec<u8>) -> Vec<u8> {
-    let mut report = Report::new(b"MACHINES", report);
+    let mut printer = Printer::headed(&MACHINES, report);
     let (mut all_cost, mut all_runs) = (0, 0);
     for (place, record) in sectors[file.records..].chunks_exact(file.length).take(file.count).enumerate() {
         let (hours, pieces, scrap, cost) = (packed(&record[16..20]), packed(&record[20..24]), packed(&record[24..27]), packed(&record[27..33]));
         let runs = zoned(&record[36..40]);
         all_cost += cost;
         all_runs += runs;
-        let printer = report.line();
+        printer.begin_record(&MACHINES);
         printer.whole(place as i64 + 1, false, 4);
         printer.coded(&record[..16], CHARACTERS, 22);
         printer.amount(hours, 1, Sign::Never, 38);
@@ -152,14 +128,13 @@ fn list(sectors: &[u8], file: &File, report: Vec<u8>) -> Vec<u8> {
         printer.date(zoned(&record[40..46]), 122);
         printer.print(1);
     }
-    let printer = &mut report.printer;
     printer.space(1);
     printer.whole(file.count as i64, true, 6);
     printer.text(b"MACHINES", 15);
     printer.amount(all_runs, 0, Sign::Never, 28);
     printer.amount(all_cost, 2, Sign::Minus, 113);
     printer.print(1);
-    report.printer.report()
+    printer.report()
 }
 
 fn main() -> std::io::Result<()> {

@@ -12,13 +12,18 @@ mod pack;
 mod printer;
 
 use pack::{CHARACTERS, CODES, File, pack, packed, translate};
-use printer::{Printer, Sign, zoned};
+use printer::{Headings, Printer, Sign, zoned};
 
-const DATE: i64 = 61876;
 const DATE_IN_RECORDS: [u8; 6] = [0xF0, 0xF6, 0xF1, 0xF8, 0xF7, 0xF6];
 const KEY: usize = 12;
 /// A key and the number of its record. The entries fill their sectors.
 const ENTRY: usize = KEY + 4;
+const HEADINGS: Headings = Headings {
+    titles: &[(b"TRANSFERS", 9)],
+    date: (61876, 30),
+    page_end: 65,
+    columns: &[],
+};
 
 /// A number that is above the entries of lesser keys, and below the entry of this key.
 fn key_of(card: &[u8]) -> u128 {
@@ -65,17 +70,6 @@ fn move_into(record: &mut [u8], amount: i64) -> i64 {
     balance
 }
 
-fn headings(printer: &mut Printer, pages: &mut i64) {
-    *pages += 1;
-    printer.first_line();
-    printer.text(b"TRANSFERS", 9);
-    printer.date(DATE, 30);
-    printer.text(b"PAGE", 60);
-    printer.whole(*pages, false, 65);
-    printer.print(2);
-    printer.headings_are_done();
-}
-
 fn main() -> std::io::Result<()> {
     let words: Vec<String> = std::env::args().collect();
     let pack = std::fs::read(&words[1])?;
@@ -83,13 +77,10 @@ fn main() -> std::io::Result<()> {
     std::io::stdin().lock().read_to_string(&mut input)?;
     let file = File::first_of(&pack, 1);
     let mut accounts = Accounts { pack, file };
-    let mut printer = Printer::new(Vec::new());
-    let (mut pages, mut sum, mut lost, mut count) = (0, 0, 0, 0);
-    headings(&mut printer, &mut pages);
+    let mut printer = Printer::headed(&HEADINGS, Vec::new());
+    let (mut sum, mut lost, mut count) = (0, 0, 0);
     for card in input.lines().map(str::as_bytes) {
-        if printer.is_full() {
-            headings(&mut printer, &mut pages);
-        }
+        printer.begin_record(&HEADINGS);
         let (source, target, amount) = (&card[1..13], &card[13..25], zoned(&card[25..32]));
         let Some(record) = accounts.find(key_of(source)) else {
             printer.text(source, 12);

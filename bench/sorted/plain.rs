@@ -12,9 +12,8 @@ mod pack;
 mod printer;
 
 use pack::{CHARACTERS, File, SECTOR, packed};
-use printer::{Printer, Sign, zoned};
+use printer::{Headings, Printer, Sign, zoned};
 
-const DATE: i64 = 61876;
 /// Above each amount.
 const MOST: i64 = 1_000_000_000;
 const STORE: std::ops::Range<usize> = 0..3;
@@ -23,6 +22,12 @@ const AMOUNT: std::ops::Range<usize> = 15..20;
 const STARTS: [usize; 2] = [14, 18];
 const SLOT: usize = 64;
 const SLOT_START: usize = 16;
+const HEADINGS: Headings = Headings {
+    titles: &[(b"SALES BY STORE", 14)],
+    date: (61876, 40),
+    page_end: 75,
+    columns: &[],
+};
 
 fn records<'a>(pack: &'a [u8], file: &File) -> std::slice::ChunksExact<'a, u8> {
     pack[file.records..file.records + file.count * file.length].chunks_exact(file.length)
@@ -58,24 +63,11 @@ fn copy(pack: &mut [u8]) {
 
 struct Sales {
     printer: Printer,
-    pages: i64,
     units: i64,
     amount: i64,
 }
 
 impl Sales {
-    fn heading(&mut self) {
-        self.pages += 1;
-        let printer = &mut self.printer;
-        printer.first_line();
-        printer.text(b"SALES BY STORE", 14);
-        printer.date(DATE, 40);
-        printer.text(b"PAGE", 70);
-        printer.whole(self.pages, false, 75);
-        printer.print(2);
-        printer.headings_are_done();
-    }
-
     fn total(&mut self, store: &[u8], units: i64, amount: i64) {
         self.units += units;
         self.amount += amount;
@@ -90,8 +82,7 @@ impl Sales {
 }
 
 fn print(pack: &[u8], file: &File, report: Vec<u8>) -> Vec<u8> {
-    let mut sales = Sales { printer: Printer::new(report), pages: 0, units: 0, amount: 0 };
-    sales.heading();
+    let mut sales = Sales { printer: Printer::headed(&HEADINGS, report), units: 0, amount: 0 };
     let mut store = &pack[file.records..][STORE];
     let (mut all_units, mut all_amount) = (0, 0);
     for record in records(pack, file) {
@@ -99,9 +90,7 @@ fn print(pack: &[u8], file: &File, report: Vec<u8>) -> Vec<u8> {
             sales.total(store, all_units, all_amount);
             (store, all_units, all_amount) = (&record[STORE], 0, 0);
         }
-        if sales.printer.is_full() {
-            sales.heading();
-        }
+        sales.printer.begin_record(&HEADINGS);
         let (amount, units) = (packed(&record[AMOUNT]), packed(&record[20..23]));
         all_units += units;
         all_amount += amount;

@@ -5,10 +5,7 @@
        ENVIRONMENT DIVISION.
        INPUT-OUTPUT SECTION.
        FILE-CONTROL.
-           SELECT CARDS ASSIGN TO KEYBOARD
-               ORGANIZATION IS LINE SEQUENTIAL.
-           SELECT REPORT-FILE ASSIGN TO DISPLAY
-               ORGANIZATION IS LINE SEQUENTIAL.
+           COPY "select.cpy".
        DATA DIVISION.
        FILE SECTION.
        FD  CARDS.
@@ -301,17 +298,5 @@
            MOVE END-LINE TO REPORT-TEXT
            MOVE 1 TO SPACES-AFTER
            PERFORM PRINT-LINE.
-       HEADINGS.
-           IF PLACE > 1
-               PERFORM NEXT-PAGE
-               MOVE 1 TO PLACE
-           END-IF
-           ADD 1 TO PAGES
-           MOVE PAGES TO HEAD-PAGE
-           MOVE FIRST-HEADING TO REPORT-TEXT
-           MOVE 2 TO SPACES-AFTER
-           PERFORM PRINT-LINE
-           MOVE SECOND-HEADING TO REPORT-TEXT
-           PERFORM PRINT-LINE
-           MOVE "N" TO OVERFLOW-STATE.
+           COPY "headings.cpy".
            COPY "printer.cpy".

@@ -6,14 +6,24 @@ use std::io::{Read, Write};
 #[path = "../printer.rs"]
 mod printer;
 
-use printer::Printer;
+use printer::{Headings, Printer};
 
-const DATE: i64 = 61876;
-const HEADS: [(&[u8], usize); 6] = [(b"NAME", 22), (b"STREET", 50), (b"TOWN", 69), (b"MEMBER", 95), (b"INTERESTS", 107), (b"ZONE", 126)];
+const HEADINGS: Headings = Headings {
+    titles: &[(b"MEMBERS AND FIRMS", 17)],
+    date: (61876, 60),
+    page_end: 93,
+    columns: &[
+        (b"NAME", 22),
+        (b"STREET", 50),
+        (b"TOWN", 69),
+        (b"MEMBER", 95),
+        (b"INTERESTS", 107),
+        (b"ZONE", 126),
+    ],
+};
 
 struct Society<'a> {
     printer: Printer,
-    pages: i64,
     town: &'a [u8],
     name: [u8; 20],
     greatest: [u8; 10],
@@ -69,26 +79,8 @@ fn interest(code: u8) -> &'static [u8] {
 }
 
 impl<'a> Society<'a> {
-    fn headings(&mut self) {
-        self.pages += 1;
-        let printer = &mut self.printer;
-        printer.first_line();
-        printer.text(b"MEMBERS AND FIRMS", 17);
-        printer.date(DATE, 60);
-        printer.text(b"PAGE", 88);
-        printer.whole(self.pages, false, 93);
-        printer.print(2);
-        for (text, end) in HEADS {
-            printer.text(text, end);
-        }
-        printer.print(2);
-        printer.headings_are_done();
-    }
-
     fn card(&mut self, card: &'a [u8]) {
-        if self.printer.is_full() {
-            self.headings();
-        }
+        self.printer.begin_record(&HEADINGS);
         let is_firm = card[0] == b'B';
         let begin = card[1..21].iter().position(|&byte| byte != b' ').unwrap_or(0);
         let name = moved_left(&card[1 + begin..21]);
@@ -160,8 +152,7 @@ fn main() -> std::io::Result<()> {
     let mut input = String::new();
     std::io::stdin().lock().read_to_string(&mut input)?;
     let mut society =
-        Society { printer: Printer::new(Vec::new()), pages: 0, town: &[b' '; 14], name: [b' '; 20], greatest: [b' '; 10], remark: b"", east: 0, to_look_at: 0 };
-    society.headings();
+        Society { printer: Printer::headed(&HEADINGS, Vec::new()), town: &[b' '; 14], name: [b' '; 20], greatest: [b' '; 10], remark: b"", east: 0, to_look_at: 0 };
     for line in input.lines() {
         society.card(line.as_bytes());
     }
