@@ -183,7 +183,12 @@ def arguments(what, size):
 
 
 def compared(here, what, size, made, each, bounds):
-    """Runs a benchmark: counts the three programs over `made(size)` and over half of it, prints the counts, and returns the status."""
+    """Runs a benchmark over `made(size)` and over half of it, prints what was found, and returns the status to end with.
+
+    `valgrind --tool=callgrind` counts the instructions of the built program, which `./prove` makes, of `plain.rs` (`rustc -O`) and of
+    `plain.cob` (`cobc -x -O2`). The reports must be those that `made` works out, byte for byte. So must the packs of the built
+    program and of plain Rust, except for the spool's blocks. The status is 1 if they aren't, or if a limit is passed: those of
+    `bounds`, and 2.1 times the instructions for twice the work. Without `cobc` the status is 3 if all else is as wanted."""
     options = arguments(what, size)
     exe = os.path.abspath(options.exe)
     rust, cobol, bureau = Counted("plain Rust", []), Counted("GnuCOBOL", []), Counted("bureau", [])
