@@ -1,11 +1,15 @@
 """What the benchmarks share that count whole runs: cards, sessions, plain programs, and instructions counted by valgrind."""
 
+import argparse
 import os
 import re
 import shutil
 import subprocess
 import sys
 import tempfile
+from typing import NamedTuple
+
+import packs
 
 TOP = os.path.join(os.path.dirname(os.path.abspath(__file__)), "..")
 BUILT = os.path.join(TOP, "crates", "bureau", "out", "bureau")
@@ -105,16 +109,105 @@ class Counted:
         print("%s: %d instructions, %d %s without the start; twice the work takes %.2f times as many" % (self.name, whole, each, what, self.growth()), flush=True)
 
 
-def judged(bureau, rust, cobol, limit, aim):
-    """Tells how the built program compares, and gives the status to end with: 1 where a limit is passed."""
-    ratio = bureau.counts[0] / rust.counts[0]
-    print("bureau takes %.2f times plain Rust's instructions (the limit is %.1f, the aim %.1f)" % (ratio, limit, aim))
-    failed = bureau.growth() > GROWTH or ratio > limit
-    if cobol is None:
-        print("bench: there is no GnuCOBOL (cobc) to compare with", file=sys.stderr)
-        return 1 if failed else NO_COBOL
-    print("bureau takes %.4f times GnuCOBOL's instructions" % (bureau.counts[0] / cobol.counts[0]))
-    return 1 if failed or bureau.counts[0] >= cobol.counts[0] else 0
+class Bounds(NamedTuple):
+    """The most that the built program may take, in times another program's instructions, and the aims to reach."""
+
+    rust: float
+    rust_aim: float
+    cobol: float = 1.0
+    cobol_aim: float = 1.0
+
+    def judge(self, bureau, rust, cobol):
+        """Prints how the built program compares, and returns the status: 1 if a limit is passed."""
+        passed = [bureau.growth() > GROWTH, passes(bureau, rust, self.rust, self.rust_aim)]
+        if cobol is None:
+            print("bench: there is no GnuCOBOL (cobc) to compare with", file=sys.stderr)
+            return 1 if any(passed) else NO_COBOL
+        return 1 if passes(bureau, cobol, self.cobol, self.cobol_aim) or any(passed) else 0
+
+
+def passes(bureau, other, limit, aim):
+    """Prints how many times the other program's instructions the built program takes, and returns whether that is above the limit."""
+    ratio = bureau.counts[0] / other.counts[0]
+    print("bureau takes %.3f times the instructions of %s (limit %.2f, aim %.2f)" % (ratio, other.name, limit, aim))
+    return ratio > limit
+
+
+class Work(NamedTuple):
+    """The work of one size: what each program reads, and what it must show and leave.
+
+    `pack` is the pack before the run, or None if no job has a file. `wanted` is the pack after the run, or None if no job changes
+    it. `for_cobol` has the files of GnuCOBOL, or the texts that `load.cob` makes them of."""
+
+    session: str
+    cards: str
+    report: str
+    pack: bytes = None
+    wanted: bytes = None
+    for_cobol: dict = {}
+
+    def files(self):
+        return {"session.txt": self.session, "cards.txt": self.cards, "report.txt": self.report} | ({} if self.pack is None else {"before.pack": self.pack})
+
+    def count(self, name, command, given, shown, folder):
+        """The instructions of a program; a wrong report or a wrong pack ends the benchmark."""
+        count = instructions_for(shown, name, command, given, folder)
+        if self.wanted is not None:
+            packs.expect(os.path.join(folder, "after.pack"), self.wanted, name)
+        return count
+
+    def in_rust(self, program, folder):
+        names = ([] if self.pack is None else ["before.pack"]) + ([] if self.wanted is None else ["after.pack"])
+        return self.count("plain Rust", [program] + names, self.cards, self.report, folder)
+
+    def by_bureau(self, exe, folder):
+        options = ([] if self.pack is None else ["--pack", "before.pack"]) + ([] if self.wanted is None else ["--save", "after.pack"])
+        return self.count("bureau", [exe, "run"] + options, self.session, output((self.report, "")), folder)
+
+    def in_cobol(self, program, loader):
+        """In a folder of its own, because GnuCOBOL's files are there."""
+        with tempfile.TemporaryDirectory() as folder:
+            keep(folder, self.for_cobol)
+            if loader:
+                run([loader], "", folder)
+            return instructions_for(self.report, "GnuCOBOL", [program], self.cards, folder)
+
+
+def arguments(what, size):
+    """The options of a benchmark whose size is a number of `what`."""
+    parser = argparse.ArgumentParser()
+    parser.add_argument("--exe", default=BUILT)
+    parser.add_argument("--" + what, dest="size", type=int, default=size)
+    parser.add_argument("--keep")
+    return parser.parse_args()
+
+
+def compared(here, what, size, made, each, bounds):
+    """Runs a benchmark over `made(size)` and over half of it, prints what was found, and returns the status to end with.
+
+    `valgrind --tool=callgrind` counts the instructions of the built program, which `./prove` makes, of `plain.rs` (`rustc -O`) and of
+    `plain.cob` (`cobc -x -O2`). The reports must be those that `made` works out, byte for byte. So must the packs of the built
+    program and of plain Rust, except for the spool's blocks. The status is 1 if they aren't, or if a limit is passed: those of
+    `bounds`, and 2.1 times the instructions for twice the work. Without `cobc` the status is 3 if all else is as wanted."""
+    options = arguments(what, size)
+    exe = os.path.abspath(options.exe)
+    rust, cobol, bureau = Counted("plain Rust", []), Counted("GnuCOBOL", []), Counted("bureau", [])
+    with tempfile.TemporaryDirectory() as folder:
+        in_rust, in_cobol = plain_rust(here, folder), plain_cobol(here, folder)
+        loader = plain_cobol(here, folder, "load") if os.path.exists(os.path.join(here, "load.cob")) else None
+        for count in (options.size, options.size // 2):
+            work = made(count)
+            keep(folder, work.files())
+            if options.keep and count == options.size:
+                keep(options.keep, work.files())
+            rust.counts.append(work.in_rust(in_rust, folder))
+            if in_cobol:
+                cobol.counts.append(work.in_cobol(in_cobol, loader))
+            bureau.counts.append(work.by_bureau(exe, folder))
+    cobol = cobol if cobol.counts else None
+    for counted in filter(None, (rust, cobol, bureau)):
+        counted.tell(options.size, each)
+    return bounds.judge(bureau, rust, cobol)
 
 
 def keep(folder, files):

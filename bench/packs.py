@@ -1,5 +1,7 @@
 """Packs with files on them, byte by byte as docs/PACK.md has them, for the benchmarks that begin with files."""
 
+import sys
+
 SECTOR, TRACK = 256, 24
 FIRST = 168                      # the sector that the first region begins at
 SPOOL = (25 * SECTOR, 153 * SECTOR)
@@ -10,18 +12,19 @@ def packed(number, size):
 
 
 class File:
-    """A file's label and sectors: records of one length, with room for more where that is said. With a key, which is the first
-    bytes of each record, it is indexed; else it is one in order."""
+    """A file's label and sectors: records of one length, with capacity for `room` records. With a key, which is the first bytes
+    of each record, it is indexed; without one it is in order, unless another organization is given."""
 
-    def __init__(self, label, length, records, date, key=0, room=0):
+    def __init__(self, label, length, records, date, key=0, room=0, organization="S", retention="P"):
         self.label, self.length, self.records, self.date, self.key = label, length, records, date, key
+        self.kind = ("I" if key else organization) + retention
         self.room = max(room, len(records))
         self.index_at = -(-self.room * length // SECTOR)
         self.entries = SECTOR // (key + 4)
         self.sectors = -(-(self.index_at + (-(-self.room // self.entries) if key else 0)) // TRACK) * TRACK
 
     def slot(self, start):
-        return (b"\x01" + self.label.ljust(8).encode("cp037") + ("IP" if self.key else "SP").encode("cp037") + self.length.to_bytes(2, "big")
+        return (b"\x01" + self.label.ljust(8).encode("cp037") + self.kind.encode("cp037") + self.length.to_bytes(2, "big")
                 + bytes([self.key]) + (1 if self.key else 0).to_bytes(2, "big") + start.to_bytes(2, "big") + self.sectors.to_bytes(2, "big")
                 + self.room.to_bytes(4, "big") + len(self.records).to_bytes(4, "big") + self.date.encode("cp037"))
 
@@ -54,3 +57,10 @@ def pack(files, tracks=0):
 def same(one, other):
     """Whether two packs are the same but for the spool's blocks, which keep the bytes of lines that were printed."""
     return one[:SPOOL[0]] == other[:SPOOL[0]] and one[SPOOL[1]:] == other[SPOOL[1]:]
+
+
+def expect(path, wanted, name):
+    """Ends the benchmark if the pack that a program left isn't the one wanted."""
+    with open(path, "rb") as left:
+        if not same(left.read(), wanted):
+            sys.exit("bench: the pack of %s isn't the one wanted" % name)

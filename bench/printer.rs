@@ -10,8 +10,19 @@ pub enum Sign {
     Credit,
 }
 
-/// The line that is being made, and where the printer stands.
+type Pieces = &'static [(&'static [u8], usize)];
+
+/// The headings of a report: titles with the date and the number of the page, then columns, if there are any.
+pub struct Headings {
+    pub titles: Pieces,
+    pub date: (i64, usize),
+    pub page_end: usize,
+    pub columns: Pieces,
+}
+
+/// The line that is being made, and the printer's place.
 pub struct Printer {
+    headings: i64,
     page: usize,
     line: usize,
     overflow: bool,
@@ -21,12 +32,42 @@ pub struct Printer {
 
 impl Printer {
     pub fn new(report: Vec<u8>) -> Self {
-        Printer { page: 1, line: 1, overflow: false, text: [b' '; 132], report }
+        Printer { headings: 0, page: 1, line: 1, overflow: false, text: [b' '; 132], report }
     }
 
-    /// Whether headings are due.
-    pub fn is_full(&self) -> bool {
-        self.overflow
+    /// A printer whose first page has its headings.
+    pub fn headed(headings: &Headings, report: Vec<u8>) -> Self {
+        let mut printer = Printer::new(report);
+        printer.put_headings(headings);
+        printer
+    }
+
+    /// Prints headings on a new page if they are due.
+    pub fn begin_record(&mut self, headings: &Headings) {
+        if self.overflow {
+            self.put_headings(headings);
+        }
+    }
+
+    fn put_headings(&mut self, headings: &Headings) {
+        self.headings += 1;
+        self.first_line();
+        self.pieces(headings.titles);
+        self.date(headings.date.0, headings.date.1);
+        self.text(b"PAGE", headings.page_end - 5);
+        self.whole(self.headings, false, headings.page_end);
+        self.print(2);
+        if !headings.columns.is_empty() {
+            self.pieces(headings.columns);
+            self.print(2);
+        }
+        self.overflow = false;
+    }
+
+    fn pieces(&mut self, pieces: Pieces) {
+        for (text, end) in pieces {
+            self.text(text, *end);
+        }
     }
 
     pub fn text(&mut self, text: &[u8], end: usize) {
@@ -54,8 +95,17 @@ impl Printer {
         }
     }
 
-    /// With commas and so many decimals; the sign stands in the last columns.
+    /// With commas and so many decimals; the sign is in the last columns.
     pub fn amount(&mut self, number: i64, decimals: usize, sign: Sign, end: usize) {
+        self.edited::<true>(number, decimals, sign, end);
+    }
+
+    /// As `amount`, without commas.
+    pub fn ungrouped(&mut self, number: i64, decimals: usize, sign: Sign, end: usize) {
+        self.edited::<false>(number, decimals, sign, end);
+    }
+
+    fn edited<const HAS_COMMAS: bool>(&mut self, number: i64, decimals: usize, sign: Sign, end: usize) {
         let mut place = self.sign(number < 0, sign, end);
         let mut rest = number.unsigned_abs();
         for _ in 0..decimals {
@@ -71,7 +121,7 @@ impl Printer {
         }
         let mut shown = 0;
         while rest > 0 {
-            if shown > 0 && shown % 3 == 0 {
+            if HAS_COMMAS && shown > 0 && shown % 3 == 0 {
                 place -= 1;
                 self.text[place] = b',';
             }
@@ -101,6 +151,19 @@ impl Printer {
         }
     }
 
+    /// So many digits as they are punched, a number below zero with zone D in its last column.
+    pub fn punched(&mut self, number: i64, digits: usize, end: usize) {
+        let mut rest = number.unsigned_abs();
+        for place in self.text[end - digits..end].iter_mut().rev() {
+            *place = b'0' + (rest % 10) as u8;
+            rest /= 10;
+        }
+        if number < 0 {
+            let last = &mut self.text[end - 1];
+            *last = if *last == b'0' { b'}' } else { *last - b'1' + b'J' };
+        }
+    }
+
     pub fn date(&mut self, date: i64, end: usize) {
         let mut rest = date;
         for place in (end - 8..end).rev() {
@@ -127,16 +190,11 @@ impl Printer {
         }
     }
 
-    /// Goes to the first line of a page, for the first of the headings.
-    pub fn first_line(&mut self) {
+    fn first_line(&mut self) {
         if self.line > 1 {
             self.page = (self.page + 1) % 10_000;
             self.line = 1;
         }
-    }
-
-    pub fn headings_are_done(&mut self) {
-        self.overflow = false;
     }
 
     /// Prints the line that was made, and begins the next.
@@ -168,6 +226,17 @@ impl Printer {
 /// Digits on a card or in a record, without a sign.
 pub fn zoned(bytes: &[u8]) -> i64 {
     bytes.iter().fold(0, |number, &byte| number * 10 + i64::from(byte & 15))
+}
+
+/// The digits on a card of a number that may be below zero.
+pub fn signed(bytes: &[u8]) -> i64 {
+    let (&last, front) = bytes.split_last().expect("a number has digits");
+    let front = zoned(front) * 10;
+    match last {
+        b'}' => -front,
+        b'J'..=b'R' => -(front + i64::from(last - b'J') + 1),
+        _ => front + i64::from(last & 15),
+    }
 }
 
 /// Divided by a power of ten, half adjusted.

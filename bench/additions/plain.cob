@@ -7,10 +7,7 @@
        ENVIRONMENT DIVISION.
        INPUT-OUTPUT SECTION.
        FILE-CONTROL.
-           SELECT CARDS ASSIGN TO KEYBOARD
-               ORGANIZATION IS LINE SEQUENTIAL.
-           SELECT REPORT-FILE ASSIGN TO DISPLAY
-               ORGANIZATION IS LINE SEQUENTIAL.
+           COPY "select.cpy".
            SELECT ITEMS ASSIGN TO "ITEMS"
                ORGANIZATION IS INDEXED
                ACCESS MODE IS DYNAMIC
@@ -22,21 +19,9 @@
        FD  ITEMS.
            COPY "item.cpy".
        FD  REPORT-FILE.
-       01  REPORT-LINE.
-           05  REPORT-PAGE          PIC 9(4).
-           05  FILLER               PIC X.
-           05  REPORT-PLACE         PIC 99.
-           05  FILLER               PIC X.
-           05  REPORT-TEXT          PIC X(132).
+           COPY "report.cpy".
        WORKING-STORAGE SECTION.
-       01  PRINTER.
-           05  PAGE-NUMBER          PIC S9(4) COMP-5 VALUE 1.
-           05  PLACE                PIC S9(4) COMP-5 VALUE 1.
-           05  PLACE-BEFORE         PIC S9(4) COMP-5.
-           05  SPACES-DUE           PIC S9(4) COMP-5.
-           05  SPACES-AFTER         PIC S9(4) COMP-5.
-           05  OVERFLOW-STATE       PIC X VALUE "N".
-               88  OVERFLOWS        VALUE "Y".
+           COPY "place.cpy".
        01  SWITCHES.
            05  END-STATE            PIC X VALUE "N".
                88  ALL-READ         VALUE "Y".
@@ -167,17 +152,5 @@
            MOVE END-LINE TO REPORT-TEXT
            MOVE 1 TO SPACES-AFTER
            PERFORM PRINT-LINE.
-       HEADINGS.
-           IF PLACE > 1
-               PERFORM NEXT-PAGE
-               MOVE 1 TO PLACE
-           END-IF
-           ADD 1 TO PAGES
-           MOVE PAGES TO HEAD-PAGE
-           MOVE FIRST-HEADING TO REPORT-TEXT
-           MOVE 2 TO SPACES-AFTER
-           PERFORM PRINT-LINE
-           MOVE SECOND-HEADING TO REPORT-TEXT
-           PERFORM PRINT-LINE
-           MOVE "N" TO OVERFLOW-STATE.
+           COPY "headings.cpy".
            COPY "printer.cpy".

@@ -13,13 +13,25 @@ mod pack;
 mod printer;
 
 use pack::{CHARACTERS, CODES, File, SECTOR, pack, packed, translate};
-use printer::{Printer, Sign, half_adjusted, zoned};
+use printer::{Headings, Printer, Sign, half_adjusted, zoned};
 
-const DATE: i64 = 61576;
 const DATE_IN_RECORDS: [u8; 6] = [0xF0, 0xF6, 0xF1, 0xF5, 0xF7, 0xF6];
 const KEY: usize = 6;
 const ENTRY: usize = KEY + 4;
 const ENTRIES: usize = SECTOR / ENTRY;
+const HEADINGS: Headings = Headings {
+    titles: &[(b"ITEMS BY KEY", 12)],
+    date: (61576, 60),
+    page_end: 88,
+    columns: &[
+        (b"ITEM", 4),
+        (b"BIN", 28),
+        (b"ON HAND", 38),
+        (b"PRICE", 49),
+        (b"VALUE", 65),
+        (b"MADE", 75),
+    ],
+};
 
 /// A key as a number, which is in the same order.
 fn key_of(bytes: &[u8]) -> u64 {
@@ -113,14 +125,10 @@ impl Items<'_> {
     }
 
     fn list(&self, report: Vec<u8>) -> Vec<u8> {
-        let mut printer = Printer::new(report);
-        let mut pages = 0;
-        headings(&mut printer, &mut pages);
+        let mut printer = Printer::headed(&HEADINGS, report);
         let mut sum = 0;
         for place in 0..self.file.count {
-            if printer.is_full() {
-                headings(&mut printer, &mut pages);
-            }
+            printer.begin_record(&HEADINGS);
             let record = self.record(place);
             let (on_hand, price) = (packed(&record[26..29]), packed(&record[29..33]));
             let value = half_adjusted(on_hand * price, 10);
@@ -142,21 +150,6 @@ impl Items<'_> {
         printer.print(1);
         printer.report()
     }
-}
-
-fn headings(printer: &mut Printer, pages: &mut i64) {
-    *pages += 1;
-    printer.first_line();
-    printer.text(b"ITEMS BY KEY", 12);
-    printer.date(DATE, 60);
-    printer.text(b"PAGE", 83);
-    printer.whole(*pages, false, 88);
-    printer.print(2);
-    for (text, end) in [(&b"ITEM"[..], 4), (b"BIN", 28), (b"ON HAND", 38), (b"PRICE", 49), (b"VALUE", 65), (b"MADE", 75)] {
-        printer.text(text, end);
-    }
-    printer.print(2);
-    printer.headings_are_done();
 }
 
 fn main() -> std::io::Result<()> {

@@ -6,10 +6,7 @@
        ENVIRONMENT DIVISION.
        INPUT-OUTPUT SECTION.
        FILE-CONTROL.
-           SELECT CARDS ASSIGN TO KEYBOARD
-               ORGANIZATION IS LINE SEQUENTIAL.
-           SELECT REPORT-FILE ASSIGN TO DISPLAY
-               ORGANIZATION IS LINE SEQUENTIAL.
+           COPY "select.cpy".
            SELECT CUSTOMERS ASSIGN TO "CUSTOMER"
                ORGANIZATION IS SEQUENTIAL.
        DATA DIVISION.
@@ -40,21 +37,9 @@
            05  CUSTOMER-DISCOUNT    PIC S9(2)V9 COMP-3.
            05  FILLER               PIC X(16).
        FD  REPORT-FILE.
-       01  REPORT-LINE.
-           05  REPORT-PAGE          PIC 9(4).
-           05  FILLER               PIC X.
-           05  REPORT-PLACE         PIC 99.
-           05  FILLER               PIC X.
-           05  REPORT-TEXT          PIC X(132).
+           COPY "report.cpy".
        WORKING-STORAGE SECTION.
-       01  PRINTER.
-           05  PAGE-NUMBER          PIC S9(4) COMP-5 VALUE 1.
-           05  PLACE                PIC S9(4) COMP-5 VALUE 1.
-           05  PLACE-BEFORE         PIC S9(4) COMP-5.
-           05  SPACES-DUE           PIC S9(4) COMP-5.
-           05  SPACES-AFTER         PIC S9(4) COMP-5.
-           05  OVERFLOW-STATE       PIC X VALUE "N".
-               88  OVERFLOWS        VALUE "Y".
+           COPY "place.cpy".
        01  HEADS.
            05  ORDER-STATE          PIC X VALUE "N".
                88  NO-ORDER         VALUE "Y".
@@ -298,17 +283,5 @@
            MOVE LOST-AMOUNT TO END-LOST-AMOUNT
            MOVE SECOND-END TO REPORT-TEXT
            PERFORM PRINT-LINE.
-       HEADINGS.
-           IF PLACE > 1
-               PERFORM NEXT-PAGE
-               MOVE 1 TO PLACE
-           END-IF
-           ADD 1 TO PAGES
-           MOVE PAGES TO HEAD-PAGE
-           MOVE FIRST-HEADING TO REPORT-TEXT
-           MOVE 2 TO SPACES-AFTER
-           PERFORM PRINT-LINE
-           MOVE SECOND-HEADING TO REPORT-TEXT
-           PERFORM PRINT-LINE
-           MOVE "N" TO OVERFLOW-STATE.
+           COPY "headings.cpy".
            COPY "printer.cpy".

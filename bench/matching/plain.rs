@@ -10,9 +10,23 @@ mod pack;
 mod printer;
 
 use pack::{CHARACTERS, File, packed};
-use printer::{Printer, Sign, half_adjusted, zoned};
+use printer::{Headings, Printer, Sign, half_adjusted, zoned};
 
-const DATE: i64 = 61576;
+const HEADINGS: Headings = Headings {
+    titles: &[(b"ORDERS BY CUSTOMER", 18)],
+    date: (61576, 40),
+    page_end: 93,
+    columns: &[
+        (b"ORDER", 8),
+        (b"DUE", 18),
+        (b"ITEM", 24),
+        (b"QUANTITY", 38),
+        (b"PRICE", 49),
+        (b"AMOUNT", 64),
+        (b"DISCOUNT", 79),
+        (b"NET", 93),
+    ],
+};
 
 /// A customer's record; amounts are in hundredths, the discount in tenths of a hundredth.
 #[derive(Clone, Copy)]
@@ -49,7 +63,6 @@ struct Sums {
 
 struct Register {
     printer: Printer,
-    pages: i64,
     of_all: Sums,
     buyers: i64,
     idle: i64,
@@ -58,28 +71,6 @@ struct Register {
 }
 
 impl Register {
-    fn headings(&mut self) {
-        self.pages += 1;
-        let printer = &mut self.printer;
-        printer.first_line();
-        printer.text(b"ORDERS BY CUSTOMER", 18);
-        printer.date(DATE, 40);
-        printer.text(b"PAGE", 88);
-        printer.whole(self.pages, false, 93);
-        printer.print(2);
-        for (text, end) in [(&b"ORDER"[..], 8), (b"DUE", 18), (b"ITEM", 24), (b"QUANTITY", 38), (b"PRICE", 49), (b"AMOUNT", 64), (b"DISCOUNT", 79), (b"NET", 93)] {
-            printer.text(text, end);
-        }
-        printer.print(2);
-        printer.headings_are_done();
-    }
-
-    fn headings_if_full(&mut self) {
-        if self.printer.is_full() {
-            self.headings();
-        }
-    }
-
     fn customer(&mut self, customer: &Customer) {
         let printer = &mut self.printer;
         printer.space(1);
@@ -121,7 +112,7 @@ impl Register {
     }
 
     fn lost_order(&mut self, number: i64, card: &[u8]) {
-        self.headings_if_full();
+        self.printer.begin_record(&HEADINGS);
         self.lost_sum += self.order(card);
         self.lost += 1;
         self.printer.text(b"NO CUSTOMER", 80);
@@ -182,21 +173,20 @@ fn main() -> std::io::Result<()> {
     let mut input = String::new();
     std::io::stdin().lock().read_to_string(&mut input)?;
     let file = File::first_of(&pack, 0);
-    let mut register = Register { printer: Printer::new(Vec::new()), pages: 0, of_all: Sums::default(), buyers: 0, idle: 0, lost: 0, lost_sum: 0 };
-    register.headings();
+    let mut register = Register { printer: Printer::headed(&HEADINGS, Vec::new()), of_all: Sums::default(), buyers: 0, idle: 0, lost: 0, lost_sum: 0 };
     let mut orders = input.lines().map(|line| (zoned(&line.as_bytes()[1..7]), line.as_bytes())).peekable();
     for record in pack[file.records..].chunks_exact(file.length).take(file.count) {
         let customer = Customer::of(record);
         while let Some((number, card)) = orders.next_if(|&(number, _)| number < customer.number) {
             register.lost_order(number, card);
         }
-        register.headings_if_full();
+        register.printer.begin_record(&HEADINGS);
         let mut sums = Sums::default();
         while let Some((_, card)) = orders.next_if(|&(number, _)| number == customer.number) {
             if sums.count == 0 {
                 register.customer(&customer);
             }
-            register.headings_if_full();
+            register.printer.begin_record(&HEADINGS);
             register.order_of(&customer, card, &mut sums);
         }
         if sums.count == 0 {

@@ -6,27 +6,31 @@ use std::io::{Read, Write};
 #[path = "../printer.rs"]
 mod printer;
 
-use printer::{Printer, Sign, half_adjusted, zoned};
+use printer::{Headings, Printer, Sign, half_adjusted, zoned};
 
-const DATE: i64 = 61876;
 const FULL_WEEK: i64 = 4000;
 const CEILING: i64 = 15300_00;
 /// In ten thousandths.
 const SOCIAL: i64 = 585;
 const EXEMPTION: i64 = 14_40;
 const MOST_PAID_BACK: i64 = 25_00;
-const HEADS: [(&[u8], usize); 10] = [
-    (b"EMPLOYEE", 14),
-    (b"HOURS", 33),
-    (b"RATE", 42),
-    (b"GROSS", 53),
-    (b"F.I.C.A.", 63),
-    (b"TAX", 73),
-    (b"STATE", 83),
-    (b"INSURANCE", 92),
-    (b"LOAN", 101),
-    (b"NET", 112),
-];
+const HEADINGS: Headings = Headings {
+    titles: &[(b"PAYROLL REGISTER", 16), (b"WEEK ENDED", 38)],
+    date: (61876, 47),
+    page_end: 113,
+    columns: &[
+        (b"EMPLOYEE", 14),
+        (b"HOURS", 33),
+        (b"RATE", 42),
+        (b"GROSS", 53),
+        (b"F.I.C.A.", 63),
+        (b"TAX", 73),
+        (b"STATE", 83),
+        (b"INSURANCE", 92),
+        (b"LOAN", 101),
+        (b"NET", 112),
+    ],
+};
 
 #[derive(Clone, Copy, Default)]
 struct Pay {
@@ -85,38 +89,18 @@ fn state_tax(gross: i64, state: &[u8]) -> i64 {
 
 struct Payroll<'a> {
     printer: Printer,
-    pages: i64,
     department: &'a [u8],
     of_department: Sums,
     of_all: Sums,
 }
 
 impl<'a> Payroll<'a> {
-    fn headings(&mut self) {
-        self.pages += 1;
-        let printer = &mut self.printer;
-        printer.first_line();
-        printer.text(b"PAYROLL REGISTER", 16);
-        printer.text(b"WEEK ENDED", 38);
-        printer.date(DATE, 47);
-        printer.text(b"PAGE", 108);
-        printer.whole(self.pages, false, 113);
-        printer.print(2);
-        for (text, end) in HEADS {
-            printer.text(text, end);
-        }
-        printer.print(2);
-        printer.headings_are_done();
-    }
-
     fn card(&mut self, card: &'a [u8]) {
         if card[1..4] != *self.department {
             self.department_totals();
             self.department = &card[1..4];
         }
-        if self.printer.is_full() {
-            self.headings();
-        }
+        self.printer.begin_record(&HEADINGS);
         let gross = self.gross(card);
         let (exemptions, earned) = (zoned(&card[27..29]), zoned(&card[29..37]));
         let (insurance, owed) = (zoned(&card[37..42]), zoned(&card[42..48]));
@@ -207,8 +191,7 @@ fn main() -> std::io::Result<()> {
     let mut input = String::new();
     std::io::stdin().lock().read_to_string(&mut input)?;
     let department = &input.as_bytes()[1..4];
-    let mut payroll = Payroll { printer: Printer::new(Vec::new()), pages: 0, department, of_department: Sums::default(), of_all: Sums::default() };
-    payroll.headings();
+    let mut payroll = Payroll { printer: Printer::headed(&HEADINGS, Vec::new()), department, of_department: Sums::default(), of_all: Sums::default() };
     for line in input.lines() {
         payroll.card(line.as_bytes());
     }

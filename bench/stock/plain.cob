@@ -8,10 +8,7 @@
        ENVIRONMENT DIVISION.
        INPUT-OUTPUT SECTION.
        FILE-CONTROL.
-           SELECT CARDS ASSIGN TO KEYBOARD
-               ORGANIZATION IS LINE SEQUENTIAL.
-           SELECT REPORT-FILE ASSIGN TO DISPLAY
-               ORGANIZATION IS LINE SEQUENTIAL.
+           COPY "select.cpy".
            SELECT STOCK ASSIGN TO "STOCK"
                ORGANIZATION IS INDEXED
                ACCESS MODE IS DYNAMIC
@@ -30,26 +27,14 @@
            05  CARD-QUANTITY        PIC 9(5).
            05  FILLER               PIC X(84).
        FD  REPORT-FILE.
-       01  REPORT-LINE.
-           05  REPORT-PAGE          PIC 9(4).
-           05  FILLER               PIC X.
-           05  REPORT-PLACE         PIC 99.
-           05  FILLER               PIC X.
-           05  REPORT-TEXT          PIC X(132).
+           COPY "report.cpy".
        FD  STOCK.
            COPY "stock.cpy".
        FD  PRICES.
            COPY "prices.cpy".
        WORKING-STORAGE SECTION.
        01  DEPARTMENT               PIC X(4).
-       01  PRINTER.
-           05  PAGE-NUMBER          PIC S9(4) COMP-5 VALUE 1.
-           05  PLACE                PIC S9(4) COMP-5 VALUE 1.
-           05  PLACE-BEFORE         PIC S9(4) COMP-5.
-           05  SPACES-DUE           PIC S9(4) COMP-5.
-           05  SPACES-AFTER         PIC S9(4) COMP-5.
-           05  OVERFLOW-STATE       PIC X VALUE "N".
-               88  OVERFLOWS        VALUE "Y".
+           COPY "place.cpy".
        01  SWITCHES.
            05  END-STATE            PIC X VALUE "N".
                88  ALL-READ         VALUE "Y".
