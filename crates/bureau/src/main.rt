@@ -10,6 +10,7 @@
 #![tactic(auto)]
 
 mod command;
+mod descriptors;
 mod new_pack;
 mod operate;
 mod refusal;
@@ -19,5 +20,6 @@ mod words;
 use std::process::ExitCode;
 
 fn main(rt: HostRuntime) -> ExitCode {
+    let _kept = descriptors::fill_descriptors(&rt);
     ExitCode::from(command::execute(&rt))
 }
