@@ -30,10 +30,10 @@ const PACK_LIMIT: usize = 16_776_960;
 /// The most bytes that are asked of a file at once.
 const CHUNK: usize = 4_096;
 
-/// The first 16,776,960 bytes of the file at a path, or all if there are fewer. It fails where the file can't be opened or read.
+/// The first 16,776,960 bytes of the file at a path, or all if there are fewer. It fails if the file can't be opened or read.
 pub fn read_pack(rt: &HostRuntime, path: &str) -> io::Result<Vec<u8>> {
     let mut file = File::open(rt, path)?;
-    read_from(rt, &mut file)
+    read_up_to(rt, &mut file, PACK_LIMIT)
 }
 
 /// A pack as `read_pack` reads it, for a command that saves to a path. Where that leads to the same regular file, the
@@ -46,7 +46,7 @@ pub fn read_to_save(
 ) -> Result<(Vec<u8>, Option<LockedPack>), FileFault> {
     match LockedPack::read_and_saved(rt, path, save)? {
         Some(mut locked) => {
-            let bytes = read_from(rt, locked.file())?;
+            let bytes = read_up_to(rt, locked.file(), PACK_LIMIT)?;
             Ok((bytes, Some(locked)))
         }
         None => Ok((read_pack(rt, path)?, None)),
@@ -126,29 +126,22 @@ pub fn test_folder(rt: &HostRuntime, path: &str) -> io::Result<()> {
 
 /// Whether a folder has nothing in it.
 pub fn is_empty_folder(rt: &HostRuntime, path: &str) -> io::Result<bool> {
-    for entry in fs::read_dir(rt, path)? {
-        let _entry = entry?;
-        return Ok(false);
+    let mut entries = fs::read_dir(rt, path)?;
+    match entries.next() {
+        Some(Ok(_)) => Ok(false),
+        Some(Err(error)) => Err(error),
+        None => Ok(true),
     }
-    Ok(true)
 }
 
-/// All bytes of the file at a path, if they are no more than a limit; `FileTooLarge` where they are more.
+/// All bytes of the file at a path, if they are no more than a limit; `FileTooLarge` if they are more.
 pub fn read_within(rt: &HostRuntime, path: &str, limit: usize) -> io::Result<Vec<u8>> {
     let mut file = File::open(rt, path)?;
-    let mut bytes = room_for(rt, &file, limit)?;
-    let mut chunk = [0u8; CHUNK];
-    for _turn in 0..=limit {
-        let count = file.read(&mut chunk)?;
-        if count == 0 {
-            return Ok(bytes);
-        }
-        bytes.extend_from_slice(&chunk[..count])?;
-        if bytes.len() > limit {
-            break;
-        }
+    let bytes = read_up_to(rt, &mut file, limit.saturating_add(1))?;
+    if bytes.len() > limit {
+        return Err(io::Error::from(ErrorKind::FileTooLarge));
     }
-    Err(io::Error::from(ErrorKind::FileTooLarge))
+    Ok(bytes)
 }
 
 /// Room for what a file has, up to a limit, so that it isn't moved while it is read. A file whose length isn't known, as a
@@ -161,18 +154,24 @@ fn room_for(rt: &HostRuntime, file: &File, limit: usize) -> Result<Vec<u8>, Allo
     Vec::with_capacity(rt.alloc(), length.min(limit))
 }
 
-fn read_from(rt: &HostRuntime, file: &mut File) -> io::Result<Vec<u8>> {
-    let mut bytes = room_for(rt, file, PACK_LIMIT)?;
-    let mut chunk = [0u8; CHUNK];
-    for _turn in 0..PACK_LIMIT {
-        let room = PACK_LIMIT.saturating_sub(bytes.len()).min(CHUNK);
-        let count = file.read(&mut chunk[..room])?;
-        if count == 0 {
-            return Ok(bytes);
+/// The first bytes of an open file, or all if there are no more than a limit.
+fn read_up_to(rt: &HostRuntime, file: &mut File, limit: usize) -> io::Result<Vec<u8>> {
+    let mut bytes = room_for(rt, file, limit)?;
+    for _turn in 0..limit {
+        if read_chunk(file, &mut bytes, limit)? == 0 {
+            break;
         }
-        bytes.extend_from_slice(&chunk[..count])?;
     }
     Ok(bytes)
+}
+
+/// Appends what one call reads of a file, up to a limit of all bytes, and answers how many bytes that is.
+fn read_chunk(file: &mut File, bytes: &mut Vec<u8>, limit: usize) -> io::Result<usize> {
+    let mut chunk = [0u8; CHUNK];
+    let room = limit.saturating_sub(bytes.len()).min(CHUNK);
+    let count = file.read(&mut chunk[..room])?;
+    bytes.extend_from_slice(&chunk[..count])?;
+    Ok(count)
 }
 
 fn write_in_place(rt: &HostRuntime, place: Path<'_>, bytes: &[u8]) -> io::Result<()> {
