@@ -26,7 +26,7 @@ use std::num::NonZeroU16;
 const STRIDE: u16 = 1_000;
 
 /// What came of a level's going on.
-#[derive(Clone, Copy)]
+#[derive(Clone, Copy, PartialEq, Eq)]
 enum Went {
     /// It has gone on.
     On,
