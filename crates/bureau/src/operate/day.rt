@@ -1,21 +1,20 @@
 //! A day, from its first turn to what is told at its end.
 
-use super::begun::named_file;
 use super::fault::DayFault;
 use super::order::Order;
-use super::outputs::{Output, Outputs, remove_made, write_deck};
-use super::paper::write_paper;
+use super::outputs::{KeptOutputs, Output, Outputs, remove_made, write_deck};
+use super::paper::{Making, write_paper};
+use super::saving::end_day;
 use super::watch::Watch;
 use crate::refusal::{FILE, OUT_OF_MEMORY};
 use s3_cli::{CliFault, SessionFault, Watched, write_output};
-use s3_day_log::{Begun, DayLog, DayOver, Event};
+use s3_day_log::{Begun, DayLog};
 use s3_desk::{Bounds, Day, operate_day};
-use s3_host_files::{FileFault, LockedPack, save_pack};
+use s3_host_files::{LockedPack, StandardOutput};
 use s3_operating::{Closing, Desk, Journal, Seat, Settings, Tape, Verdict};
-use s3_paper_commands::status::{DONE, PASSED_OVER, PERSON_NEEDED};
 use s3_replay::Performed;
 use s3_replies::Rules;
-use std::alloc::{AllocError, Global};
+use std::alloc::Global;
 use std::io::{Stderr, Stdin, Write};
 
 /// The most bytes that `run` reads.
@@ -51,13 +50,16 @@ struct Texts<'a> {
 
 /// A day that is over, and the desk's account of it.
 #[derive(Drop)]
-struct Over {
-    day: Day,
-    closing: Closing,
+pub struct Over {
+    /// What it left.
+    pub day: Day,
+    /// The desk's account.
+    pub closing: Closing,
 }
 
 impl Over {
-    fn is_unfinished(&self) -> bool {
+    /// Whether a level isn't done.
+    pub fn is_unfinished(&self) -> bool {
         self.closing.verdict == Verdict::Unfinished
     }
 }
@@ -76,6 +78,7 @@ pub fn operate_prepared<'n, 'a>(
         deck1,
         deck2,
         locked,
+        kept,
         made,
     } = outputs;
     let texts = Texts {
@@ -86,7 +89,8 @@ pub fn operate_prepared<'n, 'a>(
     match operated(rt.alloc(), pack, texts, &mut desk, order.bounds) {
         Ok(over) => {
             write_decks(order, texts, deck1, deck2)?;
-            hand_out(rt, order, &mut desk, texts, &over, locked)
+            write_reports(rt, order, &mut desk, texts, &over, &kept)?;
+            end_day(rt, order, &mut desk, &kept, &over, locked)
         }
         Err(fault) => {
             // if a deck is refused nothing is written, so what was made by trying goes again
@@ -185,21 +189,6 @@ fn closed<'n>(
     }
 }
 
-/// Writes the reports, reports how both levels ended, and saves the pack.
-fn hand_out<'n>(
-    rt: &HostRuntime,
-    order: &Order<'n>,
-    desk: &mut OwnDesk<'_>,
-    texts: Texts<'_>,
-    over: &Over,
-    locked: Option<LockedPack>,
-) -> Result<u8, DayFault<'n>> {
-    write_reports(rt, order, desk, texts, over)?;
-    let saved = save(rt, order, over, locked)?;
-    tell_saved(order, desk, saved.is_some(), over.is_unfinished());
-    end(rt, order, desk, over, saved)
-}
-
 /// Writes the reports and the pages, and reports how both levels ended.
 fn write_reports<'n>(
     rt: &HostRuntime,
@@ -207,38 +196,34 @@ fn write_reports<'n>(
     desk: &mut OwnDesk<'_>,
     texts: Texts<'_>,
     over: &Over,
+    kept: &KeptOutputs,
 ) -> Result<(), DayFault<'n>> {
-    let is_written = write_output(&mut Watched::new(rt.stdout()), &over.day.outcome).is_ok();
+    let mut reports = StandardOutput::new(rt);
+    let is_written = write_output(&mut Watched::new(&mut reports), &over.day.outcome).is_ok();
     desk.tell("\n");
     desk.tell(over.closing.summary.as_str());
     if order.script.is_some() {
         tell_size(rt, texts, desk.script_len());
     }
     test_written(order, desk)?;
-    if !is_written {
+    if reports.has_lost_reader() {
+        desk.tell(
+            "what reads standard output has ended before the reports did; all else is done as asked\n",
+        );
+    } else if !is_written {
         desk.tell("the reports can't be written to standard output, and no pack is saved\n");
         return Err(DayFault::Cli(FILE));
     }
     match order.paper {
-        Some(paper) => write_paper(rt, paper, desk, &over.day.outcome),
+        Some(paper) => {
+            let making = Making {
+                overwrites: order.overwrites,
+                limit: kept.limit,
+            };
+            write_paper(rt, paper, making, desk, &over.day.outcome)
+        }
         None => Ok(()),
     }
-}
-
-/// Logs the end of the day, and gives the exit status.
-fn end<'n>(
-    rt: &HostRuntime,
-    order: &Order<'n>,
-    desk: &mut OwnDesk<'_>,
-    over: &Over,
-    saved: Option<&str>,
-) -> Result<u8, DayFault<'n>> {
-    let status = status_of(over.closing.verdict);
-    if desk.has_log() {
-        log_end(rt.alloc(), desk, status, saved, &over.day.outcome.pack)?;
-    }
-    test_written(order, desk)?;
-    Ok(status)
 }
 
 /// Why a day wasn't closed: its deck can't be read, or memory ran out.
@@ -264,7 +249,7 @@ fn tell_size(rt: &HostRuntime, texts: Texts<'_>, script: u64) {
 }
 
 /// Refuses a day whose script or log couldn't be written, or that memory ran out for.
-fn test_written<'n>(order: &Order<'n>, desk: &OwnDesk<'_>) -> Result<(), DayFault<'n>> {
+pub fn test_written<'n>(order: &Order<'n>, desk: &OwnDesk<'_>) -> Result<(), DayFault<'n>> {
     if desk.is_out_of_memory() {
         return Err(DayFault::Cli(OUT_OF_MEMORY));
     }
@@ -273,80 +258,4 @@ fn test_written<'n>(order: &Order<'n>, desk: &OwnDesk<'_>) -> Result<(), DayFaul
         (_, Some(name)) if desk.has_log_failed() => Err(DayFault::File(name)),
         _ => Ok(()),
     }
-}
-
-fn status_of(verdict: Verdict) -> u8 {
-    match verdict {
-        Verdict::Clean => DONE,
-        Verdict::Passed => PASSED_OVER,
-        Verdict::Unfinished => PERSON_NEEDED,
-    }
-}
-
-/// Saves the pack if that is asked for, and the day is one to be saved. It answers where it was saved; why it couldn't be is reported.
-fn save<'a>(
-    rt: &HostRuntime,
-    order: &Order<'a>,
-    over: &Over,
-    locked: Option<LockedPack>,
-) -> Result<Option<&'a str>, DayFault<'a>> {
-    let Some(path) = order.save else {
-        return Ok(None);
-    };
-    if over.is_unfinished() && !order.saves_unfinished {
-        return Ok(None);
-    }
-    match save_pack(rt, path, locked, &over.day.outcome.pack) {
-        Ok(()) => Ok(Some(path)),
-        Err(fault) => {
-            if let FileFault::Call(error) = &fault {
-                let _ = writeln!(rt.stderr(), "the pack is not saved in {path}: {error}");
-            }
-            Err(DayFault::of_pack(&fault, path))
-        }
-    }
-}
-
-/// Reports what became of the pack.
-fn tell_saved(order: &Order<'_>, desk: &mut OwnDesk<'_>, is_saved: bool, is_unfinished: bool) {
-    let Some(path) = order.save else {
-        desk.tell("nothing is saved: there is no --save\n");
-        return;
-    };
-    let (before, after) = saved_words(is_saved, is_unfinished);
-    desk.tell(before);
-    desk.tell(path);
-    desk.tell(after);
-}
-
-/// The words before and after the file's name that report whether a pack is saved.
-fn saved_words(is_saved: bool, is_unfinished: bool) -> (&'static str, &'static str) {
-    if !is_saved {
-        (
-            "the pack is not saved, and ",
-            " is left alone: a level isn't done (--save-unfinished saves it so)\n",
-        )
-    } else if is_unfinished {
-        (
-            "the pack is saved in ",
-            ", though a level isn't done: a job that is taken up begins anew, over the records that it has put\n",
-        )
-    } else {
-        ("the pack is saved in ", "\n")
-    }
-}
-
-/// Logs the end of the day.
-fn log_end(
-    alloc: Global,
-    desk: &mut OwnDesk<'_>,
-    status: u8,
-    saved: Option<&str>,
-    pack: &[u8],
-) -> Result<(), AllocError> {
-    let saved = match saved {
-        Some(path) => Some(named_file(alloc, path, pack)?),
-        None => None,
-    };
-    desk.note(Event::End(DayOver { status, saved }))
 }
