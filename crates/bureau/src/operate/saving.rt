@@ -31,6 +31,7 @@ pub fn end_day<'n>(
     over: &Over,
     locked: Option<LockedPack>,
 ) -> Result<u8, DayFault<'n>> {
+    sync(rt, &kept.script, order.script)?;
     let Some(path) = order.save else {
         desk.tell("nothing is saved: there is no --save\n");
         return end_unsaved(rt, order, desk, kept, over);
@@ -54,8 +55,8 @@ pub fn end_day<'n>(
     }
 }
 
-/// Logs that the pack is going to be saved, and brings script and log to the disk: so whoever finds a log without an end can tell by
-/// the pack whether it is saved.
+/// Logs that the pack is going to be saved, and brings the log to the disk: so whoever finds a log without an end can tell by the pack
+/// whether it is saved.
 fn note_saving<'n>(
     rt: &HostRuntime,
     order: &Order<'n>,
@@ -68,7 +69,6 @@ fn note_saving<'n>(
         desk.note(Event::Saving { pack })?;
     }
     test_written(order, desk)?;
-    sync(rt, &kept.script, order.script)?;
     sync(rt, &kept.log, order.log)
 }
 
@@ -159,7 +159,7 @@ fn end_over_saved<'n>(
         let path = saving.path;
         let _ = writeln!(
             rt.stderr(),
-            "the end of the day isn't in {log}, which can't be written; the pack is saved in {path} all the same"
+            "{log} may lack the end of the day; the pack is saved in {path} all the same"
         );
     }
     ended
@@ -215,7 +215,7 @@ fn end_unsaved<'n>(
     Ok(status)
 }
 
-/// Logs the end of the day, and brings script and log to the disk.
+/// Logs the end of the day, and brings the log to the disk.
 fn log_end<'n>(
     rt: &HostRuntime,
     order: &Order<'n>,
@@ -228,7 +228,6 @@ fn log_end<'n>(
         desk.note(Event::End(DayOver { status, saved }))?;
     }
     test_written(order, desk)?;
-    sync(rt, &kept.script, order.script)?;
     sync(rt, &kept.log, order.log)
 }
 
