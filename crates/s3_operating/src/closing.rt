@@ -142,6 +142,10 @@ fn push_summary(message: &mut Message, seat: &Seat<'_>, ended: Ended) {
     message.push("\n");
     for (place, job) in seat.ledger.begun().iter().enumerate() {
         push_ending(message, &seat.ledger, place, job, ended.end);
+        if seat.is_spoilt(place) {
+            message.push(", after it had changed files");
+        }
+        message.push("\n");
     }
 }
 
@@ -230,7 +234,7 @@ fn push_taking_up(message: &mut Message, seat: &Seat<'_>, first: Option<usize>) 
     }
 }
 
-/// Appends a line of a job, and how it ended.
+/// Appends a job, and how it ended.
 fn push_ending(
     message: &mut Message,
     ledger: &Ledger,
@@ -256,7 +260,6 @@ fn push_ending(
             push_how(message, job, end);
         }
     }
-    message.push("\n");
 }
 
 /// Appends how a job ended.

@@ -1,6 +1,7 @@
 //! The operator of the command.
 
 use crate::answers::Answer;
+use crate::changes::has_changed;
 use crate::clock::Clock;
 use crate::journal::Journal;
 use crate::levels::{Levels, Said};
@@ -21,6 +22,22 @@ use std::io::{Read, Write};
 
 /// How long a halt is shown at least before a line answers it, in milliseconds: what came sooner was typed before.
 const SOONEST: u64 = 200;
+
+/// What is told of a line that came sooner than that.
+const BEFORE_HALT: &'static str = "that was typed before the halt was shown; once more\n";
+
+/// What is told of a line that was typed before another question was asked.
+const BEFORE_QUESTION: &'static str = "that was typed before it was asked; once more\n";
+
+/// What is asked of a person when an output fails.
+const WITHOUT: &'static str = "go on without it? yes, or no to stop the day ";
+
+/// What is told when an output fails, and the day ends.
+const STOPPED: &'static str = "the day stops here, and nothing is saved\n";
+
+/// What is asked of a person before a pack is saved that a job has left half changed.
+const SAVE: &'static str =
+    "\na reply has ended a job after it had changed files: save the pack? yes or no ";
 
 /// How long the work goes on at least between two lines that tell how far it is, in milliseconds.
 const BETWEEN: u64 = 1_000;
@@ -76,6 +93,8 @@ pub struct Desk<'a, R: Read + Drop, W: Write + Drop, F: Write + Drop, C: Clock +
     has_ended: bool,
     pub(crate) is_stopped: bool,
     is_out_of_memory: bool,
+    /// The day was ended because an output can't be written.
+    has_given_up: bool,
 }
 
 impl<'a, R: Read + Drop, W: Write + Drop, F: Write + Drop, C: Clock + Drop> Desk<'a, R, W, F, C> {
@@ -107,6 +126,7 @@ impl<'a, R: Read + Drop, W: Write + Drop, F: Write + Drop, C: Clock + Drop> Desk
             has_ended: false,
             is_stopped: false,
             is_out_of_memory: false,
+            has_given_up: false,
         };
         desk.told_at = desk.clock.milliseconds();
         desk
@@ -115,6 +135,11 @@ impl<'a, R: Read + Drop, W: Write + Drop, F: Write + Drop, C: Clock + Drop> Desk
     /// Whether memory ran out while a question was put; the day was ended then.
     pub fn is_out_of_memory(&self) -> bool {
         self.is_out_of_memory
+    }
+
+    /// Whether the day was ended because the log or the script can't be written.
+    pub fn has_given_up(&self) -> bool {
+        self.has_given_up
     }
 
     /// The level for whose deck the day was refused, before anything was written.
@@ -162,7 +187,8 @@ impl<'a, R: Read + Drop, W: Write + Drop, F: Write + Drop, C: Clock + Drop> Desk
         level: LevelId,
     ) -> Result<(), AllocError> {
         self.levels.note_jobs(machine, level)?;
-        self.log_level(level)
+        self.log_level(level)?;
+        self.test_outputs()
     }
 
     /// Begins the day, once: takes the decks as they were read, tells which can't be, and begins the log. `Err` stands also for
@@ -244,6 +270,7 @@ impl<'a, R: Read + Drop, W: Write + Drop, F: Write + Drop, C: Clock + Drop> Desk
             .seat_mut(level)
             .take_halt(machine.level(level), halt);
         self.log_level(level)?;
+        self.test_outputs()?;
         if self.levels.given(level, halt.code).is_some() {
             return Ok(());
         }
@@ -267,19 +294,30 @@ impl<'a, R: Read + Drop, W: Write + Drop, F: Write + Drop, C: Clock + Drop> Desk
         };
         match answer {
             Some(answer) => {
-                self.take(level, code, answer)?;
+                let is_spoilt = answer.digit != 0 && has_changed(machine.level(level));
+                self.take(level, code, answer, is_spoilt)?;
                 Ok(Some(answer.digit))
             }
             None => Ok(None),
         }
     }
 
-    /// Takes note of a reply, and tells it.
-    fn take(&mut self, level: LevelId, code: HaltCode, answer: Answer) -> Result<(), AllocError> {
-        let message = self.levels.answered(level, code, answer);
-        self.tell_message(message)?;
+    /// Takes note of a reply, and whether it ends a job that has changed files, and tells it.
+    fn take(
+        &mut self,
+        level: LevelId,
+        code: HaltCode,
+        answer: Answer,
+        is_spoilt: bool,
+    ) -> Result<(), AllocError> {
         self.log_level(level)?;
         self.log_reply(level, code, answer)?;
+        self.test_outputs()?;
+        let message = self.levels.answered(level, code, answer);
+        self.tell_message(message)?;
+        if is_spoilt {
+            self.levels.seat_mut(level).mark_spoilt()?;
+        }
         self.levels.seat_mut(level).take_reply(code, answer.digit);
         self.told_at = self.clock.milliseconds();
         Ok(())
@@ -330,26 +368,142 @@ impl<'a, R: Read + Drop, W: Write + Drop, F: Write + Drop, C: Clock + Drop> Desk
         machine: &Bureau<S>,
         level: LevelId,
     ) -> Result<Said, AllocError> {
-        let asked_at = self.prompt(level)?;
-        let Some(typed) = read_line(self.levels.alloc, &mut self.reader)? else {
-            self.has_ended = true;
-            self.tell("(no more replies)\n");
+        self.prompt(level)?;
+        let Some(typed) = self.listen(BEFORE_HALT)? else {
             return Ok(Said::Over);
         };
-        if self.is_too_soon(asked_at) {
-            self.tell("that was typed before the halt was shown; once more\n");
-            return Ok(Said::Nothing);
+        match self.hear(machine, level, typed)? {
+            Said::Reply(to, digit) if self.levels.is_grave(machine, to, digit) => {
+                self.ask_again(machine, to, digit)
+            }
+            said => Ok(said),
         }
-        self.hear(machine, level, typed)
     }
 
-    /// Prompts a person, and answers when.
-    fn prompt(&mut self, level: LevelId) -> Result<u64, AllocError> {
+    /// Prompts a person.
+    fn prompt(&mut self, level: LevelId) -> Result<(), AllocError> {
         if self.levels.is_person_asked() {
             let message = self.levels.prompt(level);
             self.tell_message(message)?;
         }
-        Ok(self.clock.milliseconds())
+        Ok(())
+    }
+
+    /// Asks a person once more for a reply that ends a job that has changed files.
+    fn ask_again<S: PackStore>(
+        &mut self,
+        machine: &Bureau<S>,
+        to: LevelId,
+        digit: u8,
+    ) -> Result<Said, AllocError> {
+        let message = self.levels.again(machine, to, digit);
+        self.tell_message(message)?;
+        match self.listen(BEFORE_QUESTION)? {
+            Some(typed) if is_same_reply(typed, to, digit) => Ok(Said::Reply(to, digit)),
+            Some(_) => Ok(Said::Nothing),
+            None => Ok(Said::Over),
+        }
+    }
+
+    /// What the next line says; `Nothing` if it was typed before its question, and `None` at the end of the input.
+    fn listen(&mut self, before: &str) -> Result<Option<Typed>, AllocError> {
+        if self.has_ended {
+            return Ok(None);
+        }
+        let asked_at = self.clock.milliseconds();
+        let Some(typed) = read_line(self.levels.alloc, &mut self.reader)? else {
+            self.has_ended = true;
+            self.tell("(no more replies)\n");
+            return Ok(None);
+        };
+        if self.is_too_soon(asked_at) {
+            self.tell(before);
+            return Ok(Some(Typed::Nothing));
+        }
+        Ok(Some(typed))
+    }
+
+    /// Asks a person until the line is a yes or a no. The end of the input is a no.
+    fn agrees(&mut self, question: &str) -> Result<bool, AllocError> {
+        // more than anyone types: the bound is what shows that it ends
+        for _line in 0..u64::MAX {
+            self.tell(question);
+            match self.listen(BEFORE_QUESTION)? {
+                Some(Typed::Yes) => return Ok(true),
+                Some(Typed::No) | None => return Ok(false),
+                Some(_) => {}
+            }
+        }
+        Ok(false)
+    }
+
+    /// Whether the pack is to be saved: if a reply ended a job after it had changed files, a person is asked.
+    pub fn wants_saved(&mut self) -> Result<bool, AllocError> {
+        if !self.levels.is_person_asked() || !self.levels.has_spoilt() {
+            return Ok(true);
+        }
+        self.agrees(SAVE)
+    }
+
+    /// Reports a log or a script that can't be written. A person may choose to go on without it; else the day ends, which is `Err`.
+    pub fn test_outputs(&mut self) -> Result<(), AllocError> {
+        if self.has_given_up {
+            return Err(AllocError);
+        }
+        self.test_log()?;
+        self.test_script()
+    }
+
+    fn test_log(&mut self) -> Result<(), AllocError> {
+        if !self.journal.has_failed() {
+            return Ok(());
+        }
+        self.tell_log_failure()?;
+        self.go_on_without()?;
+        self.journal.give_up();
+        Ok(())
+    }
+
+    fn test_script(&mut self) -> Result<(), AllocError> {
+        if !self.tape.has_failed() {
+            return Ok(());
+        }
+        self.tell_script_failure()?;
+        self.go_on_without()?;
+        self.tape.give_up();
+        Ok(())
+    }
+
+    /// Reports why the log can't be written, if it can't.
+    pub fn tell_log_failure(&mut self) -> Result<(), AllocError> {
+        match self.journal.failure() {
+            Some(error) => {
+                let message = self.levels.unwritten("log", error);
+                self.tell_message(message)
+            }
+            None => Ok(()),
+        }
+    }
+
+    /// Reports why the script can't be written, if it can't.
+    fn tell_script_failure(&mut self) -> Result<(), AllocError> {
+        match self.tape.failure() {
+            Some(error) => {
+                let message = self.levels.unwritten("script", error);
+                self.tell_message(message)
+            }
+            None => Ok(()),
+        }
+    }
+
+    /// Asks a person whether the day goes on without an output. Else the day ends, which is `Err`.
+    fn go_on_without(&mut self) -> Result<(), AllocError> {
+        if self.levels.is_person_asked() && self.agrees(WITHOUT)? {
+            return Ok(());
+        }
+        self.has_given_up = true;
+        self.tell(STOPPED);
+        Err(AllocError)
     }
 
     /// Whether a person's line came so soon that it was typed before the prompt.
@@ -406,8 +560,10 @@ impl<'a, S: PackStore, R: Read + Drop, W: Write + Drop, F: Write + Drop, C: Cloc
     ) -> Result<(), AllocError> {
         self.begin(machine)?;
         self.levels.tally.count(performed.parts());
+        let is_halted = machine.level(level).waits().is_some();
+        self.tape
+            .follow(self.levels.alloc, performed.parts(), is_halted)?;
         self.note_jobs(machine, level)?;
-        self.tape.follow(self.levels.alloc, performed.parts())?;
         self.tell_progress(machine)
     }
 
@@ -422,15 +578,24 @@ impl<'a, S: PackStore, R: Read + Drop, W: Write + Drop, F: Write + Drop, C: Cloc
     }
 
     fn reply(&mut self, machine: &Bureau<S>, level: LevelId, halt: &Halt) -> Option<u8> {
-        if self.is_stopped || self.is_out_of_memory {
+        if self.is_stopped || self.is_out_of_memory || self.has_given_up {
             return None;
         }
         match self.answer(machine, level, halt.code) {
             Ok(digit) => digit,
             Err(AllocError) => {
-                self.is_out_of_memory = true;
+                self.is_out_of_memory = !self.has_given_up;
                 None
             }
         }
+    }
+}
+
+/// Whether a line is this reply to the halt of this level.
+fn is_same_reply(typed: Typed, to: LevelId, digit: u8) -> bool {
+    match typed {
+        Typed::Reply(None, again) => again == digit,
+        Typed::Reply(Some(level), again) => level == to && again == digit,
+        _ => false,
     }
 }

@@ -2,6 +2,7 @@
 
 use crate::answers::{Answer, Giver, logged, ruled};
 use crate::asking::{is_allowed, push_help, push_last_lines, push_words};
+use crate::changes::{has_changed, push_changes};
 use crate::desk::{Questioned, Settings};
 use crate::message::Message;
 use crate::progress::{push_last_job, push_progress};
@@ -17,6 +18,7 @@ use s3_operator::HaltCode;
 use s3_replies::Typed;
 use s3_store::PackStore;
 use std::alloc::{AllocError, Global};
+use std::io;
 
 /// What came of a line that was typed.
 #[derive(Clone, Copy)]
@@ -300,6 +302,50 @@ impl<'a> Levels<'a> {
         }
     }
 
+    /// Whether a person is asked once more before this reply: it ends a job that has changed files.
+    pub(crate) fn is_grave<S: PackStore>(
+        &self,
+        machine: &Bureau<S>,
+        to: LevelId,
+        digit: u8,
+    ) -> bool {
+        self.is_person_asked() && digit != 0 && has_changed(machine.level(to))
+    }
+
+    /// What a person is asked once more: `2 ends PAY; 3 records are added to CHECKS: 2 again to end it, another line to go back? `.
+    pub(crate) fn again<S: PackStore>(
+        &self,
+        machine: &Bureau<S>,
+        to: LevelId,
+        digit: u8,
+    ) -> Message {
+        let mut message = Message::new(self.alloc);
+        message.push_number(u64::from(digit));
+        message.push(" ends ");
+        push_last_job(&mut message, &self.seat(to).ledger);
+        push_changes(&mut message, machine.level(to));
+        message.push(": ");
+        message.push_number(u64::from(digit));
+        message.push(" again to end it, another line to go back? ");
+        message
+    }
+
+    /// Whether a reply ended a job after it had changed files.
+    pub(crate) fn has_spoilt(&self) -> bool {
+        self.one.has_spoilt() || self.two.has_spoilt()
+    }
+
+    /// Why the log or the script can't be written.
+    pub(crate) fn unwritten(&self, what: &str, error: &io::Error) -> Message {
+        let mut message = Message::new(self.alloc);
+        message.push("\nthe ");
+        message.push(what);
+        message.push(" can't be written: ");
+        message.push_error(error);
+        message.push("\n");
+        message
+    }
+
     // ---- lines that are typed
 
     /// Interprets a typed line for the halt of a level, and appends the response. Only a person may type more than a reply.
@@ -323,7 +369,7 @@ impl<'a> Levels<'a> {
                 Said::Nothing
             }
             Typed::Stop => Said::Over,
-            Typed::Unknown => self.hear_unknown(message, level),
+            Typed::Yes | Typed::No | Typed::Unknown => self.hear_unknown(message, level),
         }
     }
 

@@ -9,6 +9,7 @@
 
 mod answers;
 mod asking;
+mod changes;
 mod clock;
 mod closing;
 mod day_deck;

@@ -5,6 +5,7 @@ use s3_decks::{FilePlace, push_characters, push_name};
 use s3_halt_block::{push_choice, push_letters, push_replies, push_reply};
 use s3_operator::HaltCode;
 use std::alloc::{AllocError, Global};
+use std::io;
 
 /// A text that is made piece by piece. If memory runs out for a piece, `finish` reports it.
 #[derive(Drop)]
@@ -77,6 +78,11 @@ impl Message {
         self.has_failed = push_place(&mut self.text, page, line).is_err() || self.has_failed;
     }
 
+    /// Appends why a call on a file failed.
+    pub(crate) fn push_error(&mut self, error: &io::Error) {
+        self.has_failed = push_error(&mut self.text, error).is_err() || self.has_failed;
+    }
+
     /// Appends characters of EBCDIC.
     pub(crate) fn push_characters(&mut self, codes: &[u8]) {
         self.has_failed = push_characters(&mut self.text, codes).is_err() || self.has_failed;
@@ -106,6 +112,10 @@ impl Message {
 
 fn push_number(text: &mut String, number: u64) -> Result<(), AllocError> {
     write!(text, "{number}")
+}
+
+fn push_error(text: &mut String, error: &io::Error) -> Result<(), AllocError> {
+    write!(text, "{error}")
 }
 
 fn push_place(text: &mut String, page: u16, line: u8) -> Result<(), AllocError> {

@@ -37,6 +37,8 @@ pub struct Seat<'a> {
     begun: usize,
     /// How many jobs are in the log as over.
     over: usize,
+    /// The places, from 0, of the jobs that a reply ended after they had changed files.
+    spoilt: Vec<usize>,
 }
 
 impl<'a> Seat<'a> {
@@ -56,6 +58,7 @@ impl<'a> Seat<'a> {
             unlogged: None,
             begun: 0,
             over: 0,
+            spoilt: Vec::new(alloc),
         }
     }
 
@@ -118,6 +121,25 @@ impl<'a> Seat<'a> {
         self.waits = None;
         self.shown = None;
         self.ledger.reply(code, digit);
+    }
+
+    /// Takes note that a reply ends the last job that was begun, which has changed files.
+    pub(crate) fn mark_spoilt(&mut self) -> Result<(), AllocError> {
+        let place = self.ledger.begun().len().saturating_sub(1);
+        if !self.is_spoilt(place) {
+            self.spoilt.push(place)?;
+        }
+        Ok(())
+    }
+
+    /// Whether a reply ended the job at a place, from 0, after it had changed files.
+    pub(crate) fn is_spoilt(&self, place: usize) -> bool {
+        self.spoilt.iter().any(|other| *other == place)
+    }
+
+    /// Whether a reply ended any job after it had changed files.
+    pub(crate) fn has_spoilt(&self) -> bool {
+        !self.spoilt.is_empty()
     }
 
     /// Appends the text of the halt that waits, if it was shown.

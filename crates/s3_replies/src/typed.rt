@@ -24,6 +24,10 @@ pub enum Typed {
     Lines(Option<LevelId>, usize),
     /// `stop`: the end of the day.
     Stop,
+    /// `yes`, to a question that isn't about a halt.
+    Yes,
+    /// `no`, to such a question.
+    No,
     /// Anything else.
     Unknown,
 }
@@ -51,6 +55,10 @@ fn read_word(word: &[u8]) -> Typed {
         Typed::Show
     } else if word.eq_ignore_ascii_case(b"stop") {
         Typed::Stop
+    } else if word.eq_ignore_ascii_case(b"yes") {
+        Typed::Yes
+    } else if word.eq_ignore_ascii_case(b"no") {
+        Typed::No
     } else {
         Typed::Unknown
     }

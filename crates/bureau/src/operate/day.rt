@@ -9,7 +9,7 @@ use super::watch::Watch;
 use crate::refusal::{FILE, OUT_OF_MEMORY};
 use s3_cli::{CliFault, SessionFault, Watched, write_output};
 use s3_day_log::{Begun, DayLog, DayOver, Event};
-use s3_desk::{Bounds, Day, operate_day};
+use s3_desk::{Day, operate_day};
 use s3_host_files::{FileFault, LockedPack, save_pack};
 use s3_operating::{Closing, Desk, Journal, Seat, Settings, Tape, Verdict};
 use s3_paper_commands::status::{DONE, PASSED_OVER, PERSON_NEEDED};
@@ -62,6 +62,19 @@ impl Over {
     }
 }
 
+/// What became of the pack at the end of a day.
+#[derive(Clone, Copy)]
+enum Saved {
+    /// There is no `--save`.
+    Nowhere,
+    /// It isn't saved: a level isn't done.
+    Unfinished,
+    /// It isn't saved: the person at the terminal says so.
+    Declined,
+    /// It is saved.
+    Done,
+}
+
 /// Operates a day over a pack, hands out what it leaves, and gives the exit status.
 pub fn operate_prepared<'n, 'a>(
     rt: &'a HostRuntime,
@@ -83,7 +96,7 @@ pub fn operate_prepared<'n, 'a>(
         two: day.two.text(),
     };
     let mut desk = desk_of(rt, order, day, script, log);
-    match operated(rt.alloc(), pack, texts, &mut desk, order.bounds) {
+    match operated(rt.alloc(), order, pack, texts, &mut desk) {
         Ok(over) => {
             write_decks(order, texts, deck1, deck2)?;
             hand_out(rt, order, &mut desk, texts, &over, locked)
@@ -149,10 +162,10 @@ fn desk_of<'a>(
 /// Operates a day to its end, and closes the desk.
 fn operated<'n>(
     alloc: Global,
+    order: &Order<'n>,
     pack: Vec<u8>,
     texts: Texts<'_>,
     desk: &mut OwnDesk<'_>,
-    bounds: Bounds,
 ) -> Result<Over, DayFault<'n>> {
     let mut performed = Performed::new(alloc);
     let done = operate_day(
@@ -161,27 +174,29 @@ fn operated<'n>(
         texts.one,
         texts.two,
         desk,
-        bounds,
+        order.bounds,
         &mut performed,
     );
-    if let Some(level) = desk.refused() {
-        return Err(DayFault::Deck(level));
+    if desk.refused().is_some() {
+        return Err(refusal_of(order, desk));
     }
     match done {
-        Ok(day) => closed(desk, day, &performed),
+        Ok(day) => closed(order, desk, day, &performed),
+        Err(_) if desk.has_given_up() => Err(refusal_of(order, desk)),
         Err(fault) => Err(DayFault::Cli(CliFault::Session(SessionFault::Run(fault)))),
     }
 }
 
 /// Closes the desk behind its day.
 fn closed<'n>(
+    order: &Order<'n>,
     desk: &mut OwnDesk<'_>,
     day: Day,
     performed: &Performed,
 ) -> Result<Over, DayFault<'n>> {
     match desk.close(&day, performed) {
         Ok(closing) => Ok(Over { day, closing }),
-        Err(_) => Err(refusal_of(desk)),
+        Err(_) => Err(refusal_of(order, desk)),
     }
 }
 
@@ -195,8 +210,8 @@ fn hand_out<'n>(
     locked: Option<LockedPack>,
 ) -> Result<u8, DayFault<'n>> {
     write_reports(rt, order, desk, texts, over)?;
-    let saved = save(rt, order, over, locked)?;
-    tell_saved(order, desk, saved.is_some(), over.is_unfinished());
+    let saved = save(rt, order, desk, over, locked)?;
+    tell_saved(order, desk, saved, over.is_unfinished());
     end(rt, order, desk, over, saved)
 }
 
@@ -214,7 +229,7 @@ fn write_reports<'n>(
     if order.script.is_some() {
         tell_size(rt, texts, desk.script_len());
     }
-    test_written(order, desk)?;
+    test_outputs(order, desk)?;
     if !is_written {
         desk.tell("the reports can't be written to standard output, and no pack is saved\n");
         return Err(DayFault::Cli(FILE));
@@ -231,21 +246,35 @@ fn end<'n>(
     order: &Order<'n>,
     desk: &mut OwnDesk<'_>,
     over: &Over,
-    saved: Option<&str>,
+    saved: Saved,
 ) -> Result<u8, DayFault<'n>> {
-    let status = status_of(over.closing.verdict);
+    let status = status_of(over.closing.verdict, saved);
     if desk.has_log() {
-        log_end(rt.alloc(), desk, status, saved, &over.day.outcome.pack)?;
+        let path = saved_path(order, saved);
+        log_end(rt.alloc(), desk, status, path, &over.day.outcome.pack)?;
     }
-    test_written(order, desk)?;
+    if desk.has_log_failed() {
+        desk.tell_log_failure()?;
+        return Err(unwritten(order, desk));
+    }
     Ok(status)
 }
 
-/// Why a day wasn't closed: its deck can't be read, or memory ran out.
-fn refusal_of<'n>(desk: &OwnDesk<'_>) -> DayFault<'n> {
+/// Why a day was ended before its time: its deck can't be read, its script or its log can't be written, or memory ran out.
+fn refusal_of<'n>(order: &Order<'n>, desk: &OwnDesk<'_>) -> DayFault<'n> {
     match desk.refused() {
         Some(level) => DayFault::Deck(level),
+        None if desk.has_given_up() => unwritten(order, desk),
         None => DayFault::Cli(OUT_OF_MEMORY),
+    }
+}
+
+/// The refusal of a day whose script or log can't be written.
+fn unwritten<'n>(order: &Order<'n>, desk: &OwnDesk<'_>) -> DayFault<'n> {
+    match (order.script, order.log) {
+        (Some(name), _) if desk.has_script_failed() => DayFault::File(name),
+        (_, Some(name)) => DayFault::File(name),
+        (_, None) => DayFault::Cli(FILE),
     }
 }
 
@@ -263,41 +292,63 @@ fn tell_size(rt: &HostRuntime, texts: Texts<'_>, script: u64) {
     }
 }
 
-/// Refuses a day whose script or log couldn't be written, or that memory ran out for.
-fn test_written<'n>(order: &Order<'n>, desk: &OwnDesk<'_>) -> Result<(), DayFault<'n>> {
+/// Refuses a day that memory ran out for, or whose script or log can't be written, unless a person goes on without it.
+fn test_outputs<'n>(order: &Order<'n>, desk: &mut OwnDesk<'_>) -> Result<(), DayFault<'n>> {
     if desk.is_out_of_memory() {
         return Err(DayFault::Cli(OUT_OF_MEMORY));
     }
-    match (order.script, order.log) {
-        (Some(name), _) if desk.has_script_failed() => Err(DayFault::File(name)),
-        (_, Some(name)) if desk.has_log_failed() => Err(DayFault::File(name)),
-        _ => Ok(()),
+    match desk.test_outputs() {
+        Ok(()) => Ok(()),
+        Err(_) => Err(refusal_of(order, desk)),
     }
 }
 
-fn status_of(verdict: Verdict) -> u8 {
-    match verdict {
-        Verdict::Clean => DONE,
-        Verdict::Passed => PASSED_OVER,
-        Verdict::Unfinished => PERSON_NEEDED,
+/// The exit status of a day, given what became of its pack.
+fn status_of(verdict: Verdict, saved: Saved) -> u8 {
+    match (verdict, saved) {
+        (Verdict::Unfinished, _) | (_, Saved::Declined) => PERSON_NEEDED,
+        (Verdict::Clean, _) => DONE,
+        (Verdict::Passed, _) => PASSED_OVER,
     }
 }
 
-/// Saves the pack if that is asked for, and the day is one to be saved. It answers where it was saved; why it couldn't be is reported.
+/// Where the pack was saved, if it was.
+fn saved_path<'a>(order: &Order<'a>, saved: Saved) -> Option<&'a str> {
+    match saved {
+        Saved::Done => order.save,
+        Saved::Nowhere | Saved::Unfinished | Saved::Declined => None,
+    }
+}
+
+/// Saves the pack if that is asked for, and the day is one to be saved. Why it couldn't be saved is reported.
 fn save<'a>(
     rt: &HostRuntime,
     order: &Order<'a>,
+    desk: &mut OwnDesk<'_>,
     over: &Over,
     locked: Option<LockedPack>,
-) -> Result<Option<&'a str>, DayFault<'a>> {
+) -> Result<Saved, DayFault<'a>> {
     let Some(path) = order.save else {
-        return Ok(None);
+        return Ok(Saved::Nowhere);
     };
     if over.is_unfinished() && !order.saves_unfinished {
-        return Ok(None);
+        return Ok(Saved::Unfinished);
     }
+    if !desk.wants_saved()? {
+        return Ok(Saved::Declined);
+    }
+    save_to(rt, path, over, locked)
+}
+
+/// Saves the pack in a file.
+fn save_to<'a>(
+    rt: &HostRuntime,
+    path: &'a str,
+    over: &Over,
+    locked: Option<LockedPack>,
+) -> Result<Saved, DayFault<'a>> {
     match save_pack(rt, path, locked, &over.day.outcome.pack) {
-        Ok(()) => Ok(Some(path)),
+        Ok(()) => Ok(Saved::Done),
         Err(fault) => {
             if let FileFault::Call(error) = &fault {
                 let _ = writeln!(rt.stderr(), "the pack is not saved in {path}: {error}");
@@ -308,31 +359,33 @@ fn save<'a>(
 }
 
 /// Reports what became of the pack.
-fn tell_saved(order: &Order<'_>, desk: &mut OwnDesk<'_>, is_saved: bool, is_unfinished: bool) {
+fn tell_saved(order: &Order<'_>, desk: &mut OwnDesk<'_>, saved: Saved, is_unfinished: bool) {
     let Some(path) = order.save else {
         desk.tell("nothing is saved: there is no --save\n");
         return;
     };
-    let (before, after) = saved_words(is_saved, is_unfinished);
+    let (before, after) = saved_words(saved, is_unfinished);
     desk.tell(before);
     desk.tell(path);
     desk.tell(after);
 }
 
 /// The words before and after the file's name that report whether a pack is saved.
-fn saved_words(is_saved: bool, is_unfinished: bool) -> (&'static str, &'static str) {
-    if !is_saved {
-        (
+fn saved_words(saved: Saved, is_unfinished: bool) -> (&'static str, &'static str) {
+    match saved {
+        Saved::Nowhere | Saved::Unfinished => (
             "the pack is not saved, and ",
             " is left alone: a level isn't done (--save-unfinished saves it so)\n",
-        )
-    } else if is_unfinished {
-        (
+        ),
+        Saved::Declined => (
+            "the pack is not saved, and ",
+            " is left alone: the answer was no\n",
+        ),
+        Saved::Done if is_unfinished => (
             "the pack is saved in ",
             ", though a level isn't done: a job that is taken up begins anew, over the records that it has put\n",
-        )
-    } else {
-        ("the pack is saved in ", "\n")
+        ),
+        Saved::Done => ("the pack is saved in ", "\n"),
     }
 }
 
