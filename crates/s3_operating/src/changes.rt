@@ -11,11 +11,11 @@ use s3_lines::sheet::FileUse;
 struct Change {
     /// How many records it has added.
     added: u32,
-    /// How many records that stood there it may have changed.
+    /// How many of the older records it may have changed.
     changed: Changed,
 }
 
-/// How many of the records that stood in a file a job may have changed.
+/// How many of the records that a file had before a job the job may have changed.
 #[derive(Clone, Copy)]
 enum Changed {
     /// None.

@@ -7,7 +7,7 @@ use crate::message::Message;
 use crate::progress::{push_job_at, push_job_number, push_last_job};
 use crate::seat::Seat;
 use memchr::memchr_iter;
-use s3_bureau::LevelTexts;
+use s3_bureau::{LevelTexts, Outcome};
 use s3_cards::LevelId;
 use s3_day_log::{BegunJob, Event, Ledger, LevelEnd, Purpose, Verdict, became};
 use s3_desk::{Day, End};
@@ -46,9 +46,15 @@ impl<'a, R: Read + Drop, W: Write + Drop, F: Write + Drop, C: Clock + Drop> Desk
     /// Ends the day: the script is written to its end, the log but for its last line, and what is told of both levels is made.
     pub fn close(&mut self, day: &Day, performed: &Performed) -> Result<Closing, AllocError> {
         self.take_all(performed)?;
+        self.tell_counted()?;
         let one = self.close_level(LevelId::One, day.ends.one, &day.outcome.one)?;
         let two = self.close_level(LevelId::Two, day.ends.two, &day.outcome.two)?;
         self.levels.closing(one, two)
+    }
+
+    /// Writes what isn't written of the reports and the halts. Returns whether all of it is written.
+    pub fn finish_reports(&mut self, outcome: &Outcome) -> bool {
+        self.reports.finish(outcome)
     }
 
     /// Closes a level, and logs what came of it.
@@ -81,11 +87,6 @@ impl<'a> Levels<'a> {
             .ledger
             .close(ended.lines, ended.is_done());
         ended
-    }
-
-    fn find_places(&mut self, level: LevelId) -> Result<(), AllocError> {
-        let alloc = self.alloc;
-        self.seat_mut(level).find_places(alloc)
     }
 
     /// How many lines a level has printed: those that were drained, and of one that was cut also those that were queued.

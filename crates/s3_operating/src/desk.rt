@@ -7,6 +7,7 @@ use crate::journal::Journal;
 use crate::levels::{Levels, Said};
 use crate::message::Message;
 use crate::reading::read_line;
+use crate::reports::Reports;
 use crate::seat::Seat;
 use crate::tape::Tape;
 use s3_bureau::{Bureau, Halt};
@@ -23,19 +24,19 @@ use std::io::{Read, Write};
 /// How long a halt is shown at least before a line answers it, in milliseconds: what came sooner was typed before.
 const SOONEST: u64 = 200;
 
-/// What is told of a line that came sooner than that.
+/// Printed for a line that came sooner than that.
 const BEFORE_HALT: &'static str = "that was typed before the halt was shown; once more\n";
 
-/// What is told of a line that was typed before another question was asked.
+/// Printed for a line that was typed before another question was asked.
 const BEFORE_QUESTION: &'static str = "that was typed before it was asked; once more\n";
 
-/// What is asked of a person when an output fails.
+/// Asked of a person when an output fails.
 const WITHOUT: &'static str = "go on without it? yes, or no to stop the day ";
 
-/// What is told when an output fails, and the day ends.
+/// Printed when an output fails and the day ends.
 const STOPPED: &'static str = "the day stops here, and nothing is saved\n";
 
-/// What is asked of a person before a pack is saved that a job has left half changed.
+/// Asked of a person before a pack is saved that a job has left half changed.
 const SAVE: &'static str =
     "\na reply has ended a job after it had changed files: save the pack? yes or no ";
 
@@ -85,6 +86,7 @@ pub struct Desk<'a, R: Read + Drop, W: Write + Drop, F: Write + Drop, C: Clock +
     refused: Option<LevelId>,
     reader: R,
     told: W,
+    pub(crate) reports: Reports<W>,
     pub(crate) clock: C,
     /// When the work was told of last, or was gone on with.
     told_at: u64,
@@ -106,6 +108,7 @@ impl<'a, R: Read + Drop, W: Write + Drop, F: Write + Drop, C: Clock + Drop> Desk
         two: Seat<'a>,
         reader: R,
         told: W,
+        reports: Reports<W>,
         tape: Tape<F>,
         journal: Journal<F>,
         opening: Begun,
@@ -120,6 +123,7 @@ impl<'a, R: Read + Drop, W: Write + Drop, F: Write + Drop, C: Clock + Drop> Desk
             refused: None,
             reader,
             told,
+            reports,
             clock,
             told_at: 0,
             turns_then: 0,
@@ -178,6 +182,12 @@ impl<'a, R: Read + Drop, W: Write + Drop, F: Write + Drop, C: Clock + Drop> Desk
         let text = message.finish()?;
         self.tell(text.as_str());
         Ok(())
+    }
+
+    /// Reports the replies of rules and of a log that were only counted.
+    pub(crate) fn tell_counted(&mut self) -> Result<(), AllocError> {
+        let message = self.levels.counted();
+        self.tell_message(message)
     }
 
     /// Takes note of jobs of a level that have begun or ended.
@@ -275,6 +285,7 @@ impl<'a, R: Read + Drop, W: Write + Drop, F: Write + Drop, C: Clock + Drop> Desk
             return Ok(());
         }
         let text = self.levels.halt_text(machine, level, halt, evidence)?;
+        self.tell_counted()?;
         self.tell("\n");
         self.tell(text.as_str());
         self.levels.seat_mut(level).shown = Some(text);
@@ -302,7 +313,7 @@ impl<'a, R: Read + Drop, W: Write + Drop, F: Write + Drop, C: Clock + Drop> Desk
         }
     }
 
-    /// Takes note of a reply, and whether it ends a job that has changed files, and tells it.
+    /// Takes note of a reply and of whether it ends a job that has changed files, and reports it.
     fn take(
         &mut self,
         level: LevelId,
@@ -313,7 +324,7 @@ impl<'a, R: Read + Drop, W: Write + Drop, F: Write + Drop, C: Clock + Drop> Desk
         self.log_level(level)?;
         self.log_reply(level, code, answer)?;
         self.test_outputs()?;
-        let message = self.levels.answered(level, code, answer);
+        let message = self.levels.answered(level, code, answer)?;
         self.tell_message(message)?;
         if is_spoilt {
             self.levels.seat_mut(level).mark_spoilt()?;
@@ -564,6 +575,9 @@ impl<'a, S: PackStore, R: Read + Drop, W: Write + Drop, F: Write + Drop, C: Cloc
         self.tape
             .follow(self.levels.alloc, performed.parts(), is_halted)?;
         self.note_jobs(machine, level)?;
+        let is_one_read = self.levels.one.unread.is_none();
+        self.reports
+            .follow(self.levels.alloc, machine, is_one_read)?;
         self.tell_progress(machine)
     }
 

@@ -4,8 +4,9 @@ use crate::answers::{Answer, Giver, logged, ruled};
 use crate::asking::{is_allowed, push_help, push_last_lines, push_words};
 use crate::changes::{has_changed, push_changes};
 use crate::desk::{Questioned, Settings};
+use crate::given::Given;
 use crate::message::Message;
-use crate::progress::{push_last_job, push_progress};
+use crate::progress::{push_job_at, push_last_job, push_progress};
 use crate::seat::Seat;
 use crate::tally::Tally;
 use crate::unread::push_unread;
@@ -251,31 +252,119 @@ impl<'a> Levels<'a> {
         );
     }
 
-    /// The message for a reply to a level's halt.
-    pub(crate) fn answered(&self, level: LevelId, code: HaltCode, answer: Answer) -> Message {
+    /// The message for a reply to a level's halt. If a rule or a log gives a job the same reply to the same halt once more, it is only
+    /// counted.
+    pub(crate) fn answered(
+        &mut self,
+        level: LevelId,
+        code: HaltCode,
+        answer: Answer,
+    ) -> Result<Message, AllocError> {
         let mut message = Message::new(self.alloc);
         match answer.giver {
             Giver::Line | Giver::Person => message.push_reply(level, code, answer.digit),
             Giver::Log | Giver::Rule(_) => {
                 if !self.settings.is_quiet {
-                    self.push_given(&mut message, level, code, answer);
+                    let given = self.given_to(level, code, answer);
+                    self.take_given(&mut message, level, given)?;
                 }
             }
         }
-        message
+        Ok(message)
     }
 
-    /// Appends `level 2: RT in job 5, CUSLD, is answered 3 by line 7 of the rules`.
-    fn push_given(&self, message: &mut Message, level: LevelId, code: HaltCode, answer: Answer) {
+    /// A reply to the halt that waits in a level, which a rule or a log gives.
+    fn given_to(&self, level: LevelId, code: HaltCode, answer: Answer) -> Given {
+        let seat = self.seat(level);
+        Given {
+            code,
+            answer,
+            place: seat.ledger.begun().len().saturating_sub(1),
+            card: seat.card,
+            more: 0,
+        }
+    }
+
+    /// Appends a reply that a rule or a log gives, or counts it.
+    fn take_given(
+        &mut self,
+        message: &mut Message,
+        level: LevelId,
+        given: Given,
+    ) -> Result<(), AllocError> {
+        match self.seat(level).given {
+            Some(last) if last.is_repeated_by(&given) => {
+                self.seat_mut(level).given = Some(last.and(given));
+            }
+            _ => {
+                self.push_counted(message, level);
+                self.find_places(level)?;
+                self.push_given(message, level, given);
+                self.seat_mut(level).given = Some(given);
+            }
+        }
+        Ok(())
+    }
+
+    /// Finds the line of a file for each card of a level.
+    pub(crate) fn find_places(&mut self, level: LevelId) -> Result<(), AllocError> {
+        let alloc = self.alloc;
+        self.seat_mut(level).find_places(alloc)
+    }
+
+    /// Appends the first of some equal replies that a rule or a log gives.
+    fn push_given(&self, message: &mut Message, level: LevelId, given: Given) {
+        let seat = self.seat(level);
         message.push_level(level);
         message.push(": ");
-        message.push_letters(code);
+        message.push_letters(given.code);
         message.push(" in ");
-        push_last_job(message, &self.seat(level).ledger);
+        push_job_at(message, &seat.ledger, given.place);
+        if let Some(card) = given.card {
+            message.push(", at ");
+            push_card(message, seat, card);
+        }
         message.push(", is answered ");
-        message.push_number(u64::from(answer.digit));
-        message.push(" by ");
-        push_giver(message, answer.giver);
+        push_answer(message, given.answer);
+        message.push("\n");
+    }
+
+    /// Appends how many replies of a rule or a log were counted, if any, and forgets them.
+    pub(crate) fn push_counted(&mut self, message: &mut Message, level: LevelId) {
+        match self.seat(level).given {
+            Some(given) if given.more == 1 => self.push_given(message, level, given),
+            Some(given) if given.more > 1 => self.push_more(message, level, given),
+            _ => {}
+        }
+        self.seat_mut(level).given = None;
+    }
+
+    /// Appends that some more equal replies were given.
+    fn push_more(&self, message: &mut Message, level: LevelId, given: Given) {
+        let seat = self.seat(level);
+        message.push_level(level);
+        message.push(": ");
+        message.push_letters(given.code);
+        message.push(" in ");
+        push_job_at(message, &seat.ledger, given.place);
+        message.push(", is answered ");
+        push_answer(message, given.answer);
+        message.push(" for ");
+        message.push_number(given.more);
+        message.push(" more halts");
+        if let Some(card) = given.card {
+            message.push(", the last at ");
+            push_card(message, seat, card);
+        }
+        message.push("\n");
+    }
+
+    /// The counted replies of both levels, before something else is printed.
+    pub(crate) fn counted(&mut self) -> Message {
+        let mut message = Message::new(self.alloc);
+        self.push_counted(&mut message, LevelId::One);
+        self.push_counted(&mut message, LevelId::Two);
+        message
     }
 
     /// What a person is asked.
@@ -465,15 +554,29 @@ fn halt_text<S: PackStore>(
     Ok(text)
 }
 
-/// Appends who gave a reply without a question.
-fn push_giver(message: &mut Message, giver: Giver) {
-    match giver {
+/// Appends a card of a level's deck: `card 178 (day1.job, line 12)`.
+fn push_card(message: &mut Message, seat: &Seat<'_>, card: usize) {
+    message.push("card ");
+    message.push_number(card as u64);
+    if let Some(deck) = seat.places()
+        && let Some(place) = deck.place_of(card).place
+    {
+        message.push(" (");
+        message.push_file_place(place);
+        message.push(")");
+    }
+}
+
+/// Appends a reply and who gave it without a question: `3 by line 7 of the rules`.
+fn push_answer(message: &mut Message, answer: Answer) {
+    message.push_number(u64::from(answer.digit));
+    match answer.giver {
         Giver::Rule(line) => {
-            message.push("line ");
+            message.push(" by line ");
             message.push_number(line as u64);
-            message.push(" of the rules\n");
+            message.push(" of the rules");
         }
-        Giver::Log | Giver::Line | Giver::Person => message.push("the log\n"),
+        Giver::Log | Giver::Line | Giver::Person => message.push(" by the log"),
     }
 }
 

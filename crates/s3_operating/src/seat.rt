@@ -2,13 +2,14 @@
 
 use crate::day_deck::DayDeck;
 use crate::events::{beginning, ending, halt_of};
+use crate::given::Given;
 use crate::message::Message;
 use s3_bureau::Halt;
 use s3_cards::{CardFault, Deck, DeckFault, LevelId};
 use s3_day_log::{Event, Ledger};
 use s3_decks::DeckText;
 use s3_level::Level;
-use s3_operator::HaltCode;
+use s3_operator::{HaltCode, is_at_start};
 use std::alloc::{AllocError, Global};
 
 /// A level as the desk sees it: its deck, its jobs, and the halt that waits there.
@@ -25,6 +26,10 @@ pub struct Seat<'a> {
     pub(crate) halts: u64,
     /// What the level halts for, if it does.
     pub(crate) waits: Option<HaltCode>,
+    /// The number of the card that this halt is about, from 1, if there is one.
+    pub(crate) card: Option<usize>,
+    /// The last reply that a rule or a log gave, if it was reported.
+    pub(crate) given: Option<Given>,
     /// What was told of that halt, if anything was.
     pub(crate) shown: Option<String>,
     /// How many replies were given.
@@ -52,6 +57,8 @@ impl<'a> Seat<'a> {
             ledger: Ledger::new(alloc),
             halts: 0,
             waits: None,
+            card: None,
+            given: None,
             shown: None,
             replies: 0,
             is_idle: false,
@@ -110,9 +117,21 @@ impl<'a> Seat<'a> {
             None => self.ledger.last_card(held),
         };
         self.unlogged = Some((halt.code, card));
+        self.card = match card {
+            Some(card) => Some(usize::from(card)),
+            None => self.first_card_of(halt.code),
+        };
         self.halts = self.halts.saturating_add(1);
         self.waits = Some(halt.code);
         self.shown = None;
+    }
+
+    /// The first card of the last job that was begun, for a halt of a job that can't be started.
+    fn first_card_of(&self, code: HaltCode) -> Option<usize> {
+        match self.ledger.begun().last() {
+            Some(job) if is_at_start(code) => Some(job.card),
+            _ => None,
+        }
     }
 
     /// Takes note of the reply to the halt that waits.

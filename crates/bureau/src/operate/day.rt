@@ -5,18 +5,19 @@ use super::fault::DayFault;
 use super::order::Order;
 use super::outputs::{Output, Outputs, remove_made, write_deck};
 use super::paper::write_paper;
+use super::streams::Stream;
 use super::watch::Watch;
 use crate::refusal::{FILE, OUT_OF_MEMORY};
-use s3_cli::{CliFault, SessionFault, Watched, write_output};
+use s3_cli::{CliFault, SessionFault};
 use s3_day_log::{Begun, DayLog, DayOver, Event};
 use s3_desk::{Day, operate_day};
 use s3_host_files::{FileFault, LockedPack, save_pack};
-use s3_operating::{Closing, Desk, Journal, Seat, Settings, Tape, Verdict};
+use s3_operating::{Closing, Desk, Journal, Questioned, Reports, Seat, Settings, Tape, Verdict};
 use s3_paper_commands::status::{DONE, PASSED_OVER, PERSON_NEEDED};
 use s3_replay::Performed;
 use s3_replies::Rules;
 use std::alloc::{AllocError, Global};
-use std::io::{Stderr, Stdin, Write};
+use std::io::{IsTerminal, Stdin, Write};
 
 /// The most bytes that `run` reads.
 const RUN_LIMIT: u64 = 4_194_304;
@@ -39,8 +40,12 @@ pub struct Prepared<'a> {
     pub logged: Option<&'a DayLog>,
 }
 
+/// Printed before a list of replies is typed.
+const REPLIES_TYPED: &'static str =
+    "replies are read from this terminal, one a line, as halts are asked; control-D ends them\n";
+
 /// The desk of the command.
-pub type OwnDesk<'a> = Desk<'a, Stdin, Stderr, Output, Watch<'a>>;
+pub type OwnDesk<'a> = Desk<'a, Stdin, Stream, Output, Watch<'a>>;
 
 /// The texts of both decks.
 #[derive(Clone, Copy)]
@@ -95,7 +100,10 @@ pub fn operate_prepared<'n, 'a>(
         one: day.one.text(),
         two: day.two.text(),
     };
-    let mut desk = desk_of(rt, order, day, script, log);
+    let mut desk = desk_of(rt, order, day, script, log)?;
+    if matches!(order.questioned, Questioned::Lines) && rt.stdin().is_terminal() {
+        desk.tell(REPLIES_TYPED);
+    }
     match operated(rt.alloc(), order, pack, texts, &mut desk) {
         Ok(over) => {
             write_decks(order, texts, deck1, deck2)?;
@@ -129,7 +137,7 @@ fn desk_of<'a>(
     day: Prepared<'a>,
     script: Option<Output>,
     log: Option<Output>,
-) -> OwnDesk<'a> {
+) -> Result<OwnDesk<'a>, AllocError> {
     let Prepared {
         begun,
         one,
@@ -145,18 +153,20 @@ fn desk_of<'a>(
         questioned: order.questioned,
         wants_decks: order.save.is_some(),
     };
-    Desk::new(
+    let reports = Reports::new(rt.alloc(), Stream::Reports(rt.stdout()))?;
+    Ok(Desk::new(
         rt.alloc(),
         settings,
         one,
         two,
         rt.stdin(),
-        rt.stderr(),
+        Stream::Messages(rt.stderr()),
+        reports,
         Tape::new(script),
         Journal::new(log),
         begun,
         Watch::new(rt),
-    )
+    ))
 }
 
 /// Operates a day to its end, and closes the desk.
@@ -211,8 +221,15 @@ fn hand_out<'n>(
 ) -> Result<u8, DayFault<'n>> {
     write_reports(rt, order, desk, texts, over)?;
     let saved = save(rt, order, desk, over, locked)?;
-    tell_saved(order, desk, saved, over.is_unfinished());
+    if is_told(order, over) {
+        tell_saved(order, desk, saved, over.is_unfinished());
+    }
     end(rt, order, desk, over, saved)
+}
+
+/// Whether the end of a day is reported: not if it is to be quiet, and each job came to its end.
+fn is_told(order: &Order<'_>, over: &Over) -> bool {
+    !order.is_quiet || over.closing.verdict != Verdict::Clean
 }
 
 /// Writes the reports and the pages, and reports how both levels ended.
@@ -223,9 +240,11 @@ fn write_reports<'n>(
     texts: Texts<'_>,
     over: &Over,
 ) -> Result<(), DayFault<'n>> {
-    let is_written = write_output(&mut Watched::new(rt.stdout()), &over.day.outcome).is_ok();
-    desk.tell("\n");
-    desk.tell(over.closing.summary.as_str());
+    let is_written = desk.finish_reports(&over.day.outcome);
+    if is_told(order, over) {
+        desk.tell("\n");
+        desk.tell(over.closing.summary.as_str());
+    }
     if order.script.is_some() {
         tell_size(rt, texts, desk.script_len());
     }
