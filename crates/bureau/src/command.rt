@@ -15,7 +15,9 @@ use s3_data_commands::delete::delete;
 use s3_data_commands::load::load;
 use s3_data_commands::sort::sort;
 use s3_data_commands::unload::unload;
-use s3_host_files::{FileFault, LockedPack, read_pack, read_to_save, save_pack};
+use s3_host_files::{
+    FileFault, LockedPack, StandardOutput, read_pack, read_to_save, save_new_pack, save_pack,
+};
 use s3_paper_commands::status::{DONE, REFUSED, WRONG_WORDS};
 use s3_paper_commands::words::value_of;
 use s3_paper_commands::{compile_files, punch_files};
@@ -115,12 +117,11 @@ fn perform<'a>(rt: &'a HostRuntime, matches: &'a ArgMatches<'a>, words: &[String
 fn perform_plain(rt: &HostRuntime, name: &str, matches: &ArgMatches<'_>) -> u8
     ensures { result ≤ 5 }
 {
-    if name == "init" && is_occupied(rt, matches) {
-        return refuse_occupied(rt, matches);
+    if name == "init" {
+        return init(rt, matches);
     }
     let done = match name {
         "run" => run(rt, matches),
-        "init" => init(rt, matches),
         "list" => list_files(rt, matches),
         "migrate" => migrate_pack(rt, matches),
         // each command that `words::command` offers has an arm here or in `perform`
@@ -140,7 +141,7 @@ fn run(rt: &HostRuntime, matches: &ArgMatches<'_>) -> Result<(), CliFault> {
         rt.alloc(),
         pack,
         &mut Watched::new(rt.stdin()),
-        &mut Watched::new(rt.stdout()),
+        &mut Watched::new(StandardOutput::new(rt)),
     )
     .map_err(CliFault::Session)?;
     match matches.get_str("save") {
@@ -171,9 +172,34 @@ fn pack_to_run(
     }
 }
 
-/// Whether `bureau init` is to write a new file, and something stands there.
+/// `bureau init`.
+fn init(rt: &HostRuntime, matches: &ArgMatches<'_>) -> u8
+    ensures { result ≤ 5 }
+{
+    let is_new = matches.get_flag("new");
+    if is_new && is_occupied(rt, matches) {
+        return refuse_occupied(rt, matches);
+    }
+    let (pack, locked) = match made(rt, matches) {
+        Ok(made) => made,
+        Err(fault) => return refuse(rt, &fault),
+    };
+    let path = value_of(matches, "save");
+    let done = if is_new {
+        save_new_pack(rt, path, &pack)
+    } else {
+        save_pack(rt, path, locked, &pack)
+    };
+    match done {
+        Ok(()) => DONE,
+        Err(FileFault::Exists) => refuse_occupied(rt, matches),
+        Err(fault) => refuse(rt, &told(&fault)),
+    }
+}
+
+/// Whether something is where `bureau init` is to save a new file. If that can't be told, the save fails with the reason.
 fn is_occupied(rt: &HostRuntime, matches: &ArgMatches<'_>) -> bool {
-    matches.get_flag("new") && fs::symlink_metadata(rt, value_of(matches, "save")).is_ok()
+    fs::symlink_metadata(rt, value_of(matches, "save")).is_ok()
 }
 
 /// Says that a new pack would be written over what stands there.
@@ -188,8 +214,11 @@ fn refuse_occupied(rt: &HostRuntime, matches: &ArgMatches<'_>) -> u8
     REFUSED
 }
 
-/// `bureau init`.
-fn init(rt: &HostRuntime, matches: &ArgMatches<'_>) -> Result<(), CliFault> {
+/// The pack that `bureau init` makes, and the lock on the file that it was made from, if it is saved there.
+fn made(
+    rt: &HostRuntime,
+    matches: &ArgMatches<'_>,
+) -> Result<(Vec<u8>, Option<LockedPack>), CliFault> {
     let (old, locked) = match matches.get_str("from") {
         Some(path) => {
             let (old, locked) = read_locked(rt, path, value_of(matches, "save"))?;
@@ -207,16 +236,16 @@ fn init(rt: &HostRuntime, matches: &ArgMatches<'_>) -> Result<(), CliFault> {
         quota(matches, "quota2"),
     )
     .map_err(CliFault::Image)?;
-    save_to(rt, value_of(matches, "save"), locked, &pack)
+    Ok((pack, locked))
 }
 
 /// `bureau list`.
 fn list_files(rt: &HostRuntime, matches: &ArgMatches<'_>) -> Result<(), CliFault> {
     let pack = read(rt, value_of(matches, "pack"))?;
     let listed = if matches.get_flag("table") {
-        write_table(rt.alloc(), &pack, &mut rt.stdout())
+        write_table(rt.alloc(), &pack, &mut StandardOutput::new(rt))
     } else {
-        list(rt.alloc(), &pack, &mut rt.stdout())
+        list(rt.alloc(), &pack, &mut StandardOutput::new(rt))
     };
     listed.map_err(CliFault::Session)
 }
@@ -261,10 +290,10 @@ fn save_to(
     save_pack(rt, path, locked, pack).map_err(|fault| told(&fault))
 }
 
-/// What these commands say of a pack's file: one that is in use is a file that can't be read or written.
+/// What these commands report of a pack's file: each fault but that of memory is one of the file.
 fn told(fault: &FileFault) -> CliFault {
     match fault {
-        FileFault::InUse => FILE,
-        FileFault::Call(error) => fault_of(error),
+        FileFault::InUse | FileFault::Exists | FileFault::NoPack => FILE,
+        FileFault::Call(error) | FileFault::Unsynced(error) => fault_of(error),
     }
 }

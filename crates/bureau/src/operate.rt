@@ -10,6 +10,7 @@ mod level_deck;
 mod order;
 mod outputs;
 mod paper;
+mod saving;
 mod streams;
 mod taking_up;
 mod watch;

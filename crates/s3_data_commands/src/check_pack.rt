@@ -6,6 +6,7 @@ use crate::pack_words::{label_text, mount_sentence, pack_of, refused};
 use crate::sentences::output_sentence;
 use crate::words::PACK;
 use clap::ArgMatches;
+use s3_host_files::StandardOutput;
 use s3_pack_check::{CheckFault, Wrong, check_pack, push_cause};
 use s3_paper_commands::status::DONE;
 use s3_paper_commands::words::{CommandWords, value_of};
@@ -52,7 +53,7 @@ fn wrongs_of(rt: &HostRuntime, path: &str) -> Result<Vec<Wrong>, Fault> {
 /// Writes a line for each slot with which something is wrong on standard output.
 fn write_wrongs(rt: &HostRuntime, wrongs: &[Wrong]) -> Result<(), Fault> {
     let text = text_of(rt.alloc(), wrongs)?;
-    match rt.stdout().write_all(text.as_str().as_bytes()) {
+    match StandardOutput::new(rt).write_all(text.as_str().as_bytes()) {
         Ok(()) => Ok(()),
         Err(_) => Err(Fault::File(output_sentence(rt.alloc())?)),
     }

@@ -116,7 +116,7 @@ fn copy_file(rt: &HostRuntime, matches: &ArgMatches<'_>) -> Result<(), Fault> {
         keep_input(rt, order.save, order.path)?;
     }
     let pack = with_copy(rt, order, into)?;
-    saved(rt, order.save, locked, &pack)?;
+    saved(rt, matches, order.save, locked, &pack)?;
     Ok(tell_copied(rt, order)?)
 }
 

@@ -55,7 +55,7 @@ fn delete_file(rt: &HostRuntime, matches: &ArgMatches<'_>) -> Result<(), Fault> 
     let save = value_of(matches, "save");
     let (pack, locked) = pack_to_change(rt, matches, value_of(matches, "pack"), save)?;
     let pack = without(rt.alloc(), matches, area, chosen, pack)?;
-    saved(rt, save, locked, &pack)?;
+    saved(rt, matches, save, locked, &pack)?;
     Ok(tell_deleted(rt, matches, area, save)?)
 }
 

@@ -63,17 +63,31 @@ pub fn of_call(rt: &HostRuntime, error: &io::Error, path: &str) -> Fault {
     }
 }
 
-/// What a failed call on the file of a pack is.
+/// What a fault of the file of a pack is.
 pub fn of_pack(rt: &HostRuntime, fault: &FileFault, path: &str) -> Fault {
     match fault {
         FileFault::Call(error) => of_call(rt, error, path),
-        FileFault::InUse => {
-            match format!(in rt.alloc();
-                "the pack {path} is in use by another command; try again when that is done"
-            ) {
-                Ok(sentence) => Fault::Refused(sentence),
-                Err(_) => Fault::NoMemory,
-            }
-        }
+        FileFault::InUse => refused_or_memory(format!(in rt.alloc();
+            "the pack {path} is in use by another command; try again when that is done"
+        )),
+        FileFault::Exists => refused_or_memory(format!(in rt.alloc();
+            "{path} is there already; give another name, or say --overwrite to write over it"
+        )),
+        FileFault::NoPack => refused_or_memory(format!(in rt.alloc();
+            "{path} is there and is no pack, so no pack is saved over it; give another name, or remove that file"
+        )),
+        FileFault::Unsynced(error) => match format!(in rt.alloc();
+            "the pack is saved in {path}, but may not survive a power cut, because its folder can't be brought to the disk: {error}"
+        ) {
+            Ok(sentence) => Fault::File(sentence),
+            Err(_) => Fault::NoMemory,
+        },
+    }
+}
+
+fn refused_or_memory(sentence: Result<String, AllocError>) -> Fault {
+    match sentence {
+        Ok(sentence) => Fault::Refused(sentence),
+        Err(_) => Fault::NoMemory,
     }
 }

@@ -132,7 +132,7 @@ fn load_table(rt: &HostRuntime, matches: &ArgMatches<'_>) -> Result<(), Fault> {
     let (pack, locked) = pack_to_change(rt, matches, words.path, words.save)?;
     keep_input(rt, words.save, words.source)?;
     let loaded = loaded(rt, &words, &layout, &pack)?;
-    saved(rt, words.save, locked, &loaded)?;
+    saved(rt, matches, words.save, locked, &loaded)?;
     Ok(tell_loaded(rt, &words, &loaded)?)
 }
 

@@ -4,7 +4,7 @@ ghost use Rattle.std.specs.Prelude.{◌≤◌, ◌<◌, IfOk};
 use crate::fault::{Fault, of_call, of_pack};
 use clap::ArgMatches;
 use s3_cards::{LevelId, Name, host_byte, is_name, to_ebcdic, word_len};
-use s3_host_files::{LockedPack, Target, read_pack, read_to_save, save_pack};
+use s3_host_files::{LockedPack, Target, read_pack, read_to_save, save_new_pack, save_pack};
 use s3_labels::{LabelFault, MountFault};
 use s3_listing::{FreeRoom, file_size, free_room};
 use s3_pack_care::CareFault;
@@ -241,14 +241,20 @@ pub fn refused(sentence: Result<String, AllocError>) -> Fault {
     }
 }
 
-/// Saves a pack, whole or not at all.
+/// Saves a pack, whole or not at all. Without `--overwrite` a file that has appeared by now isn't written over.
 pub fn saved(
     rt: &HostRuntime,
+    matches: &ArgMatches<'_>,
     save: &str,
     locked: Option<LockedPack>,
     pack: &[u8],
 ) -> Result<(), Fault> {
-    match save_pack(rt, save, locked, pack) {
+    let done = if locked.is_none() && !matches.get_flag("overwrite") {
+        save_new_pack(rt, save, pack)
+    } else {
+        save_pack(rt, save, locked, pack)
+    };
+    match done {
         Ok(()) => Ok(()),
         Err(fault) => Err(of_pack(rt, &fault, save)),
     }

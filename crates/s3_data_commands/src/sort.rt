@@ -104,7 +104,7 @@ fn sort_file(rt: &HostRuntime, matches: &ArgMatches<'_>) -> Result<(), Fault> {
         pack
     };
     let pack = sorted(rt.alloc(), &order, pack)?;
-    saved(rt, order.save, locked, &pack)?;
+    saved(rt, matches, order.save, locked, &pack)?;
     Ok(tell_sorted(rt, &order)?)
 }
 

@@ -8,6 +8,7 @@ use crate::sentences::unload_sentence;
 use crate::words::{AREA, DELIMITER, LABEL, LAYOUT, LAYOUT_FILE, LAYOUT_TYPE, PACK};
 use clap::ArgMatches;
 use s3_cards::{LevelId, Name};
+use s3_host_files::StandardOutput;
 use s3_paper_commands::status::DONE;
 use s3_paper_commands::words::{CommandWords, Takes, Word, value_of};
 use s3_unload::{Area, LineForm, UnloadFault};
@@ -77,7 +78,14 @@ fn unload_lines(
     form: LineForm,
 ) -> Result<Result<(), UnloadFault>, Fault> {
     let pack = pack_of(rt, path)?;
-    Ok(s3_unload::unload_lines(rt.alloc(), &pack, area, name, form, &mut rt.stdout()))
+    Ok(s3_unload::unload_lines(
+        rt.alloc(),
+        &pack,
+        area,
+        name,
+        form,
+        &mut StandardOutput::new(rt),
+    ))
 }
 
 /// Writes the table of a file.
@@ -99,7 +107,7 @@ fn unload_table(
         name,
         &layout.layout,
         delimiter,
-        &mut rt.stdout(),
+        &mut StandardOutput::new(rt),
     ))
 }
 

@@ -1,7 +1,8 @@
 //! A log that is read, so that its day can be done again.
 
-use crate::event::{Begun, Event, LoggedReply, NamedFile};
+use crate::event::{Begun, DayOver, Event, LoggedReply, NamedFile};
 use crate::reading::event_of;
+use crate::standing::{Standing, standing};
 use s3_cards::LevelId;
 use s3_operator::allowed;
 use std::alloc::{AllocError, AllocFailed, Global};
@@ -40,6 +41,9 @@ pub enum Refused {
     /// The pack is another one.
     #[error("the pack isn't that of the log; give the pack with which the day was begun")]
     Pack,
+    /// The pack is the one that the day has saved.
+    #[error("this day is saved: the pack is the one that it left; to do the day once more, give the pack with which it was begun")]
+    IsSaved,
     /// The deck of this level has another file, at this place from 1, or more or fewer of them.
     #[error("file {1} of --deck{0} isn't that of the log; give the files with which the day was begun, in their order")]
     Deck(u8, usize),
@@ -52,6 +56,9 @@ pub struct DayLog {
     pub begun: Begun,
     /// The replies, in the order in which they were given.
     pub replies: Vec<LoggedReply>,
+    /// The checksum of the pack that the day has saved or was going to save. If the desk was killed meanwhile, only the pack tells
+    /// which of both is so.
+    pub saved: Option<String>,
     /// The exit status; none where the desk was killed.
     pub status: Option<u8>,
 }
@@ -71,6 +78,7 @@ impl DayLog {
         let mut log = DayLog {
             begun: day,
             replies: Vec::new(alloc),
+            saved: None,
             status: None,
         };
         log.read_rest(alloc, rest)?;
@@ -95,7 +103,35 @@ impl DayLog {
     /// Takes an event of the log, with the number of its line.
     fn take(&mut self, event: Event, number: usize) -> Result<(), LogFault> {
         match event {
-            Event::Begin { .. } => return Err(LogFault::Line(number)),
+            Event::End(day) => self.end(day, number),
+            _ if self.saved.is_some() => Err(LogFault::Line(number)),
+            event => self.go_on(event, number),
+        }
+    }
+
+    /// Takes the last event of the log.
+    fn end(&mut self, day: DayOver, number: usize) -> Result<(), LogFault> {
+        let DayOver { status, saved } = day;
+        self.status = Some(status);
+        match saved {
+            Some(pack) => self.save(pack, number),
+            None => Ok(()),
+        }
+    }
+
+    /// Takes the pack that is saved.
+    fn save(&mut self, pack: NamedFile, number: usize) -> Result<(), LogFault> {
+        if !is_checksum(&pack) {
+            return Err(LogFault::Line(number));
+        }
+        self.saved = Some(pack.sha256);
+        Ok(())
+    }
+
+    /// Takes an event before the last one.
+    fn go_on(&mut self, event: Event, number: usize) -> Result<(), LogFault> {
+        match event {
+            Event::Begin { .. } | Event::End(_) => return Err(LogFault::Line(number)),
             Event::JobBegins(_)
             | Event::JobEnds(_)
             | Event::Halt(_)
@@ -107,7 +143,7 @@ impl DayLog {
                 }
                 self.replies.push(reply)?;
             }
-            Event::End(day) => self.status = Some(day.status),
+            Event::Saving { pack } => return self.save(pack, number),
         }
         Ok(())
     }
@@ -121,19 +157,28 @@ impl DayLog {
     }
 
     /// Whether a pack and the files of both decks are those of the log, by their checksums, in their order; or what differs
-    /// first. Names don't count: a file may have another one now. No checksum of a pack stands for a new pack.
+    /// first. Names don't count: a file may have another one now. No checksum of a pack stands for a new pack. Another pack that is the
+    /// one which the day has saved is reported as that.
     pub fn test(
         &self,
         pack: Option<&str>,
         deck1: &[String],
         deck2: &[String],
     ) -> Result<(), Refused> {
-        let logged = self.begun.pack.as_ref().map(|file| file.sha256.as_str());
-        if logged != pack {
-            return Err(Refused::Pack);
-        }
+        self.test_pack(pack)?;
         test_deck(&self.begun.deck1, deck1, 1)?;
         test_deck(&self.begun.deck2, deck2, 2)
+    }
+
+    /// Whether a pack is that of the log, by its checksum.
+    fn test_pack(&self, pack: Option<&str>) -> Result<(), Refused> {
+        let logged = self.begun.pack.as_ref().map(|file| file.sha256.as_str());
+        let saved = self.saved.as_ref().map(|sum| sum.as_str());
+        match standing(logged == pack, pack.is_some() && saved == pack) {
+            Standing::First => Ok(()),
+            Standing::Saved => Err(Refused::IsSaved),
+            Standing::Other => Err(Refused::Pack),
+        }
     }
 }
 

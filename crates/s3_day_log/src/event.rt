@@ -133,6 +133,11 @@ pub enum Event {
     },
     /// The operator ended the day.
     Stop,
+    /// The pack is going to be saved. Only the last event follows.
+    Saving {
+        /// The pack that is saved, by the name that it gets.
+        pack: NamedFile,
+    },
     /// The last one: the day is over.
     End(DayOver),
 }

@@ -2,8 +2,8 @@
 //! and the job accounting of a level: which jobs have begun, how many lines each has printed, how each ended, and which are left.
 //! docs/OPERATING.md has the events.
 //!
-//! What is proved: `checksum` is the SHA-256 digest; how a job that is over ended; what a reply changes in the accounting; and what
-//! became of a day by how its levels ended. Tested: what is written of an event, that it is read back, which jobs have begun, and
+//! What is proved: `checksum` is the SHA-256 digest; how a job that is over ended; what a reply changes in the accounting; what
+//! became of a day by how its levels ended; and which pack of a logged day a pack is. Tested: what is written of an event, that it is read back, which jobs have begun, and
 //! to which job a line belongs.
 
 #![tactic(auto)]
@@ -16,6 +16,7 @@ mod event;
 mod ledger;
 mod members;
 mod reading;
+mod standing;
 mod words;
 mod writing;
 
@@ -27,4 +28,5 @@ pub use event::{
     Begun, DayOver, Event, JobBegun, JobEnd, JobOver, LoggedHalt, LoggedReply, NamedFile, Replier,
 };
 pub use ledger::{BegunJob, Ledger, Purpose};
+pub use standing::{Standing, standing};
 pub use writing::line_of;

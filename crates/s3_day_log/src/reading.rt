@@ -39,6 +39,9 @@ fn event(alloc: Global, line: Members<'_, '_>) -> Result<Event, LogFault> {
             level: line.level()?,
         }),
         "stop" => Ok(Event::Stop),
+        "saving" => Ok(Event::Saving {
+            pack: file(alloc, line.members("pack")?)?,
+        }),
         "end" => Ok(Event::End(day_over(alloc, line)?)),
         _ => Err(line.fault),
     }

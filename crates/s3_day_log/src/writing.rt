@@ -83,6 +83,11 @@ impl Line {
                 self.level(*level)
             }
             Event::Stop => self.text("event", "stop"),
+            Event::Saving { pack } => {
+                self.text("event", "saving")?;
+                self.json.key("pack")?;
+                self.file(pack)
+            }
             Event::End(day) => self.day_over(day),
         }
     }

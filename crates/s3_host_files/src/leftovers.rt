@@ -1,29 +1,27 @@
 //! The new files that killed saves left beside a pack.
 
 use super::locking::lock;
-use super::places::{folder_of, leads_to};
+use super::places::{are_same, folder_of, leads_to};
+use super::reading::is_begun_pack;
 use std::alloc::AllocError;
-use std::fs::{File, OpenOptions};
-use std::io::Read;
+use std::fs::{Metadata, OpenOptions};
 use std::path::Path;
 use std::{fs, io};
 
 /// What stands between the name of a pack's file and the number of a new one.
 const INFIX: &str = ".new-";
 
-/// How a pack begins, of the first format and of the second.
-const BEGINNINGS: [&[u8; 8]; 2] = [b"S3PACK01", b"S3PACK02"];
-
 /// The path of a new file beside another.
 pub fn beside(rt: &HostRuntime, place: Path<'_>, number: u32) -> Result<String, AllocError> {
     format!(in rt.alloc(); "{}{INFIX}{number}", place.as_str())
 }
 
-/// Removes what killed saves to a path left beside it. What can't be removed stays: it hinders no save.
-pub fn remove_leftovers(rt: &HostRuntime, place: Path<'_>) {
+/// Removes what killed saves to a path left beside it, given the file that is there, if one is. What can't be removed stays: it
+/// hinders no save.
+pub fn remove_leftovers(rt: &HostRuntime, place: Path<'_>, there: Option<&Metadata>) {
     if let Ok(found) = numbered(rt, place) {
         for path in &found {
-            let _ = remove_if_left(rt, path.as_str());
+            let _ = remove_if_left(rt, path.as_str(), there);
         }
     }
 }
@@ -50,20 +48,21 @@ fn number_behind<'a>(name: &str, entry: &'a str) -> Option<&'a str> {
     is_number.then_some(number)
 }
 
-/// Removes a file that no save holds, if it is a regular one that is empty or begins as a pack does.
-fn remove_if_left(rt: &HostRuntime, path: &str) -> io::Result<()> {
-    if !fs::symlink_metadata(rt, path)?.is_file() {
+/// Removes a file that no save holds, if it is a regular one that is empty or begins as a pack does; also a second name of the file
+/// that is there, which a save left that was killed after it had given that file its name.
+fn remove_if_left(rt: &HostRuntime, path: &str, there: Option<&Metadata>) -> io::Result<()> {
+    let found = fs::symlink_metadata(rt, path)?;
+    if !found.is_file() {
         return Ok(());
     }
+    if let Some(there) = there
+        && are_same(there, &found)
+    {
+        return fs::remove_file(rt, path);
+    }
     let mut file = OpenOptions::new().read(true).write(true).open(rt, path)?;
-    if lock(&file)? && leads_to(rt, Path::new(path), &file)? && is_begun_pack(&mut file)? {
+    if lock(&file)? && leads_to(rt, Path::new(path), &file)? && is_begun_pack(rt, &mut file)? {
         fs::remove_file(rt, path)?;
     }
     Ok(())
-}
-
-fn is_begun_pack(file: &mut File) -> io::Result<bool> {
-    let mut beginning = [0u8; 8];
-    let count = file.read(&mut beginning)?;
-    Ok(count == 0 || BEGINNINGS.iter().any(|pack| beginning == **pack))
 }

@@ -2,13 +2,23 @@
 
 use super::fault::FileFault;
 use super::places::{followed, lead_to_one_file, leads_to};
+use super::reading::is_begun_pack;
 use std::fs::{File, Metadata, OpenOptions, TryLockError};
 use std::io;
 use std::io::ErrorKind;
 use std::path::{Path, PathBuf};
 
 /// How often a file is opened anew whose name another one got before it was locked.
-const TURNS: u32 = 10;
+pub const TURNS: u32 = 10;
+
+/// What a pack may take the place of.
+#[derive(Clone, Copy)]
+pub enum Replaced {
+    /// A pack, or an empty file.
+    Pack,
+    /// Any regular file.
+    AnyFile,
+}
 
 /// The file of a pack, locked for this command: from before it is read, where it is, until a new one has its name.
 #[derive(Drop)]
@@ -39,12 +49,19 @@ impl LockedPack {
         Err(FileFault::InUse)
     }
 
-    /// Locks a regular file that a pack will replace.
-    pub fn replaced(rt: &HostRuntime, place: PathBuf) -> Result<LockedPack, FileFault> {
+    /// Locks a regular file that a pack will replace; `NoPack` if it may not replace that.
+    pub fn replaced(
+        rt: &HostRuntime,
+        place: PathBuf,
+        replaced: Replaced,
+    ) -> Result<LockedPack, FileFault> {
+        let mut options = OpenOptions::new();
+        options.read(true).write(true);
         for _turn in 0..TURNS {
-            let file = OpenOptions::new().write(true).open(rt, place.as_path())?;
+            let mut file = options.open(rt, place.as_path())?;
             take_lock(&file)?;
             if leads_to(rt, place.as_path(), &file)? {
+                test_old(rt, &mut file, replaced)?;
                 return Ok(LockedPack { place, file });
             }
         }
@@ -80,6 +97,15 @@ fn is_forbidden(error: &io::Error) -> bool {
         error.kind(),
         ErrorKind::PermissionDenied | ErrorKind::ReadOnlyFilesystem
     )
+}
+
+/// Refuses an open file that a pack may not replace.
+fn test_old(rt: &HostRuntime, file: &mut File, replaced: Replaced) -> Result<(), FileFault> {
+    match replaced {
+        Replaced::AnyFile => Ok(()),
+        Replaced::Pack if is_begun_pack(rt, file)? => Ok(()),
+        Replaced::Pack => Err(FileFault::NoPack),
+    }
 }
 
 /// Locks an open file, or tells that another command holds it.

@@ -4,7 +4,7 @@ use super::fault::FileFault;
 use super::leftovers::{beside, remove_leftovers};
 use super::locking::{LockedPack, lock};
 use super::places::{are_same, existing, leads_to};
-use super::syncing::sync_folder;
+use super::syncing::{open_folder, sync_if_kept};
 use std::fs::{File, Metadata, OpenOptions, Permissions};
 use std::io::{ErrorKind, Write};
 use std::os::unix::fs::{MetadataExt, OpenOptionsExt, PermissionsExt, fchown};
@@ -25,17 +25,32 @@ struct NewFile {
     file: File,
 }
 
+/// How a new file gets its name.
+#[derive(Clone, Copy)]
+enum Naming {
+    /// It takes the place of the file that has the name.
+    Replaces,
+    /// Nothing may have the name.
+    IsFirst,
+}
+
 /// Replaces the file of a pack, unless it may not be written. `InUse` where something else has its name by now, from one
 /// who doesn't ask for the lock.
 pub fn replace(rt: &HostRuntime, locked: &LockedPack, bytes: &[u8]) -> Result<(), FileFault> {
     let old = locked.metadata()?;
-    match existing(rt, locked.place())? {
-        Some(found) if are_same(&found, &old) => permit(rt, locked.place(), &old)?,
+    let naming = match existing(rt, locked.place())? {
+        Some(found) if are_same(&found, &old) => {
+            permit(rt, locked.place(), &old)?;
+            Naming::Replaces
+        }
         Some(_) => return Err(FileFault::InUse),
         // it was removed or has another name now
-        None => {}
+        None => Naming::IsFirst,
+    };
+    match replace_old(rt, locked.place(), &old, bytes, naming) {
+        Err(FileFault::Exists) => Err(FileFault::InUse),
+        done => done,
     }
-    Ok(replace_old(rt, locked.place(), &old, bytes)?)
 }
 
 /// Tries whether the file of a pack could be replaced now. Nothing is changed.
@@ -44,8 +59,9 @@ pub fn test_replacing(rt: &HostRuntime, locked: &LockedPack) -> io::Result<()> {
     test_place(rt, locked.place())
 }
 
-/// Tries whether a new file can be made beside a place.
+/// Tries whether a new file can be made beside a place, and its folder be opened. Nothing is changed.
 pub fn test_place(rt: &HostRuntime, place: Path<'_>) -> io::Result<()> {
+    let _folder = open_folder(rt, place)?;
     let empty = NewFile::beside(rt, place, PRIVATE)?;
     fs::remove_file(rt, empty.path.as_str())
 }
@@ -59,22 +75,30 @@ fn permit(rt: &HostRuntime, place: Path<'_>, old: &Metadata) -> io::Result<()> {
     Ok(())
 }
 
-fn replace_old(rt: &HostRuntime, place: Path<'_>, old: &Metadata, bytes: &[u8]) -> io::Result<()> {
-    remove_leftovers(rt, place);
+fn replace_old(
+    rt: &HostRuntime,
+    place: Path<'_>,
+    old: &Metadata,
+    bytes: &[u8],
+    naming: Naming,
+) -> Result<(), FileFault> {
+    let folder = open_folder(rt, place)?;
+    remove_leftovers(rt, place, Some(old));
     let mut new = NewFile::beside(rt, place, PRIVATE)?;
     let filled = new.fill(bytes).and_then(|()| new.take_after(old));
-    finish(rt, new, filled, place)
+    finish(rt, new, filled, place, naming, &folder)
 }
 
-/// Saves a pack where no file stands yet. It gets the mode of a file that is made plainly.
-pub fn save_first(rt: &HostRuntime, place: Path<'_>, bytes: &[u8]) -> io::Result<()> {
-    remove_leftovers(rt, place);
+/// Saves a pack where no file stands yet; `Exists` where one does by now. It gets the mode of a file that is made plainly.
+pub fn save_first(rt: &HostRuntime, place: Path<'_>, bytes: &[u8]) -> Result<(), FileFault> {
+    let folder = open_folder(rt, place)?;
+    remove_leftovers(rt, place, None);
     let usual = usual_mode(rt, place)?;
     let mut new = NewFile::beside(rt, place, PRIVATE)?;
     let filled = new
         .fill(bytes)
         .and_then(|()| new.file.set_permissions(usual));
-    finish(rt, new, filled, place)
+    finish(rt, new, filled, place, Naming::IsFirst, &folder)
 }
 
 /// The mode that the system gives a new file in the folder of another: that of an empty one, which goes again.
@@ -92,16 +116,21 @@ fn finish(
     new: NewFile,
     filled: io::Result<()>,
     place: Path<'_>,
-) -> io::Result<()> {
+    naming: Naming,
+    folder: &File,
+) -> Result<(), FileFault> {
     let named = match filled {
-        Ok(()) => new.take_name(rt, place),
-        Err(error) => Err(error),
+        Ok(()) => new.take_name(rt, place, naming),
+        Err(error) => Err(FileFault::Call(error)),
     };
     if named.is_err() {
         let _ = fs::remove_file(rt, new.path.as_str());
         return named;
     }
-    sync_folder(rt, place)
+    match sync_if_kept(folder) {
+        Ok(()) => Ok(()),
+        Err(error) => Err(FileFault::Unsynced(error)),
+    }
 }
 
 impl NewFile {
@@ -134,14 +163,59 @@ impl NewFile {
     }
 
     /// Brings the file to the disk and gives it a name.
-    fn take_name(&self, rt: &HostRuntime, place: Path<'_>) -> io::Result<()> {
+    fn take_name(
+        &self,
+        rt: &HostRuntime,
+        place: Path<'_>,
+        naming: Naming,
+    ) -> Result<(), FileFault> {
         self.file.sync_all()?;
-        fs::rename(rt, self.path.as_str(), place)
+        match naming {
+            Naming::Replaces => Ok(fs::rename(rt, self.path.as_str(), place)?),
+            Naming::IsFirst => self.take_free_name(rt, place),
+        }
+    }
+
+    /// Gives the file a name that nothing has; `Exists` where something has it. A file system that gives no file a second name has
+    /// the name kept by an empty file first.
+    fn take_free_name(&self, rt: &HostRuntime, place: Path<'_>) -> Result<(), FileFault> {
+        match fs::hard_link(rt, self.path.as_str(), place) {
+            Ok(()) => {
+                // if it can't be removed, the next save does it
+                let _ = fs::remove_file(rt, self.path.as_str());
+                Ok(())
+            }
+            Err(error) if error.kind() == ErrorKind::AlreadyExists => Err(FileFault::Exists),
+            Err(error) if has_no_links(&error) => self.take_kept_name(rt, place),
+            Err(error) => Err(FileFault::Call(error)),
+        }
+    }
+
+    /// Gives the file a name that an empty file keeps for it.
+    fn take_kept_name(&self, rt: &HostRuntime, place: Path<'_>) -> Result<(), FileFault> {
+        let Some(_keeper) = claimed(rt, place.as_str(), PRIVATE)? else {
+            return Err(FileFault::Exists);
+        };
+        match fs::rename(rt, self.path.as_str(), place) {
+            Ok(()) => Ok(()),
+            Err(error) => {
+                let _ = fs::remove_file(rt, place);
+                Err(FileFault::Call(error))
+            }
+        }
     }
 }
 
+/// Whether a file system gives no file a second name.
+fn has_no_links(error: &io::Error) -> bool {
+    matches!(
+        error.kind(),
+        ErrorKind::PermissionDenied | ErrorKind::Unsupported | ErrorKind::TooManyLinks
+    )
+}
+
 /// A mode for a file that came into another group: no one may more than in the old one, be they in either group or none.
-fn without_group(mode: u32) -> u32 {
+pub fn without_group(mode: u32) -> u32 {
     let all = mode & (mode >> 3) & 0o007;
     (mode & !0o077) | (all << 3) | all
 }

@@ -6,10 +6,9 @@ use std::io;
 use std::io::ErrorKind;
 use std::path::Path;
 
-/// Brings the names of the folder of a path to the disk.
-pub fn sync_folder(rt: &HostRuntime, place: Path<'_>) -> io::Result<()> {
-    let folder = File::open(rt, folder_of(place))?;
-    sync_if_kept(&folder)
+/// Opens the folder of a path, whose names are brought to the disk later.
+pub fn open_folder(rt: &HostRuntime, place: Path<'_>) -> io::Result<File> {
+    File::open(rt, folder_of(place))
 }
 
 /// Brings a file to the disk, if it has one: a pipe or a terminal keeps nothing, and some file systems have no call for a

@@ -161,6 +161,16 @@ impl<'a, R: Read + Drop, W: Write + Drop, F: Write + Drop, C: Clock + Drop> Desk
         self.tape.bytes()
     }
 
+    /// What the reports are written to.
+    pub fn reports_to(&self) -> &W {
+        self.reports.writer()
+    }
+
+    /// Whether a script is written.
+    pub fn has_script(&self) -> bool {
+        self.tape.is_kept()
+    }
+
     /// Whether a log is written.
     pub fn has_log(&self) -> bool {
         self.journal.is_kept()
@@ -410,7 +420,7 @@ impl<'a, R: Read + Drop, W: Write + Drop, F: Write + Drop, C: Clock + Drop> Desk
         let message = self.levels.again(machine, to, digit);
         self.tell_message(message)?;
         match self.listen(BEFORE_QUESTION)? {
-            Some(typed) if is_same_reply(typed, to, digit) => Ok(Said::Reply(to, digit)),
+            Some(typed) if typed.is_reply(to, digit) => Ok(Said::Reply(to, digit)),
             Some(_) => Ok(Said::Nothing),
             None => Ok(Said::Over),
         }
@@ -602,14 +612,5 @@ impl<'a, S: PackStore, R: Read + Drop, W: Write + Drop, F: Write + Drop, C: Cloc
                 None
             }
         }
-    }
-}
-
-/// Whether a line is this reply to the halt of this level.
-fn is_same_reply(typed: Typed, to: LevelId, digit: u8) -> bool {
-    match typed {
-        Typed::Reply(None, again) => again == digit,
-        Typed::Reply(Some(level), again) => level == to && again == digit,
-        _ => false,
     }
 }

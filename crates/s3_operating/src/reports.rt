@@ -77,6 +77,11 @@ impl<W: Write + Drop> Reports<W> {
         !self.has_failed
     }
 
+    /// What the reports are written to.
+    pub(crate) fn writer(&self) -> &W {
+        &self.writer
+    }
+
     fn is_at_two(&self) -> bool {
         matches!(self.level, Some(LevelId::Two))
     }

@@ -79,6 +79,11 @@ impl<F: Write + Drop> Tape<F> {
         }
     }
 
+    /// Whether a script is written.
+    pub(crate) fn is_kept(&self) -> bool {
+        self.file.is_some()
+    }
+
     /// How many bytes the script has, once it is finished.
     pub fn bytes(&self) -> u64 {
         self.bytes

@@ -9,6 +9,7 @@ use crate::words::{CommandWords, Takes, Word};
 use clap::ArgMatches;
 use s3_cards::{Deck, DeckFault};
 use s3_decks::DeckText;
+use s3_host_files::StandardOutput;
 use s3_source_listing::{Outcome, write_listing};
 use std::alloc::{AllocError, Global};
 use std::io::Write;
@@ -78,7 +79,13 @@ fn write_on_output<'a>(
     deck: &Deck,
     has_references: bool,
 ) -> Result<u8, CommandFault<'a>> {
-    match write_listing(rt.alloc(), &mut rt.stdout(), text, deck, has_references) {
+    match write_listing(
+        rt.alloc(),
+        &mut StandardOutput::new(rt),
+        text,
+        deck,
+        has_references,
+    ) {
         Ok(outcome) => Ok(status_of(rt, outcome)),
         Err(error) => Err(CommandFault::of_output(&error)),
     }

@@ -6,7 +6,7 @@ use crate::fault::CommandFault;
 use crate::status::{DONE, REFUSED};
 use crate::words::{CommandWords, Takes, Word};
 use clap::ArgMatches;
-use s3_host_files::read_within;
+use s3_host_files::{StandardOutput, read_within};
 use s3_punch::{Begun, LineChange, PunchFault, PunchReason, Punched, punch};
 use std::alloc::{AllocError, Global};
 use std::io::Write;
@@ -70,7 +70,7 @@ fn write_deck<'a>(rt: &HostRuntime, matches: &ArgMatches<'a>) -> Result<bool, Co
     if stacked.is_faulty {
         return Ok(false);
     }
-    if rt.stdout().write_all(&stacked.text).is_err() {
+    if StandardOutput::new(rt).write_all(&stacked.text).is_err() {
         return Err(CommandFault::Output);
     }
     tell_count(rt, stacked.counted);

@@ -1,19 +1,18 @@
 //! A day, from its first turn to what is told at its end.
 
-use super::begun::named_file;
 use super::fault::DayFault;
 use super::order::Order;
-use super::outputs::{Output, Outputs, remove_made, write_deck};
-use super::paper::write_paper;
+use super::outputs::{KeptOutputs, Output, Outputs, remove_made, write_deck};
+use super::paper::{Making, write_paper};
+use super::saving::end_day;
 use super::streams::Stream;
 use super::watch::Watch;
 use crate::refusal::{FILE, OUT_OF_MEMORY};
 use s3_cli::{CliFault, SessionFault};
-use s3_day_log::{Begun, DayLog, DayOver, Event};
+use s3_day_log::{Begun, DayLog};
 use s3_desk::{Day, operate_day};
-use s3_host_files::{FileFault, LockedPack, save_pack};
+use s3_host_files::StandardOutput;
 use s3_operating::{Closing, Desk, Journal, Questioned, Reports, Seat, Settings, Tape, Verdict};
-use s3_paper_commands::status::{DONE, PASSED_OVER, PERSON_NEEDED};
 use s3_replay::Performed;
 use s3_replies::Rules;
 use std::alloc::{AllocError, Global};
@@ -45,7 +44,7 @@ const REPLIES_TYPED: &'static str =
     "replies are read from this terminal, one a line, as halts are asked; control-D ends them\n";
 
 /// The desk of the command.
-pub type OwnDesk<'a> = Desk<'a, Stdin, Stream, Output, Watch<'a>>;
+pub type OwnDesk<'a> = Desk<'a, Stdin, Stream<'a>, Output, Watch<'a>>;
 
 /// The texts of both decks.
 #[derive(Clone, Copy)]
@@ -56,28 +55,23 @@ struct Texts<'a> {
 
 /// A day that is over, and the desk's account of it.
 #[derive(Drop)]
-struct Over {
-    day: Day,
-    closing: Closing,
+pub struct Over {
+    /// What it left.
+    pub day: Day,
+    /// The desk's account.
+    pub closing: Closing,
 }
 
 impl Over {
-    fn is_unfinished(&self) -> bool {
+    /// Whether a level isn't done.
+    pub fn is_unfinished(&self) -> bool {
         self.closing.verdict == Verdict::Unfinished
     }
-}
 
-/// What became of the pack at the end of a day.
-#[derive(Clone, Copy)]
-enum Saved {
-    /// There is no `--save`.
-    Nowhere,
-    /// It isn't saved: a level isn't done.
-    Unfinished,
-    /// It isn't saved: the person at the terminal says so.
-    Declined,
-    /// It is saved.
-    Done,
+    /// Whether the end of the day is reported: not if the day is to be quiet, and each job came to its end.
+    pub fn is_told(&self, order: &Order<'_>) -> bool {
+        !order.is_quiet || self.closing.verdict != Verdict::Clean
+    }
 }
 
 /// Operates a day over a pack, hands out what it leaves, and gives the exit status.
@@ -94,6 +88,7 @@ pub fn operate_prepared<'n, 'a>(
         deck1,
         deck2,
         locked,
+        kept,
         made,
     } = outputs;
     let texts = Texts {
@@ -107,7 +102,8 @@ pub fn operate_prepared<'n, 'a>(
     match operated(rt.alloc(), order, pack, texts, &mut desk) {
         Ok(over) => {
             write_decks(order, texts, deck1, deck2)?;
-            hand_out(rt, order, &mut desk, texts, &over, locked)
+            write_reports(rt, order, &mut desk, texts, &over, &kept)?;
+            end_day(rt, order, &mut desk, &kept, &over, locked)
         }
         Err(fault) => {
             // if a deck is refused nothing is written, so what was made by trying goes again
@@ -153,7 +149,7 @@ fn desk_of<'a>(
         questioned: order.questioned,
         wants_decks: order.save.is_some(),
     };
-    let reports = Reports::new(rt.alloc(), Stream::Reports(rt.stdout()))?;
+    let reports = Reports::new(rt.alloc(), Stream::Reports(StandardOutput::new(rt)))?;
     Ok(Desk::new(
         rt.alloc(),
         settings,
@@ -197,7 +193,7 @@ fn operated<'n>(
     }
 }
 
-/// Closes the desk behind its day.
+/// Closes the desk after its day.
 fn closed<'n>(
     order: &Order<'n>,
     desk: &mut OwnDesk<'_>,
@@ -210,28 +206,6 @@ fn closed<'n>(
     }
 }
 
-/// Writes the reports, reports how both levels ended, and saves the pack.
-fn hand_out<'n>(
-    rt: &HostRuntime,
-    order: &Order<'n>,
-    desk: &mut OwnDesk<'_>,
-    texts: Texts<'_>,
-    over: &Over,
-    locked: Option<LockedPack>,
-) -> Result<u8, DayFault<'n>> {
-    write_reports(rt, order, desk, texts, over)?;
-    let saved = save(rt, order, desk, over, locked)?;
-    if is_told(order, over) {
-        tell_saved(order, desk, saved, over.is_unfinished());
-    }
-    end(rt, order, desk, over, saved)
-}
-
-/// Whether the end of a day is reported: not if it is to be quiet, and each job came to its end.
-fn is_told(order: &Order<'_>, over: &Over) -> bool {
-    !order.is_quiet || over.closing.verdict != Verdict::Clean
-}
-
 /// Writes the reports and the pages, and reports how both levels ended.
 fn write_reports<'n>(
     rt: &HostRuntime,
@@ -239,9 +213,10 @@ fn write_reports<'n>(
     desk: &mut OwnDesk<'_>,
     texts: Texts<'_>,
     over: &Over,
+    kept: &KeptOutputs,
 ) -> Result<(), DayFault<'n>> {
     let is_written = desk.finish_reports(&over.day.outcome);
-    if is_told(order, over) {
+    if over.is_told(order) {
         desk.tell("\n");
         desk.tell(over.closing.summary.as_str());
     }
@@ -249,51 +224,33 @@ fn write_reports<'n>(
         tell_size(rt, texts, desk.script_len());
     }
     test_outputs(order, desk)?;
-    if !is_written {
+    if desk.reports_to().has_lost_reader() {
+        desk.tell(
+            "what reads standard output has ended before the reports did; all else is done as asked\n",
+        );
+    } else if !is_written {
         desk.tell("the reports can't be written to standard output, and no pack is saved\n");
         return Err(DayFault::Cli(FILE));
     }
     match order.paper {
-        Some(paper) => write_paper(rt, paper, desk, &over.day.outcome),
+        Some(paper) => {
+            let making = Making {
+                overwrites: order.overwrites,
+                limit: kept.limit,
+                is_told: over.is_told(order),
+            };
+            write_paper(rt, paper, making, desk, &over.day.outcome)
+        }
         None => Ok(()),
     }
 }
 
-/// Logs the end of the day, and gives the exit status.
-fn end<'n>(
-    rt: &HostRuntime,
-    order: &Order<'n>,
-    desk: &mut OwnDesk<'_>,
-    over: &Over,
-    saved: Saved,
-) -> Result<u8, DayFault<'n>> {
-    let status = status_of(over.closing.verdict, saved);
-    if desk.has_log() {
-        let path = saved_path(order, saved);
-        log_end(rt.alloc(), desk, status, path, &over.day.outcome.pack)?;
-    }
-    if desk.has_log_failed() {
-        desk.tell_log_failure()?;
-        return Err(unwritten(order, desk));
-    }
-    Ok(status)
-}
-
 /// Why a day was ended before its time: its deck can't be read, its script or its log can't be written, or memory ran out.
 fn refusal_of<'n>(order: &Order<'n>, desk: &OwnDesk<'_>) -> DayFault<'n> {
-    match desk.refused() {
-        Some(level) => DayFault::Deck(level),
-        None if desk.has_given_up() => unwritten(order, desk),
-        None => DayFault::Cli(OUT_OF_MEMORY),
-    }
-}
-
-/// The refusal of a day whose script or log can't be written.
-fn unwritten<'n>(order: &Order<'n>, desk: &OwnDesk<'_>) -> DayFault<'n> {
-    match (order.script, order.log) {
-        (Some(name), _) if desk.has_script_failed() => DayFault::File(name),
-        (_, Some(name)) => DayFault::File(name),
-        (_, None) => DayFault::Cli(FILE),
+    match (desk.refused(), test_written(order, desk)) {
+        (Some(level), _) => DayFault::Deck(level),
+        (None, Err(fault)) => fault,
+        (None, Ok(())) => DayFault::Cli(OUT_OF_MEMORY),
     }
 }
 
@@ -312,7 +269,7 @@ fn tell_size(rt: &HostRuntime, texts: Texts<'_>, script: u64) {
 }
 
 /// Refuses a day that memory ran out for, or whose script or log can't be written, unless a person goes on without it.
-fn test_outputs<'n>(order: &Order<'n>, desk: &mut OwnDesk<'_>) -> Result<(), DayFault<'n>> {
+pub fn test_outputs<'n>(order: &Order<'n>, desk: &mut OwnDesk<'_>) -> Result<(), DayFault<'n>> {
     if desk.is_out_of_memory() {
         return Err(DayFault::Cli(OUT_OF_MEMORY));
     }
@@ -322,103 +279,14 @@ fn test_outputs<'n>(order: &Order<'n>, desk: &mut OwnDesk<'_>) -> Result<(), Day
     }
 }
 
-/// The exit status of a day, given what became of its pack.
-fn status_of(verdict: Verdict, saved: Saved) -> u8 {
-    match (verdict, saved) {
-        (Verdict::Unfinished, _) | (_, Saved::Declined) => PERSON_NEEDED,
-        (Verdict::Clean, _) => DONE,
-        (Verdict::Passed, _) => PASSED_OVER,
+/// Refuses a day whose script or log couldn't be written, or that memory ran out for.
+pub fn test_written<'n>(order: &Order<'n>, desk: &OwnDesk<'_>) -> Result<(), DayFault<'n>> {
+    if desk.is_out_of_memory() {
+        return Err(DayFault::Cli(OUT_OF_MEMORY));
     }
-}
-
-/// Where the pack was saved, if it was.
-fn saved_path<'a>(order: &Order<'a>, saved: Saved) -> Option<&'a str> {
-    match saved {
-        Saved::Done => order.save,
-        Saved::Nowhere | Saved::Unfinished | Saved::Declined => None,
+    match (order.script, order.log) {
+        (Some(name), _) if desk.has_script_failed() => Err(DayFault::File(name)),
+        (_, Some(name)) if desk.has_log_failed() => Err(DayFault::File(name)),
+        _ => Ok(()),
     }
-}
-
-/// Saves the pack if that is asked for, and the day is one to be saved. Why it couldn't be saved is reported.
-fn save<'a>(
-    rt: &HostRuntime,
-    order: &Order<'a>,
-    desk: &mut OwnDesk<'_>,
-    over: &Over,
-    locked: Option<LockedPack>,
-) -> Result<Saved, DayFault<'a>> {
-    let Some(path) = order.save else {
-        return Ok(Saved::Nowhere);
-    };
-    if over.is_unfinished() && !order.saves_unfinished {
-        return Ok(Saved::Unfinished);
-    }
-    if !desk.wants_saved()? {
-        return Ok(Saved::Declined);
-    }
-    save_to(rt, path, over, locked)
-}
-
-/// Saves the pack in a file.
-fn save_to<'a>(
-    rt: &HostRuntime,
-    path: &'a str,
-    over: &Over,
-    locked: Option<LockedPack>,
-) -> Result<Saved, DayFault<'a>> {
-    match save_pack(rt, path, locked, &over.day.outcome.pack) {
-        Ok(()) => Ok(Saved::Done),
-        Err(fault) => {
-            if let FileFault::Call(error) = &fault {
-                let _ = writeln!(rt.stderr(), "the pack is not saved in {path}: {error}");
-            }
-            Err(DayFault::of_pack(&fault, path))
-        }
-    }
-}
-
-/// Reports what became of the pack.
-fn tell_saved(order: &Order<'_>, desk: &mut OwnDesk<'_>, saved: Saved, is_unfinished: bool) {
-    let Some(path) = order.save else {
-        desk.tell("nothing is saved: there is no --save\n");
-        return;
-    };
-    let (before, after) = saved_words(saved, is_unfinished);
-    desk.tell(before);
-    desk.tell(path);
-    desk.tell(after);
-}
-
-/// The words before and after the file's name that report whether a pack is saved.
-fn saved_words(saved: Saved, is_unfinished: bool) -> (&'static str, &'static str) {
-    match saved {
-        Saved::Nowhere | Saved::Unfinished => (
-            "the pack is not saved, and ",
-            " is left alone: a level isn't done (--save-unfinished saves it so)\n",
-        ),
-        Saved::Declined => (
-            "the pack is not saved, and ",
-            " is left alone: the answer was no\n",
-        ),
-        Saved::Done if is_unfinished => (
-            "the pack is saved in ",
-            ", though a level isn't done: a job that is taken up begins anew, over the records that it has put\n",
-        ),
-        Saved::Done => ("the pack is saved in ", "\n"),
-    }
-}
-
-/// Logs the end of the day.
-fn log_end(
-    alloc: Global,
-    desk: &mut OwnDesk<'_>,
-    status: u8,
-    saved: Option<&str>,
-    pack: &[u8],
-) -> Result<(), AllocError> {
-    let saved = match saved {
-        Some(path) => Some(named_file(alloc, path, pack)?),
-        None => None,
-    };
-    desk.note(Event::End(DayOver { status, saved }))
 }

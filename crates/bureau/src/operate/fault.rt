@@ -19,7 +19,7 @@ pub enum DayFault<'a> {
     Usage(&'static str),
     /// This file can't be read, or not be written.
     File(&'a str),
-    /// Another command has this pack.
+    /// Another command has this pack, or writes this output.
     InUse(&'a str),
     /// The number of the first line of the rules that is none.
     Replies(usize),
@@ -55,11 +55,24 @@ impl<'a> DayFault<'a> {
         }
     }
 
-    /// Why the file of a pack can't be read or saved.
+    /// Why the file of a pack can't be read or saved, or an output not be opened.
     pub fn of_pack(fault: &FileFault, name: &'a str) -> DayFault<'a> {
         match fault {
             FileFault::InUse => DayFault::InUse(name),
-            FileFault::Call(error) => DayFault::of(error, name),
+            FileFault::Exists => DayFault::Exists(name),
+            FileFault::NoPack => DayFault::File(name),
+            FileFault::Call(error) | FileFault::Unsynced(error) => DayFault::of(error, name),
+        }
+    }
+
+    /// The exit status of the refusal.
+    pub fn status(&self) -> u8
+        ensures { result ≤ 3 }
+    {
+        match self {
+            DayFault::Usage(_) => WRONG_WORDS,
+            DayFault::File(_) => FILE_FAILED,
+            _ => REFUSED,
         }
     }
 

@@ -3,43 +3,12 @@
 use super::fault::DayFault;
 use super::order::Order;
 use super::paper::Paper;
-use s3_host_files::{LockedPack, Target, prepare_save};
+pub use s3_host_files::Output;
+use s3_host_files::{Kept, Limit, LockedFolder, LockedPack, Replaced, Target, prepare_save};
 use std::alloc::Global;
-use std::fs::{File, Metadata, OpenOptions};
+use std::fs::Metadata;
 use std::io::Write;
 use std::{fs, io};
-
-/// An output that is opened, and keeps what stood there until something is written.
-#[derive(Drop)]
-pub struct Output {
-    file: File,
-    is_emptied: bool,
-}
-
-impl Output {
-    /// Removes what stood there, once.
-    fn empty(&mut self) -> io::Result<()> {
-        if !self.is_emptied {
-            self.is_emptied = true;
-            if self.file.metadata()?.is_file() {
-                self.file.set_len(0)?;
-            }
-        }
-        Ok(())
-    }
-}
-
-impl Write for Output {
-    fn write(&mut self, bytes: &[u8]) -> io::Result<usize> {
-        self.empty()?;
-        self.file.write(bytes)
-    }
-
-    fn flush(&mut self) -> io::Result<()> {
-        self.empty()?;
-        self.file.flush()
-    }
-}
 
 /// The outputs of a day, tried and ready.
 #[derive(Drop)]
@@ -54,8 +23,23 @@ pub struct Outputs<'a> {
     pub deck2: Option<Output>,
     /// The lock on the file that the pack is saved to.
     pub locked: Option<LockedPack>,
+    /// What is needed of the outputs at the day's end.
+    pub kept: KeptOutputs,
     /// The files that were made by trying, and the folder of the pages.
     pub made: Vec<&'a str>,
+}
+
+/// What is needed of the outputs at the day's end, when the desk writes script and log.
+#[derive(Drop)]
+pub struct KeptOutputs {
+    /// The script.
+    pub script: Option<Kept>,
+    /// The log.
+    pub log: Option<Kept>,
+    /// The folder of the pages, locked.
+    folder: Option<LockedFolder>,
+    /// What files beside the pack let anyone do at most.
+    pub limit: Option<Limit>,
 }
 
 /// Where something is written or read.
@@ -231,12 +215,19 @@ impl<'a> Outputs<'a> {
         order: &Order<'a>,
         locked: Option<LockedPack>,
     ) -> Result<Outputs<'a>, DayFault<'a>> {
+        let limit = limit_of(rt, order)?;
         let mut outputs = Outputs {
             script: None,
             log: None,
             deck1: None,
             deck2: None,
-            locked: save_prepared(rt, order.save, locked)?,
+            locked: save_prepared(rt, order, locked)?,
+            kept: KeptOutputs {
+                script: None,
+                log: None,
+                folder: None,
+                limit,
+            },
             made: Vec::new(rt.alloc()),
         };
         match outputs.open_all(rt, order) {
@@ -249,11 +240,14 @@ impl<'a> Outputs<'a> {
     }
 
     fn open_all(&mut self, rt: &HostRuntime, order: &Order<'a>) -> Result<(), DayFault<'a>> {
-        self.script = self.open_one(rt, order.script)?;
-        self.log = self.open_one(rt, order.log)?;
-        self.deck1 = self.open_one(rt, order.deck_out1)?;
-        self.deck2 = self.open_one(rt, order.deck_out2)?;
-        self.open_folder(rt, order.paper)
+        let overwrites = order.overwrites;
+        self.script = self.open_one(rt, order.script, overwrites)?;
+        self.log = self.open_one(rt, order.log, overwrites)?;
+        self.deck1 = self.open_one(rt, order.deck_out1, overwrites)?;
+        self.deck2 = self.open_one(rt, order.deck_out2, overwrites)?;
+        self.kept.script = kept_of(&self.script, order.script)?;
+        self.kept.log = kept_of(&self.log, order.log)?;
+        self.open_folder(rt, order.paper, overwrites)
     }
 
     /// Makes the folder of the pages, if they are asked for and it isn't there.
@@ -261,58 +255,87 @@ impl<'a> Outputs<'a> {
         &mut self,
         rt: &HostRuntime,
         paper: Option<Paper<'a>>,
+        overwrites: bool,
     ) -> Result<(), DayFault<'a>> {
         let Some(paper) = paper else {
             return Ok(());
         };
-        if paper.open(rt)? {
+        if paper.make(rt, self.kept.limit)? {
             self.made.push(paper.folder())?;
         }
+        self.kept.folder = Some(paper.lock(rt, overwrites)?);
         Ok(())
     }
 
-    /// Opens an output, if one is named, after what stands there.
+    /// Opens an output, if one is named. What is there stays until something is written.
     fn open_one(
         &mut self,
         rt: &HostRuntime,
         name: Option<&'a str>,
+        overwrites: bool,
     ) -> Result<Option<Output>, DayFault<'a>> {
         let Some(name) = name else {
             return Ok(None);
         };
-        match opened(rt, name) {
-            Ok((is_there, output)) => {
-                if !is_there {
+        match Output::open(rt, name, overwrites, self.kept.limit) {
+            Ok(output) => {
+                if output.is_made() {
                     self.made.push(name)?;
                 }
                 Ok(Some(output))
             }
-            Err(error) => Err(DayFault::of(&error, name)),
+            Err(fault) => Err(DayFault::of_pack(&fault, name)),
         }
     }
 }
 
-/// Whether a file was there, and an output after what stands there.
-fn opened(rt: &HostRuntime, name: &str) -> io::Result<(bool, Output)> {
-    let is_there = fs::exists(rt, name)?;
-    let file = OpenOptions::new().append(true).create(true).open(rt, name)?;
-    let output = Output {
-        file,
-        is_emptied: false,
+/// What files beside the pack let anyone do at most: what the file does that the pack is saved to, or the one that it is read from.
+fn limit_of<'a>(rt: &HostRuntime, order: &Order<'a>) -> Result<Option<Limit>, DayFault<'a>> {
+    if let Some(limit) = limit_by(rt, order.save)? {
+        return Ok(Some(limit));
+    }
+    limit_by(rt, order.pack)
+}
+
+fn limit_by<'a>(rt: &HostRuntime, name: Option<&'a str>) -> Result<Option<Limit>, DayFault<'a>> {
+    let Some(name) = name else {
+        return Ok(None);
     };
-    Ok((is_there, output))
+    match Limit::of(rt, name) {
+        Ok(limit) => Ok(limit),
+        Err(error) => Err(DayFault::of(&error, name)),
+    }
+}
+
+/// A second handle of an output.
+fn kept_of<'a>(
+    output: &Option<Output>,
+    name: Option<&'a str>,
+) -> Result<Option<Kept>, DayFault<'a>> {
+    let (Some(output), Some(name)) = (output, name) else {
+        return Ok(None);
+    };
+    match output.kept() {
+        Ok(kept) => Ok(Some(kept)),
+        Err(error) => Err(DayFault::of(&error, name)),
+    }
 }
 
 /// The lock on the file that the pack is saved to, once that is tried, if the pack is to be saved.
 fn save_prepared<'a>(
     rt: &HostRuntime,
-    save: Option<&'a str>,
+    order: &Order<'a>,
     locked: Option<LockedPack>,
 ) -> Result<Option<LockedPack>, DayFault<'a>> {
-    let Some(name) = save else {
+    let Some(name) = order.save else {
         return Ok(None);
     };
-    match prepare_save(rt, name, locked) {
+    let replaced = if order.overwrites {
+        Replaced::AnyFile
+    } else {
+        Replaced::Pack
+    };
+    match prepare_save(rt, name, locked, replaced) {
         Ok(locked) => Ok(locked),
         Err(fault) => Err(DayFault::of_pack(&fault, name)),
     }

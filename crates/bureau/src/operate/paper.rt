@@ -8,7 +8,7 @@ use s3_bureau::Outcome;
 use s3_cards::ebcdic::DIGIT_0;
 use s3_cards::{LevelId, Name, PrintLine};
 use s3_decks::{push_characters, push_name};
-use s3_host_files::{create_anew, is_empty_folder, test_folder};
+use s3_host_files::{Limit, LockedFolder, create_anew, is_empty_folder, make_folder, test_folder};
 use s3_operating::PrintedJob;
 use s3_pages::{PaperFault, parts, write_pdf, write_text};
 use s3_report_lines::lines_of_report;
@@ -80,18 +80,38 @@ impl<'a> Paper<'a> {
         }
     }
 
-    /// Makes the folder, if it isn't there, and tries whether files can be made in it. It answers whether it was made.
-    pub fn open(&self, rt: &HostRuntime) -> Result<bool, DayFault<'a>> {
-        let is_made = match fs::create_dir(rt, self.folder) {
-            Ok(()) => true,
-            Err(error) if error.kind() == ErrorKind::AlreadyExists => false,
-            Err(error) => return Err(DayFault::of(&error, self.folder)),
-        };
-        match test_folder(rt, self.folder) {
-            Ok(()) => Ok(is_made),
+    /// Makes the folder, if it isn't there. It answers whether it was made.
+    pub fn make(&self, rt: &HostRuntime, limit: Option<Limit>) -> Result<bool, DayFault<'a>> {
+        match make_folder(rt, self.folder, limit) {
+            Ok(()) => Ok(true),
+            Err(error) if error.kind() == ErrorKind::AlreadyExists => Ok(false),
             Err(error) => Err(DayFault::of(&error, self.folder)),
         }
     }
+
+    /// Keeps the folder for this day, sees that it is still as `test_free` found it, and tries whether files can be made in it.
+    pub fn lock(&self, rt: &HostRuntime, overwrites: bool) -> Result<LockedFolder, DayFault<'a>> {
+        let locked = match LockedFolder::lock(rt, self.folder) {
+            Ok(locked) => locked,
+            Err(fault) => return Err(DayFault::of_pack(&fault, self.folder)),
+        };
+        self.test_empty(rt, overwrites)?;
+        match test_folder(rt, self.folder) {
+            Ok(()) => Ok(locked),
+            Err(error) => Err(DayFault::of(&error, self.folder)),
+        }
+    }
+}
+
+/// How the files of the pages are made.
+#[derive(Clone, Copy)]
+pub struct Making {
+    /// What is there is written over.
+    pub overwrites: bool,
+    /// What the files let anyone do at most.
+    pub limit: Option<Limit>,
+    /// It is reported where they are.
+    pub is_told: bool,
 }
 
 /// How pages are written, given the form that is named, and whether the bars are left out.
@@ -110,12 +130,15 @@ fn form_of(named: Option<&str>, is_plain: bool) -> Result<Form, &'static str> {
 pub fn write_paper<'n>(
     rt: &HostRuntime,
     paper: Paper<'n>,
+    making: Making,
     desk: &OwnDesk<'_>,
     outcome: &Outcome,
 ) -> Result<(), DayFault<'n>> {
-    let one = write_level(rt, paper, desk, LevelId::One, &outcome.one.report)?;
-    let two = write_level(rt, paper, desk, LevelId::Two, &outcome.two.report)?;
-    tell_paper(rt, paper.folder, one.saturating_add(two));
+    let one = write_level(rt, paper, making, desk, LevelId::One, &outcome.one.report)?;
+    let two = write_level(rt, paper, making, desk, LevelId::Two, &outcome.two.report)?;
+    if making.is_told {
+        tell_paper(rt, paper.folder, one.saturating_add(two));
+    }
     Ok(())
 }
 
@@ -132,6 +155,7 @@ fn tell_paper(rt: &HostRuntime, folder: &str, jobs: usize) {
 fn write_level<'n>(
     rt: &HostRuntime,
     paper: Paper<'n>,
+    making: Making,
     desk: &OwnDesk<'_>,
     level: LevelId,
     report: &[u8],
@@ -140,13 +164,14 @@ fn write_level<'n>(
     let Some(lines) = lines_of_report(rt.alloc(), report)? else {
         return Err(DayFault::File(paper.folder));
     };
-    write_jobs(rt, paper, level, &jobs, &lines)
+    write_jobs(rt, paper, making, level, &jobs, &lines)
 }
 
 /// Writes the pages of some jobs, given the lines of all of them. It answers of how many jobs there are pages.
 fn write_jobs<'n>(
     rt: &HostRuntime,
     paper: Paper<'n>,
+    making: Making,
     level: LevelId,
     jobs: &[PrintedJob],
     lines: &[PrintLine],
@@ -156,7 +181,7 @@ fn write_jobs<'n>(
     let mut written: usize = 0;
     for (job, part) in jobs.iter().zip(all.iter()) {
         if !part.is_empty() {
-            write_job(rt, paper, level, job, *part)?;
+            write_job(rt, paper, making, level, job, *part)?;
             written = written.saturating_add(1);
         }
     }
@@ -176,13 +201,14 @@ fn counts_of(alloc: Global, jobs: &[PrintedJob]) -> Result<Vec<u64>, AllocError>
 fn write_job<'n>(
     rt: &HostRuntime,
     paper: Paper<'n>,
+    making: Making,
     level: LevelId,
     job: &PrintedJob,
     lines: &[PrintLine],
 ) -> Result<(), DayFault<'n>> {
     let path = path_of(rt.alloc(), paper, level, job)?;
     let title = title_of(rt.alloc(), level, job)?;
-    match write_file(rt, path.as_str(), paper.form, title.as_str(), lines) {
+    match write_file(rt, path.as_str(), making, paper.form, title.as_str(), lines) {
         Ok(()) => Ok(()),
         Err(PaperFault::NoMemory) => Err(DayFault::from(AllocError)),
         Err(fault) => {
@@ -196,11 +222,12 @@ fn write_job<'n>(
 fn write_file(
     rt: &HostRuntime,
     path: &str,
+    making: Making,
     form: Form,
     title: &str,
     lines: &[PrintLine],
 ) -> Result<(), PaperFault> {
-    match create_anew(rt, path) {
+    match create_anew(rt, path, making.overwrites, making.limit) {
         Ok(file) => write_pages(rt.alloc(), file, form, title, lines),
         Err(error) => Err(failed(&error)),
     }

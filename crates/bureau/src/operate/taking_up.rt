@@ -6,6 +6,7 @@ use s3_cards::{CardFault, Deck, DeckFault, LevelId};
 use s3_decks::{
     DeckText, Position, jobs_of, left_out_from, lost_settings, push_inherited, push_jobs,
 };
+use s3_host_files::StandardOutput;
 use s3_operating::{DayDeck, push_unread};
 use std::alloc::AllocError;
 use std::io::Write;
@@ -81,7 +82,7 @@ pub fn list_jobs<'a>(
     let mut told = String::new(rt.alloc());
     push_level(rt, &mut told, LevelId::One, one)?;
     push_level(rt, &mut told, LevelId::Two, two)?;
-    match rt.stdout().write_all(told.as_bytes()) {
+    match StandardOutput::new(rt).write_all(told.as_bytes()) {
         Ok(()) => Ok(()),
         Err(_) => Err(DayFault::Cli(FILE)),
     }

@@ -7,6 +7,8 @@ use Rattle.s3_day_log.specs.declared.endings.LevelEnd.{LevelEnd}
 use Rattle.s3_day_log.specs.declared.endings.LevelEnd.TheVariants.{Done, Halted, CutByTurns, CutByLines, Stopped, Unread}
 use Rattle.s3_day_log.specs.declared.endings.Verdict.{Verdict}
 use Rattle.s3_day_log.specs.declared.endings.Verdict.TheVariants.{Clean, Passed, Unfinished}
+use Rattle.s3_day_log.specs.declared.standing.Standing.{Standing}
+use Rattle.s3_day_log.specs.declared.standing.Standing.TheVariants.{First, Saved, Other}
 use Rattle.s3_day_log.specs.declared.ledger.BegunJob.{BegunJob}
 use Rattle.s3_operator.specs.Inner.Starts.{is_at_start}
 use Rattle.s3_operator.specs.declared.halt_code.HaltCode.{HaltCode}
@@ -40,3 +42,7 @@ is_done Unread = false
 -- what became of a day, by how both levels ended and by the jobs that they began
 abbrev pub verdict_of : (one two : LevelEnd) → (jobs1 jobs2 : List BegunJob) → Verdict
 verdict_of one two jobs1 jobs2 = if is_done one && is_done two then (if has_passed jobs1 || has_passed jobs2 then Passed else Clean) else Unfinished
+
+-- which pack of a logged day a pack is: the one that it was begun with, also if it has saved the same one; else the one that it saved
+abbrev pub standing_of : (is_first is_saved : Bool) → Standing
+standing_of is_first is_saved = if is_first then First else if is_saved then Saved else Other
