@@ -21,7 +21,7 @@ use s3_host_files::{
 use s3_paper_commands::status::{DONE, REFUSED, WRONG_WORDS};
 use s3_paper_commands::words::value_of;
 use s3_paper_commands::{compile_files, punch_files};
-use std::io::Write;
+use std::io::{IsTerminal, Write};
 use std::{env, fs, io};
 
 /// Does what the words of the command line ask, and gives the exit status: 0 where it is done; 4 or 5 where it is done but for what a
@@ -136,6 +136,7 @@ fn perform_plain(rt: &HostRuntime, name: &str, matches: &ArgMatches<'_>) -> u8
 /// `bureau run`.
 fn run(rt: &HostRuntime, matches: &ArgMatches<'_>) -> Result<(), CliFault> {
     let (pack, locked) = pack_to_run(rt, matches)?;
+    tell_typed(rt);
     let saved = session_on(
         rt.alloc(),
         pack,
@@ -146,6 +147,16 @@ fn run(rt: &HostRuntime, matches: &ArgMatches<'_>) -> Result<(), CliFault> {
     match matches.get_str("save") {
         Some(path) => save_to(rt, path, locked, &saved),
         None => Ok(()),
+    }
+}
+
+/// Says what a run waits for, if that is typed.
+fn tell_typed(rt: &HostRuntime) {
+    if rt.stdin().is_terminal() {
+        let _ = writeln!(
+            rt.stderr(),
+            "run reads this terminal: :deck1 and cards, :deck2 and cards, :script and its lines; control-D ends them"
+        );
     }
 }
 

@@ -11,6 +11,7 @@ mod order;
 mod outputs;
 mod paper;
 mod saving;
+mod streams;
 mod taking_up;
 mod watch;
 

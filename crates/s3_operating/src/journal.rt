@@ -3,13 +3,14 @@
 use crate::clock::Clock;
 use s3_day_log::{Event, line_of, utc_text};
 use std::alloc::{AllocError, Global};
+use std::io;
 use std::io::Write;
 
 /// Where the log of a day is written.
 #[derive(Drop)]
 pub struct Journal<F: Write + Drop> {
     file: Option<F>,
-    has_failed: bool,
+    failure: Option<io::Error>,
 }
 
 impl<F: Write + Drop> Journal<F> {
@@ -17,7 +18,7 @@ impl<F: Write + Drop> Journal<F> {
     pub fn new(file: Option<F>) -> Journal<F> {
         Journal {
             file,
-            has_failed: false,
+            failure: None,
         }
     }
 
@@ -26,25 +27,47 @@ impl<F: Write + Drop> Journal<F> {
         self.file.is_some()
     }
 
-    /// Writes an event, at the time that it is now.
+    /// Writes an event, at the time that it is now. After a failure nothing more is written.
     pub fn note<C: Clock>(
         &mut self,
         alloc: Global,
         clock: &mut C,
         event: Event,
     ) -> Result<(), AllocError> {
-        let Some(file) = &mut self.file else {
+        if self.file.is_none() || self.failure.is_some() {
             return Ok(());
-        };
+        }
         let at = utc_text(alloc, clock.seconds())?;
         let line = line_of(alloc, at, event)?;
-        let is_written = file.write_all(line.as_bytes()).is_ok() && file.flush().is_ok();
-        self.has_failed = self.has_failed || !is_written;
+        self.write(line.as_bytes());
         Ok(())
+    }
+
+    fn write(&mut self, line: &[u8]) {
+        if let Some(file) = &mut self.file {
+            self.failure = write_out(file, line).err();
+        }
+    }
+
+    /// Why something couldn't be written.
+    pub(crate) fn failure(&self) -> Option<&io::Error> {
+        self.failure.as_ref()
     }
 
     /// Whether something couldn't be written.
     pub fn has_failed(&self) -> bool {
-        self.has_failed
+        self.failure.is_some()
     }
+
+    /// From now on no log is written.
+    pub(crate) fn give_up(&mut self) {
+        self.file = None;
+        self.failure = None;
+    }
+}
+
+/// Writes bytes, and has them leave the program.
+pub(crate) fn write_out<F: Write>(file: &mut F, bytes: &[u8]) -> io::Result<()> {
+    file.write_all(bytes)?;
+    file.flush()
 }

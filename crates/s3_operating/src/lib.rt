@@ -1,5 +1,6 @@
 //! The operator of `bureau operate`, over any bureau, readers, writers and clock: replies by rules, by a log, by lines and by a
-//! person at a terminal; what is told meanwhile; the script and the log as they are written; and what is told at a day's end.
+//! person at a terminal; what is told meanwhile; the reports, the script and the log as they are written; and what is told at a
+//! day's end.
 //! docs/OPERATING.md has all of it.
 //!
 //! What is proved: each call is safe and returns. No contract says what is told or written: that is tested. What a day gives is
@@ -9,16 +10,20 @@
 
 mod answers;
 mod asking;
+mod changes;
 mod clock;
 mod closing;
-mod counts;
 mod day_deck;
 mod desk;
 mod events;
+mod given;
 mod journal;
+mod levels;
+mod message;
 mod printed;
 mod progress;
 mod reading;
+mod reports;
 mod seat;
 mod tally;
 mod tape;
@@ -30,6 +35,7 @@ pub use day_deck::{DayDeck, JoinedFiles};
 pub use desk::{Desk, Questioned, Settings};
 pub use journal::Journal;
 pub use printed::PrintedJob;
+pub use reports::Reports;
 pub use s3_day_log::Verdict;
 pub use seat::Seat;
 pub use tape::Tape;

@@ -1,10 +1,15 @@
 //! A level as the desk sees it.
 
 use crate::day_deck::DayDeck;
+use crate::events::{beginning, ending, halt_of};
+use crate::given::Given;
+use crate::message::Message;
+use s3_bureau::Halt;
 use s3_cards::{CardFault, Deck, DeckFault, LevelId};
-use s3_day_log::Ledger;
+use s3_day_log::{Event, Ledger};
 use s3_decks::DeckText;
-use s3_operator::HaltCode;
+use s3_level::Level;
+use s3_operator::{HaltCode, is_at_start};
 use std::alloc::{AllocError, Global};
 
 /// A level as the desk sees it: its deck, its jobs, and the halt that waits there.
@@ -21,6 +26,10 @@ pub struct Seat<'a> {
     pub(crate) halts: u64,
     /// What the level halts for, if it does.
     pub(crate) waits: Option<HaltCode>,
+    /// The number of the card that this halt is about, from 1, if there is one.
+    pub(crate) card: Option<usize>,
+    /// The last reply that a rule or a log gave, if it was reported.
+    pub(crate) given: Option<Given>,
     /// What was told of that halt, if anything was.
     pub(crate) shown: Option<String>,
     /// How many replies were given.
@@ -28,11 +37,13 @@ pub struct Seat<'a> {
     /// Whether nothing was left to do when the level was seen last, but to print queued lines, which it may.
     pub(crate) is_idle: bool,
     /// A halt that isn't in the log yet, and the card that it is logged with.
-    pub(crate) unlogged: Option<(HaltCode, Option<u16>)>,
+    unlogged: Option<(HaltCode, Option<u16>)>,
     /// How many jobs are in the log as begun.
-    pub(crate) begun: usize,
+    begun: usize,
     /// How many jobs are in the log as over.
-    pub(crate) over: usize,
+    over: usize,
+    /// The places, from 0, of the jobs that a reply ended after they had changed files.
+    spoilt: Vec<usize>,
 }
 
 impl<'a> Seat<'a> {
@@ -46,12 +57,15 @@ impl<'a> Seat<'a> {
             ledger: Ledger::new(alloc),
             halts: 0,
             waits: None,
+            card: None,
+            given: None,
             shown: None,
             replies: 0,
             is_idle: false,
             unlogged: None,
             begun: 0,
             over: 0,
+            spoilt: Vec::new(alloc),
         }
     }
 
@@ -84,10 +98,110 @@ impl<'a> Seat<'a> {
         self.places.as_ref()
     }
 
+    /// Takes note of jobs that have begun or ended, given how many lines the level has printed or queued, and whether it may print
+    /// all of them.
+    pub(crate) fn follow(
+        &mut self,
+        held: &Level,
+        lines: usize,
+        may_print_all: bool,
+    ) -> Result<(), AllocError> {
+        self.is_idle = may_print_all && is_idle(held);
+        self.ledger.follow(held, lines)
+    }
+
+    /// Takes note of a halt that waits for a reply.
+    pub(crate) fn take_halt(&mut self, held: &Level, halt: &Halt) {
+        let card = match halt.details.first() {
+            Some((card, _number)) => Some(*card),
+            None => self.ledger.last_card(held),
+        };
+        self.unlogged = Some((halt.code, card));
+        self.card = match card {
+            Some(card) => Some(usize::from(card)),
+            None => self.first_card_of(halt.code),
+        };
+        self.halts = self.halts.saturating_add(1);
+        self.waits = Some(halt.code);
+        self.shown = None;
+    }
+
+    /// The first card of the last job that was begun, for a halt of a job that can't be started.
+    fn first_card_of(&self, code: HaltCode) -> Option<usize> {
+        match self.ledger.begun().last() {
+            Some(job) if is_at_start(code) => Some(job.card),
+            _ => None,
+        }
+    }
+
+    /// Takes note of the reply to the halt that waits.
+    pub(crate) fn take_reply(&mut self, code: HaltCode, digit: u8) {
+        self.replies = self.replies.saturating_add(1);
+        self.waits = None;
+        self.shown = None;
+        self.ledger.reply(code, digit);
+    }
+
+    /// Takes note that a reply ends the last job that was begun, which has changed files.
+    pub(crate) fn mark_spoilt(&mut self) -> Result<(), AllocError> {
+        let place = self.ledger.begun().len().saturating_sub(1);
+        if !self.is_spoilt(place) {
+            self.spoilt.push(place)?;
+        }
+        Ok(())
+    }
+
+    /// Whether a reply ended the job at a place, from 0, after it had changed files.
+    pub(crate) fn is_spoilt(&self, place: usize) -> bool {
+        self.spoilt.iter().any(|other| *other == place)
+    }
+
+    /// Whether a reply ended any job after it had changed files.
+    pub(crate) fn has_spoilt(&self) -> bool {
+        !self.spoilt.is_empty()
+    }
+
+    /// Appends the text of the halt that waits, if it was shown.
+    pub(crate) fn push_shown(&self, message: &mut Message) {
+        if let Some(shown) = &self.shown {
+            message.push("\n");
+            message.push(shown.as_str());
+        }
+    }
+
+    /// Takes the next event of the level that isn't in the log yet: a job's end before the next job's beginning, and a halt after the
+    /// beginning of its job.
+    pub(crate) fn next_event(&mut self, alloc: Global) -> Result<Option<Event>, AllocError> {
+        let place = self.over;
+        if place < self.begun.min(self.ledger.jobs_over()) {
+            self.over = place.saturating_add(1);
+            return Ok(ending(self.level, &self.ledger, place));
+        }
+        let place = self.begun;
+        if place < self.ledger.begun().len() {
+            self.begun = place.saturating_add(1);
+            return beginning(alloc, self.level, &self.ledger, place);
+        }
+        Ok(self.next_halt())
+    }
+
+    /// Takes the halt that isn't in the log yet.
+    fn next_halt(&mut self) -> Option<Event> {
+        match self.unlogged.take() {
+            Some((code, card)) => Some(halt_of(self.level, &self.ledger, code, card)),
+            None => None,
+        }
+    }
+
     /// The text of its deck.
     pub fn text(&self) -> &'a [u8] {
         self.deck.text()
     }
+}
+
+/// Whether a level has nothing to do: no job is at work and none is left, and no halt waits.
+fn is_idle(level: &Level) -> bool {
+    !level.has_work() && level.waits().is_none()
 }
 
 /// The number of the card at fault of a deck, from 1, and its fault, if it has one.

@@ -2,7 +2,8 @@
 //! an operator types. docs/OPERATING.md has both.
 //!
 //! What is proved: `reply_for` gives the first rule that fits, and whatever the rules are, the halt allows the digit of one that
-//! answers it (`answers_are_allowed`). No contract says which lines are rules, nor what a typed line means; that is tested.
+//! answers it (`answers_are_allowed`). Which typed lines are a given reply is proved too (`is_reply`). Which lines are rules, and what a
+//! typed line means, is tested.
 
 #![tactic(auto)]
 

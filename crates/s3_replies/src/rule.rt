@@ -45,7 +45,7 @@ impl Rule {
 }
 
 /// Whether a rule's level is this one.
-fn names_level(own: Option<LevelId>, level: LevelId) -> bool
+pub(crate) fn names_level(own: Option<LevelId>, level: LevelId) -> bool
     ensures { result ≡ names_level_spec own level }
 {
     match (own, level) {

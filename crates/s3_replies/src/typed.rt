@@ -1,6 +1,7 @@
 //! What an operator types.
 
 use crate::line_words::first_word;
+use crate::rule::names_level;
 use s3_cards::{LevelId, number_spelled};
 
 /// How many lines are shown where no number is typed.
@@ -24,8 +25,34 @@ pub enum Typed {
     Lines(Option<LevelId>, usize),
     /// `stop`: the end of the day.
     Stop,
+    /// `yes`, to a question that isn't about a halt.
+    Yes,
+    /// `no`, to such a question.
+    No,
     /// Anything else.
     Unknown,
+}
+
+impl Typed {
+    ghost use Rattle.std.specs.Prelude.{◌≡◌};
+    ghost use Rattle.s3_replies.specs.Inner.Rules.{is_reply as is_reply_spec};
+
+    /// Whether it is this reply to the halt of this level. A digit alone is for the level that is asked.
+    pub fn is_reply(self, level: LevelId, digit: u8) -> bool
+        ensures { result ≡ is_reply_spec level digit self }
+    {
+        match self {
+            Typed::Reply(own, again) => names_level(own, level) && again == digit,
+            Typed::Nothing
+            | Typed::Help
+            | Typed::Show
+            | Typed::Lines(_, _)
+            | Typed::Stop
+            | Typed::Yes
+            | Typed::No
+            | Typed::Unknown => false,
+        }
+    }
 }
 
 /// What a line says; words may be in capitals or small letters, with blanks around them.
@@ -51,6 +78,10 @@ fn read_word(word: &[u8]) -> Typed {
         Typed::Show
     } else if word.eq_ignore_ascii_case(b"stop") {
         Typed::Stop
+    } else if word.eq_ignore_ascii_case(b"yes") {
+        Typed::Yes
+    } else if word.eq_ignore_ascii_case(b"no") {
+        Typed::No
     } else {
         Typed::Unknown
     }

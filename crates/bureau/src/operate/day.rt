@@ -5,17 +5,18 @@ use super::order::Order;
 use super::outputs::{KeptOutputs, Output, Outputs, remove_made, write_deck};
 use super::paper::{Making, write_paper};
 use super::saving::end_day;
+use super::streams::Stream;
 use super::watch::Watch;
 use crate::refusal::{FILE, OUT_OF_MEMORY};
-use s3_cli::{CliFault, SessionFault, Watched, write_output};
+use s3_cli::{CliFault, SessionFault};
 use s3_day_log::{Begun, DayLog};
-use s3_desk::{Bounds, Day, operate_day};
-use s3_host_files::{LockedPack, StandardOutput};
-use s3_operating::{Closing, Desk, Journal, Seat, Settings, Tape, Verdict};
+use s3_desk::{Day, operate_day};
+use s3_host_files::StandardOutput;
+use s3_operating::{Closing, Desk, Journal, Questioned, Reports, Seat, Settings, Tape, Verdict};
 use s3_replay::Performed;
 use s3_replies::Rules;
-use std::alloc::Global;
-use std::io::{Stderr, Stdin, Write};
+use std::alloc::{AllocError, Global};
+use std::io::{IsTerminal, Stdin, Write};
 
 /// The most bytes that `run` reads.
 const RUN_LIMIT: u64 = 4_194_304;
@@ -38,8 +39,12 @@ pub struct Prepared<'a> {
     pub logged: Option<&'a DayLog>,
 }
 
+/// Printed before a list of replies is typed.
+const REPLIES_TYPED: &'static str =
+    "replies are read from this terminal, one a line, as halts are asked; control-D ends them\n";
+
 /// The desk of the command.
-pub type OwnDesk<'a> = Desk<'a, Stdin, Stderr, Output, Watch<'a>>;
+pub type OwnDesk<'a> = Desk<'a, Stdin, Stream<'a>, Output, Watch<'a>>;
 
 /// The texts of both decks.
 #[derive(Clone, Copy)]
@@ -61,6 +66,11 @@ impl Over {
     /// Whether a level isn't done.
     pub fn is_unfinished(&self) -> bool {
         self.closing.verdict == Verdict::Unfinished
+    }
+
+    /// Whether the end of the day is reported: not if the day is to be quiet, and each job came to its end.
+    pub fn is_told(&self, order: &Order<'_>) -> bool {
+        !order.is_quiet || self.closing.verdict != Verdict::Clean
     }
 }
 
@@ -85,8 +95,11 @@ pub fn operate_prepared<'n, 'a>(
         one: day.one.text(),
         two: day.two.text(),
     };
-    let mut desk = desk_of(rt, order, day, script, log);
-    match operated(rt.alloc(), pack, texts, &mut desk, order.bounds) {
+    let mut desk = desk_of(rt, order, day, script, log)?;
+    if matches!(order.questioned, Questioned::Lines) && rt.stdin().is_terminal() {
+        desk.tell(REPLIES_TYPED);
+    }
+    match operated(rt.alloc(), order, pack, texts, &mut desk) {
         Ok(over) => {
             write_decks(order, texts, deck1, deck2)?;
             write_reports(rt, order, &mut desk, texts, &over, &kept)?;
@@ -120,7 +133,7 @@ fn desk_of<'a>(
     day: Prepared<'a>,
     script: Option<Output>,
     log: Option<Output>,
-) -> OwnDesk<'a> {
+) -> Result<OwnDesk<'a>, AllocError> {
     let Prepared {
         begun,
         one,
@@ -136,27 +149,29 @@ fn desk_of<'a>(
         questioned: order.questioned,
         wants_decks: order.save.is_some(),
     };
-    Desk::new(
+    let reports = Reports::new(rt.alloc(), Stream::Reports(StandardOutput::new(rt)))?;
+    Ok(Desk::new(
         rt.alloc(),
         settings,
         one,
         two,
         rt.stdin(),
-        rt.stderr(),
+        Stream::Messages(rt.stderr()),
+        reports,
         Tape::new(script),
         Journal::new(log),
         begun,
         Watch::new(rt),
-    )
+    ))
 }
 
 /// Operates a day to its end, and closes the desk.
 fn operated<'n>(
     alloc: Global,
+    order: &Order<'n>,
     pack: Vec<u8>,
     texts: Texts<'_>,
     desk: &mut OwnDesk<'_>,
-    bounds: Bounds,
 ) -> Result<Over, DayFault<'n>> {
     let mut performed = Performed::new(alloc);
     let done = operate_day(
@@ -165,27 +180,29 @@ fn operated<'n>(
         texts.one,
         texts.two,
         desk,
-        bounds,
+        order.bounds,
         &mut performed,
     );
-    if let Some(level) = desk.refused() {
-        return Err(DayFault::Deck(level));
+    if desk.refused().is_some() {
+        return Err(refusal_of(order, desk));
     }
     match done {
-        Ok(day) => closed(desk, day, &performed),
+        Ok(day) => closed(order, desk, day, &performed),
+        Err(_) if desk.has_given_up() => Err(refusal_of(order, desk)),
         Err(fault) => Err(DayFault::Cli(CliFault::Session(SessionFault::Run(fault)))),
     }
 }
 
-/// Closes the desk behind its day.
+/// Closes the desk after its day.
 fn closed<'n>(
+    order: &Order<'n>,
     desk: &mut OwnDesk<'_>,
     day: Day,
     performed: &Performed,
 ) -> Result<Over, DayFault<'n>> {
     match desk.close(&day, performed) {
         Ok(closing) => Ok(Over { day, closing }),
-        Err(_) => Err(refusal_of(desk)),
+        Err(_) => Err(refusal_of(order, desk)),
     }
 }
 
@@ -198,15 +215,16 @@ fn write_reports<'n>(
     over: &Over,
     kept: &KeptOutputs,
 ) -> Result<(), DayFault<'n>> {
-    let mut reports = StandardOutput::new(rt);
-    let is_written = write_output(&mut Watched::new(&mut reports), &over.day.outcome).is_ok();
-    desk.tell("\n");
-    desk.tell(over.closing.summary.as_str());
+    let is_written = desk.finish_reports(&over.day.outcome);
+    if over.is_told(order) {
+        desk.tell("\n");
+        desk.tell(over.closing.summary.as_str());
+    }
     if order.script.is_some() {
         tell_size(rt, texts, desk.script_len());
     }
-    test_written(order, desk)?;
-    if reports.has_lost_reader() {
+    test_outputs(order, desk)?;
+    if desk.reports_to().has_lost_reader() {
         desk.tell(
             "what reads standard output has ended before the reports did; all else is done as asked\n",
         );
@@ -219,6 +237,7 @@ fn write_reports<'n>(
             let making = Making {
                 overwrites: order.overwrites,
                 limit: kept.limit,
+                is_told: over.is_told(order),
             };
             write_paper(rt, paper, making, desk, &over.day.outcome)
         }
@@ -226,11 +245,12 @@ fn write_reports<'n>(
     }
 }
 
-/// Why a day wasn't closed: its deck can't be read, or memory ran out.
-fn refusal_of<'n>(desk: &OwnDesk<'_>) -> DayFault<'n> {
-    match desk.refused() {
-        Some(level) => DayFault::Deck(level),
-        None => DayFault::Cli(OUT_OF_MEMORY),
+/// Why a day was ended before its time: its deck can't be read, its script or its log can't be written, or memory ran out.
+fn refusal_of<'n>(order: &Order<'n>, desk: &OwnDesk<'_>) -> DayFault<'n> {
+    match (desk.refused(), test_written(order, desk)) {
+        (Some(level), _) => DayFault::Deck(level),
+        (None, Err(fault)) => fault,
+        (None, Ok(())) => DayFault::Cli(OUT_OF_MEMORY),
     }
 }
 
@@ -245,6 +265,17 @@ fn tell_size(rt: &HostRuntime, texts: Texts<'_>, script: u64) {
             rt.stderr(),
             "the decks and the script have {all} bytes, and `run` reads {RUN_LIMIT}: this day can't be replayed so"
         );
+    }
+}
+
+/// Refuses a day that memory ran out for, or whose script or log can't be written, unless a person goes on without it.
+pub fn test_outputs<'n>(order: &Order<'n>, desk: &mut OwnDesk<'_>) -> Result<(), DayFault<'n>> {
+    if desk.is_out_of_memory() {
+        return Err(DayFault::Cli(OUT_OF_MEMORY));
+    }
+    match desk.test_outputs() {
+        Ok(()) => Ok(()),
+        Err(_) => Err(refusal_of(order, desk)),
     }
 }
 

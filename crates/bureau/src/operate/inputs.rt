@@ -20,6 +20,10 @@ const RULES_LIMIT: usize = 4_194_304;
 /// The most bytes of a log that is read.
 const LOG_LIMIT: usize = 268_435_456;
 
+/// Why a day without a card isn't begun.
+const NO_CARDS: &'static str =
+    "the decks have no card; give --deck1 FILE, --deck2 FILE or both (`bureau operate --help` has all options)";
+
 /// The pack that a day is given, or a new one.
 #[derive(Drop)]
 pub struct DayPack {
@@ -132,8 +136,12 @@ impl<'a> Decks<'a> {
         }
     }
 
-    /// Takes each level up at the line that the options name for it, if they name one.
+    /// Takes each level up at the line that the options name for it, if they name one. A day without a card is refused, unless a log
+    /// has such a day.
     pub fn take_up(&mut self, rt: &HostRuntime, order: &Order<'a>) -> Result<(), DayFault<'a>> {
+        if order.redo.is_none() && self.one.text().is_empty() && self.two.text().is_empty() {
+            return Err(DayFault::Usage(NO_CARDS));
+        }
         take_up(rt, LevelId::One, &mut self.one, order.from1)?;
         take_up(rt, LevelId::Two, &mut self.two, order.from2)
     }

@@ -110,6 +110,8 @@ pub struct Making {
     pub overwrites: bool,
     /// What the files let anyone do at most.
     pub limit: Option<Limit>,
+    /// It is reported where they are.
+    pub is_told: bool,
 }
 
 /// How pages are written, given the form that is named, and whether the bars are left out.
@@ -134,7 +136,9 @@ pub fn write_paper<'n>(
 ) -> Result<(), DayFault<'n>> {
     let one = write_level(rt, paper, making, desk, LevelId::One, &outcome.one.report)?;
     let two = write_level(rt, paper, making, desk, LevelId::Two, &outcome.two.report)?;
-    tell_paper(rt, paper.folder, one.saturating_add(two));
+    if making.is_told {
+        tell_paper(rt, paper.folder, one.saturating_add(two));
+    }
     Ok(())
 }
 

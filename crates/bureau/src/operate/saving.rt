@@ -1,6 +1,6 @@
 //! The end of a day: its pack is saved, if that is asked for, and its log gets its last lines.
 
-use super::day::{Over, OwnDesk, test_written};
+use super::day::{Over, OwnDesk, test_outputs, test_written};
 use super::fault::DayFault;
 use super::order::Order;
 use super::outputs::KeptOutputs;
@@ -31,9 +31,13 @@ pub fn end_day<'n>(
     over: &Over,
     locked: Option<LockedPack>,
 ) -> Result<u8, DayFault<'n>> {
-    sync(rt, &kept.script, order.script)?;
+    if desk.has_script() {
+        sync(rt, &kept.script, order.script)?;
+    }
     let Some(path) = order.save else {
-        desk.tell("nothing is saved: there is no --save\n");
+        if over.is_told(order) {
+            desk.tell("nothing is saved: there is no --save\n");
+        }
         return end_unsaved(rt, order, desk, kept, over);
     };
     if over.is_unfinished() && !order.saves_unfinished {
@@ -41,6 +45,9 @@ pub fn end_day<'n>(
         desk.tell(path);
         desk.tell(" is left alone: a level isn't done (--save-unfinished saves it so)\n");
         return end_unsaved(rt, order, desk, kept, over);
+    }
+    if !desk.wants_saved()? {
+        return end_declined(rt, order, desk, kept, path);
     }
     let sum = checksum(rt.alloc(), &over.day.outcome.pack)?;
     let saving = Saving {
@@ -68,8 +75,22 @@ fn note_saving<'n>(
         let pack = saved_file(rt.alloc(), saving)?;
         desk.note(Event::Saving { pack })?;
     }
-    test_written(order, desk)?;
-    sync(rt, &kept.log, order.log)
+    test_outputs(order, desk)?;
+    sync_log(rt, order, desk, kept)
+}
+
+/// Brings the log to the disk, unless the operator continued without it.
+fn sync_log<'n>(
+    rt: &HostRuntime,
+    order: &Order<'n>,
+    desk: &OwnDesk<'_>,
+    kept: &KeptOutputs,
+) -> Result<(), DayFault<'n>> {
+    if desk.has_log() {
+        sync(rt, &kept.log, order.log)
+    } else {
+        Ok(())
+    }
 }
 
 /// Brings an output to the disk.
@@ -114,13 +135,15 @@ fn end_saved<'n>(
     over: &Over,
     saving: Saving<'n, '_>,
 ) -> Result<u8, DayFault<'n>> {
-    desk.tell("the pack is saved in ");
-    desk.tell(saving.path);
-    desk.tell(if over.is_unfinished() {
-        ", though a level isn't done: a job that is taken up begins anew, over the records that it has put\n"
-    } else {
-        "\n"
-    });
+    if over.is_told(order) {
+        desk.tell("the pack is saved in ");
+        desk.tell(saving.path);
+        desk.tell(if over.is_unfinished() {
+            ", though a level isn't done: a job that is taken up begins anew, over the records that it has put\n"
+        } else {
+            "\n"
+        });
+    }
     let status = status_of(over.closing.verdict);
     end_over_saved(rt, order, desk, kept, status, saving)?;
     Ok(status)
@@ -215,6 +238,21 @@ fn end_unsaved<'n>(
     Ok(status)
 }
 
+/// Ends a day whose pack the operator doesn't want saved.
+fn end_declined<'n>(
+    rt: &HostRuntime,
+    order: &Order<'n>,
+    desk: &mut OwnDesk<'_>,
+    kept: &KeptOutputs,
+    path: &str,
+) -> Result<u8, DayFault<'n>> {
+    desk.tell("the pack is not saved, and ");
+    desk.tell(path);
+    desk.tell(" is left alone: the answer was no\n");
+    log_end(rt, order, desk, kept, PERSON_NEEDED, None)?;
+    Ok(PERSON_NEEDED)
+}
+
 /// Logs the end of the day, and brings the log to the disk.
 fn log_end<'n>(
     rt: &HostRuntime,
@@ -227,8 +265,9 @@ fn log_end<'n>(
     if desk.has_log() {
         desk.note(Event::End(DayOver { status, saved }))?;
     }
+    desk.tell_log_failure()?;
     test_written(order, desk)?;
-    sync(rt, &kept.log, order.log)
+    sync_log(rt, order, desk, kept)
 }
 
 /// The pack as the log has it.

@@ -1,5 +1,5 @@
 -- Which rule answers a halt.
-use Rattle.std.specs.Prelude.{List, Bool, true, false, ◌&&◌, ◌≡◌, Option, None, Some, IfSome, find, nat_eq}
+use Rattle.std.specs.Prelude.{ℕ, List, Bool, true, false, ◌&&◌, ◌≡◌, Option, None, Some, IfSome, find, nat_eq}
 use Rattle.std.specs.Cmp.Lexicographic.{pointwise}
 use Rattle.s3_cards.specs.Names.{same_name}
 use Rattle.s3_cards.specs.declared.levels.LevelId.{LevelId}
@@ -9,6 +9,8 @@ use Rattle.s3_operator.specs.declared.halt_code.HaltCode.{HaltCode}
 use Rattle.s3_operator.specs.Table.{letters_of}
 use Rattle.s3_operator.specs.Replies.{is_allowed}
 use Rattle.s3_replies.specs.declared.rule.Rule.{Rule}
+use Rattle.s3_replies.specs.declared.typed.Typed.{Typed}
+use Rattle.s3_replies.specs.declared.typed.Typed.TheVariants.{Nothing, Reply, Help, Show, Lines, Stop, Yes, No, Unknown}
 
 -- whether two levels are one
 abbrev pub same_level : LevelId → LevelId → Bool
@@ -40,6 +42,18 @@ fits level code program rule = names_level rule.level level && names_halt rule.c
 -- the first rule that answers it
 abbrev pub reply_for : LevelId → HaltCode → (program : Option Name) → List Rule → Option Rule
 reply_for level code program rules = find (fits level code program) rules
+
+-- whether what is typed is this reply to the halt of this level; a digit alone is for the level that is asked
+abbrev pub is_reply : LevelId → (digit : ℕ) → Typed → Bool
+is_reply level digit Nothing = false
+is_reply level digit (Reply own again) = names_level own level && nat_eq again digit
+is_reply level digit Help = false
+is_reply level digit Show = false
+is_reply level digit (Lines own count) = false
+is_reply level digit Stop = false
+is_reply level digit Yes = false
+is_reply level digit No = false
+is_reply level digit Unknown = false
 
 -- whatever the rules are, the digit of one that answers is one that the halt allows
 abbrev pub AnswersAreAllowed : Type 0

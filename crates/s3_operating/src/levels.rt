@@ -1,0 +1,591 @@
+//! Both levels as the desk sees them, and what answers their halts.
+
+use crate::answers::{Answer, Giver, logged, ruled};
+use crate::asking::{is_allowed, push_help, push_last_lines, push_words};
+use crate::changes::{has_changed, push_changes};
+use crate::desk::{Questioned, Settings};
+use crate::given::Given;
+use crate::message::Message;
+use crate::progress::{push_job_at, push_last_job, push_progress};
+use crate::seat::Seat;
+use crate::tally::Tally;
+use crate::unread::push_unread;
+use s3_bureau::{Bureau, Halt};
+use s3_cards::{CardFault, LevelId};
+use s3_decks::DeckText;
+use s3_desk::Evidence;
+use s3_halt_block::push_halt;
+use s3_operator::HaltCode;
+use s3_replies::Typed;
+use s3_store::PackStore;
+use std::alloc::{AllocError, Global};
+use std::io;
+
+/// What came of a line that was typed.
+#[derive(Clone, Copy)]
+pub(crate) enum Said {
+    /// A reply to the halt of this level.
+    Reply(LevelId, u8),
+    /// The end of the day, or of all replies.
+    Over,
+    /// Nothing that answers: once more.
+    Nothing,
+}
+
+/// Both levels as the desk sees them, and what answers their halts.
+#[derive(Drop)]
+pub(crate) struct Levels<'a> {
+    pub(crate) alloc: Global,
+    pub(crate) settings: Settings<'a>,
+    pub(crate) one: Seat<'a>,
+    pub(crate) two: Seat<'a>,
+    pub(crate) tally: Tally,
+    /// A reply that was given for a level while the other one was asked.
+    kept: Option<(LevelId, u8)>,
+}
+
+impl<'a> Levels<'a> {
+    /// The levels before the day.
+    pub(crate) fn new(
+        alloc: Global,
+        settings: Settings<'a>,
+        one: Seat<'a>,
+        two: Seat<'a>,
+    ) -> Levels<'a> {
+        Levels {
+            alloc,
+            settings,
+            one,
+            two,
+            tally: Tally::new(),
+            kept: None,
+        }
+    }
+
+    /// A level as the desk sees it.
+    pub(crate) fn seat(&self, level: LevelId) -> &Seat<'a> {
+        match level {
+            LevelId::One => &self.one,
+            LevelId::Two => &self.two,
+        }
+    }
+
+    /// A level as the desk sees it, to be changed.
+    pub(crate) fn seat_mut(&mut self, level: LevelId) -> &mut Seat<'a> {
+        match level {
+            LevelId::One => &mut self.one,
+            LevelId::Two => &mut self.two,
+        }
+    }
+
+    /// Takes the decks as they were read.
+    pub(crate) fn read<S: PackStore>(&mut self, machine: &Bureau<S>) -> Result<(), AllocError> {
+        self.one
+            .read(self.alloc, machine.level(LevelId::One).deck())?;
+        self.two
+            .read(self.alloc, machine.level(LevelId::Two).deck())
+    }
+
+    /// Reads the decks from their texts.
+    pub(crate) fn read_texts(&mut self) -> Result<(), AllocError> {
+        self.one.read_text(self.alloc)?;
+        self.two.read_text(self.alloc)
+    }
+
+    /// Takes note of jobs of a level that have begun or ended.
+    pub(crate) fn note_jobs<S: PackStore>(
+        &mut self,
+        machine: &Bureau<S>,
+        level: LevelId,
+    ) -> Result<(), AllocError> {
+        let queued = machine.queued(level);
+        let lines = machine.lines(level).len().saturating_add(queued);
+        let may_print_all = lines as u64 <= u64::from(self.settings.bounds.lines);
+        self.seat_mut(level)
+            .follow(machine.level(level), lines, may_print_all)
+    }
+
+    /// Whether a level has taken as many turns as it may.
+    pub(crate) fn has_all_turns(&self, level: LevelId) -> bool {
+        self.tally.of(level).turns >= u64::from(self.settings.bounds.turns)
+    }
+
+    /// Whether a level has taken as many turns, or printed as many lines, as it may.
+    fn is_cut(&self, level: LevelId) -> bool {
+        self.has_all_turns(level)
+            || self.tally.of(level).lines >= u64::from(self.settings.bounds.lines)
+    }
+
+    /// Whether a person is asked.
+    pub(crate) fn is_person_asked(&self) -> bool {
+        matches!(self.settings.questioned, Questioned::Person)
+    }
+
+    // ---- replies
+
+    /// The reply to a level's halt that needs no question, if there is one.
+    pub(crate) fn given(&self, level: LevelId, code: HaltCode) -> Option<Answer> {
+        let seat = self.seat(level);
+        match logged(self.settings.logged, level, seat.replies, code) {
+            Some(answer) => Some(answer),
+            None => ruled(self.settings.rules, level, code, seat.ledger.program()),
+        }
+    }
+
+    /// Whether the halt of a level, if one waits there, will be answered without a question.
+    fn is_given(&self, level: LevelId) -> bool {
+        match self.seat(level).waits {
+            Some(code) => !self.is_cut(level) && self.given(level, code).is_some(),
+            None => false,
+        }
+    }
+
+    /// Whether the halt of a level leads to a question.
+    pub(crate) fn is_asked(&self, level: LevelId) -> bool {
+        !matches!(self.settings.questioned, Questioned::Nobody) && !self.is_given(level.other())
+    }
+
+    /// Keeps a reply for when its level is asked.
+    pub(crate) fn keep(&mut self, to: LevelId, digit: u8) {
+        self.kept = Some((to, digit));
+    }
+
+    /// The reply that was given for a level while the other was asked, if there is one that its halt allows.
+    pub(crate) fn take_kept(&mut self, level: LevelId) -> Option<u8> {
+        let kept = self.kept;
+        match kept {
+            Some((to, digit)) if to == level => {
+                self.kept = None;
+                self.allowed_digit(level, digit)
+            }
+            _ => None,
+        }
+    }
+
+    /// A digit, if a level's halt allows it.
+    fn allowed_digit(&self, level: LevelId, digit: u8) -> Option<u8> {
+        if is_allowed(self.seat(level).waits, digit) {
+            Some(digit)
+        } else {
+            None
+        }
+    }
+
+    /// The answer of the operator who is asked.
+    pub(crate) fn answer_of(&self, digit: u8) -> Answer {
+        let giver = if self.is_person_asked() {
+            Giver::Person
+        } else {
+            Giver::Line
+        };
+        Answer { digit, giver }
+    }
+
+    /// For what a level halts, if that may be answered where this level is asked.
+    fn asked_in(&self, level: LevelId, asked: LevelId) -> Option<HaltCode> {
+        if self.may_answer(level, asked) {
+            self.seat(asked).waits
+        } else {
+            None
+        }
+    }
+
+    /// Whether the halt of `asked` may be answered when `level` is asked: level 2 is asked after level 1.
+    fn may_answer(&self, level: LevelId, asked: LevelId) -> bool {
+        asked == level || (level == LevelId::One && !self.is_cut(asked))
+    }
+
+    // ---- messages
+
+    /// Why a level's deck can't be read.
+    pub(crate) fn unread_text(
+        &mut self,
+        level: LevelId,
+        fault: (u16, CardFault),
+    ) -> Result<String, AllocError> {
+        let alloc = self.alloc;
+        self.seat_mut(level).find_places(alloc)?;
+        match self.seat(level).places() {
+            Some(deck) => unread_text(alloc, level, deck, fault),
+            None => Ok(String::new(alloc)),
+        }
+    }
+
+    /// The block of a level's halt.
+    pub(crate) fn halt_text<S: PackStore>(
+        &mut self,
+        machine: &Bureau<S>,
+        level: LevelId,
+        halt: &Halt,
+        evidence: &Evidence,
+    ) -> Result<String, AllocError> {
+        let alloc = self.alloc;
+        self.seat_mut(level).find_places(alloc)?;
+        match self.seat(level).places() {
+            Some(deck) => halt_text(alloc, machine, deck, level, halt, evidence),
+            None => Ok(String::new(alloc)),
+        }
+    }
+
+    /// Whether progress may be reported: not while a shown halt waits.
+    pub(crate) fn tells_progress(&self) -> bool {
+        !self.settings.is_quiet && self.one.shown.is_none() && self.two.shown.is_none()
+    }
+
+    /// The progress of both levels, as one line.
+    pub(crate) fn progress<S: PackStore>(&self, machine: &Bureau<S>) -> Message {
+        let mut message = Message::new(self.alloc);
+        self.push_level(&mut message, machine, LevelId::One);
+        message.push("; ");
+        self.push_level(&mut message, machine, LevelId::Two);
+        message.push("\n");
+        message
+    }
+
+    fn push_level<S: PackStore>(&self, message: &mut Message, machine: &Bureau<S>, level: LevelId) {
+        push_progress(
+            message,
+            self.seat(level),
+            machine.level(level),
+            machine.queued(level),
+            self.tally.of(level),
+        );
+    }
+
+    /// The message for a reply to a level's halt. If a rule or a log gives a job the same reply to the same halt once more, it is only
+    /// counted.
+    pub(crate) fn answered(
+        &mut self,
+        level: LevelId,
+        code: HaltCode,
+        answer: Answer,
+    ) -> Result<Message, AllocError> {
+        let mut message = Message::new(self.alloc);
+        match answer.giver {
+            Giver::Line | Giver::Person => message.push_reply(level, code, answer.digit),
+            Giver::Log | Giver::Rule(_) => {
+                if !self.settings.is_quiet {
+                    let given = self.given_to(level, code, answer);
+                    self.take_given(&mut message, level, given)?;
+                }
+            }
+        }
+        Ok(message)
+    }
+
+    /// A reply to the halt that waits in a level, which a rule or a log gives.
+    fn given_to(&self, level: LevelId, code: HaltCode, answer: Answer) -> Given {
+        let seat = self.seat(level);
+        Given {
+            code,
+            answer,
+            place: seat.ledger.begun().len().saturating_sub(1),
+            card: seat.card,
+            more: 0,
+        }
+    }
+
+    /// Appends a reply that a rule or a log gives, or counts it.
+    fn take_given(
+        &mut self,
+        message: &mut Message,
+        level: LevelId,
+        given: Given,
+    ) -> Result<(), AllocError> {
+        match self.seat(level).given {
+            Some(last) if last.is_repeated_by(&given) => {
+                self.seat_mut(level).given = Some(last.and(given));
+            }
+            _ => {
+                self.push_counted(message, level);
+                self.find_places(level)?;
+                self.push_given(message, level, given);
+                self.seat_mut(level).given = Some(given);
+            }
+        }
+        Ok(())
+    }
+
+    /// Finds the line of a file for each card of a level.
+    pub(crate) fn find_places(&mut self, level: LevelId) -> Result<(), AllocError> {
+        let alloc = self.alloc;
+        self.seat_mut(level).find_places(alloc)
+    }
+
+    /// Appends the first of some equal replies that a rule or a log gives.
+    fn push_given(&self, message: &mut Message, level: LevelId, given: Given) {
+        let seat = self.seat(level);
+        message.push_level(level);
+        message.push(": ");
+        message.push_letters(given.code);
+        message.push(" in ");
+        push_job_at(message, &seat.ledger, given.place);
+        if let Some(card) = given.card {
+            message.push(", at ");
+            push_card(message, seat, card);
+        }
+        message.push(", is answered ");
+        push_answer(message, given.answer);
+        message.push("\n");
+    }
+
+    /// Appends how many replies of a rule or a log were counted, if any, and forgets them.
+    pub(crate) fn push_counted(&mut self, message: &mut Message, level: LevelId) {
+        match self.seat(level).given {
+            Some(given) if given.more == 1 => self.push_given(message, level, given),
+            Some(given) if given.more > 1 => self.push_more(message, level, given),
+            _ => {}
+        }
+        self.seat_mut(level).given = None;
+    }
+
+    /// Appends that some more equal replies were given.
+    fn push_more(&self, message: &mut Message, level: LevelId, given: Given) {
+        let seat = self.seat(level);
+        message.push_level(level);
+        message.push(": ");
+        message.push_letters(given.code);
+        message.push(" in ");
+        push_job_at(message, &seat.ledger, given.place);
+        message.push(", is answered ");
+        push_answer(message, given.answer);
+        message.push(" for ");
+        message.push_number(given.more);
+        message.push(" more halts");
+        if let Some(card) = given.card {
+            message.push(", the last at ");
+            push_card(message, seat, card);
+        }
+        message.push("\n");
+    }
+
+    /// The counted replies of both levels, before something else is printed.
+    pub(crate) fn counted(&mut self) -> Message {
+        let mut message = Message::new(self.alloc);
+        self.push_counted(&mut message, LevelId::One);
+        self.push_counted(&mut message, LevelId::Two);
+        message
+    }
+
+    /// What a person is asked.
+    pub(crate) fn prompt(&self, level: LevelId) -> Message {
+        let mut message = Message::new(self.alloc);
+        message.push("\n");
+        self.push_choices(&mut message, level);
+        message.push("? ");
+        message
+    }
+
+    /// Appends what may be answered to the halt of a level, and to that of the other one behind it, level 1 first.
+    fn push_choices(&self, message: &mut Message, level: LevelId) {
+        let one = self.asked_in(level, LevelId::One);
+        let two = self.asked_in(level, LevelId::Two);
+        if let Some(code) = one {
+            message.push_choice(LevelId::One, code);
+        }
+        if one.is_some() && two.is_some() {
+            message.push("; ");
+        }
+        if let Some(code) = two {
+            message.push_choice(LevelId::Two, code);
+        }
+    }
+
+    /// Whether a person is asked once more before this reply: it ends a job that has changed files.
+    pub(crate) fn is_grave<S: PackStore>(
+        &self,
+        machine: &Bureau<S>,
+        to: LevelId,
+        digit: u8,
+    ) -> bool {
+        self.is_person_asked() && digit != 0 && has_changed(machine.level(to))
+    }
+
+    /// What a person is asked once more: `2 ends PAY; 3 records are added to CHECKS: 2 again to end it, another line to go back? `.
+    pub(crate) fn again<S: PackStore>(
+        &self,
+        machine: &Bureau<S>,
+        to: LevelId,
+        digit: u8,
+    ) -> Message {
+        let mut message = Message::new(self.alloc);
+        message.push_number(u64::from(digit));
+        message.push(" ends ");
+        push_last_job(&mut message, &self.seat(to).ledger);
+        push_changes(&mut message, machine.level(to));
+        message.push(": ");
+        message.push_number(u64::from(digit));
+        message.push(" again to end it, another line to go back? ");
+        message
+    }
+
+    /// Whether a reply ended a job after it had changed files.
+    pub(crate) fn has_spoilt(&self) -> bool {
+        self.one.has_spoilt() || self.two.has_spoilt()
+    }
+
+    /// Why the log or the script can't be written.
+    pub(crate) fn unwritten(&self, what: &str, error: &io::Error) -> Message {
+        let mut message = Message::new(self.alloc);
+        message.push("\nthe ");
+        message.push(what);
+        message.push(" can't be written: ");
+        message.push_error(error);
+        message.push("\n");
+        message
+    }
+
+    // ---- lines that are typed
+
+    /// Interprets a typed line for the halt of a level, and appends the response. Only a person may type more than a reply.
+    pub(crate) fn hear<S: PackStore>(
+        &self,
+        message: &mut Message,
+        machine: &Bureau<S>,
+        level: LevelId,
+        typed: Typed,
+    ) -> Said {
+        match typed {
+            Typed::Nothing => Said::Nothing,
+            Typed::Reply(None, digit) => self.hear_digit(message, level, digit),
+            Typed::Reply(Some(to), digit) => self.hear_reply(message, level, to, digit),
+            _ if !self.is_person_asked() => self.hear_unknown(message, level),
+            Typed::Help => self.help(message, level),
+            Typed::Show => self.show_again(message, level),
+            Typed::Lines(of, most) => {
+                let of = of.unwrap_or(level);
+                push_last_lines(message, of, machine.lines(of), most);
+                Said::Nothing
+            }
+            Typed::Stop => Said::Over,
+            Typed::Yes | Typed::No | Typed::Unknown => self.hear_unknown(message, level),
+        }
+    }
+
+    /// A digit without a level: for the one that is asked, unless a person is asked for both.
+    fn hear_digit(&self, message: &mut Message, level: LevelId, digit: u8) -> Said {
+        if self.is_person_asked() && self.asked_in(level, level.other()).is_some() {
+            push_both(message, digit);
+            Said::Nothing
+        } else {
+            self.hear_reply(message, level, level, digit)
+        }
+    }
+
+    /// A digit for a level.
+    fn hear_reply(&self, message: &mut Message, level: LevelId, to: LevelId, digit: u8) -> Said {
+        match self.asked_in(level, to) {
+            Some(code) if is_allowed(Some(code), digit) => Said::Reply(to, digit),
+            Some(code) => {
+                message.push_reply(to, code, digit);
+                Said::Nothing
+            }
+            None => {
+                message.push_level(to);
+                message.push(" shows no halt\n");
+                Said::Nothing
+            }
+        }
+    }
+
+    /// Says what may be typed.
+    fn hear_unknown(&self, message: &mut Message, level: LevelId) -> Said {
+        if self.is_person_asked() {
+            message.push(
+                "a digit, as 0; a level and a digit, as 1 0; ? for what replies do; show; lines; or stop\n",
+            );
+        } else {
+            message.push("this line is no reply: ");
+            self.push_choices(message, level);
+            message.push("\n");
+        }
+        Said::Nothing
+    }
+
+    /// Tells what the replies do.
+    fn help(&self, message: &mut Message, level: LevelId) -> Said {
+        self.push_help_of(message, level, LevelId::One);
+        self.push_help_of(message, level, LevelId::Two);
+        push_words(message);
+        Said::Nothing
+    }
+
+    fn push_help_of(&self, message: &mut Message, level: LevelId, asked: LevelId) {
+        if let Some(code) = self.asked_in(level, asked) {
+            push_help(message, asked, code);
+        }
+    }
+
+    /// Shows the halts that are asked for once more.
+    fn show_again(&self, message: &mut Message, level: LevelId) -> Said {
+        self.push_shown(message, level, LevelId::One);
+        self.push_shown(message, level, LevelId::Two);
+        Said::Nothing
+    }
+
+    fn push_shown(&self, message: &mut Message, level: LevelId, asked: LevelId) {
+        if self.asked_in(level, asked).is_some() {
+            self.seat(asked).push_shown(message);
+        }
+    }
+}
+
+fn unread_text(
+    alloc: Global,
+    level: LevelId,
+    deck: &DeckText<'_>,
+    fault: (u16, CardFault),
+) -> Result<String, AllocError> {
+    let mut text = String::new(alloc);
+    push_unread(&mut text, level, deck, fault)?;
+    Ok(text)
+}
+
+fn halt_text<S: PackStore>(
+    alloc: Global,
+    machine: &Bureau<S>,
+    deck: &DeckText<'_>,
+    level: LevelId,
+    halt: &Halt,
+    evidence: &Evidence,
+) -> Result<String, AllocError> {
+    let mut text = String::new(alloc);
+    push_halt(&mut text, alloc, machine, deck, level, halt, evidence)?;
+    Ok(text)
+}
+
+/// Appends a card of a level's deck: `card 178 (day1.job, line 12)`.
+fn push_card(message: &mut Message, seat: &Seat<'_>, card: usize) {
+    message.push("card ");
+    message.push_number(card as u64);
+    if let Some(deck) = seat.places()
+        && let Some(place) = deck.place_of(card).place
+    {
+        message.push(" (");
+        message.push_file_place(place);
+        message.push(")");
+    }
+}
+
+/// Appends a reply and who gave it without a question: `3 by line 7 of the rules`.
+fn push_answer(message: &mut Message, answer: Answer) {
+    message.push_number(u64::from(answer.digit));
+    match answer.giver {
+        Giver::Rule(line) => {
+            message.push(" by line ");
+            message.push_number(line as u64);
+            message.push(" of the rules");
+        }
+        Giver::Log | Giver::Line | Giver::Person => message.push(" by the log"),
+    }
+}
+
+/// Appends that both levels wait, and how to give a digit to either.
+fn push_both(message: &mut Message, digit: u8) {
+    let digit = u64::from(digit);
+    message.push("both levels wait: 1 ");
+    message.push_number(digit);
+    message.push(", or 2 ");
+    message.push_number(digit);
+    message.push("?\n");
+}
