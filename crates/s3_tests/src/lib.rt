@@ -1,16 +1,15 @@
-//! Tests that cross crates, by what they call. What a session on the built program shows is tested there, by the worked rows of
-//! the folder `rows/`: packs, files and their damage, the start and the end of jobs.
+//! Tests that cross crates, by what they call. What a session on the built program shows is tested there, by the golden tests of
+//! the folder `rows/`: arithmetic and editing, packs, files and their damage, the start and the end of jobs.
 //!
-//! - `rows`: tables of arithmetic and of editing, the stores and the pool.
-//! - `files`: a run that makes a file by key, loads it, adds to it and closes it, over a store that fails at each call in turn.
+//! - `pool`: which buffers the pool gives up, and a run over a store that fails at each call in turn.
 //! - `cycle`: the forms that calculations, fields of records and cards of output lines get, what comes behind a calculation, and
 //!   the guards of output lines, which no contract asks for and no session shows.
-//! - `bureau`: three whole sessions over a store that fails at each call in turn, and where memory runs out; and the card lister's
-//!   turns.
+//! - `bureau`: three whole sessions over a store that fails at each call in turn, and where memory runs out.
 //! - `sessions`: a session whose reader or writer fails at each call in turn, or gives and takes a byte a call.
 //! - `documents`: PDF documents that no command asks for.
 //!
-//! `fixtures` has what several of these tests begin with.
+//! Each call with many postconditions is made in one small function, and what owns a large value has no `?`: docs/DEVELOPING.md
+//! has the reason, under "Slow proofs".
 //!
 //! What is proved: a tab goes to the first column of each entry that the rules of a sheet's cards have (`stops_as_in_rules`), so
 //! no stop is missing after a rule is added.
@@ -27,11 +26,9 @@ mod cycle;
 #[cfg(test)]
 mod documents;
 #[cfg(test)]
-mod files;
+mod packs;
 #[cfg(test)]
-mod fixtures;
-#[cfg(test)]
-mod rows;
+mod pool;
 #[cfg(test)]
 mod sessions;
 

@@ -1,5 +1,26 @@
 //! The decks of the sessions.
 
+/// The card lister, compiled and run over the cards `ABC` and `DEF`: 8 turns.
+pub const LISTER: &[u8] = b"\
+// LOAD $RPG,F1
+// RUN
+     H                                                                    LIST
+     FCARDS   IP  F  96  96            MFCU1
+     FPRINT   O   F 132 132            PRINTER
+     ICARDS   AA  01
+     I                                        1   3 TEXT
+     OPRINT   D        01
+     O                         TEXT       3
+/*
+/&
+// LOAD LIST,F1
+// RUN
+ABC
+DEF
+/*
+/&
+";
+
 /// Makes DATA of five records of 1,024 bytes, then lists the end of each: twice 14 turns.
 pub const FIVE_RECORDS: &[u8] = b"\
 // LOAD $RPG,F1

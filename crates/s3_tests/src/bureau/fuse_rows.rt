@@ -1,11 +1,40 @@
 //! Three sessions, with a fuse at each call in turn.
 
-use crate::bureau::packs::{are_spared, marked_pack};
+use crate::bureau::packs::marked_pack;
 use crate::bureau::plays::{CARD_LISTER, DATA_IN_BOTH_LEVELS, KEYS_ADDED_AND_CHANGED};
-use crate::bureau::sessions::{End, Failed, Run, Session, run_with_fuse};
+use crate::bureau::sessions::{End, Failed, Judged, Session, judge};
+use s3_bureau::Stop;
 use std::alloc::Global;
 use std::process::Abort;
 use std::test::Fail;
+
+impl Failed {
+    /// With one run more.
+    fn with(self, end: End) -> Failed {
+        match end {
+            End::Open => Failed {
+                in_open: self.in_open.saturating_add(1),
+                ..self
+            },
+            End::Step => Failed {
+                in_steps: self.in_steps.saturating_add(1),
+                ..self
+            },
+            End::Finish => Failed {
+                in_finish: self.in_finish.saturating_add(1),
+                ..self
+            },
+            End::Whole | End::Otherwise => self,
+        }
+    }
+
+    /// Whether at least so many runs failed in each kind of call.
+    fn is_at_least(self, least: Failed) -> bool {
+        self.in_open >= least.in_open
+            && self.in_steps >= least.in_steps
+            && self.in_finish >= least.in_finish
+    }
+}
 
 /// Runs a session with a fuse at call 1, 2 and so on, up to the run in which none fails.
 fn assert_at_each_call(rt: &impl Abort, alloc: Global, session: &Session) -> Result<(), Fail> {
@@ -16,26 +45,15 @@ fn assert_at_each_call(rt: &impl Abort, alloc: Global, session: &Session) -> Res
         in_finish: 0,
     };
     for k in 1..1_000u64 {
-        let Run { end, taken, bytes } = run_with_fuse(rt, alloc, session, pack.clone()?, k)?;
-        assert!(rt; are_spared(&pack, &bytes, taken), "fuse at call {k}");
-        match end {
-            End::Open => failed.in_open = failed.in_open.saturating_add(1),
-            End::Step => failed.in_steps = failed.in_steps.saturating_add(1),
-            End::Finish => failed.in_finish = failed.in_finish.saturating_add(1),
-            End::Whole => {
-                assert_least(rt, failed, session.least);
-                return Ok(());
-            }
+        let Judged { end, wrong } = judge(alloc, session, pack.as_slice(), k, Stop::Device)?;
+        assert!(rt; wrong.is_empty(), "fuse at call {k}: {wrong}");
+        if matches!(end, End::Whole) {
+            assert!(rt; failed.is_at_least(session.least));
+            return Ok(());
         }
+        failed = failed.with(end);
     }
     panic!(rt; "the session never ends without a failure");
-}
-
-/// At least so many runs failed in each kind of call.
-fn assert_least(rt: &impl Abort, failed: Failed, least: Failed) {
-    assert!(rt; failed.in_open >= least.in_open, "{failed:?}");
-    assert!(rt; failed.in_steps >= least.in_steps, "{failed:?}");
-    assert!(rt; failed.in_finish >= least.in_finish, "{failed:?}");
 }
 
 #[test]

@@ -1,9 +1,9 @@
 //! Whole sessions of a bureau over a store that fails at each of its calls in turn, and where memory may be refused:
 //! `tools/refuse-memory` makes each request of these tests fail in turn.
 
+mod calls;
 mod decks;
 mod fuse_rows;
-mod lister;
 mod memory_rows;
 mod packs;
 mod plays;

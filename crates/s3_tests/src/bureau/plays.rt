@@ -1,11 +1,14 @@
 //! Three sessions.
 
-use crate::bureau::decks::{FIVE_RECORDS, STOCK, THREE_RECORDS};
+use crate::bureau::decks::{FIVE_RECORDS, LISTER, STOCK, THREE_RECORDS};
 use crate::bureau::sessions::{Failed, Part, Session};
-use crate::fixtures::bureaus::TURN_ONE;
-use crate::fixtures::decks::LISTER;
 use s3_bureau::{Action, Entry};
 use s3_cards::LevelId;
+
+const TURN_ONE: Entry = Entry {
+    level: LevelId::One,
+    action: Action::Turn,
+};
 
 const TURN_TWO: Entry = Entry {
     level: LevelId::Two,
@@ -35,6 +38,7 @@ pub const CARD_LISTER: Session = Session {
     two: LISTED,
     round: &[TURN_ONE, TURN_TWO, DRAIN_ONE],
     rounds: 8,
+    is_alone: false,
     least: Failed {
         in_open: MOUNT,
         in_steps: 4 + 2,
@@ -58,6 +62,7 @@ pub const DATA_IN_BOTH_LEVELS: Session = Session {
     },
     round: &[TURN_ONE, DRAIN_ONE, TURN_TWO],
     rounds: 28,
+    is_alone: false,
     least: Failed {
         in_open: MOUNT,
         in_steps: (WRITTEN_OF_DATA - BUFFERS) + (20 - BUFFERS),
@@ -83,6 +88,7 @@ pub const KEYS_ADDED_AND_CHANGED: Session = Session {
     },
     round: &[TURN_ONE, DRAIN_ONE],
     rounds: 42,
+    is_alone: true,
     least: Failed {
         in_open: MOUNT,
         in_steps: (WRITTEN_OF_STOCK - BUFFERS) + (STOCK_RECORDS - BUFFERS),

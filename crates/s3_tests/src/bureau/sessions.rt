@@ -1,13 +1,11 @@
 //! Sessions, and one run of them over a store with a fuse.
 
-use crate::bureau::packs::Taken;
-use crate::fixtures::bureaus::{finish, step};
+use crate::bureau::calls::{finish, step};
+use crate::bureau::packs::are_spared;
 use s3_bureau::{Bureau, Entry, Refusal, RefusedStore, Stop};
 use s3_cards::{Deck, DeckFault, LevelId, PrintLine, host_byte};
-use s3_store::{FuseStore, MemoryStore, SectorFault};
+use s3_store::{FuseStore, MemoryStore};
 use std::alloc::Global;
-use std::process::Abort;
-use std::test::Fail;
 
 /// What a level has in a session.
 #[derive(Clone, Copy)]
@@ -19,7 +17,7 @@ pub struct Part {
 }
 
 /// How many runs failed in each kind of call.
-#[derive(Clone, Copy, Debug)]
+#[derive(Clone, Copy)]
 pub struct Failed {
     pub in_open: u64,
     pub in_steps: u64,
@@ -34,68 +32,70 @@ pub struct Session {
     /// The entries of a round.
     pub round: &'static [Entry],
     pub rounds: u8,
+    /// Whether no entry is level 2's.
+    pub is_alone: bool,
     /// No fewer transfers than these can do.
     pub least: Failed,
 }
 
-impl Session {
-    /// What a level has in it.
-    fn part(&self, level: LevelId) -> Part {
-        match level {
-            LevelId::One => self.one,
-            LevelId::Two => self.two,
-        }
-    }
-}
-
-/// The call in which a run's transfer failed.
+/// How a run ended.
 #[derive(Clone, Copy)]
 pub enum End {
-    /// None did.
+    /// Both levels are closed.
     Whole,
+    /// The mount was refused for the cause that may stop the run,
     Open,
+    /// or an entry was,
     Step,
+    /// or the end of both levels.
     Finish,
+    /// It was stopped for another cause.
+    Otherwise,
 }
 
 /// A run over a store with a fuse.
-pub struct Run {
-    pub end: End,
-    pub taken: Taken,
+#[derive(Drop)]
+struct Run {
+    end: End,
+    /// Whether each call after the end answered that the bureau is stopped.
+    stays_stopped: bool,
+    /// Whether the lines of each level are the first ones wanted; all of them, without a halt, where the end is whole.
+    has_lines: bool,
     /// The bytes that the store has at its end.
-    pub bytes: Vec<u8>,
+    bytes: Vec<u8>,
 }
 
-pub type Store = FuseStore<MemoryStore>;
-
-/// What may stop a run.
-#[derive(Clone, Copy)]
-pub enum Cause {
-    /// A transfer that fails.
-    Device,
-    /// A request for memory that is refused.
-    Memory,
-}
-
-impl Cause {
-    /// What refuses an opening.
-    fn fault(self) -> SectorFault {
-        match self {
-            Cause::Device => SectorFault::Device,
-            Cause::Memory => SectorFault::NoMemory,
-        }
-    }
-
-    /// What stops a bureau.
-    fn stop(self) -> Stop {
-        match self {
-            Cause::Device => Stop::Device,
-            Cause::Memory => Stop::NoMemory,
+impl Run {
+    /// What is wrong with a session's run on this pack: nothing, if all is as it must be.
+    fn wrong(&self, session: &Session, pack: &[u8]) -> &'static str {
+        if matches!(self.end, End::Otherwise) {
+            "it was stopped for another cause"
+        } else if !self.stays_stopped {
+            "it wasn't stopped at its end"
+        } else if !self.has_lines {
+            "it has other lines, or a halt"
+        } else if !are_spared(pack, self.bytes.as_slice(), session.is_alone) {
+            "it changed sectors that have to stay"
+        } else {
+            ""
         }
     }
 }
 
-const LEVELS: [LevelId; 2] = [LevelId::One, LevelId::Two];
+type Store = FuseStore<MemoryStore>;
+
+/// How a call ended that was stopped, where `cause` alone may do so.
+fn end_by(stop: Stop, cause: Stop, end: End) -> End {
+    if stop == cause { end } else { End::Otherwise }
+}
+
+/// How an opening ended that was refused, where `cause` alone may do so.
+fn end_of_refusal(refusal: Refusal, cause: Stop) -> End {
+    match refusal {
+        Refusal::Sectors(fault) => end_by(Stop::from(fault), cause, End::Open),
+        Refusal::BadPack(_) => End::Otherwise,
+    }
+}
 
 /// Whether a line has this text, and blanks behind it.
 fn has_text(line: &PrintLine, text: &[u8]) -> bool {
@@ -113,148 +113,125 @@ fn are_first(lines: &[PrintLine], wanted: &[&[u8]]) -> bool {
         })
 }
 
-/// How many lines of each level are drained. They are the first ones wanted.
-fn drained(rt: &impl Abort, session: &Session, bureau: &Bureau<Store>) -> [usize; 2] {
-    for level in LEVELS {
-        let wanted = session.part(level).lines;
-        assert!(rt;
-            are_first(bureau.lines(level), wanted),
-            "lines of level {level:?}"
-        );
-    }
-    [
-        bureau.lines(LevelId::One).len(),
-        bureau.lines(LevelId::Two).len(),
-    ]
+/// Whether a level's lines are the first ones wanted; all of them, without a halt, where the run's end is whole.
+fn has_lines(bureau: &Bureau<Store>, level: LevelId, wanted: &[&[u8]], is_whole: bool) -> bool {
+    let lines = bureau.lines(level);
+    let is_done = (lines.len() == wanted.len()) & bureau.halts(level).is_empty();
+    are_first(lines, wanted) & (is_done | !is_whole)
 }
 
-/// Each call answers that the bureau is stopped, and no line comes.
-fn assert_stays_stopped(rt: &impl Abort, session: &Session, bureau: &mut Bureau<Store>) {
-    let before = drained(rt, session, bureau);
-    assert_eq!(rt; finish(bureau), Err(Stop::Stopped));
+/// Whether each call answers that the bureau is stopped.
+fn stays_stopped(round: &[Entry], bureau: &mut Bureau<Store>) -> bool {
+    let mut is_stopped = matches!(finish(bureau), Err(Stop::Stopped));
+    for entry in round {
+        is_stopped &= matches!(step(bureau, *entry), Err(Stop::Stopped));
+    }
+    is_stopped & matches!(finish(bureau), Err(Stop::Stopped))
+}
+
+/// Does the entries of a round.
+fn do_round(round: &[Entry], bureau: &mut Bureau<Store>) -> Result<(), Stop> {
+    for entry in round {
+        step(bureau, *entry)?;
+    }
+    Ok(())
+}
+
+/// Does all rounds.
+fn do_rounds(session: &Session, bureau: &mut Bureau<Store>) -> Result<(), Stop> {
     for _round in 0..session.rounds {
-        for entry in session.round {
-            assert_eq!(rt; step(bureau, *entry), Err(Stop::Stopped));
-        }
+        do_round(session.round, bureau)?;
     }
-    assert_eq!(rt; finish(bureau), Err(Stop::Stopped));
-    assert_eq!(rt; drained(rt, session, bureau), before);
+    Ok(())
 }
 
-/// Does an entry, and says whether it was done. Where it stops the bureau, it does so for this cause, and the drained lines stay.
-fn steps(
-    rt: &impl Abort,
-    session: &Session,
-    bureau: &mut Bureau<Store>,
-    entry: Entry,
-    cause: Stop,
-) -> bool {
-    let before = drained(rt, session, bureau);
-    match step(bureau, entry) {
-        Ok(_) => true,
-        Err(stop) => {
-            assert_eq!(rt; stop, cause);
-            assert_eq!(rt; drained(rt, session, bureau), before);
-            assert_stays_stopped(rt, session, bureau);
-            false
-        }
+/// Does all rounds and closes both levels, up to a stop.
+fn play(session: &Session, bureau: &mut Bureau<Store>, cause: Stop) -> End {
+    match do_rounds(session, bureau) {
+        Ok(()) => match finish(bureau) {
+            Ok(()) => End::Whole,
+            Err(stop) => end_by(stop, cause, End::Finish),
+        },
+        Err(stop) => end_by(stop, cause, End::Step),
     }
 }
 
-/// Does all rounds up to a stop.
-fn play(
-    rt: &impl Abort,
-    session: &Session,
-    bureau: &mut Bureau<Store>,
-    cause: Stop,
-) -> (End, Taken) {
-    let mut taken = Taken::none();
-    for _round in 0..session.rounds {
-        for entry in session.round {
-            taken = taken.and(entry.level);
-            if !steps(rt, session, bureau, *entry, cause) {
-                return (End::Step, taken);
-            }
-        }
+/// A session on a bureau before its first entry.
+fn run_on(session: &Session, mut bureau: Bureau<Store>, cause: Stop) -> Run {
+    let end = play(session, &mut bureau, cause);
+    let stays_stopped = stays_stopped(session.round, &mut bureau);
+    let is_whole = matches!(end, End::Whole);
+    let one = has_lines(&bureau, LevelId::One, session.one.lines, is_whole);
+    let two = has_lines(&bureau, LevelId::Two, session.two.lines, is_whole);
+    Run {
+        end,
+        stays_stopped,
+        has_lines: one & two,
+        bytes: bureau.into_store().into_inner().into_bytes(),
     }
-    (End::Whole, taken)
 }
 
-/// Closes both levels. Where nothing fails, each has the lines wanted and no halt.
-fn assert_finishes(
-    rt: &impl Abort,
-    session: &Session,
-    bureau: &mut Bureau<Store>,
-    cause: Stop,
-) -> End {
-    let end = match finish(bureau) {
-        Ok(()) => {
-            for level in LEVELS {
-                let count = session.part(level).lines.len();
-                assert_eq!(rt;
-                    bureau.lines(level).len(),
-                    count,
-                    "lines of level {level:?}"
-                );
-                assert_eq!(rt; bureau.halts(level).len(), 0);
-            }
-            End::Whole
-        }
-        Err(stop) => {
-            assert_eq!(rt; stop, cause);
-            End::Finish
-        }
-    };
-    assert_stays_stopped(rt, session, bureau);
-    end
-}
-
-/// A session over a store that fails at a call, or where memory may be refused.
-pub fn run_over(
-    rt: &impl Abort,
+/// A session over a store that fails at a call, or where memory may be refused: for this cause alone it may be stopped.
+fn run_over(
     alloc: Global,
     session: &Session,
     decks: (Deck, Deck),
     store: Store,
-    cause: Cause,
+    cause: Stop,
 ) -> Run {
     let (one, two) = decks;
-    let mut bureau = match Bureau::open(alloc, store, one, two) {
-        Ok(bureau) => bureau,
-        Err(RefusedStore { store, fault }) => {
-            assert_eq!(rt; fault, Refusal::Sectors(cause.fault()));
-            return Run {
-                end: End::Open,
-                taken: Taken::none(),
-                bytes: store.into_inner().into_bytes(),
-            };
-        }
-    };
-    let (mut end, taken) = play(rt, session, &mut bureau, cause.stop());
-    if end == End::Whole {
-        end = assert_finishes(rt, session, &mut bureau, cause.stop());
+    match Bureau::open(alloc, store, one, two) {
+        Ok(bureau) => run_on(session, bureau, cause),
+        Err(RefusedStore { store, fault }) => Run {
+            end: end_of_refusal(fault, cause),
+            stays_stopped: true,
+            has_lines: true,
+            bytes: store.into_inner().into_bytes(),
+        },
     }
-    let bytes = bureau.into_store().into_inner().into_bytes();
-    Run { end, taken, bytes }
-}
-
-/// The session on a pack, over a store that fails at call `k`.
-pub fn run_with_fuse(
-    rt: &impl Abort,
-    alloc: Global,
-    session: &Session,
-    pack: Vec<u8>,
-    k: u64,
-) -> Result<Run, Fail> {
-    let decks = read_decks(alloc, session)?;
-    let store = FuseStore::new(MemoryStore::from_bytes(pack), k);
-    Ok(run_over(rt, alloc, session, decks, store, Cause::Device))
 }
 
 /// The decks of both levels.
-pub fn read_decks(alloc: Global, session: &Session) -> Result<(Deck, Deck), DeckFault> {
+fn read_decks(alloc: Global, session: &Session) -> Result<(Deck, Deck), DeckFault> {
     Ok((
         Deck::read(alloc, session.one.deck)?,
         Deck::read(alloc, session.two.deck)?,
     ))
+}
+
+/// The session on a copy of a pack, over a store that fails at call `k`, if that isn't 0.
+fn run_with_fuse(
+    alloc: Global,
+    session: &Session,
+    pack: &[u8],
+    k: u64,
+    cause: Stop,
+) -> Result<Run, DeckFault> {
+    let decks = read_decks(alloc, session)?;
+    let bytes = Vec::from_slice(alloc, pack)?;
+    let store = FuseStore::new(MemoryStore::from_bytes(bytes), k);
+    Ok(run_over(alloc, session, decks, store, cause))
+}
+
+/// How a run ended, and what is wrong with it: nothing, if all is as it must be.
+#[derive(Clone, Copy)]
+pub struct Judged {
+    pub end: End,
+    pub wrong: &'static str,
+}
+
+/// The session on a copy of a pack, over a store that fails at call `k`, if that isn't 0; it may be stopped for this cause alone.
+/// Refused if memory runs out before its first call.
+pub fn judge(
+    alloc: Global,
+    session: &Session,
+    pack: &[u8],
+    k: u64,
+    cause: Stop,
+) -> Result<Judged, DeckFault> {
+    let run = run_with_fuse(alloc, session, pack, k, cause)?;
+    Ok(Judged {
+        end: run.end,
+        wrong: run.wrong(session, pack),
+    })
 }

@@ -1,4 +1,4 @@
 //! Which instructions the cycle makes of the cards of a source.
 
+mod decks;
 mod decoding;
-mod sources;
