@@ -1,5 +1,27 @@
 #!/usr/bin/env python3
-"""The output wanted of `billing.txt`, which is read from standard input: see README.md."""
+"""The output that `billing.txt` must have, which is read from standard input. README.md has how reports are described.
+
+A customer card has C in column 1, the customer's number in 2-6 and the name in 7-30. The customer's item cards follow it: I in
+column 1, the customer's number in 2-6, the item in 7-12, its description in 13-32, the quantity in 33-37 with one decimal, and the
+price in 38-43 with three. A quantity below zero is a credit: its last digit is punched with zone D (`}` is 0, `J` to `R` are 1 to 9).
+
+An item's amount is quantity by price, half adjusted to two decimals. A customer's total is the sum of the amounts. If it is 1,000.00
+or more, the customer has a discount of 2.5%, half adjusted to two decimals. What is due is the total less the discount.
+
+The lines of the report:
+
+    first heading       skip to line 1 before, space 2 after: `BILLING REGISTER` 16, date [Y] 40, `PAGE` 57, page [Z, 4 digits] 62
+    second heading      space 2 after: `ITEM` 6, `DESCRIPTION` 21, `QUANTITY` 40, `PRICE` 50, `AMOUNT` 64
+    customer card       space 1 before and after: number [Z] 7, name 32
+    item card           space 1 after: item 8, description 30, quantity [J] 40, price [1] 50, amount [J, 9 digits] 65; `CREDIT` 73 if
+                        the amount is below zero
+    customer's total    space 1 before and after: count of items [3, 5 digits] 8, `ITEMS` 14, `CUSTOMER TOTAL` 40,
+                        total [A, 11 digits] 66
+    discount            space 1 after, only if there is one: `LESS 2.5% DISCOUNT` 40, discount [A, 11 digits] 66
+    due                 space 1 after: `AMOUNT DUE` 40, what is due [A, 11 digits] 66, `*` 68
+    at the end          space 1 before and after: count of customers [3, 5 digits] 8, `CUSTOMERS` 18, count of items [1, 7 digits] 28,
+                        `ITEMS` 34, `TOTAL DUE` 45, all that is due [A, 13 digits] 66, `**` 69
+"""
 
 import sys
 

@@ -1,5 +1,29 @@
 #!/usr/bin/env python3
-"""The output wanted of `payroll.txt`, which is read from standard input: see README.md."""
+"""The output that `payroll.txt` must have, which is read from standard input. README.md has how reports are described.
+
+An employee's card has T in column 1, the department in 2-3, the employee's number in 4-8, the name in 9-28, hours in 29-32 (two
+decimals), the rate for an hour in 33-37 (three), the tax in percent in 38-40 (one), and other deductions in 41-46 (two).
+
+Hours over 40 are overtime, paid at one and a half times the rate. Pay for regular hours, pay for overtime and the tax, percent of the
+gross pay, are each half adjusted to two decimals. The gross pay is the sum of the first two. The net pay is gross less tax less
+deductions. An employee whose net pay is below zero gets no check and is in no total. After the line is printed, the program shows this
+employee to the operator by halt H1. The operator replies 0 to each, and the run continues.
+
+The lines of the report:
+
+    first heading       skip to line 1 before, space 2 after: `PAYROLL REGISTER` 16, `WEEK ENDED` 34, date [Y] 43, `PAGE` 95,
+                        page [Z, 4 digits] 100
+    second heading      space 2 after: `EMPLOYEE` 15, `HOURS` 34, `RATE` 44, `GROSS` 56, `TAX` 70, `DEDUCTIONS` 85, `NET PAY` 99
+    employee            space 1 after: number [Z] 6, name 27, hours [3] 34, `O` 36 if there is overtime, rate [3] 44,
+                        gross [1, 7 digits] 56, tax [1, 7 digits] 70, deductions [2] 85, net [J, 7 digits] 100; a net pay below zero
+                        is [A] 101 instead, with `NO CHECK IS WRITTEN` 121
+    department          space 1 before and after: `DEPARTMENT` 12, the department 15, count of those paid [3, 3 digits] 18, `PAID` 23,
+                        their hours [1, 7 digits] 34, gross [1, 9 digits] 56, tax [1, 9 digits] 70, deductions [2, 9 digits] 85,
+                        net [K, 9 digits] 100
+    its average         space 2 after: `GROSS PAY OF AN HOUR` 26, gross by hours, half adjusted to three decimals [3, 5 digits] 44;
+                        `NOBODY WAS PAID` 26 if there are no hours
+    at the end          space 1 after: `WHOLE SHOP` 12, then as for a department, with 4, 8, 11, 11, 11 and 11 digits
+"""
 
 import sys
 

@@ -1,4 +1,4 @@
-      *> The billing of samples/README.md: data cards on standard
+      *> The billing of samples/billing.py: data cards on standard
       *> input, the report on standard output.
        IDENTIFICATION DIVISION.
        PROGRAM-ID. BILLING.

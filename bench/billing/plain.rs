@@ -1,4 +1,4 @@
-//! The billing of `samples/README.md` in plain Rust: data cards on standard input, the report on standard output.
+//! The billing of `samples/billing.py` in plain Rust: data cards on standard input, the report on standard output.
 
 use std::io::{Read, Write};
 

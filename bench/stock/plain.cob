@@ -1,5 +1,5 @@
       *> The movements and the list of the stock of
-      *> samples/README.md for one department: movement cards on
+      *> samples/stock/README.md for one department: movement cards on
       *> standard input, both reports on standard output. The files
       *> by key are STOCK and PRICES in the folder that it runs in.
       *> The department's name is the first word of the command.

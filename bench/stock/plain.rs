@@ -1,4 +1,4 @@
-//! The movements and the list of `samples/README.md`'s stock in plain Rust, for both levels of a pack.
+//! The movements and the list of `samples/stock/README.md` in plain Rust, for both levels of a pack.
 //!
 //!     plain_rust PACK SAVE < cards      the movement cards of level 1, the line `:`, those of level 2
 //!

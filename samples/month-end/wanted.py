@@ -1,5 +1,5 @@
 #!/usr/bin/env python3
-"""The outputs wanted of this sample, from its tables and order cards alone: see ../README.md.
+"""The outputs wanted of this sample, from its tables and order cards alone: see README.md.
 
     wanted.py june-29|june-30|register|due|prices|july"""
 

@@ -1,5 +1,5 @@
 #!/usr/bin/env python3
-"""The outputs wanted of this sample, from its cards alone: see ../README.md.
+"""The outputs wanted of this sample, from its cards alone: see README.md.
 
     wanted.py prices|stock|list"""
 
