@@ -6,6 +6,7 @@ mod day;
 mod fault;
 mod inherited_words;
 mod inputs;
+mod level_deck;
 mod order;
 mod outputs;
 mod paper;
@@ -14,25 +15,24 @@ mod watch;
 
 use crate::refusal::OUT_OF_MEMORY;
 use crate::words::command;
-use begun::{day_begun, test_same};
+use begun::test_same;
 use clap::ArgMatches;
 use day::{Prepared, operate_prepared};
 use fault::DayFault;
 use inherited_words::words_again;
-use inputs::{Decks, read_day_pack, read_log, read_rules};
+use inputs::{DayPack, Decks, read_log, read_rules};
 use order::Order;
 use outputs::{Outputs, test_outputs};
 use s3_cards::LevelId;
 use s3_cli::{CliFault, RunFault, SessionFault};
 use s3_day_log::DayLog;
-use s3_host_files::LockedPack;
 use s3_labels::{Pack, Refusal, Refused};
 use s3_operating::Seat;
 use s3_paper_commands::status::{DONE, PASSED_OVER};
 use s3_replies::Rules;
 use s3_store::MemoryStore;
 use std::io::Write;
-use taking_up::{list_jobs, taken_up};
+use taking_up::list_jobs;
 
 /// A log whose day is done again.
 #[derive(Clone, Copy)]
@@ -44,7 +44,7 @@ struct Again<'a> {
 
 /// Does what the words of `bureau operate` ask, and gives the exit status. The words as they were given, behind `operate`, are
 /// for the log.
-pub fn operate<'a>(rt: &'a HostRuntime, matches: &ArgMatches<'a>, words: &[String]) -> u8
+pub fn operate<'a>(rt: &'a HostRuntime, matches: &'a ArgMatches<'a>, words: &[String]) -> u8
     ensures { result ≤ 5 }
 {
     match matches.get_str("redo") {
@@ -88,7 +88,7 @@ fn operate_again(rt: &HostRuntime, matches: &ArgMatches<'_>, words: &[String], p
 /// Does the day of a log again, by all its words.
 fn operate_parsed<'a>(
     rt: &'a HostRuntime,
-    parsed: &ArgMatches<'a>,
+    parsed: &'a ArgMatches<'a>,
     whole: &[String],
     path: &'a str,
     log: &'a DayLog,
@@ -96,14 +96,12 @@ fn operate_parsed<'a>(
     ensures { result ≤ 5 }
 {
     match parsed.subcommand() {
-        Some(("operate", matches)) => {
+        Some((_operate, matches)) => {
             let words = whole.get(2..).unwrap_or(&[]);
-            status_of_day(
-                rt,
-                operate_with(rt, matches, words, Some(Again { path, log })),
-            )
+            let again = Again { path, log };
+            status_of_day(rt, operate_with(rt, matches, words, Some(again)))
         }
-        _ => refuse_log(rt, path),
+        None => refuse_log(rt, path),
     }
 }
 
@@ -124,22 +122,23 @@ fn refuse_log(rt: &HostRuntime, path: &str) -> u8
     status_of_day(rt, Err(DayFault::Redo))
 }
 
-/// Does a day, or lists its jobs. It is refused before the first turn, or not at all but for want of memory or a file that fails.
+/// Does a day, or lists its jobs. It is refused before the first turn, or only if memory runs out or a file fails.
 fn operate_with<'a>(
     rt: &'a HostRuntime,
-    matches: &ArgMatches<'a>,
+    matches: &'a ArgMatches<'a>,
     words: &[String],
     again: Option<Again<'a>>,
 ) -> Result<u8, DayFault<'a>> {
-    let order = Order::read(rt, matches)?;
-    let decks = Decks::read(rt, &order, wants_checksums(&order, again))?;
+    let order = match Order::read(rt, matches) {
+        Ok(order) => order,
+        Err(reason) => return Err(DayFault::Usage(reason)),
+    };
+    let decks = Decks::read(rt, &order, words, wants_checksums(&order, again))?;
     if matches.get_flag("jobs") {
         list_jobs(rt, &decks.one, &decks.two)?;
         return Ok(DONE);
     }
-    let rules = read_rules(rt, order.rules)?;
-    test_outputs(rt, &order, matches.get_str("redo"))?;
-    operate_decks(rt, &order, words, decks, rules, again)
+    operate_decks(rt, &order, decks, again)
 }
 
 /// Whether the files that are read are known by their checksums: for a log that is written, or for one that is done again.
@@ -147,51 +146,54 @@ fn wants_checksums(order: &Order<'_>, again: Option<Again<'_>>) -> bool {
     order.log.is_some() || again.is_some()
 }
 
-/// Does a day whose decks and rules are read.
+/// Does a day whose decks are read.
 fn operate_decks<'a>(
     rt: &'a HostRuntime,
     order: &Order<'a>,
-    words: &[String],
-    decks: Decks<'a>,
-    rules: Rules,
+    mut decks: Decks<'a>,
     again: Option<Again<'a>>,
 ) -> Result<u8, DayFault<'a>> {
-    let Decks {
-        one,
-        two,
-        files1,
-        files2,
-    } = decks;
-    let (pack, checksum, locked) = read_day_pack(rt, order, wants_checksums(order, again))?;
-    let begun = day_begun(rt.alloc(), order, words, checksum, &files1, &files2)?;
+    let rules = read_rules(rt, order.rules)?;
+    test_outputs(rt, order)?;
+    let pack = DayPack::read(rt, order, &mut decks.begun, wants_checksums(order, again))?;
     if let Some(again) = again {
-        test_same(rt, again.path, again.log, &begun)?;
+        test_same(rt, again, &decks.begun)?;
     }
-    let deck1 = taken_up(rt, LevelId::One, one, order.from1)?;
-    let deck2 = taken_up(rt, LevelId::Two, two, order.from2)?;
-    let one = Seat::new(rt.alloc(), LevelId::One, &deck1);
-    let two = Seat::new(rt.alloc(), LevelId::Two, &deck2);
+    decks.take_up(rt, order)?;
+    operate_over(rt, order, pack, decks, rules, again.map(|again| again.log))
+}
+
+/// Does a day over its pack.
+fn operate_over<'a>(
+    rt: &'a HostRuntime,
+    order: &Order<'a>,
+    pack: DayPack,
+    decks: Decks<'a>,
+    rules: Rules,
+    logged: Option<&'a DayLog>,
+) -> Result<u8, DayFault<'a>> {
+    let Decks { one, two, begun } = decks;
     let day = Prepared {
         begun,
-        one,
-        two,
+        one: Seat::new(rt.alloc(), LevelId::One, &one),
+        two: Seat::new(rt.alloc(), LevelId::Two, &two),
         rules: &rules,
-        logged: again.map(|again| again.log),
+        logged,
     };
-    operate_over(rt, order, pack, locked, day)
+    operate_mounted(rt, order, pack, day)
 }
 
 /// Does a day that is prepared over its pack, once the pack and all outputs are tried.
-fn operate_over<'n, 'a>(
+fn operate_mounted<'n, 'a>(
     rt: &'a HostRuntime,
     order: &Order<'n>,
-    pack: Vec<u8>,
-    locked: Option<LockedPack>,
+    pack: DayPack,
     day: Prepared<'a>,
 ) -> Result<u8, DayFault<'n>> {
-    let pack = mountable(rt, order.pack, pack)?;
+    let DayPack { bytes, locked } = pack;
+    let bytes = mountable(rt, order.pack, bytes)?;
     let outputs = Outputs::open(rt, order, locked)?;
-    operate_prepared(rt, order, pack, day, outputs)
+    operate_prepared(rt, order, bytes, day, outputs)
 }
 
 /// A pack that can be mounted, as it was given; any other is refused, before an output is emptied, and what tells why is named.
@@ -203,14 +205,19 @@ fn mountable<'a>(
     match Pack::over(rt.alloc(), MemoryStore::from_bytes(pack)) {
         Ok(Pack { pool, areas: _ }) => Ok(pool.into_bytes()),
         Err(Refused { pool: _, fault }) => {
-            if let (Refusal::BadPack(_), Some(path)) = (&fault, path) {
-                let _ = writeln!(
-                    rt.stderr(),
-                    "the pack {path} can't be used; `bureau check --pack {path}` says why"
-                );
-            }
+            tell_refused(rt, path, fault);
             Err(DayFault::Cli(refused(fault)))
         }
+    }
+}
+
+/// Names the command that reports why a pack can't be mounted.
+fn tell_refused(rt: &HostRuntime, path: Option<&str>, fault: Refusal) {
+    if let (Refusal::BadPack(_), Some(path)) = (fault, path) {
+        let _ = writeln!(
+            rt.stderr(),
+            "the pack {path} can't be used; `bureau check --pack {path}` says why"
+        );
     }
 }
 

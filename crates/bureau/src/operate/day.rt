@@ -1,5 +1,6 @@
 //! A day, from its first turn to what is told at its end.
 
+use super::begun::named_file;
 use super::fault::DayFault;
 use super::order::Order;
 use super::outputs::{Output, Outputs, remove_made, write_deck};
@@ -7,7 +8,7 @@ use super::paper::write_paper;
 use super::watch::Watch;
 use crate::refusal::{FILE, OUT_OF_MEMORY};
 use s3_cli::{CliFault, SessionFault, Watched, write_output};
-use s3_day_log::{Begun, DayLog, DayOver, Event, NamedFile, checksum};
+use s3_day_log::{Begun, DayLog, DayOver, Event};
 use s3_desk::{Bounds, Day, operate_day};
 use s3_host_files::{FileFault, LockedPack, save_pack};
 use s3_operating::{Closing, Desk, Journal, Seat, Settings, Tape, Verdict};
@@ -15,7 +16,6 @@ use s3_paper_commands::status::{DONE, PASSED_OVER, PERSON_NEEDED};
 use s3_replay::Performed;
 use s3_replies::Rules;
 use std::alloc::{AllocError, Global};
-use std::io;
 use std::io::{Stderr, Stdin, Write};
 
 /// The most bytes that `run` reads.
@@ -42,6 +42,26 @@ pub struct Prepared<'a> {
 /// The desk of the command.
 pub type OwnDesk<'a> = Desk<'a, Stdin, Stderr, Output, Watch<'a>>;
 
+/// The texts of both decks.
+#[derive(Clone, Copy)]
+struct Texts<'a> {
+    one: &'a [u8],
+    two: &'a [u8],
+}
+
+/// A day that is over, and the desk's account of it.
+#[derive(Drop)]
+struct Over {
+    day: Day,
+    closing: Closing,
+}
+
+impl Over {
+    fn is_unfinished(&self) -> bool {
+        self.closing.verdict == Verdict::Unfinished
+    }
+}
+
 /// Operates a day over a pack, hands out what it leaves, and gives the exit status.
 pub fn operate_prepared<'n, 'a>(
     rt: &'a HostRuntime,
@@ -58,23 +78,35 @@ pub fn operate_prepared<'n, 'a>(
         locked,
         made,
     } = outputs;
-    let text1 = day.one.text();
-    let text2 = day.two.text();
+    let texts = Texts {
+        one: day.one.text(),
+        two: day.two.text(),
+    };
     let mut desk = desk_of(rt, order, day, script, log);
-    let (day, closing) = match closed(rt.alloc(), pack, text1, text2, &mut desk, order.bounds) {
-        Ok(closed) => closed,
+    match operated(rt.alloc(), pack, texts, &mut desk, order.bounds) {
+        Ok(over) => {
+            write_decks(order, texts, deck1, deck2)?;
+            hand_out(rt, order, &mut desk, texts, &over, locked)
+        }
         Err(fault) => {
-            // where a deck is refused nothing is written, so what was made by trying goes again
+            // if a deck is refused nothing is written, so what was made by trying goes again
             if desk.refused().is_some() {
                 remove_made(rt, &made);
             }
-            return Err(fault);
+            Err(fault)
         }
-    };
-    write_deck(deck1, text1)?;
-    write_deck(deck2, text2)?;
-    let decks = (text1.len() as u64).saturating_add(text2.len() as u64);
-    hand_out(rt, order, &mut desk, &day, &closing, decks, locked)
+    }
+}
+
+/// Writes both decks as they are run, as far as that is asked for.
+fn write_decks<'n>(
+    order: &Order<'n>,
+    texts: Texts<'_>,
+    deck1: Option<Output>,
+    deck2: Option<Output>,
+) -> Result<(), DayFault<'n>> {
+    write_deck(deck1, order.deck_out1, texts.one)?;
+    write_deck(deck2, order.deck_out2, texts.two)
 }
 
 /// The desk before its day, with the files for the script and the log.
@@ -115,58 +147,96 @@ fn desk_of<'a>(
 }
 
 /// Operates a day to its end, and closes the desk.
-fn closed<'n>(
+fn operated<'n>(
     alloc: Global,
     pack: Vec<u8>,
-    text1: &[u8],
-    text2: &[u8],
+    texts: Texts<'_>,
     desk: &mut OwnDesk<'_>,
     bounds: Bounds,
-) -> Result<(Day, Closing), DayFault<'n>> {
+) -> Result<Over, DayFault<'n>> {
     let mut performed = Performed::new(alloc);
-    let done = operate_day(alloc, pack, text1, text2, desk, bounds, &mut performed);
+    let done = operate_day(
+        alloc,
+        pack,
+        texts.one,
+        texts.two,
+        desk,
+        bounds,
+        &mut performed,
+    );
     if let Some(level) = desk.refused() {
         return Err(DayFault::Deck(level));
     }
-    let day = match done {
-        Ok(day) => day,
-        Err(fault) => return Err(DayFault::Cli(CliFault::Session(SessionFault::Run(fault)))),
-    };
-    match desk.close(&day, &performed) {
-        Ok(closing) => Ok((day, closing)),
+    match done {
+        Ok(day) => closed(desk, day, &performed),
+        Err(fault) => Err(DayFault::Cli(CliFault::Session(SessionFault::Run(fault)))),
+    }
+}
+
+/// Closes the desk behind its day.
+fn closed<'n>(
+    desk: &mut OwnDesk<'_>,
+    day: Day,
+    performed: &Performed,
+) -> Result<Over, DayFault<'n>> {
+    match desk.close(&day, performed) {
+        Ok(closing) => Ok(Over { day, closing }),
         Err(_) => Err(refusal_of(desk)),
     }
 }
 
-/// Writes the reports, tells how both levels ended, and saves the pack.
+/// Writes the reports, reports how both levels ended, and saves the pack.
 fn hand_out<'n>(
     rt: &HostRuntime,
     order: &Order<'n>,
     desk: &mut OwnDesk<'_>,
-    day: &Day,
-    closing: &Closing,
-    decks: u64,
+    texts: Texts<'_>,
+    over: &Over,
     locked: Option<LockedPack>,
 ) -> Result<u8, DayFault<'n>> {
-    let written = write_output(&mut Watched::new(rt.stdout()), &day.outcome);
+    write_reports(rt, order, desk, texts, over)?;
+    let saved = save(rt, order, over, locked)?;
+    tell_saved(order, desk, saved.is_some(), over.is_unfinished());
+    end(rt, order, desk, over, saved)
+}
+
+/// Writes the reports and the pages, and reports how both levels ended.
+fn write_reports<'n>(
+    rt: &HostRuntime,
+    order: &Order<'n>,
+    desk: &mut OwnDesk<'_>,
+    texts: Texts<'_>,
+    over: &Over,
+) -> Result<(), DayFault<'n>> {
+    let is_written = write_output(&mut Watched::new(rt.stdout()), &over.day.outcome).is_ok();
     desk.tell("\n");
-    desk.tell(closing.summary.as_str());
+    desk.tell(over.closing.summary.as_str());
     if order.script.is_some() {
-        tell_size(rt, desk, decks)?;
+        tell_size(rt, texts, desk.script_len());
     }
     test_written(order, desk)?;
-    if written.is_err() {
+    if !is_written {
         desk.tell("the reports can't be written to standard output, and no pack is saved\n");
         return Err(DayFault::Cli(FILE));
     }
-    if let Some(paper) = order.paper {
-        write_paper(rt, paper, desk, &day.outcome)?;
+    match order.paper {
+        Some(paper) => write_paper(rt, paper, desk, &over.day.outcome),
+        None => Ok(()),
     }
-    let saved = save(rt, order, desk, closing, &day.outcome.pack, locked)?;
-    let is_unfinished = closing.verdict == Verdict::Unfinished;
-    tell_saved(rt, order, desk, saved, is_unfinished)?;
-    let status = status_of(closing.verdict);
-    log_end(rt, desk, status, saved, &day.outcome.pack)?;
+}
+
+/// Logs the end of the day, and gives the exit status.
+fn end<'n>(
+    rt: &HostRuntime,
+    order: &Order<'n>,
+    desk: &mut OwnDesk<'_>,
+    over: &Over,
+    saved: Option<&str>,
+) -> Result<u8, DayFault<'n>> {
+    let status = status_of(over.closing.verdict);
+    if desk.has_log() {
+        log_end(rt.alloc(), desk, status, saved, &over.day.outcome.pack)?;
+    }
     test_written(order, desk)?;
     Ok(status)
 }
@@ -179,20 +249,18 @@ fn refusal_of<'n>(desk: &OwnDesk<'_>) -> DayFault<'n> {
     }
 }
 
-/// Tells of a script that is too long, with its decks, for `run`.
-fn tell_size(rt: &HostRuntime, desk: &mut OwnDesk<'_>, decks: u64) -> Result<(), AllocError> {
-    let all = decks
-        .saturating_add(desk.script_len())
+/// Reports a script that is too long, with its decks, for `run`.
+fn tell_size(rt: &HostRuntime, texts: Texts<'_>, script: u64) {
+    let all = (texts.one.len() as u64)
+        .saturating_add(texts.two.len() as u64)
+        .saturating_add(script)
         .saturating_add(MARKERS);
     if all > RUN_LIMIT {
-        let mut text = String::new(rt.alloc());
-        writeln!(
-            text,
+        let _ = writeln!(
+            rt.stderr(),
             "the decks and the script have {all} bytes, and `run` reads {RUN_LIMIT}: this day can't be replayed so"
-        )?;
-        desk.tell(text.as_str());
+        );
     }
-    Ok(())
 }
 
 /// Refuses a day whose script or log couldn't be written, or that memory ran out for.
@@ -215,88 +283,69 @@ fn status_of(verdict: Verdict) -> u8 {
     }
 }
 
-/// Saves the pack where that is asked for, and the day is one to be saved. It answers where it was saved; why it couldn't be is told.
+/// Saves the pack if that is asked for, and the day is one to be saved. It answers where it was saved; why it couldn't be is reported.
 fn save<'a>(
     rt: &HostRuntime,
     order: &Order<'a>,
-    desk: &mut OwnDesk<'_>,
-    closing: &Closing,
-    pack: &[u8],
+    over: &Over,
     locked: Option<LockedPack>,
 ) -> Result<Option<&'a str>, DayFault<'a>> {
     let Some(path) = order.save else {
         return Ok(None);
     };
-    if closing.verdict == Verdict::Unfinished && !order.saves_unfinished {
+    if over.is_unfinished() && !order.saves_unfinished {
         return Ok(None);
     }
-    match save_pack(rt, path, locked, pack) {
+    match save_pack(rt, path, locked, &over.day.outcome.pack) {
         Ok(()) => Ok(Some(path)),
-        Err(FileFault::InUse) => Err(DayFault::InUse(path)),
-        Err(FileFault::Call(error)) => {
-            tell_unsaved(rt, desk, path, &error)?;
-            Err(DayFault::of(&error, path))
+        Err(fault) => {
+            if let FileFault::Call(error) = &fault {
+                let _ = writeln!(rt.stderr(), "the pack is not saved in {path}: {error}");
+            }
+            Err(DayFault::of_pack(&fault, path))
         }
     }
 }
 
-/// Tells why the pack couldn't be saved.
-fn tell_unsaved(
-    rt: &HostRuntime,
-    desk: &mut OwnDesk<'_>,
-    path: &str,
-    error: &io::Error,
-) -> Result<(), AllocError> {
-    let mut text = String::new(rt.alloc());
-    writeln!(text, "the pack is not saved in {path}: {error}")?;
-    desk.tell(text.as_str());
-    Ok(())
+/// Reports what became of the pack.
+fn tell_saved(order: &Order<'_>, desk: &mut OwnDesk<'_>, is_saved: bool, is_unfinished: bool) {
+    let Some(path) = order.save else {
+        desk.tell("nothing is saved: there is no --save\n");
+        return;
+    };
+    let (before, after) = saved_words(is_saved, is_unfinished);
+    desk.tell(before);
+    desk.tell(path);
+    desk.tell(after);
 }
 
-/// Tells what became of the pack.
-fn tell_saved(
-    rt: &HostRuntime,
-    order: &Order<'_>,
-    desk: &mut OwnDesk<'_>,
-    saved: Option<&str>,
-    is_unfinished: bool,
-) -> Result<(), AllocError> {
-    let mut text = String::new(rt.alloc());
-    match (order.save, saved) {
-        (None, _) => text.push_str("nothing is saved: there is no --save\n")?,
-        (Some(_), Some(path)) if is_unfinished => {
-            writeln!(
-                text,
-                "the pack is saved in {path}, though a level isn't done: a job that is taken up begins anew, over the records that it has put"
-            )?
-        }
-        (Some(_), Some(path)) => writeln!(text, "the pack is saved in {path}")?,
-        (Some(path), None) => writeln!(
-            text,
-            "the pack is not saved, and {path} is left alone: a level isn't done (--save-unfinished saves it so)"
-        )?,
+/// The words before and after the file's name that report whether a pack is saved.
+fn saved_words(is_saved: bool, is_unfinished: bool) -> (&'static str, &'static str) {
+    if !is_saved {
+        (
+            "the pack is not saved, and ",
+            " is left alone: a level isn't done (--save-unfinished saves it so)\n",
+        )
+    } else if is_unfinished {
+        (
+            "the pack is saved in ",
+            ", though a level isn't done: a job that is taken up begins anew, over the records that it has put\n",
+        )
+    } else {
+        ("the pack is saved in ", "\n")
     }
-    desk.tell(text.as_str());
-    Ok(())
 }
 
 /// Logs the end of the day.
 fn log_end(
-    rt: &HostRuntime,
+    alloc: Global,
     desk: &mut OwnDesk<'_>,
     status: u8,
     saved: Option<&str>,
     pack: &[u8],
 ) -> Result<(), AllocError> {
-    if !desk.has_log() {
-        return Ok(());
-    }
-    let alloc = rt.alloc();
     let saved = match saved {
-        Some(path) => Some(NamedFile {
-            name: String::from_str(alloc, path)?,
-            sha256: checksum(alloc, pack)?,
-        }),
+        Some(path) => Some(named_file(alloc, path, pack)?),
         None => None,
     };
     desk.note(Event::End(DayOver { status, saved }))

@@ -4,6 +4,7 @@ ghost use Rattle.std.specs.Prelude.{◌≤◌};
 use crate::refusal::OUT_OF_MEMORY;
 use s3_cards::LevelId;
 use s3_cli::{CliFault, tell};
+use s3_host_files::FileFault;
 use s3_paper_commands::status::{FILE_FAILED, REFUSED, WRONG_WORDS};
 use std::alloc::{AllocError, AllocFailed};
 use std::io;
@@ -14,7 +15,7 @@ use std::io::Write;
 pub enum DayFault<'a> {
     /// As `run` is refused.
     Cli(CliFault),
-    /// The words say no day; this is why.
+    /// The options name no day; this is why.
     Usage(&'static str),
     /// This file can't be read, or not be written.
     File(&'a str),
@@ -54,23 +55,34 @@ impl<'a> DayFault<'a> {
         }
     }
 
+    /// Why the file of a pack can't be read or saved.
+    pub fn of_pack(fault: &FileFault, name: &'a str) -> DayFault<'a> {
+        match fault {
+            FileFault::InUse => DayFault::InUse(name),
+            FileFault::Call(error) => DayFault::of(error, name),
+        }
+    }
+
     /// Writes the line of a refusal, and gives its exit status.
     pub fn tell<W: Write>(&self, writer: &mut W) -> u8
         ensures { result ≤ 3 }
     {
-        let (written, status) = match self {
+        let (what, name, status) = match self {
             DayFault::Cli(fault) => return tell(writer, fault),
-            DayFault::Usage(reason) => (writeln!(writer, "error: {reason}"), WRONG_WORDS),
-            DayFault::File(name) => (writeln!(writer, "bureau: file {name}"), FILE_FAILED),
-            DayFault::InUse(name) => (writeln!(writer, "bureau: in use {name}"), REFUSED),
-            DayFault::Replies(line) => (writeln!(writer, "bureau: replies {line}"), REFUSED),
-            DayFault::Deck(LevelId::One) => (writeln!(writer, "bureau: deck1"), REFUSED),
-            DayFault::Deck(LevelId::Two) => (writeln!(writer, "bureau: deck2"), REFUSED),
-            DayFault::Exists(name) => (writeln!(writer, "bureau: exists {name}"), REFUSED),
-            DayFault::NoTakingUp => (writeln!(writer, "bureau: from"), REFUSED),
-            DayFault::Redo => (writeln!(writer, "bureau: redo"), REFUSED),
+            DayFault::Replies(line) => {
+                let _ = writeln!(writer, "bureau: replies {line}");
+                return REFUSED;
+            }
+            DayFault::Usage(reason) => ("error: ", *reason, WRONG_WORDS),
+            DayFault::File(name) => ("bureau: file ", *name, FILE_FAILED),
+            DayFault::InUse(name) => ("bureau: in use ", *name, REFUSED),
+            DayFault::Deck(LevelId::One) => ("bureau: deck1", "", REFUSED),
+            DayFault::Deck(LevelId::Two) => ("bureau: deck2", "", REFUSED),
+            DayFault::Exists(name) => ("bureau: exists ", *name, REFUSED),
+            DayFault::NoTakingUp => ("bureau: from", "", REFUSED),
+            DayFault::Redo => ("bureau: redo", "", REFUSED),
         };
-        let _ = written;
+        let _ = writeln!(writer, "{what}{name}");
         status
     }
 }

@@ -1,189 +1,179 @@
 //! What a day reads: its pack, its decks, its rules and a log.
 
+use super::begun::{named_file, words_kept};
 use super::fault::DayFault;
+use super::level_deck::LevelDeck;
 use super::order::Order;
+use super::taking_up::take_up;
 use crate::new_pack::new_pack;
 use s3_cards::LevelId;
-use s3_day_log::{DayLog, LogFault, NamedFile, checksum};
-use s3_host_files::{FileFault, LockedPack, read_pack, read_to_save, read_within};
-use s3_operating::{DayDeck, JoinedFiles};
-use s3_paper_commands::{is_plain_text, tell_punched};
-use s3_punch::{Begun, Punched, punch};
+use s3_day_log::{Begun, DayLog, LogFault};
+use s3_host_files::{LockedPack, read_pack, read_to_save, read_within};
+use s3_operating::DayDeck;
 use s3_replies::{Rules, RulesFault};
-use std::alloc::{AllocError, Global};
+use std::alloc::AllocError;
 use std::io::Write;
 
-/// The most bytes of a file of a deck and of the rules that is read.
-const TEXT_LIMIT: usize = 4_194_304;
+/// The most bytes of the rules that are read.
+const RULES_LIMIT: usize = 4_194_304;
 
 /// The most bytes of a log that is read.
 const LOG_LIMIT: usize = 268_435_456;
 
-/// The pack that a day is given, or a new one; the digest of its bytes, if that is asked for and a file was read; and the lock
-/// on its file where it is saved there.
-pub fn read_day_pack<'a>(
-    rt: &HostRuntime,
-    order: &Order<'a>,
-    is_logged: bool,
-) -> Result<(Vec<u8>, Option<String>, Option<LockedPack>), DayFault<'a>> {
-    let Some(path) = order.pack else {
-        return match new_pack(rt.alloc()) {
-            Ok(bytes) => Ok((bytes, None, None)),
-            Err(fault) => Err(DayFault::Cli(fault)),
-        };
-    };
-    let (bytes, locked) = read_pack_of(rt, path, order.save)?;
-    let sum = if is_logged {
-        Some(checksum(rt.alloc(), &bytes)?)
-    } else {
-        None
-    };
-    Ok((bytes, sum, locked))
-}
-
-/// A pack, and the lock on its file where it is saved there.
-fn read_pack_of<'a>(
-    rt: &HostRuntime,
-    path: &'a str,
-    save: Option<&'a str>,
-) -> Result<(Vec<u8>, Option<LockedPack>), DayFault<'a>> {
-    let read = match save {
-        Some(save) => read_to_save(rt, path, save),
-        None => match read_pack(rt, path) {
-            Ok(bytes) => Ok((bytes, None)),
-            Err(error) => Err(FileFault::Call(error)),
-        },
-    };
-    match read {
-        Ok(read) => Ok(read),
-        Err(FileFault::InUse) => Err(DayFault::InUse(path)),
-        Err(FileFault::Call(error)) => Err(DayFault::of(&error, path)),
-    }
-}
-
-/// The names of a deck's files, and the digest of each as it was read.
+/// The pack that a day is given, or a new one.
 #[derive(Drop)]
-pub struct DeckFiles<'a> {
-    names: Vec<&'a str>,
-    checksums: Vec<String>,
+pub struct DayPack {
+    /// Its bytes.
+    pub bytes: Vec<u8>,
+    /// The lock on its file, if it is saved there.
+    pub locked: Option<LockedPack>,
 }
 
-impl<'a> DeckFiles<'a> {
-    /// The files as a log has them; none where no digests were asked for.
-    pub fn files(&self, alloc: Global) -> Result<Vec<NamedFile>, AllocError> {
-        let mut files = Vec::new(alloc);
-        for (name, sum) in self.names.iter().zip(self.checksums.iter()) {
-            files.push(NamedFile {
-                name: String::from_str(alloc, name)?,
-                sha256: String::from_str(alloc, sum.as_str())?,
-            })?;
+impl DayPack {
+    /// The pack that the options name, or a new one. If the day is logged, its beginning gets the name and the digest of a pack that
+    /// is read.
+    pub fn read<'a>(
+        rt: &HostRuntime,
+        order: &Order<'a>,
+        begun: &mut Begun,
+        is_logged: bool,
+    ) -> Result<DayPack, DayFault<'a>> {
+        let Some(path) = order.pack else {
+            return DayPack::made(rt);
+        };
+        let pack = DayPack::read_file(rt, path, order.save)?;
+        if is_logged {
+            begun.pack = Some(named_file(rt.alloc(), path, &pack.bytes)?);
         }
-        Ok(files)
+        Ok(pack)
+    }
+
+    /// A new pack.
+    fn made<'a>(rt: &HostRuntime) -> Result<DayPack, DayFault<'a>> {
+        match new_pack(rt.alloc()) {
+            Ok(bytes) => Ok(DayPack {
+                bytes,
+                locked: None,
+            }),
+            Err(fault) => Err(DayFault::Cli(fault)),
+        }
+    }
+
+    /// The pack of a file, with the lock on the file if it is saved there.
+    fn read_file<'a>(
+        rt: &HostRuntime,
+        path: &'a str,
+        save: Option<&'a str>,
+    ) -> Result<DayPack, DayFault<'a>> {
+        let Some(save) = save else {
+            return DayPack::read_alone(rt, path);
+        };
+        match read_to_save(rt, path, save) {
+            Ok((bytes, locked)) => Ok(DayPack { bytes, locked }),
+            Err(fault) => Err(DayFault::of_pack(&fault, path)),
+        }
+    }
+
+    /// The pack of a file that isn't saved.
+    fn read_alone<'a>(rt: &HostRuntime, path: &'a str) -> Result<DayPack, DayFault<'a>> {
+        match read_pack(rt, path) {
+            Ok(bytes) => Ok(DayPack {
+                bytes,
+                locked: None,
+            }),
+            Err(error) => Err(DayFault::of(&error, path)),
+        }
     }
 }
 
-/// The decks of a day, and the files that they were read from.
+/// The decks of a day, and with what it is begun.
 #[derive(Drop)]
 pub struct Decks<'a> {
     /// The deck of level 1.
     pub one: DayDeck<'a>,
     /// The deck of level 2.
     pub two: DayDeck<'a>,
-    /// The files of level 1's deck.
-    pub files1: DeckFiles<'a>,
-    /// The files of level 2's deck.
-    pub files2: DeckFiles<'a>,
+    /// With what the day is begun, as its log has it, before its pack is read.
+    pub begun: Begun,
 }
 
 impl<'a> Decks<'a> {
-    /// The decks that the words name, with the digests of their files, if they are asked for.
+    /// The decks that the options name, with the digests of their files, if they are asked for.
     pub fn read(
         rt: &HostRuntime,
         order: &Order<'a>,
+        words: &[String],
         is_logged: bool,
     ) -> Result<Decks<'a>, DayFault<'a>> {
-        let (one, files1) = read_deck(rt, LevelId::One, &order.deck1, is_logged)?;
-        let (two, files2) = read_deck(rt, LevelId::Two, &order.deck2, is_logged)?;
-        Ok(Decks {
-            one,
-            two,
-            files1,
-            files2,
-        })
+        let one = LevelDeck::read(rt, LevelId::One, order.deck1, is_logged)?;
+        let two = LevelDeck::read(rt, LevelId::Two, order.deck2, is_logged)?;
+        let words = words_kept(rt.alloc(), words)?;
+        Ok(Decks::of(words, one, two))
+    }
+
+    fn of(words: Vec<String>, one: LevelDeck<'a>, two: LevelDeck<'a>) -> Decks<'a> {
+        let LevelDeck {
+            joined: joined1,
+            files: deck1,
+        } = one;
+        let LevelDeck {
+            joined: joined2,
+            files: deck2,
+        } = two;
+        Decks {
+            one: DayDeck::Whole(joined1),
+            two: DayDeck::Whole(joined2),
+            begun: Begun {
+                words,
+                pack: None,
+                deck1,
+                deck2,
+            },
+        }
+    }
+
+    /// Takes each level up at the line that the options name for it, if they name one.
+    pub fn take_up(&mut self, rt: &HostRuntime, order: &Order<'a>) -> Result<(), DayFault<'a>> {
+        take_up(rt, LevelId::One, &mut self.one, order.from1)?;
+        take_up(rt, LevelId::Two, &mut self.two, order.from2)
     }
 }
 
-/// The deck of a level, of these files, and their digests, if they are asked for. A file of plain text is punched; what is wrong with
-/// it is told.
-fn read_deck<'a>(
+/// The bytes of a file, up to a limit.
+pub fn read_text<'a>(
     rt: &HostRuntime,
-    level: LevelId,
-    paths: &[&'a str],
-    is_logged: bool,
-) -> Result<(DayDeck<'a>, DeckFiles<'a>), DayFault<'a>> {
-    let alloc = rt.alloc();
-    let is_punched = paths.iter().any(|path| is_plain_text(*path));
-    let mut begun = Begun::new(false);
-    let mut is_faulty = false;
-    let mut joined = JoinedFiles::new(alloc);
-    let mut names = Vec::new(alloc);
-    let mut checksums = Vec::new(alloc);
-    for path in paths {
-        let name: &'a str = *path;
-        let bytes = read_text(rt, name, TEXT_LIMIT)?;
-        if is_logged {
-            checksums.push(checksum(alloc, &bytes)?)?;
-        }
-        names.push(name)?;
-        if is_plain_text(name) {
-            let punched = punch(alloc, &bytes, &begun)?;
-            is_faulty |= tell_punched(rt, name, &punched);
-            begun = punched.behind(begun);
-            let Punched {
-                text,
-                origins,
-                changes: _changes,
-                faults: _faults,
-                part: _part,
-            } = punched;
-            joined.add_punched(name, text, origins)?;
-        } else {
-            if is_punched {
-                begun = begun.behind_deck(&bytes);
-            }
-            joined.add(name, bytes)?;
-        }
-    }
-    if is_faulty {
-        return Err(DayFault::Deck(level));
-    }
-    Ok((DayDeck::Whole(joined), DeckFiles { names, checksums }))
-}
-
-fn read_text<'a>(rt: &HostRuntime, path: &'a str, limit: usize) -> Result<Vec<u8>, DayFault<'a>> {
+    path: &'a str,
+    limit: usize,
+) -> Result<Vec<u8>, DayFault<'a>> {
     match read_within(rt, path, limit) {
         Ok(bytes) => Ok(bytes),
         Err(error) => Err(DayFault::of(&error, path)),
     }
 }
 
-/// The rules of a file, or none where no file is named. Each line that is no rule is told.
+/// The rules of a file, or none if no file is named. Each line that is no rule is reported.
 pub fn read_rules<'a>(rt: &HostRuntime, path: Option<&'a str>) -> Result<Rules, DayFault<'a>> {
     let Some(path) = path else {
         return Ok(Rules::none(rt.alloc()));
     };
-    let text = read_text(rt, path, TEXT_LIMIT)?;
-    let lines = match Rules::read(rt.alloc(), &text) {
-        Ok(rules) => return Ok(rules),
-        Err(RulesFault::NoMemory) => return Err(DayFault::from(AllocError)),
-        Err(RulesFault::IllFormed(lines)) => lines,
+    let text = read_text(rt, path, RULES_LIMIT)?;
+    match Rules::read(rt.alloc(), &text) {
+        Ok(rules) => Ok(rules),
+        Err(fault) => Err(rules_refused(rt, path, &fault)),
+    }
+}
+
+/// Why rules are refused. Each line that is no rule is reported.
+fn rules_refused<'a>(rt: &HostRuntime, path: &str, fault: &RulesFault) -> DayFault<'a> {
+    let RulesFault::IllFormed(lines) = fault else {
+        return DayFault::from(AllocError);
     };
-    for line in &lines {
+    for line in lines {
         let _ = writeln!(rt.stderr(), "{path}, {line}");
     }
     match lines.first() {
-        Some(first) => Err(DayFault::Replies(first.number)),
-        None => Err(DayFault::Replies(0)),
+        Some(first) => DayFault::Replies(first.number),
+        None => DayFault::Replies(0),
     }
 }
 

@@ -1,12 +1,10 @@
 //! What the words of `operate` ask for.
 
-use super::fault::DayFault;
 use super::paper::Paper;
 use clap::ArgMatches;
 use s3_decks::Position;
 use s3_desk::Bounds;
 use s3_operating::Questioned;
-use std::alloc::AllocError;
 use std::io::IsTerminal;
 
 /// The most turns of a level, where the words don't say it: some five seconds of a program that only jumps.
@@ -18,17 +16,20 @@ const LINES: u32 = 1_000_000;
 /// What stands for standard input where a file of rules is named.
 const STANDARD_INPUT: &str = "-";
 
-/// What the words of `operate` ask for.
-#[derive(Drop)]
+/// Why `--replies` isn't taken.
+const TWICE: &str = "--replies takes one file, and - once";
+
+/// What the options of `operate` ask for.
+#[derive(Clone, Copy)]
 pub struct Order<'a> {
     /// The pack that is read.
     pub pack: Option<&'a str>,
     /// Where the pack is saved.
     pub save: Option<&'a str>,
     /// The files of level 1's deck.
-    pub deck1: Vec<&'a str>,
+    pub deck1: &'a [&'a str],
     /// The files of level 2's deck.
-    pub deck2: Vec<&'a str>,
+    pub deck2: &'a [&'a str],
     /// The rules.
     pub rules: Option<&'a str>,
     /// Who is asked where no rule answers.
@@ -39,6 +40,8 @@ pub struct Order<'a> {
     pub script: Option<&'a str>,
     /// Where the log is written.
     pub log: Option<&'a str>,
+    /// The log whose day is done again.
+    pub redo: Option<&'a str>,
     /// Where level 1 is taken up.
     pub from1: Option<Position<'a>>,
     /// Where level 2 is taken up.
@@ -58,14 +61,17 @@ pub struct Order<'a> {
 }
 
 impl<'a> Order<'a> {
-    /// What the words ask for.
-    pub fn read(rt: &HostRuntime, words: &ArgMatches<'a>) -> Result<Order<'a>, DayFault<'a>> {
+    /// What the options ask for, or why they name no day.
+    pub fn read(rt: &HostRuntime, words: &'a ArgMatches<'a>) -> Result<Order<'a>, &'static str> {
         let (rules, has_lines) = replies_of(words)?;
+        let from1 = position(words, "from1")?;
+        let from2 = position(words, "from2")?;
+        let paper = Paper::read(words)?;
         Ok(Order {
             pack: words.get_str("pack"),
             save: words.get_str("save"),
-            deck1: names(rt, words, "deck1")?,
-            deck2: names(rt, words, "deck2")?,
+            deck1: words.get_strs("deck1").unwrap_or(&[]),
+            deck2: words.get_strs("deck2").unwrap_or(&[]),
             rules,
             questioned: questioned(rt, has_lines),
             bounds: Bounds {
@@ -74,11 +80,12 @@ impl<'a> Order<'a> {
             },
             script: words.get_str("script"),
             log: words.get_str("log"),
-            from1: position(words, "from1")?,
-            from2: position(words, "from2")?,
+            redo: words.get_str("redo"),
+            from1,
+            from2,
             deck_out1: words.get_str("deck-out1"),
             deck_out2: words.get_str("deck-out2"),
-            paper: Paper::read(words)?,
+            paper,
             saves_unfinished: words.get_flag("save-unfinished"),
             overwrites: words.get_flag("overwrite"),
             is_quiet: words.get_flag("quiet"),
@@ -86,35 +93,20 @@ impl<'a> Order<'a> {
     }
 }
 
-/// The names that a word was given with, in their order.
-pub fn names<'a>(
-    rt: &HostRuntime,
-    words: &ArgMatches<'a>,
-    word: &str,
-) -> Result<Vec<&'a str>, AllocError> {
-    let mut names = Vec::new(rt.alloc());
-    for name in words.get_strs(word).unwrap_or(&[]) {
-        names.push(*name)?;
-    }
-    Ok(names)
-}
-
 /// The file of rules, and whether standard input is a list of replies.
-pub fn replies_of<'a>(words: &ArgMatches<'a>) -> Result<(Option<&'a str>, bool), DayFault<'a>> {
+pub fn replies_of<'a>(words: &ArgMatches<'a>) -> Result<(Option<&'a str>, bool), &'static str> {
     let mut rules = None;
     let mut has_lines = false;
     for name in words.get_strs("replies").unwrap_or(&[]) {
-        let is_second = if *name == STANDARD_INPUT {
-            has_lines
-        } else {
-            rules.is_some()
-        };
-        if is_second {
-            return Err(DayFault::Usage("--replies takes one file, and - once"));
-        }
         if *name == STANDARD_INPUT {
+            if has_lines {
+                return Err(TWICE);
+            }
             has_lines = true;
         } else {
+            if rules.is_some() {
+                return Err(TWICE);
+            }
             rules = Some(*name);
         }
     }
@@ -133,12 +125,12 @@ fn questioned(rt: &HostRuntime, has_lines: bool) -> Questioned {
 }
 
 /// The line of a deck that a word gives.
-fn position<'a>(words: &ArgMatches<'a>, word: &str) -> Result<Option<Position<'a>>, DayFault<'a>> {
+fn position<'a>(words: &ArgMatches<'a>, word: &str) -> Result<Option<Position<'a>>, &'static str> {
     let Some(given) = words.get_str(word) else {
         return Ok(None);
     };
     match Position::read(given) {
         Some(position) => Ok(Some(position)),
-        None => Err(DayFault::Usage("--from1 and --from2 take [FILE:]LINE, a line from 1")),
+        None => Err("--from1 and --from2 take [FILE:]LINE, a line from 1"),
     }
 }

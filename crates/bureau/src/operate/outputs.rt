@@ -3,8 +3,9 @@
 use super::fault::DayFault;
 use super::order::Order;
 use super::paper::Paper;
-use s3_host_files::{FileFault, LockedPack, Target, prepare_save};
-use std::fs::{File, OpenOptions};
+use s3_host_files::{LockedPack, Target, prepare_save};
+use std::alloc::Global;
+use std::fs::{File, Metadata, OpenOptions};
 use std::io::Write;
 use std::{fs, io};
 
@@ -47,10 +48,10 @@ pub struct Outputs<'a> {
     pub script: Option<Output>,
     /// The log.
     pub log: Option<Output>,
-    /// Level 1's deck as it is run, and its name.
-    pub deck1: Option<(Output, &'a str)>,
-    /// Level 2's deck as it is run, and its name.
-    pub deck2: Option<(Output, &'a str)>,
+    /// Level 1's deck as it is run.
+    pub deck1: Option<Output>,
+    /// Level 2's deck as it is run.
+    pub deck2: Option<Output>,
     /// The lock on the file that the pack is saved to.
     pub locked: Option<LockedPack>,
     /// The files that were made by trying, and the folder of the pages.
@@ -59,11 +60,22 @@ pub struct Outputs<'a> {
 
 /// Where something is written or read.
 #[derive(Drop)]
-pub struct Named<'a> {
+struct Named<'a> {
     /// The name that was given.
-    pub name: &'a str,
+    name: &'a str,
     /// Where it leads.
-    pub target: Target,
+    target: Target,
+}
+
+/// The files that a day reads, and those that it writes.
+#[derive(Drop)]
+pub struct Files<'a> {
+    /// What is read, except the pack.
+    texts: Vec<Named<'a>>,
+    /// The pack that is read.
+    pack: Option<Named<'a>>,
+    /// What is written.
+    written: Vec<Named<'a>>,
 }
 
 fn found<'a>(rt: &HostRuntime, name: &'a str) -> Result<Named<'a>, DayFault<'a>> {
@@ -75,116 +87,141 @@ fn found<'a>(rt: &HostRuntime, name: &'a str) -> Result<Named<'a>, DayFault<'a>>
 
 /// Refuses a pack that isn't there, so that a misspelt name isn't taken for an output over another pack; and outputs that are the
 /// same file as another output, as one that is read, or as one that is there.
-pub fn test_outputs<'a>(
-    rt: &HostRuntime,
-    order: &Order<'a>,
-    redo: Option<&'a str>,
-) -> Result<(), DayFault<'a>> {
-    let mut read = texts_read(rt, order, redo)?;
-    let pack = pack_found(rt, order)?;
-    let mut written = Vec::new(rt.alloc());
-    if let Some(name) = order.save {
-        written.push(save_tested(rt, order, name, &read)?)?;
-    }
-    if let Some(pack) = pack {
-        read.push(pack)?;
-    }
-    for name in [order.script, order.log, order.deck_out1, order.deck_out2] {
-        if let Some(name) = name {
-            let output = output_tested(rt, order, name, &read, &written)?;
-            written.push(output)?;
-        }
-    }
+pub fn test_outputs<'a>(rt: &HostRuntime, order: &Order<'a>) -> Result<(), DayFault<'a>> {
+    let mut files = Files::new(rt.alloc());
+    files.add_texts(rt, order)?;
+    files.add_pack(rt, order.pack)?;
+    files.add_saved(rt, order)?;
+    files.add_written(rt, order)?;
     match order.paper {
-        Some(paper) => paper.test_free(rt, order.overwrites, &read, &written),
+        Some(paper) => paper.test_free(rt, order.overwrites, &files),
         None => Ok(()),
     }
 }
 
-/// Where the pack is that a day is given.
-fn pack_found<'a>(rt: &HostRuntime, order: &Order<'a>) -> Result<Option<Named<'a>>, DayFault<'a>> {
-    let Some(name) = order.pack else {
-        return Ok(None);
-    };
-    let pack = found(rt, name)?;
-    if !pack.target.is_there() {
-        return Err(DayFault::File(name));
-    }
-    Ok(Some(pack))
-}
-
-/// What a day reads beside its pack.
-fn texts_read<'a>(
-    rt: &HostRuntime,
-    order: &Order<'a>,
-    redo: Option<&'a str>,
-) -> Result<Vec<Named<'a>>, DayFault<'a>> {
-    let mut read = Vec::new(rt.alloc());
-    for name in order.deck1.iter().chain(order.deck2.iter()) {
-        read.push(found(rt, *name)?)?;
-    }
-    for name in [order.rules, redo] {
-        if let Some(name) = name {
-            read.push(found(rt, name)?)?;
+impl<'a> Files<'a> {
+    fn new(alloc: Global) -> Files<'a> {
+        Files {
+            texts: Vec::new(alloc),
+            pack: None,
+            written: Vec::new(alloc),
         }
     }
-    Ok(read)
-}
 
-/// Where the pack is saved: no text that is read, and nothing that is there but the pack itself, unless that is written over.
-fn save_tested<'a>(
-    rt: &HostRuntime,
-    order: &Order<'a>,
-    name: &'a str,
-    read: &[Named<'a>],
-) -> Result<Named<'a>, DayFault<'a>> {
-    let save = found(rt, name)?;
-    test_apart(&save, read)?;
-    if !order.overwrites && save.target.is_there() && !is_pack(rt, order, &save)? {
-        return Err(DayFault::Exists(name));
-    }
-    Ok(save)
-}
-
-/// Where something else is written: nothing that is read, no other output, and nothing that is there, unless that is written over.
-fn output_tested<'a>(
-    rt: &HostRuntime,
-    order: &Order<'a>,
-    name: &'a str,
-    read: &[Named<'a>],
-    written: &[Named<'a>],
-) -> Result<Named<'a>, DayFault<'a>> {
-    let output = found(rt, name)?;
-    test_apart(&output, read)?;
-    test_apart(&output, written)?;
-    if !order.overwrites && output.target.is_there() {
-        return Err(DayFault::Exists(name));
-    }
-    Ok(output)
-}
-
-/// Whether the file that the pack is saved to is the one that it is read from.
-fn is_pack<'a>(
-    rt: &HostRuntime,
-    order: &Order<'a>,
-    save: &Named<'a>,
-) -> Result<bool, DayFault<'a>> {
-    match order.pack {
-        Some(name) => Ok(found(rt, name)?.target.is_same(&save.target)),
-        None => Ok(false),
-    }
-}
-
-/// Refuses an output that is the same file as one of others.
-fn test_apart<'a>(output: &Named<'a>, others: &[Named<'a>]) -> Result<(), DayFault<'a>> {
-    if others
-        .iter()
-        .any(|other| other.target.is_same(&output.target))
-    {
-        Err(DayFault::Exists(output.name))
-    } else {
+    /// Adds what the day reads, except its pack.
+    fn add_texts(&mut self, rt: &HostRuntime, order: &Order<'a>) -> Result<(), DayFault<'a>> {
+        for name in order.deck1.iter().chain(order.deck2.iter()) {
+            self.add_text(rt, *name)?;
+        }
+        for name in [order.rules, order.redo] {
+            if let Some(name) = name {
+                self.add_text(rt, name)?;
+            }
+        }
         Ok(())
     }
+
+    fn add_text(&mut self, rt: &HostRuntime, name: &'a str) -> Result<(), DayFault<'a>> {
+        let text = found(rt, name)?;
+        self.texts.push(text)?;
+        Ok(())
+    }
+
+    /// Adds the pack that is read, if it is there.
+    fn add_pack(&mut self, rt: &HostRuntime, name: Option<&'a str>) -> Result<(), DayFault<'a>> {
+        let Some(name) = name else {
+            return Ok(());
+        };
+        let pack = found(rt, name)?;
+        if !pack.target.is_there() {
+            return Err(DayFault::File(name));
+        }
+        self.pack = Some(pack);
+        Ok(())
+    }
+
+    /// Adds the file that the pack is saved to: no text that is read, and nothing that is there except the pack itself, unless that is
+    /// written over.
+    fn add_saved(&mut self, rt: &HostRuntime, order: &Order<'a>) -> Result<(), DayFault<'a>> {
+        let Some(name) = order.save else {
+            return Ok(());
+        };
+        let save = found(rt, name)?;
+        if has_same(&self.texts, &save) {
+            return Err(DayFault::Exists(name));
+        }
+        if !order.overwrites && save.target.is_there() && !self.is_pack(&save) {
+            return Err(DayFault::Exists(name));
+        }
+        self.written.push(save)?;
+        Ok(())
+    }
+
+    /// Adds all other outputs that are files.
+    fn add_written(&mut self, rt: &HostRuntime, order: &Order<'a>) -> Result<(), DayFault<'a>> {
+        for name in [order.script, order.log, order.deck_out1, order.deck_out2] {
+            if let Some(name) = name {
+                self.add_output(rt, name, order.overwrites)?;
+            }
+        }
+        Ok(())
+    }
+
+    /// Adds an output: nothing that is read, no other output, and nothing that is there, unless that is written over.
+    fn add_output(
+        &mut self,
+        rt: &HostRuntime,
+        name: &'a str,
+        overwrites: bool,
+    ) -> Result<(), DayFault<'a>> {
+        let output = found(rt, name)?;
+        if self.has(&output) || (!overwrites && output.target.is_there()) {
+            return Err(DayFault::Exists(name));
+        }
+        self.written.push(output)?;
+        Ok(())
+    }
+
+    /// Whether a file is the pack that is read.
+    fn is_pack(&self, file: &Named<'a>) -> bool {
+        match &self.pack {
+            Some(pack) => pack.target.is_same(&file.target),
+            None => false,
+        }
+    }
+
+    /// Whether a file is one of these.
+    fn has(&self, file: &Named<'a>) -> bool {
+        has_same(&self.texts, file) || self.is_pack(file) || has_same(&self.written, file)
+    }
+
+    /// The name of the first of these files that stands in a folder, if one does.
+    pub fn name_within(&self, folder: &Metadata) -> Option<&'a str> {
+        if let Some(name) = first_within(&self.texts, folder) {
+            return Some(name);
+        }
+        match &self.pack {
+            Some(pack) if pack.target.is_in(folder) => Some(pack.name),
+            _ => first_within(&self.written, folder),
+        }
+    }
+}
+
+/// Whether a file is one of others.
+fn has_same<'a>(others: &[Named<'a>], file: &Named<'a>) -> bool {
+    others
+        .iter()
+        .any(|other| other.target.is_same(&file.target))
+}
+
+/// The name of the first of some files that stands in a folder, if one does.
+fn first_within<'a>(files: &[Named<'a>], folder: &Metadata) -> Option<&'a str> {
+    for file in files {
+        if file.target.is_in(folder) {
+            return Some(file.name);
+        }
+    }
+    None
 }
 
 impl<'a> Outputs<'a> {
@@ -194,20 +231,12 @@ impl<'a> Outputs<'a> {
         order: &Order<'a>,
         locked: Option<LockedPack>,
     ) -> Result<Outputs<'a>, DayFault<'a>> {
-        let locked = match order.save {
-            Some(name) => match prepare_save(rt, name, locked) {
-                Ok(locked) => locked,
-                Err(FileFault::InUse) => return Err(DayFault::InUse(name)),
-                Err(FileFault::Call(error)) => return Err(DayFault::of(&error, name)),
-            },
-            None => None,
-        };
         let mut outputs = Outputs {
             script: None,
             log: None,
             deck1: None,
             deck2: None,
-            locked,
+            locked: save_prepared(rt, order.save, locked)?,
             made: Vec::new(rt.alloc()),
         };
         match outputs.open_all(rt, order) {
@@ -222,8 +251,8 @@ impl<'a> Outputs<'a> {
     fn open_all(&mut self, rt: &HostRuntime, order: &Order<'a>) -> Result<(), DayFault<'a>> {
         self.script = self.open_one(rt, order.script)?;
         self.log = self.open_one(rt, order.log)?;
-        self.deck1 = self.open_deck(rt, order.deck_out1)?;
-        self.deck2 = self.open_deck(rt, order.deck_out2)?;
+        self.deck1 = self.open_one(rt, order.deck_out1)?;
+        self.deck2 = self.open_one(rt, order.deck_out2)?;
         self.open_folder(rt, order.paper)
     }
 
@@ -242,18 +271,7 @@ impl<'a> Outputs<'a> {
         Ok(())
     }
 
-    fn open_deck(
-        &mut self,
-        rt: &HostRuntime,
-        name: Option<&'a str>,
-    ) -> Result<Option<(Output, &'a str)>, DayFault<'a>> {
-        match (self.open_one(rt, name)?, name) {
-            (Some(output), Some(name)) => Ok(Some((output, name))),
-            _ => Ok(None),
-        }
-    }
-
-    /// Opens an output, if one is named, behind what stands there.
+    /// Opens an output, if one is named, after what stands there.
     fn open_one(
         &mut self,
         rt: &HostRuntime,
@@ -262,20 +280,41 @@ impl<'a> Outputs<'a> {
         let Some(name) = name else {
             return Ok(None);
         };
-        let is_there = fs::exists(rt, name);
-        let opened = OpenOptions::new().append(true).create(true).open(rt, name);
-        match (is_there, opened) {
-            (Ok(is_there), Ok(file)) => {
+        match opened(rt, name) {
+            Ok((is_there, output)) => {
                 if !is_there {
                     self.made.push(name)?;
                 }
-                Ok(Some(Output {
-                    file,
-                    is_emptied: false,
-                }))
+                Ok(Some(output))
             }
-            (Err(error), _) | (_, Err(error)) => Err(DayFault::of(&error, name)),
+            Err(error) => Err(DayFault::of(&error, name)),
         }
+    }
+}
+
+/// Whether a file was there, and an output after what stands there.
+fn opened(rt: &HostRuntime, name: &str) -> io::Result<(bool, Output)> {
+    let is_there = fs::exists(rt, name)?;
+    let file = OpenOptions::new().append(true).create(true).open(rt, name)?;
+    let output = Output {
+        file,
+        is_emptied: false,
+    };
+    Ok((is_there, output))
+}
+
+/// The lock on the file that the pack is saved to, once that is tried, if the pack is to be saved.
+fn save_prepared<'a>(
+    rt: &HostRuntime,
+    save: Option<&'a str>,
+    locked: Option<LockedPack>,
+) -> Result<Option<LockedPack>, DayFault<'a>> {
+    let Some(name) = save else {
+        return Ok(None);
+    };
+    match prepare_save(rt, name, locked) {
+        Ok(locked) => Ok(locked),
+        Err(fault) => Err(DayFault::of_pack(&fault, name)),
     }
 }
 
@@ -288,13 +327,22 @@ pub fn remove_made(rt: &HostRuntime, made: &[&str]) {
     }
 }
 
-/// Writes a deck as it is run, where that is asked for.
-pub fn write_deck<'a>(output: Option<(Output, &'a str)>, text: &[u8]) -> Result<(), DayFault<'a>> {
-    let Some((mut file, name)) = output else {
+/// Writes a deck as it is run, if that is asked for.
+pub fn write_deck<'a>(
+    output: Option<Output>,
+    name: Option<&'a str>,
+    text: &[u8],
+) -> Result<(), DayFault<'a>> {
+    let (Some(mut output), Some(name)) = (output, name) else {
         return Ok(());
     };
-    match file.write_all(text).and_then(|()| file.flush()) {
+    match write_whole(&mut output, text) {
         Ok(()) => Ok(()),
         Err(error) => Err(DayFault::of(&error, name)),
     }
+}
+
+fn write_whole(output: &mut Output, text: &[u8]) -> io::Result<()> {
+    output.write_all(text)?;
+    output.flush()
 }

@@ -2,7 +2,7 @@
 
 use super::day::OwnDesk;
 use super::fault::DayFault;
-use super::outputs::Named;
+use super::outputs::Files;
 use clap::ArgMatches;
 use s3_bureau::Outcome;
 use s3_cards::ebcdic::DIGIT_0;
@@ -13,7 +13,7 @@ use s3_operating::PrintedJob;
 use s3_pages::{PaperFault, parts, write_pdf, write_text};
 use s3_report_lines::lines_of_report;
 use std::alloc::{AllocError, Global};
-use std::fs::Metadata;
+use std::fs::File;
 use std::io::{BufWriter, ErrorKind, Write};
 use std::{fs, io};
 
@@ -37,24 +37,13 @@ pub struct Paper<'a> {
 }
 
 impl<'a> Paper<'a> {
-    /// What the words ask for, if they ask for pages.
-    pub fn read(words: &ArgMatches<'a>) -> Result<Option<Paper<'a>>, DayFault<'a>> {
-        let is_plain = words.get_flag("plain");
-        let form = match (words.get_str("form"), is_plain) {
-            (Some("text"), false) | (None, false) => Form::Text,
-            (Some("pdf"), _) => Form::Document {
-                has_bars: !is_plain,
-            },
-            (Some("text"), true) | (None, true) => {
-                return Err(DayFault::Usage("--plain goes with --form pdf"));
-            }
-            (Some(_), _) => return Err(DayFault::Usage("--form takes text or pdf")),
-        };
+    /// What the options ask for, if they ask for pages, or why they can't.
+    pub fn read(words: &ArgMatches<'a>) -> Result<Option<Paper<'a>>, &'static str> {
+        let named = words.get_str("form");
+        let form = form_of(named, words.get_flag("plain"))?;
         match words.get_str("paper") {
             Some(folder) => Ok(Some(Paper { folder, form })),
-            None if words.get_str("form").is_some() => {
-                Err(DayFault::Usage("--form goes with --paper"))
-            }
+            None if named.is_some() => Err("--form goes with --paper"),
             None => Ok(None),
         }
     }
@@ -70,28 +59,24 @@ impl<'a> Paper<'a> {
         &self,
         rt: &HostRuntime,
         overwrites: bool,
-        read: &[Named<'a>],
-        written: &[Named<'a>],
+        files: &Files<'a>,
     ) -> Result<(), DayFault<'a>> {
-        let found = match fs::metadata(rt, self.folder) {
-            Ok(found) => found,
-            Err(error) if error.kind() == ErrorKind::NotFound => return Ok(()),
-            Err(error) => return Err(DayFault::of(&error, self.folder)),
-        };
-        if let Some(name) = name_within(read, &found) {
-            return Err(DayFault::Exists(name));
+        match fs::metadata(rt, self.folder) {
+            Ok(found) => match files.name_within(&found) {
+                Some(name) => Err(DayFault::Exists(name)),
+                None => self.test_empty(rt, overwrites),
+            },
+            Err(error) if error.kind() == ErrorKind::NotFound => Ok(()),
+            Err(error) => Err(DayFault::of(&error, self.folder)),
         }
-        if let Some(name) = name_within(written, &found) {
-            return Err(DayFault::Exists(name));
-        }
-        let is_empty = match is_empty_folder(rt, self.folder) {
-            Ok(is_empty) => is_empty,
-            Err(error) => return Err(DayFault::of(&error, self.folder)),
-        };
-        if is_empty || overwrites {
-            Ok(())
-        } else {
-            Err(DayFault::Exists(self.folder))
+    }
+
+    /// Refuses a folder that isn't empty, unless what is there is written over.
+    fn test_empty(&self, rt: &HostRuntime, overwrites: bool) -> Result<(), DayFault<'a>> {
+        match is_empty_folder(rt, self.folder) {
+            Ok(is_empty) if is_empty || overwrites => Ok(()),
+            Ok(_) => Err(DayFault::Exists(self.folder)),
+            Err(error) => Err(DayFault::of(&error, self.folder)),
         }
     }
 
@@ -109,99 +94,105 @@ impl<'a> Paper<'a> {
     }
 }
 
-/// The name of the first of some files that stands in a folder, if one does.
-fn name_within<'a>(files: &[Named<'a>], folder: &Metadata) -> Option<&'a str> {
-    for file in files {
-        if file.target.is_in(folder) {
-            return Some(file.name);
-        }
+/// How pages are written, given the form that is named, and whether the bars are left out.
+fn form_of(named: Option<&str>, is_plain: bool) -> Result<Form, &'static str> {
+    match named.unwrap_or("text") {
+        "text" if is_plain => Err("--plain goes with --form pdf"),
+        "text" => Ok(Form::Text),
+        "pdf" => Ok(Form::Document {
+            has_bars: !is_plain,
+        }),
+        _ => Err("--form takes text or pdf"),
     }
-    None
 }
 
-/// Writes the pages of all jobs of both levels that printed, and tells how many these are.
+/// Writes the pages of all jobs of both levels that printed, and reports how many these are.
 pub fn write_paper<'n>(
     rt: &HostRuntime,
     paper: Paper<'n>,
-    desk: &mut OwnDesk<'_>,
+    desk: &OwnDesk<'_>,
     outcome: &Outcome,
 ) -> Result<(), DayFault<'n>> {
     let one = write_level(rt, paper, desk, LevelId::One, &outcome.one.report)?;
     let two = write_level(rt, paper, desk, LevelId::Two, &outcome.two.report)?;
-    tell_paper(rt, paper, desk, one.saturating_add(two))?;
+    tell_paper(rt, paper.folder, one.saturating_add(two));
     Ok(())
 }
 
-/// Tells of how many jobs the pages were written, and where.
-fn tell_paper(
-    rt: &HostRuntime,
-    paper: Paper<'_>,
-    desk: &mut OwnDesk<'_>,
-    jobs: usize,
-) -> Result<(), AllocError> {
-    let folder = paper.folder;
-    let mut text = String::new(rt.alloc());
-    match jobs {
-        0 => writeln!(text, "no job printed, so {folder} gets no pages")?,
-        1 => writeln!(text, "the pages of 1 job are in {folder}")?,
-        _ => writeln!(text, "the pages of {jobs} jobs are in {folder}")?,
-    }
-    desk.tell(text.as_str());
-    Ok(())
+/// Reports of how many jobs the pages were written, and where.
+fn tell_paper(rt: &HostRuntime, folder: &str, jobs: usize) {
+    let _ = match jobs {
+        0 => writeln!(rt.stderr(), "no job printed, so {folder} gets no pages"),
+        1 => writeln!(rt.stderr(), "the pages of 1 job are in {folder}"),
+        _ => writeln!(rt.stderr(), "the pages of {jobs} jobs are in {folder}"),
+    };
 }
 
 /// Writes the pages of the jobs of a level, given its report. It answers of how many jobs there are pages.
 fn write_level<'n>(
     rt: &HostRuntime,
     paper: Paper<'n>,
-    desk: &mut OwnDesk<'_>,
+    desk: &OwnDesk<'_>,
     level: LevelId,
     report: &[u8],
 ) -> Result<usize, DayFault<'n>> {
-    let alloc = rt.alloc();
     let jobs = desk.printed_jobs(level)?;
-    let Some(lines) = lines_of_report(alloc, report)? else {
+    let Some(lines) = lines_of_report(rt.alloc(), report)? else {
         return Err(DayFault::File(paper.folder));
     };
-    let mut counts = Vec::new(alloc);
-    for job in jobs.iter().take(jobs.len().saturating_sub(1)) {
-        counts.push(job.lines)?;
-    }
-    let all = parts(alloc, &lines, &counts)?;
+    write_jobs(rt, paper, level, &jobs, &lines)
+}
+
+/// Writes the pages of some jobs, given the lines of all of them. It answers of how many jobs there are pages.
+fn write_jobs<'n>(
+    rt: &HostRuntime,
+    paper: Paper<'n>,
+    level: LevelId,
+    jobs: &[PrintedJob],
+    lines: &[PrintLine],
+) -> Result<usize, DayFault<'n>> {
+    let counts = counts_of(rt.alloc(), jobs)?;
+    let all = parts(rt.alloc(), lines, &counts)?;
     let mut written: usize = 0;
     for (job, part) in jobs.iter().zip(all.iter()) {
         if !part.is_empty() {
-            write_job(rt, paper, desk, level, job, *part)?;
+            write_job(rt, paper, level, job, *part)?;
             written = written.saturating_add(1);
         }
     }
     Ok(written)
 }
 
+/// How many lines each job printed except the last one.
+fn counts_of(alloc: Global, jobs: &[PrintedJob]) -> Result<Vec<u64>, AllocError> {
+    let mut counts = Vec::new(alloc);
+    for job in jobs.iter().take(jobs.len().saturating_sub(1)) {
+        counts.push(job.lines)?;
+    }
+    Ok(counts)
+}
+
 /// Writes the pages of a job.
 fn write_job<'n>(
     rt: &HostRuntime,
     paper: Paper<'n>,
-    desk: &mut OwnDesk<'_>,
     level: LevelId,
     job: &PrintedJob,
     lines: &[PrintLine],
 ) -> Result<(), DayFault<'n>> {
-    let alloc = rt.alloc();
-    let path = path_of(alloc, paper, level, job)?;
-    let title = title_of(alloc, level, job)?;
+    let path = path_of(rt.alloc(), paper, level, job)?;
+    let title = title_of(rt.alloc(), level, job)?;
     match write_file(rt, path.as_str(), paper.form, title.as_str(), lines) {
         Ok(()) => Ok(()),
         Err(PaperFault::NoMemory) => Err(DayFault::from(AllocError)),
         Err(fault) => {
-            let mut told = path;
-            write!(told, ": {fault}; the file isn't whole\n")?;
-            desk.tell(told.as_str());
+            let _ = writeln!(rt.stderr(), "{path}: {fault}; the file isn't whole");
             Err(DayFault::File(paper.folder))
         }
     }
 }
 
+/// Writes a file of pages.
 fn write_file(
     rt: &HostRuntime,
     path: &str,
@@ -209,16 +200,33 @@ fn write_file(
     title: &str,
     lines: &[PrintLine],
 ) -> Result<(), PaperFault> {
-    let alloc = rt.alloc();
-    let file = create_anew(rt, path).map_err(|error| failed(&error))?;
-    let mut writer = BufWriter::new(alloc, file).map_err(|error| failed(&error))?;
+    match create_anew(rt, path) {
+        Ok(file) => write_pages(rt.alloc(), file, form, title, lines),
+        Err(error) => Err(failed(&error)),
+    }
+}
+
+fn write_pages(
+    alloc: Global,
+    file: File,
+    form: Form,
+    title: &str,
+    lines: &[PrintLine],
+) -> Result<(), PaperFault> {
+    let mut writer = match BufWriter::new(alloc, file) {
+        Ok(writer) => writer,
+        Err(error) => return Err(failed(&error)),
+    };
     match form {
         Form::Text => write_text(alloc, lines, &mut writer)?,
         Form::Document { has_bars } => {
             write_pdf(alloc, title.as_bytes(), lines, has_bars, &mut writer)?;
         }
     }
-    writer.flush().map_err(|error| failed(&error))
+    match writer.flush() {
+        Ok(()) => Ok(()),
+        Err(error) => Err(failed(&error)),
+    }
 }
 
 /// What a failed call on the file of a job's pages is.
@@ -260,15 +268,20 @@ fn title_of(alloc: Global, level: LevelId, job: &PrintedJob) -> Result<String, A
     let number = job.number;
     write!(title, "job {number} of level {level}")?;
     if job.date.iter().any(|digit| *digit != DIGIT_0) {
-        let [month1, month2, day1, day2, year1, year2] = job.date;
-        title.push_str(", ")?;
-        push_characters(&mut title, &[month1, month2])?;
-        title.push('/')?;
-        push_characters(&mut title, &[day1, day2])?;
-        title.push('/')?;
-        push_characters(&mut title, &[year1, year2])?;
+        push_date(&mut title, job.date)?;
     }
     Ok(title)
+}
+
+/// Appends a date, as `, 12/31/76`.
+fn push_date(title: &mut String, date: [u8; 6]) -> Result<(), AllocError> {
+    let [month1, month2, day1, day2, year1, year2] = date;
+    title.push_str(", ")?;
+    push_characters(title, &[month1, month2])?;
+    title.push('/')?;
+    push_characters(title, &[day1, day2])?;
+    title.push('/')?;
+    push_characters(title, &[year1, year2])
 }
 
 fn push_program(title: &mut String, program: Option<Name>) -> Result<(), AllocError> {

@@ -10,45 +10,47 @@ use s3_operating::{DayDeck, push_unread};
 use std::alloc::AllocError;
 use std::io::Write;
 
-/// The cards of a deck; `None` where it can't be read.
+/// Takes the deck of a level up at a line; a deck that can't be read stays whole. It is refused if the deck has no such line, and as
+/// `taken_up_at` refuses it.
+pub fn take_up<'a>(
+    rt: &HostRuntime,
+    level: LevelId,
+    deck: &mut DayDeck<'a>,
+    from: Option<Position<'a>>,
+) -> Result<(), DayFault<'a>> {
+    let Some(position) = from else {
+        return Ok(());
+    };
+    let text = deck.with_places(rt.alloc())?;
+    let Some(card) = text.card_at(&position) else {
+        tell_no_line(rt, level);
+        return Err(DayFault::NoTakingUp);
+    };
+    if let Some(cards) = cards_of(rt, &text)? {
+        *deck = taken_up_at(rt, level, &text, &cards, card)?;
+    }
+    Ok(())
+}
+
+/// Reports that the deck of a level has no such line.
+fn tell_no_line(rt: &HostRuntime, level: LevelId) {
+    let number = level.number();
+    let _ = writeln!(
+        rt.stderr(),
+        "level {number}: its deck has no line as --from{number} names; --jobs lists the lines at which its jobs begin"
+    );
+}
+
+/// The cards of a deck; `None` if it can't be read.
 fn cards_of(rt: &HostRuntime, text: &DeckText<'_>) -> Result<Option<Deck>, AllocError> {
     match Deck::read(rt.alloc(), text.text()) {
         Ok(deck) => Ok(Some(deck)),
-        Err(fault) => match fault.detail() {
-            Some(_) => Ok(None),
-            None => Err(AllocError),
-        },
+        Err(DeckFault::At(..)) => Ok(None),
+        Err(DeckFault::NoMemory) => Err(AllocError),
     }
 }
 
-/// The deck of a day that is taken up at a line of a level; the whole deck where it can't be read. It is refused where the deck has
-/// no such line, and as `taken_up_at` refuses it.
-pub fn taken_up<'a>(
-    rt: &HostRuntime,
-    level: LevelId,
-    whole: DayDeck<'a>,
-    from: Option<Position<'a>>,
-) -> Result<DayDeck<'a>, DayFault<'a>> {
-    let alloc = rt.alloc();
-    let Some(position) = from else {
-        return Ok(whole);
-    };
-    let text = whole.with_places(alloc)?;
-    let number = level.number();
-    let Some(card) = text.card_at(&position) else {
-        let _ = writeln!(
-            rt.stderr(),
-            "level {number}: its deck has no line as --from{number} names; --jobs lists the lines at which its jobs begin"
-        );
-        return Err(DayFault::NoTakingUp);
-    };
-    match cards_of(rt, &text)? {
-        Some(deck) => taken_up_at(rt, level, &text, &deck, card),
-        None => Ok(whole),
-    }
-}
-
-/// The deck of a level without the jobs before a card; refused where a job that is kept lacks what one of these set, which is told.
+/// The deck of a level without the jobs before a card; refused if a job that is kept lacks what one of these set, which is reported.
 fn taken_up_at<'a>(
     rt: &HostRuntime,
     level: LevelId,
@@ -77,38 +79,48 @@ pub fn list_jobs<'a>(
     two: &DayDeck<'a>,
 ) -> Result<(), DayFault<'a>> {
     let mut told = String::new(rt.alloc());
-    push_level(rt, &mut told, LevelId::One, &one.with_places(rt.alloc())?)?;
-    push_level(rt, &mut told, LevelId::Two, &two.with_places(rt.alloc())?)?;
+    push_level(rt, &mut told, LevelId::One, one)?;
+    push_level(rt, &mut told, LevelId::Two, two)?;
     match rt.stdout().write_all(told.as_bytes()) {
         Ok(()) => Ok(()),
         Err(_) => Err(DayFault::Cli(FILE)),
     }
 }
 
+/// Appends the jobs of the deck of a level.
 fn push_level<'a>(
     rt: &HostRuntime,
     told: &mut String,
     level: LevelId,
-    text: &DeckText<'a>,
+    deck: &DayDeck<'a>,
 ) -> Result<(), DayFault<'a>> {
     told.push_str(match level {
         LevelId::One => "level 1\n",
         LevelId::Two => "level 2\n",
     })?;
+    let text = deck.with_places(rt.alloc())?;
     match Deck::read(rt.alloc(), text.text()) {
-        Ok(deck) => {
-            let jobs = jobs_of(rt.alloc(), &deck)?;
-            Ok(push_jobs(told, text, &jobs)?)
-        }
+        Ok(deck) => Ok(push_jobs_of(rt, told, &text, &deck)?),
         Err(DeckFault::At(card, fault)) => {
-            tell_unread(rt, level, text, (card, fault))?;
+            tell_unread(rt, level, &text, (card, fault))?;
             Err(DayFault::Deck(level))
         }
         Err(DeckFault::NoMemory) => Err(DayFault::from(AllocError)),
     }
 }
 
-/// Tells why a deck can't be read.
+/// Appends the jobs of a deck that can be read.
+fn push_jobs_of(
+    rt: &HostRuntime,
+    told: &mut String,
+    text: &DeckText<'_>,
+    deck: &Deck,
+) -> Result<(), AllocError> {
+    let jobs = jobs_of(rt.alloc(), deck)?;
+    push_jobs(told, text, &jobs)
+}
+
+/// Reports why a deck can't be read.
 fn tell_unread(
     rt: &HostRuntime,
     level: LevelId,
