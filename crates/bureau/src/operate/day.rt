@@ -13,6 +13,7 @@ use s3_desk::{Bounds, Day, operate_day};
 use s3_host_files::{FileFault, LockedPack, save_pack};
 use s3_operating::{Closing, Desk, Journal, Seat, Settings, Tape, Verdict};
 use s3_paper_commands::status::{DONE, PASSED_OVER, PERSON_NEEDED};
+use s3_refusals::Shown;
 use s3_replay::Performed;
 use s3_replies::Rules;
 use std::alloc::{AllocError, Global};
@@ -300,6 +301,7 @@ fn save<'a>(
         Ok(()) => Ok(Some(path)),
         Err(fault) => {
             if let FileFault::Call(error) = &fault {
+                let path = Shown(path);
                 let _ = writeln!(rt.stderr(), "the pack is not saved in {path}: {error}");
             }
             Err(DayFault::of_pack(&fault, path))
