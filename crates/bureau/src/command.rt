@@ -3,12 +3,14 @@ ghost use Rattle.std.specs.Prelude.{◌≤◌, ◌≡◌};
 
 use crate::new_pack::new_pack;
 use crate::operate::operate;
-use crate::refusal::{FILE, OUT_OF_MEMORY, fault_of};
+use crate::refusal::{
+    OUT_OF_MEMORY, fault_of, of_options, of_pack, reading, saving, session_refused,
+};
 use crate::version::write_version;
 use crate::words::command;
 use clap::error::ErrorKind;
 use clap::{ArgMatches, Error};
-use s3_cli::{CliFault, Watched, image_with, list, migrate, session_on, tell, write_table};
+use s3_cli::{CliFault, Watched, image_with, list, migrate, session_on, write_table};
 use s3_data_commands::check_pack::check;
 use s3_data_commands::copy::copy;
 use s3_data_commands::delete::delete;
@@ -21,6 +23,7 @@ use s3_host_files::{
 use s3_paper_commands::status::{DONE, REFUSED, WRONG_WORDS};
 use s3_paper_commands::words::value_of;
 use s3_paper_commands::{compile_files, punch_files};
+use s3_refusals::{Refused, Shown};
 use std::io::{IsTerminal, Write};
 use std::{env, fs, io};
 
@@ -67,7 +70,14 @@ fn misuse(rt: &HostRuntime, reason: &str) -> u8
 fn refuse(rt: &HostRuntime, fault: &CliFault) -> u8
     ensures { result ≤ 5 }
 {
-    tell(&mut rt.stderr(), fault)
+    tell_refused(rt, &of_options(*fault))
+}
+
+/// Reports a refusal, at a terminal in words as well, and gives its exit status.
+fn tell_refused(rt: &HostRuntime, refused: &Refused<'_>) -> u8
+    ensures { result ≤ 5 }
+{
+    refused.tell(&mut rt.stderr(), rt.stderr().is_terminal())
 }
 
 /// Prints why the words can't be read, or the help or the version that they ask for.
@@ -129,21 +139,15 @@ fn perform_plain(rt: &HostRuntime, name: &str, matches: &ArgMatches<'_>) -> u8
     };
     match done {
         Ok(()) => DONE,
-        Err(fault) => refuse(rt, &fault),
+        Err(refused) => tell_refused(rt, &refused),
     }
 }
 
 /// `bureau run`.
-fn run(rt: &HostRuntime, matches: &ArgMatches<'_>) -> Result<(), CliFault> {
+fn run<'a>(rt: &HostRuntime, matches: &ArgMatches<'a>) -> Result<(), Refused<'a>> {
     let (pack, locked) = pack_to_run(rt, matches)?;
     tell_typed(rt);
-    let saved = session_on(
-        rt.alloc(),
-        pack,
-        &mut Watched::new(rt.stdin()),
-        &mut Watched::new(StandardOutput::new(rt)),
-    )
-    .map_err(CliFault::Session)?;
+    let saved = session_over(rt, matches, pack)?;
     match matches.get_str("save") {
         Some(path) => save_to(rt, path, locked, &saved),
         None => Ok(()),
@@ -160,15 +164,32 @@ fn tell_typed(rt: &HostRuntime) {
     }
 }
 
-/// The pack that a run is given, or a new one.
-fn pack_to_run(
+/// The pack as the session of standard input leaves it.
+fn session_over<'a>(
     rt: &HostRuntime,
-    matches: &ArgMatches<'_>,
-) -> Result<(Vec<u8>, Option<LockedPack>), CliFault> {
+    matches: &ArgMatches<'a>,
+    pack: Vec<u8>,
+) -> Result<Vec<u8>, Refused<'a>> {
+    let mut input = Watched::new(rt.stdin());
+    let mut output = Watched::new(StandardOutput::new(rt));
+    match session_on(rt.alloc(), pack, &mut input, &mut output) {
+        Ok(saved) => Ok(saved),
+        Err(fault) => Err(session_refused(fault, input.has_failed, matches.get_str("pack"))),
+    }
+}
+
+/// The pack that a run is given, or a new one.
+fn pack_to_run<'a>(
+    rt: &HostRuntime,
+    matches: &ArgMatches<'a>,
+) -> Result<(Vec<u8>, Option<LockedPack>), Refused<'a>> {
     match (matches.get_str("pack"), matches.get_str("save")) {
         (Some(path), Some(save)) => read_locked(rt, path, save),
         (Some(path), None) => Ok((read(rt, path)?, None)),
-        (None, _) => Ok((new_pack(rt.alloc())?, None)),
+        (None, _) => match new_pack(rt.alloc()) {
+            Ok(pack) => Ok((pack, None)),
+            Err(fault) => Err(of_options(fault)),
+        },
     }
 }
 
@@ -182,7 +203,7 @@ fn init(rt: &HostRuntime, matches: &ArgMatches<'_>) -> u8
     }
     let (pack, locked) = match made(rt, matches) {
         Ok(made) => made,
-        Err(fault) => return refuse(rt, &fault),
+        Err(refused) => return tell_refused(rt, &refused),
     };
     let path = value_of(matches, "save");
     let done = if is_new {
@@ -193,7 +214,7 @@ fn init(rt: &HostRuntime, matches: &ArgMatches<'_>) -> u8
     match done {
         Ok(()) => DONE,
         Err(FileFault::Exists) => refuse_occupied(rt, matches),
-        Err(fault) => refuse(rt, &told(&fault)),
+        Err(fault) => tell_refused(rt, &saving(rt, path, &fault)),
     }
 }
 
@@ -206,7 +227,7 @@ fn is_occupied(rt: &HostRuntime, matches: &ArgMatches<'_>) -> bool {
 fn refuse_occupied(rt: &HostRuntime, matches: &ArgMatches<'_>) -> u8
     ensures { result ≡ 1 }
 {
-    let path = value_of(matches, "save");
+    let path = Shown(value_of(matches, "save"));
     let _ = writeln!(
         rt.stderr(),
         "bureau: {path} is there already; give another name, or leave --new out to write over it"
@@ -215,11 +236,12 @@ fn refuse_occupied(rt: &HostRuntime, matches: &ArgMatches<'_>) -> u8
 }
 
 /// The pack that `bureau init` makes, and the lock on the file that it was made from, if it is saved there.
-fn made(
+fn made<'a>(
     rt: &HostRuntime,
-    matches: &ArgMatches<'_>,
-) -> Result<(Vec<u8>, Option<LockedPack>), CliFault> {
-    let (old, locked) = match matches.get_str("from") {
+    matches: &ArgMatches<'a>,
+) -> Result<(Vec<u8>, Option<LockedPack>), Refused<'a>> {
+    let from = matches.get_str("from");
+    let (old, locked) = match from {
         Some(path) => {
             let (old, locked) = read_locked(rt, path, value_of(matches, "save"))?;
             (Some(old), locked)
@@ -235,26 +257,31 @@ fn made(
         quota(matches, "quota1"),
         quota(matches, "quota2"),
     )
-    .map_err(CliFault::Image)?;
+    .map_err(|fault| of_pack(CliFault::Image(fault), from))?;
     Ok((pack, locked))
 }
 
 /// `bureau list`.
-fn list_files(rt: &HostRuntime, matches: &ArgMatches<'_>) -> Result<(), CliFault> {
-    let pack = read(rt, value_of(matches, "pack"))?;
+fn list_files<'a>(rt: &HostRuntime, matches: &ArgMatches<'a>) -> Result<(), Refused<'a>> {
+    let path = value_of(matches, "pack");
+    let pack = read(rt, path)?;
     let listed = if matches.get_flag("table") {
         write_table(rt.alloc(), &pack, &mut StandardOutput::new(rt))
     } else {
         list(rt.alloc(), &pack, &mut StandardOutput::new(rt))
     };
-    listed.map_err(CliFault::Session)
+    listed.map_err(|fault| session_refused(fault, false, Some(path)))
 }
 
 /// `bureau migrate`.
-fn migrate_pack(rt: &HostRuntime, matches: &ArgMatches<'_>) -> Result<(), CliFault> {
+fn migrate_pack<'a>(rt: &HostRuntime, matches: &ArgMatches<'a>) -> Result<(), Refused<'a>> {
+    let path = value_of(matches, "pack");
     let save = value_of(matches, "save");
-    let (old, locked) = read_locked(rt, value_of(matches, "pack"), save)?;
-    let pack = migrate(rt.alloc(), &old).map_err(CliFault::Migrate)?;
+    let (old, locked) = read_locked(rt, path, save)?;
+    let pack = migrate(rt.alloc(), &old).map_err(|fault| of_pack(
+        CliFault::Migrate(fault),
+        Some(path),
+    ))?;
     save_to(rt, save, locked, &pack)
 }
 
@@ -268,32 +295,24 @@ fn quota(matches: &ArgMatches<'_>, name: &str) -> u8 {
     matches.get_one::<u8>(name).unwrap_or(0)
 }
 
-fn read(rt: &HostRuntime, path: &str) -> Result<Vec<u8>, CliFault> {
-    read_pack(rt, path).map_err(|error| fault_of(&error))
+fn read<'a>(rt: &HostRuntime, path: &'a str) -> Result<Vec<u8>, Refused<'a>> {
+    read_pack(rt, path).map_err(|error| reading(rt, path, &FileFault::Call(error)))
 }
 
 /// The pack at a path for a command that saves to another or the same, with the lock on its file in the second case.
-fn read_locked(
+fn read_locked<'a>(
     rt: &HostRuntime,
-    path: &str,
+    path: &'a str,
     save: &str,
-) -> Result<(Vec<u8>, Option<LockedPack>), CliFault> {
-    read_to_save(rt, path, save).map_err(|fault| told(&fault))
+) -> Result<(Vec<u8>, Option<LockedPack>), Refused<'a>> {
+    read_to_save(rt, path, save).map_err(|fault| reading(rt, path, &fault))
 }
 
-fn save_to(
+fn save_to<'a>(
     rt: &HostRuntime,
-    path: &str,
+    path: &'a str,
     locked: Option<LockedPack>,
     pack: &[u8],
-) -> Result<(), CliFault> {
-    save_pack(rt, path, locked, pack).map_err(|fault| told(&fault))
-}
-
-/// What these commands report of a pack's file: each fault but that of memory is one of the file.
-fn told(fault: &FileFault) -> CliFault {
-    match fault {
-        FileFault::InUse | FileFault::Exists | FileFault::NoPack => FILE,
-        FileFault::Call(error) | FileFault::Unsynced(error) => fault_of(error),
-    }
+) -> Result<(), Refused<'a>> {
+    save_pack(rt, path, locked, pack).map_err(|fault| saving(rt, path, &fault))
 }

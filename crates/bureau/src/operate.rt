@@ -31,6 +31,7 @@ use s3_day_log::DayLog;
 use s3_labels::{Pack, Refusal, Refused};
 use s3_operating::Seat;
 use s3_paper_commands::status::{DONE, PASSED_OVER};
+use s3_refusals::{Shown, holder_of, pack_words};
 use s3_replies::Rules;
 use s3_store::MemoryStore;
 use std::io::Write;
@@ -61,7 +62,21 @@ fn status_of_day(rt: &HostRuntime, done: Result<u8, DayFault<'_>>) -> u8
 {
     match done {
         Ok(status) => status.min(PASSED_OVER),
-        Err(fault) => fault.tell(&mut rt.stderr()),
+        Err(fault) => {
+            tell_holder(rt, &fault);
+            fault.tell(&mut rt.stderr())
+        }
+    }
+}
+
+/// Reports which process has the pack that is in use, if the system lists it.
+fn tell_holder(rt: &HostRuntime, fault: &DayFault<'_>) {
+    let DayFault::InUse(name) = fault else {
+        return;
+    };
+    if let Some(process) = holder_of(rt, *name) {
+        let name = Shown(*name);
+        let _ = writeln!(rt.stderr(), "{name} is locked by process {process}");
     }
 }
 
@@ -119,7 +134,8 @@ fn refuse_log(rt: &HostRuntime, path: &str) -> u8
 {
     let _ = writeln!(
         rt.stderr(),
-        "{path}: line 1 has words that this program doesn't take; use the program that wrote the log"
+        "{}: line 1 has words that this program doesn't take; use the program that wrote the log",
+        Shown(path)
     );
     status_of_day(rt, Err(DayFault::Redo))
 }
@@ -213,12 +229,13 @@ fn mountable<'a>(
     }
 }
 
-/// Names the command that reports why a pack can't be mounted.
+/// Reports why a pack can't be mounted, and what to do.
 fn tell_refused(rt: &HostRuntime, path: Option<&str>, fault: Refusal) {
-    if let (Refusal::BadPack(_), Some(path)) = (fault, path) {
+    if let (Refusal::BadPack(fault), Some(path)) = (fault, path) {
+        let (path, reason) = (Shown(path), pack_words(fault));
         let _ = writeln!(
             rt.stderr(),
-            "the pack {path} can't be used; `bureau check --pack {path}` says why"
+            "{path} can't be used as a pack: {reason}; check the name, or take a copy that is whole"
         );
     }
 }

@@ -7,10 +7,18 @@ use s3_decks::{Columns, Statements, keyword_columns, push_marks, push_under_rule
 use s3_evidence::Begun;
 use s3_lines::Diagnostic;
 use s3_operator::{Halt, HaltCode};
+use s3_reasons::{Reasons, reasons_of, statement_reason};
 use std::alloc::{AllocError, Global};
 
 /// The most details that are shown.
 const MOST: usize = 20;
+
+/// What is to blame for the diagnostics of a halt, and why.
+#[derive(Drop)]
+struct Blame {
+    entries: Vec<FaultyEntry>,
+    reasons: Reasons,
+}
 
 /// Appends each detail of a halt, by cards: the card, and below it what is wrong there, with marks under the columns to blame. At most
 /// twenty are shown, and how many more there are is told.
@@ -21,21 +29,22 @@ pub(crate) fn push_details(
     begun: &Begun,
     halt: &Halt,
 ) -> Result<(), AllocError> {
-    let entries = entries_at_fault(alloc, cards, begun, halt)?;
+    let blame = blame_of(alloc, cards, begun, halt)?;
     let mut before = 0;
     for (card, number) in halt.details.iter().take(MOST) {
         let place = usize::from(*card);
         if place != before {
-            push_card_at_fault(text, cards, place, last_column(&entries, *card))?;
+            push_card_at_fault(text, cards, place, last_column(&blame.entries, *card))?;
         }
         before = place;
         let diagnostic = Diagnostic {
             card: *card,
             number: *number,
         };
-        let marked = marked_for(alloc, cards, begun, halt.code, &entries, &diagnostic)?;
+        let marked = marked_for(alloc, cards, begun, halt.code, &blame.entries, &diagnostic)?;
         push_marked(text, &marked)?;
-        push_detail(text, begun, halt.code, *number)?;
+        let reason = blame.reasons.of(*card, *number);
+        push_detail(text, alloc, cards, begun, halt.code, *number, reason)?;
     }
     let more = halt.details.len().saturating_sub(MOST);
     if more > 0 {
@@ -44,13 +53,13 @@ pub(crate) fn push_details(
     Ok(())
 }
 
-/// The entries to blame for the diagnostics of a halt; none where it has no diagnostics.
-fn entries_at_fault(
+/// What is to blame for the diagnostics of a halt; nothing for a halt without diagnostics.
+fn blame_of(
     alloc: Global,
     cards: DeckCards<'_>,
     begun: &Begun,
     halt: &Halt,
-) -> Result<Vec<FaultyEntry>, AllocError> {
+) -> Result<Blame, AllocError> {
     let mut told = Vec::new(alloc);
     for (card, number) in halt.details.iter() {
         told.push(Diagnostic {
@@ -59,14 +68,25 @@ fn entries_at_fault(
         })?;
     }
     let Some(job) = begun.statements() else {
-        return Ok(Vec::new(alloc));
+        return Ok(Blame::nothing(alloc));
     };
     let from = job.data_from();
     let to = job.data_to();
     if told.is_empty() || to > cards.deck.len() {
-        return Ok(Vec::new(alloc));
+        return Ok(Blame::nothing(alloc));
     }
-    entries_of(alloc, cards.deck, from, to, &told)
+    let entries = entries_of(alloc, cards.deck, from, to, &told)?;
+    let reasons = reasons_of(alloc, cards.deck, from, to, &told, &entries)?;
+    Ok(Blame { entries, reasons })
+}
+
+impl Blame {
+    fn nothing(alloc: Global) -> Blame {
+        Blame {
+            entries: Vec::new(alloc),
+            reasons: Reasons::none(alloc),
+        }
+    }
 }
 
 /// The columns to mark for a detail: of a faulty statement all that it has, of a blank one the first, of the RUN card its word, else
@@ -135,31 +155,48 @@ fn push_card_at_fault(
     }
 }
 
-/// Appends what a detail means.
+/// Appends what a detail means, and why the card has it.
 fn push_detail(
     text: &mut String,
+    alloc: Global,
+    cards: DeckCards<'_>,
     begun: &Begun,
     code: HaltCode,
     number: u8,
+    reason: &str,
 ) -> Result<(), AllocError> {
     write!(text, "    {number:02}  ")?;
     match code {
-        HaltCode::FaultyJob => push_fault(text, begun)?,
-        _ => text.push_str(diagnostic_words(number))?,
+        HaltCode::FaultyJob => push_fault(text, alloc, cards, begun),
+        _ => push_words(text, diagnostic_words(number), reason),
     }
-    text.push('\n')
 }
 
-/// Appends what is wrong with the statements of the job that was begun last.
-fn push_fault(text: &mut String, begun: &Begun) -> Result<(), AllocError> {
-    match begun.last() {
-        Some(job) => match &job.statements {
-            Statements::Faulty(faulty) => {
-                let fault = faulty.fault;
-                write!(text, "{fault}")
-            }
-            Statements::Sound(_) => Ok(()),
-        },
-        None => Ok(()),
+/// Appends the words of a detail, and on a line below them the reason, if there is one.
+fn push_words(text: &mut String, words: &str, reason: &str) -> Result<(), AllocError> {
+    writeln!(text, "{words}")?;
+    if reason.is_empty() {
+        return Ok(());
     }
+    writeln!(text, "        {reason}")
+}
+
+/// Appends what is wrong with the statements of the job that was begun last, and why.
+fn push_fault(
+    text: &mut String,
+    alloc: Global,
+    cards: DeckCards<'_>,
+    begun: &Begun,
+) -> Result<(), AllocError> {
+    let Some(job) = begun.last() else {
+        return text.push('\n');
+    };
+    let Statements::Faulty(faulty) = &job.statements else {
+        return text.push('\n');
+    };
+    let fault = faulty.fault;
+    let mut words = String::new(alloc);
+    write!(words, "{fault}")?;
+    let reason = statement_reason(alloc, cards.deck, job.first_card(), faulty)?;
+    push_words(text, words.as_str(), reason.as_str())
 }

@@ -6,8 +6,9 @@ use crate::punch::tell_punched;
 use s3_decks::DeckText;
 use s3_host_files::read_within;
 use s3_punch::{Begun, Punched, punch};
+use s3_refusals::begins_as_pack;
 use std::alloc::AllocError;
-use std::io;
+use std::io::ErrorKind;
 
 /// The most bytes of a file of a deck.
 const TEXT_LIMIT: usize = 4_194_304;
@@ -58,15 +59,13 @@ pub fn read_deck<'a>(
     let mut is_unread = false;
     for path in paths {
         let name: &'a str = *path;
-        match read_within(rt, name, TEXT_LIMIT) {
+        match read_deck_file(rt, name) {
             Ok(bytes) => standing = add_file(rt, &mut deck, standing, name, bytes)?,
-            Err(error) if error.kind() == io::ErrorKind::OutOfMemory => {
-                return Err(CommandFault::NoMemory);
-            }
-            Err(_) => {
-                let _ = CommandFault::File(name).tell(&mut rt.stderr());
+            Err(CommandFault::File(name, error)) => {
+                let _ = CommandFault::File(name, error).tell(&mut rt.stderr());
                 is_unread = true;
             }
+            Err(fault) => return Err(fault),
         }
     }
     Ok(if is_unread {
@@ -76,6 +75,16 @@ pub fn read_deck<'a>(
     } else {
         ReadFiles::Deck(deck)
     })
+}
+
+/// The bytes of a file of a deck. A pack is refused.
+pub fn read_deck_file<'a>(rt: &HostRuntime, name: &'a str) -> Result<Vec<u8>, CommandFault<'a>> {
+    match read_within(rt, name, TEXT_LIMIT) {
+        Ok(bytes) if begins_as_pack(&bytes) => Err(CommandFault::Pack(name)),
+        Ok(bytes) => Ok(bytes),
+        Err(error) if error.kind() == ErrorKind::FileTooLarge => Err(CommandFault::TooLarge(name)),
+        Err(error) => Err(CommandFault::of(&error, name)),
+    }
 }
 
 /// Puts a file behind those of a deck.

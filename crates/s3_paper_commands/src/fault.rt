@@ -2,6 +2,7 @@
 ghost use Rattle.std.specs.Prelude.{◌≤◌};
 
 use crate::status::{FILE_FAILED, REFUSED};
+use s3_refusals::{Reason, Shown};
 use std::alloc::{AllocError, AllocFailed};
 use std::io;
 use std::io::Write;
@@ -12,9 +13,13 @@ pub enum CommandFault<'a> {
     /// Memory ran out.
     NoMemory,
     /// This file can't be read.
-    File(&'a str),
+    File(&'a str, io::Error),
+    /// This file has more bytes than a file of a deck may have.
+    TooLarge(&'a str),
+    /// This file is a pack, and a deck is wanted.
+    Pack(&'a str),
     /// Standard output can't be written.
-    Output,
+    Output(io::Error),
 }
 
 impl<'a> From<AllocError> for CommandFault<'a> {
@@ -35,7 +40,7 @@ impl<'a> CommandFault<'a> {
         if error.kind() == io::ErrorKind::OutOfMemory {
             CommandFault::NoMemory
         } else {
-            CommandFault::File(name)
+            CommandFault::File(name, *error)
         }
     }
 
@@ -44,7 +49,7 @@ impl<'a> CommandFault<'a> {
         if error.kind() == io::ErrorKind::OutOfMemory {
             CommandFault::NoMemory
         } else {
-            CommandFault::Output
+            CommandFault::Output(*error)
         }
     }
 
@@ -52,12 +57,37 @@ impl<'a> CommandFault<'a> {
     pub fn tell<W: Write>(&self, writer: &mut W) -> u8
         ensures { result ≤ 3 }
     {
-        let (written, status) = match self {
-            CommandFault::NoMemory => (writeln!(writer, "bureau: memory"), REFUSED),
-            CommandFault::File(name) => (writeln!(writer, "bureau: file {name}"), FILE_FAILED),
-            CommandFault::Output => (writeln!(writer, "bureau: file"), FILE_FAILED),
-        };
-        let _ = written;
-        status
+        match self {
+            CommandFault::NoMemory => {
+                let _ = writeln!(writer, "bureau: memory");
+                REFUSED
+            }
+            CommandFault::File(name, error) => {
+                let (name, reason) = (Shown(*name), Reason(*error));
+                let _ = writeln!(writer, "bureau: {name} can't be read: {reason}");
+                FILE_FAILED
+            }
+            CommandFault::TooLarge(name) => {
+                let name = Shown(*name);
+                let _ = writeln!(
+                    writer,
+                    "bureau: {name} can't be read: a file of a deck has at most 4,194,304 bytes; make several files of it"
+                );
+                FILE_FAILED
+            }
+            CommandFault::Pack(name) => {
+                let name = Shown(*name);
+                let _ = writeln!(
+                    writer,
+                    "bureau: {name} is a pack, not a deck; give a file with the cards of jobs"
+                );
+                REFUSED
+            }
+            CommandFault::Output(error) => {
+                let reason = Reason(*error);
+                let _ = writeln!(writer, "bureau: standard output can't be written: {reason}");
+                FILE_FAILED
+            }
+        }
     }
 }

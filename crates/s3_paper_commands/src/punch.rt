@@ -1,18 +1,16 @@
 //! `bureau punch`: a deck of plain text, on standard output. docs/PUNCHING.md has its rules.
 ghost use Rattle.std.specs.Prelude.{◌≤◌};
 
-use crate::characters::is_shown;
+use crate::deck::read_deck_file;
 use crate::fault::CommandFault;
 use crate::status::{DONE, REFUSED};
 use crate::words::{CommandWords, Takes, Word};
 use clap::ArgMatches;
-use s3_host_files::{StandardOutput, read_within};
+use s3_host_files::StandardOutput;
 use s3_punch::{Begun, LineChange, PunchFault, PunchReason, Punched, punch};
+use s3_refusals::{Shown, is_shown};
 use std::alloc::{AllocError, Global};
 use std::io::Write;
-
-/// The most bytes of a file that is read.
-const TEXT_LIMIT: usize = 4_194_304;
 
 /// `bureau punch` and its words.
 pub const PUNCH: CommandWords = CommandWords {
@@ -70,11 +68,13 @@ fn write_deck<'a>(rt: &HostRuntime, matches: &ArgMatches<'a>) -> Result<bool, Co
     if stacked.is_faulty {
         return Ok(false);
     }
-    if StandardOutput::new(rt).write_all(&stacked.text).is_err() {
-        return Err(CommandFault::Output);
+    match StandardOutput::new(rt).write_all(&stacked.text) {
+        Ok(()) => {
+            tell_count(rt, stacked.counted);
+            Ok(true)
+        }
+        Err(error) => Err(CommandFault::of_output(&error)),
     }
-    tell_count(rt, stacked.counted);
-    Ok(true)
 }
 
 /// Punches all files, one behind the other. What is wrong with them is told, and each change, where that is asked for.
@@ -88,10 +88,7 @@ fn stacked<'a>(rt: &HostRuntime, matches: &ArgMatches<'a>) -> Result<WholeDeck, 
     };
     for file in matches.get_strs("file").unwrap_or(&[]) {
         let name: &'a str = *file;
-        let bytes = match read_within(rt, name, TEXT_LIMIT) {
-            Ok(bytes) => bytes,
-            Err(error) => return Err(CommandFault::of(&error, name)),
-        };
+        let bytes = read_deck_file(rt, name)?;
         let punched = punch(alloc, &bytes, &begun)?;
         tell_faults(rt, name, &punched.faults);
         if matches.get_flag("report") {
@@ -149,6 +146,7 @@ fn tell_faults(rt: &HostRuntime, file: &str, faults: &[PunchFault]) {
         let line = fault.line;
         let column = fault.column;
         let reason = fault.reason;
+        let file = Shown(file);
         let _ = match unprintable(reason) {
             Some(code) => writeln!(
                 rt.stderr(),
@@ -175,6 +173,7 @@ fn tell_changes(rt: &HostRuntime, file: &str, changes: &[LineChange]) {
     for change in changes {
         let line = change.line;
         let changes = change.changes;
+        let file = Shown(file);
         let _ = writeln!(rt.stderr(), "{file}, line {line}: {changes}");
     }
 }
@@ -203,6 +202,7 @@ pub fn tell_punched(rt: &HostRuntime, file: &str, punched: &Punched) -> bool {
     if !counted.is_nothing() {
         let changed = counted.changed;
         let left_out = counted.left_out;
+        let file = Shown(file);
         let _ = writeln!(
             rt.stderr(),
             "{file} is punched; lines changed: {changed}; lines left out: {left_out}"

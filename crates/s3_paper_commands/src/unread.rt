@@ -1,10 +1,11 @@
 //! Files that are no deck: which of their cards can't be read, and what is to be done.
 
-use crate::characters::{TAB, is_shown};
+use crate::characters::TAB;
 use bstr::ByteSlice;
 use s3_cards::{COLUMNS, code_of_byte, first_line, to_ebcdic};
 use s3_decks::{CardPlace, DeckText, FilePlace};
 use s3_punch::PunchReason;
+use s3_refusals::{Shown, is_shown};
 use std::alloc::{AllocError, Global};
 
 /// The most cards that are told one by one.
@@ -207,6 +208,7 @@ fn push_surplus(text: &mut String, deck: &DeckText<'_>) -> Result<(), AllocError
 /// Appends what is to be done with a file of plain text. A file that stands among others isn't punched alone, since what it is follows
 /// from those before it.
 fn push_cure(text: &mut String, file: &str, is_one_file: bool) -> Result<(), AllocError> {
+    let file = Shown(file);
     write!(
         text,
         "Small letters, tabs and marked letters are punched as cards have them where a file's name ends in .rpg: rename {file} so"

@@ -41,6 +41,14 @@ pub fn push_fault(
     writeln!(text, "   {number:02}  {words}")
 }
 
+/// Appends why a card has a fault, under the words of the fault; nothing for an empty reason.
+pub fn push_reason(text: &mut String, reason: &str) -> Result<(), AllocError> {
+    if reason.is_empty() {
+        return Ok(());
+    }
+    writeln!(text, "{MARGIN}{reason}")
+}
+
 /// Appends a diagnostic of a card.
 pub fn push_diagnostic(
     text: &mut String,

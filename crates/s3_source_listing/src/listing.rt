@@ -1,11 +1,12 @@
 //! The listing of a deck.
 
-use crate::card_lines::{push_card, push_fault, push_ruler};
+use crate::card_lines::{push_card, push_fault, push_reason, push_ruler};
 use crate::source::{SourceRange, push_program, push_source};
 use s3_cards::ebcdic::{ASTERISK, BLANK, LETTER_C, LETTER_F, LETTER_H, LETTER_I, LETTER_O};
 use s3_cards::{Card, Deck, is_digit, trim_end};
 use s3_decks::{Columns, DeckText, JobEntry, Statements, jobs_of};
 use s3_ocl::{FaultyJob, JobCards, JobFault};
+use s3_reasons::statement_reason;
 use std::alloc::{AllocError, Global};
 use std::io;
 use std::io::Write;
@@ -124,11 +125,13 @@ fn push_faulty_card(
     files: &DeckText<'_>,
     fault: JobFault,
     words: &str,
+    reason: &str,
     number: usize,
     card: &Card,
 ) -> Result<(), AllocError> {
     push_card(text, number, card)?;
     push_fault(text, fault.number(), words, &[columns_of_statement(card)])?;
+    push_reason(text, reason)?;
     push_source_cure(text, files, fault, number, card)
 }
 
@@ -137,15 +140,27 @@ fn push_faulty(
     text: &mut String,
     alloc: Global,
     listed: &Listed<'_>,
+    job: &JobEntry,
     faulty: &FaultyJob,
 ) -> Result<(), AllocError> {
     let fault = faulty.fault;
+    let reason = statement_reason(alloc, listed.deck, job.first_card(), faulty)?;
     let mut words = String::new(alloc);
     write!(words, "{fault}")?;
     push_ruler(text)?;
     let number = usize::from(faulty.card);
     match listed.deck.card(number.saturating_sub(1)) {
-        Some(card) => push_faulty_card(text, listed.files, fault, words.as_str(), number, card),
+        Some(card) => {
+            push_faulty_card(
+                text,
+                listed.files,
+                fault,
+                words.as_str(),
+                reason.as_str(),
+                number,
+                card,
+            )
+        }
         None => push_fault(text, fault.number(), words.as_str(), &[]),
     }
 }
@@ -163,7 +178,7 @@ fn push_job(
         Statements::Faulty(faulty) => {
             text.push_str("faulty statements")?;
             push_place(text, listed.files, number, job)?;
-            push_faulty(text, alloc, listed, faulty)?;
+            push_faulty(text, alloc, listed, job, faulty)?;
             Ok(Outcome {
                 sources: 0,
                 faults: 1,

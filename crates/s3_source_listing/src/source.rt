@@ -4,13 +4,14 @@ ghost use Rattle.s3_blame.specs.Inner.Sources.{found_from};
 ghost use Rattle.s3_sheets.specs.Inner.Parts.{faulty_entries};
 ghost use Rattle.s3_sheets.specs.Sheets.{sheet_diagnostics};
 
-use crate::card_lines::{push_card, push_diagnostic, push_ruler};
+use crate::card_lines::{push_card, push_diagnostic, push_reason, push_ruler};
 use crate::notes::{CardNotes, notes_of_cards, notes_under};
 use crate::tables::push_tables;
 use s3_blame::{FaultyEntry, entries_of, told};
 use s3_cards::{Card, Deck, trim_end};
 use s3_decks::{keyword_columns, program_of, push_characters};
 use s3_lines::Diagnostic;
+use s3_reasons::{Reasons, reasons_of};
 use s3_sheets::{SheetFault, read_sheets};
 use std::alloc::{AllocError, Global};
 
@@ -30,6 +31,13 @@ struct Faults {
     entries: Vec<FaultyEntry>,
 }
 
+/// What stands under the cards of a source.
+#[derive(Drop)]
+struct SourceNotes {
+    diagnostics: CardNotes,
+    reasons: Reasons,
+}
+
 /// Appends the name of the program that a source makes.
 pub fn push_program(text: &mut String, cards: &[Card]) -> Result<(), AllocError> {
     push_characters(text, trim_end(&program_of(cards).codes))
@@ -41,9 +49,10 @@ fn hides(diagnostic: &Diagnostic) -> bool {
 }
 
 /// Appends what is wrong with a card, by its number from 1.
-fn push_notes(text: &mut String, notes: &CardNotes, card: u16) -> Result<(), AllocError> {
-    for note in notes_under(notes, card) {
+fn push_notes(text: &mut String, notes: &SourceNotes, card: u16) -> Result<(), AllocError> {
+    for note in notes_under(&notes.diagnostics, card) {
         push_diagnostic(text, note.number, &note.marked)?;
+        push_reason(text, notes.reasons.of(card, note.number))?;
     }
     Ok(())
 }
@@ -52,7 +61,7 @@ fn push_notes(text: &mut String, notes: &CardNotes, card: u16) -> Result<(), All
 fn push_source_card(
     text: &mut String,
     deck: &Deck,
-    notes: &CardNotes,
+    notes: &SourceNotes,
     number: u16,
 ) -> Result<(), AllocError> {
     let number_in_deck = usize::from(number);
@@ -68,7 +77,7 @@ fn push_cards(
     text: &mut String,
     deck: &Deck,
     range: SourceRange,
-    notes: &CardNotes,
+    notes: &SourceNotes,
 ) -> Result<(), AllocError>
     requires { range.to ≤ 9_999 }
 {
@@ -123,11 +132,30 @@ fn push_all_cards(
     run_card: u16,
     faults: &Faults,
 ) -> Result<(), AllocError>
-    requires { range.to ≤ 9_999 }
+    requires order { range.from ≤ range.to }
+    requires within { range.to ≤ length deck.now }
+    requires short { range.to ≤ 9_999 }
 {
-    let notes = notes_of_cards(alloc, &faults.diagnostics, &faults.entries)?;
+    let notes = notes_of_source(alloc, deck, range, faults)?;
     push_noted_cards(text, deck, range, run_card, &notes)?;
     push_count(text, &faults.diagnostics)
+}
+
+/// What stands under the cards of a source.
+fn notes_of_source(
+    alloc: Global,
+    deck: &Deck,
+    range: SourceRange,
+    faults: &Faults,
+) -> Result<SourceNotes, AllocError>
+    requires order { range.from ≤ range.to }
+    requires within { range.to ≤ length deck.now }
+{
+    let (found, entries) = (&faults.diagnostics, &faults.entries);
+    Ok(SourceNotes {
+        diagnostics: notes_of_cards(alloc, found, entries)?,
+        reasons: reasons_of(alloc, deck, range.from, range.to, found, entries)?,
+    })
 }
 
 /// Appends the cards of a source under a ruler, each with its notes.
@@ -136,12 +164,12 @@ fn push_noted_cards(
     deck: &Deck,
     range: SourceRange,
     run_card: u16,
-    notes: &CardNotes,
+    notes: &SourceNotes,
 ) -> Result<(), AllocError>
     requires { range.to ≤ 9_999 }
 {
     push_ruler(text)?;
-    push_run(text, deck, notes, run_card)?;
+    push_run(text, deck, &notes.diagnostics, run_card)?;
     push_cards(text, deck, range, notes)
 }
 

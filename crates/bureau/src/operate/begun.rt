@@ -3,6 +3,7 @@
 use super::Again;
 use super::fault::DayFault;
 use s3_day_log::{Begun, NamedFile, checksum};
+use s3_refusals::Shown;
 use std::alloc::{AllocError, Global};
 use std::io::Write;
 
@@ -71,7 +72,7 @@ pub fn test_same<'a>(
     match again.log.test(pack, &deck1, &deck2) {
         Ok(()) => Ok(()),
         Err(refused) => {
-            let path = again.path;
+            let path = Shown(again.path);
             let _ = writeln!(rt.stderr(), "{path}: {refused}");
             Err(DayFault::Redo)
         }

@@ -6,6 +6,7 @@ use s3_cards::LevelId;
 use s3_cli::{CliFault, tell};
 use s3_host_files::FileFault;
 use s3_paper_commands::status::{FILE_FAILED, REFUSED, WRONG_WORDS};
+use s3_refusals::{Reason, Shown};
 use std::alloc::{AllocError, AllocFailed};
 use std::io;
 use std::io::Write;
@@ -17,8 +18,18 @@ pub enum DayFault<'a> {
     Cli(CliFault),
     /// The options name no day; this is why.
     Usage(&'static str),
-    /// This file can't be read, or not be written.
+    /// This file isn't written whole.
     File(&'a str),
+    /// A call on this file failed.
+    Call(&'a str, io::Error),
+    /// This file has more bytes than are read.
+    TooLarge(&'a str),
+    /// This file of a deck is a pack.
+    PackAsDeck(&'a str),
+    /// This file is there and isn't a pack, so no pack takes its place.
+    NoPack(&'a str),
+    /// The pack is saved in this file, but its folder couldn't be brought to the disk.
+    Unsynced(&'a str),
     /// Another command has this pack, or writes this output.
     InUse(&'a str),
     /// The number of the first line of the rules that is none.
@@ -27,6 +38,14 @@ pub enum DayFault<'a> {
     Deck(LevelId),
     /// This output would be written over what is there.
     Exists(&'a str),
+    /// The pack would be saved over this file, which isn't the pack that is read.
+    OtherPack(&'a str),
+    /// This output is the same file as another output, or as a file that is read.
+    Same(&'a str),
+    /// This file is in the folder of the pages.
+    Within(&'a str),
+    /// This folder of the pages isn't empty.
+    NotEmpty(&'a str),
     /// The day can't be taken up so.
     NoTakingUp,
     /// The day isn't that of the log.
@@ -51,7 +70,7 @@ impl<'a> DayFault<'a> {
         if error.kind() == io::ErrorKind::OutOfMemory {
             DayFault::Cli(OUT_OF_MEMORY)
         } else {
-            DayFault::File(name)
+            DayFault::Call(name, *error)
         }
     }
 
@@ -60,8 +79,9 @@ impl<'a> DayFault<'a> {
         match fault {
             FileFault::InUse => DayFault::InUse(name),
             FileFault::Exists => DayFault::Exists(name),
-            FileFault::NoPack => DayFault::File(name),
-            FileFault::Call(error) | FileFault::Unsynced(error) => DayFault::of(error, name),
+            FileFault::NoPack => DayFault::NoPack(name),
+            FileFault::Call(error) => DayFault::of(error, name),
+            FileFault::Unsynced(_) => DayFault::Unsynced(name),
         }
     }
 
@@ -71,7 +91,11 @@ impl<'a> DayFault<'a> {
     {
         match self {
             DayFault::Usage(_) => WRONG_WORDS,
-            DayFault::File(_) => FILE_FAILED,
+            DayFault::File(_)
+            | DayFault::Call(_, _)
+            | DayFault::TooLarge(_)
+            | DayFault::NoPack(_)
+            | DayFault::Unsynced(_) => FILE_FAILED,
             _ => REFUSED,
         }
     }
@@ -80,22 +104,102 @@ impl<'a> DayFault<'a> {
     pub fn tell<W: Write>(&self, writer: &mut W) -> u8
         ensures { result ≤ 3 }
     {
-        let (what, name, status) = match self {
+        match self {
             DayFault::Cli(fault) => return tell(writer, fault),
+            DayFault::Usage(reason) => {
+                let _ = writeln!(writer, "error: {reason}");
+                return WRONG_WORDS;
+            }
             DayFault::Replies(line) => {
                 let _ = writeln!(writer, "bureau: replies {line}");
-                return REFUSED;
             }
-            DayFault::Usage(reason) => ("error: ", *reason, WRONG_WORDS),
-            DayFault::File(name) => ("bureau: file ", *name, FILE_FAILED),
-            DayFault::InUse(name) => ("bureau: in use ", *name, REFUSED),
-            DayFault::Deck(LevelId::One) => ("bureau: deck1", "", REFUSED),
-            DayFault::Deck(LevelId::Two) => ("bureau: deck2", "", REFUSED),
-            DayFault::Exists(name) => ("bureau: exists ", *name, REFUSED),
-            DayFault::NoTakingUp => ("bureau: from", "", REFUSED),
-            DayFault::Redo => ("bureau: redo", "", REFUSED),
-        };
-        let _ = writeln!(writer, "{what}{name}");
-        status
+            DayFault::Deck(LevelId::One) => tell_line(writer, "bureau: deck1"),
+            DayFault::Deck(LevelId::Two) => tell_line(writer, "bureau: deck2"),
+            DayFault::NoTakingUp => tell_line(writer, "bureau: from"),
+            DayFault::Redo => tell_line(writer, "bureau: redo"),
+            _ => return self.tell_named(writer),
+        }
+        REFUSED
     }
+
+    /// Writes the line of a refusal that names a file, and gives its exit status.
+    fn tell_named<W: Write>(&self, writer: &mut W) -> u8
+        ensures { result ≤ 3 }
+    {
+        let (name, sentence) = match self {
+            DayFault::Call(name, error) => return tell_call(writer, *name, *error),
+            DayFault::File(name) => return tell_file(writer, *name, "isn't written whole"),
+            DayFault::TooLarge(name) => {
+                return tell_file(
+                    writer,
+                    *name,
+                    "is too large: a deck or the rules have at most 4,194,304 bytes, a log 268,435,456",
+                );
+            }
+            DayFault::NoPack(name) => {
+                return tell_file(
+                    writer,
+                    *name,
+                    "is there and isn't a pack; give another name after --save, or remove that file",
+                );
+            }
+            DayFault::Unsynced(name) => {
+                return tell_file(
+                    writer,
+                    *name,
+                    "is saved, but may not survive a power cut",
+                );
+            }
+            DayFault::InUse(name) => (
+                *name,
+                "is in use: another command saves to it, or writes it; try again when that one is done",
+            ),
+            DayFault::PackAsDeck(name) => (*name, "is a pack, not a deck; name it after --pack"),
+            DayFault::Exists(name) => (
+                *name,
+                "is there already; give another name, or --overwrite to write over it",
+            ),
+            DayFault::OtherPack(name) => (
+                *name,
+                "is there already and isn't the pack that is read; name it after --pack, too, or give another name after --save; --overwrite would lose its files",
+            ),
+            DayFault::Same(name) => (
+                *name,
+                "is read or written for something else, too; give each output a file of its own",
+            ),
+            DayFault::Within(name) => (
+                *name,
+                "is in the folder of --paper; give the pages a folder of their own",
+            ),
+            DayFault::NotEmpty(name) => (
+                *name,
+                "isn't empty; give --paper another folder, or --overwrite to write into it",
+            ),
+            _ => return REFUSED,
+        };
+        let _ = tell_file(writer, name, sentence);
+        REFUSED
+    }
+}
+
+fn tell_line<W: Write>(writer: &mut W, line: &str) {
+    let _ = writeln!(writer, "{line}");
+}
+
+/// Writes a sentence about a file.
+fn tell_file<W: Write>(writer: &mut W, name: &str, sentence: &str) -> u8
+    ensures { result ≤ 3 }
+{
+    let name = Shown(name);
+    let _ = writeln!(writer, "bureau: {name} {sentence}");
+    FILE_FAILED
+}
+
+/// Writes why a call on a file failed.
+fn tell_call<W: Write>(writer: &mut W, name: &str, error: io::Error) -> u8
+    ensures { result ≤ 3 }
+{
+    let (name, reason) = (Shown(name), Reason(error));
+    let _ = writeln!(writer, "bureau: {name} can't be read or written: {reason}");
+    FILE_FAILED
 }

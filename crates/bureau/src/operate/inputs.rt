@@ -10,9 +10,10 @@ use s3_cards::LevelId;
 use s3_day_log::{Begun, DayLog, LogFault};
 use s3_host_files::{LockedPack, read_pack, read_to_save, read_within};
 use s3_operating::DayDeck;
+use s3_refusals::Shown;
 use s3_replies::{Rules, RulesFault};
 use std::alloc::AllocError;
-use std::io::Write;
+use std::io::{ErrorKind, Write};
 
 /// The most bytes of the rules that are read.
 const RULES_LIMIT: usize = 4_194_304;
@@ -155,6 +156,7 @@ pub fn read_text<'a>(
 ) -> Result<Vec<u8>, DayFault<'a>> {
     match read_within(rt, path, limit) {
         Ok(bytes) => Ok(bytes),
+        Err(error) if error.kind() == ErrorKind::FileTooLarge => Err(DayFault::TooLarge(path)),
         Err(error) => Err(DayFault::of(&error, path)),
     }
 }
@@ -177,6 +179,7 @@ fn rules_refused<'a>(rt: &HostRuntime, path: &str, fault: &RulesFault) -> DayFau
         return DayFault::from(AllocError);
     };
     for line in lines {
+        let path = Shown(path);
         let _ = writeln!(rt.stderr(), "{path}, {line}");
     }
     match lines.first() {
@@ -189,6 +192,7 @@ fn rules_refused<'a>(rt: &HostRuntime, path: &str, fault: &RulesFault) -> DayFau
 pub fn read_log<'a>(rt: &HostRuntime, path: &'a str) -> Result<DayLog, DayFault<'a>> {
     let bytes = read_text(rt, path, LOG_LIMIT)?;
     let Ok(text) = str::from_utf8(&bytes) else {
+        let path = Shown(path);
         let _ = writeln!(
             rt.stderr(),
             "{path} is no log, for it isn't text in UTF-8; give the file that --log wrote"
@@ -199,6 +203,7 @@ pub fn read_log<'a>(rt: &HostRuntime, path: &'a str) -> Result<DayLog, DayFault<
         Ok(log) => Ok(log),
         Err(LogFault::NoMemory) => Err(DayFault::from(AllocError)),
         Err(fault) => {
+            let path = Shown(path);
             let _ = writeln!(rt.stderr(), "{path}: {fault}");
             Err(DayFault::Redo)
         }

@@ -9,6 +9,7 @@ use s3_day_log::NamedFile;
 use s3_operating::JoinedFiles;
 use s3_paper_commands::{is_plain_text, tell_punched};
 use s3_punch::{Begun, Punched, punch};
+use s3_refusals::begins_as_pack;
 use std::alloc::{AllocError, Global};
 
 /// The most bytes of a file of a deck that is read.
@@ -47,11 +48,20 @@ impl<'a> LevelDeck<'a> {
         let mut reading = Reading::new(rt.alloc(), paths, is_logged);
         for path in paths {
             let name: &'a str = *path;
-            let bytes = read_text(rt, name, TEXT_LIMIT)?;
+            let bytes = read_deck_file(rt, name)?;
             reading.add(rt, name, bytes)?;
         }
         reading.finish(level)
     }
+}
+
+/// The bytes of a file of a deck. A pack is refused.
+fn read_deck_file<'a>(rt: &HostRuntime, name: &'a str) -> Result<Vec<u8>, DayFault<'a>> {
+    let bytes = read_text(rt, name, TEXT_LIMIT)?;
+    if begins_as_pack(&bytes) {
+        return Err(DayFault::PackAsDeck(name));
+    }
+    Ok(bytes)
 }
 
 impl<'a> Reading<'a> {

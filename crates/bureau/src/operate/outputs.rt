@@ -7,7 +7,7 @@ pub use s3_host_files::Output;
 use s3_host_files::{Kept, Limit, LockedFolder, LockedPack, Replaced, Target, prepare_save};
 use std::alloc::Global;
 use std::fs::Metadata;
-use std::io::Write;
+use std::io::{ErrorKind, Write};
 use std::{fs, io};
 
 /// The outputs of a day, tried and ready.
@@ -118,7 +118,7 @@ impl<'a> Files<'a> {
         };
         let pack = found(rt, name)?;
         if !pack.target.is_there() {
-            return Err(DayFault::File(name));
+            return Err(no_pack(rt, name));
         }
         self.pack = Some(pack);
         Ok(())
@@ -132,10 +132,13 @@ impl<'a> Files<'a> {
         };
         let save = found(rt, name)?;
         if has_same(&self.texts, &save) {
-            return Err(DayFault::Exists(name));
+            return Err(DayFault::Same(name));
+        }
+        if is_folder(rt, name) {
+            return Err(DayFault::Call(name, io::Error::from(ErrorKind::IsADirectory)));
         }
         if !order.overwrites && save.target.is_there() && !self.is_pack(&save) {
-            return Err(DayFault::Exists(name));
+            return Err(DayFault::OtherPack(name));
         }
         self.written.push(save)?;
         Ok(())
@@ -159,7 +162,10 @@ impl<'a> Files<'a> {
         overwrites: bool,
     ) -> Result<(), DayFault<'a>> {
         let output = found(rt, name)?;
-        if self.has(&output) || (!overwrites && output.target.is_there()) {
+        if self.has(&output) {
+            return Err(DayFault::Same(name));
+        }
+        if !overwrites && output.target.is_there() {
             return Err(DayFault::Exists(name));
         }
         self.written.push(output)?;
@@ -188,6 +194,24 @@ impl<'a> Files<'a> {
             Some(pack) if pack.target.is_in(folder) => Some(pack.name),
             _ => first_within(&self.written, folder),
         }
+    }
+}
+
+/// Why no pack can be read at a path.
+fn no_pack<'a>(rt: &HostRuntime, name: &'a str) -> DayFault<'a> {
+    let kind = if is_folder(rt, name) {
+        ErrorKind::IsADirectory
+    } else {
+        ErrorKind::NotFound
+    };
+    DayFault::Call(name, io::Error::from(kind))
+}
+
+/// Whether a folder is at a path.
+fn is_folder(rt: &HostRuntime, path: &str) -> bool {
+    match fs::metadata(rt, path) {
+        Ok(found) => found.is_dir(),
+        Err(_) => false,
     }
 }
 

@@ -11,6 +11,7 @@ use s3_decks::{push_characters, push_name};
 use s3_host_files::{Limit, LockedFolder, create_anew, is_empty_folder, make_folder, test_folder};
 use s3_operating::PrintedJob;
 use s3_pages::{PaperFault, parts, write_pdf, write_text};
+use s3_refusals::Shown;
 use s3_report_lines::lines_of_report;
 use std::alloc::{AllocError, Global};
 use std::fs::File;
@@ -63,7 +64,7 @@ impl<'a> Paper<'a> {
     ) -> Result<(), DayFault<'a>> {
         match fs::metadata(rt, self.folder) {
             Ok(found) => match files.name_within(&found) {
-                Some(name) => Err(DayFault::Exists(name)),
+                Some(name) => Err(DayFault::Within(name)),
                 None => self.test_empty(rt, overwrites),
             },
             Err(error) if error.kind() == ErrorKind::NotFound => Ok(()),
@@ -75,7 +76,7 @@ impl<'a> Paper<'a> {
     fn test_empty(&self, rt: &HostRuntime, overwrites: bool) -> Result<(), DayFault<'a>> {
         match is_empty_folder(rt, self.folder) {
             Ok(is_empty) if is_empty || overwrites => Ok(()),
-            Ok(_) => Err(DayFault::Exists(self.folder)),
+            Ok(_) => Err(DayFault::NotEmpty(self.folder)),
             Err(error) => Err(DayFault::of(&error, self.folder)),
         }
     }
@@ -144,6 +145,7 @@ pub fn write_paper<'n>(
 
 /// Reports of how many jobs the pages were written, and where.
 fn tell_paper(rt: &HostRuntime, folder: &str, jobs: usize) {
+    let folder = Shown(folder);
     let _ = match jobs {
         0 => writeln!(rt.stderr(), "no job printed, so {folder} gets no pages"),
         1 => writeln!(rt.stderr(), "the pages of 1 job are in {folder}"),
@@ -212,6 +214,7 @@ fn write_job<'n>(
         Ok(()) => Ok(()),
         Err(PaperFault::NoMemory) => Err(DayFault::from(AllocError)),
         Err(fault) => {
+            let path = Shown(path.as_str());
             let _ = writeln!(rt.stderr(), "{path}: {fault}; the file isn't whole");
             Err(DayFault::File(paper.folder))
         }

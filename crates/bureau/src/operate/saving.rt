@@ -164,7 +164,7 @@ fn end_unsynced<'n>(
         "the pack is saved in {path}, but may not survive a power cut, because its folder can't be brought to the disk: {error}"
     );
     end_over_saved(rt, order, desk, kept, FILE_FAILED, saving)?;
-    Err(DayFault::of(error, path))
+    Err(DayFault::Unsynced(path))
 }
 
 /// Logs the end of a day whose pack is saved. A log that fails by now leaves the pack saved, which is reported.

@@ -1,0 +1,17 @@
+//! Why a card has a fault: what was found there, and what belongs there. docs/MESSAGES.md has the faults and the diagnostics.
+//!
+//! Each call is proved safe and returns. Which entries are to blame is proved in `s3_blame`, and which card of a job has which fault in
+//! `s3_ocl`; the words are tested.
+
+#![tactic(auto)]
+
+mod calculations;
+mod outputs;
+mod parameters;
+mod phrases;
+mod sources;
+mod statement_text;
+mod statements;
+
+pub use sources::{Reasons, reasons_of};
+pub use statements::statement_reason;

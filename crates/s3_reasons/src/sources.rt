@@ -1,0 +1,171 @@
+//! The reasons of a source's diagnostics.
+ghost use Rattle.std.specs.Prelude.{◌≤◌, length};
+
+use crate::calculations::Misfit;
+use crate::outputs::push_output_reason;
+use indexmap::IndexMap;
+use s3_blame::Known;
+use s3_cards::ebcdic::{BLANK, SLASH};
+use s3_cards::{Card, Deck};
+use s3_lines::Diagnostic;
+use s3_lines::sheet::{Line, OutputLine, SheetLine};
+use s3_sheets::{FaultyEntry, SheetFault, read_sheets};
+use std::alloc::{AllocError, Global};
+
+/// The number of a card that is of no sheet.
+const OUT_OF_ORDER: u8 = 1;
+
+/// The number of an operation or an edit that doesn't fit.
+const MISFIT: u8 = 8;
+
+/// Why cards of a source have a diagnostic 01 or 08, as far as words say more than the diagnostic does; by the cards' numbers. A card has
+/// one of them at most.
+#[derive(Drop)]
+pub struct Reasons {
+    by_card: IndexMap<u16, String>,
+}
+
+impl Reasons {
+    /// No reasons.
+    pub fn none(alloc: Global) -> Reasons {
+        Reasons {
+            by_card: IndexMap::new(alloc),
+        }
+    }
+
+    /// Why a card has the diagnostic of a number; empty if no words say more than the diagnostic.
+    pub fn of(&self, card: u16, number: u8) -> &str {
+        match (number, self.by_card.get(&card)) {
+            (OUT_OF_ORDER | MISFIT, Some(text)) => text.as_str(),
+            _ => "",
+        }
+    }
+}
+
+/// The reasons of a source's diagnostics, given the entries to blame for them. The source is in a deck from place `from` up to but
+/// without place `to`. It is refused only if memory runs out.
+pub fn reasons_of(
+    alloc: Global,
+    deck: &Deck,
+    from: usize,
+    to: usize,
+    told: &[Diagnostic],
+    entries: &[FaultyEntry],
+) -> Result<Reasons, AllocError> {
+    let mut reasons = Reasons::none(alloc);
+    add_statements(alloc, deck, told, &mut reasons)?;
+    if from <= to && to <= deck.len() && told.iter().any(|found| found.number == MISFIT) {
+        add_misfits(alloc, deck, from, to, entries, &mut reasons)?;
+    }
+    Ok(reasons)
+}
+
+/// Adds the reason of each statement that is read as a card of the source.
+fn add_statements(
+    alloc: Global,
+    deck: &Deck,
+    told: &[Diagnostic],
+    reasons: &mut Reasons,
+) -> Result<(), AllocError> {
+    for found in told {
+        if found.number == OUT_OF_ORDER && is_statement_at(deck, found.card) {
+            let words = String::from_str(
+                alloc,
+                "a statement; no /* was found before this card, so it is read as a card of the source",
+            )?;
+            reasons.by_card.insert(found.card, words)?;
+        }
+    }
+    Ok(())
+}
+
+/// Whether the card of a number, from 1, is a statement.
+fn is_statement_at(deck: &Deck, number: u16) -> bool {
+    match card_of(deck, number) {
+        Some(card) => matches!(card, [SLASH, SLASH, BLANK, ..]),
+        None => false,
+    }
+}
+
+/// The card of a number, from 1.
+fn card_of(deck: &Deck, number: u16) -> Option<&Card> {
+    deck.card(usize::from(number).checked_sub(1)?)
+}
+
+/// Adds the reason of each diagnostic 08.
+fn add_misfits(
+    alloc: Global,
+    deck: &Deck,
+    from: usize,
+    to: usize,
+    entries: &[FaultyEntry],
+    reasons: &mut Reasons,
+) -> Result<(), AllocError>
+    requires order { from ≤ to }
+    requires within { to ≤ length deck.now }
+{
+    let lines = match read_sheets(alloc, deck, from, to) {
+        Ok(lines) => lines,
+        Err(SheetFault::NoMemory) => return Err(AllocError),
+        Err(SheetFault::Diagnostics(_)) => return Ok(()),
+    };
+    let known = Known::of(alloc, &lines)?;
+    let mut rest = entries;
+    for line in &lines {
+        rest = from_card(rest, line.card);
+        add_misfit(alloc, deck, &known, line, rest, reasons)?;
+    }
+    Ok(())
+}
+
+/// The entries of a list from the first on that isn't of a card before this one.
+fn from_card(entries: &[FaultyEntry], card: u16) -> &[FaultyEntry] {
+    let before = entries.iter().take_while(|entry| entry.card < card).count();
+    entries.get(before..).unwrap_or(&[])
+}
+
+/// Adds the reason of a line's diagnostic 08, if it has one. The entries to blame begin with those of the line's card.
+fn add_misfit(
+    alloc: Global,
+    deck: &Deck,
+    known: &Known,
+    line: &Line,
+    entries: &[FaultyEntry],
+    reasons: &mut Reasons,
+) -> Result<(), AllocError> {
+    let found: Vec<FaultyEntry> = entries
+        .iter()
+        .take_while(|entry| entry.card == line.card)
+        .filter(|entry| entry.number == MISFIT)
+        .copied()
+        .collect(alloc)?;
+    let Some(card) = card_of(deck, line.card) else {
+        return Ok(());
+    };
+    if found.is_empty() {
+        return Ok(());
+    }
+    let mut text = String::new(alloc);
+    push_misfit(&mut text, card, known, line, &found)?;
+    if !text.is_empty() {
+        reasons.by_card.insert(line.card, text)?;
+    }
+    Ok(())
+}
+
+/// Appends why an operation or an edit doesn't fit.
+fn push_misfit(
+    text: &mut String,
+    card: &Card,
+    known: &Known,
+    line: &Line,
+    found: &[FaultyEntry],
+) -> Result<(), AllocError> {
+    match &line.sheet {
+        SheetLine::Calculation(line) => Misfit { card, line, known }.push(text, found),
+        SheetLine::Output(OutputLine::Field(field)) => {
+            push_output_reason(text, known, card, field)
+        }
+        _ => Ok(()),
+    }
+}

@@ -1,0 +1,14 @@
+-- Which characters a terminal shows as they are.
+use Rattle.std.specs.Prelude.{ℕ, Bool, not, ◌&&◌, ◌||◌, ◌==◌, nat_le}
+
+abbrev pub is_within : ℕ → ℕ → ℕ → Bool
+is_within low high code = nat_le low code && nat_le code high
+
+-- control characters, and those that only join, part or turn the characters around them
+abbrev pub is_hidden : ℕ → Bool
+is_hidden code =
+    is_within 0 0x1f code || is_within 0x7f 0x9f code || (code == 0xad) || is_within 0x200b 0x200f code
+    || is_within 0x2028 0x202e code || is_within 0x2060 0x206f code || (code == 0xfeff)
+
+abbrev pub is_shown : ℕ → Bool
+is_shown code = not (is_hidden code)

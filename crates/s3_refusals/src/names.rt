@@ -1,0 +1,42 @@
+//! File names as a terminal shows them.
+ghost use Rattle.std.specs.Prelude.{◌≡◌};
+ghost use Rattle.s3_refusals.specs.Inner.Shown.{is_shown as is_shown_spec};
+
+use std::fmt;
+use std::fmt::Display;
+
+/// Whether a terminal shows a character as it is. It doesn't show, or would obey, a control character, and a character that only joins,
+/// parts or turns the characters around it.
+pub fn is_shown(character: char) -> bool
+    ensures { result ≡ is_shown_spec character }
+{
+    let code = character as u32;
+    !matches!(
+        code,
+        0..=0x1f | 0x7f..=0x9f | 0xad | 0x200b..=0x200f | 0x2028..=0x202e | 0x2060..=0x206f | 0xfeff
+    )
+}
+
+/// A name that is printed: each character that a terminal doesn't show is a backslash, `x` or `u` and its code, as `\x1b`.
+#[derive(Clone, Copy)]
+pub struct Shown<'a>(pub &'a str);
+
+impl<'a> Display for Shown<'a> {
+    fn fmt<W: fmt::Write>(&self, f: &mut fmt::Formatter<W>) -> fmt::Result {
+        for character in self.0.chars() {
+            write_shown(f, character)?;
+        }
+        Ok(())
+    }
+}
+
+fn write_shown<W: fmt::Write>(f: &mut fmt::Formatter<W>, character: char) -> fmt::Result {
+    let code = character as u32;
+    if is_shown(character) {
+        write!(f, "{character}")
+    } else if code < 0x100 {
+        write!(f, "\\x{code:02x}")
+    } else {
+        write!(f, "\\u{code:04x}")
+    }
+}

@@ -1,0 +1,56 @@
+//! Why a call on a file failed.
+ghost use Rattle.std.specs.Prelude.{◌≡◌};
+ghost use Rattle.s3_refusals.specs.Inner.Calls.{words_of_call};
+
+use std::fmt::Display;
+use std::io::ErrorKind;
+use std::{fmt, io};
+
+/// Why a call on a file failed, and what to do, by the kind of the failure; no words for a kind that needs the system's own.
+pub fn call_words(kind: ErrorKind) -> &'static str
+    ensures { result.now ≡ words_of_call kind }
+{
+    match kind {
+        ErrorKind::NotFound => "there is no such file or folder; check the name",
+        ErrorKind::PermissionDenied => {
+            "permission is denied; have its owner allow it, or use another file"
+        }
+        ErrorKind::IsADirectory => "it is a folder; give the name of a file",
+        ErrorKind::NotADirectory => "where a folder is wanted there is a file; check the name",
+        ErrorKind::ReadOnlyFilesystem => "its disk is read-only; use another one",
+        ErrorKind::StorageFull => "its disk is full; make space there, and try again",
+        ErrorKind::QuotaExceeded =>
+            "your share of its disk is full; make space there, and try again",
+        ErrorKind::FilesystemLoop => "its links lead in a circle; give the file's own name",
+        _ => "",
+    }
+}
+
+/// Why a call on a file failed, in words, with what to do; for a failure without words of its own, what the system says.
+#[derive(Clone, Copy)]
+pub struct Reason(pub io::Error);
+
+impl Display for Reason {
+    fn fmt<W: fmt::Write>(&self, f: &mut fmt::Formatter<W>) -> fmt::Result {
+        let error = self.0;
+        let words = call_words(error.kind());
+        if words.is_empty() {
+            write!(f, "{error}")
+        } else {
+            write!(f, "{words}")
+        }
+    }
+}
+
+/// The command that has a file in use: by its process, if that is known.
+#[derive(Clone, Copy)]
+pub struct Holder(pub Option<u32>);
+
+impl Display for Holder {
+    fn fmt<W: fmt::Write>(&self, f: &mut fmt::Formatter<W>) -> fmt::Result {
+        match self.0 {
+            Some(process) => write!(f, "another command saves to it, process {process}"),
+            None => write!(f, "another command saves to it"),
+        }
+    }
+}

@@ -1,0 +1,189 @@
+//! Commands of the machine that are refused: `run`, `init`, `list` and `migrate`.
+ghost use Rattle.std.specs.Prelude.{◌≡◌};
+ghost use Rattle.s3_cli.specs.Inner.Faults.{status_of};
+
+use crate::names::Shown;
+use crate::packs::pack_words;
+use crate::reasons::{Holder, Reason};
+use s3_cli::{CliFault, ImageFault, MigrateFault, RunFault, SessionFault, tell};
+use s3_labels::MountFault;
+use std::io;
+use std::io::Write;
+
+/// What a command was at when it was refused.
+#[derive(Clone, Copy)]
+pub enum Work<'a> {
+    /// Neither a file nor standard input or output was at fault.
+    Options,
+    /// A read of this file failed.
+    Reading(&'a str, io::Error),
+    /// The save of the pack to this file failed.
+    Saving(&'a str, io::Error),
+    /// This file was put there meanwhile, and isn't to be replaced.
+    Exists(&'a str),
+    /// This file is there and isn't a pack, so no pack takes its place.
+    NoPack(&'a str),
+    /// The pack is saved in this file, but its folder couldn't be brought to the disk.
+    Unsynced(&'a str, io::Error),
+    /// The pack of this file is in use, by a process that may be known.
+    InUse(&'a str, Option<u32>),
+    /// A read of standard input failed.
+    StandardInput,
+    /// A write of standard output failed.
+    StandardOutput,
+    /// It had read this pack.
+    Pack(&'a str),
+}
+
+/// A refused command: its fault, which its line has, and what else is known.
+#[derive(Clone, Copy)]
+pub struct Refused<'a> {
+    /// Why the command isn't done.
+    pub fault: CliFault,
+    /// What the command was at.
+    pub work: Work<'a>,
+}
+
+impl<'a> Refused<'a> {
+    /// Writes the line of a refusal, and gives its exit status. At a terminal further lines say in words which file failed, why, and
+    /// what to do.
+    pub fn tell<W: Write>(&self, writer: &mut W, is_terminal: bool) -> u8
+        ensures { result ≡ status_of self.now.fault }
+    {
+        let status = tell(writer, &self.fault);
+        if is_terminal {
+            let _ = self.explain(writer);
+        }
+        status
+    }
+
+    fn explain<W: Write>(&self, writer: &mut W) -> io::Result<()> {
+        match self.work {
+            Work::Reading(name, error) => {
+                let (name, reason) = (Shown(name), Reason(error));
+                writeln!(writer, "{name} can't be read: {reason}.")
+            }
+            Work::Saving(name, error) => {
+                let (name, reason) = (Shown(name), Reason(error));
+                writeln!(writer, "The pack isn't saved in {name}: {reason}.")
+            }
+            Work::Exists(name) => {
+                let name = Shown(name);
+                writeln!(
+                    writer,
+                    "The pack isn't saved: {name} was put there by another command. Give another name."
+                )
+            }
+            Work::NoPack(name) => {
+                let name = Shown(name);
+                writeln!(
+                    writer,
+                    "The pack isn't saved: {name} is there and isn't a pack, and stays as it is. Give another name, or remove that file."
+                )
+            }
+            Work::Unsynced(name, error) => {
+                let (name, reason) = (Shown(name), Reason(error));
+                writeln!(
+                    writer,
+                    "The pack is saved in {name}, but may not survive a power cut: its folder can't be brought to the disk: {reason}."
+                )
+            }
+            Work::InUse(name, process) => {
+                let (name, holder) = (Shown(name), Holder(process));
+                writeln!(
+                    writer,
+                    "{name} is in use: {holder}. Run this command again when that one is done."
+                )
+            }
+            Work::StandardInput => writeln!(
+                writer,
+                "Standard input can't be read, so nothing is done. Give a file with the decks and the script: `bureau run < FILE`."
+            ),
+            Work::StandardOutput => writeln!(
+                writer,
+                "Standard output can't be written, and no pack is saved. Its disk may be full, or the program that reads it has ended."
+            ),
+            Work::Pack(name) => explain_fault(writer, &self.fault, Some(name)),
+            Work::Options => explain_fault(writer, &self.fault, None),
+        }
+    }
+}
+
+/// Writes what a fault means, and what to do; the pack is named if one was read.
+fn explain_fault<W: Write>(writer: &mut W, fault: &CliFault, pack: Option<&str>) -> io::Result<()> {
+    match *fault {
+        CliFault::Session(SessionFault::Run(fault)) => explain_run(writer, fault, pack),
+        CliFault::Session(SessionFault::Input) => writer.write_all(
+            b"Standard input isn't the input of a run. It has three lines `:deck1`, `:deck2` and `:script` in this order, `:deck1` as the\nfirst one, and at most 4,194,304 bytes. docs/RUNNING.md has an example.\n",
+        ),
+        CliFault::Session(SessionFault::File) => writer.write_all(
+            b"A file can't be read or written.\n",
+        ),
+        CliFault::Image(fault) => explain_image(writer, fault, pack),
+        CliFault::Migrate(fault) => explain_migrate(writer, fault, pack),
+    }
+}
+
+fn explain_run<W: Write>(writer: &mut W, fault: RunFault, pack: Option<&str>) -> io::Result<()> {
+    match fault {
+        RunFault::Script { line } => writeln!(
+            writer,
+            "Line {line} of the script isn't well formed; the line after `:script` is line 1. A line is `T1`, `T1 12`, `D1`, `D1 8` or\n`R1 2`, with level 1 or 2 and a count from 1 to 9999, and has nothing else. Nothing was done."
+        ),
+        RunFault::Mount(fault) => explain_mount(writer, fault, pack),
+        RunFault::Device => writer.write_all(b"A sector of the pack can't be read or written.\n"),
+        RunFault::NoMemory => explain_memory(writer),
+    }
+}
+
+fn explain_memory<W: Write>(writer: &mut W) -> io::Result<()> {
+    writer.write_all(
+        b"Memory ran out, and no pack is saved. End other programs, or raise the limit that `ulimit -v` shows.\n",
+    )
+}
+
+fn explain_mount<W: Write>(
+    writer: &mut W,
+    fault: MountFault,
+    pack: Option<&str>,
+) -> io::Result<()> {
+    let Some(name) = pack else {
+        return writer.write_all(b"The pack can't be used.\n");
+    };
+    let (name, reason) = (Shown(name), pack_words(fault));
+    writeln!(
+        writer,
+        "{name} can't be used as a pack: {reason}. Check the name, or take a copy that is whole."
+    )
+}
+
+fn explain_image<W: Write>(
+    writer: &mut W,
+    fault: ImageFault,
+    pack: Option<&str>,
+) -> io::Result<()> {
+    match fault {
+        ImageFault::Mount(fault) => explain_mount(writer, fault, pack),
+        ImageFault::TooLarge => writer.write_all(
+            b"The regions have more than 2,723 tracks together. Give fewer by --masters, --level1 or --level2.\n",
+        ),
+        ImageFault::BadQuota => writer.write_all(
+            b"--quota1 and --quota2 are each 1 to 127, and at most 128 together.\n",
+        ),
+        ImageFault::NoMemory => explain_memory(writer),
+    }
+}
+
+fn explain_migrate<W: Write>(
+    writer: &mut W,
+    fault: MigrateFault,
+    pack: Option<&str>,
+) -> io::Result<()> {
+    match fault {
+        MigrateFault::Mount(fault) => explain_mount(writer, fault, pack),
+        MigrateFault::AlreadyNew => writer.write_all(
+            b"The pack is in the second format already. Use it as it is; nothing is saved.\n",
+        ),
+        MigrateFault::NoMemory => explain_memory(writer),
+    }
+}
