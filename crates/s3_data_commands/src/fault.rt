@@ -40,14 +40,14 @@ impl Fault {
     pub fn tell<W: Write>(&self, writer: &mut W) -> u8
         ensures { result ≤ 4 }
     {
-        let (written, status) = match self {
-            Fault::Usage(sentence) => (writeln!(writer, "error: {sentence}"), WRONG_WORDS),
-            Fault::Refused(sentence) => (writeln!(writer, "bureau: {sentence}"), REFUSED),
-            Fault::File(sentence) => (writeln!(writer, "bureau: {sentence}"), FILE_FAILED),
-            Fault::Waits(sentence) => (writeln!(writer, "bureau: {sentence}"), PERSON_NEEDED),
-            Fault::NoMemory => (writeln!(writer, "bureau: memory"), REFUSED),
+        let (start, sentence, status) = match self {
+            Fault::Usage(sentence) => ("error", sentence.as_str(), WRONG_WORDS),
+            Fault::Refused(sentence) => ("bureau", sentence.as_str(), REFUSED),
+            Fault::File(sentence) => ("bureau", sentence.as_str(), FILE_FAILED),
+            Fault::Waits(sentence) => ("bureau", sentence.as_str(), PERSON_NEEDED),
+            Fault::NoMemory => ("bureau", "memory", REFUSED),
         };
-        let _ = written;
+        let _ = writeln!(writer, "{start}: {sentence}");
         status
     }
 }

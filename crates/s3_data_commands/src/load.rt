@@ -2,6 +2,7 @@
 ghost use Rattle.std.specs.Prelude.{◌≤◌};
 
 use crate::fault::Fault;
+use crate::filled::Words;
 use crate::inputs::{delimiter_of, layout_of};
 use crate::load_sentences::{heading_sentence, load_sentence, value_sentence};
 use crate::pack_words::{
@@ -133,7 +134,7 @@ fn load_table(rt: &HostRuntime, matches: &ArgMatches<'_>) -> Result<(), Fault> {
     keep_input(rt, words.save, words.source)?;
     let loaded = loaded(rt, &words, &layout, &pack)?;
     saved(rt, words.save, locked, &loaded)?;
-    Ok(tell_loaded(rt, &words, &loaded)?)
+    tell_done(rt, loaded_sentence(rt.alloc(), &words, &loaded))
 }
 
 /// A pack with the table of standard input in the file that the words name.
@@ -161,24 +162,20 @@ fn loaded(
     }
 }
 
-/// Tells into which file the table was loaded, and how many records that has now.
-fn tell_loaded(rt: &HostRuntime, words: &LoadWords<'_>, loaded: &[u8]) -> Result<(), AllocError> {
+/// Into which file the table was loaded, and how many records that has now.
+fn loaded_sentence(
+    alloc: Global,
+    words: &LoadWords<'_>,
+    loaded: &[u8],
+) -> Result<String, AllocError> {
     let level = number_of(words.level);
-    let records = match file_size(rt.alloc(), loaded, level, words.name) {
+    let count = match file_size(alloc, loaded, level, words.name) {
         Ok(Some(size)) => size.records,
         _ => 0,
     };
-    let records = match records {
-        1 => String::from_str(rt.alloc(), "1 record")?,
-        records => format!(in rt.alloc(); "{records} records")?,
-    };
-    let records = records.as_str();
+    let records = if count == 1 { "record" } else { "records" };
     let LoadWords { label, save, .. } = *words;
-    let sentence = format!(in rt.alloc();
-        "{label} of level {level} of {save} is loaded: it has {records} now"
-    )?;
-    tell_done(rt, sentence.as_str());
-    Ok(())
+    format!(in alloc; "{label} of level {level} of {save} is loaded: it has {count} {records} now")
 }
 
 /// The room that the words ask for.
@@ -214,9 +211,17 @@ fn date_of(rt: &HostRuntime, matches: &ArgMatches<'_>) -> Result<[u8; 6], Fault>
     };
     match date_in(text.as_bytes()) {
         Some(date) => Ok(date),
-        None => Err(Fault::Usage(format!(in rt.alloc();
-            "{text} is no date; one has six digits: the month 01 to 12, the day 01 to 31 and the year"
-        )?)),
+        None => Err(no_date(rt.alloc(), text)),
+    }
+}
+
+/// That a text is no date.
+fn no_date(alloc: Global, text: &str) -> Fault {
+    match format!(in alloc;
+        "{text} is no date; one has six digits: the month 01 to 12, the day 01 to 31 and the year"
+    ) {
+        Ok(sentence) => Fault::Usage(sentence),
+        Err(_) => Fault::NoMemory,
     }
 }
 
@@ -297,9 +302,7 @@ fn no_room(rt: &HostRuntime, words: &LoadWords<'_>) -> Fault {
     match room_in(rt, words.path, area) {
         Ok(Some(room)) => refused(no_room_sentence(
             rt.alloc(),
-            words.path,
-            area,
-            words.label,
+            Words::of_file(words.path, area, words.label),
             None,
             room,
             "ask for less by --records or --tracks",

@@ -1,8 +1,8 @@
 //! Sentences of refusals of `load`: what is wrong, where, and what mends it.
 
-use crate::pack_words::{
-    damaged_sentence, label_sentence, label_text, mount_sentence, no_label_sentence,
-};
+use crate::filled::{Words, push_name};
+use crate::pack_words::{DAMAGED, NO_LABEL, label_words, mount_words};
+use s3_cards::Name;
 use s3_cells::CellFault;
 use s3_labels::LabelFault;
 use s3_load::{HeadingFault, LoadFault, Reason, ValueFault};
@@ -19,29 +19,13 @@ const DELIMITER_CURES: [(u8, &str); 3] = [
 ];
 
 /// Why a label can't be used by a load.
-fn load_label_sentence(
-    alloc: Global,
-    path: &str,
-    level: u16,
-    label: &str,
-    fault: LabelFault,
-) -> Result<String, AllocError> {
+fn load_label_words(fault: LabelFault) -> &'static str {
     match fault {
-        LabelFault::Master => format!(in alloc;
-            "a master of {path} has the label {label}; load under another label"
-        ),
-        LabelFault::Retained => format!(in alloc;
-            "{label} in area {level} of {path} is there and permanent; delete it first by `bureau delete --permanent`, load behind its records by --append, or load under another label"
-        ),
-        _ => label_sentence(alloc, path, level, label, fault),
+        LabelFault::Master => "a master of {path} has the label {label}; load under another label",
+        LabelFault::Retained =>
+            "{label} in area {area} of {path} is there and permanent; delete it first by `bureau delete --permanent`, load behind its records by --append, or load under another label",
+        _ => label_words(fault),
     }
-}
-
-/// Why a file that is there isn't loaded into.
-fn bad_index(alloc: Global, path: &str, level: u16, label: &str) -> Result<String, AllocError> {
-    format!(in alloc;
-        "the index of {label} in area {level} of {path} isn't that of its records; take an older copy of the pack, or delete the file and load all of its records"
-    )
 }
 
 /// Why a file has no room for the records of a table, made for it or there before.
@@ -63,94 +47,108 @@ fn full_sentence(
 }
 
 /// Why a table isn't loaded, but for what is wrong with its heading and its rows.
-pub fn load_sentence(
+pub fn load_sentence<'a>(
     alloc: Global,
-    path: &str,
+    path: &'a str,
     level: u16,
-    label: &str,
+    label: &'a str,
     appends: bool,
     fault: &LoadFault,
 ) -> Result<String, AllocError> {
+    let number = match fault {
+        LoadFault::NoMemory => return Err(AllocError),
+        LoadFault::Full(room, records) => {
+            return full_sentence(alloc, label, appends, *room, *records);
+        }
+        LoadFault::Values(_, count) => *count,
+        LoadFault::DamagedSlot(slot) => u64::from(*slot),
+        _ => 0,
+    };
+    Words::of_file(path, level, label)
+        .with_number(number)
+        .fill(alloc, load_words(fault))
+}
+
+/// The sentence of a refusal; none of one that has another one.
+fn load_words(fault: &LoadFault) -> &'static str {
     match fault {
-        LoadFault::NoMemory => Err(AllocError),
-        LoadFault::File => {
-            format!(in alloc;
-                "standard input can't be read; give it the table by < FILE or by a pipe"
-            )
-        }
-        LoadFault::NoHeading => {
-            format!(in alloc;
-                "standard input has no table; its first line has to name the fields of the layout"
-            )
-        }
-        LoadFault::Heading(_) => {
-            format!(in alloc; "the heading isn't that of the layout; nothing is loaded")
-        }
-        LoadFault::Values(_, count) => {
-            if *count == 1 {
-                return format!(in alloc; "the table has 1 fault; nothing is loaded");
-            }
-            format!(in alloc; "the table has {count} faults; nothing is loaded")
-        }
-        LoadFault::Mount(fault) => mount_sentence(alloc, path, *fault),
-        LoadFault::Label(fault) => load_label_sentence(alloc, path, level, label, *fault),
-        LoadFault::DamagedSlot(slot) => damaged_sentence(alloc, path, level, *slot),
-        LoadFault::NoName => no_label_sentence(alloc, label),
-        LoadFault::NoKey => {
-            format!(in alloc;
-                "the key of the F sheet doesn't lie in the records; mend columns 29, 30 and 35 to 38 of the layout's F card"
-            )
-        }
-        LoadFault::NoRoom => {
-            format!(in alloc;
-                "a file has room for 1 to 999999 records or takes 1 to 999 tracks; ask for such room, or load the table in parts"
-            )
-        }
-        LoadFault::Full(room, records) => { full_sentence(alloc, label, appends, *room, *records) }
-        LoadFault::OtherKind => {
-            format!(in alloc;
-                "the file {label} that is there has records of another length, another key or another organization; load without --append, or give its own layout"
-            )
-        }
-        LoadFault::BadIndex => bad_index(alloc, path, level, label),
+        LoadFault::NoMemory | LoadFault::Full(..) => "",
+        LoadFault::File => "standard input can't be read; give it the table by < FILE or by a pipe",
+        LoadFault::NoHeading =>
+            "standard input has no table; its first line has to name the fields of the layout",
+        LoadFault::Heading(_) => "the heading isn't that of the layout; nothing is loaded",
+        LoadFault::Values(_, 1) => "the table has 1 fault; nothing is loaded",
+        LoadFault::Values(..) => "the table has {number} faults; nothing is loaded",
+        LoadFault::Mount(fault) => mount_words(*fault),
+        LoadFault::Label(fault) => load_label_words(*fault),
+        LoadFault::DamagedSlot(_) => DAMAGED,
+        LoadFault::NoName => NO_LABEL,
+        LoadFault::NoKey =>
+            "the key of the F sheet doesn't lie in the records; mend columns 29, 30 and 35 to 38 of the layout's F card",
+        LoadFault::NoRoom =>
+            "a file has room for 1 to 999999 records or takes 1 to 999 tracks; ask for such room, or load the table in parts",
+        LoadFault::OtherKind =>
+            "the file {label} that is there has records of another length, another key or another organization; load without --append, or give its own layout",
+        LoadFault::BadIndex =>
+            "the index of {label} in area {area} of {path} isn't that of its records; take an older copy of the pack, or delete the file and load all of its records",
     }
 }
 
 /// What is wrong with a heading.
 pub fn heading_sentence(alloc: Global, fault: &HeadingFault) -> Result<String, AllocError> {
     match fault {
-        HeadingFault::Unknown(column, text) => {
-            let shown = shown(alloc, text)?;
-            let cure = unknown_cure(text);
-            format!(in alloc;
-                "line 1, column {column}: the layout has no field \"{shown}\"; {cure}"
-            )
-        }
-        HeadingFault::Twice(name) => {
-            let name = label_text(alloc, Some(*name))?;
-            format!(in alloc; "line 1: the field {name} is named twice; leave one column out")
-        }
-        HeadingFault::Overlap(one, other) => {
-            let one = label_text(alloc, Some(*one))?;
-            let other = label_text(alloc, Some(*other))?;
-            format!(in alloc;
-                "line 1: the fields {one} and {other} lie over each other; leave one column out"
-            )
-        }
-        HeadingFault::Under(field, named) => {
-            let field = label_text(alloc, Some(*field))?;
-            let named = label_text(alloc, Some(*named))?;
-            format!(in alloc;
-                "line 1: the field {field} lies partly under {named}, so it can't be 0; name {field} in place of {named}, or leave --fill out"
-            )
-        }
-        HeadingFault::Missing(name) => {
-            let name = label_text(alloc, Some(*name))?;
-            format!(in alloc;
-                "line 1: the field {name} is missing; add its column, or have it blank or 0 by --fill"
-            )
-        }
+        HeadingFault::Unknown(column, text) => unknown_sentence(alloc, *column, text),
+        HeadingFault::Twice(name) => fields_sentence(
+            alloc,
+            "line 1: the field {field} is named twice; leave one column out",
+            *name,
+            *name,
+        ),
+        HeadingFault::Overlap(one, other) => fields_sentence(
+            alloc,
+            "line 1: the fields {field} and {other} lie over each other; leave one column out",
+            *one,
+            *other,
+        ),
+        HeadingFault::Under(field, named) => fields_sentence(
+            alloc,
+            "line 1: the field {field} lies partly under {other}, so it can't be 0; name {field} in place of {other}, or leave --fill out",
+            *field,
+            *named,
+        ),
+        HeadingFault::Missing(name) => fields_sentence(
+            alloc,
+            "line 1: the field {field} is missing; add its column, or have it blank or 0 by --fill",
+            *name,
+            *name,
+        ),
     }
+}
+
+/// A sentence about one or two fields.
+fn fields_sentence(
+    alloc: Global,
+    sentence: &str,
+    field: Name,
+    other: Name,
+) -> Result<String, AllocError> {
+    Words::of_path("")
+        .with_fields(Some(field), Some(other))
+        .fill(alloc, sentence)
+}
+
+/// That no field has the name in a column.
+fn unknown_sentence(alloc: Global, column: usize, name: &[u8]) -> Result<String, AllocError> {
+    let mut text = String::new(alloc);
+    push_unknown(&mut text, column, name)?;
+    Ok(text)
+}
+
+fn push_unknown(text: &mut String, column: usize, name: &[u8]) -> Result<(), AllocError> {
+    write!(text, "line 1, column {column}: the layout has no field \"")?;
+    push_shown(text, name)?;
+    text.push_str("\"; ")?;
+    text.push_str(unknown_cure(name))
 }
 
 /// What mends a name in the heading that no field has: where a character that other programs put between cells stands in it, that
@@ -166,31 +164,37 @@ fn unknown_cure(name: &[u8]) -> &'static str {
 
 /// What is wrong with a row.
 pub fn value_sentence(alloc: Global, fault: &ValueFault) -> Result<String, AllocError> {
-    let line = fault.line;
-    let place = match fault.field {
-        Some(name) => {
-            let name = label_text(alloc, Some(name))?;
-            format!(in alloc; "line {line}, {name}")?
-        }
-        None => format!(in alloc; "line {line}")?,
-    };
-    match fault.reason {
+    let mut text = String::new(alloc);
+    push_place(&mut text, fault.line, fault.field)?;
+    push_reason(&mut text, fault.reason)?;
+    Ok(text)
+}
+
+fn push_place(text: &mut String, line: u64, field: Option<Name>) -> Result<(), AllocError> {
+    write!(text, "line {line}")?;
+    if field.is_some() {
+        text.push_str(", ")?;
+        push_name(text, field)?;
+    }
+    text.push_str(": ")
+}
+
+fn push_reason(text: &mut String, reason: Reason) -> Result<(), AllocError> {
+    match reason {
         Reason::Cell(fault) => {
             let cure = cure_of(fault);
-            format!(in alloc; "{place}: {fault}; {cure}")
+            write!(text, "{fault}; {cure}")
         }
-        Reason::Cells(count) => {
-            format!(in alloc;
-                "{place}: the row has {count} cells, and the heading another number; give each column a cell"
-            )
-        }
-        Reason::SameKey(other) => {
-            format!(in alloc;
-                "{place}: the row on line {other} has the same key; give each row a key of its own"
-            )
-        }
+        Reason::Cells(count) => write!(
+            text,
+            "the row has {count} cells, and the heading another number; give each column a cell"
+        ),
+        Reason::SameKey(other) => write!(
+            text,
+            "the row on line {other} has the same key; give each row a key of its own"
+        ),
         Reason::KeyInFile => {
-            format!(in alloc; "{place}: a record of the file has the same key; leave the row out")
+            text.push_str("a record of the file has the same key; leave the row out")
         }
     }
 }
@@ -207,12 +211,11 @@ fn cure_of(fault: CellFault) -> &'static str {
     }
 }
 
-/// The text of a cell, with a question mark for each byte that is no printable character of ASCII.
-fn shown(alloc: Global, text: &[u8]) -> Result<String, AllocError> {
-    let mut shown = String::new(alloc);
-    for byte in text {
+/// Appends the text of a cell, with a question mark for each byte that is no printable character of ASCII.
+fn push_shown(text: &mut String, cell: &[u8]) -> Result<(), AllocError> {
+    for byte in cell {
         let is_plain = b' ' <= *byte && *byte <= b'~';
-        shown.push(if is_plain { char::from(*byte) } else { '?' })?;
+        text.push(if is_plain { char::from(*byte) } else { '?' })?;
     }
-    Ok(shown)
+    Ok(())
 }
