@@ -5,7 +5,7 @@ use s3_host_files::FileFault;
 use s3_paper_commands::status::{FILE_FAILED, PERSON_NEEDED, REFUSED, WRONG_WORDS};
 use std::alloc::{AllocError, AllocFailed};
 use std::io;
-use std::io::Write;
+use std::io::{ErrorKind, Write};
 
 /// Why a command isn't done, with the sentence that says so.
 #[derive(Drop)]
@@ -52,21 +52,76 @@ impl Fault {
     }
 }
 
+/// What a command does with a file of the host.
+#[derive(Clone, Copy)]
+pub enum Use {
+    /// It reads the file.
+    Reads,
+    /// It saves the file.
+    Saves,
+}
+
 /// What a failed call on a file of the host is.
-pub fn of_call(rt: &HostRuntime, error: &io::Error, path: &str) -> Fault {
-    if error.kind() == io::ErrorKind::OutOfMemory {
+pub fn of_call(rt: &HostRuntime, used: Use, error: &io::Error, path: &str) -> Fault {
+    if error.kind() == ErrorKind::OutOfMemory {
         return Fault::NoMemory;
     }
-    match format!(in rt.alloc(); "the file {path} can't be read or written: {error}") {
-        Ok(sentence) => Fault::File(sentence),
+    let mut text = String::new(rt.alloc());
+    match push_call(&mut text, used, error, path) {
+        Ok(()) => Fault::File(text),
         Err(_) => Fault::NoMemory,
     }
 }
 
+/// Appends why a call on a file failed, by the system, and what helps.
+fn push_call(
+    text: &mut String,
+    used: Use,
+    error: &io::Error,
+    path: &str,
+) -> Result<(), AllocError> {
+    text.push_str(path)?;
+    text.push_str(match used {
+        Use::Reads => " can't be read: ",
+        Use::Saves => " can't be saved: ",
+    })?;
+    write!(text, "{error}")?;
+    text.push_str(match used {
+        Use::Reads => read_cure(error.kind()),
+        Use::Saves => save_cure(error.kind()),
+    })
+}
+
+/// What helps where a file can't be read.
+fn read_cure(kind: ErrorKind) -> &'static str {
+    match kind {
+        ErrorKind::NotFound | ErrorKind::NotADirectory =>
+            "; name a file that is there, `ls` shows which",
+        ErrorKind::PermissionDenied => "; have its owner let you read it, as by `chmod`",
+        ErrorKind::IsADirectory => "; name a file in it",
+        ErrorKind::FileTooLarge => "; a deck has at most 4,194,304 bytes: take the source alone",
+        _ => "; see whether its disk is at work, or take a copy",
+    }
+}
+
+/// What helps where a file can't be saved.
+fn save_cure(kind: ErrorKind) -> &'static str {
+    match kind {
+        ErrorKind::NotFound | ErrorKind::NotADirectory =>
+            "; make its folder first, or save elsewhere",
+        ErrorKind::PermissionDenied | ErrorKind::ReadOnlyFilesystem =>
+            "; have the folder's owner let you write there, as by `chmod`, or save elsewhere",
+        ErrorKind::IsADirectory => "; name a file in it",
+        ErrorKind::StorageFull | ErrorKind::QuotaExceeded =>
+            "; make room on its disk, or save elsewhere",
+        _ => "; see whether its disk is at work, or save elsewhere",
+    }
+}
+
 /// What a failed call on the file of a pack is.
-pub fn of_pack(rt: &HostRuntime, fault: &FileFault, path: &str) -> Fault {
+pub fn of_pack(rt: &HostRuntime, used: Use, fault: &FileFault, path: &str) -> Fault {
     match fault {
-        FileFault::Call(error) => of_call(rt, error, path),
+        FileFault::Call(error) => of_call(rt, used, error, path),
         FileFault::InUse => {
             match format!(in rt.alloc();
                 "the pack {path} is in use by another command; try again when that is done"

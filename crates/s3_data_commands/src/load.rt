@@ -14,15 +14,19 @@ use crate::words::{
 };
 use clap::ArgMatches;
 use s3_cards::ebcdic::DIGIT_0;
-use s3_cards::{LevelId, Name, Retention};
+use s3_cards::{LevelId, Name, Retention, host_byte};
 use s3_labels::LabelFault;
 use s3_layout::SourceLayout;
 use s3_listing::file_size;
 use s3_load::{LoadFault, Order, Room};
 use s3_paper_commands::status::DONE;
 use s3_paper_commands::words::{CommandWords, Takes, Word, value_of};
+use s3_unload::{Area, find_file};
 use std::alloc::{AllocError, Global};
 use std::io::Write;
+
+/// How many faults of a table are told.
+const MOST_TOLD: usize = 20;
 
 /// `bureau load` and its words.
 pub const LOAD: CommandWords = CommandWords {
@@ -132,9 +136,17 @@ fn load_table(rt: &HostRuntime, matches: &ArgMatches<'_>) -> Result<(), Fault> {
     let layout = layout_of(rt, matches, words.source)?;
     let (pack, locked) = pack_to_change(rt, matches, words.path, words.save)?;
     keep_input(rt, words.save, words.source)?;
+    let replaced = replaced_file(rt.alloc(), &words, &pack);
     let loaded = loaded(rt, &words, &layout, &pack)?;
     saved(rt, words.save, locked, &loaded)?;
-    tell_done(rt, loaded_sentence(rt.alloc(), &words, &loaded))
+    let count = loaded_count(rt.alloc(), &words, &loaded);
+    tell_done(
+        rt,
+        match replaced {
+            Some(file) => replaced_sentence(rt.alloc(), &words, file, count),
+            None => loaded_sentence(rt.alloc(), &words, count),
+        },
+    )
 }
 
 /// A pack with the table of standard input in the file that the words name.
@@ -162,17 +174,112 @@ fn loaded(
     }
 }
 
-/// Into which file the table was loaded, and how many records that has now.
-fn loaded_sentence(
-    alloc: Global,
-    words: &LoadWords<'_>,
-    loaded: &[u8],
-) -> Result<String, AllocError> {
-    let level = number_of(words.level);
-    let count = match file_size(alloc, loaded, level, words.name) {
+/// A file in whose place a new one comes.
+#[derive(Clone, Copy)]
+struct ReplacedFile {
+    /// How many records it has.
+    records: u32,
+    /// Its date, mmddyy, in EBCDIC.
+    date: [u8; 6],
+}
+
+/// The file of a pack that a new one is to replace, if there is one.
+fn replaced_file(alloc: Global, words: &LoadWords<'_>, pack: &[u8]) -> Option<ReplacedFile> {
+    if words.appends {
+        return None;
+    }
+    match find_file(alloc, pack, Area::Level(words.level), words.name) {
+        Ok((_, label)) => Some(ReplacedFile {
+            records: label.count,
+            date: label.date,
+        }),
+        Err(_) => None,
+    }
+}
+
+/// How many records the file of a pack has that was loaded.
+fn loaded_count(alloc: Global, words: &LoadWords<'_>, loaded: &[u8]) -> u32 {
+    match file_size(alloc, loaded, number_of(words.level), words.name) {
         Ok(Some(size)) => size.records,
         _ => 0,
-    };
+    }
+}
+
+/// Which file was replaced, and how many records the new one has.
+fn replaced_sentence(
+    alloc: Global,
+    words: &LoadWords<'_>,
+    file: ReplacedFile,
+    count: u32,
+) -> Result<String, AllocError> {
+    let mut text = String::new(alloc);
+    push_replaced(&mut text, words, file, count)?;
+    Ok(text)
+}
+
+fn push_replaced(
+    text: &mut String,
+    words: &LoadWords<'_>,
+    file: ReplacedFile,
+    count: u32,
+) -> Result<(), AllocError> {
+    text.push_str(words.label)?;
+    text.push_str(", ")?;
+    push_grouped(text, file.records)?;
+    text.push_str(if file.records == 1 {
+        " record"
+    } else {
+        " records"
+    })?;
+    push_date(text, file.date)?;
+    text.push_str(", replaced by ")?;
+    push_grouped(text, count)?;
+    let level = number_of(words.level);
+    write!(text, " in level {level} of ")?;
+    text.push_str(words.save)
+}
+
+/// Appends a number with a comma before its last three digits, if it has more.
+fn push_grouped(text: &mut String, number: u32) -> Result<(), AllocError> {
+    let rest = number % 1000;
+    if number < 1000 {
+        return write!(text, "{rest}");
+    }
+    let thousands = number / 1000;
+    write!(text, "{thousands},{rest:03}")
+}
+
+/// Appends of which day a file is, by the six digits mmddyy in EBCDIC.
+fn push_date(text: &mut String, date: [u8; 6]) -> Result<(), AllocError> {
+    if date == [DIGIT_0; 6] {
+        return text.push_str(" without a date");
+    }
+    let [
+        month_tens,
+        month_ones,
+        day_tens,
+        day_ones,
+        year_tens,
+        year_ones,
+    ] = date;
+    text.push_str(" of ")?;
+    push_codes(text, [year_tens, year_ones])?;
+    text.push('-')?;
+    push_codes(text, [month_tens, month_ones])?;
+    text.push('-')?;
+    push_codes(text, [day_tens, day_ones])
+}
+
+fn push_codes(text: &mut String, codes: [u8; 2]) -> Result<(), AllocError> {
+    for code in codes {
+        text.push(char::from(host_byte(code)))?;
+    }
+    Ok(())
+}
+
+/// Into which file the table was loaded, and how many records that has now.
+fn loaded_sentence(alloc: Global, words: &LoadWords<'_>, count: u32) -> Result<String, AllocError> {
+    let level = number_of(words.level);
     let records = if count == 1 { "record" } else { "records" };
     let LoadWords { label, save, .. } = *words;
     format!(in alloc; "{label} of level {level} of {save} is loaded: it has {count} {records} now")
@@ -312,23 +419,35 @@ fn no_room(rt: &HostRuntime, words: &LoadWords<'_>) -> Fault {
     }
 }
 
-/// Tells what is wrong with the heading or the rows, a line each.
+/// Tells what is wrong with the heading or the rows, a line each, up to 20 of them, and how many others there are.
 fn tell_all(rt: &HostRuntime, fault: &LoadFault) -> Result<(), AllocError> {
     let alloc = rt.alloc();
     match fault {
         LoadFault::Heading(faults) => {
-            for fault in faults {
+            for fault in faults.iter().take(MOST_TOLD) {
                 let sentence = heading_sentence(alloc, fault)?;
                 let _ = writeln!(rt.stderr(), "{sentence}");
             }
+            tell_others(rt, faults.len() as u64);
         }
-        LoadFault::Values(faults, _) => {
-            for fault in faults {
+        LoadFault::Values(faults, count) => {
+            for fault in faults.iter().take(MOST_TOLD) {
                 let sentence = value_sentence(alloc, fault)?;
                 let _ = writeln!(rt.stderr(), "{sentence}");
             }
+            tell_others(rt, *count);
         }
         _ => {}
     }
     Ok(())
+}
+
+/// Tells how many faults of so many aren't told.
+fn tell_others(rt: &HostRuntime, count: u64) {
+    let others = count.saturating_sub(MOST_TOLD as u64);
+    if others == 1 {
+        let _ = writeln!(rt.stderr(), "1 other fault isn't shown");
+    } else if others > 1 {
+        let _ = writeln!(rt.stderr(), "{others} other faults aren't shown");
+    }
 }

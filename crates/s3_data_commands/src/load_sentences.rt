@@ -2,7 +2,7 @@
 
 use crate::filled::{Words, push_name};
 use crate::pack_words::{DAMAGED, NO_LABEL, label_words, mount_words};
-use s3_cards::Name;
+use s3_cards::{Name, host_byte};
 use s3_cells::CellFault;
 use s3_labels::LabelFault;
 use s3_load::{HeadingFault, LoadFault, Reason, ValueFault};
@@ -17,6 +17,9 @@ const DELIMITER_CURES: [(u8, &str); 3] = [
     (b';', "if ; stands between the cells, say --delimiter ';'"),
     (b'|', "if | stands between the cells, say --delimiter '|'"),
 ];
+
+/// How many characters of a cell are shown.
+const MOST_SHOWN: usize = 40;
 
 /// Why a label can't be used by a load.
 fn load_label_words(fault: LabelFault) -> &'static str {
@@ -60,7 +63,7 @@ pub fn load_sentence<'a>(
         LoadFault::Full(room, records) => {
             return full_sentence(alloc, label, appends, *room, *records);
         }
-        LoadFault::Values(_, count) => *count,
+        LoadFault::Values(_, count) | LoadFault::OpenQuote(count) => *count,
         LoadFault::DamagedSlot(slot) => u64::from(*slot),
         _ => 0,
     };
@@ -74,6 +77,8 @@ fn load_words(fault: &LoadFault) -> &'static str {
     match fault {
         LoadFault::NoMemory | LoadFault::Full(..) => "",
         LoadFault::File => "standard input can't be read; give it the table by < FILE or by a pipe",
+        LoadFault::OpenQuote(_) =>
+            "line {number}: a quote is opened here and never closed; close it at the end of its cell, or write it twice in quotes if it belongs to a text",
         LoadFault::NoHeading =>
             "standard input has no table; its first line has to name the fields of the layout",
         LoadFault::Heading(_) => "the heading isn't that of the layout; nothing is loaded",
@@ -166,7 +171,7 @@ fn unknown_cure(name: &[u8]) -> &'static str {
 pub fn value_sentence(alloc: Global, fault: &ValueFault) -> Result<String, AllocError> {
     let mut text = String::new(alloc);
     push_place(&mut text, fault.line, fault.field)?;
-    push_reason(&mut text, fault.reason)?;
+    push_reason(&mut text, &fault.reason)?;
     Ok(text)
 }
 
@@ -179,43 +184,117 @@ fn push_place(text: &mut String, line: u64, field: Option<Name>) -> Result<(), A
     text.push_str(": ")
 }
 
-fn push_reason(text: &mut String, reason: Reason) -> Result<(), AllocError> {
+fn push_reason(text: &mut String, reason: &Reason) -> Result<(), AllocError> {
     match reason {
-        Reason::Cell(fault) => {
-            let cure = cure_of(fault);
-            write!(text, "{fault}; {cure}")
+        Reason::Cell(fault, cell) => {
+            push_quoted(text, cell)?;
+            text.push_str(words_of(*fault))
         }
-        Reason::Cells(count) => write!(
+        Reason::OverLines(cell) => {
+            text.push_str("the cell ")?;
+            push_quoted(text, first_line(cell))?;
+            text.push_str(
+                " has quotes that aren't closed on its line; close them there, and write a text on one line",
+            )
+        }
+        Reason::Cells(count, wanted) => write!(
             text,
-            "the row has {count} cells, and the heading another number; give each column a cell"
+            "the row has {count} cells, and the heading {wanted}; give each column a cell"
         ),
-        Reason::SameKey(other) => write!(
-            text,
-            "the row on line {other} has the same key; give each row a key of its own"
-        ),
-        Reason::KeyInFile => {
-            text.push_str("a record of the file has the same key; leave the row out")
+        Reason::SameKey(other, key) => {
+            text.push_str("the key ")?;
+            push_key(text, key)?;
+            write!(
+                text,
+                " is that of the row on line {other} too; give each row a key of its own"
+            )
+        }
+        Reason::KeyInFile(key) => {
+            text.push_str("a record of the file has the key ")?;
+            push_key(text, key)?;
+            text.push_str(" already; leave the row out")
         }
     }
 }
 
-/// What mends a cell.
-fn cure_of(fault: CellFault) -> &'static str {
+/// What is wrong with a cell, and what mends it.
+fn words_of(fault: CellFault) -> &'static str {
     match fault {
         CellFault::NoNumber =>
-            "write digits, with a minus in front and a point where they are needed",
-        CellFault::TooManyDecimals => "round it",
-        CellFault::TooLarge => "write a smaller one",
-        CellFault::TooLong => "shorten it",
-        CellFault::NoCharacter => "use capital letters, digits and the signs of cards",
+            " is no number; write digits, with a minus in front and a point where they are needed",
+        CellFault::TooManyDecimals => " has more decimals than the field; round it",
+        CellFault::TooLarge =>
+            " has more digits before the point than the field; write a smaller number",
+        CellFault::TooLong => " is longer than the field; shorten it",
+        CellFault::NoCharacter =>
+            " has a character that no card can have; use capital letters, digits and the signs of cards",
     }
 }
 
-/// Appends the text of a cell, with a question mark for each byte that is no printable character of ASCII.
+/// A cell up to the end of its first line.
+fn first_line(cell: &[u8]) -> &[u8] {
+    for (place, byte) in cell.iter().enumerate() {
+        if *byte == b'\n' || *byte == b'\r' {
+            return &cell[..place];
+        }
+    }
+    cell
+}
+
+/// Appends the characters of a key in quotes.
+fn push_key(text: &mut String, key: &[u8]) -> Result<(), AllocError> {
+    text.push('"')?;
+    for code in key {
+        text.push(char::from(host_byte(*code)))?;
+    }
+    text.push('"')
+}
+
+/// Appends the text of a cell in quotes, up to its 40th character.
+fn push_quoted(text: &mut String, cell: &[u8]) -> Result<(), AllocError> {
+    text.push('"')?;
+    push_shown(text, cell)?;
+    text.push('"')
+}
+
+/// Appends the text of a cell, up to its 40th character, with a question mark for each character that isn't printable; of a cell that
+/// is no text of UTF-8, with one for each byte that isn't ASCII.
 fn push_shown(text: &mut String, cell: &[u8]) -> Result<(), AllocError> {
-    for byte in cell {
-        let is_plain = b' ' <= *byte && *byte <= b'~';
-        text.push(if is_plain { char::from(*byte) } else { '?' })?;
+    match str::from_utf8(cell) {
+        Ok(shown) => push_start(text, shown),
+        Err(_) => push_bytes(text, cell),
+    }
+}
+
+fn push_start(text: &mut String, shown: &str) -> Result<(), AllocError> {
+    for (place, character) in shown.chars().enumerate() {
+        if place >= MOST_SHOWN {
+            return text.push_str("...");
+        }
+        text.push(printable(character))?;
     }
     Ok(())
+}
+
+fn push_bytes(text: &mut String, cell: &[u8]) -> Result<(), AllocError> {
+    for (place, byte) in cell.iter().enumerate() {
+        if place >= MOST_SHOWN {
+            return text.push_str("...");
+        }
+        text.push(if byte.is_ascii() {
+            printable(char::from(*byte))
+        } else {
+            '?'
+        })?;
+    }
+    Ok(())
+}
+
+/// A character, or a question mark in place of one that moves the cursor or shows nothing.
+fn printable(character: char) -> char {
+    if character < ' ' || ('\u{7f}' <= character && character <= '\u{9f}') {
+        '?'
+    } else {
+        character
+    }
 }

@@ -1,7 +1,7 @@
 //! What the words for the care of a pack give, and the sentences of its refusals.
 ghost use Rattle.std.specs.Prelude.{◌≤◌, ◌<◌, IfOk};
 
-use crate::fault::{Fault, of_call, of_pack};
+use crate::fault::{Fault, Use, of_call, of_pack};
 use crate::filled::Words;
 use clap::ArgMatches;
 use s3_cards::{LevelId, Name, is_name, to_ebcdic};
@@ -103,7 +103,7 @@ pub fn pack_of(rt: &HostRuntime, path: &str) -> Result<Vec<u8>, Fault> {
             test_begin(rt.alloc(), path, &pack)?;
             Ok(pack)
         }
-        Err(error) => Err(of_call(rt, &error, path)),
+        Err(error) => Err(of_call(rt, Use::Reads, &error, path)),
     }
 }
 
@@ -129,7 +129,7 @@ fn pack_to_save(
             test_begin(rt.alloc(), path, &pack)?;
             Ok((pack, locked))
         }
-        Err(fault) => Err(of_pack(rt, &fault, path)),
+        Err(fault) => Err(of_pack(rt, Use::Reads, &fault, path)),
     }
 }
 
@@ -156,7 +156,7 @@ fn refuse_file_there(rt: &HostRuntime, save: &str) -> Result<(), Fault> {
             rt.alloc(),
             "{path} is there already; give another name, or say --overwrite to write over it",
         ))),
-        Err(error) => Err(of_call(rt, &error, save)),
+        Err(error) => Err(of_call(rt, Use::Saves, &error, save)),
     }
 }
 
@@ -249,7 +249,7 @@ pub fn saved(
 ) -> Result<(), Fault> {
     match save_pack(rt, save, locked, pack) {
         Ok(()) => Ok(()),
-        Err(fault) => Err(of_pack(rt, &fault, save)),
+        Err(fault) => Err(of_pack(rt, Use::Saves, &fault, save)),
     }
 }
 
