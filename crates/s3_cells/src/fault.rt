@@ -2,6 +2,7 @@
 ghost use Rattle.std.specs.Prelude.{◌≡◌};
 
 use std::alloc::AllocError;
+use thiserror::Error;
 
 /// Why a field of a record isn't shown.
 #[derive(Clone, Copy)]
@@ -25,16 +26,21 @@ impl From<AllocError> for ShowFault {
 }
 
 /// Why a cell isn't taken into a field.
-#[derive(Clone, Copy)]
+#[derive(Clone, Copy, Debug, Error)]
 pub enum CellFault {
     /// The cell is no number.
+    #[error("this is no number")]
     NoNumber,
     /// The number has more decimals than the field.
+    #[error("the number has more decimals than the field")]
     TooManyDecimals,
     /// The number has more digits in front of the point than the field.
+    #[error("the number has more digits than the field")]
     TooLarge,
     /// The text is longer than the field.
+    #[error("the text is longer than the field")]
     TooLong,
     /// The text has a character that no card can have.
+    #[error("the text has a character that no card can have")]
     NoCharacter,
 }
