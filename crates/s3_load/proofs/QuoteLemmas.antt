@@ -1,6 +1,7 @@
 -- A table read byte by byte, up to the quote in which it ends.
-use Rattle.std.proofs.Common.{◌≡◌, ℕ, ◌+◌, ◌<◌, ◌≤◌, length, drop, get_or, suc, List, [], ◌∷◌, ◌∙◌, ap, sym, arith, drop-cons}
+use Rattle.std.proofs.Common.{◌≡◌, ℕ, ◌+◌, ◌<◌, ◌≤◌, refl, true, false, cond, length, drop, get_or, suc, List, [], ◌∷◌, ◌∙◌, ap, sym, arith, drop-cons}
 use Rattle.std.proofs.Math.ListN.{drop_of_length-le}
+use Rattle.csv.specs.Reading.{is_bom, strip_bom}
 use Rattle.s3_load.specs.declared.quotes.Reading.{Reading}
 use Rattle.s3_load.specs.Inner.Quotes.{after, reading_from}
 
@@ -18,3 +19,25 @@ one_more_read delimiter place at next text whole within is kept =
 pub all_read : (delimiter place : ℕ) (at : Reading) (text : List ℕ) (whole : Reading) → length text ≤ place
     → whole ≡ reading_from delimiter place at (drop place text) → whole ≡ at
 all_read delimiter place at text whole past kept = kept ∙ ap (reading_from delimiter place at) (drop_of_length-le text past)
+
+-- ---- a byte order mark at the start
+pub short_text : (text : List ℕ) → length text < 3 → strip_bom text ≡ text
+unfolding strip_bom
+short_text [] h = refl
+short_text (a ∷ []) h = refl
+short_text (a ∷ b ∷ []) h = refl
+short_text (a ∷ b ∷ c ∷ rest) h = absurd (omega arith)
+
+pub mark_dropped : (text : List ℕ) → 3 ≤ length text → is_bom (get_or text 0 0) (get_or text 1 0) (get_or text 2 0) ≡ true → strip_bom text ≡ drop 3 text
+unfolding strip_bom
+mark_dropped [] h is = absurd (omega arith)
+mark_dropped (a ∷ []) h is = absurd (omega arith)
+mark_dropped (a ∷ b ∷ []) h is = absurd (omega arith)
+mark_dropped (a ∷ b ∷ c ∷ rest) h is = ap (λ t. cond t rest (a ∷ b ∷ c ∷ rest)) is
+
+pub no_mark : (text : List ℕ) → 3 ≤ length text → is_bom (get_or text 0 0) (get_or text 1 0) (get_or text 2 0) ≡ false → strip_bom text ≡ text
+unfolding strip_bom
+no_mark [] h is = absurd (omega arith)
+no_mark (a ∷ []) h is = absurd (omega arith)
+no_mark (a ∷ b ∷ []) h is = absurd (omega arith)
+no_mark (a ∷ b ∷ c ∷ rest) h is = ap (λ t. cond t rest (a ∷ b ∷ c ∷ rest)) is

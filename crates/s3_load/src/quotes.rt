@@ -1,13 +1,10 @@
 //! A quote that is never closed.
 ghost use Rattle.std.specs.Prelude.{◌≡◌, OnOk, None};
-ghost use Rattle.csv.specs.Reading.{strip_bom};
+ghost use Rattle.csv.specs.Reading.{is_bom, strip_bom};
 ghost use Rattle.s3_load.specs.Inner.Quotes.{after as after_spec, after_plain as after_plain_spec, is_line_end as is_line_end_spec, open_quote as open_quote_spec, opened as opened_spec};
 
 use crate::fault::LoadFault;
 use crate::rows::Lines;
-
-/// The bytes of a byte order mark.
-const MARK: [u8; 3] = [0xef, 0xbb, 0xbf];
 
 /// Where a reader of a table is.
 #[derive(Clone, Copy)]
@@ -34,19 +31,25 @@ pub fn refuse_open_quote(text: &[u8], delimiter: u8) -> Result<(), LoadFault>
 }
 
 /// A text without a byte order mark at its start.
+#[tactic(auto, using(crate::proofs::QuoteLemmas::short_text, crate::proofs::QuoteLemmas::mark_dropped, crate::proofs::QuoteLemmas::no_mark))]
 fn without_mark(text: &[u8]) -> &[u8]
     ensures { result.now ≡ strip_bom text.now }
 {
-    match text {
-        [first, second, third, rest @ ..] => {
-            if *first == MARK[0] && *second == MARK[1] && *third == MARK[2] {
-                rest
-            } else {
-                text
-            }
-        }
-        _ => text,
+    if text.len() < 3 {
+        return text;
     }
+    if is_mark(text[0], text[1], text[2]) {
+        &text[3..]
+    } else {
+        text
+    }
+}
+
+/// Whether these bytes are a byte order mark.
+fn is_mark(first: u8, second: u8, third: u8) -> bool
+    ensures { result ≡ is_bom first second third }
+{
+    first == 0xef && second == 0xbb && third == 0xbf
 }
 
 /// The place of the quote in which a table ends, if it does.
