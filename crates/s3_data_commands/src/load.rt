@@ -18,7 +18,7 @@ use s3_cards::{LevelId, Name, Retention, host_byte};
 use s3_labels::LabelFault;
 use s3_layout::SourceLayout;
 use s3_listing::file_size;
-use s3_load::{LoadFault, Order, Room};
+use s3_load::{HeadingFault, LoadFault, Order, Room, ValueFault};
 use s3_paper_commands::status::DONE;
 use s3_paper_commands::words::{CommandWords, Takes, Word, value_of};
 use s3_unload::{Area, find_file};
@@ -139,14 +139,7 @@ fn load_table(rt: &HostRuntime, matches: &ArgMatches<'_>) -> Result<(), Fault> {
     let replaced = replaced_file(rt.alloc(), &words, &pack);
     let loaded = loaded(rt, &words, &layout, &pack)?;
     saved(rt, words.save, locked, &loaded)?;
-    let count = loaded_count(rt.alloc(), &words, &loaded);
-    tell_done(
-        rt,
-        match replaced {
-            Some(file) => replaced_sentence(rt.alloc(), &words, file, count),
-            None => loaded_sentence(rt.alloc(), &words, count),
-        },
-    )
+    tell_done(rt, done_sentence(rt.alloc(), &words, replaced, &loaded))
 }
 
 /// A pack with the table of standard input in the file that the words name.
@@ -205,6 +198,20 @@ fn loaded_count(alloc: Global, words: &LoadWords<'_>, loaded: &[u8]) -> u32 {
     }
 }
 
+/// What was loaded, and which file was replaced.
+fn done_sentence(
+    alloc: Global,
+    words: &LoadWords<'_>,
+    replaced: Option<ReplacedFile>,
+    loaded: &[u8],
+) -> Result<String, AllocError> {
+    let count = loaded_count(alloc, words, loaded);
+    match replaced {
+        Some(file) => replaced_sentence(alloc, words, file, count),
+        None => loaded_sentence(alloc, words, count),
+    }
+}
+
 /// Which file was replaced, and how many records the new one has.
 fn replaced_sentence(
     alloc: Global,
@@ -251,30 +258,20 @@ fn push_grouped(text: &mut String, number: u32) -> Result<(), AllocError> {
 
 /// Appends of which day a file is, by the six digits mmddyy in EBCDIC.
 fn push_date(text: &mut String, date: [u8; 6]) -> Result<(), AllocError> {
-    if date == [DIGIT_0; 6] {
+    if date.iter().all(|code| *code == DIGIT_0) {
         return text.push_str(" without a date");
     }
-    let [
-        month_tens,
-        month_ones,
-        day_tens,
-        day_ones,
-        year_tens,
-        year_ones,
-    ] = date;
     text.push_str(" of ")?;
-    push_codes(text, [year_tens, year_ones])?;
+    push_codes(text, date[4], date[5])?;
     text.push('-')?;
-    push_codes(text, [month_tens, month_ones])?;
+    push_codes(text, date[0], date[1])?;
     text.push('-')?;
-    push_codes(text, [day_tens, day_ones])
+    push_codes(text, date[2], date[3])
 }
 
-fn push_codes(text: &mut String, codes: [u8; 2]) -> Result<(), AllocError> {
-    for code in codes {
-        text.push(char::from(host_byte(code)))?;
-    }
-    Ok(())
+fn push_codes(text: &mut String, tens: u8, ones: u8) -> Result<(), AllocError> {
+    text.push(char::from(host_byte(tens)))?;
+    text.push(char::from(host_byte(ones)))
 }
 
 /// Into which file the table was loaded, and how many records that has now.
@@ -421,24 +418,28 @@ fn no_room(rt: &HostRuntime, words: &LoadWords<'_>) -> Fault {
 
 /// Tells what is wrong with the heading or the rows, a line each, up to 20 of them, and how many others there are.
 fn tell_all(rt: &HostRuntime, fault: &LoadFault) -> Result<(), AllocError> {
-    let alloc = rt.alloc();
     match fault {
-        LoadFault::Heading(faults) => {
-            for fault in faults.iter().take(MOST_TOLD) {
-                let sentence = heading_sentence(alloc, fault)?;
-                let _ = writeln!(rt.stderr(), "{sentence}");
-            }
-            tell_others(rt, faults.len() as u64);
-        }
-        LoadFault::Values(faults, count) => {
-            for fault in faults.iter().take(MOST_TOLD) {
-                let sentence = value_sentence(alloc, fault)?;
-                let _ = writeln!(rt.stderr(), "{sentence}");
-            }
-            tell_others(rt, *count);
-        }
-        _ => {}
+        LoadFault::Heading(faults) => tell_heading(rt, faults),
+        LoadFault::Values(faults, count) => tell_values(rt, faults, *count),
+        _ => Ok(()),
     }
+}
+
+fn tell_heading(rt: &HostRuntime, faults: &[HeadingFault]) -> Result<(), AllocError> {
+    for place in 0..faults.len().min(MOST_TOLD) {
+        let sentence = heading_sentence(rt.alloc(), &faults[place])?;
+        let _ = writeln!(rt.stderr(), "{sentence}");
+    }
+    tell_others(rt, faults.len() as u64);
+    Ok(())
+}
+
+fn tell_values(rt: &HostRuntime, faults: &[ValueFault], count: u64) -> Result<(), AllocError> {
+    for place in 0..faults.len().min(MOST_TOLD) {
+        let sentence = value_sentence(rt.alloc(), &faults[place])?;
+        let _ = writeln!(rt.stderr(), "{sentence}");
+    }
+    tell_others(rt, count);
     Ok(())
 }
 

@@ -267,11 +267,13 @@ fn push_shown(text: &mut String, cell: &[u8]) -> Result<(), AllocError> {
 }
 
 fn push_start(text: &mut String, shown: &str) -> Result<(), AllocError> {
-    for (place, character) in shown.chars().enumerate() {
-        if place >= MOST_SHOWN {
+    let mut count = 0usize;
+    for character in shown.chars() {
+        if count >= MOST_SHOWN {
             return text.push_str("...");
         }
         text.push(printable(character))?;
+        count = count.saturating_add(1);
     }
     Ok(())
 }
@@ -281,13 +283,17 @@ fn push_bytes(text: &mut String, cell: &[u8]) -> Result<(), AllocError> {
         if place >= MOST_SHOWN {
             return text.push_str("...");
         }
-        text.push(if byte.is_ascii() {
-            printable(char::from(*byte))
-        } else {
-            '?'
-        })?;
+        text.push(printable_byte(*byte))?;
     }
     Ok(())
+}
+
+fn printable_byte(byte: u8) -> char {
+    if byte.is_ascii() {
+        printable(char::from(byte))
+    } else {
+        '?'
+    }
 }
 
 /// A character, or a question mark in place of one that moves the cursor or shows nothing.
