@@ -199,8 +199,15 @@ fn take_cells(
 {
     let mut has_key = true;
     for (column, field) in fields.iter().enumerate() {
-        let cell = cell_at(cells, column);
-        let taken = take_cell(alloc, field, cell, line, key, bytes, faults)?;
+        let taken = take_cell(
+            alloc,
+            field,
+            cell_at(cells, column),
+            line,
+            key,
+            bytes,
+            faults,
+        )?;
         has_key = has_key && taken;
     }
     Ok(has_key)
