@@ -2,7 +2,8 @@
 ghost use Rattle.std.specs.Prelude.{◌≤◌};
 
 use crate::fault::Fault;
-use crate::pack_words::{label_text, mount_sentence, pack_of, refused};
+use crate::filled::{Words, push_name};
+use crate::pack_words::{mount_words, pack_of, refused};
 use crate::sentences::output_sentence;
 use crate::words::PACK;
 use clap::ArgMatches;
@@ -46,7 +47,10 @@ fn wrongs_of(rt: &HostRuntime, path: &str) -> Result<Vec<Wrong>, Fault> {
     match check_pack(rt.alloc(), &pack) {
         Ok(wrongs) => Ok(wrongs),
         Err(CheckFault::NoMemory) => Err(Fault::NoMemory),
-        Err(CheckFault::Mount(fault)) => Err(refused(mount_sentence(rt.alloc(), path, fault))),
+        Err(CheckFault::Mount(fault)) => Err(refused(Words::of_path(path).fill(
+            rt.alloc(),
+            mount_words(fault),
+        ))),
     }
 }
 
@@ -68,13 +72,12 @@ fn waits(alloc: Global, path: &str, count: usize) -> Fault {
 }
 
 fn waiting_sentence(alloc: Global, path: &str, count: usize) -> Result<String, AllocError> {
-    let slots = match count {
-        1 => format!(in alloc; "1 slot of {path} needs"),
-        _ => format!(in alloc; "{count} slots of {path} need"),
-    }?;
-    let slots = slots.as_str();
+    let (slots, need) = match count {
+        1 => ("slot", "needs"),
+        _ => ("slots", "need"),
+    };
     format!(in alloc;
-        "{slots} a person: put back the bytes of a label that are known, or free its slot by `bureau delete --slot`, and load a file again whose index is wrong"
+        "{count} {slots} of {path} {need} a person: put back the bytes of a label that are known, or free its slot by `bureau delete --slot`, and load a file again whose index is wrong"
     )
 }
 
@@ -82,17 +85,17 @@ fn waiting_sentence(alloc: Global, path: &str, count: usize) -> Result<String, A
 fn text_of(alloc: Global, wrongs: &[Wrong]) -> Result<String, AllocError> {
     let mut text = String::new(alloc);
     for wrong in wrongs {
-        push_line(alloc, &mut text, wrong)?;
+        push_line(&mut text, wrong)?;
     }
     Ok(text)
 }
 
-fn push_line(alloc: Global, text: &mut String, wrong: &Wrong) -> Result<(), AllocError> {
+fn push_line(text: &mut String, wrong: &Wrong) -> Result<(), AllocError> {
     let area = wrong.area;
     let slot = wrong.slot;
-    let label = label_text(alloc, wrong.name)?;
-    let label = label.as_str();
-    write!(text, "area {area}, slot {slot}, {label}: ")?;
+    write!(text, "area {area}, slot {slot}, ")?;
+    push_name(text, wrong.name)?;
+    text.push_str(": ")?;
     push_cause(text, wrong.cause)?;
     text.push('\n')
 }

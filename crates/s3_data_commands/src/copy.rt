@@ -3,8 +3,8 @@ ghost use Rattle.std.specs.Prelude.{◌≤◌, ◌<◌, IfOk};
 
 use crate::fault::Fault;
 use crate::pack_words::{
-    area_number, care_sentence, keep_input, label_of, label_sentence, mount_sentence,
-    no_room_for_copy, pack_of, pack_to_change, refused, saved, tell_done,
+    area_number, care_sentence, keep_input, label_of, no_room_for_copy, pack_of, pack_to_change,
+    refused, saved, tell_done,
 };
 use crate::words::{LABEL, OVERWRITE};
 use clap::ArgMatches;
@@ -117,7 +117,7 @@ fn copy_file(rt: &HostRuntime, matches: &ArgMatches<'_>) -> Result<(), Fault> {
     }
     let pack = with_copy(rt, order, into)?;
     saved(rt, matches, order.save, locked, &pack)?;
-    Ok(tell_copied(rt, order)?)
+    tell_done(rt, copied_sentence(rt.alloc(), order))
 }
 
 /// The pack that gets the copy, with it.
@@ -155,20 +155,15 @@ fn refusal_sentence(
     fault: CareFault,
 ) -> Result<String, AllocError> {
     match fault {
-        CareFault::SourceMount(fault) => mount_sentence(alloc, order.path, fault),
-        CareFault::SourceLabel(fault) => label_sentence(
-            alloc,
-            order.path,
-            order.area,
-            order.label,
-            fault,
-        ),
+        CareFault::SourceMount(_) | CareFault::SourceLabel(_) => {
+            care_sentence(alloc, order.path, order.area, order.label, fault)
+        }
         _ => care_sentence(alloc, order.into, order.to_area, order.new_label, fault),
     }
 }
 
-/// Tells what was copied.
-fn tell_copied(rt: &HostRuntime, order: Order<'_>) -> Result<(), AllocError> {
+/// What was copied.
+fn copied_sentence(alloc: Global, order: Order<'_>) -> Result<String, AllocError> {
     let Order {
         area,
         label,
@@ -177,9 +172,7 @@ fn tell_copied(rt: &HostRuntime, order: Order<'_>) -> Result<(), AllocError> {
         save,
         ..
     } = order;
-    let sentence = format!(in rt.alloc();
+    format!(in alloc;
         "{label} of area {area} is copied into area {to_area} of {save} as {new_label}"
-    )?;
-    tell_done(rt, sentence.as_str());
-    Ok(())
+    )
 }

@@ -56,7 +56,7 @@ fn delete_file(rt: &HostRuntime, matches: &ArgMatches<'_>) -> Result<(), Fault> 
     let (pack, locked) = pack_to_change(rt, matches, value_of(matches, "pack"), save)?;
     let pack = without(rt.alloc(), matches, area, chosen, pack)?;
     saved(rt, matches, save, locked, &pack)?;
-    Ok(tell_deleted(rt, matches, area, save)?)
+    tell_done(rt, deleted_sentence(rt.alloc(), matches, area, save))
 }
 
 /// A pack without the file that is meant.
@@ -94,29 +94,34 @@ fn refusal_sentence(
     area: u16,
     fault: CareFault,
 ) -> Result<String, AllocError> {
-    let slot = matches.get_one::<u16>("slot").unwrap_or(0);
-    let file = match (matches.get_str("label"), fault) {
-        (Some(label), _) => String::from_str(alloc, label)?,
-        (None, CareFault::NoFile | CareFault::NoSlot) => format!(in alloc; "slot {slot}")?,
-        (None, _) => format!(in alloc; "the file in slot {slot}")?,
-    };
+    let file = file_meant(alloc, matches, fault)?;
     care_sentence(alloc, value_of(matches, "pack"), area, file.as_str(), fault)
 }
 
-/// Tells what was deleted.
-fn tell_deleted(
-    rt: &HostRuntime,
+/// The file that is meant: its label, or its slot in words.
+fn file_meant(
+    alloc: Global,
+    matches: &ArgMatches<'_>,
+    fault: CareFault,
+) -> Result<String, AllocError> {
+    let slot = matches.get_one::<u16>("slot").unwrap_or(0);
+    match (matches.get_str("label"), fault) {
+        (Some(label), _) => String::from_str(alloc, label),
+        (None, CareFault::NoFile | CareFault::NoSlot) => format!(in alloc; "slot {slot}"),
+        (None, _) => format!(in alloc; "the file in slot {slot}"),
+    }
+}
+
+/// What was deleted.
+fn deleted_sentence(
+    alloc: Global,
     matches: &ArgMatches<'_>,
     area: u16,
     save: &str,
-) -> Result<(), AllocError> {
-    let sentence = match matches.get_str("label") {
-        Some(label) => { format!(in rt.alloc(); "{label} is deleted from area {area} of {save}")? }
-        None => {
-            let slot = matches.get_one::<u16>("slot").unwrap_or(0);
-            format!(in rt.alloc(); "slot {slot} in area {area} of {save} is freed")?
-        }
-    };
-    tell_done(rt, sentence.as_str());
-    Ok(())
+) -> Result<String, AllocError> {
+    if let Some(label) = matches.get_str("label") {
+        return format!(in alloc; "{label} is deleted from area {area} of {save}");
+    }
+    let slot = matches.get_one::<u16>("slot").unwrap_or(0);
+    format!(in alloc; "slot {slot} in area {area} of {save} is freed")
 }

@@ -5,7 +5,7 @@ use s3_host_files::FileFault;
 use s3_paper_commands::status::{FILE_FAILED, PERSON_NEEDED, REFUSED, WRONG_WORDS};
 use std::alloc::{AllocError, AllocFailed};
 use std::io;
-use std::io::Write;
+use std::io::{ErrorKind, Write};
 
 /// Why a command isn't done, with the sentence that says so.
 #[derive(Drop)]
@@ -40,33 +40,88 @@ impl Fault {
     pub fn tell<W: Write>(&self, writer: &mut W) -> u8
         ensures { result ≤ 4 }
     {
-        let (written, status) = match self {
-            Fault::Usage(sentence) => (writeln!(writer, "error: {sentence}"), WRONG_WORDS),
-            Fault::Refused(sentence) => (writeln!(writer, "bureau: {sentence}"), REFUSED),
-            Fault::File(sentence) => (writeln!(writer, "bureau: {sentence}"), FILE_FAILED),
-            Fault::Waits(sentence) => (writeln!(writer, "bureau: {sentence}"), PERSON_NEEDED),
-            Fault::NoMemory => (writeln!(writer, "bureau: memory"), REFUSED),
+        let (start, sentence, status) = match self {
+            Fault::Usage(sentence) => ("error", sentence.as_str(), WRONG_WORDS),
+            Fault::Refused(sentence) => ("bureau", sentence.as_str(), REFUSED),
+            Fault::File(sentence) => ("bureau", sentence.as_str(), FILE_FAILED),
+            Fault::Waits(sentence) => ("bureau", sentence.as_str(), PERSON_NEEDED),
+            Fault::NoMemory => ("bureau", "memory", REFUSED),
         };
-        let _ = written;
+        let _ = writeln!(writer, "{start}: {sentence}");
         status
     }
 }
 
+/// What a command does with a file of the host.
+#[derive(Clone, Copy)]
+pub enum Use {
+    /// It reads the file.
+    Reads,
+    /// It saves the file.
+    Saves,
+}
+
 /// What a failed call on a file of the host is.
-pub fn of_call(rt: &HostRuntime, error: &io::Error, path: &str) -> Fault {
-    if error.kind() == io::ErrorKind::OutOfMemory {
+pub fn of_call(rt: &HostRuntime, used: Use, error: &io::Error, path: &str) -> Fault {
+    if error.kind() == ErrorKind::OutOfMemory {
         return Fault::NoMemory;
     }
-    match format!(in rt.alloc(); "the file {path} can't be read or written: {error}") {
-        Ok(sentence) => Fault::File(sentence),
+    let mut text = String::new(rt.alloc());
+    match push_call(&mut text, used, error, path) {
+        Ok(()) => Fault::File(text),
         Err(_) => Fault::NoMemory,
     }
 }
 
-/// What a fault of the file of a pack is.
-pub fn of_pack(rt: &HostRuntime, fault: &FileFault, path: &str) -> Fault {
+/// Appends why a call on a file failed, by the system, and what helps.
+fn push_call(
+    text: &mut String,
+    used: Use,
+    error: &io::Error,
+    path: &str,
+) -> Result<(), AllocError> {
+    text.push_str(path)?;
+    text.push_str(match used {
+        Use::Reads => " can't be read: ",
+        Use::Saves => " can't be saved: ",
+    })?;
+    write!(text, "{error}")?;
+    text.push_str(match used {
+        Use::Reads => read_cure(error.kind()),
+        Use::Saves => save_cure(error.kind()),
+    })
+}
+
+/// What helps where a file can't be read.
+fn read_cure(kind: ErrorKind) -> &'static str {
+    match kind {
+        ErrorKind::NotFound | ErrorKind::NotADirectory =>
+            "; name a file that is there, `ls` shows which",
+        ErrorKind::PermissionDenied => "; have its owner let you read it, as by `chmod`",
+        ErrorKind::IsADirectory => "; name a file in it",
+        ErrorKind::FileTooLarge => "; a deck has at most 4,194,304 bytes: take the source alone",
+        _ => "; see whether its disk is at work, or take a copy",
+    }
+}
+
+/// What helps where a file can't be saved.
+fn save_cure(kind: ErrorKind) -> &'static str {
+    match kind {
+        ErrorKind::NotFound | ErrorKind::NotADirectory =>
+            "; make its folder first, or save elsewhere",
+        ErrorKind::PermissionDenied | ErrorKind::ReadOnlyFilesystem =>
+            "; have the folder's owner let you write there, as by `chmod`, or save elsewhere",
+        ErrorKind::IsADirectory => "; name a file in it",
+        ErrorKind::StorageFull | ErrorKind::QuotaExceeded =>
+            "; make room on its disk, or save elsewhere",
+        _ => "; see whether its disk is at work, or save elsewhere",
+    }
+}
+
+/// What a failed call on the file of a pack is.
+pub fn of_pack(rt: &HostRuntime, used: Use, fault: &FileFault, path: &str) -> Fault {
     match fault {
-        FileFault::Call(error) => of_call(rt, error, path),
+        FileFault::Call(error) => of_call(rt, used, error, path),
         FileFault::InUse => refused_or_memory(format!(in rt.alloc();
             "the pack {path} is in use by another command; try again when that is done"
         )),

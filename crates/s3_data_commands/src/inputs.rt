@@ -1,7 +1,7 @@
 //! What the words of `unload` and `load` give: layouts and delimiters.
 ghost use Rattle.std.specs.Prelude.{◌≤◌, length, IfOk, IfSome};
 
-use crate::fault::{Fault, of_call};
+use crate::fault::{Fault, Use, of_call};
 use crate::pack_words::{label_of, refused, wrong_words};
 use crate::sentences::layout_sentence;
 use clap::ArgMatches;
@@ -117,7 +117,7 @@ fn source_file_of(rt: &HostRuntime, text: &str) -> Result<Name, Fault> {
 fn text_at<'a>(rt: &HostRuntime, path: &'a str) -> Result<DeckText<'a>, Fault> {
     let bytes = match read_within(rt, path, DECK_LIMIT) {
         Ok(bytes) => bytes,
-        Err(error) => return Err(of_call(rt, &error, path)),
+        Err(error) => return Err(of_call(rt, Use::Reads, &error, path)),
     };
     let mut text = DeckText::new(rt.alloc());
     if is_plain_text(path) {

@@ -11,6 +11,7 @@ pub mod check_pack;
 pub mod copy;
 pub mod delete;
 mod fault;
+mod filled;
 mod inputs;
 pub mod load;
 mod load_sentences;

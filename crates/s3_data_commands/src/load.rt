@@ -2,6 +2,7 @@
 ghost use Rattle.std.specs.Prelude.{◌≤◌};
 
 use crate::fault::Fault;
+use crate::filled::Words;
 use crate::inputs::{delimiter_of, layout_of};
 use crate::load_sentences::{heading_sentence, load_sentence, value_sentence};
 use crate::pack_words::{
@@ -13,15 +14,19 @@ use crate::words::{
 };
 use clap::ArgMatches;
 use s3_cards::ebcdic::DIGIT_0;
-use s3_cards::{LevelId, Name, Retention};
+use s3_cards::{LevelId, Name, Retention, host_byte};
 use s3_labels::LabelFault;
 use s3_layout::SourceLayout;
 use s3_listing::file_size;
-use s3_load::{LoadFault, Order, Room};
+use s3_load::{HeadingFault, LoadFault, Order, Room, ValueFault};
 use s3_paper_commands::status::DONE;
 use s3_paper_commands::words::{CommandWords, Takes, Word, value_of};
+use s3_unload::{Area, find_file};
 use std::alloc::{AllocError, Global};
 use std::io::Write;
+
+/// How many faults of a table are told.
+const MOST_TOLD: usize = 20;
 
 /// `bureau load` and its words.
 pub const LOAD: CommandWords = CommandWords {
@@ -131,9 +136,10 @@ fn load_table(rt: &HostRuntime, matches: &ArgMatches<'_>) -> Result<(), Fault> {
     let layout = layout_of(rt, matches, words.source)?;
     let (pack, locked) = pack_to_change(rt, matches, words.path, words.save)?;
     keep_input(rt, words.save, words.source)?;
+    let replaced = replaced_file(rt.alloc(), &words, &pack);
     let loaded = loaded(rt, &words, &layout, &pack)?;
     saved(rt, matches, words.save, locked, &loaded)?;
-    Ok(tell_loaded(rt, &words, &loaded)?)
+    tell_done(rt, done_sentence(rt.alloc(), &words, replaced, &loaded))
 }
 
 /// A pack with the table of standard input in the file that the words name.
@@ -161,24 +167,119 @@ fn loaded(
     }
 }
 
-/// Tells into which file the table was loaded, and how many records that has now.
-fn tell_loaded(rt: &HostRuntime, words: &LoadWords<'_>, loaded: &[u8]) -> Result<(), AllocError> {
-    let level = number_of(words.level);
-    let records = match file_size(rt.alloc(), loaded, level, words.name) {
+/// A file in whose place a new one comes.
+#[derive(Clone, Copy)]
+struct ReplacedFile {
+    /// How many records it has.
+    records: u32,
+    /// Its date, mmddyy, in EBCDIC.
+    date: [u8; 6],
+}
+
+/// The file of a pack that a new one is to replace, if there is one.
+fn replaced_file(alloc: Global, words: &LoadWords<'_>, pack: &[u8]) -> Option<ReplacedFile> {
+    if words.appends {
+        return None;
+    }
+    match find_file(alloc, pack, Area::Level(words.level), words.name) {
+        Ok((_, label)) => Some(ReplacedFile {
+            records: label.count,
+            date: label.date,
+        }),
+        Err(_) => None,
+    }
+}
+
+/// How many records the file of a pack has that was loaded.
+fn loaded_count(alloc: Global, words: &LoadWords<'_>, loaded: &[u8]) -> u32 {
+    match file_size(alloc, loaded, number_of(words.level), words.name) {
         Ok(Some(size)) => size.records,
         _ => 0,
-    };
-    let records = match records {
-        1 => String::from_str(rt.alloc(), "1 record")?,
-        records => format!(in rt.alloc(); "{records} records")?,
-    };
-    let records = records.as_str();
+    }
+}
+
+/// What was loaded, and which file was replaced.
+fn done_sentence(
+    alloc: Global,
+    words: &LoadWords<'_>,
+    replaced: Option<ReplacedFile>,
+    loaded: &[u8],
+) -> Result<String, AllocError> {
+    let count = loaded_count(alloc, words, loaded);
+    match replaced {
+        Some(file) => replaced_sentence(alloc, words, file, count),
+        None => loaded_sentence(alloc, words, count),
+    }
+}
+
+/// Which file was replaced, and how many records the new one has.
+fn replaced_sentence(
+    alloc: Global,
+    words: &LoadWords<'_>,
+    file: ReplacedFile,
+    count: u32,
+) -> Result<String, AllocError> {
+    let mut text = String::new(alloc);
+    push_replaced(&mut text, words, file, count)?;
+    Ok(text)
+}
+
+fn push_replaced(
+    text: &mut String,
+    words: &LoadWords<'_>,
+    file: ReplacedFile,
+    count: u32,
+) -> Result<(), AllocError> {
+    text.push_str(words.label)?;
+    text.push_str(", ")?;
+    push_grouped(text, file.records)?;
+    text.push_str(if file.records == 1 {
+        " record"
+    } else {
+        " records"
+    })?;
+    push_date(text, file.date)?;
+    text.push_str(", replaced by ")?;
+    push_grouped(text, count)?;
+    let level = number_of(words.level);
+    write!(text, " in level {level} of ")?;
+    text.push_str(words.save)
+}
+
+/// Appends a number with a comma before its last three digits, if it has more.
+fn push_grouped(text: &mut String, number: u32) -> Result<(), AllocError> {
+    let rest = number % 1000;
+    if number < 1000 {
+        return write!(text, "{rest}");
+    }
+    let thousands = number / 1000;
+    write!(text, "{thousands},{rest:03}")
+}
+
+/// Appends of which day a file is, by the six digits mmddyy in EBCDIC.
+fn push_date(text: &mut String, date: [u8; 6]) -> Result<(), AllocError> {
+    if date.iter().all(|code| *code == DIGIT_0) {
+        return text.push_str(" without a date");
+    }
+    text.push_str(" of ")?;
+    push_codes(text, date[4], date[5])?;
+    text.push('-')?;
+    push_codes(text, date[0], date[1])?;
+    text.push('-')?;
+    push_codes(text, date[2], date[3])
+}
+
+fn push_codes(text: &mut String, tens: u8, ones: u8) -> Result<(), AllocError> {
+    text.push(char::from(host_byte(tens)))?;
+    text.push(char::from(host_byte(ones)))
+}
+
+/// Into which file the table was loaded, and how many records that has now.
+fn loaded_sentence(alloc: Global, words: &LoadWords<'_>, count: u32) -> Result<String, AllocError> {
+    let level = number_of(words.level);
+    let records = if count == 1 { "record" } else { "records" };
     let LoadWords { label, save, .. } = *words;
-    let sentence = format!(in rt.alloc();
-        "{label} of level {level} of {save} is loaded: it has {records} now"
-    )?;
-    tell_done(rt, sentence.as_str());
-    Ok(())
+    format!(in alloc; "{label} of level {level} of {save} is loaded: it has {count} {records} now")
 }
 
 /// The room that the words ask for.
@@ -214,9 +315,17 @@ fn date_of(rt: &HostRuntime, matches: &ArgMatches<'_>) -> Result<[u8; 6], Fault>
     };
     match date_in(text.as_bytes()) {
         Some(date) => Ok(date),
-        None => Err(Fault::Usage(format!(in rt.alloc();
-            "{text} is no date; one has six digits: the month 01 to 12, the day 01 to 31 and the year"
-        )?)),
+        None => Err(no_date(rt.alloc(), text)),
+    }
+}
+
+/// That a text is no date.
+fn no_date(alloc: Global, text: &str) -> Fault {
+    match format!(in alloc;
+        "{text} is no date; one has six digits: the month 01 to 12, the day 01 to 31 and the year"
+    ) {
+        Ok(sentence) => Fault::Usage(sentence),
+        Err(_) => Fault::NoMemory,
     }
 }
 
@@ -297,9 +406,7 @@ fn no_room(rt: &HostRuntime, words: &LoadWords<'_>) -> Fault {
     match room_in(rt, words.path, area) {
         Ok(Some(room)) => refused(no_room_sentence(
             rt.alloc(),
-            words.path,
-            area,
-            words.label,
+            Words::of_file(words.path, area, words.label),
             None,
             room,
             "ask for less by --records or --tracks",
@@ -309,23 +416,39 @@ fn no_room(rt: &HostRuntime, words: &LoadWords<'_>) -> Fault {
     }
 }
 
-/// Tells what is wrong with the heading or the rows, a line each.
+/// Tells what is wrong with the heading or the rows, a line each, up to 20 of them, and how many others there are.
 fn tell_all(rt: &HostRuntime, fault: &LoadFault) -> Result<(), AllocError> {
-    let alloc = rt.alloc();
     match fault {
-        LoadFault::Heading(faults) => {
-            for fault in faults {
-                let sentence = heading_sentence(alloc, fault)?;
-                let _ = writeln!(rt.stderr(), "{sentence}");
-            }
-        }
-        LoadFault::Values(faults, _) => {
-            for fault in faults {
-                let sentence = value_sentence(alloc, fault)?;
-                let _ = writeln!(rt.stderr(), "{sentence}");
-            }
-        }
-        _ => {}
+        LoadFault::Heading(faults) => tell_heading(rt, faults),
+        LoadFault::Values(faults, count) => tell_values(rt, faults, *count),
+        _ => Ok(()),
     }
+}
+
+fn tell_heading(rt: &HostRuntime, faults: &[HeadingFault]) -> Result<(), AllocError> {
+    for place in 0..faults.len().min(MOST_TOLD) {
+        let sentence = heading_sentence(rt.alloc(), &faults[place])?;
+        let _ = writeln!(rt.stderr(), "{sentence}");
+    }
+    tell_others(rt, faults.len() as u64);
     Ok(())
+}
+
+fn tell_values(rt: &HostRuntime, faults: &[ValueFault], count: u64) -> Result<(), AllocError> {
+    for place in 0..faults.len().min(MOST_TOLD) {
+        let sentence = value_sentence(rt.alloc(), &faults[place])?;
+        let _ = writeln!(rt.stderr(), "{sentence}");
+    }
+    tell_others(rt, count);
+    Ok(())
+}
+
+/// Tells how many faults of so many aren't told.
+fn tell_others(rt: &HostRuntime, count: u64) {
+    let others = count.saturating_sub(MOST_TOLD as u64);
+    if others == 1 {
+        let _ = writeln!(rt.stderr(), "1 other fault isn't shown");
+    } else if others > 1 {
+        let _ = writeln!(rt.stderr(), "{others} other faults aren't shown");
+    }
 }

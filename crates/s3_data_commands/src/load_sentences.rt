@@ -1,8 +1,8 @@
 //! Sentences of refusals of `load`: what is wrong, where, and what mends it.
 
-use crate::pack_words::{
-    damaged_sentence, label_sentence, label_text, mount_sentence, no_label_sentence,
-};
+use crate::filled::{Words, push_name};
+use crate::pack_words::{DAMAGED, NO_LABEL, label_words, mount_words};
+use s3_cards::{Name, host_byte};
 use s3_cells::CellFault;
 use s3_labels::LabelFault;
 use s3_load::{HeadingFault, LoadFault, Reason, ValueFault};
@@ -18,30 +18,17 @@ const DELIMITER_CURES: [(u8, &str); 3] = [
     (b'|', "if | stands between the cells, say --delimiter '|'"),
 ];
 
-/// Why a label can't be used by a load.
-fn load_label_sentence(
-    alloc: Global,
-    path: &str,
-    level: u16,
-    label: &str,
-    fault: LabelFault,
-) -> Result<String, AllocError> {
-    match fault {
-        LabelFault::Master => format!(in alloc;
-            "a master of {path} has the label {label}; load under another label"
-        ),
-        LabelFault::Retained => format!(in alloc;
-            "{label} in area {level} of {path} is there and permanent; delete it first by `bureau delete --permanent`, load behind its records by --append, or load under another label"
-        ),
-        _ => label_sentence(alloc, path, level, label, fault),
-    }
-}
+/// How many characters of a cell are shown.
+const MOST_SHOWN: usize = 40;
 
-/// Why a file that is there isn't loaded into.
-fn bad_index(alloc: Global, path: &str, level: u16, label: &str) -> Result<String, AllocError> {
-    format!(in alloc;
-        "the index of {label} in area {level} of {path} isn't that of its records; take an older copy of the pack, or delete the file and load all of its records"
-    )
+/// Why a label can't be used by a load.
+fn load_label_words(fault: LabelFault) -> &'static str {
+    match fault {
+        LabelFault::Master => "a master of {path} has the label {label}; load under another label",
+        LabelFault::Retained =>
+            "{label} in area {area} of {path} is there and permanent; delete it first by `bureau delete --permanent`, load behind its records by --append, or load under another label",
+        _ => label_words(fault),
+    }
 }
 
 /// Why a file has no room for the records of a table, made for it or there before.
@@ -63,94 +50,110 @@ fn full_sentence(
 }
 
 /// Why a table isn't loaded, but for what is wrong with its heading and its rows.
-pub fn load_sentence(
+pub fn load_sentence<'a>(
     alloc: Global,
-    path: &str,
+    path: &'a str,
     level: u16,
-    label: &str,
+    label: &'a str,
     appends: bool,
     fault: &LoadFault,
 ) -> Result<String, AllocError> {
+    let number = match fault {
+        LoadFault::NoMemory => return Err(AllocError),
+        LoadFault::Full(room, records) => {
+            return full_sentence(alloc, label, appends, *room, *records);
+        }
+        LoadFault::Values(_, count) | LoadFault::OpenQuote(count) => *count,
+        LoadFault::DamagedSlot(slot) => u64::from(*slot),
+        _ => 0,
+    };
+    Words::of_file(path, level, label)
+        .with_number(number)
+        .fill(alloc, load_words(fault))
+}
+
+/// The sentence of a refusal; none of one that has another one.
+fn load_words(fault: &LoadFault) -> &'static str {
     match fault {
-        LoadFault::NoMemory => Err(AllocError),
-        LoadFault::File => {
-            format!(in alloc;
-                "standard input can't be read; give it the table by < FILE or by a pipe"
-            )
-        }
-        LoadFault::NoHeading => {
-            format!(in alloc;
-                "standard input has no table; its first line has to name the fields of the layout"
-            )
-        }
-        LoadFault::Heading(_) => {
-            format!(in alloc; "the heading isn't that of the layout; nothing is loaded")
-        }
-        LoadFault::Values(_, count) => {
-            if *count == 1 {
-                return format!(in alloc; "the table has 1 fault; nothing is loaded");
-            }
-            format!(in alloc; "the table has {count} faults; nothing is loaded")
-        }
-        LoadFault::Mount(fault) => mount_sentence(alloc, path, *fault),
-        LoadFault::Label(fault) => load_label_sentence(alloc, path, level, label, *fault),
-        LoadFault::DamagedSlot(slot) => damaged_sentence(alloc, path, level, *slot),
-        LoadFault::NoName => no_label_sentence(alloc, label),
-        LoadFault::NoKey => {
-            format!(in alloc;
-                "the key of the F sheet doesn't lie in the records; mend columns 29, 30 and 35 to 38 of the layout's F card"
-            )
-        }
-        LoadFault::NoRoom => {
-            format!(in alloc;
-                "a file has room for 1 to 999999 records or takes 1 to 999 tracks; ask for such room, or load the table in parts"
-            )
-        }
-        LoadFault::Full(room, records) => { full_sentence(alloc, label, appends, *room, *records) }
-        LoadFault::OtherKind => {
-            format!(in alloc;
-                "the file {label} that is there has records of another length, another key or another organization; load without --append, or give its own layout"
-            )
-        }
-        LoadFault::BadIndex => bad_index(alloc, path, level, label),
+        LoadFault::NoMemory | LoadFault::Full(..) => "",
+        LoadFault::File => "standard input can't be read; give it the table by < FILE or by a pipe",
+        LoadFault::OpenQuote(_) =>
+            "line {number}: a quote is opened here and never closed; close it at the end of its cell, or write it twice in quotes if it belongs to a text",
+        LoadFault::NoHeading =>
+            "standard input has no table; its first line has to name the fields of the layout",
+        LoadFault::Heading(_) => "the heading isn't that of the layout; nothing is loaded",
+        LoadFault::Values(_, 1) => "the table has 1 fault; nothing is loaded",
+        LoadFault::Values(..) => "the table has {number} faults; nothing is loaded",
+        LoadFault::Mount(fault) => mount_words(*fault),
+        LoadFault::Label(fault) => load_label_words(*fault),
+        LoadFault::DamagedSlot(_) => DAMAGED,
+        LoadFault::NoName => NO_LABEL,
+        LoadFault::NoKey =>
+            "the key of the F sheet doesn't lie in the records; mend columns 29, 30 and 35 to 38 of the layout's F card",
+        LoadFault::NoRoom =>
+            "a file has room for 1 to 999999 records or takes 1 to 999 tracks; ask for such room, or load the table in parts",
+        LoadFault::OtherKind =>
+            "the file {label} that is there has records of another length, another key or another organization; load without --append, or give its own layout",
+        LoadFault::BadIndex =>
+            "the index of {label} in area {area} of {path} isn't that of its records; take an older copy of the pack, or delete the file and load all of its records",
     }
 }
 
 /// What is wrong with a heading.
 pub fn heading_sentence(alloc: Global, fault: &HeadingFault) -> Result<String, AllocError> {
     match fault {
-        HeadingFault::Unknown(column, text) => {
-            let shown = shown(alloc, text)?;
-            let cure = unknown_cure(text);
-            format!(in alloc;
-                "line 1, column {column}: the layout has no field \"{shown}\"; {cure}"
-            )
-        }
-        HeadingFault::Twice(name) => {
-            let name = label_text(alloc, Some(*name))?;
-            format!(in alloc; "line 1: the field {name} is named twice; leave one column out")
-        }
-        HeadingFault::Overlap(one, other) => {
-            let one = label_text(alloc, Some(*one))?;
-            let other = label_text(alloc, Some(*other))?;
-            format!(in alloc;
-                "line 1: the fields {one} and {other} lie over each other; leave one column out"
-            )
-        }
-        HeadingFault::Under(field, named) => {
-            let field = label_text(alloc, Some(*field))?;
-            let named = label_text(alloc, Some(*named))?;
-            format!(in alloc;
-                "line 1: the field {field} lies partly under {named}, so it can't be 0; name {field} in place of {named}, or leave --fill out"
-            )
-        }
-        HeadingFault::Missing(name) => {
-            let name = label_text(alloc, Some(*name))?;
-            format!(in alloc;
-                "line 1: the field {name} is missing; add its column, or have it blank or 0 by --fill"
-            )
-        }
+        HeadingFault::Unknown(column, text) => unknown_sentence(alloc, *column, text),
+        HeadingFault::Twice(name) => fields_sentence(
+            alloc,
+            "line 1: the field {field} is named twice; leave one column out",
+            *name,
+            *name,
+        ),
+        HeadingFault::Overlap(one, other) => fields_sentence(
+            alloc,
+            "line 1: the fields {field} and {other} lie over each other; leave one column out",
+            *one,
+            *other,
+        ),
+        HeadingFault::Under(field, named) => fields_sentence(
+            alloc,
+            "line 1: the field {field} lies partly under {other}, so it can't be 0; name {field} in place of {other}, or leave --fill out",
+            *field,
+            *named,
+        ),
+        HeadingFault::Missing(name) => fields_sentence(
+            alloc,
+            "line 1: the field {field} is missing; add its column, or have it blank or 0 by --fill",
+            *name,
+            *name,
+        ),
     }
+}
+
+/// A sentence about one or two fields.
+fn fields_sentence(
+    alloc: Global,
+    sentence: &str,
+    field: Name,
+    other: Name,
+) -> Result<String, AllocError> {
+    Words::of_path("")
+        .with_fields(Some(field), Some(other))
+        .fill(alloc, sentence)
+}
+
+/// That no field has the name in a column.
+fn unknown_sentence(alloc: Global, column: usize, name: &[u8]) -> Result<String, AllocError> {
+    let mut text = String::new(alloc);
+    push_unknown(&mut text, column, name)?;
+    Ok(text)
+}
+
+fn push_unknown(text: &mut String, column: usize, name: &[u8]) -> Result<(), AllocError> {
+    write!(text, "line 1, column {column}: the layout has no field \"")?;
+    push_shown(text, name)?;
+    text.push_str("\"; ")?;
+    text.push_str(unknown_cure(name))
 }
 
 /// What mends a name in the heading that no field has: where a character that other programs put between cells stands in it, that
@@ -166,53 +169,138 @@ fn unknown_cure(name: &[u8]) -> &'static str {
 
 /// What is wrong with a row.
 pub fn value_sentence(alloc: Global, fault: &ValueFault) -> Result<String, AllocError> {
-    let line = fault.line;
-    let place = match fault.field {
-        Some(name) => {
-            let name = label_text(alloc, Some(name))?;
-            format!(in alloc; "line {line}, {name}")?
+    let mut text = String::new(alloc);
+    push_place(&mut text, fault.line, fault.field)?;
+    push_reason(&mut text, &fault.reason)?;
+    Ok(text)
+}
+
+fn push_place(text: &mut String, line: u64, field: Option<Name>) -> Result<(), AllocError> {
+    write!(text, "line {line}")?;
+    if field.is_some() {
+        text.push_str(", ")?;
+        push_name(text, field)?;
+    }
+    text.push_str(": ")
+}
+
+fn push_reason(text: &mut String, reason: &Reason) -> Result<(), AllocError> {
+    match reason {
+        Reason::Cell(fault, cell) => {
+            push_quoted(text, cell)?;
+            text.push_str(words_of(*fault))
         }
-        None => format!(in alloc; "line {line}")?,
-    };
-    match fault.reason {
-        Reason::Cell(fault) => {
-            let cure = cure_of(fault);
-            format!(in alloc; "{place}: {fault}; {cure}")
-        }
-        Reason::Cells(count) => {
-            format!(in alloc;
-                "{place}: the row has {count} cells, and the heading another number; give each column a cell"
+        Reason::OverLines(cell) => {
+            text.push_str("the cell ")?;
+            push_quoted(text, first_line(cell))?;
+            text.push_str(
+                " has quotes that aren't closed on its line; close them there, and write a text on one line",
             )
         }
-        Reason::SameKey(other) => {
-            format!(in alloc;
-                "{place}: the row on line {other} has the same key; give each row a key of its own"
+        Reason::Cells(count, wanted) => write!(
+            text,
+            "the row has {count} cells, and the heading {wanted}; give each column a cell"
+        ),
+        Reason::SameKey(other, key) => {
+            text.push_str("the key ")?;
+            push_key(text, key)?;
+            write!(
+                text,
+                " is that of the row on line {other} too; give each row a key of its own"
             )
         }
-        Reason::KeyInFile => {
-            format!(in alloc; "{place}: a record of the file has the same key; leave the row out")
+        Reason::KeyInFile(key) => {
+            text.push_str("a record of the file has the key ")?;
+            push_key(text, key)?;
+            text.push_str(" already; leave the row out")
         }
     }
 }
 
-/// What mends a cell.
-fn cure_of(fault: CellFault) -> &'static str {
+/// What is wrong with a cell, and what mends it.
+fn words_of(fault: CellFault) -> &'static str {
     match fault {
         CellFault::NoNumber =>
-            "write digits, with a minus in front and a point where they are needed",
-        CellFault::TooManyDecimals => "round it",
-        CellFault::TooLarge => "write a smaller one",
-        CellFault::TooLong => "shorten it",
-        CellFault::NoCharacter => "use capital letters, digits and the signs of cards",
+            " is no number; write digits, with a minus in front and a point where they are needed",
+        CellFault::TooManyDecimals => " has more decimals than the field; round it",
+        CellFault::TooLarge =>
+            " has more digits before the point than the field; write a smaller number",
+        CellFault::TooLong => " is longer than the field; shorten it",
+        CellFault::NoCharacter =>
+            " has a character that no card can have; use capital letters, digits and the signs of cards",
     }
 }
 
-/// The text of a cell, with a question mark for each byte that is no printable character of ASCII.
-fn shown(alloc: Global, text: &[u8]) -> Result<String, AllocError> {
-    let mut shown = String::new(alloc);
-    for byte in text {
-        let is_plain = b' ' <= *byte && *byte <= b'~';
-        shown.push(if is_plain { char::from(*byte) } else { '?' })?;
+/// A cell up to the end of its first line.
+fn first_line(cell: &[u8]) -> &[u8] {
+    for (place, byte) in cell.iter().enumerate() {
+        if *byte == b'\n' || *byte == b'\r' {
+            return &cell[..place];
+        }
     }
-    Ok(shown)
+    cell
+}
+
+/// Appends the characters of a key in quotes.
+fn push_key(text: &mut String, key: &[u8]) -> Result<(), AllocError> {
+    text.push('"')?;
+    for code in key {
+        text.push(char::from(host_byte(*code)))?;
+    }
+    text.push('"')
+}
+
+/// Appends the text of a cell in quotes, up to its 40th character.
+fn push_quoted(text: &mut String, cell: &[u8]) -> Result<(), AllocError> {
+    text.push('"')?;
+    push_shown(text, cell)?;
+    text.push('"')
+}
+
+/// Appends the text of a cell, up to its 40th character, with a question mark for each character that isn't printable; of a cell that
+/// is no text of UTF-8, with one for each byte that isn't ASCII.
+fn push_shown(text: &mut String, cell: &[u8]) -> Result<(), AllocError> {
+    match str::from_utf8(cell) {
+        Ok(shown) => push_start(text, shown),
+        Err(_) => push_bytes(text, cell),
+    }
+}
+
+fn push_start(text: &mut String, shown: &str) -> Result<(), AllocError> {
+    let mut count = 0usize;
+    for character in shown.chars() {
+        if count >= MOST_SHOWN {
+            return text.push_str("...");
+        }
+        text.push(printable(character))?;
+        count = count.saturating_add(1);
+    }
+    Ok(())
+}
+
+fn push_bytes(text: &mut String, cell: &[u8]) -> Result<(), AllocError> {
+    for (place, byte) in cell.iter().enumerate() {
+        if place >= MOST_SHOWN {
+            return text.push_str("...");
+        }
+        text.push(printable_byte(*byte))?;
+    }
+    Ok(())
+}
+
+fn printable_byte(byte: u8) -> char {
+    if byte.is_ascii() {
+        printable(char::from(byte))
+    } else {
+        '?'
+    }
+}
+
+/// A character, or a question mark in place of one that moves the cursor or shows nothing.
+fn printable(character: char) -> char {
+    if character < ' ' || ('\u{7f}' <= character && character <= '\u{9f}') {
+        '?'
+    } else {
+        character
+    }
 }

@@ -1,9 +1,10 @@
 //! What the words for the care of a pack give, and the sentences of its refusals.
 ghost use Rattle.std.specs.Prelude.{◌≤◌, ◌<◌, IfOk};
 
-use crate::fault::{Fault, of_call, of_pack};
+use crate::fault::{Fault, Use, of_call, of_pack};
+use crate::filled::Words;
 use clap::ArgMatches;
-use s3_cards::{LevelId, Name, host_byte, is_name, to_ebcdic, word_len};
+use s3_cards::{LevelId, Name, is_name, to_ebcdic};
 use s3_host_files::{LockedPack, Target, read_pack, read_to_save, save_new_pack, save_pack};
 use s3_labels::{LabelFault, MountFault};
 use s3_listing::{FreeRoom, file_size, free_room};
@@ -11,6 +12,14 @@ use s3_pack_care::CareFault;
 use std::alloc::{AllocError, Global};
 use std::fs;
 use std::io::Write;
+
+/// Why a text is no label.
+pub const NO_LABEL: &str =
+    "{label} is no label; one has 1 to 8 capital letters, digits, $, # or @, and begins with no digit";
+
+/// Why no file is made in an area with a damaged slot.
+pub const DAMAGED: &str =
+    "slot {number} of area {area} of {path} is damaged, and what it holds can't be told: delete it by `bureau delete --slot {number}` first, or mend it";
 
 /// The area that a word names: 0 for the masters, 1 or 2 for a level.
 pub fn area_number(rt: &HostRuntime, text: &str) -> Result<u16, Fault>
@@ -76,9 +85,7 @@ fn no_label(rt: &HostRuntime, text: &str) -> Fault {
 
 /// Why a text is no label, and what one has.
 pub fn no_label_sentence(alloc: Global, text: &str) -> Result<String, AllocError> {
-    format!(in alloc;
-        "{text} is no label; one has 1 to 8 capital letters, digits, $, # or @, and begins with no digit"
-    )
+    Words::of_file("", 0, text).fill(alloc, NO_LABEL)
 }
 
 /// A refusal of words by this sentence.
@@ -89,20 +96,6 @@ pub fn wrong_words(alloc: Global, sentence: &str) -> Fault {
     }
 }
 
-/// The characters of a label, without the blanks at its end; question marks for one that isn't a name.
-pub fn label_text(alloc: Global, name: Option<Name>) -> Result<String, AllocError> {
-    let mut text = String::new(alloc);
-    match name {
-        Some(name) => {
-            for code in &name.codes[..word_len(&name.codes)] {
-                text.push(char::from(host_byte(*code)))?;
-            }
-        }
-        None => text.push_str("????????")?,
-    }
-    Ok(text)
-}
-
 /// The bytes of the pack at a path; a file that doesn't begin as a pack is refused.
 pub fn pack_of(rt: &HostRuntime, path: &str) -> Result<Vec<u8>, Fault> {
     match read_pack(rt, path) {
@@ -110,7 +103,7 @@ pub fn pack_of(rt: &HostRuntime, path: &str) -> Result<Vec<u8>, Fault> {
             test_begin(rt.alloc(), path, &pack)?;
             Ok(pack)
         }
-        Err(error) => Err(of_call(rt, &error, path)),
+        Err(error) => Err(of_call(rt, Use::Reads, &error, path)),
     }
 }
 
@@ -119,9 +112,10 @@ fn test_begin(alloc: Global, path: &str, pack: &[u8]) -> Result<(), Fault> {
     if pack.starts_with(b"S3PACK01") || pack.starts_with(b"S3PACK02") {
         return Ok(());
     }
-    Err(Fault::Refused(format!(in alloc;
-        "{path} is no pack: it doesn't begin with S3PACK; give the file of a pack, as `bureau init` makes it"
-    )?))
+    Err(refused(Words::of_path(path).fill(
+        alloc,
+        "{path} is no pack: it doesn't begin with S3PACK; give the file of a pack, as `bureau init` makes it",
+    )))
 }
 
 /// The bytes of the pack at a path, for a command that saves to another or the same, with the lock in the second case.
@@ -135,7 +129,7 @@ fn pack_to_save(
             test_begin(rt.alloc(), path, &pack)?;
             Ok((pack, locked))
         }
-        Err(fault) => Err(of_pack(rt, &fault, path)),
+        Err(fault) => Err(of_pack(rt, Use::Reads, &fault, path)),
     }
 }
 
@@ -158,79 +152,84 @@ pub fn pack_to_change(
 fn refuse_file_there(rt: &HostRuntime, save: &str) -> Result<(), Fault> {
     match fs::exists(rt, save) {
         Ok(false) => Ok(()),
-        Ok(true) => Err(Fault::Refused(format!(in rt.alloc();
-            "{save} is there already; give another name, or say --overwrite to write over it"
-        )?)),
-        Err(error) => Err(of_call(rt, &error, save)),
+        Ok(true) => Err(refused(Words::of_path(save).fill(
+            rt.alloc(),
+            "{path} is there already; give another name, or say --overwrite to write over it",
+        ))),
+        Err(error) => Err(of_call(rt, Use::Saves, &error, save)),
     }
 }
 
 /// Refuses to save over a file that the command reads beside the pack that it changes: whatever else stands in it would be lost.
 pub fn keep_input(rt: &HostRuntime, save: &str, input: &str) -> Result<(), Fault> {
-    let is_same = match (Target::find(rt, save), Target::find(rt, input)) {
-        (Ok(save), Ok(input)) => save.is_same(&input),
-        // what reads or saves there tells why it can't
-        _ => false,
-    };
-    if !is_same {
+    if !is_same_file(rt, save, input) {
         return Ok(());
     }
-    Err(Fault::Refused(format!(in rt.alloc();
+    Err(refused(format!(in rt.alloc();
         "--save {save} names the file that is read as {input}, and what stands there would be lost; give another name"
-    )?))
+    )))
 }
 
-/// Tells on standard error what was done; nothing hangs on whether that can be written.
-pub fn tell_done(rt: &HostRuntime, sentence: &str) {
+/// Whether two paths are known to name one file. If not, the command that reads or saves there reports why it can't.
+fn is_same_file(rt: &HostRuntime, path: &str, other: &str) -> bool {
+    match Target::find(rt, path) {
+        Ok(target) => is_at(rt, &target, other),
+        Err(_) => false,
+    }
+}
+
+/// Whether a path is known to name this file.
+fn is_at(rt: &HostRuntime, target: &Target, path: &str) -> bool {
+    match Target::find(rt, path) {
+        Ok(other) => target.is_same(&other),
+        Err(_) => false,
+    }
+}
+
+/// Reports on standard error what was done, if there is memory for the sentence. It doesn't matter whether that can be written.
+pub fn tell_done(rt: &HostRuntime, sentence: Result<String, AllocError>) -> Result<(), Fault> {
+    let sentence = sentence?;
+    let sentence = sentence.as_str();
     let _ = writeln!(rt.stderr(), "bureau: {sentence}");
+    Ok(())
 }
 
 /// Why nothing is done to the files of a pack, as one sentence. The file is named by its label, or in words by its slot.
-pub fn care_sentence(
+pub fn care_sentence<'a>(
     alloc: Global,
-    path: &str,
+    path: &'a str,
     area: u16,
-    label: &str,
+    label: &'a str,
     fault: CareFault,
 ) -> Result<String, AllocError> {
-    match fault {
-        CareFault::Mount(fault) | CareFault::SourceMount(fault) => {
-            mount_sentence(alloc, path, fault)
-        }
-        CareFault::NoMemory => Err(AllocError),
-        CareFault::Label(fault) | CareFault::SourceLabel(fault) => label_sentence(
-            alloc, path, area, label, fault,
-        ),
-        CareFault::NoFile => format!(in alloc;
-            "{label} in area {area} of {path} has no file; `bureau list --pack {path} --table` shows the slots that have one"
-        ),
-        CareFault::NoSlot => format!(in alloc;
-            "area {area} of {path} has no {label}; its slots are 0 to 31"
-        ),
-        CareFault::Exists => format!(in alloc;
-            "area {area} of {path} has a file {label} already; delete it first, or give another label by --as"
-        ),
-        CareFault::Damaged(slot) => damaged_sentence(alloc, path, area, slot),
-        CareFault::NoName => no_label_sentence(alloc, label),
-        CareFault::Permanent => format!(in alloc;
-            "{label} in area {area} of {path} is permanent; say --permanent if it is meant"
-        ),
-        CareFault::Uncovers(slot) => format!(in alloc;
-            "slot {slot} in area {area} of {path}, which is damaged, would have a file again once {label} is gone; free it first by --slot {slot}, or put its label right"
-        ),
-    }
+    let number = match fault {
+        CareFault::NoMemory => return Err(AllocError),
+        CareFault::Damaged(slot) | CareFault::Uncovers(slot) => slot,
+        _ => 0,
+    };
+    Words::of_file(path, area, label)
+        .with_number(u64::from(number))
+        .fill(alloc, care_words(fault))
 }
 
-/// Why no file is made in an area with a damaged slot.
-pub fn damaged_sentence(
-    alloc: Global,
-    path: &str,
-    area: u16,
-    slot: u16,
-) -> Result<String, AllocError> {
-    format!(in alloc;
-        "slot {slot} of area {area} of {path} is damaged, and what it holds can't be told: delete it by `bureau delete --slot {slot}` first, or mend it"
-    )
+/// The sentence of a refusal.
+fn care_words(fault: CareFault) -> &'static str {
+    match fault {
+        CareFault::Mount(fault) | CareFault::SourceMount(fault) => mount_words(fault),
+        CareFault::NoMemory => "",
+        CareFault::Label(fault) | CareFault::SourceLabel(fault) => label_words(fault),
+        CareFault::NoFile =>
+            "{label} in area {area} of {path} has no file; `bureau list --pack {path} --table` shows the slots that have one",
+        CareFault::NoSlot => "area {area} of {path} has no {label}; its slots are 0 to 31",
+        CareFault::Exists =>
+            "area {area} of {path} has a file {label} already; delete it first, or give another label by --as",
+        CareFault::Damaged(_) => DAMAGED,
+        CareFault::NoName => NO_LABEL,
+        CareFault::Permanent =>
+            "{label} in area {area} of {path} is permanent; say --permanent if it is meant",
+        CareFault::Uncovers(_) =>
+            "slot {number} in area {area} of {path}, which is damaged, would have a file again once {label} is gone; free it first by --slot {number}, or put its label right",
+    }
 }
 
 /// A refusal with the sentence that was made for it.
@@ -256,52 +255,36 @@ pub fn saved(
     };
     match done {
         Ok(()) => Ok(()),
-        Err(fault) => Err(of_pack(rt, &fault, save)),
+        Err(fault) => Err(of_pack(rt, Use::Saves, &fault, save)),
     }
 }
 
 /// Why a file can't be used as a pack, and what helps.
-pub fn mount_sentence(alloc: Global, path: &str, fault: MountFault) -> Result<String, AllocError> {
+pub fn mount_words(fault: MountFault) -> &'static str {
     match fault {
-        MountFault::BadHeader => format!(in alloc;
-            "{path} can't be used: its quotas are those of no pack; take a copy that is whole"
-        ),
-        MountFault::BadRegions => format!(in alloc;
-            "{path} can't be used: its regions aren't whole tracks within it, or they meet; take a copy that is whole"
-        ),
-        MountFault::Short => format!(in alloc;
-            "{path} can't be used: it has fewer sectors than its header says, or than 168; take a copy that is whole"
-        ),
+        MountFault::BadHeader =>
+            "{path} can't be used: its quotas are those of no pack; take a copy that is whole",
+        MountFault::BadRegions =>
+            "{path} can't be used: its regions aren't whole tracks within it, or they meet; take a copy that is whole",
+        MountFault::Short =>
+            "{path} can't be used: it has fewer sectors than its header says, or than 168; take a copy that is whole",
     }
 }
 
 /// Why the labels of an area don't allow what is asked, and what helps.
-pub fn label_sentence(
-    alloc: Global,
-    path: &str,
-    area: u16,
-    label: &str,
-    fault: LabelFault,
-) -> Result<String, AllocError> {
+pub fn label_words(fault: LabelFault) -> &'static str {
     match fault {
-        LabelFault::NotFound => format!(in alloc;
-            "area {area} of {path} has no file {label}; `bureau list --pack {path}` shows those that it has"
-        ),
-        LabelFault::DamagedLabel => format!(in alloc;
-            "{label} in area {area} of {path} is damaged; `bureau check --pack {path}` tells its slot and why: put its label right, or free the slot by `bureau delete --slot`"
-        ),
-        LabelFault::Master => format!(in alloc;
-            "a master of {path} has the label {label}; give another one by --as"
-        ),
-        LabelFault::NoSpace => format!(in alloc;
-            "area {area} of {path} has no room for {label}; delete a file there, or make a larger pack"
-        ),
-        LabelFault::Retained => format!(in alloc;
-            "{label} in area {area} of {path} is permanent; delete it first by `bureau delete --permanent`, or give another label"
-        ),
-        LabelFault::NoSlot => format!(in alloc;
-            "all 32 slots in area {area} of {path} are used; delete a file there that isn't needed, so that {label} gets one"
-        ),
+        LabelFault::NotFound =>
+            "area {area} of {path} has no file {label}; `bureau list --pack {path}` shows those that it has",
+        LabelFault::DamagedLabel =>
+            "{label} in area {area} of {path} is damaged; `bureau check --pack {path}` tells its slot and why: put its label right, or free the slot by `bureau delete --slot`",
+        LabelFault::Master => "a master of {path} has the label {label}; give another one by --as",
+        LabelFault::NoSpace =>
+            "area {area} of {path} has no room for {label}; delete a file there, or make a larger pack",
+        LabelFault::Retained =>
+            "{label} in area {area} of {path} is permanent; delete it first by `bureau delete --permanent`, or give another label",
+        LabelFault::NoSlot =>
+            "all 32 slots in area {area} of {path} are used; delete a file there that isn't needed, so that {label} gets one",
     }
 }
 
@@ -309,36 +292,48 @@ pub fn label_sentence(
 /// helps beside the deletion of another file.
 pub fn no_room_sentence(
     alloc: Global,
-    path: &str,
-    area: u16,
-    label: &str,
+    words: Words<'_>,
     wanted: Option<u16>,
     room: FreeRoom,
     otherwise: &str,
 ) -> Result<String, AllocError> {
-    let taken = match wanted {
-        Some(1) => String::from_str(alloc, ", which takes 1 track")?,
-        Some(tracks) => format!(in alloc; ", which takes {tracks} tracks")?,
-        None => String::new(alloc),
-    };
-    let taken = taken.as_str();
+    let mut text = String::new(alloc);
+    push_no_room(&mut text, words, wanted, room, otherwise)?;
+    Ok(text)
+}
+
+fn push_no_room(
+    text: &mut String,
+    words: Words<'_>,
+    wanted: Option<u16>,
+    room: FreeRoom,
+    otherwise: &str,
+) -> Result<(), AllocError> {
+    words.push(text, "area {area} of {path} has no room for {label}")?;
+    match wanted {
+        Some(1) => text.push_str(", which takes 1 track")?,
+        Some(tracks) => write!(text, ", which takes {tracks} tracks")?,
+        None => {}
+    }
     let free = room.tracks;
     let in_a_row = room.in_a_row;
-    format!(in alloc;
-        "area {area} of {path} has no room for {label}{taken} (tracks that are free there: {free}, in a row at most {in_a_row}); delete a file there, or {otherwise}"
+    write!(
+        text,
+        " (tracks that are free there: {free}, in a row at most {in_a_row}); delete a file there, or {otherwise}"
     )
 }
 
 /// That a copy of a file has no room in an area of a pack.
-pub fn no_room_for_copy(
+pub fn no_room_for_copy<'a>(
     rt: &HostRuntime,
     from: &str,
     from_area: u16,
     name: Name,
-    into: &str,
+    into: &'a str,
     area: u16,
-    label: &str,
+    label: &'a str,
 ) -> Fault {
+    let words = Words::of_file(into, area, label);
     let wanted = match tracks_of(rt, from, from_area, name) {
         Ok(tracks) => tracks,
         Err(fault) => return fault,
@@ -346,14 +341,12 @@ pub fn no_room_for_copy(
     match room_in(rt, into, area) {
         Ok(Some(room)) => refused(no_room_sentence(
             rt.alloc(),
-            into,
-            area,
-            label,
+            words,
             wanted,
             room,
             "make a larger pack",
         )),
-        Ok(None) => refused(label_sentence(rt.alloc(), into, area, label, LabelFault::NoSpace)),
+        Ok(None) => refused(words.fill(rt.alloc(), label_words(LabelFault::NoSpace))),
         Err(fault) => fault,
     }
 }

@@ -1,6 +1,7 @@
 //! Sentences of refusals of a layout, of `unload` and of standard output: what is wrong, where, and what mends it.
 
-use crate::pack_words::{label_sentence, label_text, mount_sentence};
+use crate::filled::{Words, push_name};
+use crate::pack_words::{label_words, mount_words};
 use s3_cells::{Field, ShowFault};
 use s3_labels::LabelFault;
 use s3_layout::LayoutFault;
@@ -13,82 +14,62 @@ pub fn layout_sentence(
     path: &str,
     fault: &LayoutFault,
 ) -> Result<String, AllocError> {
+    let field = match fault {
+        LayoutFault::NoMemory => return Err(AllocError),
+        LayoutFault::NoForm(name) | LayoutFault::Twice(name) => Some(*name),
+        _ => None,
+    };
+    Words::of_path(path)
+        .with_fields(field, None)
+        .fill(alloc, layout_words(fault))
+}
+
+/// The sentence of a refusal.
+fn layout_words(fault: &LayoutFault) -> &'static str {
     match fault {
-        LayoutFault::NoMemory => Err(AllocError),
-        LayoutFault::Card { .. } => {
-            format!(in alloc;
-                "the first source in {path} has the diagnostics above; mend its cards (docs/MESSAGES.md says how), or have a job compile it and see `bureau compile` mark the columns"
-            )
-        }
-        LayoutFault::NoFile => {
-            format!(in alloc;
-                "the first source in {path} has no file on DISK; give a source whose F sheet has the file"
-            )
-        }
-        LayoutFault::SeveralFiles => {
-            format!(in alloc;
-                "the first source in {path} has several files on DISK; say which by --file NAME"
-            )
-        }
-        LayoutFault::OtherFile => {
-            format!(in alloc;
-                "the first source in {path} has no file of the name of --file on DISK; its F sheet has the names"
-            )
-        }
-        LayoutFault::SeveralTypes => {
-            format!(in alloc;
-                "the file has several types of records in the first source in {path}; say which by --type INDICATOR, as columns 19 and 20 of the I sheet have it"
-            )
-        }
-        LayoutFault::OtherType => {
-            format!(in alloc;
-                "the file has no type of records of the indicator of --type in the first source in {path}; columns 19 and 20 of the I sheet have them"
-            )
-        }
-        LayoutFault::NoFields => {
-            format!(in alloc;
-                "the first source in {path} has no field of these records; give one whose I sheet has their fields"
-            )
-        }
-        LayoutFault::NoForm(name) => {
-            let name = label_text(alloc, Some(*name))?;
-            format!(in alloc;
-                "the field {name} in the first source in {path} has a length or decimals that no program can have; mend its card of the I sheet"
-            )
-        }
-        LayoutFault::Twice(name) => {
-            let name = label_text(alloc, Some(*name))?;
-            format!(in alloc;
-                "the field {name} is there twice in the first source in {path}; give a source in which each field of these records has a name of its own"
-            )
-        }
+        LayoutFault::NoMemory => "",
+        LayoutFault::Card { .. } =>
+            "the first source in {path} has the diagnostics above; mend its cards (docs/MESSAGES.md says how), or have a job compile it and see `bureau compile` mark the columns",
+        LayoutFault::NoFile =>
+            "the first source in {path} has no file on DISK; give a source whose F sheet has the file",
+        LayoutFault::SeveralFiles =>
+            "the first source in {path} has several files on DISK; say which by --file NAME",
+        LayoutFault::OtherFile =>
+            "the first source in {path} has no file of the name of --file on DISK; its F sheet has the names",
+        LayoutFault::SeveralTypes =>
+            "the file has several types of records in the first source in {path}; say which by --type INDICATOR, as columns 19 and 20 of the I sheet have it",
+        LayoutFault::OtherType =>
+            "the file has no type of records of the indicator of --type in the first source in {path}; columns 19 and 20 of the I sheet have them",
+        LayoutFault::NoFields =>
+            "the first source in {path} has no field of these records; give one whose I sheet has their fields",
+        LayoutFault::NoForm(_) =>
+            "the field {field} in the first source in {path} has a length or decimals that no program can have; mend its card of the I sheet",
+        LayoutFault::Twice(_) =>
+            "the field {field} is there twice in the first source in {path}; give a source in which each field of these records has a name of its own",
     }
 }
 
 /// Why a file isn't unloaded.
-pub fn unload_sentence(
+pub fn unload_sentence<'a>(
     alloc: Global,
-    path: &str,
+    path: &'a str,
     area: u16,
-    label: &str,
+    label: &'a str,
     fault: &UnloadFault,
 ) -> Result<String, AllocError> {
+    let words = Words::of_file(path, area, label);
     match fault {
-        UnloadFault::Mount(fault) => mount_sentence(alloc, path, *fault),
-        UnloadFault::NotFound => label_sentence(alloc, path, area, label, LabelFault::NotFound),
-        UnloadFault::DamagedLabel => {
-            label_sentence(alloc, path, area, label, LabelFault::DamagedLabel)
-        }
-        UnloadFault::BadIndex => {
-            format!(in alloc;
-                "the index of {label} in area {area} of {path} isn't that of its records; --as hex writes the records as they stand in the file"
-            )
-        }
-        UnloadFault::OtherLength(length) => {
-            format!(in alloc;
-                "the records of {label} in area {area} of {path} have {length} bytes, and those of the layout have another length; give the source of a program that uses this file"
-            )
-        }
+        UnloadFault::Mount(fault) => words.fill(alloc, mount_words(*fault)),
+        UnloadFault::NotFound => words.fill(alloc, label_words(LabelFault::NotFound)),
+        UnloadFault::DamagedLabel => words.fill(alloc, label_words(LabelFault::DamagedLabel)),
+        UnloadFault::BadIndex => words.fill(
+            alloc,
+            "the index of {label} in area {area} of {path} isn't that of its records; --as hex writes the records as they stand in the file",
+        ),
+        UnloadFault::OtherLength(length) => words.with_number(u64::from(*length)).fill(
+            alloc,
+            "the records of {label} in area {area} of {path} have {number} bytes, and those of the layout have another length; give the source of a program that uses this file",
+        ),
         UnloadFault::Hidden(record, field, fault) => {
             hidden_sentence(alloc, label, *record, *field, *fault)
         }
@@ -118,16 +99,38 @@ fn hidden_sentence(
     field: Field,
     fault: ShowFault,
 ) -> Result<String, AllocError> {
-    let name = label_text(alloc, Some(field.name))?;
+    let mut text = String::new(alloc);
+    push_hidden(&mut text, label, record, field, fault)?;
+    Ok(text)
+}
+
+fn push_hidden(
+    text: &mut String,
+    label: &str,
+    record: u32,
+    field: Field,
+    fault: ShowFault,
+) -> Result<(), AllocError> {
     let from = u32::from(field.start) + 1;
     let to = u32::from(field.start) + u32::from(field.width);
-    let reason = match fault {
+    write!(
+        text,
+        "record {record} of {label} can't be shown: the field "
+    )?;
+    push_name(text, Some(field.name))?;
+    write!(text, " in positions {from} to {to} ")?;
+    push_reason(text, fault)?;
+    text.push_str("; the rows before it are written, and --as hex shows its bytes")
+}
+
+fn push_reason(text: &mut String, fault: ShowFault) -> Result<(), AllocError> {
+    match fault {
         ShowFault::NoCharacter(position) => {
-            format!(in alloc; "has a byte that is no character at position {position}")?
+            write!(
+                text,
+                "has a byte that is no character at position {position}"
+            )
         }
-        _ => format!(in alloc; "is no number")?,
-    };
-    format!(in alloc;
-        "record {record} of {label} can't be shown: the field {name} in positions {from} to {to} {reason}; the rows before it are written, and --as hex shows its bytes"
-    )
+        _ => text.push_str("is no number"),
+    }
 }

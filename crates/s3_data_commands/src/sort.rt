@@ -2,8 +2,9 @@
 ghost use Rattle.std.specs.Prelude.{◌≤◌, ◌<◌, IfOk};
 
 use crate::fault::Fault;
+use crate::filled::Words;
 use crate::pack_words::{
-    care_sentence, label_of, label_sentence, level_of, mount_sentence, no_room_for_copy, number_of,
+    care_sentence, label_of, label_words, level_of, mount_words, no_room_for_copy, number_of,
     pack_to_change, refused, saved, tell_done,
 };
 use crate::words::{LABEL, LEVEL, OVERWRITE, PACK, SAVE};
@@ -105,7 +106,7 @@ fn sort_file(rt: &HostRuntime, matches: &ArgMatches<'_>) -> Result<(), Fault> {
     };
     let pack = sorted(rt.alloc(), &order, pack)?;
     saved(rt, matches, order.save, locked, &pack)?;
-    Ok(tell_sorted(rt, &order)?)
+    tell_done(rt, sorted_sentence(rt.alloc(), &order))
 }
 
 /// A pack with a copy of a file of a level beside it.
@@ -125,9 +126,10 @@ fn with_copy(rt: &HostRuntime, order: &Order<'_>, pack: Vec<u8>) -> Result<Vec<u
     let from = Vec::from_slice(alloc, &pack)?;
     match s3_pack_care::copy(alloc, from, level, name, pack, level, new_name) {
         Ok(pack) => Ok(pack),
-        Err(CareFault::SourceLabel(fault)) => {
-            Err(refused(label_sentence(alloc, path, level, label, fault)))
-        }
+        Err(CareFault::SourceLabel(fault)) => Err(refused(Words::of_file(path, level, label).fill(
+            alloc,
+            label_words(fault),
+        ))),
         Err(CareFault::Label(LabelFault::NoSpace)) => Err(no_room_for_copy(
             rt, path, level, name, path, level, new_label,
         )),
@@ -145,8 +147,8 @@ fn sorted(alloc: Global, order: &Order<'_>, pack: Vec<u8>) -> Result<Vec<u8>, Fa
     }
 }
 
-/// Tells what was sorted.
-fn tell_sorted(rt: &HostRuntime, order: &Order<'_>) -> Result<(), AllocError> {
+/// What was sorted.
+fn sorted_sentence(alloc: Global, order: &Order<'_>) -> Result<String, AllocError> {
     let Order {
         save,
         level,
@@ -154,11 +156,7 @@ fn tell_sorted(rt: &HostRuntime, order: &Order<'_>) -> Result<(), AllocError> {
         new_label,
         ..
     } = *order;
-    let sentence = format!(in rt.alloc();
-        "{new_label} of level {level} of {save} is sorted by {by}"
-    )?;
-    tell_done(rt, sentence.as_str());
-    Ok(())
+    format!(in alloc; "{new_label} of level {level} of {save} is sorted by {by}")
 }
 
 /// The fields that a text names; what is wrong with its parts is told of all of them at once.
@@ -257,12 +255,14 @@ fn sort_sentence(alloc: Global, order: &Order<'_>, fault: SortFault) -> Result<S
         label,
         ..
     } = *order;
+    let words = Words::of_file(path, level, label);
     match fault {
-        SortFault::Mount(fault) => mount_sentence(alloc, path, fault),
-        SortFault::Label(fault) => label_sentence(alloc, path, level, label, fault),
+        SortFault::Mount(fault) => words.fill(alloc, mount_words(fault)),
+        SortFault::Label(fault) => words.fill(alloc, label_words(fault)),
         SortFault::NoMemory => Err(AllocError),
-        SortFault::NotInOrder => format!(in alloc;
-            "{label} of level {level} of {path} is indexed or direct, and its records have their places; a program can copy them into a file in order, which can be sorted"
+        SortFault::NotInOrder => words.fill(
+            alloc,
+            "{label} of level {area} of {path} is indexed or direct, and its records have their places; a program can copy them into a file in order, which can be sorted",
         ),
         SortFault::Field(_, length) => misfit_sentence(alloc, label, &order.fields, length),
     }
@@ -275,16 +275,27 @@ fn misfit_sentence(
     fields: &[SortField],
     length: u16,
 ) -> Result<String, AllocError> {
-    let mut misfits = String::new(alloc);
+    let mut text = String::new(alloc);
+    push_misfits(&mut text, label, fields, length)?;
+    Ok(text)
+}
+
+fn push_misfits(
+    text: &mut String,
+    label: &str,
+    fields: &[SortField],
+    length: u16,
+) -> Result<(), AllocError> {
+    write!(
+        text,
+        "the records of {label} have {length} bytes, and --by names bytes behind them:"
+    )?;
     for field in fields {
         if !field.fits(length) {
-            push_range(&mut misfits, *field)?;
+            push_range(text, *field)?;
         }
     }
-    let misfits = misfits.as_str();
-    format!(in alloc;
-        "the records of {label} have {length} bytes, and --by names bytes behind them:{misfits}; give fields that lie in the records"
-    )
+    text.push_str("; give fields that lie in the records")
 }
 
 fn push_range(text: &mut String, field: SortField) -> Result<(), AllocError> {

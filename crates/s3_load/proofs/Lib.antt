@@ -15,3 +15,4 @@ pub mod KeyedAlike
 pub mod LoadedFiles
 pub mod Marks
 pub mod ReadAgain
+pub mod QuoteLemmas

@@ -6,3 +6,4 @@ pub mod KeyOrder
 pub mod Loaded
 pub mod Tables
 pub mod RoundTrip
+pub mod Quotes

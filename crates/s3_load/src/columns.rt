@@ -12,9 +12,6 @@ use s3_cards::{Name, host_byte, word_len};
 use s3_cells::{Field, FieldKind, trimmed};
 use std::alloc::{AllocError, Global};
 
-/// How many faults of a heading are kept.
-const MOST_FAULTS: usize = 100;
-
 /// The field of each column, and the fields that no column has and that get a blank or 0.
 #[derive(Drop)]
 pub struct Columns {
@@ -24,7 +21,7 @@ pub struct Columns {
     pub filled: Vec<Field>,
 }
 
-/// The columns that a heading names. Refused with all that is wrong with it, the first hundred of it.
+/// The columns that a heading names. Refused with all that is wrong with it.
 pub fn read_columns(
     alloc: Global,
     heading: &ByteRecord,
@@ -67,13 +64,10 @@ fn named_fields(
     Ok(named)
 }
 
-/// Adds a fault, if there aren't a hundred yet.
+/// Adds a fault.
 fn tell(faults: &mut Vec<HeadingFault>, fault: HeadingFault) -> Result<(), AllocError>
     ensures { OnOk result (0 < length faults.new.items) }
 {
-    if faults.len() >= MOST_FAULTS {
-        return Ok(());
-    }
     faults.push(fault)?;
     Ok(())
 }

@@ -21,20 +21,22 @@ pub enum HeadingFault {
 }
 
 /// Why a row isn't taken.
-#[derive(Clone, Copy)]
+#[derive(Drop)]
 pub enum Reason {
-    /// The cell isn't taken into its field.
-    Cell(CellFault),
-    /// The row has so many cells.
-    Cells(usize),
-    /// The row on this line has the same key.
-    SameKey(u64),
-    /// A record of the file has the same key.
-    KeyInFile,
+    /// This cell isn't taken into its field.
+    Cell(CellFault, Vec<u8>),
+    /// This cell goes over the end of a line.
+    OverLines(Vec<u8>),
+    /// The row has so many cells, and the heading so many.
+    Cells(usize, usize),
+    /// The row on this line has the same key, of these codes.
+    SameKey(u64, Vec<u8>),
+    /// A record of the file has the same key, of these codes.
+    KeyInFile(Vec<u8>),
 }
 
 /// What is wrong with a row.
-#[derive(Clone, Copy)]
+#[derive(Drop)]
 pub struct ValueFault {
     /// The line on which the row begins, from 1.
     pub line: u64,
@@ -51,11 +53,13 @@ pub enum LoadFault {
     NoMemory,
     /// The reader failed.
     File,
+    /// A quote that is opened on this line, from 1, isn't closed there.
+    OpenQuote(u64),
     /// The table has no heading.
     NoHeading,
-    /// The first 100 of what is wrong with the heading.
+    /// All that is wrong with the heading.
     Heading(Vec<HeadingFault>),
-    /// The first 100 of what is wrong with rows, and how many there are.
+    /// The first 20 of what is wrong with rows, and how many there are.
     Values(Vec<ValueFault>, u64),
     /// The pack isn't mounted, for what is wrong with its header.
     Mount(MountFault),

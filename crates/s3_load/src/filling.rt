@@ -1,5 +1,5 @@
 //! The file of a load: made, and filled with records.
-ghost use Rattle.std.specs.Prelude.{◌≡◌, true, length, IfOk, IsTrue, OnOk};
+ghost use Rattle.std.specs.Prelude.{◌≡◌, ◌<◌, true, length, IfOk, IsTrue, OnOk};
 ghost use Rattle.s3_slots.specs.Inner.Kept.{IsOfPack};
 ghost use Rattle.s3_slots.specs.Inner.Making.{IsNewFile, IsSize};
 ghost use Rattle.s3_slots.specs.Labels.{is_indexed, sectors_of};
@@ -13,7 +13,7 @@ ghost use Rattle.s3_load.specs.Inner.Loaded.{IsAsked, IsNewOf, has_key as has_ke
 use crate::fault::{LoadFault, Reason, ValueFault};
 use crate::order::{Order, Room};
 use crate::rows::{Faults, Row};
-use crate::table::MOST_RECORDS;
+use crate::table::{MOST_RECORDS, key_in};
 use s3_cards::is_name;
 use s3_files::{FileFault, RecordFile, Sequential};
 use s3_keyed::{Keyed, KeyedFault};
@@ -21,7 +21,7 @@ use s3_labels::{FileLabel, LabelFault, NewFile, Organization, Pack, Size, Standi
 use s3_lines::sheet::KeyField;
 use s3_slots::{is_count_of, is_key_of, standing_of};
 use s3_store::MemoryStore;
-use std::alloc::Global;
+use std::alloc::{AllocError, Global};
 
 /// The most tracks of a file.
 const MOST_TRACKS: u16 = 999;
@@ -216,7 +216,7 @@ fn fill_by_key(
     let mut faults = Faults::new(alloc);
     let mut fits = true;
     for row in rows {
-        let put = put_row(&mut file, store, label, row, &mut faults)?;
+        let put = put_row(alloc, &mut file, store, label, row, &mut faults)?;
         fits = fits && put;
     }
     if faults.count > 0 {
@@ -236,6 +236,7 @@ fn fill_by_key(
 /// faults.
 #[tactic(auto, using(s3_files::proofs::FileFrames::stored_within, crate::proofs::FillLemmas::loaded_last, crate::proofs::FillLemmas::still_at_work, crate::proofs::FillLemmas::untouched_at_work, crate::proofs::FillLemmas::only_same, crate::proofs::FillLemmas::only_more, crate::proofs::FillLemmas::only_within))]
 fn put_row(
+    alloc: Global,
     file: &mut Keyed,
     store: &mut MemoryStore,
     label: &FileLabel,
@@ -254,7 +255,7 @@ fn put_row(
     }
     match file.load(store, &row.bytes) {
         Ok(()) => Ok(true),
-        Err(KeyedFault::NotAscending) => add_row(file, store, label, row, faults),
+        Err(KeyedFault::NotAscending) => add_row(alloc, file, store, label, row, faults),
         Err(KeyedFault::Full) => Ok(false),
         Err(_) => Err(LoadFault::NoMemory),
     }
@@ -263,6 +264,7 @@ fn put_row(
 /// Adds a record whose key isn't above all others, and answers whether there was room for it.
 #[tactic(auto, using(s3_files::proofs::FileFrames::stored_within, crate::proofs::FillLemmas::added_last, crate::proofs::FillLemmas::still_at_work, crate::proofs::FillLemmas::untouched_at_work, crate::proofs::FillLemmas::only_same, crate::proofs::FillLemmas::only_more, crate::proofs::FillLemmas::only_within))]
 fn add_row(
+    alloc: Global,
     file: &mut Keyed,
     store: &mut MemoryStore,
     label: &FileLabel,
@@ -280,16 +282,33 @@ fn add_row(
     match file.add(store, &row.bytes) {
         Ok(()) => Ok(true),
         Err(KeyedFault::Duplicate) => {
-            faults.add(ValueFault {
-                line: row.line,
-                field: None,
-                reason: Reason::KeyInFile,
-            })?;
+            tell_key_in_file(alloc, label, row, faults)?;
             Ok(true)
         }
         Err(KeyedFault::Full) => Ok(false),
         Err(_) => Err(LoadFault::NoMemory),
     }
+}
+
+/// Adds to the faults that a record of the file has the key of a row.
+fn tell_key_in_file(
+    alloc: Global,
+    label: &FileLabel,
+    row: &Row,
+    faults: &mut Faults,
+) -> Result<(), AllocError>
+    ensures { OnOk result (0 < faults.new.count) }
+{
+    let key = KeyField {
+        length: label.key_length,
+        start: label.key_start,
+    };
+    let codes = Vec::from_slice(alloc, key_in(&row.bytes, key))?;
+    faults.add(ValueFault {
+        line: row.line,
+        field: None,
+        reason: Reason::KeyInFile(codes),
+    })
 }
 
 /// Whether a file may have so many records.

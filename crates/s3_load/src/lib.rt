@@ -14,6 +14,7 @@
 //!   and its key. Its records are those of the file that was there, where the order appends, and behind them those of the table;
 //!   an index is the one of all of them. Each other slot is as it was, and its file has the same bytes; the slot of an old file
 //!   of the label, in whose place a new one comes, is free, if the new one hasn't got it (`load`);
+//! - a table that is loaded ends in no open quote (`load`);
 //! - a new file is made only where no slot of the level's area is damaged (`load`);
 //! - a table that was loaded into a new file is unloaded again: the file's records, as `unload` takes them, are one for each row,
 //!   in the order of their keys, or, without a key, in the order of the rows; each shows the value of the row's cell in each
@@ -35,6 +36,7 @@ mod filling;
 mod laws;
 mod loading;
 mod order;
+mod quotes;
 mod rows;
 mod table;
 mod table_laws;

@@ -6,11 +6,14 @@ ghost use Rattle.s3_labels.specs.Inner.Areas.{IsReady, slots_in};
 ghost use Rattle.s3_pack_check.specs.Inner.Damages.{first_damaged as first_damaged_spec};
 ghost use Rattle.s3_pack_care.specs.Inner.Kept.{IsMounted};
 ghost use Rattle.s3_load.specs.Inner.Filling.{records_of};
+ghost use Rattle.csv.specs.Reading.{strip_bom};
+ghost use Rattle.s3_load.specs.Inner.Quotes.{open_quote};
 ghost use Rattle.s3_load.specs.Inner.Loaded.{HasFile, IsCounted, IsLoaded, IsPlaced};
 
 use crate::fault::LoadFault;
 use crate::filling::{file_there, fill, may_have, new_file};
 use crate::order::Order;
+use crate::quotes::refuse_open_quote;
 use crate::rows::Row;
 use crate::table::read_table;
 use s3_labels::{AreaSlots, FileLabel, Pack, Refusal, Refused, Standing, area_of};
@@ -30,9 +33,11 @@ pub fn load<R: Read + Drop>(
     order: &Order<'_>,
     reader: R,
 ) -> Result<Vec<u8>, LoadFault>
-    ensures { IfOk result (λ new. IsLoaded order.now (R.remaining reader) (contents_of pack.now) (contents_of new.items)) }
+    ensures loaded { IfOk result (λ new. IsLoaded order.now (R.remaining reader) (contents_of pack.now) (contents_of new.items)) }
+    ensures closed { OnOk result ((text : List ℕ) → R.remaining reader ≡ Some text → open_quote order.now.delimiter (strip_bom text) ≡ None) }
 {
     let text = read_text(alloc, reader)?;
+    refuse_open_quote(&text, order.delimiter)?;
     let rows = read_table(alloc, order, text.as_slice(), &text)?;
     let mut mounted = mount(alloc, pack)?;
     let placed = place_rows(alloc, &mut mounted, order, &rows);

@@ -9,6 +9,7 @@ ghost use Rattle.s3_load.specs.Inner.Records.{HasTaken, IsRecordOf, with_zero, w
 use crate::columns::{Columns, cell_at, is_number};
 use crate::fault::{Reason, ValueFault};
 use crate::order::Order;
+use crate::quotes::is_line_end;
 use csv::ByteRecord;
 use s3_cards::ebcdic::BLANK;
 use s3_cells::Field;
@@ -16,7 +17,7 @@ use s3_lines::sheet::KeyField;
 use std::alloc::{AllocError, Global};
 
 /// How many faults of rows are kept.
-const MOST_FAULTS: usize = 100;
+const MOST_FAULTS: usize = 20;
 
 /// A record, and the line of its row.
 #[derive(Drop)]
@@ -47,7 +48,7 @@ impl<'a> Lines<'a> {
 
     /// The line, from 1, of the first byte from this place on that ends no line; places are asked for in their order. Where a reader
     /// of CSV stands before a row, the end of the line before may be still ahead, and empty lines are.
-    fn line_at(&mut self, place: u64) -> u64 {
+    pub fn line_at(&mut self, place: u64) -> u64 {
         let text = self.text;
         let Some(rest) = text.get(self.place..) else {
             return self.line;
@@ -66,7 +67,7 @@ impl<'a> Lines<'a> {
     }
 }
 
-/// What is wrong with rows: the first hundred, and how many there are.
+/// What is wrong with rows: the first twenty, and how many there are.
 #[derive(Drop)]
 pub struct Faults {
     /// The first of them.
@@ -98,8 +99,8 @@ impl Faults {
     }
 }
 
-/// The record of a row; what is wrong with the row is added to the faults. None where the row has too many or too few cells, or
-/// its key isn't taken: such a row isn't compared with others.
+/// The record of a row; what is wrong with the row is added to the faults. None where the row has too many or too few cells, one
+/// that goes over the end of a line, or a key that isn't taken: such a row isn't compared with others.
 pub fn record_of(
     alloc: Global,
     order: &Order<'_>,
@@ -116,26 +117,47 @@ pub fn record_of(
     ensures before { OnOk result (faults.new.count ≡ 0 → faults.old.count ≡ 0) }
 {
     let line = line_of(cells, lines);
+    if let Some(cell) = cell_over_lines(cells) {
+        let cell = Vec::from_slice(alloc, cell)?;
+        faults.add(ValueFault {
+            line,
+            field: None,
+            reason: Reason::OverLines(cell),
+        })?;
+        return Ok(None);
+    }
     if cells.len() != columns.fields.len() {
         faults.add(ValueFault {
             line,
             field: None,
-            reason: Reason::Cells(cells.len()),
+            reason: Reason::Cells(cells.len(), columns.fields.len()),
         })?;
         return Ok(None);
     }
     let mut bytes = vec![in alloc; BLANK; usize::from(order.layout.record_length)]?;
-    if put_cells(columns, cells, line, order.key, &mut bytes, faults)? {
+    if put_cells(alloc, columns, cells, line, order.key, &mut bytes, faults)? {
         Ok(Some(Row { line, bytes }))
     } else {
         Ok(None)
     }
 }
 
+/// The first cell of a row that goes over the end of a line, if there is one.
+fn cell_over_lines(cells: &ByteRecord) -> Option<&[u8]> {
+    for column in 0..cells.len() {
+        let cell = cell_at(cells, column);
+        if cell.iter().any(|byte| is_line_end(*byte)) {
+            return Some(cell);
+        }
+    }
+    None
+}
+
 /// Makes the record of a row of a blank one. What is wrong with a cell is added to the faults. Answers whether each field of the
 /// key has its value.
 #[tactic(auto, using(crate::proofs::RecordLemmas::is_record))]
 fn put_cells(
+    alloc: Global,
     columns: &Columns,
     cells: &ByteRecord,
     line: u64,
@@ -153,13 +175,14 @@ fn put_cells(
     ensures before { OnOk result (faults.new.count ≡ 0 → faults.old.count ≡ 0) }
 {
     fill(&columns.filled, bytes);
-    take_cells(&columns.fields, cells, line, key, bytes, faults)
+    take_cells(alloc, &columns.fields, cells, line, key, bytes, faults)
 }
 
 /// Puts the values of a row into the fields of a record. What is wrong with a cell is added to the faults. Answers whether each
 /// field of the key has its value.
 #[tactic(auto, using(crate::proofs::RecordLemmas::none_taken, crate::proofs::RecordLemmas::one_more_taken, crate::proofs::RecordLemmas::field_lies))]
 fn take_cells(
+    alloc: Global,
     fields: &[Field],
     cells: &ByteRecord,
     line: u64,
@@ -176,7 +199,15 @@ fn take_cells(
 {
     let mut has_key = true;
     for (column, field) in fields.iter().enumerate() {
-        let taken = take_cell(field, cell_at(cells, column), line, key, bytes, faults)?;
+        let taken = take_cell(
+            alloc,
+            field,
+            cell_at(cells, column),
+            line,
+            key,
+            bytes,
+            faults,
+        )?;
         has_key = has_key && taken;
     }
     Ok(has_key)
@@ -185,6 +216,7 @@ fn take_cells(
 /// Puts the value of a cell into a field of a record, or adds to the faults why it isn't taken. Answers whether the field has its
 /// value, or isn't of the key.
 fn take_cell(
+    alloc: Global,
     field: &Field,
     cell: &[u8],
     line: u64,
@@ -200,10 +232,11 @@ fn take_cell(
     match field.take(cell, bytes) {
         Ok(()) => Ok(true),
         Err(fault) => {
+            let cell = Vec::from_slice(alloc, cell)?;
             faults.add(ValueFault {
                 line,
                 field: Some(field.name),
-                reason: Reason::Cell(fault),
+                reason: Reason::Cell(fault, cell),
             })?;
             Ok(!is_in_key(field, key))
         }

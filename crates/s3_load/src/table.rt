@@ -44,7 +44,7 @@ pub fn read_table<R: Read + Drop>(
     let mut faults = Faults::new(alloc);
     let mut lines = Lines::new(text);
     let mut rows = read_rows(alloc, order, &columns, &mut table, &mut lines, &mut faults)?;
-    sort_by_key(&mut rows, order.key, &mut faults)?;
+    sort_by_key(alloc, &mut rows, order.key, &mut faults)?;
     if faults.count > 0 {
         return Err(LoadFault::Values(faults.first, faults.count));
     }
@@ -159,6 +159,7 @@ pub fn key_in(bytes: &[u8], key: KeyField) -> &[u8]
 
 /// Sorts rows by their keys, where the file has an index, and tells of those that have the same.
 fn sort_by_key(
+    alloc: Global,
     rows: &mut Vec<Row>,
     key: Option<KeyField>,
     faults: &mut Faults,
@@ -172,7 +173,7 @@ fn sort_by_key(
         None => Ok(()),
         Some(key) => {
             sort_rows(rows, key)?;
-            find_same_keys(rows, key, faults)
+            find_same_keys(alloc, rows, key, faults)
         }
     }
 }
@@ -194,28 +195,40 @@ fn order_by(key: KeyField, one: &Row, other: &Row) -> Ordering
 
 /// Tells of each row that doesn't come behind the one before it by its key: where rows are sorted, it has the same key.
 #[tactic(auto, using(crate::proofs::KeyLemmas::none_compared, crate::proofs::KeyLemmas::one_more_compared, crate::proofs::KeyLemmas::all_compared))]
-fn find_same_keys(rows: &[Row], key: KeyField, faults: &mut Faults) -> Result<(), LoadFault>
+fn find_same_keys(
+    alloc: Global,
+    rows: &[Row],
+    key: KeyField,
+    faults: &mut Faults,
+) -> Result<(), LoadFault>
     ensures keyed { OnOk result (faults.new.count ≡ 0 → AreInKeyOrder (Some key) rows.now) }
     ensures before { OnOk result (faults.new.count ≡ 0 → faults.old.count ≡ 0) }
 {
     for place in 1..rows.len() {
-        tell_same_key(&rows[place - 1], &rows[place], key, faults)?;
+        tell_same_key(alloc, &rows[place - 1], &rows[place], key, faults)?;
     }
     Ok(())
 }
 
 /// Tells of a row that doesn't come behind another one by its key.
-fn tell_same_key(one: &Row, next: &Row, key: KeyField, faults: &mut Faults) -> Result<(), LoadFault>
+fn tell_same_key(
+    alloc: Global,
+    one: &Row,
+    next: &Row,
+    key: KeyField,
+    faults: &mut Faults,
+) -> Result<(), LoadFault>
     ensures behind { OnOk result (faults.new.count ≡ 0 → ComesBefore key one.now next.now) }
     ensures before { OnOk result (faults.new.count ≡ 0 → faults.old.count ≡ 0) }
 {
     match order_by(key, one, next) {
         Ordering::Less => Ok(()),
         Ordering::Equal | Ordering::Greater => {
+            let codes = Vec::from_slice(alloc, key_in(&next.bytes, key))?;
             faults.add(ValueFault {
                 line: next.line,
                 field: None,
-                reason: Reason::SameKey(one.line),
+                reason: Reason::SameKey(one.line, codes),
             })?;
             Ok(())
         }

@@ -27,7 +27,7 @@ mod rows;
 mod writing;
 
 pub use fault::UnloadFault;
-pub use found::Area;
+pub use found::{Area, find_file};
 pub use laws::a_table_reads_as_its_rows;
 pub use lines::{LineForm, unload_lines};
 pub use writing::unload;
