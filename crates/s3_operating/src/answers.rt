@@ -1,7 +1,7 @@
 //! Replies that are given without a question: by the log of a day that is done again, and by rules.
 
 use s3_cards::{LevelId, Name};
-use s3_day_log::{DayLog, Replier};
+use s3_day_log::{DayLog, LoggedReply, Replier};
 use s3_operator::{HaltCode, allowed, letters};
 use s3_replies::Rules;
 
@@ -44,11 +44,13 @@ pub(crate) fn ruled(
     code: HaltCode,
     program: Option<Name>,
 ) -> Option<Answer> {
-    let rule = rules.reply_for(level, code, program)?;
-    Some(Answer {
-        digit: rule.digit,
-        giver: Giver::Rule(rule.line),
-    })
+    match rules.reply_for(level, code, program) {
+        Some(rule) => Some(Answer {
+            digit: rule.digit,
+            giver: Giver::Rule(rule.line),
+        }),
+        None => None,
+    }
 }
 
 /// The reply of a log to a level's halt, behind so many that were given in the level, if it is one to this halt.
@@ -58,10 +60,23 @@ pub(crate) fn logged(
     given: usize,
     code: HaltCode,
 ) -> Option<Answer> {
-    let reply = log?.reply(level, given)?;
-    let is_same = letters(reply.code) == letters(code);
-    (is_same && allowed(code, reply.digit)).then_some(Answer {
-        digit: reply.digit,
-        giver: Giver::Log,
-    })
+    match log {
+        Some(log) => answer_in(log, level, given, code),
+        None => None,
+    }
+}
+
+fn answer_in(log: &DayLog, level: LevelId, given: usize, code: HaltCode) -> Option<Answer> {
+    match log.reply(level, given) {
+        Some(reply) if is_reply_to(code, reply) => Some(Answer {
+            digit: reply.digit,
+            giver: Giver::Log,
+        }),
+        _ => None,
+    }
+}
+
+/// Whether a reply of a log is one to a halt, and one that the halt allows.
+fn is_reply_to(code: HaltCode, reply: &LoggedReply) -> bool {
+    letters(reply.code) == letters(code) && allowed(code, reply.digit)
 }

@@ -1,17 +1,16 @@
 //! How a day ended.
 
 use crate::clock::Clock;
-use crate::counts::push_counted;
 use crate::desk::Desk;
-use crate::progress::{push_job_at, push_last_job};
+use crate::levels::Levels;
+use crate::message::Message;
+use crate::progress::{push_job_at, push_job_number, push_last_job};
 use crate::seat::Seat;
 use memchr::memchr_iter;
 use s3_bureau::LevelTexts;
 use s3_cards::LevelId;
-use s3_day_log::{BegunJob, Ledger, LevelEnd, Purpose, Verdict, became};
-use s3_decks::push_name;
+use s3_day_log::{BegunJob, Event, Ledger, LevelEnd, Purpose, Verdict, became};
 use s3_desk::{Day, End};
-use s3_halt_block::push_letters;
 use s3_operator::{is_at_start, meaning};
 use s3_replay::Performed;
 use std::alloc::AllocError;
@@ -26,49 +25,67 @@ pub struct Closing {
     pub summary: String,
 }
 
+/// How a level ended, and how many lines it has printed.
+#[derive(Clone, Copy)]
+struct Ended {
+    end: LevelEnd,
+    lines: usize,
+}
+
+impl Ended {
+    fn is_done(self) -> bool {
+        matches!(self.end, LevelEnd::Done)
+    }
+
+    fn is_cut(self) -> bool {
+        matches!(self.end, LevelEnd::CutByTurns | LevelEnd::CutByLines)
+    }
+}
+
 impl<'a, R: Read + Drop, W: Write + Drop, F: Write + Drop, C: Clock + Drop> Desk<'a, R, W, F, C> {
     /// Ends the day: the script is written to its end, the log but for its last line, and what is told of both levels is made.
     pub fn close(&mut self, day: &Day, performed: &Performed) -> Result<Closing, AllocError> {
-        // a day without an entry was never begun
-        if !self.has_begun {
-            let alloc = self.alloc;
-            self.one.read_text(alloc)?;
-            self.two.read_text(alloc)?;
-            self.open_day()?;
-        }
-        self.tally.count(performed.parts());
-        self.tape.finish(self.alloc, performed.parts())?;
-        let (one, lines1) = self.close_level(LevelId::One, day.ends.one, &day.outcome.one)?;
-        let (two, lines2) = self.close_level(LevelId::Two, day.ends.two, &day.outcome.two)?;
-        let mut summary = String::new(self.alloc);
-        push_summary(&mut summary, &self.one, one, lines1)?;
-        push_summary(&mut summary, &self.two, two, lines2)?;
-        Ok(Closing {
-            verdict: became(one, two, &self.one.ledger, &self.two.ledger),
-            summary,
-        })
+        self.take_all(performed)?;
+        let one = self.close_level(LevelId::One, day.ends.one, &day.outcome.one)?;
+        let two = self.close_level(LevelId::Two, day.ends.two, &day.outcome.two)?;
+        self.levels.closing(one, two)
     }
 
-    /// How a level ended, and how many lines it has printed.
+    /// Closes a level, and logs what came of it.
     fn close_level(
         &mut self,
         level: LevelId,
         end: End,
         texts: &LevelTexts,
-    ) -> Result<(LevelEnd, usize), AllocError> {
-        let ended = self.end_of(level, end);
-        let lines = self.lines_of(level, end, texts);
-        let is_done = ended == LevelEnd::Done;
-        self.seat_mut(level).ledger.close(lines, is_done);
+    ) -> Result<Ended, AllocError> {
+        let ended = self.levels.close(level, end, texts, self.is_stopped);
         self.log_level(level)?;
-        if ended != LevelEnd::Done {
-            let alloc = self.alloc;
-            self.seat_mut(level).find_places(alloc)?;
+        if !ended.is_done() {
+            self.levels.find_places(level)?;
         }
-        if matches!(ended, LevelEnd::CutByTurns | LevelEnd::CutByLines) {
-            self.log_cut(level)?;
+        if ended.is_cut() {
+            self.note(Event::Cut { level })?;
         }
-        Ok((ended, lines))
+        Ok(ended)
+    }
+}
+
+impl<'a> Levels<'a> {
+    /// Closes a level's jobs.
+    fn close(&mut self, level: LevelId, end: End, texts: &LevelTexts, is_stopped: bool) -> Ended {
+        let ended = Ended {
+            end: self.end_of(level, end, is_stopped),
+            lines: self.lines_of(level, end, texts),
+        };
+        self.seat_mut(level)
+            .ledger
+            .close(ended.lines, ended.is_done());
+        ended
+    }
+
+    fn find_places(&mut self, level: LevelId) -> Result<(), AllocError> {
+        let alloc = self.alloc;
+        self.seat_mut(level).find_places(alloc)
     }
 
     /// How many lines a level has printed: those that were drained, and of one that was cut also those that were queued.
@@ -81,7 +98,7 @@ impl<'a, R: Read + Drop, W: Write + Drop, F: Write + Drop, C: Clock + Drop> Desk
         }
     }
 
-    fn end_of(&self, level: LevelId, end: End) -> LevelEnd {
+    fn end_of(&self, level: LevelId, end: End, is_stopped: bool) -> LevelEnd {
         let seat = self.seat(level);
         if seat.unread.is_some() {
             return LevelEnd::Unread;
@@ -90,165 +107,185 @@ impl<'a, R: Read + Drop, W: Write + Drop, F: Write + Drop, C: Clock + Drop> Desk
             // it had come to its end when it might go no further
             End::Cut if seat.is_idle => LevelEnd::Done,
             End::Done => LevelEnd::Done,
-            End::Halted if self.is_stopped => LevelEnd::Stopped,
+            End::Halted if is_stopped => LevelEnd::Stopped,
             End::Halted => LevelEnd::Halted,
             End::Cut if self.has_all_turns(level) => LevelEnd::CutByTurns,
             End::Cut => LevelEnd::CutByLines,
         }
     }
 
-    fn has_all_turns(&self, level: LevelId) -> bool {
-        self.tally.of(level).turns >= u64::from(self.settings.bounds.turns)
+    /// The result of a day, given how its levels ended.
+    fn closing(&self, one: Ended, two: Ended) -> Result<Closing, AllocError> {
+        Ok(Closing {
+            verdict: became(one.end, two.end, &self.one.ledger, &self.two.ledger),
+            summary: self.summary(one, two).finish()?,
+        })
+    }
+
+    /// The summary of both levels.
+    fn summary(&self, one: Ended, two: Ended) -> Message {
+        let mut message = Message::new(self.alloc);
+        push_summary(&mut message, &self.one, one);
+        push_summary(&mut message, &self.two, two);
+        message
     }
 }
 
 /// Appends how a level ended, and its jobs.
-fn push_summary(
-    text: &mut String,
-    seat: &Seat<'_>,
-    end: LevelEnd,
-    lines: usize,
-) -> Result<(), AllocError> {
-    let number = seat.level.number();
-    write!(text, "level {number}: ")?;
-    push_end(text, seat, end)?;
-    if end == LevelEnd::Done {
-        text.push_str(", ")?;
-        push_counted(text, seat.ledger.begun().len() as u64, "job")?;
-        text.push_str(", ")?;
-        push_counted(text, lines as u64, "line")?;
-        text.push_str(", ")?;
-        push_counted(text, seat.halts, "halt")?;
+fn push_summary(message: &mut Message, seat: &Seat<'_>, ended: Ended) {
+    message.push_level(seat.level);
+    message.push(": ");
+    push_end(message, seat, ended.end);
+    if ended.is_done() {
+        push_counts(message, seat, ended.lines);
     }
-    text.push('\n')?;
+    message.push("\n");
     for (place, job) in seat.ledger.begun().iter().enumerate() {
-        push_ending(text, &seat.ledger, place, job, end)?;
+        push_ending(message, &seat.ledger, place, job, ended.end);
     }
-    Ok(())
 }
 
-fn push_end(text: &mut String, seat: &Seat<'_>, end: LevelEnd) -> Result<(), AllocError> {
+/// Appends how many jobs, lines and halts a level had.
+fn push_counts(message: &mut Message, seat: &Seat<'_>, lines: usize) {
+    message.push(", ");
+    message.push_counted(seat.ledger.begun().len() as u64, "job");
+    message.push(", ");
+    message.push_counted(lines as u64, "line");
+    message.push(", ");
+    message.push_counted(seat.halts, "halt");
+}
+
+fn push_end(message: &mut Message, seat: &Seat<'_>, end: LevelEnd) {
     match end {
-        LevelEnd::Done => text.push_str("done"),
-        LevelEnd::Unread => text.push_str("its deck can't be read"),
-        LevelEnd::Halted => push_where(text, seat, "halted"),
-        LevelEnd::Stopped => push_where(text, seat, "stopped"),
-        LevelEnd::CutByTurns => push_where(text, seat, "cut by --turns"),
-        LevelEnd::CutByLines => push_where(text, seat, "cut by --lines"),
+        LevelEnd::Done => message.push("done"),
+        LevelEnd::Unread => message.push("its deck can't be read"),
+        LevelEnd::Halted => push_where(message, seat, "halted"),
+        LevelEnd::Stopped => push_where(message, seat, "stopped"),
+        LevelEnd::CutByTurns => push_where(message, seat, "cut by --turns"),
+        LevelEnd::CutByLines => push_where(message, seat, "cut by --lines"),
     }
 }
 
 /// Appends where a level stands that isn't done, and what is left of its deck.
-fn push_where(text: &mut String, seat: &Seat<'_>, how: &str) -> Result<(), AllocError> {
-    text.push_str(how)?;
+fn push_where(message: &mut Message, seat: &Seat<'_>, how: &str) {
+    message.push(how);
     if let Some(code) = seat.waits {
-        text.push_str(" at ")?;
-        push_letters(text, code)?;
+        message.push(" at ");
+        message.push_letters(code);
     }
-    let ledger = &seat.ledger;
-    let begun = ledger.begun().len();
-    let open = if ledger.is_open() {
+    match open_job(&seat.ledger) {
+        Some(job) => {
+            push_left_with_this(message, &seat.ledger);
+            push_taking_up(message, seat, Some(job.card));
+        }
+        None => {
+            push_left(message, seat.ledger.jobs_left() as u64);
+            push_taking_up(
+                message,
+                seat,
+                seat.ledger.first_card(seat.ledger.begun().len()),
+            );
+        }
+    }
+}
+
+/// The job that was begun last, if it isn't over.
+fn open_job(ledger: &Ledger) -> Option<&BegunJob> {
+    if ledger.is_open() {
         ledger.begun().last()
     } else {
         None
-    };
-    let left = ledger.jobs_left() as u64;
-    let first = match open {
-        Some(job) => {
-            text.push_str(" in ")?;
-            push_last_job(text, ledger)?;
-            push_this_and(text, left)?;
-            Some(job.card)
-        }
-        None => {
-            text.push_str("; ")?;
-            push_counted(text, left, "job")?;
-            text.push_str(if left == 1 { " is left" } else { " are left" })?;
-            ledger.first_card(begun)
-        }
-    };
-    push_taking_up(text, seat, first)
-}
-
-/// Appends that a job and those behind it are left.
-fn push_this_and(text: &mut String, left: u64) -> Result<(), AllocError> {
-    if left == 0 {
-        text.push_str("; this one is left")
-    } else {
-        write!(text, "; this one and {left} behind it are left")
     }
 }
 
+/// Appends that the last job to begin and the jobs after it are left.
+fn push_left_with_this(message: &mut Message, ledger: &Ledger) {
+    message.push(" in ");
+    push_last_job(message, ledger);
+    match ledger.jobs_left() {
+        0 => message.push("; this one is left"),
+        left => {
+            message.push("; this one and ");
+            message.push_number(left as u64);
+            message.push(" behind it are left");
+        }
+    }
+}
+
+/// Appends how many jobs are left.
+fn push_left(message: &mut Message, left: u64) {
+    message.push("; ");
+    message.push_counted(left, "job");
+    message.push(if left == 1 { " is left" } else { " are left" });
+}
+
 /// Appends at which line the day may be taken up.
-fn push_taking_up(
-    text: &mut String,
-    seat: &Seat<'_>,
-    first: Option<usize>,
-) -> Result<(), AllocError> {
-    let Some(card) = first else {
-        return Ok(());
-    };
-    let Some(deck) = seat.places() else {
-        return Ok(());
-    };
-    match deck.place_of(card).place {
-        Some(place) => write!(text, ": take up at {place}"),
-        None => Ok(()),
+fn push_taking_up(message: &mut Message, seat: &Seat<'_>, first: Option<usize>) {
+    if let Some(card) = first
+        && let Some(deck) = seat.places()
+        && let Some(place) = deck.place_of(card).place
+    {
+        message.push(": take up at ");
+        message.push_file_place(place);
     }
 }
 
 /// Appends a line of a job, and how it ended.
 fn push_ending(
-    text: &mut String,
+    message: &mut Message,
     ledger: &Ledger,
     place: usize,
     job: &BegunJob,
     end: LevelEnd,
-) -> Result<(), AllocError> {
-    text.push_str("  ")?;
-    if let Purpose::Compiles(program) = job.purpose
-        && job.is_over
-        && job.ending.is_none()
-    {
-        let number = place.saturating_add(1);
-        write!(text, "job {number}, compiled ")?;
-        push_name(text, program)?;
-        return text.push('\n');
+) {
+    message.push("  ");
+    match job.purpose {
+        Purpose::Compiles(program) if job.is_over && job.ending.is_none() => {
+            push_job_number(message, place);
+            message.push("compiled ");
+            message.push_name(program);
+        }
+        Purpose::Runs(_) => {
+            push_job_at(message, ledger, place);
+            message.push(", ");
+            message.push_counted(job.lines, "line");
+            push_how(message, job, end);
+        }
+        Purpose::Compiles(_) | Purpose::Unknown => {
+            push_job_at(message, ledger, place);
+            push_how(message, job, end);
+        }
     }
-    push_job_at(text, ledger, place)?;
-    if let Purpose::Runs(_) = job.purpose {
-        push_lines(text, job)?;
-    }
-    text.push_str(", ")?;
-    push_how(text, job, end)?;
-    text.push('\n')
-}
-
-/// Appends how many lines a job has printed.
-fn push_lines(text: &mut String, job: &BegunJob) -> Result<(), AllocError> {
-    text.push_str(", ")?;
-    push_counted(text, job.lines, "line")
+    message.push("\n");
 }
 
 /// Appends how a job ended.
-fn push_how(text: &mut String, job: &BegunJob, end: LevelEnd) -> Result<(), AllocError> {
+fn push_how(message: &mut Message, job: &BegunJob, end: LevelEnd) {
+    message.push(", ");
     match job.ending {
         Some((code, _digit)) if is_at_start(code) => {
-            let meaning = meaning(code);
-            text.push_str("passed over: ")?;
-            push_letters(text, code)?;
-            write!(text, ", {meaning}")
+            message.push("passed over: ");
+            message.push_letters(code);
+            message.push(", ");
+            message.push(meaning(code));
         }
         Some((code, digit)) if job.is_over => {
-            write!(text, "ended by reply {digit} at ")?;
-            push_letters(text, code)
+            message.push("ended by reply ");
+            message.push_number(u64::from(digit));
+            message.push(" at ");
+            message.push_letters(code);
         }
-        None if job.is_over => text.push_str("came to its end"),
+        None if job.is_over => message.push("came to its end"),
         // a reply that ends a job leads to its totals, where it can halt again
-        Some(_) | None => text.push_str(match end {
-            LevelEnd::Halted => "halted",
-            LevelEnd::Stopped => "stopped",
-            _ => "cut",
-        }),
+        Some(_) | None => message.push(words_of(end)),
+    }
+}
+
+/// How a job that isn't over stopped, by how its level ended.
+fn words_of(end: LevelEnd) -> &'static str {
+    match end {
+        LevelEnd::Halted => "halted",
+        LevelEnd::Stopped => "stopped",
+        _ => "cut",
     }
 }

@@ -3,19 +3,17 @@
 use crate::answers::Answer;
 use crate::clock::Clock;
 use crate::desk::Desk;
-use s3_bureau::{Bureau, Halt};
 use s3_cards::LevelId;
-use s3_day_log::{BegunJob, Event, JobBegun, JobOver, LoggedHalt, LoggedReply, end_of};
+use s3_day_log::{BegunJob, Event, JobBegun, JobOver, Ledger, LoggedHalt, LoggedReply, end_of};
 use s3_decks::push_name;
 use s3_operator::HaltCode;
-use s3_store::PackStore;
 use std::alloc::{AllocError, Global};
 use std::io::{Read, Write};
 
 impl<'a, R: Read + Drop, W: Write + Drop, F: Write + Drop, C: Clock + Drop> Desk<'a, R, W, F, C> {
     /// Logs an event, if a log is kept.
     pub fn note(&mut self, event: Event) -> Result<(), AllocError> {
-        self.journal.note(self.alloc, &mut self.clock, event)
+        self.journal.note(self.levels.alloc, &mut self.clock, event)
     }
 
     /// Logs with what the day is begun.
@@ -26,86 +24,20 @@ impl<'a, R: Read + Drop, W: Write + Drop, F: Write + Drop, C: Clock + Drop> Desk
         }
     }
 
-    /// Logs what came of a level since this was called last, in its order: a job's end comes in front of the next one's
-    /// beginning, and a halt behind the beginning of its job.
+    /// Logs the events of a level since the last call, in order.
     pub(crate) fn log_level(&mut self, level: LevelId) -> Result<(), AllocError> {
         if !self.journal.is_kept() {
             return Ok(());
         }
-        let over = self.seat(level).ledger.jobs_over();
-        for place in self.seat(level).begun..self.seat(level).ledger.begun().len() {
-            self.log_endings(level, over.min(place))?;
-            self.log_beginning(level, place)?;
-        }
-        self.log_endings(level, over)?;
-        match self.seat_mut(level).unlogged.take() {
-            Some((code, card)) => self.log_halt(level, code, card),
-            None => Ok(()),
-        }
-    }
-
-    /// Logs the ends of jobs up to a place.
-    fn log_endings(&mut self, level: LevelId, to: usize) -> Result<(), AllocError> {
-        for place in self.seat(level).over..to {
-            self.log_ending(level, place)?;
+        let alloc = self.levels.alloc;
+        // more events than a level has: the bound is what shows that it ends
+        for _event in 0..u64::MAX {
+            match self.levels.seat_mut(level).next_event(alloc)? {
+                Some(event) => self.note(event)?,
+                None => break,
+            }
         }
         Ok(())
-    }
-
-    fn log_beginning(&mut self, level: LevelId, place: usize) -> Result<(), AllocError> {
-        let Some(job) = self.seat(level).ledger.begun().get(place).copied() else {
-            return Ok(());
-        };
-        self.seat_mut(level).begun = place.saturating_add(1);
-        let begun = JobBegun {
-            level,
-            job: number_in_log(place),
-            program: program_of(self.alloc, &job)?,
-            card: u16::try_from(job.card).unwrap_or(u16::MAX),
-        };
-        self.note(Event::JobBegins(begun))
-    }
-
-    fn log_ending(&mut self, level: LevelId, place: usize) -> Result<(), AllocError> {
-        let Some(job) = self.seat(level).ledger.begun().get(place).copied() else {
-            return Ok(());
-        };
-        self.seat_mut(level).over = place.saturating_add(1);
-        self.note(Event::JobEnds(JobOver {
-            level,
-            job: number_in_log(place),
-            lines: job.lines,
-            end: end_of(&job),
-        }))
-    }
-
-    /// Keeps a halt until it is logged.
-    pub(crate) fn keep_halt<S: PackStore>(
-        &mut self,
-        machine: &Bureau<S>,
-        level: LevelId,
-        halt: &Halt,
-    ) {
-        let card = match halt.details.first() {
-            Some((card, _number)) => Some(*card),
-            None => self.seat(level).ledger.last_card(machine.level(level)),
-        };
-        self.seat_mut(level).unlogged = Some((halt.code, card));
-    }
-
-    fn log_halt(
-        &mut self,
-        level: LevelId,
-        code: HaltCode,
-        card: Option<u16>,
-    ) -> Result<(), AllocError> {
-        let job = self.seat(level).ledger.begun().len().saturating_sub(1);
-        self.note(Event::Halt(LoggedHalt {
-            level,
-            job: number_in_log(job),
-            code,
-            card,
-        }))
     }
 
     /// Logs a reply.
@@ -115,9 +47,6 @@ impl<'a, R: Read + Drop, W: Write + Drop, F: Write + Drop, C: Clock + Drop> Desk
         code: HaltCode,
         answer: Answer,
     ) -> Result<(), AllocError> {
-        if !self.journal.is_kept() {
-            return Ok(());
-        }
         self.note(Event::Reply(LoggedReply {
             level,
             code,
@@ -125,16 +54,47 @@ impl<'a, R: Read + Drop, W: Write + Drop, F: Write + Drop, C: Clock + Drop> Desk
             by: answer.giver.replier(),
         }))
     }
+}
 
-    /// Logs that the operator ended the day.
-    pub(crate) fn log_stop(&mut self) -> Result<(), AllocError> {
-        self.note(Event::Stop)
+/// The beginning of the job at a place, from 0.
+pub(crate) fn beginning(
+    alloc: Global,
+    level: LevelId,
+    ledger: &Ledger,
+    place: usize,
+) -> Result<Option<Event>, AllocError> {
+    match ledger.begun().get(place) {
+        Some(job) => Ok(Some(Event::JobBegins(JobBegun {
+            level,
+            job: number_in_log(place),
+            program: program_of(alloc, job)?,
+            card: u16::try_from(job.card).unwrap_or(u16::MAX),
+        }))),
+        None => Ok(None),
     }
+}
 
-    /// Logs that a level was cut.
-    pub(crate) fn log_cut(&mut self, level: LevelId) -> Result<(), AllocError> {
-        self.note(Event::Cut { level })
+/// The end of the job at a place, from 0.
+pub(crate) fn ending(level: LevelId, ledger: &Ledger, place: usize) -> Option<Event> {
+    match ledger.begun().get(place) {
+        Some(job) => Some(Event::JobEnds(JobOver {
+            level,
+            job: number_in_log(place),
+            lines: job.lines,
+            end: end_of(job),
+        })),
+        None => None,
     }
+}
+
+/// A halt, and the card that it is logged with, in the job that was begun last.
+pub(crate) fn halt_of(level: LevelId, ledger: &Ledger, code: HaltCode, card: Option<u16>) -> Event {
+    Event::Halt(LoggedHalt {
+        level,
+        job: number_in_log(ledger.begun().len().saturating_sub(1)),
+        code,
+        card,
+    })
 }
 
 /// The number of a job as the log has it, from its place.
@@ -144,10 +104,12 @@ fn number_in_log(place: usize) -> u16 {
 
 /// The program of a job, if its statements name one.
 fn program_of(alloc: Global, job: &BegunJob) -> Result<Option<String>, AllocError> {
-    let Some(name) = job.purpose.program() else {
-        return Ok(None);
-    };
-    let mut text = String::new(alloc);
-    push_name(&mut text, name)?;
-    Ok(Some(text))
+    match job.purpose.program() {
+        Some(name) => {
+            let mut text = String::new(alloc);
+            push_name(&mut text, name)?;
+            Ok(Some(text))
+        }
+        None => Ok(None),
+    }
 }

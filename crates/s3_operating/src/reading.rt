@@ -1,16 +1,17 @@
 //! Lines that are read one after the other.
 
+use s3_replies::{Typed, read_typed};
 use std::alloc::{AllocError, Global};
 use std::io::Read;
 
 /// The most bytes of a line that are kept. A longer line says nothing that an operator can say.
 const LONGEST: usize = 80;
 
-/// The next line of a reader without its line feed, cut behind so many bytes; `None` where the reader has ended or fails.
+/// What the next line of a reader says, by its first bytes; `None` where the reader has ended or fails.
 pub(crate) fn read_line<R: Read>(
     alloc: Global,
     reader: &mut R,
-) -> Result<Option<Vec<u8>>, AllocError> {
+) -> Result<Option<Typed>, AllocError> {
     let mut line = Vec::new(alloc);
     let mut is_any = false;
     // more than anyone types: the bound is what shows that it ends
@@ -26,7 +27,11 @@ pub(crate) fn read_line<R: Read>(
             line.push(byte)?;
         }
     }
-    Ok(if is_any { Some(line) } else { None })
+    Ok(if is_any {
+        Some(read_typed(&line))
+    } else {
+        None
+    })
 }
 
 /// The next byte of a reader; `None` where it has ended or fails.

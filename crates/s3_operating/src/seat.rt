@@ -1,9 +1,13 @@
 //! A level as the desk sees it.
 
 use crate::day_deck::DayDeck;
+use crate::events::{beginning, ending, halt_of};
+use crate::message::Message;
+use s3_bureau::Halt;
 use s3_cards::{CardFault, Deck, DeckFault, LevelId};
-use s3_day_log::Ledger;
+use s3_day_log::{Event, Ledger};
 use s3_decks::DeckText;
+use s3_level::Level;
 use s3_operator::HaltCode;
 use std::alloc::{AllocError, Global};
 
@@ -28,11 +32,11 @@ pub struct Seat<'a> {
     /// Whether nothing was left to do when the level was seen last, but to print queued lines, which it may.
     pub(crate) is_idle: bool,
     /// A halt that isn't in the log yet, and the card that it is logged with.
-    pub(crate) unlogged: Option<(HaltCode, Option<u16>)>,
+    unlogged: Option<(HaltCode, Option<u16>)>,
     /// How many jobs are in the log as begun.
-    pub(crate) begun: usize,
+    begun: usize,
     /// How many jobs are in the log as over.
-    pub(crate) over: usize,
+    over: usize,
 }
 
 impl<'a> Seat<'a> {
@@ -84,10 +88,79 @@ impl<'a> Seat<'a> {
         self.places.as_ref()
     }
 
+    /// Takes note of jobs that have begun or ended, given how many lines the level has printed or queued, and whether it may print
+    /// all of them.
+    pub(crate) fn follow(
+        &mut self,
+        held: &Level,
+        lines: usize,
+        may_print_all: bool,
+    ) -> Result<(), AllocError> {
+        self.is_idle = may_print_all && is_idle(held);
+        self.ledger.follow(held, lines)
+    }
+
+    /// Takes note of a halt that waits for a reply.
+    pub(crate) fn take_halt(&mut self, held: &Level, halt: &Halt) {
+        let card = match halt.details.first() {
+            Some((card, _number)) => Some(*card),
+            None => self.ledger.last_card(held),
+        };
+        self.unlogged = Some((halt.code, card));
+        self.halts = self.halts.saturating_add(1);
+        self.waits = Some(halt.code);
+        self.shown = None;
+    }
+
+    /// Takes note of the reply to the halt that waits.
+    pub(crate) fn take_reply(&mut self, code: HaltCode, digit: u8) {
+        self.replies = self.replies.saturating_add(1);
+        self.waits = None;
+        self.shown = None;
+        self.ledger.reply(code, digit);
+    }
+
+    /// Appends the text of the halt that waits, if it was shown.
+    pub(crate) fn push_shown(&self, message: &mut Message) {
+        if let Some(shown) = &self.shown {
+            message.push("\n");
+            message.push(shown.as_str());
+        }
+    }
+
+    /// Takes the next event of the level that isn't in the log yet: a job's end before the next job's beginning, and a halt after the
+    /// beginning of its job.
+    pub(crate) fn next_event(&mut self, alloc: Global) -> Result<Option<Event>, AllocError> {
+        let place = self.over;
+        if place < self.begun.min(self.ledger.jobs_over()) {
+            self.over = place.saturating_add(1);
+            return Ok(ending(self.level, &self.ledger, place));
+        }
+        let place = self.begun;
+        if place < self.ledger.begun().len() {
+            self.begun = place.saturating_add(1);
+            return beginning(alloc, self.level, &self.ledger, place);
+        }
+        Ok(self.next_halt())
+    }
+
+    /// Takes the halt that isn't in the log yet.
+    fn next_halt(&mut self) -> Option<Event> {
+        match self.unlogged.take() {
+            Some((code, card)) => Some(halt_of(self.level, &self.ledger, code, card)),
+            None => None,
+        }
+    }
+
     /// The text of its deck.
     pub fn text(&self) -> &'a [u8] {
         self.deck.text()
     }
+}
+
+/// Whether a level has nothing to do: no job is at work and none is left, and no halt waits.
+fn is_idle(level: &Level) -> bool {
+    !level.has_work() && level.waits().is_none()
 }
 
 /// The number of the card at fault of a deck, from 1, and its fault, if it has one.
