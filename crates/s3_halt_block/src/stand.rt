@@ -72,7 +72,7 @@ pub(crate) fn push_stand(
         }
         Stand::Output { file, place } => {
             push_source_card(text, at, at.source.output_at(place))?;
-            push_put(text, at, at.file(file))?;
+            push_put(text, at, at.file(file), place)?;
             Ok(Shown::nothing(alloc))
         }
     }
@@ -263,8 +263,13 @@ fn push_found(text: &mut String, at: AtWork<'_>) -> Result<(), AllocError> {
 
 // ---- a record that is put out
 
-/// Appends the record that is put out with its key marked, and the one with which it is compared.
-fn push_put(text: &mut String, at: AtWork<'_>, file: Option<&FileLine>) -> Result<(), AllocError> {
+/// Appends the record that the output line at a place puts out with its key marked, and the one with which it is compared.
+fn push_put(
+    text: &mut String,
+    at: AtWork<'_>,
+    file: Option<&FileLine>,
+    place: usize,
+) -> Result<(), AllocError> {
     let mark = key_columns(file);
     let record = at.cycle.record_there();
     if matches!(at.code, HaltCode::NothingToUpdate) || record.is_empty() {
@@ -275,8 +280,22 @@ fn push_put(text: &mut String, at: AtWork<'_>, file: Option<&FileLine>) -> Resul
         Evidence::Records {
             last: _,
             before: Some(record),
-        } => push_keyed_record(text, words_of_before(at.code), record, mark),
+        } if is_compared(at, file, place) => {
+            push_keyed_record(text, words_of_before(at.code), record, mark)
+        }
         _ => Ok(()),
+    }
+}
+
+/// Whether the record before the one that the output line at a place puts out is the one that it is compared with: the last one of a load,
+/// one that was chained, or at detail time the one that was read last.
+fn is_compared(at: AtWork<'_>, file: Option<&FileLine>, place: usize) -> bool {
+    if !matches!(at.code, HaltCode::KeyChanged) {
+        return true;
+    }
+    match file {
+        Some(line) if line.is_chained() => true,
+        _ => at.source.is_at_detail_time(place),
     }
 }
 
