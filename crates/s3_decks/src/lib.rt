@@ -18,6 +18,7 @@
 mod characters;
 mod day_deck;
 mod deck_text;
+mod gaps;
 mod inherited;
 mod job_list;
 mod keyword;
