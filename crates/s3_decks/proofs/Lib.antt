@@ -1,3 +1,4 @@
 pub mod Keeping
 pub mod Reading
 pub mod Ahead
+pub mod Blanks

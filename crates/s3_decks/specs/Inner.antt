@@ -2,3 +2,4 @@
 pub mod Decks
 pub mod Days
 pub mod Gaps
+pub mod Blanks

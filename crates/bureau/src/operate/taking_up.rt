@@ -78,7 +78,9 @@ pub fn list_jobs<'a>(
 ) -> Result<(), DayFault<'a>> {
     let mut told = String::new(rt.alloc());
     push_level(rt, &mut told, LevelId::One, &one.with_places(rt.alloc())?)?;
+    one.push_blank_ends(&mut told)?;
     push_level(rt, &mut told, LevelId::Two, &two.with_places(rt.alloc())?)?;
+    two.push_blank_ends(&mut told)?;
     match rt.stdout().write_all(told.as_bytes()) {
         Ok(()) => Ok(()),
         Err(_) => Err(DayFault::Cli(FILE)),
