@@ -10,6 +10,9 @@ use s3_operator::{Halt, HaltCode};
 use s3_sheets::{SheetFault, read_sheets};
 use std::alloc::{AllocError, Global};
 
+/// The reply that ends a job after the totals of its last record.
+const TO_TOTALS: u8 = 2;
+
 /// The jobs of a level's deck, and how many of them were begun. It follows its level from halt to halt: the deck is read once, and each
 /// job that begins is looked at once.
 #[derive(Drop)]
@@ -24,6 +27,10 @@ pub struct Begun {
     compiled: IndexMap<Name, usize>,
     /// The place among the level's halts before which no halt is of a job that begins later.
     seen: usize,
+    /// How many of the level's halts were looked at for what they were answered with.
+    answered: usize,
+    /// Whether a reply has sent the job of the last of these to its totals.
+    is_ending: bool,
 }
 
 /// A source that was compiled.
@@ -44,6 +51,8 @@ impl Begun {
             are_on: [false; 8],
             compiled: IndexMap::new(alloc),
             seen: 0,
+            answered: 0,
+            is_ending: false,
         }
     }
 
@@ -64,7 +73,29 @@ impl Begun {
                 break;
             }
         }
+        self.follow_replies(level.halts());
         Ok(())
+    }
+
+    /// Looks at the halts since, up to the last one, which waits.
+    fn follow_replies(&mut self, halts: &[Halt]) {
+        for place in self.answered..halts.len() {
+            let job = job_of(halts, place);
+            if job != job_of(halts, place.saturating_sub(1)) {
+                self.is_ending = false;
+            }
+            if let Some(halt) = halts.get(place) {
+                self.is_ending = self.is_ending || halt.reply == Some(TO_TOTALS);
+                if halt.reply.is_some() {
+                    self.answered = place.saturating_add(1);
+                }
+            }
+        }
+    }
+
+    /// Whether a reply has sent the last job to its totals.
+    pub fn is_ending(&self) -> bool {
+        self.is_ending
     }
 
     /// Takes the next job, if the level has begun it. Whether it has.
@@ -130,6 +161,11 @@ impl Begun {
         }
         Ok(names)
     }
+}
+
+/// The job of the halt at a place.
+fn job_of(halts: &[Halt], place: usize) -> Option<u16> {
+    Some(halts.get(place)?.job)
 }
 
 /// The statements of a job that has no fault.
