@@ -1,9 +1,8 @@
 -- Ranges of cards that are ahead, and those that have ended.
-use Rattle.std.proofs.Common.{◌≡◌, ℕ, ◌+◌, ◌<◌, ◌≤◌, zero, suc, List, [], ◌∷◌, Bool, true, false, ◌&&◌, ◌||◌, length, drop, get_or, drop-cons, add-one, le_refl, refl, sym, ap, ◌∙◌, arith}
+use Rattle.std.proofs.Common.{◌≡◌, ℕ, ◌+◌, ◌<◌, ◌≤◌, suc, List, [], ◌∷◌, Bool, true, false, ◌&&◌, ◌||◌, length, drop, get_or, drop-cons, add-one, le_refl, refl, sym, ap, ◌∙◌, arith}
 use Rattle.std.proofs.lemmas.List.{drop_all}
 use Rattle.std.proofs.lemmas.Bool.{and_left, and_parts, and_right, le-leb, le-ltb, leb-true, lt-leb}
 use Rattle.std.specs.Prelude.{nat_le, nat_lt}
-use Rattle.std.specs.List.{list_any}
 use Rattle.s3_decks.specs.declared.deck_text.CardRange.{CardRange}
 use Rattle.s3_decks.specs.declared.gaps.Gaps.{Gaps}
 use Rattle.s3_decks.specs.Inner.Decks.{is_left_out}

@@ -1,5 +1,5 @@
 -- Where the cards of a deck file end.
-use Rattle.std.proofs.Common.{◌≡◌, ℕ, List, length, sym, ap, ◌∙◌}
+use Rattle.std.proofs.Common.{◌≡◌, ℕ, List, length, ap, ◌∙◌}
 use Rattle.std.specs.Str.{IsTrimAsciiEnd}
 use Rattle.s3_decks.specs.Inner.Blanks.{HasCards, cards_end}
 

@@ -77,10 +77,17 @@ fn not_ended(ranges: &[CardRange], place: usize) -> &[CardRange]
 fn is_left_out(ranges: &[CardRange], is_ordered: bool, place: usize) -> bool
     ensures { (is_ordered ≡ true → begin_in_order_spec 0 ranges.now ≡ true) → result ≡ is_left_out_spec ranges.now place }
 {
-    match ranges.first() {
-        Some(first) if is_ordered && place < first.from => false,
-        _ => ranges
-            .iter()
-            .any(|range| range.from <= place && place < range.to),
+    match ranges.split_first() {
+        Some((first, _more)) if is_ordered && place < first.from => false,
+        _ => has_place(ranges, place),
     }
+}
+
+/// Whether a place is in one of these ranges.
+fn has_place(ranges: &[CardRange], place: usize) -> bool
+    ensures { result ≡ is_left_out_spec ranges.now place }
+{
+    ranges
+        .iter()
+        .any(|range| range.from <= place && place < range.to)
 }

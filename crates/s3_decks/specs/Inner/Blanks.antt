@@ -1,6 +1,7 @@
 -- Blank lines at the end of a deck file.
 use Rattle.std.specs.Prelude.{◌≡◌, ◌≤◌, ◌<◌, ◌+◌, ◌-◌, ◌==◌, ℕ, List, Option, Some, None, false, length, drop, position, slice_index, if◌then◌else◌}
-use Rattle.std.specs.Str.{IsAsciiWhitespaceFrom, is_ascii_whitespace}
+use Rattle.std.specs.Char.{is_ascii_whitespace}
+use Rattle.std.specs.Str.{IsAsciiWhitespaceFrom}
 
 -- the place behind the first line feed from a place on, or behind the text
 abbrev pub behind_line : List ℕ → ℕ → Option ℕ → ℕ
