@@ -54,8 +54,10 @@ pub enum Refused {
 pub struct DayLog {
     /// With what the day was begun.
     pub begun: Begun,
-    /// The replies, in the order in which they were given.
-    pub replies: Vec<LoggedReply>,
+    /// The replies to level 1's halts, in the order in which they were given.
+    replies1: Vec<LoggedReply>,
+    /// Those to level 2's.
+    replies2: Vec<LoggedReply>,
     /// The checksum of the pack that the day has saved or was going to save. If the desk was killed meanwhile, only the pack tells
     /// which of both is so.
     pub saved: Option<String>,
@@ -77,7 +79,8 @@ impl DayLog {
         }
         let mut log = DayLog {
             begun: day,
-            replies: Vec::new(alloc),
+            replies1: Vec::new(alloc),
+            replies2: Vec::new(alloc),
             saved: None,
             status: None,
         };
@@ -141,7 +144,10 @@ impl DayLog {
                 if !allowed(reply.code, reply.digit) {
                     return Err(LogFault::Line(number));
                 }
-                self.replies.push(reply)?;
+                match reply.level {
+                    LevelId::One => self.replies1.push(reply)?,
+                    LevelId::Two => self.replies2.push(reply)?,
+                }
             }
             Event::Saving { pack } => return self.save(pack, number),
         }
@@ -150,10 +156,10 @@ impl DayLog {
 
     /// The reply of a level behind so many that it was given before.
     pub fn reply(&self, level: LevelId, given: usize) -> Option<&LoggedReply> {
-        self.replies
-            .iter()
-            .filter(|reply| reply.level == level)
-            .nth(given)
+        match level {
+            LevelId::One => self.replies1.get(given),
+            LevelId::Two => self.replies2.get(given),
+        }
     }
 
     /// Whether a pack and the files of both decks are those of the log, by their checksums, in their order; or what differs

@@ -64,9 +64,10 @@ kept_more ranges xs n d within =
     ∙ ap (λ place. kept ranges (take n xs) ++ cond (is_left_out ranges place) [] (get_or xs n d ∷ [])) (ap (λ place. 0 + place) (length-take-le n xs (omega (arith, within))) ∙ omega arith)
 
 -- the places that are kept with one more
-pub place_more : (ranges : List CardRange) (found : List FileLine) (places : List FilePlace) (n : ℕ) (d : FilePlace) → found ≡ kept ranges (take n (map line_seen places)) → n < length places → found ++ (if is_left_out ranges n then [] else line_seen (get_or places n d) ∷ []) ≡ kept ranges (take (n + 1) (map line_seen places))
-place_more ranges found places n d so_far within =
-    ap (λ front. front ++ (if is_left_out ranges n then [] else line_seen (get_or places n d) ∷ [])) so_far
+pub place_more : (ranges : List CardRange) (found : List FileLine) (places : List FilePlace) (n : ℕ) (d : FilePlace) → found ≡ kept ranges (take n (map line_seen places)) → n < length places → (out : Bool) → out ≡ is_left_out ranges n → found ++ (if out then [] else line_seen (get_or places n d) ∷ []) ≡ kept ranges (take (n + 1) (map line_seen places))
+place_more ranges found places n d so_far within out is =
+    ap (λ test. found ++ (if test then [] else line_seen (get_or places n d) ∷ [])) is
+    ∙ ap (λ front. front ++ (if is_left_out ranges n then [] else line_seen (get_or places n d) ∷ [])) so_far
     ∙ ap (λ line. kept ranges (take n (map line_seen places)) ++ (if is_left_out ranges n then [] else line ∷ [])) (sym (get_or-map line_seen places n d (line_seen d) within))
     ∙ sym (kept_more ranges (map line_seen places) n (line_seen d) (omega (arith, within, length-map places line_seen)))
 
@@ -78,9 +79,9 @@ next_line all n line more left =
     (within, grind (arith, both), grind (arith, both))
 
 -- the text of what is kept with one line more, and the lines behind it
-pub line_more : (ranges : List CardRange) (found : List ℕ) (all : List (List ℕ)) (n : ℕ) (line : List ℕ) (more : List (List ℕ)) → found ≡ joined (kept ranges (take n all)) → drop n all ≡ line ∷ more → (found ++ joined (if is_left_out ranges n then [] else line ∷ []) ≡ joined (kept ranges (take (n + 1) all))) × (more ≡ drop (n + 1) all)
-line_more ranges found all n line more so_far left =
-    let next = next_line all n line more left in (
+pub line_more : (ranges : List CardRange) (found : List ℕ) (all : List (List ℕ)) (n : ℕ) (line : List ℕ) (more : List (List ℕ)) (out : Bool) → found ≡ joined (kept ranges (take n all)) → drop n all ≡ line ∷ more → out ≡ is_left_out ranges n → (found ++ joined (if out then [] else line ∷ []) ≡ joined (kept ranges (take (n + 1) all))) × (more ≡ drop (n + 1) all)
+line_more ranges found all n line more out so_far left is =
+    let next = next_line all n line more left in rw is (
       ap (λ front. front ++ joined (if is_left_out ranges n then [] else line ∷ [])) so_far
           ∙ sym (flat_map-append (λ x. x ++ 10 ∷ []) (kept ranges (take n all)) (if is_left_out ranges n then [] else line ∷ []))
           ∙ ap (λ last. joined (kept ranges (take n all) ++ (if is_left_out ranges n then [] else last ∷ []))) (sym next.1)

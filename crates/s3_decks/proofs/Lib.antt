@@ -1,2 +1,4 @@
 pub mod Keeping
 pub mod Reading
+pub mod Ahead
+pub mod Blanks

@@ -1,3 +1,5 @@
 -- What the contracts of a run and of a session don't reach: decks from files.
 pub mod Decks
 pub mod Days
+pub mod Gaps
+pub mod Blanks

@@ -3,8 +3,9 @@ ghost use Rattle.std.specs.Prelude.{◌≡◌, ◌<◌, ◌++◌, [], ◌∷◌,
 ghost use Rattle.std.specs.List.{position_from};
 ghost use Rattle.std.specs.Option.{option_map};
 ghost use Rattle.std.specs.Str.Lines.{lines};
-ghost use Rattle.s3_decks.specs.Inner.Decks.{card_of, ended, first_lines, is_left_out as is_left_out_spec, is_line as is_line_spec, joined, kept, line_of, line_seen, lines_of, with_cards, with_file, without};
+ghost use Rattle.s3_decks.specs.Inner.Decks.{card_of, ended, first_lines, is_line as is_line_spec, joined, kept, line_of, line_seen, lines_of, with_cards, with_file, without};
 
+use crate::gaps::Gaps;
 use crate::place::{CardPlace, FilePlace};
 use crate::position::Position;
 use s3_cards::first_line;
@@ -191,25 +192,11 @@ fn end_line(text: &mut Vec<u8>) -> Result<(), AllocError>
     }
 }
 
-/// Whether a place is in one of these ranges.
-fn is_left_out(ranges: &[CardRange], place: usize) -> bool
-    ensures { result ≡ is_left_out_spec ranges.now place }
+/// Appends a line with its end, unless it is left out.
+fn keep_line(text: &mut Vec<u8>, is_left_out: bool, line: &[u8]) -> Result<(), AllocError>
+    ensures { OnOk result (text.new.items ≡ text.old.items ++ joined (if is_left_out then [] else line.now ∷ [])) }
 {
-    ranges
-        .iter()
-        .any(|range| range.from <= place && place < range.to)
-}
-
-/// Appends a line with its end, where its place is in none of the ranges.
-fn keep_line(
-    text: &mut Vec<u8>,
-    left_out: &[CardRange],
-    place: usize,
-    line: &[u8],
-) -> Result<(), AllocError>
-    ensures { OnOk result (text.new.items ≡ text.old.items ++ joined (if is_left_out_spec left_out.now place then [] else line.now ∷ [])) }
-{
-    if is_left_out(left_out, place) {
+    if is_left_out {
         return Ok(());
     }
     text.extend_from_slice(line)?;
@@ -223,26 +210,27 @@ fn kept_text(alloc: Global, text: &[u8], left_out: &[CardRange]) -> Result<Vec<u
     ensures { IfOk result (λ rest. rest.items ≡ joined (kept left_out.now (lines text.now))) }
 {
     let mut found = Vec::new(alloc);
+    let mut gaps = Gaps::of(left_out);
     let mut rest = text;
     let mut place = 0;
     while let Some((line, after)) = first_line(rest) {
-        keep_line(&mut found, left_out, place, line)?;
+        let is_left_out = gaps.take(place);
+        keep_line(&mut found, is_left_out, line)?;
         place += 1;
         rest = after;
     }
     Ok(found)
 }
 
-/// Appends the line of a file, where its place is in none of the ranges.
+/// Appends the line of a file, unless it is left out.
 fn keep_place<'a>(
     places: &mut Vec<FilePlace<'a>>,
-    left_out: &[CardRange],
-    place: usize,
+    is_left_out: bool,
     line: &FilePlace<'a>,
 ) -> Result<(), AllocError>
-    ensures { OnOk result (map line_seen places.new.items ≡ map line_seen places.old.items ++ (if is_left_out_spec left_out.now place then [] else line_seen line.now ∷ [])) }
+    ensures { OnOk result (map line_seen places.new.items ≡ map line_seen places.old.items ++ (if is_left_out then [] else line_seen line.now ∷ [])) }
 {
-    if is_left_out(left_out, place) {
+    if is_left_out {
         return Ok(());
     }
     Ok(places.push(*line)?)
@@ -257,8 +245,10 @@ fn kept_places<'a>(
     ensures { IfOk result (λ rest. map line_seen rest.items ≡ kept left_out.now (map line_seen places.now)) }
 {
     let mut found = Vec::new(alloc);
+    let mut gaps = Gaps::of(left_out);
     for (place, line) in places.iter().enumerate() {
-        keep_place(&mut found, left_out, place, line)?;
+        let is_left_out = gaps.take(place);
+        keep_place(&mut found, is_left_out, line)?;
     }
     Ok(found)
 }

@@ -7,6 +7,7 @@
 //! - The text of a deck is that of its files, each with its last line ended (`add`), or the cards that were punched from them
 //!   (`add_punched`). `place_of` gives the line of a file that a card is, and `card_at` the card that a line is. `without` leaves
 //!   exactly the lines and places of the cards that are in none of the ranges.
+//! - `cards_len` gives where the cards of a deck file end: behind its last line that isn't blank.
 //! - `jobs_of` gives the jobs of a deck as the job stream has them. `left_out_from` gives the cards of exactly those jobs that begin
 //!   before a card and compile nothing.
 //!
@@ -15,9 +16,11 @@
 
 #![tactic(auto)]
 
+mod blank_end;
 mod characters;
 mod day_deck;
 mod deck_text;
+mod gaps;
 mod inherited;
 mod job_list;
 mod keyword;
@@ -27,6 +30,7 @@ mod position;
 mod program;
 mod ruled;
 
+pub use blank_end::{cards_len, count_lines};
 pub use characters::{push_characters, push_name};
 pub use day_deck::left_out_from;
 pub use deck_text::{CardRange, DeckText};

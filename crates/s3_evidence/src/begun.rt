@@ -1,22 +1,36 @@
 //! The jobs of a level that were begun, and the sources among them: the cards of the deck alone say all of this.
 
-use s3_cards::ebcdic::{LETTER_B, LETTER_G, LETTER_J, LETTER_O, LETTER_P, LETTER_R};
+use indexmap::IndexMap;
 use s3_cards::{Deck, Name};
-use s3_decks::{JobEntry, Statements, jobs_of};
+use s3_decks::{JobEntry, Statements, jobs_of, program_of};
 use s3_level::Level;
-use s3_lines::sheet::{Line, SheetLine};
+use s3_lines::sheet::Line;
 use s3_ocl::{JobCards, Switch};
-use s3_operator::HaltCode;
+use s3_operator::{Halt, HaltCode};
 use s3_sheets::{SheetFault, read_sheets};
 use std::alloc::{AllocError, Global};
 
-/// The name of a program whose H cards bear none.
-const RPGOBJ: [u8; 6] = [LETTER_R, LETTER_P, LETTER_G, LETTER_O, LETTER_B, LETTER_J];
+/// The reply that ends a job after the totals of its last record.
+const TO_TOTALS: u8 = 2;
 
-/// The jobs of a level's deck that were begun, in order.
+/// The jobs of a level's deck, and how many of them were begun. It follows its level from halt to halt: the deck is read once, and each
+/// job that begins is looked at once.
 #[derive(Drop)]
 pub struct Begun {
+    /// The jobs of the deck, once it was read.
     jobs: Vec<JobEntry>,
+    /// How many of them were begun.
+    count: usize,
+    /// Whether U1 to U8 are on, as the last job found them.
+    are_on: [bool; 8],
+    /// The place among the jobs of the source that each program was compiled from last.
+    compiled: IndexMap<Name, usize>,
+    /// The place among the level's halts before which no halt is of a job that begins later.
+    seen: usize,
+    /// How many of the level's halts were looked at for what they were answered with.
+    answered: usize,
+    /// Whether a reply has sent the job of the last of these to its totals.
+    is_ending: bool,
 }
 
 /// A source that was compiled.
@@ -29,21 +43,88 @@ pub struct Source {
 }
 
 impl Begun {
+    /// No jobs, before the first halt of a level.
+    pub fn new(alloc: Global) -> Begun {
+        Begun {
+            jobs: Vec::new(alloc),
+            count: 0,
+            are_on: [false; 8],
+            compiled: IndexMap::new(alloc),
+            seen: 0,
+            answered: 0,
+            is_ending: false,
+        }
+    }
+
     /// The jobs that a level has begun.
     pub fn of(alloc: Global, level: &Level) -> Result<Begun, AllocError> {
-        let place = level.place();
-        let mut jobs = Vec::new(alloc);
-        for job in jobs_of(alloc, level.deck())? {
-            if job.cards.from < place {
-                jobs.push(job)?;
+        let mut begun = Begun::new(alloc);
+        begun.follow(alloc, level)?;
+        Ok(begun)
+    }
+
+    /// Takes the jobs that the level has begun since. It must be the same level each time.
+    pub fn follow(&mut self, alloc: Global, level: &Level) -> Result<(), AllocError> {
+        if self.jobs.is_empty() {
+            self.jobs = jobs_of(alloc, level.deck())?;
+        }
+        for _job in self.count..self.jobs.len() {
+            if !self.begin_next(level)? {
+                break;
             }
         }
-        Ok(Begun { jobs })
+        self.follow_replies(level.halts());
+        Ok(())
+    }
+
+    /// Looks at the halts since, up to the last one, which waits.
+    fn follow_replies(&mut self, halts: &[Halt]) {
+        for place in self.answered..halts.len() {
+            let job = job_of(halts, place);
+            if job != job_of(halts, place.saturating_sub(1)) {
+                self.is_ending = false;
+            }
+            if let Some(halt) = halts.get(place) {
+                self.is_ending = self.is_ending || halt.reply == Some(TO_TOTALS);
+                if halt.reply.is_some() {
+                    self.answered = place.saturating_add(1);
+                }
+            }
+        }
+    }
+
+    /// Whether a reply has sent the last job to its totals.
+    pub fn is_ending(&self) -> bool {
+        self.is_ending
+    }
+
+    /// Takes the next job, if the level has begun it. Whether it has.
+    fn begin_next(&mut self, level: &Level) -> Result<bool, AllocError> {
+        let place = self.count;
+        let Some(job) = self.jobs.get(place) else {
+            return Ok(false);
+        };
+        if job.cards.from >= level.place() {
+            return Ok(false);
+        }
+        self.count = place.saturating_add(1);
+        let Some(cards) = statements_of(job) else {
+            return Ok(true);
+        };
+        set_switches(&mut self.are_on, cards.switches());
+        if cards.is_compile() {
+            self.seen = first_failed(level.halts(), self.seen, cards.data_from());
+            if !has_failed(level.halts(), self.seen, cards) {
+                self.compiled
+                    .insert(compiled_by(level.deck(), cards), place)?;
+            }
+        }
+        Ok(true)
     }
 
     /// The last one, if a job was begun.
     pub fn last(&self) -> Option<&JobEntry> {
-        self.jobs.last()
+        self.jobs.get(self.count.checked_sub(1)?)
     }
 
     /// The statements of the last one, if they have no fault.
@@ -53,13 +134,7 @@ impl Begun {
 
     /// The switches as the last job found them: U1 to U8, whether they are on.
     pub fn switches(&self) -> [bool; 8] {
-        let mut are_on = [false; 8];
-        for job in self.jobs.iter() {
-            if let Some(cards) = statements_of(job) {
-                set_switches(&mut are_on, cards.switches());
-            }
-        }
-        are_on
+        self.are_on
     }
 
     /// The source of a program of this name that was compiled last.
@@ -69,28 +144,28 @@ impl Begun {
         level: &Level,
         name: Name,
     ) -> Result<Option<Source>, AllocError> {
-        for job in self.jobs.iter().rev() {
-            if let Some(source) = source_in(alloc, level, job)? {
-                if source.name == name {
-                    return Ok(Some(source));
-                }
-            }
+        let Some(place) = self.compiled.get(&name) else {
+            return Ok(None);
+        };
+        match self.jobs.get(*place) {
+            Some(job) => source_in(alloc, level, job, name),
+            None => Ok(None),
         }
-        Ok(None)
     }
 
-    /// The names of the programs that were compiled, in the order of their sources, each once.
-    pub fn programs(&self, alloc: Global, level: &Level) -> Result<Vec<Name>, AllocError> {
+    /// The names of the programs that were compiled, in the order of their first sources, each once.
+    pub fn programs(&self, alloc: Global) -> Result<Vec<Name>, AllocError> {
         let mut names = Vec::new(alloc);
-        for job in self.jobs.iter() {
-            if let Some(source) = source_in(alloc, level, job)? {
-                if !has_name(&names, source.name) {
-                    names.push(source.name)?;
-                }
-            }
+        for name in self.compiled.keys() {
+            names.push(*name)?;
         }
         Ok(names)
     }
+}
+
+/// The job of the halt at a place.
+fn job_of(halts: &[Halt], place: usize) -> Option<u16> {
+    Some(halts.get(place)?.job)
 }
 
 /// The statements of a job that has no fault.
@@ -112,41 +187,50 @@ fn set_switches(are_on: &mut [bool; 8], switches: [Switch; 8]) {
     }
 }
 
-fn has_name(names: &[Name], name: Name) -> bool {
-    names.iter().any(|other| *other == name)
+/// The place, from `seen` on, of the first halt for diagnostics that is of the job with this RUN card or of a later one; behind the last
+/// halt if there is none. The diagnostics name the RUN card or cards of the source.
+fn first_failed(halts: &[Halt], seen: usize, run_card: usize) -> usize {
+    let new = halts.get(seen..).unwrap_or(&[]);
+    match new.iter().position(|halt| first_at_fault(halt) >= run_card) {
+        Some(place) => seen.saturating_add(place),
+        None => halts.len(),
+    }
 }
 
-/// The source of a job, if it has compiled one.
-fn source_in(alloc: Global, level: &Level, job: &JobEntry) -> Result<Option<Source>, AllocError> {
+/// Whether the halt at a place is for diagnostics of a job.
+fn has_failed(halts: &[Halt], place: usize, cards: &JobCards) -> bool {
+    match halts.get(place) {
+        Some(halt) => first_at_fault(halt) <= cards.data_to(),
+        None => false,
+    }
+}
+
+/// The first card that the diagnostics of a halt name; 0 for any other halt, which no job has as its RUN card.
+fn first_at_fault(halt: &Halt) -> usize {
+    match (halt.code, halt.details.first()) {
+        (HaltCode::FaultySource, Some((card, _number))) => usize::from(*card),
+        _ => 0,
+    }
+}
+
+/// The name of the program that a compile job makes.
+fn compiled_by(deck: &Deck, job: &JobCards) -> Name {
+    let cards = deck.cards().get(job.data_from()..job.data_to());
+    program_of(cards.unwrap_or(&[]))
+}
+
+/// The source of a program that a job has compiled.
+fn source_in(
+    alloc: Global,
+    level: &Level,
+    job: &JobEntry,
+    name: Name,
+) -> Result<Option<Source>, AllocError> {
     let Some(cards) = statements_of(job) else {
         return Ok(None);
     };
-    if !cards.is_compile() || has_failed(level, cards) {
-        return Ok(None);
-    }
     let lines = read_source(alloc, level.deck(), cards.data_from(), cards.data_to())?;
-    Ok(lines.map(|lines| Source {
-        name: name_of(&lines),
-        lines,
-    }))
-}
-
-/// Whether a compile job has shown diagnostics. They name its RUN card or cards of its source.
-fn has_failed(level: &Level, cards: &JobCards) -> bool {
-    level.halts().iter().any(|halt| {
-        matches!(halt.code, HaltCode::FaultySource) && names_card_of(&halt.details, cards)
-    })
-}
-
-/// Whether the first detail of a halt names the RUN card or a data card of a job.
-fn names_card_of(details: &[(u16, u8)], cards: &JobCards) -> bool {
-    match details.first() {
-        Some((card, _)) => {
-            let number = usize::from(*card);
-            cards.data_from() <= number && number <= cards.data_to()
-        }
-        None => false,
-    }
+    Ok(lines.map(|lines| Source { name, lines }))
 }
 
 /// The lines of the sheets between two places of a deck, where none has a diagnostic by itself.
@@ -164,14 +248,4 @@ fn read_source(
         Err(SheetFault::Diagnostics(_)) => Ok(None),
         Err(SheetFault::NoMemory) => Err(AllocError),
     }
-}
-
-/// The name that a source gives its program: that of the first H card that bears one.
-fn name_of(lines: &[Line]) -> Name {
-    for line in lines {
-        if let SheetLine::Header(Some(name)) = line.sheet {
-            return name;
-        }
-    }
-    Name::of(&RPGOBJ)
 }

@@ -11,6 +11,7 @@ mod evidence;
 mod index;
 mod looking;
 mod reading;
+mod total_time;
 mod wanted;
 
 pub use at_fault::{Asked, Found, JobFile, key_of};

@@ -16,6 +16,9 @@ use s3_operator::HaltCode;
 use s3_store::PackStore;
 use std::alloc::{AllocError, Global};
 
+/// The most files of a program.
+const MOST_FILES: usize = 20;
+
 /// A record of a file, by its place from 0.
 #[derive(Clone, Copy)]
 pub(crate) enum RecordPlace {
@@ -64,7 +67,7 @@ pub(crate) fn find_wanted<S: PackStore>(
         HaltCode::UnidentifiedRecord
         | HaltCode::OutOfSequence
         | HaltCode::KeyNotAscending
-        | HaltCode::KeyChanged => wanted_at_work(alloc, held, code),
+        | HaltCode::KeyChanged => Ok(wanted_at_work(held, code).unwrap_or(Wanted::Nothing)),
         HaltCode::DamagedLabel | HaltCode::BadIndex => {
             wanted_at_start(alloc, bureau, held, level, code)
         }
@@ -74,23 +77,12 @@ pub(crate) fn find_wanted<S: PackStore>(
 
 // ---- a program at work
 
-/// What is to be read where a program at work halts.
-fn wanted_at_work(alloc: Global, held: &Level, code: HaltCode) -> Result<Wanted, AllocError> {
-    let Some(cycle) = held.cycle() else {
-        return Ok(Wanted::Nothing);
-    };
-    let begun = Begun::of(alloc, held)?;
-    let Some(source) = begun.source_of(alloc, held, cycle.program_name())? else {
-        return Ok(Wanted::Nothing);
-    };
-    Ok(records_wanted(held, cycle, &source, code).unwrap_or(Wanted::Nothing))
-}
-
-/// The records that are to be read where a program at work halts.
-fn records_wanted(held: &Level, cycle: &Cycle, source: &Source, code: HaltCode) -> Option<Wanted> {
-    let line = source.file_at(cycle.file_there()?)?;
+/// The records that are to be read where a program at work halts. Its source isn't needed for that.
+fn wanted_at_work(held: &Level, code: HaltCode) -> Option<Wanted> {
+    let cycle = held.cycle()?;
+    let line = cycle.file_line(cycle.file_there()?)?;
     let file = open_file(held, line.name)?;
-    let (last, before) = places_wanted(cycle.stand(), file, line, source, code);
+    let (last, before) = places_wanted(cycle, file, line, code);
     Some(Wanted::Records {
         label: file.label.copied(),
         last,
@@ -105,21 +97,20 @@ fn open_file(held: &Level, name: Name) -> Option<&OpenFile> {
 
 /// The places of the record that was read last and of the one before it.
 fn places_wanted(
-    stand: Stand,
+    cycle: &Cycle,
     file: &OpenFile,
     line: &FileLine,
-    source: &Source,
     code: HaltCode,
 ) -> (Option<RecordPlace>, Option<RecordPlace>) {
-    match stand {
+    match cycle.stand() {
         Stand::Head { number, .. } => (
             nth_read(file, number),
             nth_read(file, number.saturating_sub(1)),
         ),
         Stand::Calculation { .. } => (file.chained.map(RecordPlace::InOrder), None),
-        Stand::Output { place, .. } => match code {
+        Stand::Output { .. } => match code {
             HaltCode::KeyNotAscending => (None, last_of(file)),
-            _ => (None, current_of(file, line, source, place)),
+            _ => (None, current_of(cycle, file, line)),
         },
         Stand::Nowhere | Stand::Field { .. } | Stand::ChainedField { .. } => (None, None),
     }
@@ -139,21 +130,31 @@ fn last_of(file: &OpenFile) -> Option<RecordPlace> {
     Some(RecordPlace::InOrder(file.records.len().checked_sub(1)?))
 }
 
-/// The record that the output line at a place updates, where the reads alone say which it is: the last one that was chained; of the
-/// only file that the cycle reads, at detail time, the last one that was read.
-fn current_of(
-    file: &OpenFile,
-    line: &FileLine,
-    source: &Source,
-    place: usize,
-) -> Option<RecordPlace> {
+/// The record that an output line updates, as far as the reads alone say which it is: the last one that was chained; of the only file
+/// that the cycle reads the last one that was read, which is the one that is updated at detail time.
+fn current_of(cycle: &Cycle, file: &OpenFile, line: &FileLine) -> Option<RecordPlace> {
     if line.is_chained() {
         return file.chained.map(RecordPlace::InOrder);
     }
-    if !source.reads_one_file() || !source.is_at_detail_time(place) {
+    if !reads_one_file(cycle) {
         return None;
     }
     nth_read(file, file.read)
+}
+
+/// Whether one file alone is primary or secondary.
+fn reads_one_file(cycle: &Cycle) -> bool {
+    let mut count: u32 = 0;
+    for slot in 0..MOST_FILES {
+        match cycle.file_line(slot) {
+            Some(line) if line.is_primary() || line.is_secondary() => {
+                count = count.saturating_add(1);
+            }
+            Some(_line) => {}
+            None => break,
+        }
+    }
+    count == 1
 }
 
 impl Source {
@@ -195,19 +196,8 @@ impl Source {
             .nth(place)
     }
 
-    /// Whether one file alone is primary or secondary.
-    fn reads_one_file(&self) -> bool {
-        let mut count: u32 = 0;
-        for line in &self.lines {
-            if is_read_by_cycle(&line.sheet) {
-                count = count.saturating_add(1);
-            }
-        }
-        count == 1
-    }
-
     /// Whether the output line at a place is put out before the next record is read.
-    fn is_at_detail_time(&self, place: usize) -> bool {
+    pub fn is_at_detail_time(&self, place: usize) -> bool {
         match self.output_at(place) {
             Some(
                 Line {
@@ -232,13 +222,6 @@ impl Source {
             }
             _ => false,
         })
-    }
-}
-
-fn is_read_by_cycle(sheet: &SheetLine) -> bool {
-    match sheet {
-        SheetLine::File(file) => file.is_primary() || file.is_secondary(),
-        _ => false,
     }
 }
 

@@ -40,7 +40,7 @@ pub(crate) fn push_at_start(
 ) -> Result<(), AllocError> {
     match at.code {
         HaltCode::FaultyJob | HaltCode::FaultySource => Ok(()),
-        HaltCode::NoProgram => push_programs(text, &at.begun.programs(alloc, at.held)?),
+        HaltCode::NoProgram => push_programs(text, &at.begun.programs(alloc)?),
         _ => push_files(text, alloc, at),
     }
 }

@@ -49,6 +49,15 @@ impl<'a> AtWork<'a> {
         (before > job.data_from()).then_some(before)
     }
 
+    /// The only file that the cycle reads, if that is on cards and the totals, where the program stands at them, are surely those before the
+    /// last card that was read: cards are left, and nothing has turned LR on.
+    pub(crate) fn file_behind_totals(&self) -> Option<&'a FileLine> {
+        let file = self.source.only_file_read()?;
+        let unread = self.held.unread()?;
+        let is_last = self.begun.is_ending() || self.source.turns_last_record_on();
+        (is_on_cards(file) && unread.next < unread.end && !is_last).then_some(file)
+    }
+
     /// Whether the last data card that was read begins with these bytes.
     pub(crate) fn is_last_card(&self, record: &[u8]) -> bool {
         let Some(number) = self.last_card() else {
@@ -85,8 +94,13 @@ fn push_last_card(text: &mut String, at: AtWork<'_>, shown: &Shown) -> Result<()
     let Some(number) = at.last_card() else {
         return Ok(());
     };
+    let words = if shown.is_after_totals {
+        "the totals are those before this card, which isn't processed yet:"
+    } else {
+        "the last data card:"
+    };
     at.cards
-        .push_named_card(text, "the last data card:", number, &shown.marked)?;
+        .push_named_card(text, words, number, &shown.marked)?;
     match at.card_before() {
         Some(before) if shown.is_before_shown => {
             at.cards

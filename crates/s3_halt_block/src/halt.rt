@@ -15,36 +15,36 @@ use s3_store::PackStore;
 use std::alloc::{AllocError, Global};
 
 /// Appends the block of the halt that waits in a level: what it means, where it stands and what it is about, which replies it
-/// allows and what each of them does. The deck's text is the one that the level's cards were read from, and the evidence what `look`
-/// gave for this halt.
+/// allows and what each of them does. The deck's text is the one that the level's cards were read from, `begun` has followed the level
+/// up to this halt, and the evidence is what `look` gave for it.
 pub fn push_halt<S: PackStore>(
     text: &mut String,
     alloc: Global,
     bureau: &Bureau<S>,
     deck: &DeckText<'_>,
+    begun: &Begun,
     level: LevelId,
     halt: &Halt,
     evidence: &Evidence,
 ) -> Result<(), AllocError> {
     let held = bureau.level(level);
-    let begun = Begun::of(alloc, held)?;
     let cards = DeckCards {
         text: deck,
         deck: held.deck(),
     };
     push_meaning(text, level, halt.code)?;
-    push_beginning(text, cards, &begun, halt)?;
-    push_details(text, alloc, cards, &begun, halt)?;
+    push_beginning(text, cards, begun, halt)?;
+    push_details(text, alloc, cards, begun, halt)?;
     match held.cycle() {
         Some(cycle) => {
-            let source = source_of(alloc, &begun, held, cycle.program_name())?;
+            let source = source_of(alloc, begun, held, cycle.program_name())?;
             push_at_work(
                 text,
                 alloc,
                 AtWork {
                     cards,
                     held,
-                    begun: &begun,
+                    begun,
                     cycle,
                     source: &source,
                     code: halt.code,
@@ -58,7 +58,7 @@ pub fn push_halt<S: PackStore>(
             AtStart {
                 cards,
                 held,
-                begun: &begun,
+                begun,
                 areas: bureau.areas(),
                 level,
                 code: halt.code,

@@ -3,7 +3,7 @@
 use crate::at_work::{AtWork, is_on_cards};
 use crate::bad_digits::bad_digits;
 use crate::causes::push_causes;
-use crate::match_fields::match_fields;
+use crate::match_fields::{Sort, level_fields};
 use s3_cards::Name;
 use s3_cycle::{Sought, Stand};
 use s3_decks::{Columns, push_characters, push_name, push_ruled};
@@ -19,6 +19,8 @@ pub(crate) struct Shown {
     pub(crate) marked: Vec<Columns>,
     /// Whether the card before it is shown too.
     pub(crate) is_before_shown: bool,
+    /// Whether it waits for totals, which are of the cards before it.
+    pub(crate) is_after_totals: bool,
 }
 
 impl Shown {
@@ -27,6 +29,19 @@ impl Shown {
         Shown {
             marked: Vec::new(alloc),
             is_before_shown: false,
+            is_after_totals: false,
+        }
+    }
+
+    /// What is shown where totals may be taken: the cards on both sides of them, with their control fields.
+    fn with_totals(alloc: Global, at: AtWork<'_>, is_total: bool) -> Result<Shown, AllocError> {
+        match at.file_behind_totals() {
+            Some(file) if is_total => Ok(Shown {
+                marked: level_fields(alloc, &at.source.lines, file.name, Sort::Control)?,
+                is_before_shown: true,
+                is_after_totals: true,
+            }),
+            _ => Ok(Shown::nothing(alloc)),
         }
     }
 }
@@ -68,12 +83,12 @@ pub(crate) fn push_stand(
             push_source_card(text, at, at.source.calculation_at(place))?;
             push_sought(text, at)?;
             push_found(text, at)?;
-            Ok(Shown::nothing(alloc))
+            Shown::with_totals(alloc, at, at.source.is_total_calculation(place))
         }
         Stand::Output { file, place } => {
             push_source_card(text, at, at.source.output_at(place))?;
-            push_put(text, at, at.file(file))?;
-            Ok(Shown::nothing(alloc))
+            push_put(text, at, at.file(file), place)?;
+            Shown::with_totals(alloc, at, at.source.is_total_output(place))
         }
     }
 }
@@ -129,6 +144,7 @@ fn push_head(
     let shown = Shown {
         marked: marks_of_head(alloc, at, line.name)?,
         is_before_shown: is_out_of_sequence(at.code),
+        is_after_totals: false,
     };
     if is_on_cards(line) {
         return Ok(shown);
@@ -144,7 +160,7 @@ fn is_out_of_sequence(code: HaltCode) -> bool {
 /// What is marked on a record that was read last.
 fn marks_of_head(alloc: Global, at: AtWork<'_>, file: Name) -> Result<Vec<Columns>, AllocError> {
     if is_out_of_sequence(at.code) {
-        match_fields(alloc, &at.source.lines, file)
+        level_fields(alloc, &at.source.lines, file, Sort::Match)
     } else {
         Ok(Vec::new(alloc))
     }
@@ -219,6 +235,7 @@ fn push_field_record(
         return Ok(Shown {
             marked,
             is_before_shown: false,
+            is_after_totals: false,
         });
     }
     push_ruled(text, record, &marked)?;
@@ -263,8 +280,13 @@ fn push_found(text: &mut String, at: AtWork<'_>) -> Result<(), AllocError> {
 
 // ---- a record that is put out
 
-/// Appends the record that is put out with its key marked, and the one with which it is compared.
-fn push_put(text: &mut String, at: AtWork<'_>, file: Option<&FileLine>) -> Result<(), AllocError> {
+/// Appends the record that the output line at a place puts out with its key marked, and the one with which it is compared.
+fn push_put(
+    text: &mut String,
+    at: AtWork<'_>,
+    file: Option<&FileLine>,
+    place: usize,
+) -> Result<(), AllocError> {
     let mark = key_columns(file);
     let record = at.cycle.record_there();
     if matches!(at.code, HaltCode::NothingToUpdate) || record.is_empty() {
@@ -275,8 +297,22 @@ fn push_put(text: &mut String, at: AtWork<'_>, file: Option<&FileLine>) -> Resul
         Evidence::Records {
             last: _,
             before: Some(record),
-        } => push_keyed_record(text, words_of_before(at.code), record, mark),
+        } if is_compared(at, file, place) => {
+            push_keyed_record(text, words_of_before(at.code), record, mark)
+        }
         _ => Ok(()),
+    }
+}
+
+/// Whether the record before the one that the output line at a place puts out is the one that it is compared with: the last one of a load,
+/// one that was chained, or at detail time the one that was read last.
+fn is_compared(at: AtWork<'_>, file: Option<&FileLine>, place: usize) -> bool {
+    if !matches!(at.code, HaltCode::KeyChanged) {
+        return true;
+    }
+    match file {
+        Some(line) if line.is_chained() => true,
+        _ => at.source.is_at_detail_time(place),
     }
 }
 

@@ -1,6 +1,6 @@
 //! The deck of a level on a day.
 
-use s3_decks::DeckText;
+use s3_decks::{DeckText, cards_len, count_lines};
 use std::alloc::{AllocError, Global};
 
 /// A file of a deck.
@@ -10,6 +10,8 @@ struct DeckFile<'a> {
     name: &'a str,
     /// Where its text ends in that of the deck.
     end: usize,
+    /// How many blank lines at its end are passed over.
+    blank_lines: usize,
     /// The line of the file that each card is of, where its text was punched.
     origins: Option<Vec<usize>>,
 }
@@ -30,9 +32,14 @@ impl<'a> JoinedFiles<'a> {
         }
     }
 
-    /// Puts a file's lines behind those of the files before, which are whole. A last line without its end gets one.
+    /// Puts a file's lines behind those of the files before, which are whole. Blank lines at its end are passed over. A last line
+    /// without its end gets one.
     pub fn add(&mut self, name: &'a str, bytes: Vec<u8>) -> Result<(), AllocError> {
-        self.add_file(name, bytes, None)
+        let len = cards_len(&bytes);
+        let blank_lines = count_lines(bytes.get(len..).unwrap_or(&[]));
+        let mut bytes = bytes;
+        bytes.truncate(len);
+        self.add_file(name, bytes, None, blank_lines)
     }
 
     /// Puts the cards that were punched of a file behind those of the files before, with the line of the file that each is of,
@@ -43,7 +50,7 @@ impl<'a> JoinedFiles<'a> {
         bytes: Vec<u8>,
         origins: Vec<usize>,
     ) -> Result<(), AllocError> {
-        self.add_file(name, bytes, Some(origins))
+        self.add_file(name, bytes, Some(origins), 0)
     }
 
     fn add_file(
@@ -51,6 +58,7 @@ impl<'a> JoinedFiles<'a> {
         name: &'a str,
         bytes: Vec<u8>,
         origins: Option<Vec<usize>>,
+        blank_lines: usize,
     ) -> Result<(), AllocError> {
         if self.text.is_empty() {
             // a deck of one file isn't copied
@@ -62,7 +70,12 @@ impl<'a> JoinedFiles<'a> {
             self.text.push(b'\n')?;
         }
         let end = self.text.len();
-        self.files.push(DeckFile { name, end, origins })?;
+        self.files.push(DeckFile {
+            name,
+            end,
+            blank_lines,
+            origins,
+        })?;
         Ok(())
     }
 }
@@ -86,12 +99,34 @@ impl<'a> DayDeck<'a> {
         }
     }
 
+    /// Appends a line for each file of which blank lines at the end are passed over.
+    pub fn push_blank_ends(&self, text: &mut String) -> Result<(), AllocError> {
+        if let DayDeck::Whole(joined) = self {
+            for file in joined.files.iter() {
+                push_blank_end(text, file.name, file.blank_lines)?;
+            }
+        }
+        Ok(())
+    }
+
     /// The deck with the line of a file for each card.
     pub fn with_places(&self, alloc: Global) -> Result<DeckText<'a>, AllocError> {
         match self {
             DayDeck::Whole(joined) => with_places(alloc, &joined.text, &joined.files),
             DayDeck::TakenUp(deck) => deck.without(alloc, &[]),
         }
+    }
+}
+
+/// Appends how many blank lines at the end of a file are passed over, if any are.
+fn push_blank_end(text: &mut String, file: &str, lines: usize) -> Result<(), AllocError> {
+    match lines {
+        0 => Ok(()),
+        1 => writeln!(text, "  {file}: the last line is blank and is passed over"),
+        _ => writeln!(
+            text,
+            "  {file}: the last {lines} lines are blank and are passed over"
+        ),
     }
 }
 

@@ -14,6 +14,7 @@ use s3_bureau::{Bureau, Halt};
 use s3_cards::{CardFault, LevelId};
 use s3_decks::DeckText;
 use s3_desk::Evidence;
+use s3_evidence::Begun;
 use s3_halt_block::push_halt;
 use s3_operator::HaltCode;
 use s3_replies::Typed;
@@ -220,9 +221,13 @@ impl<'a> Levels<'a> {
         evidence: &Evidence,
     ) -> Result<String, AllocError> {
         let alloc = self.alloc;
-        self.seat_mut(level).find_places(alloc)?;
+        self.seat_mut(level)
+            .prepare_block(alloc, machine.level(level))?;
         match self.seat(level).places() {
-            Some(deck) => halt_text(alloc, machine, deck, level, halt, evidence),
+            Some(deck) => {
+                let jobs = self.seat(level).shown_jobs();
+                halt_text(alloc, machine, deck, jobs, level, halt, evidence)
+            }
             None => Ok(String::new(alloc)),
         }
     }
@@ -545,12 +550,13 @@ fn halt_text<S: PackStore>(
     alloc: Global,
     machine: &Bureau<S>,
     deck: &DeckText<'_>,
+    jobs: &Begun,
     level: LevelId,
     halt: &Halt,
     evidence: &Evidence,
 ) -> Result<String, AllocError> {
     let mut text = String::new(alloc);
-    push_halt(&mut text, alloc, machine, deck, level, halt, evidence)?;
+    push_halt(&mut text, alloc, machine, deck, jobs, level, halt, evidence)?;
     Ok(text)
 }
 

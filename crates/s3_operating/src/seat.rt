@@ -8,6 +8,7 @@ use s3_bureau::Halt;
 use s3_cards::{CardFault, Deck, DeckFault, LevelId};
 use s3_day_log::{Event, Ledger};
 use s3_decks::DeckText;
+use s3_evidence::Begun as JobsOfHalts;
 use s3_level::Level;
 use s3_operator::{HaltCode, is_at_start};
 use std::alloc::{AllocError, Global};
@@ -22,6 +23,8 @@ pub struct Seat<'a> {
     /// The number of the card at fault, from 1, and its fault, where the deck can't be read.
     pub(crate) unread: Option<(u16, CardFault)>,
     pub(crate) ledger: Ledger,
+    /// The jobs that were begun when a halt was shown last, with what blocks of halts need of them.
+    shown_jobs: JobsOfHalts,
     /// How many halts were shown.
     pub(crate) halts: u64,
     /// What the level halts for, if it does.
@@ -55,6 +58,7 @@ impl<'a> Seat<'a> {
             places: None,
             unread: None,
             ledger: Ledger::new(alloc),
+            shown_jobs: JobsOfHalts::new(alloc),
             halts: 0,
             waits: None,
             card: None,
@@ -96,6 +100,17 @@ impl<'a> Seat<'a> {
     /// The deck with the line of a file for each card, once these are found.
     pub(crate) fn places(&self) -> Option<&DeckText<'a>> {
         self.places.as_ref()
+    }
+
+    /// Finds what the block of a halt needs of the deck: the line of a file for each card, and the jobs that were begun.
+    pub(crate) fn prepare_block(&mut self, alloc: Global, held: &Level) -> Result<(), AllocError> {
+        self.find_places(alloc)?;
+        self.shown_jobs.follow(alloc, held)
+    }
+
+    /// The jobs that were begun, as `prepare_block` found them last.
+    pub(crate) fn shown_jobs(&self) -> &JobsOfHalts {
+        &self.shown_jobs
     }
 
     /// Takes note of jobs that have begun or ended, given how many lines the level has printed or queued, and whether it may print

@@ -3,7 +3,7 @@ ghost use Rattle.std.specs.Prelude.{◌≤◌, IfOk};
 
 use crate::fault::CommandFault;
 use crate::punch::tell_punched;
-use s3_decks::DeckText;
+use s3_decks::{DeckText, cards_len};
 use s3_host_files::read_within;
 use s3_punch::{Begun, Punched, punch};
 use s3_refusals::begins_as_pack;
@@ -87,7 +87,7 @@ pub fn read_deck_file<'a>(rt: &HostRuntime, name: &'a str) -> Result<Vec<u8>, Co
     }
 }
 
-/// Puts a file behind those of a deck.
+/// Puts a file after those of a deck, without the blank lines at its end.
 fn add_file<'a>(
     rt: &HostRuntime,
     deck: &mut DeckText<'a>,
@@ -101,6 +101,8 @@ fn add_file<'a>(
     if is_plain_text(name) {
         return add_text(rt, deck, standing, name, &bytes);
     }
+    let mut bytes = bytes;
+    bytes.truncate(cards_len(&bytes));
     let begun = standing.begun.behind_deck(&bytes);
     deck.add(name, bytes)?;
     Ok(Standing {

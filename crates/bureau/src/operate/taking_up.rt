@@ -81,7 +81,9 @@ pub fn list_jobs<'a>(
 ) -> Result<(), DayFault<'a>> {
     let mut told = String::new(rt.alloc());
     push_level(rt, &mut told, LevelId::One, one)?;
+    one.push_blank_ends(&mut told)?;
     push_level(rt, &mut told, LevelId::Two, two)?;
+    two.push_blank_ends(&mut told)?;
     match StandardOutput::new(rt).write_all(told.as_bytes()) {
         Ok(()) => Ok(()),
         Err(_) => Err(DayFault::Cli(FILE)),
