@@ -53,7 +53,6 @@ fn is_mark(first: u8, second: u8, third: u8) -> bool
 }
 
 /// The place of the quote in which a table ends, if it does.
-#[tactic(auto, using(crate::proofs::QuoteLemmas::one_more_read, crate::proofs::QuoteLemmas::all_read))]
 fn open_quote(text: &[u8], delimiter: u8) -> Option<usize>
     ensures { result ≡ open_quote_spec delimiter text.now }
 {
