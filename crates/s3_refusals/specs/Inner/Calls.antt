@@ -1,7 +1,7 @@
 -- Why a call on a file failed, by the kind of the failure.
 use Rattle.std.specs.Prelude.{ℕ, List, codes}
-use Rattle.std.specs.declared.io.kind.ErrorKind.{ErrorKind}
-use Rattle.std.specs.declared.io.kind.ErrorKind.TheVariants.{NotFound, PermissionDenied, IsADirectory, NotADirectory, ReadOnlyFilesystem, StorageFull, QuotaExceeded, FilesystemLoop}
+use Rattle.std.specs.declared.io.ErrorKind.{ErrorKind}
+use Rattle.std.specs.declared.io.ErrorKind.TheVariants.{NotFound, PermissionDenied, IsADirectory, NotADirectory, ReadOnlyFilesystem, StorageFull, QuotaExceeded, FilesystemLoop}
 
 -- no words for a kind that needs the system's own
 abbrev pub words_of_call : ErrorKind → List ℕ
@@ -13,4 +13,4 @@ words_of_call ReadOnlyFilesystem = codes "its disk is read-only; use another one
 words_of_call StorageFull = codes "its disk is full; make space there, and try again"
 words_of_call QuotaExceeded = codes "your share of its disk is full; make space there, and try again"
 words_of_call FilesystemLoop = codes "its links lead in a circle; give the file's own name"
-words_of_call other = codes ""
+words_of_call _ = codes ""
