@@ -28,11 +28,34 @@ pub const COMPILE: CommandWords = CommandWords {
             takes: Takes::Nothing,
             help: "Lists each name and each indicator with all cards that name it",
         },
+        Word {
+            name: "strict",
+            takes: Takes::Nothing,
+            help: "Exits with status 4 also if a source has warnings",
+        },
     ],
 };
 
+/// What the options ask for.
+#[derive(Clone, Copy)]
+struct Order {
+    /// Names and indicators are listed with all cards that name them.
+    has_references: bool,
+    /// A source with warnings waits for a person, as one with diagnostics does.
+    is_strict: bool,
+}
+
+impl Order {
+    fn of(matches: &ArgMatches<'_>) -> Order {
+        Order {
+            has_references: matches.get_flag("cross-reference"),
+            is_strict: matches.get_flag("strict"),
+        }
+    }
+}
+
 /// Does what the words of `bureau compile` ask, and gives the exit status: 0 where every source compiles, 4 where one has diagnostics
-/// or a job has faulty statements, 3 where a file can't be read or the listing can't be written, 1 where the files are no deck or memory
+/// or a job has faulty statements, or with `--strict` where one has warnings, 3 where a file can't be read or the listing can't be written, 1 where the files are no deck or memory
 /// runs out.
 pub fn compile_files<'a>(rt: &'a HostRuntime, matches: &ArgMatches<'a>) -> u8
     ensures { result ≤ 4 }
@@ -45,10 +68,10 @@ pub fn compile_files<'a>(rt: &'a HostRuntime, matches: &ArgMatches<'a>) -> u8
 
 /// Lists a deck on standard output, and gives the exit status.
 fn list_deck<'a>(rt: &'a HostRuntime, matches: &ArgMatches<'a>) -> Result<u8, CommandFault<'a>> {
-    let has_references = matches.get_flag("cross-reference");
+    let order = Order::of(matches);
     let files = matches.get_strs("file").unwrap_or(&[]);
     match read_deck(rt, files)? {
-        ReadFiles::Deck(text) => list_text(rt, &text, has_references, files.len() == 1),
+        ReadFiles::Deck(text) => list_text(rt, &text, order, files.len() == 1),
         ReadFiles::Faulty => Ok(REFUSED),
         ReadFiles::Unread => Ok(FILE_FAILED),
     }
@@ -58,11 +81,11 @@ fn list_deck<'a>(rt: &'a HostRuntime, matches: &ArgMatches<'a>) -> Result<u8, Co
 fn list_text<'a>(
     rt: &HostRuntime,
     text: &DeckText<'_>,
-    has_references: bool,
+    order: Order,
     is_one_file: bool,
 ) -> Result<u8, CommandFault<'a>> {
     match Deck::read(rt.alloc(), text.text()) {
-        Ok(deck) => write_on_output(rt, text, &deck, has_references),
+        Ok(deck) => write_on_output(rt, text, &deck, order),
         Err(DeckFault::NoMemory) => Err(CommandFault::NoMemory),
         Err(DeckFault::At(..)) => {
             tell_unread(rt, text, is_one_file)?;
@@ -76,17 +99,23 @@ fn write_on_output<'a>(
     rt: &HostRuntime,
     text: &DeckText<'_>,
     deck: &Deck,
-    has_references: bool,
+    order: Order,
 ) -> Result<u8, CommandFault<'a>> {
-    match write_listing(rt.alloc(), &mut rt.stdout(), text, deck, has_references) {
-        Ok(outcome) => Ok(status_of(rt, outcome)),
+    match write_listing(
+        rt.alloc(),
+        &mut rt.stdout(),
+        text,
+        deck,
+        order.has_references,
+    ) {
+        Ok(outcome) => Ok(status_of(rt, outcome, order.is_strict)),
         Err(error) => Err(CommandFault::of_output(&error)),
     }
 }
 
 /// The exit status of a listing. That a deck has no source is told.
-fn status_of(rt: &HostRuntime, outcome: Outcome) -> u8 {
-    if outcome.faults > 0 {
+fn status_of(rt: &HostRuntime, outcome: Outcome, is_strict: bool) -> u8 {
+    if outcome.faults > 0 || (is_strict && outcome.warnings > 0) {
         return PERSON_NEEDED;
     }
     if outcome.sources == 0 {

@@ -3,6 +3,7 @@
 use s3_blame::diagnostic_words;
 use s3_cards::{Card, trim_end};
 use s3_decks::{Columns, push_characters, push_marks};
+use s3_warnings::WarningKind;
 use std::alloc::AllocError;
 
 /// How many columns of a card a listing shows.
@@ -48,6 +49,18 @@ pub fn push_diagnostic(
     marked: &[Columns],
 ) -> Result<(), AllocError> {
     push_fault(text, number, diagnostic_words(number), marked)
+}
+
+/// Appends a warning of a card: marks under its entries, and a line with W, the kind's number and its text.
+pub fn push_warning(
+    text: &mut String,
+    kind: WarningKind,
+    marked: &[Columns],
+) -> Result<(), AllocError> {
+    let number = kind.number();
+    let words = kind.words();
+    push_marks_line(text, marked)?;
+    writeln!(text, "   W{number}  {words}")
 }
 
 /// Appends a line that marks columns, where any are to be marked.

@@ -2,7 +2,8 @@
 //!
 //! What is proved: `notes_of_cards` gives for each card exactly the numbers that it has among a source's diagnostics, in order, each with
 //! exactly the columns of those of its entries that are at fault by it, and `notes_under` what that has for a card; `s3_blame` says which
-//! diagnostics and entries a source has, and has the one table of words. Each call is safe and returns. The layout, the tables behind the
+//! diagnostics and entries a source has, and has the one table of words, and `s3_warnings`
+//! which warnings. Each call is safe and returns. The layout, the tables behind the
 //! cards, and the columns that are marked for 5 to 12 are tested.
 
 #![tactic(auto)]
@@ -17,6 +18,7 @@ mod names;
 mod notes;
 mod source;
 mod tables;
+mod warned;
 
 pub use listing::{Outcome, write_listing};
 pub use notes::{CardNotes, Note, notes_of_cards, notes_under};

@@ -1,7 +1,7 @@
 //! The listing of a deck.
 
 use crate::card_lines::{push_card, push_fault, push_ruler};
-use crate::source::{SourceRange, push_program, push_source};
+use crate::source::{Found, SourceRange, push_program, push_source};
 use s3_cards::ebcdic::{ASTERISK, BLANK, LETTER_C, LETTER_F, LETTER_H, LETTER_I, LETTER_O};
 use s3_cards::{Card, Deck, is_digit, trim_end};
 use s3_decks::{Columns, DeckText, JobEntry, Statements, jobs_of};
@@ -17,18 +17,22 @@ pub struct Outcome {
     pub sources: usize,
     /// How many diagnostics and faulty statements they have together.
     pub faults: usize,
+    /// How many warnings they have together.
+    pub warnings: usize,
 }
 
 impl Outcome {
     const NONE: Outcome = Outcome {
         sources: 0,
         faults: 0,
+        warnings: 0,
     };
 
     fn with(self, other: Outcome) -> Outcome {
         Outcome {
             sources: self.sources.saturating_add(other.sources),
             faults: self.faults.saturating_add(other.faults),
+            warnings: self.warnings.saturating_add(other.warnings),
         }
     }
 }
@@ -60,21 +64,21 @@ fn push_heading(text: &mut String, deck: &Deck, job: &JobCards) -> Result<(), Al
     }
 }
 
-/// Appends the source of a compile job, and answers how many diagnostics it has.
+/// Appends the source of a compile job, and answers how many diagnostics and warnings it has.
 fn push_compiled(
     text: &mut String,
     alloc: Global,
     deck: &Deck,
     job: &JobCards,
     has_references: bool,
-) -> Result<usize, AllocError> {
+) -> Result<Found, AllocError> {
     let range = SourceRange {
         from: job.data_from(),
         to: job.data_to(),
     };
     // a job stands within its deck, which the type of a job doesn't say
     if range.to > deck.len() {
-        return Ok(0);
+        return Ok(Found::NOTHING);
     }
     push_source(text, alloc, deck, range, job.run_card(), has_references)
 }
@@ -167,6 +171,7 @@ fn push_job(
             Ok(Outcome {
                 sources: 0,
                 faults: 1,
+                warnings: 0,
             })
         }
     }
@@ -186,8 +191,12 @@ fn push_sound(
     }
     push_heading(text, listed.deck, cards)?;
     push_place(text, listed.files, number, job)?;
-    let faults = push_compiled(text, alloc, listed.deck, cards, listed.has_references)?;
-    Ok(Outcome { sources: 1, faults })
+    let found = push_compiled(text, alloc, listed.deck, cards, listed.has_references)?;
+    Ok(Outcome {
+        sources: 1,
+        faults: found.diagnostics,
+        warnings: found.warnings,
+    })
 }
 
 /// Writes what a listing has of a job, behind an empty line where something stands before it.

@@ -7,11 +7,13 @@ ghost use Rattle.s3_sheets.specs.Sheets.{sheet_diagnostics};
 use crate::card_lines::{push_card, push_diagnostic, push_ruler};
 use crate::notes::{CardNotes, notes_of_cards, notes_under};
 use crate::tables::push_tables;
+use crate::warned::{CardWarnings, count_of, push_warnings, warnings_of_cards};
 use s3_blame::{FaultyEntry, entries_of, told};
 use s3_cards::{Card, Deck, trim_end};
 use s3_decks::{keyword_columns, program_of, push_characters};
 use s3_lines::Diagnostic;
 use s3_sheets::{SheetFault, read_sheets};
+use s3_warnings::{Warning, warnings_of};
 use std::alloc::{AllocError, Global};
 
 /// Where a source stands in its deck, by places from 0.
@@ -28,6 +30,30 @@ pub struct SourceRange {
 struct Faults {
     diagnostics: Vec<Diagnostic>,
     entries: Vec<FaultyEntry>,
+}
+
+/// The notes under the cards of a source.
+#[derive(Drop)]
+struct SourceNotes {
+    diagnostics: CardNotes,
+    warnings: CardWarnings,
+}
+
+/// How much a listing finds in a source.
+#[derive(Clone, Copy)]
+pub struct Found {
+    /// How many diagnostics it has.
+    pub diagnostics: usize,
+    /// How many warnings it has.
+    pub warnings: usize,
+}
+
+impl Found {
+    /// No source, and so nothing.
+    pub const NOTHING: Found = Found {
+        diagnostics: 0,
+        warnings: 0,
+    };
 }
 
 /// Appends the name of the program that a source makes.
@@ -51,8 +77,9 @@ fn push_notes(text: &mut String, notes: &CardNotes, card: u16) -> Result<(), All
 /// Appends a card of a deck, by its number from 1, and what is wrong with it.
 fn push_source_card(
     text: &mut String,
+    alloc: Global,
     deck: &Deck,
-    notes: &CardNotes,
+    notes: &SourceNotes,
     number: u16,
 ) -> Result<(), AllocError> {
     let number_in_deck = usize::from(number);
@@ -60,20 +87,22 @@ fn push_source_card(
         return Ok(());
     };
     push_card(text, number_in_deck, card)?;
-    push_notes(text, notes, number)
+    push_notes(text, &notes.diagnostics, number)?;
+    push_warnings(text, alloc, &notes.warnings, number)
 }
 
 /// Appends the cards of a source, each with what is wrong with it.
 fn push_cards(
     text: &mut String,
+    alloc: Global,
     deck: &Deck,
     range: SourceRange,
-    notes: &CardNotes,
+    notes: &SourceNotes,
 ) -> Result<(), AllocError>
     requires { range.to ≤ 9_999 }
 {
     for place in range.from..range.to {
-        push_source_card(text, deck, notes, place as u16 + 1)?;
+        push_source_card(text, alloc, deck, notes, place as u16 + 1)?;
     }
     Ok(())
 }
@@ -114,7 +143,16 @@ fn push_count(text: &mut String, found: &[Diagnostic]) -> Result<(), AllocError>
     text.push_str("05 to 12 are hidden: they are looked for once 01 to 04 and 13 are mended\n")
 }
 
-/// Appends the cards of a source under a ruler, each with what is wrong with it, and how many diagnostics there are.
+/// Appends how many warnings there are, if any.
+fn push_warning_count(text: &mut String, count: usize) -> Result<(), AllocError> {
+    match count {
+        0 => Ok(()),
+        1 => text.push_str("1 warning\n"),
+        _ => writeln!(text, "{count} warnings"),
+    }
+}
+
+/// Appends the cards of a source under a ruler, each with what is wrong with it, and how many diagnostics and warnings there are.
 fn push_all_cards(
     text: &mut String,
     alloc: Global,
@@ -122,27 +160,42 @@ fn push_all_cards(
     range: SourceRange,
     run_card: u16,
     faults: &Faults,
+    warnings: &[Warning],
 ) -> Result<(), AllocError>
     requires { range.to ≤ 9_999 }
 {
-    let notes = notes_of_cards(alloc, &faults.diagnostics, &faults.entries)?;
-    push_noted_cards(text, deck, range, run_card, &notes)?;
-    push_count(text, &faults.diagnostics)
+    let notes = notes_of_source(alloc, faults, warnings)?;
+    push_noted_cards(text, alloc, deck, range, run_card, &notes)?;
+    push_count(text, &faults.diagnostics)?;
+    push_warning_count(text, count_of(warnings))
+}
+
+/// The notes under the cards of a source.
+fn notes_of_source(
+    alloc: Global,
+    faults: &Faults,
+    warnings: &[Warning],
+) -> Result<SourceNotes, AllocError> {
+    Ok(SourceNotes {
+        diagnostics: notes_of_cards(alloc, &faults.diagnostics, &faults.entries)?,
+        warnings: warnings_of_cards(alloc, warnings)?,
+    })
 }
 
 /// Appends the cards of a source under a ruler, each with its notes.
 fn push_noted_cards(
     text: &mut String,
+    alloc: Global,
     deck: &Deck,
     range: SourceRange,
     run_card: u16,
-    notes: &CardNotes,
+    notes: &SourceNotes,
 ) -> Result<(), AllocError>
     requires { range.to ≤ 9_999 }
 {
     push_ruler(text)?;
-    push_run(text, deck, notes, run_card)?;
-    push_cards(text, deck, range, notes)
+    push_run(text, deck, &notes.diagnostics, run_card)?;
+    push_cards(text, alloc, deck, range, notes)
 }
 
 /// Appends what a source has, if its cards have no fault of their own.
@@ -183,7 +236,40 @@ fn faults_of(
     })
 }
 
-/// Appends the listing of a source, and answers how many diagnostics it has.
+/// The warnings of a source whose cards have no fault of their own.
+fn warnings_on_sheets(
+    alloc: Global,
+    deck: &Deck,
+    range: SourceRange,
+) -> Result<Vec<Warning>, AllocError>
+    requires order { range.from ≤ range.to }
+    requires within { range.to ≤ length deck.now }
+{
+    match read_sheets(alloc, deck, range.from, range.to) {
+        Ok(lines) => warnings_of(alloc, &lines),
+        Err(SheetFault::NoMemory) => Err(AllocError),
+        Err(SheetFault::Diagnostics(_)) => Ok(Vec::new(alloc)),
+    }
+}
+
+/// The warnings of a source. One with diagnostics has none: what they hide isn't known.
+fn warnings_in(
+    alloc: Global,
+    deck: &Deck,
+    range: SourceRange,
+    faults: &Faults,
+) -> Result<Vec<Warning>, AllocError>
+    requires order { range.from ≤ range.to }
+    requires within { range.to ≤ length deck.now }
+{
+    if faults.diagnostics.is_empty() {
+        warnings_on_sheets(alloc, deck, range)
+    } else {
+        Ok(Vec::new(alloc))
+    }
+}
+
+/// Appends the listing of a source, and answers how many diagnostics and warnings it has.
 pub fn push_source(
     text: &mut String,
     alloc: Global,
@@ -191,13 +277,17 @@ pub fn push_source(
     range: SourceRange,
     run_card: u16,
     has_references: bool,
-) -> Result<usize, AllocError>
+) -> Result<Found, AllocError>
     requires order { range.from ≤ range.to }
     requires within { range.to ≤ length deck.now }
     requires short { range.to ≤ 9_999 }
 {
     let faults = faults_of(alloc, deck, range, run_card)?;
-    push_all_cards(text, alloc, deck, range, run_card, &faults)?;
+    let warnings = warnings_in(alloc, deck, range, &faults)?;
+    push_all_cards(text, alloc, deck, range, run_card, &faults, &warnings)?;
     push_what_it_has(text, alloc, deck, range, has_references)?;
-    Ok(faults.diagnostics.len())
+    Ok(Found {
+        diagnostics: faults.diagnostics.len(),
+        warnings: count_of(&warnings),
+    })
 }

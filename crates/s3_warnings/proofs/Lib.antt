@@ -1,0 +1,4 @@
+mod FactLemmas
+mod OverlapLemmas
+mod RangeLemmas
+mod Sampled
