@@ -59,7 +59,7 @@ pub fn push_diagnostic(
     push_fault(text, number, diagnostic_words(number), marked)
 }
 
-/// Appends a warning of a card: marks under its entries, and then W with the kind's number, and its words.
+/// Appends a warning of a card: marks under its entries, and a line with W, the kind's number and its text.
 pub fn push_warning(
     text: &mut String,
     kind: WarningKind,

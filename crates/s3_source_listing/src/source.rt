@@ -33,7 +33,7 @@ struct Faults {
     entries: Vec<FaultyEntry>,
 }
 
-/// What stands under the cards of a source.
+/// The notes under the cards of a source.
 #[derive(Drop)]
 struct SourceNotes {
     diagnostics: CardNotes,
@@ -175,7 +175,7 @@ fn push_all_cards(
     push_warning_count(text, count_of(warnings))
 }
 
-/// What stands under the cards of a source.
+/// The notes under the cards of a source.
 fn notes_of_source(
     alloc: Global,
     deck: &Deck,

@@ -12,7 +12,7 @@ use s3_lines::sheet::{
 pub struct IndicatorEntry {
     /// The indicator.
     pub indicator: Indicator,
-    /// Whether N stands before it: it must be off.
+    /// Whether it has N: the indicator must be off.
     pub negated: bool,
     /// The first column of the entry, from 1.
     pub from: usize,
@@ -54,7 +54,7 @@ fn condition_entry(from: usize, condition: Option<Condition>) -> Option<Indicato
     }
 }
 
-/// An entry, and behind it three conditions from a column on.
+/// An entry, and after it three conditions from a column on.
 fn with_conditions(
     first: Option<IndicatorEntry>,
     column: usize,
@@ -74,7 +74,7 @@ fn with_conditions(
     ]
 }
 
-/// An entry, and behind it three indicators from a column on, of two columns each.
+/// An entry, and after it three indicators from a column on, of two columns each.
 fn with_indicators(
     first: Option<IndicatorEntry>,
     column: usize,

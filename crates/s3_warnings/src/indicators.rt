@@ -47,13 +47,27 @@ fn needs_a_test(indicator: Indicator) -> bool
     )
 }
 
+/// Whether nothing turns on the indicator of an entry.
+fn is_never_set(known: &Known, entry: &IndicatorEntry) -> bool
+    ensures { result ≡ spec.is_never_set (facts_shown known.now) entry.now }
+{
+    needs_a_card(entry.indicator) && !known.set.contains(&entry.indicator.number())
+}
+
+/// Whether nothing tests the indicator of an entry.
+fn is_never_tested(known: &Known, entry: &IndicatorEntry) -> bool
+    ensures { result ≡ spec.is_never_tested (facts_shown known.now) entry.now }
+{
+    needs_a_test(entry.indicator) && !known.tested.contains(&entry.indicator.number())
+}
+
 /// The warning of an entry of a card that is tested, if nothing turns its indicator on.
 fn never_set(known: &Known, card: u16, entry: Option<IndicatorEntry>) -> Option<Warning>
     ensures { result ≡ warned_spec NeverSet card (spec.is_never_set (facts_shown known.now)) entry }
 {
     match entry {
         Some(entry) => {
-            let holds = needs_a_card(entry.indicator) && !known.set.contains(&entry.indicator);
+            let holds = is_never_set(known, &entry);
             warned(WarningKind::NeverSet, card, holds, entry)
         }
         None => None,
@@ -66,7 +80,7 @@ fn never_tested(known: &Known, card: u16, entry: Option<IndicatorEntry>) -> Opti
 {
     match entry {
         Some(entry) => {
-            let holds = needs_a_test(entry.indicator) && !known.tested.contains(&entry.indicator);
+            let holds = is_never_tested(known, &entry);
             warned(WarningKind::NeverTested, card, holds, entry)
         }
         None => None,

@@ -1,4 +1,4 @@
-//! The kinds of warnings, in numbers and in words.
+//! The kinds of warnings, with their numbers and texts.
 ghost use Rattle.std.specs.Prelude.{◌≡◌, IfOk};
 ghost use Rattle.s3_warnings.specs.Inner.Marking.{warned_if as warned_if_spec};
 ghost use Rattle.s3_warnings.specs.Inner.Words.{number_of, words_of};
@@ -36,7 +36,7 @@ impl WarningKind {
         WarningKind::Overlap,
     ];
 
-    /// The number behind the W, from 1.
+    /// The number after the W, from 1.
     pub fn number(self) -> u8
         ensures { result ≡ number_of self }
     {
@@ -51,7 +51,7 @@ impl WarningKind {
         }
     }
 
-    /// What it means. docs/MESSAGES.md has the same words, with causes and cures.
+    /// What it means. docs/MESSAGES.md has the same text, with causes and cures.
     pub fn words(self) -> &'static str
         ensures { result.now ≡ words_of self }
     {

@@ -1,5 +1,5 @@
 //! Fields of an output line that cover positions of earlier ones.
-ghost use Rattle.std.specs.Prelude.{◌≡◌, ◌≤◌, ◌+◌, ◌-◌, ◌++◌, ◌||◌, ℕ, nat_eq, IfOk, OnOk, is_some};
+ghost use Rattle.std.specs.Prelude.{◌≡◌, ◌<◌, ◌+◌, ◌-◌, ◌^◌, ◌++◌, ◌||◌, ℕ, nat_eq, IfOk, OnOk, is_some};
 ghost use Rattle.std.specs.List.{list_any, range_with_len};
 ghost use Rattle.indexmap.specs.IndexSet.{contains};
 ghost use Rattle.s3_warnings.specs.Inner.Overlaps as spec;
@@ -50,15 +50,15 @@ fn content_width(known: &Known, content: &OutputContent) -> usize
 
 /// The first position of a part of an output line that ends at another one.
 fn first_position(end: u16, width: usize) -> usize
-    ensures { result ≡ end + 1 - width }
+    ensures first { result ≡ end + 1 - width }
+    ensures within { result + width < 2 ^ 64 }
 {
     (usize::from(end) + 1).saturating_sub(width)
 }
 
 /// Adds so many positions, from one on.
 fn take_positions(taken: &mut IndexSet<usize>, first: usize, width: usize) -> Result<(), AllocError>
-    requires first { first ≤ 65536 }
-    requires width { width ≤ 65536 }
+    requires { first + width < 2 ^ 64 }
     ensures { OnOk result ((position : ℕ) → contains nat_eq taken.new position ≡ (contains nat_eq taken.old position || list_any (nat_eq position) (range_with_len first width))) }
 {
     for step in 0..width {
@@ -69,8 +69,7 @@ fn take_positions(taken: &mut IndexSet<usize>, first: usize, width: usize) -> Re
 
 /// Whether one of so many positions is taken, from one on.
 fn is_one_taken(taken: &IndexSet<usize>, first: usize, width: usize) -> bool
-    requires first { first ≤ 65536 }
-    requires width { width ≤ 65536 }
+    requires { first + width < 2 ^ 64 }
     ensures { result ≡ list_any (contains nat_eq taken.now) (range_with_len first width) }
 {
     for step in 0..width {

@@ -67,14 +67,28 @@ fn all_warnings(alloc: Global, known: &Known, lines: &[Line]) -> Result<Vec<Warn
     Ok(found)
 }
 
-/// The warnings of a source (docs/LISTINGS.md, "Warnings"), by card and then by kind, and then those of fields that cover others. The lines are those of a source without
-/// diagnostics, as `read_sheets` gives them. It is refused only where memory runs out.
+/// All warnings, given tables of what all lines say.
+fn warnings_by_known(
+    alloc: Global,
+    known: &Known,
+    lines: &[Line],
+) -> Result<Vec<Warning>, AllocError>
+    requires { facts_shown known.now ≡ facts_of lines.now }
+    ensures { IfOk result (λ found. found.items ≡ warnings lines.now) }
+{
+    let found = all_warnings(alloc, known, lines)?;
+    Ok(found)
+}
+
+/// The warnings of a source (docs/LISTINGS.md, "Warnings"), by card and then by kind, and then those of fields that cover others. The
+/// lines are those of a source without diagnostics, as `read_sheets` gives them. It is refused only where memory runs out.
+#[tactic(auto, using(crate::proofs::RangeLemmas::ranged_of_read))]
 pub fn warnings_of(alloc: Global, lines: &[Line]) -> Result<Vec<Warning>, AllocError>
     requires { IsTrue (are_read lines.now) }
     ensures { IfOk result (λ found. found.items ≡ warnings lines.now) }
 {
     let known = known_of(alloc, lines)?;
-    let found = all_warnings(alloc, &known, lines);
+    let found = warnings_by_known(alloc, &known, lines);
     drop(known);
     found
 }

@@ -1,5 +1,5 @@
--- The indicators on a card, by what the card does with them: those that it tests, those that may go on by what it says, and those that it
--- turns on or off for the sake of a test alone. Each has its columns.
+-- The indicators on a card, each with its columns, by what the card does with them. It tests some, turns some on, and turns some on or off
+-- for the sake of a test alone.
 use Rattle.std.specs.Prelude.{ℕ, ◌+◌, Bool, true, false, List, [], ◌∷◌, Option, Some, None}
 use Rattle.s3_cards.specs.declared.name.Name.{Name}
 use Rattle.s3_lines.specs.Inner.Blanks.{none_of_three}
@@ -34,14 +34,16 @@ condition_entry from None = None
 condition_entry from (Some condition) =
     Some (record { indicator = condition.indicator; negated = condition.negated; from = from; to = from + 2 })
 
--- conditions one behind the other, of three columns each, and indicators, of two
-unfoldable pub conditions_from : (column : ℕ) → List (Option Condition) → Entries
-conditions_from column [] = []
-conditions_from column (condition ∷ conditions) = condition_entry column condition ∷ conditions_from (column + 3) conditions
+-- three conditions one after the other, of three columns each, and three indicators, of two
+abbrev pub conditions_from : (column : ℕ) → List (Option Condition) → Entries
+conditions_from column (one ∷ two ∷ three ∷ _) =
+    condition_entry column one ∷ condition_entry (column + 3) two ∷ condition_entry (column + 3 + 3) three ∷ []
+conditions_from column _ = none_of_three
 
-unfoldable pub indicators_from : (column : ℕ) → List (Option Indicator) → Entries
-indicators_from column [] = []
-indicators_from column (indicator ∷ indicators) = entry column (column + 1) indicator ∷ indicators_from (column + 2) indicators
+abbrev pub indicators_from : (column : ℕ) → List (Option Indicator) → Entries
+indicators_from column (one ∷ two ∷ three ∷ _) =
+    entry column (column + 1) one ∷ entry (column + 2) (column + 2 + 1) two ∷ entry (column + 2 + 2) (column + 2 + 2 + 1) three ∷ []
+indicators_from column _ = none_of_three
 
 abbrev pub alone : Option IndicatorEntry → Entries
 alone first = first ∷ none_of_three

@@ -19,7 +19,7 @@ use Rattle.s3_warnings.specs.Inner.Entries.{Entries, tested_on, set_on}
 -- ---- indicators
 abbrev pub is_entry_of : Indicator → Option IndicatorEntry → Bool
 is_entry_of indicator None = false
-is_entry_of indicator (Some entry) = same_indicator indicator entry.indicator
+is_entry_of indicator (Some entry) = same_indicator entry.indicator indicator
 
 abbrev pub is_among : Indicator → Entries → Bool
 is_among indicator entries = list_any (is_entry_of indicator) entries

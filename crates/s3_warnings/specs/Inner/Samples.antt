@@ -51,7 +51,7 @@ tests condition = if_on Detail (Some condition ∷ None ∷ None ∷ [])
 abbrev pub turns : Operation → Indicator → SheetLine
 turns operation indicator = c (record (bare Detail operation) { indicators = marked indicator })
 
--- a program of four cards that reads, and one that prints: these lines stand between, from card 5 on
+-- these lines from card 5 on, after the four cards of a program that reads, and before the line that it prints
 abbrev pub around : List SheetLine → List SheetLine
 around lines =
     sheet.File card_file ∷ sheet.File print_file ∷ record_of name_r 1 ∷ field name_a 1 3 (Zoned 0) ∷ lines ++ line_card (Some name_p) ∷ []
@@ -101,7 +101,7 @@ indicators =
     ∷
     (around (turns op.SetOn (Halt 1) ∷ turns op.SetOn LastRecord ∷ []), [])
     ∷
-    -- that of a field
+    -- the indicator of a field
     (around (sheet.Input (FieldOfRecord (record (field_line name_a 1 3 (Zoned 0)) { indicators = marked (General 50) })) ∷ []), warning NeverTested 5 65 66 ∷ [])
     ∷ []
 
@@ -162,7 +162,7 @@ results =
     ∷
     (around (into op.Subtract 2 0 (named name_x) (named name_a) ∷ []), warning ShortResult 5 43 48 ∷ [])
     ∷
-    -- 4 digits, of which 2 stand in front of the point
+    -- 4 digits, of which 2 are decimals
     (around (into op.ZeroAdd 4 2 None (named name_a) ∷ []), warning ShortResult 5 43 48 ∷ [])
     ∷
     (around (into op.ZeroSubtract 1 0 None (digits 2 0) ∷ []), warning ShortResult 5 43 48 ∷ [])

@@ -1,4 +1,4 @@
--- The number and the words of each kind of warning.
+-- The number and the text of each kind of warning.
 use Rattle.std.specs.Prelude.{ℕ, List, codes}
 use Rattle.s3_warnings.specs.declared.kinds.WarningKind.{WarningKind}
 use Rattle.s3_warnings.specs.declared.kinds.WarningKind.TheVariants.{NeverSet, NeverTested, Contradiction, NeverRead, NeverWritten, ShortResult, Overlap}

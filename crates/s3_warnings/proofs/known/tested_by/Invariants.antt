@@ -1,9 +1,10 @@
 use Rattle.std.proofs.Common.{◌≡◌, take}
+use Rattle.std.specs.Prelude.{nat_eq}
 use Rattle.indexmap.specs.IndexSet.{contains}
-use Rattle.s3_lines.specs.Indicators.{same_indicator}
+use Rattle.s3_lines.specs.Indicators.{indicator_number}
 use Rattle.s3_lines.specs.declared.indicator.Indicator.{Indicator}
 use Rattle.s3_warnings.specs.Inner.Facts.{is_tested_by}
 use Rattle.s3_warnings.proofs.known.tested_by.Given as goal
 
 abbrev pub invariant-loop-line : goal.invariant-loop-line
-invariant-loop-line l = (indicator : Indicator) → contains same_indicator l.set indicator ≡ is_tested_by (take l.line-index l.lines) indicator
+invariant-loop-line l = (indicator : Indicator) → contains nat_eq l.set (indicator_number indicator) ≡ is_tested_by (take l.line-index l.lines) indicator

@@ -7,4 +7,4 @@ note_shape-requires c = ranged_at c.args.lines.now c.loop-line.line-index _ c.lo
 
 pub loop-line-preserved : goal.loop-line-preserved
 loop-line-preserved c =
-    shapes_more c.args.shapes.old.entries c.loop-line.shapes.entries c.note_shape.new.shapes.entries c.args.lines.now c.loop-line.line-index _ c.loop-line-test.true c.in_ok-note_shape.ensures c.loop-line.invariant
+    shapes_more c.args.shapes.now.entries c.loop-line.shapes.entries c.note_shape.new.shapes.entries c.args.lines.now c.loop-line.line-index _ c.loop-line-test.true c.in_ok-note_shape.ensures c.loop-line.invariant
