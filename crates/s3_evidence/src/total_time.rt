@@ -1,4 +1,6 @@
 //! Which lines of a source are carried out at total time, before a record that was read is processed.
+ghost use Rattle.std.specs.Prelude.{◌≡◌};
+ghost use Rattle.s3_evidence.specs.Inner.Totals.{is_last_record as is_last_record_spec, is_total_behind as is_total_behind_spec};
 
 use crate::begun::Source;
 use s3_lines::indicator::Indicator;
@@ -61,7 +63,9 @@ impl Source {
 }
 
 /// Whether a calculation is one of totals, behind one that is or isn't.
-fn is_total_behind(was_total: bool, time: CalculationTime) -> bool {
+fn is_total_behind(was_total: bool, time: CalculationTime) -> bool
+    ensures { result ≡ is_total_behind_spec was_total time }
+{
     match time {
         CalculationTime::Total(indicator) => !is_last_record(indicator),
         CalculationTime::Detail | CalculationTime::Subroutine => false,
@@ -76,7 +80,10 @@ fn is_total_line(line: &Line) -> bool {
     }
 }
 
-fn is_last_record(indicator: Indicator) -> bool {
+/// Whether it is LR.
+fn is_last_record(indicator: Indicator) -> bool
+    ensures { result ≡ is_last_record_spec indicator }
+{
     matches!(indicator, Indicator::LastRecord)
 }
 
