@@ -181,13 +181,14 @@ fn replaced_file(alloc: Global, words: &LoadWords<'_>, pack: &[u8]) -> Option<Re
     if words.appends {
         return None;
     }
-    match find_file(alloc, pack, Area::Level(words.level), words.name) {
-        Ok((_, label)) => Some(ReplacedFile {
-            records: label.count,
-            date: label.date,
-        }),
-        Err(_) => None,
-    }
+    let (_store, label) = match find_file(alloc, pack, Area::Level(words.level), words.name) {
+        Ok(found) => found,
+        Err(_) => return None,
+    };
+    Some(ReplacedFile {
+        records: label.count,
+        date: label.date,
+    })
 }
 
 /// How many records the file of a pack has that was loaded.
