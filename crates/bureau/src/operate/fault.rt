@@ -144,15 +144,11 @@ impl<'a> DayFault<'a> {
                 );
             }
             DayFault::Unsynced(name) => {
-                return tell_file(
-                    writer,
-                    *name,
-                    "is saved, but may not survive a power cut",
-                );
+                return tell_file(writer, *name, "is saved, but may not survive a power cut");
             }
             DayFault::InUse(name) => (
                 *name,
-                "is in use: another command saves to it, or writes it; try again when that one is done",
+                "is in use: another command saves to it or writes it; try again when that one is done",
             ),
             DayFault::PackAsDeck(name) => (*name, "is a pack, not a deck; name it after --pack"),
             DayFault::Exists(name) => (
