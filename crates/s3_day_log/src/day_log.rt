@@ -2,7 +2,7 @@
 
 use crate::event::{Begun, DayOver, Event, LoggedReply, NamedFile};
 use crate::reading::event_of;
-use crate::standing::{Standing, standing};
+use crate::which_pack::{Standing, standing_of};
 use s3_cards::LevelId;
 use s3_operator::allowed;
 use std::alloc::{AllocError, AllocFailed, Global};
@@ -174,7 +174,7 @@ impl DayLog {
     fn test_pack(&self, pack: Option<&str>) -> Result<(), Refused> {
         let logged = self.begun.pack.as_ref().map(|file| file.sha256.as_str());
         let saved = self.saved.as_ref().map(|sum| sum.as_str());
-        match standing(logged == pack, pack.is_some() && saved == pack) {
+        match standing_of(logged == pack, pack.is_some() && saved == pack) {
             Standing::First => Ok(()),
             Standing::Saved => Err(Refused::IsSaved),
             Standing::Other => Err(Refused::Pack),

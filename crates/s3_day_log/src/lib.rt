@@ -16,7 +16,7 @@ mod event;
 mod ledger;
 mod members;
 mod reading;
-mod standing;
+mod which_pack;
 mod words;
 mod writing;
 
@@ -28,5 +28,5 @@ pub use event::{
     Begun, DayOver, Event, JobBegun, JobEnd, JobOver, LoggedHalt, LoggedReply, NamedFile, Replier,
 };
 pub use ledger::{BegunJob, Ledger, Purpose};
-pub use standing::{Standing, standing};
+pub use which_pack::{Standing, standing_of};
 pub use writing::line_of;

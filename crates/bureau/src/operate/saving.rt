@@ -31,6 +31,9 @@ pub fn end_day<'n>(
     over: &Over,
     locked: Option<LockedPack>,
 ) -> Result<u8, DayFault<'n>> {
+    if desk.has_script() {
+        sync(rt, &kept.script, order.script)?;
+    }
     let Some(path) = order.save else {
         if over.is_told(order) {
             desk.tell("nothing is saved: there is no --save\n");
@@ -59,8 +62,8 @@ pub fn end_day<'n>(
     }
 }
 
-/// Logs that the pack is going to be saved, and brings script and log to the disk: so whoever finds a log without an end can tell by
-/// the pack whether it is saved.
+/// Logs that the pack is going to be saved, and brings the log to the disk: so whoever finds a log without an end can tell by the pack
+/// whether it is saved.
 fn note_saving<'n>(
     rt: &HostRuntime,
     order: &Order<'n>,
@@ -73,23 +76,21 @@ fn note_saving<'n>(
         desk.note(Event::Saving { pack })?;
     }
     test_outputs(order, desk)?;
-    sync_outputs(rt, order, desk, kept)
+    sync_log(rt, order, desk, kept)
 }
 
-/// Brings script and log to the disk, unless the operator went on without them.
-fn sync_outputs<'n>(
+/// Brings the log to the disk, unless the operator went on without it.
+fn sync_log<'n>(
     rt: &HostRuntime,
     order: &Order<'n>,
     desk: &OwnDesk<'_>,
     kept: &KeptOutputs,
 ) -> Result<(), DayFault<'n>> {
-    if desk.has_script() {
-        sync(rt, &kept.script, order.script)?;
-    }
     if desk.has_log() {
-        sync(rt, &kept.log, order.log)?;
+        sync(rt, &kept.log, order.log)
+    } else {
+        Ok(())
     }
-    Ok(())
 }
 
 /// Brings an output to the disk.
@@ -181,7 +182,7 @@ fn end_over_saved<'n>(
         let path = saving.path;
         let _ = writeln!(
             rt.stderr(),
-            "the end of the day isn't in {log}, which can't be written; the pack is saved in {path} all the same"
+            "{log} may lack the end of the day; the pack is saved in {path} all the same"
         );
     }
     ended
@@ -252,7 +253,7 @@ fn end_declined<'n>(
     Ok(PERSON_NEEDED)
 }
 
-/// Logs the end of the day, and brings script and log to the disk.
+/// Logs the end of the day, and brings the log to the disk.
 fn log_end<'n>(
     rt: &HostRuntime,
     order: &Order<'n>,
@@ -266,7 +267,7 @@ fn log_end<'n>(
     }
     desk.tell_log_failure()?;
     test_written(order, desk)?;
-    sync_outputs(rt, order, desk, kept)
+    sync_log(rt, order, desk, kept)
 }
 
 /// The pack as the log has it.

@@ -7,8 +7,8 @@ use Rattle.s3_day_log.specs.declared.endings.LevelEnd.{LevelEnd}
 use Rattle.s3_day_log.specs.declared.endings.LevelEnd.TheVariants.{Done, Halted, CutByTurns, CutByLines, Stopped, Unread}
 use Rattle.s3_day_log.specs.declared.endings.Verdict.{Verdict}
 use Rattle.s3_day_log.specs.declared.endings.Verdict.TheVariants.{Clean, Passed, Unfinished}
-use Rattle.s3_day_log.specs.declared.standing.Standing.{Standing}
-use Rattle.s3_day_log.specs.declared.standing.Standing.TheVariants.{First, Saved, Other}
+use Rattle.s3_day_log.specs.declared.which_pack.Standing.{Standing}
+use Rattle.s3_day_log.specs.declared.which_pack.Standing.TheVariants.{First, Saved, Other}
 use Rattle.s3_day_log.specs.declared.ledger.BegunJob.{BegunJob}
 use Rattle.s3_operator.specs.Inner.Starts.{is_at_start}
 use Rattle.s3_operator.specs.declared.halt_code.HaltCode.{HaltCode}

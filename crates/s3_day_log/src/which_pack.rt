@@ -14,7 +14,7 @@ pub enum Standing {
 }
 
 /// Which pack of a logged day a pack is. A day that has changed nothing may be done once more.
-pub fn standing(is_first: bool, is_saved: bool) -> Standing
+pub fn standing_of(is_first: bool, is_saved: bool) -> Standing
     ensures { result ≡ standing_of is_first is_saved }
 {
     if is_first {
