@@ -28,7 +28,6 @@ mod watched;
 pub use exchange::{INPUT_LIMIT, session, session_on};
 pub use fault::{CliFault, SessionFault, tell};
 pub use input::{ReadFault, read_within};
-pub use output::write_output;
 pub use packs::{list, write_table};
 pub use parts::{Parts, split_parts};
 pub use s3_bureau::RunFault;

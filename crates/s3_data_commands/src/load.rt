@@ -185,10 +185,9 @@ fn replaced_file(alloc: Global, words: &LoadWords<'_>, pack: &[u8]) -> Option<Re
         Ok(found) => found,
         Err(_) => return None,
     };
-    Some(ReplacedFile {
-        records: label.count,
-        date: label.date,
-    })
+    let records = label.count;
+    let date = label.date;
+    Some(ReplacedFile { records, date })
 }
 
 /// How many records the file of a pack has that was loaded.
