@@ -103,7 +103,7 @@ fn explain(rt: &HostRuntime, error: &Error) -> u8
 }
 
 /// Does what the command asks, and gives the exit status.
-fn perform<'a>(rt: &'a HostRuntime, matches: &'a ArgMatches<'a>, words: &[String]) -> u8
+fn perform<'a>(rt: &'a HostRuntime, matches: &ArgMatches<'a>, words: &[String]) -> u8
     ensures { result ≤ 5 }
 {
     let Some((name, matches)) = matches.subcommand() else {

@@ -23,7 +23,7 @@ use day::{Prepared, operate_prepared};
 use fault::DayFault;
 use inherited_words::words_again;
 use inputs::{DayPack, Decks, read_log, read_rules};
-use order::Order;
+use order::{Order, names};
 use outputs::{Outputs, test_outputs};
 use s3_cards::LevelId;
 use s3_cli::{CliFault, RunFault, SessionFault};
@@ -47,7 +47,7 @@ struct Again<'a> {
 
 /// Does what the words of `bureau operate` ask, and gives the exit status. The words as they were given, behind `operate`, are
 /// for the log.
-pub fn operate<'a>(rt: &'a HostRuntime, matches: &'a ArgMatches<'a>, words: &[String]) -> u8
+pub fn operate<'a>(rt: &'a HostRuntime, matches: &ArgMatches<'a>, words: &[String]) -> u8
     ensures { result ≤ 5 }
 {
     match matches.get_str("redo") {
@@ -105,7 +105,7 @@ fn operate_again(rt: &HostRuntime, matches: &ArgMatches<'_>, words: &[String], p
 /// Does the day of a log again, by all its words.
 fn operate_parsed<'a>(
     rt: &'a HostRuntime,
-    parsed: &'a ArgMatches<'a>,
+    parsed: &ArgMatches<'a>,
     whole: &[String],
     path: &'a str,
     log: &'a DayLog,
@@ -143,11 +143,13 @@ fn refuse_log(rt: &HostRuntime, path: &str) -> u8
 /// Does a day, or lists its jobs. It is refused before the first turn, or only if memory runs out or a file fails.
 fn operate_with<'a>(
     rt: &'a HostRuntime,
-    matches: &'a ArgMatches<'a>,
+    matches: &ArgMatches<'a>,
     words: &[String],
     again: Option<Again<'a>>,
 ) -> Result<u8, DayFault<'a>> {
-    let order = match Order::read(rt, matches) {
+    let deck1 = names(rt, matches, "deck1")?;
+    let deck2 = names(rt, matches, "deck2")?;
+    let order = match Order::read(rt, matches, deck1, deck2) {
         Ok(order) => order,
         Err(reason) => return Err(DayFault::Usage(reason)),
     };

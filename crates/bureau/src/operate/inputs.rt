@@ -110,8 +110,8 @@ impl<'a> Decks<'a> {
         words: &[String],
         is_logged: bool,
     ) -> Result<Decks<'a>, DayFault<'a>> {
-        let one = LevelDeck::read(rt, LevelId::One, order.deck1, is_logged)?;
-        let two = LevelDeck::read(rt, LevelId::Two, order.deck2, is_logged)?;
+        let one = LevelDeck::read(rt, LevelId::One, &order.deck1, is_logged)?;
+        let two = LevelDeck::read(rt, LevelId::Two, &order.deck2, is_logged)?;
         let words = words_kept(rt.alloc(), words)?;
         Ok(Decks::of(words, one, two))
     }

@@ -5,6 +5,7 @@ use clap::ArgMatches;
 use s3_decks::Position;
 use s3_desk::Bounds;
 use s3_operating::Questioned;
+use std::alloc::AllocError;
 use std::io::IsTerminal;
 
 /// The most turns of a level, where the words don't say it: some five seconds of a program that only jumps.
@@ -20,16 +21,16 @@ const STANDARD_INPUT: &str = "-";
 const TWICE: &str = "--replies takes one file, and - once";
 
 /// What the options of `operate` ask for.
-#[derive(Clone, Copy)]
+#[derive(Drop)]
 pub struct Order<'a> {
     /// The pack that is read.
     pub pack: Option<&'a str>,
     /// Where the pack is saved.
     pub save: Option<&'a str>,
     /// The files of level 1's deck.
-    pub deck1: &'a [&'a str],
+    pub deck1: Vec<&'a str>,
     /// The files of level 2's deck.
-    pub deck2: &'a [&'a str],
+    pub deck2: Vec<&'a str>,
     /// The rules.
     pub rules: Option<&'a str>,
     /// Who is asked where no rule answers.
@@ -61,8 +62,13 @@ pub struct Order<'a> {
 }
 
 impl<'a> Order<'a> {
-    /// What the options ask for, or why they name no day.
-    pub fn read(rt: &HostRuntime, words: &'a ArgMatches<'a>) -> Result<Order<'a>, &'static str> {
+    /// What the options ask for, with the files of both decks, or why they name no day.
+    pub fn read(
+        rt: &HostRuntime,
+        words: &ArgMatches<'a>,
+        deck1: Vec<&'a str>,
+        deck2: Vec<&'a str>,
+    ) -> Result<Order<'a>, &'static str> {
         let (rules, has_lines) = replies_of(words)?;
         let from1 = position(words, "from1")?;
         let from2 = position(words, "from2")?;
@@ -70,8 +76,8 @@ impl<'a> Order<'a> {
         Ok(Order {
             pack: words.get_str("pack"),
             save: words.get_str("save"),
-            deck1: words.get_strs("deck1").unwrap_or(&[]),
-            deck2: words.get_strs("deck2").unwrap_or(&[]),
+            deck1,
+            deck2,
             rules,
             questioned: questioned(rt, has_lines),
             bounds: Bounds {
@@ -91,6 +97,19 @@ impl<'a> Order<'a> {
             is_quiet: words.get_flag("quiet"),
         })
     }
+}
+
+/// The names that an option was given with, in their order.
+pub fn names<'a>(
+    rt: &HostRuntime,
+    words: &ArgMatches<'a>,
+    word: &str,
+) -> Result<Vec<&'a str>, AllocError> {
+    let mut names = Vec::new(rt.alloc());
+    for name in words.get_strs(word).unwrap_or(&[]) {
+        names.push(*name)?;
+    }
+    Ok(names)
 }
 
 /// The file of rules, and whether standard input is a list of replies.
