@@ -1,4 +1,14 @@
-//! The values of a run: numbers and texts by slot, of fields and of literals, the indicators, and what the last division leaves.
+//! The values of a job: numbers and texts of fields and literals by slot, indicators, and the remainder of the last division.
+//!
+//! Proved:
+//!
+//! - `Values::new` begins as the reference model's first environment of a job. Zero and the literals of its cards follow its fields.
+//! - `number`, `put_number` and `forget_remainder` keep of a number what the reference model keeps. `Texts::text`, `put`, `copy`,
+//!   `put_number` and `clear` keep each text in the place of its slot.
+//! - `Indicators::is_on`, `set` and `turn`: an indicator is on or off, never both, and a call changes only its own.
+//! - `Values::turn`, `turn_levels`, `raise_levels` and `turn_last_record_on` turn the cycle's indicators as the reference model does.
+//! - `key_of` and `zoned_key`: what a CHAIN seeks is what the reference model seeks.
+//! - `lay` and `lay_within`: bytes that are laid over others are there unchanged.
 #![tactic(auto)]
 
 pub mod beginning;
