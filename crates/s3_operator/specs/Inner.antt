@@ -2,3 +2,4 @@
 pub mod Halts
 pub mod Samples
 pub mod Starts
+pub mod Codes

@@ -1,5 +1,6 @@
 //! What is known of each halt, in one table: its letters, what it means, and what replies do.
-ghost use Rattle.std.specs.Prelude.{◌≡◌, IfSome};
+ghost use Rattle.std.specs.Prelude.{◌≡◌};
+ghost use Rattle.s3_operator.specs.Inner.Codes.{IsCodeOf, has_letters};
 ghost use Rattle.s3_operator.specs.Table.{kind_of, letters_of};
 
 use crate::halt_code::{HALTS, HaltCode};
@@ -149,9 +150,19 @@ pub fn letters(code: HaltCode) -> [u8; 2]
     row(code).letters
 }
 
-/// The halt that has these two letters, in ASCII; `None` where no halt has them.
+/// The halt that has these two letters, in ASCII; `None` if no halt has them.
 pub fn code_of(letters: [u8; 2]) -> Option<HaltCode>
-    ensures { IfSome result (λ code. letters_of code ≡ letters) }
+    ensures { IsCodeOf letters result }
 {
-    HALTS.into_iter().find(|code| row(*code).letters == letters)
+    HALTS
+        .iter()
+        .find(|code| has_letters(**code, letters))
+        .copied()
+}
+
+/// Whether a halt has these letters.
+fn has_letters(code: HaltCode, letters: [u8; 2]) -> bool
+    ensures { result ≡ has_letters letters code }
+{
+    row(code).letters == letters
 }

@@ -4,8 +4,8 @@
 //! What is proved: `allowed` is the table of replies, for every halt and every digit (`replies_are_by_table`).
 //! `HaltLog::show` puts one halt behind the others, and changes nothing where memory is refused. `reply` fills in the halt
 //! that waits, or refuses exactly where none waits or the halt doesn't allow the digit, and then changes nothing; it takes
-//! no memory (`a_reply_is_kept_once` has worked rows). `letters` gives the two letters of each halt, and `code_of` a halt only
-//! for its own letters. The words of halts, replies and refusals are only tested.
+//! no memory (`a_reply_is_kept_once` has worked rows). `letters` gives the two letters of each halt. `code_of` gives a halt for
+//! its own letters, and `None` only if no halt has them. The words of halts, replies and refusals are only tested.
 
 #![tactic(auto)]
 
