@@ -1,13 +1,14 @@
 -- Parts of a list of bytes, and what a write of one part leaves of another.
-use Rattle.std.proofs.Common.{◌≡◌, ◌≢◌, ℕ, zero, suc, ◌+◌, ◌-◌, ◌*◌, ◌<◌, ◌≤◌, ◌⊎◌, inl, inr, List, [], ◌∷◌, ◌++◌, length, take, drop, map, slice_get, slice_set, Some, refl, sym, ap, ◌∙◌, arith, length-drop, length-take-le}
-use Rattle.std.proofs.lemmas.List.{drop-drop, drop-take, take-take}
+use Rattle.std.proofs.Common.{Result, Ok, Err, OnErr, ◌≡◌, ◌≢◌, ℕ, zero, suc, ◌+◌, ◌-◌, ◌*◌, ◌<◌, ◌≤◌, ◌⊎◌, inl, inr, List, [], ◌∷◌, ◌++◌, length, take, drop, map, slice_get, slice_set, Some, refl, sym, ap, ◌∙◌, arith, length-drop, length-take-le}
+use Rattle.std.proofs.lemmas.List.{drop-drop, drop-take, take-take, take-append-drop}
 use Rattle.std.proofs.Math.Seq.{take-add}
-use Rattle.std.proofs.lemmas.Slice.{take-put_mid}
-use borrow.Rule.Slice.PartMut.{put_mid, same_len_mid}
+use Rattle.std.proofs.lemmas.Slice.{take-put_mid, drop-put_mid}
+use borrow.Rule.Slice.PartMut.{put_mid, put_same, same_len_mid}
 use Rattle.std.specs.List.{range_with_len}
 use Rattle.s3_store.specs.Bytes.{part}
 use Rattle.s3_store.specs.Inner.Bytes.{SameOutside}
 use Rattle.s3_files.specs.Records.{parts}
+use Rattle.s3_files.specs.Inner.Files.{IsReadInPart}
 
 pub same-trans : (at width : ℕ) (s t u : List ℕ) → SameOutside at width s t → SameOutside at width t u → SameOutside at width s u
 same-trans at width s t u first second = record { before = second.before ∙ first.before; after = second.after ∙ first.after }
@@ -133,6 +134,25 @@ take-over done count bytes piece long fits = take-put_mid done (done + count - d
 
 pub length-over : (done count : ℕ) (bytes piece : List ℕ) → length piece ≡ count → done + count ≤ length bytes → done + count ≤ length (put_mid done (done + count - done) bytes piece)
 length-over done count bytes piece long fits = omega (arith, same_len_mid done (done + count - done) bytes piece (long ∙ sym (length-between done count bytes fits)))
+
+-- what lies past the pieces that were read stays
+pub rest-over : (done count : ℕ) (bytes piece old : List ℕ) → length piece ≡ count → done + count ≤ length bytes → drop done bytes ≡ drop done old → drop (done + count) (put_mid done (done + count - done) bytes piece) ≡ drop (done + count) old
+rest-over done count bytes piece old long fits same =
+    drop-put_mid done (done + count - done) bytes piece (done + count) (omega arith) (omega (arith, fits)) (omega (arith, long))
+    ∙ sym (drop-drop count done bytes) ∙ ap (drop count) same ∙ drop-drop count done old
+
+-- what holds is said of a refusal
+pub on_err : {T E : Type 0} {P : Type 0} (result : Result T E) → P → OnErr result P
+on_err (Ok _) holds = tt
+on_err (Err _) holds = holds
+
+-- a piece that isn't read leaves those before it
+pub read-in-part : (done count at : ℕ) (bytes piece old file : List ℕ) → piece ≡ take (done + count - done) (drop done bytes) → done ≤ length old → take done bytes ≡ part file at done → drop done bytes ≡ drop done old → IsReadInPart (part file at (length old)) old (put_mid done (done + count - done) bytes piece)
+read-in-part done count at bytes piece old file kept within read same = (
+  done,
+  ap (put_mid done (done + count - done) bytes) kept ∙ put_same done (done + count - done) bytes ∙ sym (take-append-drop done bytes)
+      ∙ ap (λ l. l ++ drop done bytes) (read ∙ sym (take-take done (length old) (drop at file) within)) ∙ ap (λ l. take done (part file at (length old)) ++ l) same,
+)
 
 pub same-wider-by : (at done count : ℕ) (bytes s t : List ℕ) → done + count ≤ length bytes → SameOutside (at + done) (length (take (done + count - done) (drop done bytes))) s t → SameOutside at (length bytes) s t
 same-wider-by at done count bytes s t fits same = same-wider at (length bytes) (at + done) (length (take (done + count - done) (drop done bytes))) s t (omega arith) (omega (arith, length-between done count bytes fits)) same

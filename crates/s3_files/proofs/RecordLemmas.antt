@@ -1,9 +1,10 @@
 -- The records in the bytes of a file, when one of them is read or written.
-use Rattle.std.proofs.Common.{◌≡◌, ◌<◌, ◌≤◌, ◌+◌, ◌*◌, ℕ, List, [], ◌∷◌, ◌++◌, length, slice_get, slice_set, Some, arith}
+use Rattle.std.proofs.Common.{◌≡◌, ◌<◌, ◌≤◌, ◌+◌, ◌*◌, ℕ, List, [], ◌∷◌, ◌++◌, length, slice_get, slice_set, Some, sym, subst, ◌∙◌, arith}
 use Rattle.std.proofs.Math.Nat.{mul-le-mul_left}
 use Rattle.s3_store.specs.Bytes.{part}
 use Rattle.s3_store.specs.Inner.Bytes.{SameOutside}
 use Rattle.s3_files.specs.Records.{records_in}
+use Rattle.s3_files.specs.Inner.Files.{IsReadInPart}
 use Rattle.s3_files.proofs.PartLemmas.{length-parts, slice_get-parts, parts-set, parts-push, parts-before, end_to_end}
 
 pub length_records : (long count : ℕ) (bytes : List ℕ) → length (records_in long count bytes) ≡ count
@@ -13,6 +14,13 @@ length_records long count bytes = length-parts (λ i. i * long) long count bytes
 pub get_record : (long count i : ℕ) (bytes : List ℕ) → i < count → slice_get (records_in long count bytes) i ≡ Some (part bytes (i * long) long)
 unfolding records_in
 get_record long count i bytes h = slice_get-parts (λ i. i * long) long count bytes i h
+
+-- what was read in part is the record that is there
+pub of_record : (long count i : ℕ) (bytes old new whole : List ℕ) → i < count → slice_get (records_in long count bytes) i ≡ Some whole → IsReadInPart (part bytes (i * long) long) old new → IsReadInPart whole old new
+of_record long count i bytes old new whole within there partly =
+    let some : Some (part bytes (i * long) long) ≡ Some whole = sym (get_record long count i bytes within) ∙ there in
+    let same : part bytes (i * long) long ≡ whole = cc in
+    subst (λ w. IsReadInPart w old new) same partly
 
 pub records_set : (long count i : ℕ) (s t v : List ℕ) → i < count → SameOutside (i * long) long s t → part t (i * long) long ≡ v → records_in long count t ≡ slice_set (records_in long count s) i v
 unfolding records_in

@@ -1,17 +1,17 @@
 //! Bytes of a file, across the borders of its sectors.
-ghost use Rattle.std.specs.Prelude.{◌≡◌, ◌≤◌, ◌<◌, ◌+◌, ◌-◌, ◌*◌, ◌/◌, ◌%◌, length, min, OnOk, IsTrue};
+ghost use Rattle.std.specs.Prelude.{◌≡◌, ◌≤◌, ◌<◌, ◌+◌, ◌-◌, ◌*◌, ◌/◌, ◌%◌, length, min, OnOk, OnErr, IsTrue};
 ghost use Rattle.std.specs.List.{Contains};
 ghost use Rattle.s3_store.specs.Inner.State.{KeepsContents};
 ghost use Rattle.s3_store.specs.Inner.State.{ChangesWithin};
 ghost use Rattle.s3_store.specs.Inner.Failures.{failed_transfers};
 ghost use Rattle.s3_store.specs.Bytes.{bytes_at, part};
 ghost use Rattle.s3_store.specs.Inner.Bytes.{SameOutside};
-ghost use Rattle.s3_files.specs.Inner.Files.{AreStored};
+ghost use Rattle.s3_files.specs.Inner.Files.{AreStored, IsReadInPart};
 
 use crate::file_sectors::FileSectors;
 use s3_store::{SectorFault, Sectors};
 
-/// Reads bytes that lie in sector `i` of a file, from 0, and begin at byte `start` of it.
+/// Reads bytes that lie in sector `i` of a file, from 0, and begin at byte `start` of it. A refused call changes nothing.
 #[inline(always)]
 pub fn read_in_sector<P: Sectors>(
     pool: &mut P,
@@ -25,6 +25,7 @@ pub fn read_in_sector<P: Sectors>(
     requires inside { start < 256 }
     requires one { start + length piece.old ≤ 256 }
     ensures ok { OnOk result (piece.new ≡ part (bytes_at sectors.now (P.state pool.old).contents) (256 * i + start) (length piece.old)) }
+    ensures err { OnErr result (piece.new ≡ piece.old) }
     ensures keeps { KeepsContents (P.state pool.old) (P.state pool.new) }
     ensures failures { (P.state pool.new).failures ≡ (P.state pool.old).failures + failed_transfers result }
 {
@@ -43,6 +44,7 @@ fn read_piece<P: Sectors>(
     requires within { at < 256 * length sectors.now }
     requires one { at % 256 + length piece.old ≤ 256 }
     ensures ok { OnOk result (piece.new ≡ part (bytes_at sectors.now (P.state pool.old).contents) at (length piece.old)) }
+    ensures err { OnErr result (piece.new ≡ piece.old) }
     ensures keeps { KeepsContents (P.state pool.old) (P.state pool.new) }
     ensures failures { (P.state pool.new).failures ≡ (P.state pool.old).failures + failed_transfers result }
 {
@@ -96,6 +98,7 @@ fn read_pieces<P: Sectors>(
     requires stored { AreStored sectors.now (P.state pool.old).contents }
     requires within { at + length bytes.old ≤ 256 * length sectors.now }
     ensures ok { OnOk result (bytes.new ≡ part (bytes_at sectors.now (P.state pool.old).contents) at (length bytes.old)) }
+    ensures partly { OnErr result (IsReadInPart (part (bytes_at sectors.now (P.state pool.old).contents) at (length bytes.old)) bytes.old bytes.new) }
     ensures keeps { KeepsContents (P.state pool.old) (P.state pool.new) }
     ensures failures { (P.state pool.new).failures ≡ (P.state pool.old).failures + failed_transfers result }
 {
@@ -109,7 +112,8 @@ fn read_pieces<P: Sectors>(
     Ok(())
 }
 
-/// Reads the bytes of a file from byte `at` of it on, which must lie in its sectors. No sector changes.
+/// Reads the bytes of a file from byte `at` of it on, which must lie in its sectors. No sector changes. A refused call may have
+/// read the first of the bytes; the others of the buffer stay.
 pub fn read_bytes<P: Sectors>(
     pool: &mut P,
     sectors: &FileSectors,
@@ -119,6 +123,7 @@ pub fn read_bytes<P: Sectors>(
     requires stored { AreStored sectors.now (P.state pool.old).contents }
     requires within { at + length bytes.old ≤ 256 * length sectors.now }
     ensures ok { OnOk result (bytes.new ≡ part (bytes_at sectors.now (P.state pool.old).contents) at (length bytes.old)) }
+    ensures partly { OnErr result (IsReadInPart (part (bytes_at sectors.now (P.state pool.old).contents) at (length bytes.old)) bytes.old bytes.new) }
     ensures keeps { KeepsContents (P.state pool.old) (P.state pool.new) }
     ensures failures { (P.state pool.new).failures ≡ (P.state pool.old).failures + failed_transfers result }
 {

@@ -1,9 +1,9 @@
 //! A file as a list of records.
-ghost use Rattle.std.specs.Prelude.{◌≡◌, ◌≤◌, ◌<◌, ◌+◌, ◌↔◌, ◌++◌, [], ◌∷◌, length, slice_get, slice_set, Some, OnOk, OnErr, IsErrOf};
+ghost use Rattle.std.specs.Prelude.{◌≡◌, ◌≤◌, ◌<◌, ◌+◌, ◌↔◌, ◌++◌, ℕ, List, [], ◌∷◌, length, slice_get, slice_set, Some, OnOk, OnErr, IsErrOf};
 ghost use Rattle.std.specs.List.{Contains};
 ghost use Rattle.s3_store.specs.Inner.State.{KeepsContents};
 ghost use Rattle.s3_store.specs.Inner.State.{ChangesWithin};
-ghost use Rattle.s3_files.specs.Inner.Files.{AreStored, FileShape, records, ChangesRecord};
+ghost use Rattle.s3_files.specs.Inner.Files.{AreStored, FileShape, records, ChangesRecord, IsReadInPart};
 ghost use Rattle.s3_files.specs.Inner.FileFault.{failed_file_transfers};
 
 use crate::fault::FileFault;
@@ -19,7 +19,8 @@ pub trait RecordFile {
         ensures { result ≡ (file self.now).count };
 
     /// Reads the record at place `i`, from 0. Refused with `NoRecord` exactly where there is none, where nothing changes, the
-    /// buffer neither, and with `Pool`. No sector changes.
+    /// buffer neither, and with `Pool`, where the first bytes of the record may be in the buffer and its others stay. No sector
+    /// changes.
     fn get<P: Sectors>(&self, pool: &mut P, i: u32, bytes: &mut [u8]) -> Result<(), FileFault>
         requires stored { AreStored (file self.now).sectors (P.state pool.old).contents }
         requires long { length bytes.old ≡ (file self.now).record_length }
@@ -27,6 +28,7 @@ pub trait RecordFile {
         ensures no_record { (IsErrOf result FileFault.NoRecord) ↔ ((file self.now).count ≤ i) }
         ensures refused { IsErrOf result FileFault.NoRecord → P.state pool.new ≡ P.state pool.old }
         ensures unchanged { IsErrOf result FileFault.NoRecord → bytes.new ≡ bytes.old }
+        ensures partly { OnErr result ((whole : List ℕ) → slice_get (records (file self.now) (P.state pool.old).contents) i ≡ Some whole → IsReadInPart whole bytes.old bytes.new) }
         ensures not_full { ¬ IsErrOf result FileFault.Full }
         ensures keeps { KeepsContents (P.state pool.old) (P.state pool.new) }
         ensures failures { (P.state pool.new).failures ≡ (P.state pool.old).failures + failed_file_transfers result };

@@ -51,6 +51,18 @@ entry_within start w j capacity n pos le below fits =
     let whole : w * per ≤ 256 = omega arith in
     omega (arith, row, wide, whole)
 
+-- its sector is one of the file, and it begins within it
+pub sector_there : (start w i capacity n : ℕ) → 0 < w → w ≤ 256 → i < capacity → start + (capacity + 256 / w - 1) / (256 / w) ≤ n → start + i / (256 / w) < n
+sector_there start w i capacity n pos le below fits = omega (arith, rows-fit (256 / w) i capacity (some_fit w pos le) below, fits)
+
+pub row_there : (w i : ℕ) → 0 < w → w ≤ 256 → i % (256 / w) * w < 256
+row_there w i pos le =
+    let some = some_fit w pos le in
+    by (256 / w) (i % (256 / w)) some (omega (arith, some)) (omega (arith, pos))
+  where
+    by : (per row : ℕ) → 0 < per → row < per → w * per ≤ 256 → row * w < 256
+    by per row some below whole = omega (arith, mul-le-mul_left w below, whole, pos)
+
 -- a file has no more entries than its sectors have bytes
 pub entries_below : (start w capacity n : ℕ) → 0 < w → w ≤ 256 → start + (capacity + 256 / w - 1) / (256 / w) ≤ n → capacity ≤ 256 * n
 entries_below start w zero n pos le fits = omega arith
@@ -118,12 +130,11 @@ get_key layout count i bytes h = slice_get_map (key_of layout.key) (records_in l
 pub key_there : (layout : Layout) (i : ℕ) (bytes : List ℕ) → 1 ≤ layout.key.start → layout.key.start + layout.key.length ≤ layout.record_length + 1 → key_of layout.key (part bytes (i * layout.record_length) layout.record_length) ≡ number_of (part bytes (i * layout.record_length + (layout.key.start - 1)) layout.key.length)
 key_there layout i bytes some inside = ap number_of (part_part (i * layout.record_length) layout.record_length (layout.key.start - 1) layout.key.length bytes (omega arith))
 
--- the key of a record in a sector of the file
-pub key_held : (layout : Layout) (i place start at : ℕ) (bytes sector : List ℕ) → 1 ≤ layout.key.start → layout.key.start + layout.key.length ≤ layout.record_length + 1 → at ≡ i * layout.record_length + (layout.key.start - 1) → place ≡ at / 256 → start ≡ at % 256 → start + layout.key.length ≤ 256 → sector ≡ part bytes (256 * place) 256 → number_of (part sector start layout.key.length) ≡ key_of layout.key (part bytes (i * layout.record_length) layout.record_length)
-key_held layout i place start at bytes sector some inside is_at is_place is_start within is_sector =
-    let whole : 256 * place + start ≡ at = omega arith in
-    ap number_of (ap (λ l. part l start layout.key.length) is_sector ∙ part_part (256 * place) 256 start layout.key.length bytes within ∙ ap (λ a. part bytes a layout.key.length) (whole ∙ is_at))
-    ∙ sym (key_there layout i bytes some inside)
+-- bytes of the file in their sector
+pub part_held : (at place width : ℕ) (bytes sector : List ℕ) → place ≡ at / 256 → at % 256 + width ≤ 256 → sector ≡ part bytes (256 * place) 256 → part sector (at % 256) width ≡ part bytes at width
+part_held at place width bytes sector is_place within is_sector =
+    let whole : 256 * place + at % 256 ≡ at = omega (arith, is_place) in
+    ap (λ l. part l (at % 256) width) is_sector ∙ part_part (256 * place) 256 (at % 256) width bytes within ∙ ap (λ a. part bytes a width) whole
 
 -- an entry, in the bytes of its sector
 pub entry_there : (layout : Layout) (i place : ℕ) (bytes sector : List ℕ) → layout.key.length ≤ 29 → place ≡ i / entries_per_sector layout.key.length → sector ≡ part bytes (256 * (record_sectors layout.capacity layout.record_length + place)) 256 → entry_in layout.key.length (part sector (i % entries_per_sector layout.key.length * (layout.key.length + 4)) (layout.key.length + 4)) ≡ entry_at layout bytes i

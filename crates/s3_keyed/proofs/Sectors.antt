@@ -1,5 +1,5 @@
 -- An index, sector by sector.
-use Rattle.std.proofs.Common.{◌≡◌, ◌≢◌, ℕ, zero, suc, ◌+◌, ◌-◌, ◌*◌, ◌/◌, ◌%◌, ◌<◌, ◌≤◌, Bool, false, true, ◌==◌, List, length, map, min, slice_get, Option, None, Some, MatchOption, sym, ap, subst, ◌∙◌, arith}
+use Rattle.std.proofs.Common.{◌≡◌, ◌≢◌, nat_lt, inl, inr, ℕ, zero, suc, ◌+◌, ◌-◌, ◌*◌, ◌/◌, ◌%◌, ◌<◌, ◌≤◌, Bool, false, true, ◌==◌, List, length, map, min, slice_get, Option, None, Some, MatchOption, sym, ap, subst, ◌∙◌, arith}
 use Rattle.std.proofs.Math.Nat.{mul-le-mul_left}
 use Rattle.std.proofs.lemmas.Bool.{eqb-true, eq-eqb}
 use Rattle.std.proofs.lemmas.Bool.Decides.{nat_tests}
@@ -12,9 +12,10 @@ use Rattle.s3_keyed.specs.KeyOrder.{Entry}
 use Rattle.s3_keyed.specs.Inner.KeyOrder.{IsAscending}
 use Rattle.s3_keyed.specs.Index.{Layout, entry_in, entry_at}
 use Rattle.s3_keyed.specs.Inner.Shape.{entry_here, IsOfRecord}
+use Rattle.s3_keyed.specs.Inner.Checking.{IsGoodSector}
 use Rattle.s3_keyed.specs.Inner.Sought.{StandsAs}
 use Rattle.s3_keyed.specs.declared.sector_search.Standing.TheVariants.{Within}
-use Rattle.s3_keyed.proofs.Checked.{AreChecked, checked-more, good-ascends, good-range, good-keyed, lower_half, upper_half, not_found}
+use Rattle.s3_keyed.proofs.Checked.{AreChecked, below_or_at, checked-more, good-ascends, good-range, good-keyed, lower_half, upper_half, not_found}
 use Rattle.s3_keyed.proofs.Order.{IsGoodIndex}
 use Rattle.s3_keyed.proofs.Places.{rows-fit, entry_there}
 
@@ -130,6 +131,29 @@ nowhere f n low high k met below above = not_found f n (min low n) (min high n) 
 pub strictly : (k a : ℕ) (r : Bool) → r ≡ (k == a) → r ≡ false → k ≤ a → k < a
 strictly k a r is other le = let apart = sym is ∙ other in grind (arith, nat_tests)
 
+-- ---- the entries below a key, which are halved
+
+pub middle_below : (low high n : ℕ) → low < high → high ≤ n → low + (high - low) / 2 < n
+middle_below low high n less within = omega (arith, less, within)
+
+pub below_middle : (f : ℕ → Entry) (n middle k : ℕ) (r : Bool) → IsAscending f n → middle < n → r ≡ nat_lt (f middle).key k → r ≡ true → (i : ℕ) → i < middle + 1 → (f i).key < k
+below_middle f n middle k r up within is holds = lower_half f n middle k up within (less (f middle).key (sym is ∙ holds))
+  where
+    less : (a : ℕ) → nat_lt a k ≡ true → a < k
+    less a holds = grind (arith, nat_tests)
+
+pub from_middle : (f : ℕ → Entry) (n middle k : ℕ) (r : Bool) → IsAscending f n → r ≡ nat_lt (f middle).key k → r ≡ false → (i : ℕ) → middle ≤ i → i < n → k ≤ (f i).key
+from_middle f n middle k r up is fails i from below = elim (below_or_at middle i (omega (arith, from))) [
+  | inl before ↦ let step = up middle i before below in omega (arith, step, least)
+  | inr here ↦ subst (λ m. k ≤ (f m).key) here least
+]
+  where
+    not_less : (a : ℕ) → nat_lt a k ≡ false → k ≤ a
+    not_less a fails = grind (arith, nat_tests)
+
+    least : k ≤ (f middle).key
+    least = not_less (f middle).key (sym is ∙ fails)
+
 -- ---- entries and their records
 
 pub too_high : (keys : List ℕ) (e : Entry) (number count : ℕ) → number ≡ e.number → length keys ≡ count → count < number → IsOfRecord keys e → ⊥
@@ -176,3 +200,40 @@ good-of-record f g keys first m n j same within below good =
     let inside : first + j < n = omega (arith, within, below) in
     let range = good-range f keys n (first + j) good inside in
     rw (same j below) (record { some = range.0; within = range.1; keyed = good-keyed f keys n (first + j) good inside })
+
+-- ---- the sectors one after another
+
+-- what a good index has in each sector
+pub good-next : (f g : ℕ → Entry) (keys : List ℕ) (per place m n last : ℕ) → ((j : ℕ) → j < m → g j ≡ f (place * per + j)) → Covers per n place m → 0 < per → place * per < n → (0 < place → last ≡ (f (min (place * per) n - 1)).key) → IsGoodIndex (map f (range_with_len 0 n)) keys → IsGoodSector keys place last g m
+good-next f g keys per place m n last same here some starts is_last good = record {
+  goes_on = record { follows = follows; ascending = good-sector-ascends f g keys (place * per) m n same here.within good };
+  of_records = λ j below. good-of-record f g keys (place * per) m n j same here.within below good;
+}
+  where
+    follows : 0 < place → last < (g 0).key
+    follows first =
+        let at : place * per + 0 ≡ place * per = omega arith in
+        let low = later per place some first in
+        let up = good-ascends f keys n (place * per - 1) (place * per) good (omega (arith, low)) starts in
+        rw (is_last first ∙ ap (λ i. (f (i - 1)).key) (upto_place per n place starts), same 0 here.some ∙ ap f at) up
+
+-- a sector more is checked
+pub next-checked : (f g : ℕ → Entry) (keys : List ℕ) (per place m n last : ℕ) → ((j : ℕ) → j < m → g j ≡ f (place * per + j)) → Covers per n place m → m ≡ min per (n - place * per) → place * per < n → (0 < place → last ≡ (f (min (place * per) n - 1)).key) → AreChecked f keys (min (place * per) n) → IsGoodSector keys place last g m → AreChecked f keys (min ((place + 1) * per) n)
+next-checked f g keys per place m n last same here is starts is_last before good =
+    let upto = upto_place per n place starts in
+    subst (AreChecked f keys) (sym (upto_next per n place m starts is)) (checked-sector f g keys (place * per) m same (subst (AreChecked f keys) upto before) border good.goes_on.ascending good.of_records)
+  where
+    less : (before last first key : ℕ) → last ≡ before → first ≡ key → last < first → before < key
+    less before last first key is_last is_first below = omega (arith, is_last, is_first, below)
+
+    border : 0 < place * per → (f (place * per - 1)).key < (f (place * per)).key
+    border some =
+        let first = not_first per place some in
+        let at : place * per + 0 ≡ place * per = omega arith in
+        less (f (place * per - 1)).key last (g 0).key (f (place * per)).key (is_last first ∙ ap (λ i. (f (i - 1)).key) (upto_place per n place starts)) (ap (λ e. e.key) (same 0 here.some ∙ ap f at)) (good.goes_on.follows first)
+
+-- and its last key is the one before the next
+pub next-last : (f g : ℕ → Entry) (per place m n key : ℕ) → ((j : ℕ) → j < m → g j ≡ f (place * per + j)) → Covers per n place m → m ≡ min per (n - place * per) → place * per < n → key ≡ (g (m - 1)).key → key ≡ (f (min ((place + 1) * per) n - 1)).key
+next-last f g per place m n key same here is starts is_key =
+    let end : place * per + (m - 1) ≡ place * per + m - 1 = omega (arith, here.some) in
+    is_key ∙ ap (λ e. e.key) (same (m - 1) (omega (arith, here.some))) ∙ ap (λ i. (f i).key) end ∙ ap (λ i. (f (i - 1)).key) (sym (upto_next per n place m starts is))

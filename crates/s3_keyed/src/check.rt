@@ -1,11 +1,13 @@
 //! Whether an index is that of the records.
-ghost use Rattle.std.specs.Prelude.{◌≡◌, ◌≤◌, ◌<◌, ◌+◌, ◌*◌, ◌/◌, ◌^◌, IfOk, MatchBool};
+ghost use Rattle.std.specs.Prelude.{◌≡◌, ◌≤◌, ◌<◌, ◌+◌, ◌*◌, ◌/◌, ◌^◌, ◌-◌, min, IfOk, OnOk, MatchBool};
 ghost use Rattle.s3_store.specs.Inner.Calls.{Reads};
 ghost use Rattle.s3_files.specs.Inner.Files.{AreStored};
 ghost use Rattle.s3_keyed.specs.KeyOrder.{number_of, is_good_index};
 ghost use Rattle.s3_keyed.specs.Inner.KeyOrder.{IsAscending};
 ghost use Rattle.s3_keyed.specs.Index.{index_in};
 ghost use Rattle.s3_keyed.specs.Inner.Shape.{layout_in, bytes_in, keys_on, entry_here};
+ghost use Rattle.s3_keyed.specs.Inner.Checking.{GoesOn, IsGoodSector};
+ghost use Rattle.s3_store.specs.Bytes.{part};
 
 use crate::guide::Guide;
 use crate::index_sector::{
@@ -74,6 +76,52 @@ fn follows(place: u32, sector: &[u8; 256], key_length: usize, last: &Key) -> boo
     place == 0 || is_entry_above(sector, 0, key_length, last)
 }
 
+/// Whether the first so many entries of a sector of the index go on from the key before them, and ascend.
+fn goes_on(place: u32, sector: &[u8; 256], entries: usize, key_length: usize, last: &Key) -> bool
+    requires short { key_length ≤ 29 }
+    requires some { 0 < entries }
+    requires inside { entries ≤ 256 / (key_length + 4) }
+    requires short_key { number_of last.now.bytes < 256 ^ key_length }
+    ensures { MatchBool result (GoesOn place (number_of last.now.bytes) (entry_here key_length sector.now) entries) (GoesOn place (number_of last.now.bytes) (entry_here key_length sector.now) entries → ⊥) }
+{
+    follows(place, sector, key_length, last) && ascend(sector, entries, key_length)
+}
+
+/// Whether the first so many entries of a sector of the index go on from the key before them, ascend, and are those of records.
+fn is_sector_good<P: Sectors>(
+    file: &IndexedFile,
+    pool: &mut P,
+    records: &mut RecordSector,
+    place: u32,
+    sector: &[u8; 256],
+    entries: usize,
+    last: &Key,
+) -> Result<bool, SectorFault>
+    requires stored { AreStored file.now.file.sectors (P.state pool.old).contents }
+    requires some { 0 < entries }
+    requires inside { entries ≤ 256 / (file.now.key_length + 4) }
+    requires short_key { number_of last.now.bytes < 256 ^ file.now.key_length }
+    requires here { records.old.bytes ≡ part (bytes_in file.now (P.state pool.old).contents) (256 * records.old.place) 256 }
+    ensures good { IfOk result (λ good. MatchBool good
+        (IsGoodSector (keys_on file.now (P.state pool.old).contents) place (number_of last.now.bytes) (entry_here file.now.key_length sector.now) entries)
+        (IsGoodSector (keys_on file.now (P.state pool.old).contents) place (number_of last.now.bytes) (entry_here file.now.key_length sector.now) entries → ⊥)) }
+    ensures here { OnOk result (records.new.bytes ≡ part (bytes_in file.now (P.state pool.old).contents) (256 * records.new.place) 256) }
+    ensures reads { Reads result (P.state pool.old) (P.state pool.new) }
+{
+    if !goes_on(place, sector, entries, usize::from(file.key_length), last) {
+        return Ok(false);
+    }
+    records.have_keys(file, pool, sector, entries)
+}
+
+/// How many of so many entries lie in the sector at a place, which begins with one of them.
+fn entries_in(count: u32, per_sector: u32, place: u32) -> usize
+    requires { place * per_sector < count }
+    ensures { result ≡ min per_sector (count - place * per_sector) }
+{
+    per_sector.min(count - place * per_sector) as usize
+}
+
 /// Whether the index is good for the records, in one pass over its sectors. Keys of each are noted in `guide`.
 pub fn is_good<P: Sectors>(
     file: &IndexedFile,
@@ -96,14 +144,8 @@ pub fn is_good<P: Sectors>(
     let mut last = Key::of(&[]);
     for place in 0..count.div_ceil(per_sector) {
         read_sector(file, pool, place, &mut sector)?;
-        let entries = per_sector.min(count - place * per_sector) as usize;
-        if !follows(place, &sector, key_length, &last) {
-            return Ok(false);
-        }
-        if !ascend(&sector, entries, key_length) {
-            return Ok(false);
-        }
-        if !records.have_keys(file, pool, &sector, entries)? {
+        let entries = entries_in(count, per_sector, place);
+        if !is_sector_good(file, pool, &mut records, place, &sector, entries, &last)? {
             return Ok(false);
         }
         guide.note(&sector, entries, file.key_length, place * per_sector)?;

@@ -87,8 +87,7 @@ pub fn read_key<P: Sectors>(file: &IndexedFile, pool: &mut P, i: u32) -> Result<
 {
     let mut buffer = [0; 29];
     let bytes = &mut buffer[..usize::from(file.key_length)];
-    let at = i * u32::from(file.file.record_length) + u32::from(file.key_start - 1);
-    read_bytes(pool, &file.file.sectors, at, bytes)?;
+    read_bytes(pool, &file.file.sectors, key_place(file, i), bytes)?;
     Ok(Key::of(bytes))
 }
 

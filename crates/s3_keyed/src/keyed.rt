@@ -1,10 +1,10 @@
 //! A file with keys that is open.
-ghost use Rattle.std.specs.Prelude.{◌≡◌, ◌≤◌, ◌<◌, ◌+◌, ◌-◌, ◌^◌, ◌/◌, [], ◌∷◌, ◌++◌, true, nat_lt, Ok, Err, None, Some, length, slice_get, take, OnOk, IfOk, IfErr, IfSome, IsTrue, ◌↔◌};
+ghost use Rattle.std.specs.Prelude.{◌≡◌, ◌≤◌, ◌<◌, ◌+◌, ◌-◌, ◌^◌, ◌/◌, [], ◌∷◌, ◌++◌, true, nat_lt, Ok, Err, None, Some, length, slice_get, take, ℕ, List, OnOk, OnErr, IfOk, IfErr, IfSome, IsTrue, ◌↔◌};
 ghost use Rattle.std.specs.List.{Contains, list_all};
 ghost use Rattle.s3_store.specs.Inner.State.{KeepsContents, ChangesWithin};
 ghost use Rattle.s3_store.specs.Inner.Failures.{failed_transfers};
 ghost use Rattle.s3_store.specs.Inner.Calls.{Changes, Reads};
-ghost use Rattle.s3_files.specs.Inner.Files.{AreStored};
+ghost use Rattle.s3_files.specs.Inner.Files.{AreStored, IsReadInPart};
 ghost use Rattle.s3_keyed.specs.KeyOrder.{number_of, key_order, is_good_index};
 ghost use Rattle.s3_files.specs.Inner.Records.{record_at};
 ghost use Rattle.s3_keyed.specs.Index.{key_of, index_in};
@@ -107,12 +107,14 @@ impl Keyed {
     }
 
     /// Reads the record at a place, from 0. Refused with `NoKey` where there is none; then nothing changes, the buffer neither.
+    /// Refused with `Pool`, the first bytes of the record may be in the buffer, and its others stay.
     pub fn get<P: Sectors>(&self, pool: &mut P, i: u32, bytes: &mut [u8]) -> Result<(), KeyedFault>
         requires stored { AreStored (shown self.now).sectors (P.state pool.old).contents }
         requires long { length bytes.old ≡ (shown self.now).layout.record_length }
         ensures got { Leaves (keyed_result (record_at i (records_now (shown self.now) (P.state pool.old).contents))) result bytes.new }
         ensures refused { OnRefusal result (P.state pool.new ≡ P.state pool.old) }
         ensures unchanged { OnRefusal result (bytes.new ≡ bytes.old) }
+        ensures partly { OnErr result ((whole : List ℕ) → slice_get (records_now (shown self.now) (P.state pool.old).contents) i ≡ Some whole → IsReadInPart whole bytes.old bytes.new) }
         ensures keeps { KeepsContents (P.state pool.old) (P.state pool.new) }
         ensures failures { (P.state pool.new).failures ≡ (P.state pool.old).failures + failed_keyed_transfers result }
     {

@@ -1,8 +1,9 @@
 //! A sector of a file that was read, out of which keys of records are taken.
-ghost use Rattle.std.specs.Prelude.{◌≡◌, ◌≤◌, ◌<◌, ◌+◌, ◌*◌, ◌/◌, ◌==◌, ℕ, length, OnOk, IfOk, MatchBool};
+ghost use Rattle.std.specs.Prelude.{◌≡◌, ◌≤◌, ◌<◌, ◌+◌, ◌*◌, ◌/◌, ◌%◌, ◌==◌, ℕ, length, OnOk, IfOk, MatchBool};
 ghost use Rattle.s3_store.specs.Inner.Calls.{Reads};
 ghost use Rattle.s3_store.specs.Bytes.{part};
 ghost use Rattle.s3_files.specs.Inner.Files.{AreStored};
+ghost use Rattle.s3_keyed.specs.KeyOrder.{number_of};
 ghost use Rattle.s3_keyed.specs.Index.{key_of};
 ghost use Rattle.s3_keyed.specs.Inner.Shape.{layout_in, bytes_in, keys_on, entry_here, IsOfRecord};
 
@@ -19,6 +20,24 @@ pub struct RecordSector {
     pub place: u32,
     /// The bytes of the sector.
     pub bytes: [u8; 256],
+}
+
+/// Whether the key of a record, which is read by itself, is that of entry `j` of a sector of the index.
+fn has_key_read<P: Sectors>(
+    file: &IndexedFile,
+    pool: &mut P,
+    i: u32,
+    index: &[u8; 256],
+    j: usize,
+) -> Result<bool, SectorFault>
+    requires stored { AreStored file.now.file.sectors (P.state pool.old).contents }
+    requires within { i < file.now.file.capacity }
+    requires inside { j < 256 / (file.now.key_length + 4) }
+    ensures ok { IfOk result (λ is. is ≡ (key_of (layout_in file.now).key (part (bytes_in file.now (P.state pool.old).contents) (i * file.now.file.record_length) file.now.file.record_length) == (entry_here file.now.key_length index.now j).key)) }
+    ensures reads { Reads result (P.state pool.old) (P.state pool.new) }
+{
+    let key = read_key(file, pool, i)?;
+    Ok(is_key_of(index, j, usize::from(file.key_length), &key))
 }
 
 impl RecordSector {
@@ -68,6 +87,30 @@ impl RecordSector {
         self.read(file, pool, place)
     }
 
+    /// Whether the key at a place in the bytes of the file, which lies in one sector, is that of entry `j` of a sector of the
+    /// index, going on to the key's sector.
+    fn has_key_at<P: Sectors>(
+        &mut self,
+        file: &IndexedFile,
+        pool: &mut P,
+        at: u32,
+        index: &[u8; 256],
+        j: usize,
+    ) -> Result<bool, SectorFault>
+        requires stored { AreStored file.now.file.sectors (P.state pool.old).contents }
+        requires within { at / 256 < length file.now.file.sectors }
+        requires one { at % 256 + file.now.key_length ≤ 256 }
+        requires inside { j < 256 / (file.now.key_length + 4) }
+        requires here { self.old.bytes ≡ part (bytes_in file.now (P.state pool.old).contents) (256 * self.old.place) 256 }
+        ensures ok { IfOk result (λ is. is ≡ (number_of (part (bytes_in file.now (P.state pool.old).contents) at file.now.key_length) == (entry_here file.now.key_length index.now j).key)) }
+        ensures here { IfOk result (λ _. self.new.bytes ≡ part (bytes_in file.now (P.state pool.old).contents) (256 * self.new.place) 256) }
+        ensures reads { Reads result (P.state pool.old) (P.state pool.new) }
+    {
+        self.go_to(file, pool, at / 256)?;
+        let start = (at % 256) as usize;
+        Ok(is_key_at(index, j, usize::from(file.key_length), &self.bytes, start))
+    }
+
     /// Whether the key of a record is that of entry `j` of a sector of the index, going on to the record's sector. One that
     /// lies in two sectors is read by itself.
     fn has_key<P: Sectors>(
@@ -87,14 +130,10 @@ impl RecordSector {
         ensures reads { Reads result (P.state pool.old) (P.state pool.new) }
     {
         let at = key_place(file, i);
-        let start = (at % 256) as usize;
-        let key_length = usize::from(file.key_length);
-        if start + key_length > 256 {
-            let key = read_key(file, pool, i)?;
-            return Ok(is_key_of(index, j, key_length, &key));
+        if at % 256 + u32::from(file.key_length) > 256 {
+            return has_key_read(file, pool, i, index, j);
         }
-        self.go_to(file, pool, at / 256)?;
-        Ok(is_key_at(index, j, key_length, &self.bytes, start))
+        self.has_key_at(file, pool, at, index, j)
     }
 
     /// Whether the first so many entries of a sector of the index have numbers of records, and the keys of those.

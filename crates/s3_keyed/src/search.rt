@@ -1,11 +1,12 @@
 //! An entry found by its key.
-ghost use Rattle.std.specs.Prelude.{◌≡◌, ◌≢◌, ◌≤◌, ◌<◌, ◌+◌, ◌^◌, ℕ, true, nat_lt, IfOk, IfSome, MatchOption};
+ghost use Rattle.std.specs.Prelude.{◌≡◌, ◌≢◌, ◌≤◌, ◌<◌, ◌+◌, ◌*◌, ◌%◌, ◌^◌, ℕ, true, nat_lt, length, OnOk, IfOk, IfSome, MatchOption};
 ghost use Rattle.std.specs.List.{list_all};
 ghost use Rattle.s3_store.specs.Inner.Calls.{Reads};
 ghost use Rattle.s3_files.specs.Inner.Files.{AreStored};
 ghost use Rattle.s3_keyed.specs.KeyOrder.{number_of, ascends, keys_in};
 ghost use Rattle.s3_keyed.specs.Inner.KeyOrder.{IsAscending};
-ghost use Rattle.s3_keyed.specs.Index.{entry_at, index_in};
+ghost use Rattle.s3_store.specs.Bytes.{part};
+ghost use Rattle.s3_keyed.specs.Index.{entry_at, entry_place, index_in};
 ghost use Rattle.s3_keyed.specs.Inner.Shape.{layout_in, bytes_in};
 
 use crate::entries::{read_entry, sectors_before};
@@ -19,6 +20,42 @@ use s3_store::{SectorFault, Sectors};
 
 /// The most bytes of the entries that are read at once, where keys have four to eight bytes.
 const STEP_BYTES: usize = 48;
+
+/// How many entries are looked at from this one on: those of its sector, but few.
+fn entries_looked_at(per_sector: u32, entries: u32, first: u32) -> usize
+    requires some { 0 < per_sector }
+    requires within { first < entries }
+    ensures sector { first % per_sector + result ≤ per_sector }
+    ensures few { result ≤ 4 }
+    ensures within { first + result ≤ entries }
+{
+    STEP.min(per_sector - first % per_sector)
+        .min(entries - first) as usize
+}
+
+/// Reads bytes of entries of one sector of the index, from this entry on.
+fn read_entries<P: Sectors>(
+    file: &IndexedFile,
+    pool: &mut P,
+    first: u32,
+    bytes: &mut [u8],
+) -> Result<(), SectorFault>
+    requires stored { AreStored file.now.file.sectors (P.state pool.old).contents }
+    requires within { first < file.now.file.capacity }
+    requires inside { first % file.now.per_sector * (file.now.key_length + 4) + length bytes.old ≤ 256 }
+    ensures ok { OnOk result (bytes.new ≡ part (bytes_in file.now (P.state pool.old).contents) (entry_place (layout_in file.now) first) (length bytes.old)) }
+    ensures reads { Reads result (P.state pool.old) (P.state pool.new) }
+{
+    let sector = sectors_before(file) + first / file.per_sector;
+    let start = first % file.per_sector * (u32::from(file.key_length) + 4);
+    read_in_sector(
+        pool,
+        &file.file.sectors,
+        sector as usize,
+        start as usize,
+        bytes,
+    )
+}
 
 /// The number of the record with a key of four to eight bytes among the first so many entries of the index, where this entry has it or
 /// one of the few behind it.
@@ -39,15 +76,11 @@ pub fn search_from<P: Sectors>(
     if first >= entries {
         return Ok(None);
     }
-    let per_sector = entries_per_sector(file);
     let key_length = usize::from(file.key_length);
-    let (place, row) = (first / per_sector, first % per_sector);
-    let count = STEP.min(per_sector - row).min(entries - first) as usize;
-    let sector = (sectors_before(file) + place) as usize;
-    let start = row as usize * (key_length + 4);
+    let count = entries_looked_at(entries_per_sector(file), entries, first);
     let mut room = [0; STEP_BYTES];
     let bytes = &mut room[..count * (key_length + 4)];
-    read_in_sector(pool, &file.file.sectors, sector, start, bytes)?;
+    read_entries(file, pool, first, bytes)?;
     Ok(number_with(bytes, count, key_length, key))
 }
 

@@ -1,9 +1,9 @@
 //! Records and entries written.
-ghost use Rattle.std.specs.Prelude.{◌≡◌, ◌≢◌, ◌≤◌, ◌<◌, ◌+◌, ◌-◌, ◌*◌, ◌^◌, ℕ, length, OnOk};
+ghost use Rattle.std.specs.Prelude.{◌≡◌, ◌≢◌, ◌≤◌, ◌<◌, ◌+◌, ◌-◌, ◌*◌, ◌^◌, ℕ, length, OnOk, OnErr};
 ghost use Rattle.s3_store.specs.Bytes.{part};
 ghost use Rattle.s3_store.specs.Inner.Bytes.{SameOutside};
 ghost use Rattle.s3_store.specs.Inner.Calls.{Changes, Reads};
-ghost use Rattle.s3_files.specs.Inner.Files.{AreStored};
+ghost use Rattle.s3_files.specs.Inner.Files.{AreStored, IsReadInPart};
 ghost use Rattle.s3_keyed.specs.KeyOrder.{number_of};
 ghost use Rattle.s3_keyed.specs.Index.{entry_place, entry_at, entry_in};
 ghost use Rattle.s3_keyed.specs.Inner.Shape.{layout_in, bytes_in, entry_of};
@@ -35,6 +35,7 @@ pub fn read_record<P: Sectors>(
     requires within { i < file.now.file.capacity }
     requires long { length bytes.old ≡ file.now.file.record_length }
     ensures ok { OnOk result (bytes.new ≡ part (bytes_in file.now (P.state pool.old).contents) (i * file.now.file.record_length) file.now.file.record_length) }
+    ensures partly { OnErr result (IsReadInPart (part (bytes_in file.now (P.state pool.old).contents) (i * file.now.file.record_length) file.now.file.record_length) bytes.old bytes.new) }
     ensures reads { Reads result (P.state pool.old) (P.state pool.new) }
 {
     read_bytes(pool, &file.file.sectors, record_place(file, i), bytes)

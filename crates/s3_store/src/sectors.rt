@@ -26,11 +26,12 @@ pub trait Sectors {
         ensures failures { (state self.new).failures ≡ (state self.old).failures + failed_transfers result };
 
     /// Reads the bytes of sector `n`, which must be there, that begin at byte `at` and end within it. No sector changes;
-    /// refused with `Device` or `NoMemory`.
+    /// refused with `Device` or `NoMemory`, where `piece` stays as it was.
     fn read_part(&mut self, n: u16, at: usize, piece: &mut [u8]) -> Result<(), SectorFault>
         requires there { n < length (state self.old).contents }
         requires fits { at + length piece.old ≤ 256 }
         ensures ok { OnOk result (piece.new ≡ part (sector_bytes (state self.old).contents n) at (length piece.old)) }
+        ensures err { OnErr result (piece.new ≡ piece.old) }
         ensures keeps { KeepsContents (state self.old) (state self.new) }
         ensures failures { (state self.new).failures ≡ (state self.old).failures + failed_transfers result };
 

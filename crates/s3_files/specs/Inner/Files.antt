@@ -1,5 +1,5 @@
 -- A file over the contents of a pool.
-use Rattle.std.specs.Prelude.{◌*◌, ◌^◌, ◌<◌, ◌≤◌, ℕ, List, length, nat_eq}
+use Rattle.std.specs.Prelude.{◌≡◌, ◌*◌, ◌^◌, ◌<◌, ◌≤◌, ◌++◌, ℕ, List, length, take, drop, nat_eq}
 use Rattle.std.specs.List.{All, IsDistinct}
 use Rattle.s3_store.specs.Bytes.{bytes_at}
 use Rattle.s3_store.specs.Inner.Bytes.{SameOutside}
@@ -23,6 +23,10 @@ records file contents = records_in file.record_length file.count (bytes_at file.
 -- the bytes of the file are the same but for those of the record at i
 abbrev pub ChangesRecord : FileShape → ℕ → List (List ℕ) → List (List ℕ) → Type 0
 ChangesRecord file i old new = SameOutside (i * file.record_length) file.record_length (bytes_at file.sectors old) (bytes_at file.sectors new)
+
+-- a buffer after a read that was refused: the first bytes of the whole, as many as were read, and its own after them
+abbrev pub IsReadInPart : (whole old new : List ℕ) → Type 0
+IsReadInPart whole old new = (count : ℕ) × (new ≡ take count whole ++ drop count old)
 
 -- the sectors are there
 abbrev pub AreStored : List ℕ → List (List ℕ) → Type 0

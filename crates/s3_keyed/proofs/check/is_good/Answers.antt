@@ -1,15 +1,15 @@
-use Rattle.std.proofs.Common.{◌≡◌, ◌*◌, ◌+◌, ◌-◌, ◌<◌, ◌≤◌, ℕ, map, min, refl, ap, ◌∙◌, subst, sym, arith}
+use Rattle.std.proofs.Common.{◌≡◌, ◌*◌, ◌-◌, ◌<◌, ◌≤◌, map, min, refl, ap, ◌∙◌, subst, sym, arith}
 use Rattle.std.specs.List.{range_with_len}
 use Rattle.s3_store.specs.Bytes.{part}
 use Rattle.s3_keyed.specs.KeyOrder.{number_of}
-use Rattle.s3_keyed.specs.Inner.KeyOrder.{IsAscending}
 use Rattle.s3_keyed.specs.Index.{entry_at, index_in}
-use Rattle.s3_keyed.specs.Inner.Shape.{layout_in, bytes_in, keys_on, index_sector, entry_here, IsOfRecord}
-use Rattle.s3_keyed.proofs.Checked.{AreChecked, checked-none, checked-good, none_short, not_after}
+use Rattle.s3_keyed.specs.Inner.Shape.{layout_in, bytes_in, keys_on, index_sector, entry_here}
+use Rattle.s3_keyed.specs.Inner.Checking.{IsGoodSector}
+use Rattle.s3_keyed.proofs.Checked.{AreChecked, checked-none, checked-good, none_short}
 use Rattle.s3_keyed.proofs.Goodness.{to_good, not_good}
 use Rattle.s3_keyed.proofs.Places.{length_keys}
 use Rattle.s3_store.proofs.Calls.{reads_ok, reads_err, reads_no_memory, reads_then}
-use Rattle.s3_keyed.proofs.Sectors.{starts, all_places, covers, upto_place, upto_next, later, not_first, all_held, good-sector-ascends, good-of-record, checked-sector}
+use Rattle.s3_keyed.proofs.Sectors.{starts, all_places, covers, all_held, good-next, next-checked, next-last}
 use Rattle.s3_keyed.proofs.check.is_good.Goals as goal
 
 pub returns-then-count-eq0-clause-good : goal.returns-then-count-eq0-clause-good
@@ -38,110 +38,46 @@ loop-place-init g c =
 pub returns-in_err-read_sector-clause-reads : goal.returns-in_err-read_sector-clause-reads
 returns-in_err-read_sector-clause-reads g c = reads_err _ _ c.from_residual-in_err-read_sector.ensures.1 (reads_then c.loop-place.invariant.reads c.in_err-read_sector.ensures.reads)
 
+pub entries_in-entries-requires : goal.entries_in-entries-requires
+entries_in-entries-requires g c =
+    let n = c.args.file.now.file.count in
+    let place = c.loop-place.place in
+    starts n c.entries_per_sector-per_sector.result place c.entries_per_sector-per_sector.ensures.some (subst (λ e. place < e) c.div_ceil-place-end.ensures c.loop-place-test.true)
+
 pub overflow_mul-place : goal.overflow_mul-place
 overflow_mul-place g c =
     let n = c.args.file.now.file.count in
     let place = c.loop-place.place in
-    let starts = starts n c.entries_per_sector-per_sector.result place c.entries_per_sector-per_sector.ensures.some (subst (λ e. place < e) c.div_ceil-place-end.ensures c.loop-place-test.true) in
-    omega (arith, starts)
+    omega (arith, starts n c.entries_per_sector-per_sector.result place c.entries_per_sector-per_sector.ensures.some (subst (λ e. place < e) c.div_ceil-place-end.ensures c.loop-place-test.true))
 
-pub overflow_mul-place-in-loop-place : goal.overflow_mul-place-in-loop-place
-overflow_mul-place-in-loop-place g c =
+pub is_sector_good-requires-clause-some : goal.is_sector_good-requires-clause-some
+is_sector_good-requires-clause-some g c =
     let n = c.args.file.now.file.count in
     let place = c.loop-place.place in
-    let starts = starts n c.entries_per_sector-per_sector.result place c.entries_per_sector-per_sector.ensures.some (subst (λ e. place < e) c.div_ceil-place-end.ensures c.loop-place-test.true) in
-    omega (arith, starts)
-
-pub overflow_sub-count : goal.overflow_sub-count
-overflow_sub-count g c =
-    let n = c.args.file.now.file.count in
-    let place = c.loop-place.place in
-    let starts = starts n c.entries_per_sector-per_sector.result place c.entries_per_sector-per_sector.ensures.some (subst (λ e. place < e) c.div_ceil-place-end.ensures c.loop-place-test.true) in
-    omega (arith, starts)
-
-pub returns-then-not-follows-clause-good : goal.returns-then-not-follows-clause-good
-unfolding index_in
-returns-then-not-follows-clause-good g c =
-    let f = c.args.file.now in
-    let p = c.entries_per_sector-per_sector.result in
-    let n = f.file.count in
-    let m = c.min-entries.result in
-    let place = c.loop-place.place in
-    let contents = (g.P.Sectors.state c.args.pool.now).contents in
-    let bytes = bytes_in f contents in
-    let entry = entry_at (layout_in f) bytes in
-    let keys = keys_on f contents in
-    let sector = c.read_sector.new.bytes in
-    let starts = starts n p place c.entries_per_sector-per_sector.ensures.some (subst (λ e. place < e) c.div_ceil-place-end.ensures c.loop-place-test.true) in
-    let here = covers p n place m c.entries_per_sector-per_sector.ensures.some starts c.min-entries.ensures in
-    let is = c.in_ok-read_sector.ensures.ok ∙ ap (λ l. index_sector f place (bytes_in f l)) c.loop-place.invariant.reads.keeps.contents in
-    let same = all_held (layout_in f) place p m f.key_length bytes sector refl c.entries_per_sector-per_sector.ensures.result f.short_key here.few is in
-    let apart = rw c.from-key_length.ensures at c.if-not-follows.ensures in
-    let is_last = c.loop-place.invariant.last apart.0 ∙ ap (λ i. (entry (i - 1)).key) (upto_place p n place starts) in
-    let at : place * p + 0 ≡ place * p = omega arith in
-    let is_key = ap (λ e. e.key) (same 0 here.some ∙ ap entry at) in
-    not_good (map entry (range_with_len 0 n)) keys (not_after entry keys n (place * p) _ _ starts (later p place c.entries_per_sector-per_sector.ensures.some apart.0) is_last is_key apart.1)
-
-pub returns-then-not-follows-clause-reads : goal.returns-then-not-follows-clause-reads
-returns-then-not-follows-clause-reads g c = reads_ok _ (reads_then c.loop-place.invariant.reads c.in_ok-read_sector.ensures.reads)
-
-pub returns-then-not-ascend-clause-reads : goal.returns-then-not-ascend-clause-reads
-returns-then-not-ascend-clause-reads g c = reads_ok _ (reads_then c.loop-place.invariant.reads c.in_ok-read_sector.ensures.reads)
-
-pub returns-in_err-have_keys-clause-reads : goal.returns-in_err-have_keys-clause-reads
-returns-in_err-have_keys-clause-reads g c =
-    reads_err _ _ c.from_residual-in_err-have_keys.ensures.1 (reads_then (reads_then c.loop-place.invariant.reads c.in_ok-read_sector.ensures.reads) c.in_err-have_keys.ensures.reads)
-
-pub returns-then-not-branch-clause-reads : goal.returns-then-not-branch-clause-reads
-returns-then-not-branch-clause-reads g c = reads_ok _ (reads_then (reads_then c.loop-place.invariant.reads c.in_ok-read_sector.ensures.reads) c.in_ok-have_keys.ensures.reads)
-
-pub returns-in_err-note-clause-reads : goal.returns-in_err-note-clause-reads
-returns-in_err-note-clause-reads g c =
-    reads_no_memory _ _ c.from_residual-in_err-note.ensures.1 c.in_err-note.ensures (reads_then (reads_then c.loop-place.invariant.reads c.in_ok-read_sector.ensures.reads) c.in_ok-have_keys.ensures.reads)
-
-pub ascend-requires-clause-some : goal.ascend-requires-clause-some
-ascend-requires-clause-some g c =
-    let n = c.args.file.now.file.count in
-    let place = c.loop-place.place in
-    let some = c.entries_per_sector-per_sector.ensures.some in
-    let starts = starts n c.entries_per_sector-per_sector.result place some (subst (λ e. place < e) c.div_ceil-place-end.ensures c.loop-place-test.true) in
-    (covers c.entries_per_sector-per_sector.result n place c.min-entries.result some starts c.min-entries.ensures).some
+    (covers c.entries_per_sector-per_sector.result n place c.entries_in-entries.result c.entries_per_sector-per_sector.ensures.some (starts n c.entries_per_sector-per_sector.result place c.entries_per_sector-per_sector.ensures.some (subst (λ e. place < e) c.div_ceil-place-end.ensures c.loop-place-test.true)) c.entries_in-entries.ensures).some
 
 pub note-requires-clause-some : goal.note-requires-clause-some
 note-requires-clause-some g c =
     let n = c.args.file.now.file.count in
     let place = c.loop-place.place in
-    let some = c.entries_per_sector-per_sector.ensures.some in
-    let starts = starts n c.entries_per_sector-per_sector.result place some (subst (λ e. place < e) c.div_ceil-place-end.ensures c.loop-place-test.true) in
-    (covers c.entries_per_sector-per_sector.result n place c.min-entries.result some starts c.min-entries.ensures).some
+    (covers c.entries_per_sector-per_sector.result n place c.entries_in-entries.result c.entries_per_sector-per_sector.ensures.some (starts n c.entries_per_sector-per_sector.result place c.entries_per_sector-per_sector.ensures.some (subst (λ e. place < e) c.div_ceil-place-end.ensures c.loop-place-test.true)) c.entries_in-entries.ensures).some
 
 pub overflow_sub-entries : goal.overflow_sub-entries
 overflow_sub-entries g c =
     let n = c.args.file.now.file.count in
     let place = c.loop-place.place in
-    let some = c.entries_per_sector-per_sector.ensures.some in
-    let starts = starts n c.entries_per_sector-per_sector.result place some (subst (λ e. place < e) c.div_ceil-place-end.ensures c.loop-place-test.true) in
-    (covers c.entries_per_sector-per_sector.result n place c.min-entries.result some starts c.min-entries.ensures).some
+    (covers c.entries_per_sector-per_sector.result n place c.entries_in-entries.result c.entries_per_sector-per_sector.ensures.some (starts n c.entries_per_sector-per_sector.result place c.entries_per_sector-per_sector.ensures.some (subst (λ e. place < e) c.div_ceil-place-end.ensures c.loop-place-test.true)) c.entries_in-entries.ensures).some
 
-pub returns-then-not-ascend-clause-good : goal.returns-then-not-ascend-clause-good
-unfolding index_in
-returns-then-not-ascend-clause-good g c =
-    let f = c.args.file.now in
-    let p = c.entries_per_sector-per_sector.result in
-    let n = f.file.count in
-    let m = c.min-entries.result in
-    let place = c.loop-place.place in
-    let contents = (g.P.Sectors.state c.args.pool.now).contents in
-    let bytes = bytes_in f contents in
-    let entry = entry_at (layout_in f) bytes in
-    let keys = keys_on f contents in
-    let sector = c.read_sector.new.bytes in
-    let starts = starts n p place c.entries_per_sector-per_sector.ensures.some (subst (λ e. place < e) c.div_ceil-place-end.ensures c.loop-place-test.true) in
-    let here = covers p n place m c.entries_per_sector-per_sector.ensures.some starts c.min-entries.ensures in
-    let is = c.in_ok-read_sector.ensures.ok ∙ ap (λ l. index_sector f place (bytes_in f l)) c.loop-place.invariant.reads.keeps.contents in
-    let same = all_held (layout_in f) place p m f.key_length bytes sector refl c.entries_per_sector-per_sector.ensures.result f.short_key here.few is in
-    let not_up = rw c.from-key_length.ensures at c.if-not-ascend.ensures in
-    not_good (map entry (range_with_len 0 n)) keys (λ good. not_up (good-sector-ascends entry (entry_here f.key_length sector) keys (place * p) m n same here.within good))
+pub returns-in_err-is_sector_good-clause-reads : goal.returns-in_err-is_sector_good-clause-reads
+returns-in_err-is_sector_good-clause-reads g c =
+    reads_err _ _ c.from_residual-in_err-is_sector_good.ensures.1 (reads_then (reads_then c.loop-place.invariant.reads c.in_ok-read_sector.ensures.reads) c.in_err-is_sector_good.ensures.reads)
+
+pub returns-then-not-branch-clause-reads : goal.returns-then-not-branch-clause-reads
+returns-then-not-branch-clause-reads g c = reads_ok _ (reads_then (reads_then c.loop-place.invariant.reads c.in_ok-read_sector.ensures.reads) c.in_ok-is_sector_good.ensures.reads)
+
+pub returns-in_err-note-clause-reads : goal.returns-in_err-note-clause-reads
+returns-in_err-note-clause-reads g c =
+    reads_no_memory _ _ c.from_residual-in_err-note.ensures.1 c.in_err-note.ensures (reads_then (reads_then c.loop-place.invariant.reads c.in_ok-read_sector.ensures.reads) c.in_ok-is_sector_good.ensures.reads)
 
 pub returns-then-not-branch-clause-good : goal.returns-then-not-branch-clause-good
 unfolding index_in
@@ -149,59 +85,49 @@ returns-then-not-branch-clause-good g c =
     let f = c.args.file.now in
     let p = c.entries_per_sector-per_sector.result in
     let n = f.file.count in
-    let m = c.min-entries.result in
+    let m = c.entries_in-entries.result in
     let place = c.loop-place.place in
     let contents = (g.P.Sectors.state c.args.pool.now).contents in
     let bytes = bytes_in f contents in
     let entry = entry_at (layout_in f) bytes in
     let keys = keys_on f contents in
     let sector = c.read_sector.new.bytes in
-    let starts = starts n p place c.entries_per_sector-per_sector.ensures.some (subst (λ e. place < e) c.div_ceil-place-end.ensures c.loop-place-test.true) in
-    let here = covers p n place m c.entries_per_sector-per_sector.ensures.some starts c.min-entries.ensures in
+    let some = c.entries_per_sector-per_sector.ensures.some in
+    let starts = starts n p place some (subst (λ e. place < e) c.div_ceil-place-end.ensures c.loop-place-test.true) in
+    let here = covers p n place m some starts c.entries_in-entries.ensures in
     let is = c.in_ok-read_sector.ensures.ok ∙ ap (λ l. index_sector f place (bytes_in f l)) c.loop-place.invariant.reads.keeps.contents in
     let same = all_held (layout_in f) place p m f.key_length bytes sector refl c.entries_per_sector-per_sector.ensures.result f.short_key here.few is in
     let read = reads_then c.loop-place.invariant.reads c.in_ok-read_sector.ensures.reads in
-    let bad = rw (c.if-not-branch.true, read.keeps.contents) at c.in_ok-have_keys.ensures.good in
-    not_good (map entry (range_with_len 0 n)) keys (λ good. bad.2 (good-of-record entry (entry_here f.key_length sector) keys (place * p) m n bad.0 same here.within bad.1 good))
+    let bad = rw (c.if-not-branch.true, read.keeps.contents) at c.in_ok-is_sector_good.ensures.good in
+    not_good (map entry (range_with_len 0 n)) keys (λ good. bad (good-next entry (entry_here f.key_length sector) keys p place m n _ same here some starts c.loop-place.invariant.last good))
 
 pub loop-place-preserved : goal.loop-place-preserved
 loop-place-preserved g c =
     let f = c.args.file.now in
     let p = c.entries_per_sector-per_sector.result in
     let n = f.file.count in
-    let m = c.min-entries.result in
+    let m = c.entries_in-entries.result in
     let place = c.loop-place.place in
     let contents = (g.P.Sectors.state c.args.pool.now).contents in
     let bytes = bytes_in f contents in
     let entry = entry_at (layout_in f) bytes in
     let keys = keys_on f contents in
     let sector = c.read_sector.new.bytes in
-    let starts = starts n p place c.entries_per_sector-per_sector.ensures.some (subst (λ e. place < e) c.div_ceil-place-end.ensures c.loop-place-test.true) in
-    let here = covers p n place m c.entries_per_sector-per_sector.ensures.some starts c.min-entries.ensures in
+    let some = c.entries_per_sector-per_sector.ensures.some in
+    let starts = starts n p place some (subst (λ e. place < e) c.div_ceil-place-end.ensures c.loop-place-test.true) in
+    let here = covers p n place m some starts c.entries_in-entries.ensures in
     let is = c.in_ok-read_sector.ensures.ok ∙ ap (λ l. index_sector f place (bytes_in f l)) c.loop-place.invariant.reads.keeps.contents in
     let same = all_held (layout_in f) place p m f.key_length bytes sector refl c.entries_per_sector-per_sector.ensures.result f.short_key here.few is in
     let read = reads_then c.loop-place.invariant.reads c.in_ok-read_sector.ensures.reads in
-    let of : (j : ℕ) → j < m → IsOfRecord keys (entry_here f.key_length sector j) = rw (c.if-not-branch.false, read.keeps.contents) at c.in_ok-have_keys.ensures.good in
-    let up : IsAscending (entry_here f.key_length sector) m = rw c.from-key_length.ensures at c.if-not-ascend.ensures in
-    let after : 0 < place → number_of c.loop-place.last.bytes < (entry_here f.key_length sector 0).key = rw c.from-key_length.ensures at c.if-not-follows.ensures in
-    let before = subst (AreChecked entry keys) (upto_place p n place starts) c.loop-place.invariant.checked in
-    let at : place * p + 0 ≡ place * p = omega arith in
-    let first : (entry_here f.key_length sector 0).key ≡ (entry (place * p)).key = ap (λ e. e.key) (same 0 here.some ∙ ap entry at) in
-    let next = upto_next p n place m starts c.min-entries.ensures in
-    let end : place * p + (m - 1) ≡ place * p + m - 1 = omega (arith, here.some) in
+    let good : IsGoodSector keys place (number_of c.loop-place.last.bytes) (entry_here f.key_length sector) m = rw (c.if-not-branch.false, read.keeps.contents) at c.in_ok-is_sector_good.ensures.good in
     let key : number_of c.key_of_entry-last.result.bytes ≡ (entry_here f.key_length sector (m - 1)).key = rw c.from-key_length.ensures at c.key_of_entry-last.ensures.key in
     record {
-      checked = subst (AreChecked entry keys) (sym next) (checked-sector entry (entry_here f.key_length sector) keys (place * p) m same before
-          (λ some. border (entry (place * p - 1)).key (number_of c.loop-place.last.bytes) _ _ (c.loop-place.invariant.last (not_first p place some) ∙ ap (λ i. (entry (i - 1)).key) (upto_place p n place starts)) first (after (not_first p place some)))
-          up of);
-      last = λ _. key ∙ ap (λ e. e.key) (same (m - 1) (omega (arith, here.some))) ∙ ap (λ i. (entry i).key) end ∙ ap (λ i. (entry (i - 1)).key) (sym next);
+      checked = next-checked entry (entry_here f.key_length sector) keys p place m n _ same here c.entries_in-entries.ensures starts c.loop-place.invariant.last c.loop-place.invariant.checked good;
+      last = λ _. next-last entry (entry_here f.key_length sector) p place m n _ same here c.entries_in-entries.ensures starts key;
       short = rw c.from-key_length.ensures at c.key_of_entry-last.ensures.short;
-      records = c.in_ok-have_keys.ensures.here ∙ ap (λ l. part (bytes_in f l) (256 * c.have_keys.new.self.place) 256) (sym c.have_keys.ensures.reads.keeps.contents);
-      reads = reads_ok tt (reads_then read c.in_ok-have_keys.ensures.reads);
+      records = c.in_ok-is_sector_good.ensures.here ∙ ap (λ l. part (bytes_in f l) (256 * c.is_sector_good.new.records.place) 256) (sym c.is_sector_good.ensures.reads.keeps.contents);
+      reads = reads_ok tt (reads_then read c.in_ok-is_sector_good.ensures.reads);
     }
-  where
-    border : (before last first key : ℕ) → last ≡ before → first ≡ key → last < first → before < key
-    border before last first key is_last is_first less = omega (arith, is_last, is_first, less)
 
 pub returns-clause-good : goal.returns-clause-good
 unfolding index_in
