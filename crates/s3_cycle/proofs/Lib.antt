@@ -36,3 +36,4 @@ pub mod SoughtLemmas
 pub mod FoundLemmas
 pub mod ChainedLemmas
 pub mod StandingLemmas
+mod StandLaw

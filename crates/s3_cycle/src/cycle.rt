@@ -45,7 +45,7 @@ impl Cycle {
     ghost use Rattle.s3_cycle.specs.Inner.Requests.{FitsFile, IsLine, answer_of, sought_of};
     ghost use Rattle.s3_cycle.specs.Inner.Following.{StandsFor, asked, files, is_fit, put, waits};
     ghost use Rattle.s3_cycle.specs.Inner.Rest.{rest};
-    ghost use Rattle.s3_cycle.specs.Inner.Standing.{chain_of, file_of, record_at, sought_by, stand_of};
+    ghost use Rattle.s3_cycle.specs.Inner.Standing.{AsksAt, chain_of, file_of, record_at, sought_by, stand_of};
 
     /// A job at its first request, with its switches, U1 the highest bit, and its date, six EBCDIC digits. All memory of the
     /// run is taken here.
@@ -103,9 +103,10 @@ impl Cycle {
         self.stepper.program.name
     }
 
-    /// Where a run that halts stands in its source.
+    /// Where a run that halts stands in its source: after reply 0 it goes on as the meaning does behind that card.
     pub fn stand(&self) -> Stand
-        ensures { result ≡ stand_of self.now }
+        ensures value { result ≡ stand_of self.now }
+        ensures card { (source : Source) → AsksAt source self.now result }
     {
         self.stepper.stand()
     }

@@ -1,19 +1,22 @@
 //! The beginning of a run.
-ghost use Rattle.std.specs.Prelude.{◌≡◌, None, replicate, IfOk};
+ghost use Rattle.std.specs.Prelude.{◌≡◌, ◌+◌, ◌*◌, ◌^◌, ◌<◌, None, length, replicate, IfOk};
 ghost use Rattle.s3_operations.specs.Inner.Beginning.{IsDate};
-ghost use Rattle.s3_cycle.specs.Inner.Starting.{BeginsProgress, Starts};
+ghost use Rattle.s3_operations.specs.Inner.Held.{HasTexts};
+ghost use Rattle.s3_cycle.specs.Inner.Starting.{AreInstructions, BeginsProgress, BeginsRun, BeginsState, IsBegun, Starts};
 
 use crate::progress::{Point, Progress, Time};
 use crate::request::Request;
 use crate::state::State;
 use crate::stepper::Stepper;
 use s3_decimal::Record;
-use s3_instructions::calculation::{calculations, totals_guard};
-use s3_instructions::input::inputs;
+use s3_instructions::calculation::{CalculationInstruction, calculations, totals_guard};
+use s3_instructions::guard::Guard;
+use s3_instructions::input::{InputInstruction, inputs};
 use s3_instructions::output::OutputSheet;
 use s3_match::controls::Controls;
 use s3_match::reading::Reading;
 use s3_meaning::Current;
+use s3_operations::texts::Texts;
 use s3_operations::values::Values;
 use s3_output::carriage::Carriage;
 use s3_output::composition::Composition;
@@ -48,7 +51,117 @@ impl Progress {
     }
 }
 
+impl State {
+    /// Nothing is held but the switches and the date.
+    fn first(
+        alloc: Global,
+        program: &Program,
+        switches: u8,
+        date: [u8; 6],
+    ) -> Result<State, AllocError>
+        requires { IsDate date }
+        ensures { IfOk result (BeginsState program.now switches date) }
+    {
+        let values = Values::new(alloc, program, switches, date)?;
+        let current = no_records(alloc, program.files.len())?;
+        Ok(State {
+            values,
+            current,
+            controls: Controls::none(alloc)?,
+            is_totals_due: false,
+            carriage: Carriage { page: 1, line: 1 },
+        })
+    }
+}
+
+/// The instructions of a program's sheets, and when its total calculations can do anything at all.
+#[derive(Drop)]
+pub struct Instructions {
+    pub(crate) calculations: Vec<CalculationInstruction>,
+    pub(crate) totals_guard: Guard,
+    pub(crate) inputs: Vec<InputInstruction>,
+    pub(crate) outputs: OutputSheet,
+}
+
+impl Instructions {
+    /// A program, decoded.
+    fn of(alloc: Global, program: &Program, texts: &Texts) -> Result<Instructions, AllocError>
+        requires texts { HasTexts program.now texts.now }
+        requires room { length program.now.fields.items + 2 * length program.now.calculations.items < 2 ^ 64 }
+        ensures { IfOk result (AreInstructions program.now) }
+    {
+        Ok(Instructions {
+            calculations: calculations(alloc, program, texts)?,
+            totals_guard: totals_guard(alloc, program)?,
+            inputs: inputs(alloc, program, texts)?,
+            outputs: OutputSheet::of(alloc, program, texts, overflow_of(&program.files))?,
+        })
+    }
+}
+
+/// What a run begins with, beside its program.
+#[derive(Drop)]
+pub struct Beginning {
+    pub(crate) state: State,
+    pub(crate) progress: Progress,
+    pub(crate) instructions: Instructions,
+}
+
+impl Beginning {
+    /// All that takes memory.
+    fn of(
+        alloc: Global,
+        program: &Program,
+        switches: u8,
+        date: [u8; 6],
+    ) -> Result<Beginning, AllocError>
+        requires date { IsDate date }
+        requires room { length program.now.fields.items + 2 * length program.now.calculations.items < 2 ^ 64 }
+        ensures { IfOk result (BeginsRun program.now switches date) }
+    {
+        let state = State::first(alloc, program, switches, date)?;
+        let progress = Progress::first(alloc, program, switches)?;
+        let instructions = Instructions::of(alloc, program, &state.values.texts)?;
+        Ok(Beginning {
+            state,
+            progress,
+            instructions,
+        })
+    }
+}
+
 impl Stepper {
+    /// A run of a program that asks for nothing yet.
+    fn of(program: Program, beginning: Beginning) -> Stepper
+        ensures { IsBegun program beginning result }
+    {
+        let Beginning {
+            state,
+            progress,
+            instructions,
+        } = beginning;
+        let Instructions {
+            calculations,
+            totals_guard,
+            inputs,
+            outputs,
+        } = instructions;
+        let overflow = overflow_of(&program.files);
+        Stepper {
+            program,
+            calculations,
+            totals_guard,
+            inputs,
+            overflow,
+            outputs,
+            request: Request::End { at_once: false },
+            point: Point::End { at_once: false },
+            state,
+            progress,
+            composition: Composition::new(),
+        }
+    }
+
     /// A job at its first request.
     pub fn start(
         alloc: Global,
@@ -59,35 +172,13 @@ impl Stepper {
         requires { IsDate date }
         ensures { IfOk result (Starts program switches date) }
     {
-        let values = Values::new(alloc, &program, switches, date)?;
-        let current = no_records(alloc, program.files.len())?;
-        let progress = Progress::first(alloc, &program, switches)?;
-        let calculations = calculations(alloc, &program, &values.texts)?;
-        let totals_guard = totals_guard(alloc, &program)?;
-        let inputs = inputs(alloc, &program, &values.texts)?;
-        let overflow = overflow_of(&program.files);
-        let outputs = OutputSheet::of(alloc, &program, &values.texts, overflow)?;
-        let mut stepper = Stepper {
-            program,
-            calculations,
-            totals_guard,
-            inputs,
-            overflow,
-            outputs,
-            // nothing is asked for yet
-            request: Request::End { at_once: false },
-            point: Point::End { at_once: false },
-            state: State {
-                values,
-                current,
-                controls: Controls::none(alloc)?,
-                is_totals_due: false,
-                carriage: Carriage { page: 1, line: 1 },
-            },
-            progress,
-            composition: Composition::new(),
-        };
-        stepper.put_headings(0);
-        Ok(stepper)
+        match Beginning::of(alloc, &program, switches, date) {
+            Ok(beginning) => {
+                let mut stepper = Stepper::of(program, beginning);
+                stepper.put_headings(0);
+                Ok(stepper)
+            }
+            Err(fault) => Err(fault),
+        }
     }
 }

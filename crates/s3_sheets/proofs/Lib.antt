@@ -1,4 +1,5 @@
 pub mod ConstantLemmas
+mod DiagnoseLemmas
 pub mod EntryLemmas
 pub mod FactorLemmas
 pub mod FaultLemmas

@@ -1,6 +1,6 @@
 //! Reading the sheets of a source.
 
-ghost use Rattle.std.specs.Prelude.{◌≡◌, ◌≤◌, ◌<◌, ◌+◌, [], ◌++◌, length, OnOk, slice_range};
+ghost use Rattle.std.specs.Prelude.{◌≡◌, ◌≤◌, ◌<◌, ◌+◌, [], ◌∷◌, ◌++◌, if◌then◌else◌, length, OnOk, slice_range};
 ghost use Rattle.std.specs.Option.{option_to_list};
 ghost use Rattle.s3_sheets.specs.Lines.{line_of as line_of_spec, lines_of};
 ghost use Rattle.s3_sheets.specs.Sheets.{card_holds, sheet_diagnostics};
@@ -32,17 +32,30 @@ fn is_diagnosed(standing: Standing, number: u8) -> bool
     }
 }
 
+/// Adds a diagnostic of the card with this number, if the card has it.
+fn add_diagnostic(
+    found: &mut Vec<Diagnostic>,
+    number: u16,
+    standing: Standing,
+    diagnostic: u8,
+) -> Result<(), AllocError>
+    ensures { OnOk result (found.new.items ≡ found.old.items ++ (if card_holds standing diagnostic then record { card = number; number = diagnostic } ∷ [] else [])) }
+{
+    if is_diagnosed(standing, diagnostic) {
+        found.push(Diagnostic {
+            card: number,
+            number: diagnostic,
+        })?;
+    }
+    Ok(())
+}
+
 /// Adds the diagnostics of the card with this number.
 fn diagnose(found: &mut Vec<Diagnostic>, number: u16, standing: Standing) -> Result<(), AllocError>
     ensures { OnOk result (found.new.items ≡ found.old.items ++ card_diagnostics number standing) }
 {
     for diagnostic in NUMBERS {
-        if is_diagnosed(standing, diagnostic) {
-            found.push(Diagnostic {
-                card: number,
-                number: diagnostic,
-            })?;
-        }
+        add_diagnostic(found, number, standing, diagnostic)?;
     }
     Ok(())
 }

@@ -1,5 +1,5 @@
 -- Where a run that halts stands in its source, and what it holds there.
-use Rattle.std.specs.Prelude.{◌≡◌, ℕ, ◌-◌, Bool, true, false, List, [], slice_get, Option, Some, None, option_map, if◌then◌else◌}
+use Rattle.std.specs.Prelude.{◌≡◌, ◌⊎◌, ℕ, ◌-◌, ◌∷◌, Bool, true, false, List, [], slice_get, Option, Some, None, option_map, if◌then◌else◌}
 use Rattle.std.specs.Option.{option_and_then}
 use Rattle.s3_lines.specs.declared.sheet.CalculationLine.{CalculationLine}
 use Rattle.s3_lines.specs.declared.sheet.Factor.{Factor}
@@ -9,6 +9,8 @@ use Rattle.s3_lines.specs.declared.sheet.Operation.TheVariants as op
 use Rattle.s3_meaning.specs.Calculating.{sought_in}
 use Rattle.s3_meaning.specs.Output.{filled}
 use Rattle.s3_meaning.specs.Requests as Meant
+use Rattle.s3_meaning.specs.Runs.{Rest}
+use Rattle.s3_meaning.specs.Source.{Source}
 use Rattle.s3_program.specs.declared.program.Program.{Program}
 use Rattle.s3_program.specs.declared.program.Reference.{Reference}
 use Rattle.s3_program.specs.declared.program.Reference.TheVariants.{File}
@@ -24,6 +26,7 @@ use Rattle.s3_match.specs.declared.heads.InputFile.{InputFile}
 use Rattle.s3_cycle.specs.declared.progress.Progress.{Progress}
 use Rattle.s3_cycle.specs.declared.progress.Time.{Time}
 use Rattle.s3_cycle.specs.declared.progress.Time.TheVariants as time
+use Rattle.s3_cycle.specs.declared.progress.Moves.{Moves}
 use Rattle.s3_cycle.specs.declared.progress.Moves.TheVariants as moves
 use Rattle.s3_cycle.specs.declared.progress.Continuation.{Continuation}
 use Rattle.s3_cycle.specs.declared.progress.Continuation.TheVariants as after
@@ -32,8 +35,8 @@ use Rattle.s3_cycle.specs.declared.progress.Point.TheVariants as at
 use Rattle.s3_cycle.specs.declared.stand.Stand.{Stand}
 use Rattle.s3_cycle.specs.declared.stand.Stand.TheVariants.{Nowhere, Head, Field, ChainedField, Calculation, Output}
 use Rattle.s3_cycle.specs.declared.stepper.Stepper.{Stepper}
-use Rattle.s3_cycle.specs.Inner.Going.{own, held_by}
-use Rattle.s3_cycle.specs.Inner.Rest.{moved_bytes, selected_input, starts_of}
+use Rattle.s3_cycle.specs.Inner.Going.{IsField, IsLineAt, own, held_by}
+use Rattle.s3_cycle.specs.Inner.Rest.{calculating, division_then, field_then, head_again, lines_from, moved_bytes, rest, selected_input, starts_of}
 
 -- ---- where it stands
 -- the output line before the next one of those that are put out together
@@ -140,3 +143,49 @@ file_of program (Field place file number) = Some file
 file_of program (Output file place) = Some file
 file_of program (Calculation place) = option_and_then (λ (line : CalculationLine Reference). slot_named line.factor2) (chain_at program place)
 file_of program stand = None
+
+-- ---- the card that it stands at, and the line at which its request was made
+-- what follows reply 0
+abbrev pub GoesOnAs : Source → Stepper → Rest → Type 0
+GoesOnAs source c meant = (answers : List Meant.Answer) → rest source c (Meant.Reply 0 ∷ answers) ≡ meant (held_by c) answers
+
+-- the next record of the file, that read last having this number
+pub record AsksHead (source : Source) (c : Stepper) (file number : ℕ) : Type 0 where
+  pub place : ℕ
+  pub input : InputFile
+  pub there : slice_get c.progress.reading.files.items place ≡ Some input
+  pub is_file : input.file ≡ file
+  pub is_number : input.reads ≡ number
+  pub goes_on : GoesOnAs source c (head_again source c.program c.progress place)
+
+-- the field of the I sheet at the place has bad digits: its number is moved, and the fields behind it
+pub record AsksField (source : Source) (c : Stepper) (m : Moves) (place : ℕ) : Type 0 where
+  pub is_field : IsField c.program place
+  pub goes_on : GoesOnAs source c (field_then source c.program c.progress m place)
+
+-- the line of the C sheet at the place is a DIV by zero, whose quotient becomes 0, or the one behind which calculations go on
+pub record AsksDivision (source : Source) (c : Stepper) (place : ℕ) : Type 0 where
+  pub is_division : IsLineAt c.program place op.Divide
+  pub goes_on : GoesOnAs source c (division_then source c.program c.progress place)
+
+pub record AsksBehind (source : Source) (c : Stepper) (place : ℕ) : Type 0 where
+  pub is_behind : place ≡ c.progress.course.here.place - 1
+  pub goes_on : GoesOnAs source c (calculating source c.program c.progress)
+
+-- the line of the O sheet that starts at the place is passed over, and those behind it are put out
+pub record AsksLine (source : Source) (c : Stepper) (file place : ℕ) : Type 0 where
+  pub lines : Walk
+  pub next : ℕ
+  pub start : OutputStart
+  pub there : slice_get (starts_of c.program.starts lines) (next - 1) ≡ Some start
+  pub is_file : start.file ≡ file
+  pub is_place : start.place ≡ place
+  pub goes_on : GoesOnAs source c (lines_from source c.program c.progress lines next)
+
+abbrev pub AsksAt : Source → Stepper → Stand → Type 0
+AsksAt source c Nowhere = Unit {0}
+AsksAt source c (Head file number) = AsksHead source c file number
+AsksAt source c (Field place file number) = AsksField source c moves.Selected place
+AsksAt source c (ChainedField place) = AsksField source c moves.Chained place
+AsksAt source c (Calculation place) = AsksDivision source c place ⊎ AsksBehind source c place
+AsksAt source c (Output file place) = AsksLine source c file place

@@ -6,6 +6,12 @@ use Rattle.s3_meaning.specs.Cycle.{Req, first_reading}
 use Rattle.s3_program.specs.declared.program.Program.{Program}
 use Rattle.s3_program.specs.Inner.Stands.{source_named}
 use Rattle.s3_match.specs.Inner.Reading.{IsReading, reading_in}
+use Rattle.s3_instructions.specs.Inner.Calculations.{AreCalculations, IsTotalsGuard}
+use Rattle.s3_instructions.specs.Inner.Fields.{AreInputs}
+use Rattle.s3_instructions.specs.Inner.OutputLines.{AreOutputs}
+use Rattle.s3_meaning.specs.Source.{overflow_of}
+use Rattle.s3_cycle.specs.declared.starting.Beginning.{Beginning}
+use Rattle.s3_cycle.specs.declared.starting.Instructions.{Instructions}
 use Rattle.s3_cycle.specs.declared.progress.Progress.{Progress}
 use Rattle.s3_cycle.specs.declared.state.State.{State}
 use Rattle.s3_cycle.specs.declared.stepper.Stepper.{Stepper}
@@ -22,6 +28,29 @@ pub record BeginsProgress (program : Program) (switches : ℕ) (progress : Progr
   pub heads : All (IsHeadWithin program) progress.reading.files.items
   pub begins : CanBegin program progress
   pub first : (date : List ℕ) → reading_in program progress.reading ≡ first_reading (source_named program) (at_first (source_named program) switches date)
+
+-- its sheets are decoded
+pub record AreInstructions (program : Program) (instructions : Instructions) : Type 0 where
+  pub calculations : AreCalculations program instructions.calculations.items
+  pub totals_guard : IsTotalsGuard program instructions.totals_guard
+  pub inputs : AreInputs program instructions.inputs.items
+  pub outputs : AreOutputs program instructions.outputs
+
+pub record BeginsRun (program : Program) (switches : ℕ) (date : List ℕ) (beginning : Beginning) : Type 0 where
+  pub state : BeginsState program switches date beginning.state
+  pub progress : BeginsProgress program switches beginning.progress
+  pub instructions : AreInstructions program beginning.instructions
+
+-- a run has just these parts
+pub record IsBegun (begun : Program) (beginning : Beginning) (c : Stepper) : Type 0 where
+  pub program : c.program ≡ begun
+  pub overflow : c.overflow ≡ overflow_of begun.files.items
+  pub state : c.state ≡ beginning.state
+  pub progress : c.progress ≡ beginning.progress
+  pub calculations : c.calculations ≡ beginning.instructions.calculations
+  pub totals_guard : c.totals_guard ≡ beginning.instructions.totals_guard
+  pub inputs : c.inputs ≡ beginning.instructions.inputs
+  pub outputs : c.outputs ≡ beginning.instructions.outputs
 
 -- a job at its first request
 pub record Starts (program : Program) (switches : ℕ) (date : List ℕ) (c : Stepper) : Type 0 where
