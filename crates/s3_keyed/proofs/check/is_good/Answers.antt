@@ -1,4 +1,4 @@
-use Rattle.std.proofs.Common.{◌≡◌, ◌*◌, ◌-◌, ◌<◌, ◌≤◌, map, min, refl, ap, ◌∙◌, subst, sym, arith}
+use Rattle.std.proofs.Common.{◌≡◌, ◌*◌, ◌+◌, ◌/◌, ℕ, ◌-◌, ◌<◌, ◌≤◌, map, min, refl, ap, ◌∙◌, subst, sym, arith}
 use Rattle.std.specs.List.{range_with_len}
 use Rattle.s3_store.specs.Bytes.{part}
 use Rattle.s3_keyed.specs.KeyOrder.{number_of}
@@ -139,3 +139,41 @@ returns-clause-good g c =
     let place = c.loop-place.place in
     let whole = all_places f.file.count c.entries_per_sector-per_sector.result place c.entries_per_sector-per_sector.ensures.some (subst (λ e. e ≤ place) c.div_ceil-place-end.ensures c.loop-place-test.false) in
     to_good (map entry (range_with_len 0 f.file.count)) keys (checked-good entry keys f.file.count (length_keys (layout_in f) f.file.count (bytes_in f contents)) (subst (AreChecked entry keys) whole c.loop-place.invariant.checked))
+
+pub is_sector_good-requires-clause-inside : goal.is_sector_good-requires-clause-inside
+is_sector_good-requires-clause-inside g c =
+    let n = c.args.file.now.file.count in
+    let place = c.loop-place.place in
+    let some = c.entries_per_sector-per_sector.ensures.some in
+    let starts = starts n c.entries_per_sector-per_sector.result place some (subst (λ e. place < e) c.div_ceil-place-end.ensures c.loop-place-test.true) in
+    let here = covers c.entries_per_sector-per_sector.result n place c.entries_in-entries.result some starts c.entries_in-entries.ensures in
+    subst (λ p. c.entries_in-entries.result ≤ p) c.entries_per_sector-per_sector.ensures.result here.few
+
+pub note-requires-clause-inside : goal.note-requires-clause-inside
+note-requires-clause-inside g c =
+    let n = c.args.file.now.file.count in
+    let place = c.loop-place.place in
+    let some = c.entries_per_sector-per_sector.ensures.some in
+    let starts = starts n c.entries_per_sector-per_sector.result place some (subst (λ e. place < e) c.div_ceil-place-end.ensures c.loop-place-test.true) in
+    let here = covers c.entries_per_sector-per_sector.result n place c.entries_in-entries.result some starts c.entries_in-entries.ensures in
+    subst (λ p. c.entries_in-entries.result ≤ p) c.entries_per_sector-per_sector.ensures.result here.few
+
+pub is_sector_good-requires-clause-short_key : goal.is_sector_good-requires-clause-short_key
+is_sector_good-requires-clause-short_key g c = c.loop-place.invariant.short
+
+pub is_sector_good-requires-clause-here : goal.is_sector_good-requires-clause-here
+is_sector_good-requires-clause-here g c =
+    c.loop-place.invariant.records ∙ ap (λ l. part (bytes_in c.args.file.now l) (256 * c.loop-place.records.place) 256) (sym c.in_ok-read_sector.ensures.reads.keeps.contents)
+
+pub key_of_entry-last-requires-clause-inside : goal.key_of_entry-last-requires-clause-inside
+key_of_entry-last-requires-clause-inside g c =
+    let n = c.args.file.now.file.count in
+    let place = c.loop-place.place in
+    let some = c.entries_per_sector-per_sector.ensures.some in
+    let starts = starts n c.entries_per_sector-per_sector.result place some (subst (λ e. place < e) c.div_ceil-place-end.ensures c.loop-place-test.true) in
+    let here = covers c.entries_per_sector-per_sector.result n place c.entries_in-entries.result some starts c.entries_in-entries.ensures in
+    let few : c.entries_in-entries.result ≤ 256 / (c.args.file.now.key_length + 4) = subst (λ p. c.entries_in-entries.result ≤ p) c.entries_per_sector-per_sector.ensures.result here.few in
+    subst (λ k. c.entries_in-entries.result - 1 < 256 / (k + 4)) (sym c.from-key_length.ensures) (by c.entries_in-entries.result (256 / (c.args.file.now.key_length + 4)) here.some few)
+  where
+    by : (m p : ℕ) → 0 < m → m ≤ p → m - 1 < p
+    by m p some few = omega (arith, some, few)
