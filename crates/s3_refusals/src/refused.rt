@@ -2,7 +2,7 @@
 ghost use Rattle.std.specs.Prelude.{◌≡◌};
 ghost use Rattle.s3_cli.specs.Inner.Faults.{status_of};
 
-use crate::names::Shown;
+use s3_decks::Shown;
 use crate::packs::pack_words;
 use crate::reasons::{Holder, Reason};
 use s3_cli::{CliFault, ImageFault, MigrateFault, RunFault, SessionFault, tell};
