@@ -14,7 +14,9 @@
 //! - `encoding_of` gives which files are UTF-16, or begin with a byte order mark.
 //! - `is_shown` gives which characters of a name a terminal shows as they are.
 //!
-//! Tested: what an argument says as a `Position`, the texts of places, which date and switches a kept job loses, and what is shown
+//! - A job that `job_before` gives ends at the place that was asked for.
+//!
+//! Tested: which job that is, what an argument says as a `Position`, the texts of places, which date and switches a kept job loses, and what is shown
 //! of cards and names.
 
 #![tactic(auto)]
@@ -29,6 +31,7 @@ mod gaps;
 mod inherited;
 mod job_list;
 mod keyword;
+mod last_job;
 mod listing;
 mod names;
 mod place;
@@ -47,6 +50,7 @@ pub use encoding::{Encoding, encoding_of};
 pub use inherited::{Inherited, InheritedDate, InheritedSwitches, lost_settings};
 pub use job_list::{JobEntry, Statements, jobs_of};
 pub use keyword::keyword_columns;
+pub use last_job::job_before;
 pub use listing::{push_inherited, push_jobs};
 pub use names::{Shown, is_shown};
 pub use place::{CardPlace, FilePlace};

@@ -28,7 +28,7 @@ pub fn push_strays(
     Ok(count)
 }
 
-/// Appends `  job 3, PAY (day1.job, line 12), `.
+/// Appends `  job 3, PAY (day1.job, line 12), `, or `  job 3 (day1.job, line 12) ` for a faulty job.
 fn push_job(
     text: &mut String,
     places: &DeckText<'_>,
@@ -36,14 +36,18 @@ fn push_job(
     job: &JobEntry,
 ) -> Result<(), AllocError> {
     write!(text, "  job {number}")?;
-    if let Statements::Sound(cards) = &job.statements {
-        text.push_str(", ")?;
-        push_name(text, cards.program())?;
-    }
+    let after = match &job.statements {
+        Statements::Sound(cards) => {
+            text.push_str(", ")?;
+            push_name(text, cards.program())?;
+            ", "
+        }
+        Statements::Faulty(_) => " ",
+    };
     if let Some(line) = places.place_of(job.first_card()).place {
         write!(text, " ({line})")?;
     }
-    text.push_str(", ")
+    text.push_str(after)
 }
 
 /// Appends how a job goes on over the statements at these places, from 0: `has // LOAD among its data at card 28 (day1.job, line 28), and

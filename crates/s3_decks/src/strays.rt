@@ -133,7 +133,7 @@ fn is_run(card: &Card) -> bool
 }
 
 /// Whether a card begins with `//` and a blank.
-fn is_statement(card: &Card) -> bool
+pub(crate) fn is_statement(card: &Card) -> bool
     ensures { result ≡ is_statement_spec card.now }
 {
     card.starts_with(&[SLASH, SLASH, BLANK])
