@@ -4,8 +4,8 @@ use super::fault::DayFault;
 use super::order::Order;
 use super::taking_up::cards_of;
 use super::watch::Watch;
-use s3_cards::LevelId;
-use s3_decks::{jobs_of, push_strays};
+use s3_cards::{Deck, LevelId};
+use s3_decks::{JobEntry, jobs_of, push_strays, strays_of};
 use s3_operating::{Clock, DayDeck, Questioned};
 use s3_replies::{Typed, read_typed};
 use std::alloc::AllocError;
@@ -70,15 +70,26 @@ fn report_level<'a>(
         return Ok(0);
     };
     let jobs = jobs_of(rt.alloc(), &cards)?;
+    if !have_strays(rt, &cards, &jobs)? {
+        return Ok(0);
+    }
     let places = deck.with_places(rt.alloc())?;
     let mut text = String::new(rt.alloc());
     let count = push_strays(&mut text, rt.alloc(), &places, &cards, &jobs)?;
-    if count > 0 {
-        let number = level.number();
-        let _ = writeln!(rt.stderr(), "level {number}:");
-        let _ = rt.stderr().write_all(text.as_bytes());
-    }
+    let number = level.number();
+    let _ = writeln!(rt.stderr(), "level {number}:");
+    let _ = rt.stderr().write_all(text.as_bytes());
     Ok(count)
+}
+
+/// Whether one of these jobs goes on over statements of the next ones.
+fn have_strays(rt: &HostRuntime, cards: &Deck, jobs: &[JobEntry]) -> Result<bool, AllocError> {
+    for job in jobs {
+        if !strays_of(rt.alloc(), cards, job)?.is_empty() {
+            return Ok(true);
+        }
+    }
+    Ok(false)
 }
 
 /// Asks until the answer is a yes or a no. The end of the input is a no.
