@@ -11,6 +11,7 @@ mod order;
 mod outputs;
 mod paper;
 mod saving;
+mod strays;
 mod streams;
 mod taking_up;
 mod watch;
@@ -30,7 +31,7 @@ use s3_cli::{CliFault, RunFault, SessionFault};
 use s3_day_log::DayLog;
 use s3_labels::{Pack, Refusal, Refused};
 use s3_operating::Seat;
-use s3_paper_commands::status::{DONE, PASSED_OVER};
+use s3_paper_commands::status::{DONE, PASSED_OVER, PERSON_NEEDED};
 use s3_refusals::{Shown, holder_of, pack_words};
 use s3_replies::Rules;
 use s3_store::MemoryStore;
@@ -180,6 +181,9 @@ fn operate_decks<'a>(
         test_same(rt, again, &decks.begun)?;
     }
     decks.take_up(rt, order)?;
+    if !decks.are_accepted(rt, order)? {
+        return Ok(PERSON_NEEDED);
+    }
     operate_over(rt, order, pack, decks, rules, again.map(|again| again.log))
 }
 

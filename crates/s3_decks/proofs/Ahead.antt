@@ -8,12 +8,12 @@ use Rattle.s3_decks.specs.declared.gaps.Gaps.{Gaps}
 use Rattle.s3_decks.specs.Inner.Decks.{is_left_out}
 use Rattle.s3_decks.specs.Inner.Gaps.{AreAhead, begin_in_order}
 
--- a range that begins behind a place, and one that ends at it or before it, don't have it
+-- a range that begins after a place doesn't have it; one that ends at it or before it doesn't either
 before_range : (range : CardRange) (place : ℕ) → place < range.from → (nat_le range.from place && nat_lt place range.to) ≡ false
 before_range range place before = and_left (nat_le range.from place) (nat_lt place range.to) (lt-leb range.from place before)
 
-behind_range : (range : CardRange) (place : ℕ) → range.to ≤ place → (nat_le range.from place && nat_lt place range.to) ≡ false
-behind_range range place behind = and_right (nat_le range.from place) (nat_lt place range.to) (le-ltb place range.to behind)
+after_range : (range : CardRange) (place : ℕ) → range.to ≤ place → (nat_le range.from place && nat_lt place range.to) ≡ false
+after_range range place after = and_right (nat_le range.from place) (nat_lt place range.to) (le-ltb place range.to after)
 
 -- a place before ranges that begin in ascending order is in none of them
 none_before : (ranges : List CardRange) (n place : ℕ) → place < n → begin_in_order n ranges ≡ true → is_left_out ranges place ≡ false
@@ -42,12 +42,12 @@ none_yet ranges range more place is before order =
 
 -- what a range that has ended leaves
 pub one_ended : (rest : List CardRange) (range : CardRange) (more : List CardRange) (place p : ℕ) → rest ≡ range ∷ more → range.to ≤ place → place ≤ p → is_left_out more p ≡ is_left_out rest p
-one_ended rest range more place p is ended behind =
-    sym (ap (λ all. is_left_out all p) is ∙ ap (λ (t : Bool). t || is_left_out more p) (behind_range range p (omega (arith, ended, behind))))
+one_ended rest range more place p is ended after =
+    sym (ap (λ all. is_left_out all p) is ∙ ap (λ (t : Bool). t || is_left_out more p) (after_range range p (omega (arith, ended, after))))
 
-pub order_behind : (rest : List CardRange) (range : CardRange) (more : List CardRange) → rest ≡ range ∷ more → begin_in_order 0 rest ≡ true → begin_in_order 0 more ≡ true
+pub order_after : (rest : List CardRange) (range : CardRange) (more : List CardRange) → rest ≡ range ∷ more → begin_in_order 0 rest ≡ true → begin_in_order 0 more ≡ true
 unfolding begin_in_order
-order_behind rest range more is order =
+order_after rest range more is order =
     in_order_at_all more range.from ((and_parts (nat_le 0 range.from) (begin_in_order range.from more) (ap (begin_in_order 0) (sym is) ∙ order)).1)
 
 -- the order of ranges from one of them on
@@ -75,13 +75,13 @@ all_ahead all gaps same order = record {
   order = λ is. ap (begin_in_order 0) same ∙ sym order ∙ is;
 }
 
--- what is answered for a place, and the ranges that are ahead behind it
+-- what is answered for a place, and the ranges that are ahead after it
 pub taken : (all : List CardRange) (place : ℕ) (old new : Gaps) (result : Bool) → new.is_ordered ≡ old.is_ordered → ((p : ℕ) → place ≤ p → is_left_out new.ranges.now p ≡ is_left_out old.ranges.now p) → (begin_in_order 0 old.ranges.now ≡ true → begin_in_order 0 new.ranges.now ≡ true) → ((new.is_ordered ≡ true → begin_in_order 0 new.ranges.now ≡ true) → result ≡ is_left_out new.ranges.now place) → AreAhead all place old → (result ≡ is_left_out all place) × AreAhead all (place + 1) new
 taken all place old new result kept same order answer ahead =
     let ordered : new.is_ordered ≡ true → begin_in_order 0 new.ranges.now ≡ true = λ is. order (ahead.order (sym kept ∙ is)) in (
       answer ordered ∙ same place (le_refl place) ∙ ahead.same place (le_refl place),
       record {
-        same = λ p behind. same p (omega (arith, behind)) ∙ ahead.same p (omega (arith, behind));
+        same = λ p after. same p (omega (arith, after)) ∙ ahead.same p (omega (arith, after));
         order = ordered;
       },
     )

@@ -3,3 +3,6 @@ pub mod Decks
 pub mod Days
 pub mod Gaps
 pub mod Blanks
+pub mod Shown
+pub mod Strays
+pub mod Encodings

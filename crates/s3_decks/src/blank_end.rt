@@ -19,7 +19,7 @@ pub fn cards_len(text: &[u8]) -> usize
     }
 }
 
-/// The place behind the line that a place is in.
+/// The place after the line that a place is in.
 fn end_of_line(text: &[u8], place: usize) -> usize
     requires { place ≤ length text.now }
     ensures value { result ≡ line_end text.now place }

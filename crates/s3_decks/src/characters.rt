@@ -11,7 +11,7 @@ pub fn push_characters(text: &mut String, codes: &[u8]) -> Result<(), AllocError
     Ok(())
 }
 
-/// Appends a name without the blanks behind it.
+/// Appends a name without the blanks at its end.
 pub fn push_name(text: &mut String, name: Name) -> Result<(), AllocError> {
     push_characters(text, trim_end(&name.codes))
 }

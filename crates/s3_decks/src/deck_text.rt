@@ -12,12 +12,12 @@ use s3_cards::first_line;
 use std::alloc::{AllocError, Global};
 use std::marker::Model;
 
-/// Cards of a deck that stand one behind the other, by places from 0.
+/// Cards of a deck that follow each other, by places from 0.
 #[derive(Clone, Copy)]
 pub struct CardRange {
     /// The place of the first one.
     pub from: usize,
-    /// The place behind the last one.
+    /// The place after the last one.
     pub to: usize,
 }
 
@@ -48,7 +48,7 @@ impl<'a> DeckText<'a> {
         }
     }
 
-    /// Puts a file's lines behind those of the files before. A last line without its end gets one. On a refusal for memory
+    /// Adds a file's lines after those of the files before. A last line without its end gets one. On a refusal for memory
     /// the deck may have a part of the file, and isn't to be used.
     pub fn add(&mut self, file: &'a str, bytes: Vec<u8>) -> Result<(), AllocError>
         ensures { OnOk result (self.new ≡ with_file file.now bytes.items self.old) }
@@ -57,7 +57,7 @@ impl<'a> DeckText<'a> {
         push_ended(&mut self.text, bytes)
     }
 
-    /// Puts cards that were punched of a file behind those of the files before, with the line of the file that each is of, from
+    /// Adds cards that were punched of a file after those of the files before, with the line of the file that each is of, from
     /// 1, in their order. A last card without its end gets one. On a refusal for memory the deck may have a part of the file, and
     /// isn't to be used.
     pub fn add_punched(
@@ -86,7 +86,7 @@ impl<'a> DeckText<'a> {
         self.places.len()
     }
 
-    /// Where a card stands, by its number in the deck, from 1.
+    /// The line that a card is, by its number in the deck, from 1.
     pub fn place_of(&self, card: usize) -> CardPlace<'a>
         ensures number { result.card ≡ card }
         ensures place { option_map line_seen result.place ≡ line_of card self.now }
@@ -104,7 +104,7 @@ impl<'a> DeckText<'a> {
         self.places.get(card.checked_sub(1)?).copied()
     }
 
-    /// The number of the card, from 1, that stands at a position; of a file that was given twice, the first time. `None` where
+    /// The number of the card, from 1, that is at a position; of a file that was given twice, the first time. `None` where
     /// the deck has no such file, or the file no such line.
     #[tactic(auto, using(crate::proofs::Keeping::seen_place))]
     pub fn card_at(&self, position: &Position<'_>) -> Option<usize>

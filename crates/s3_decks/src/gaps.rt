@@ -57,17 +57,17 @@ fn begin_in_order(ranges: &[CardRange]) -> bool
 }
 
 /// Ranges without those at their front that end at a place or before it.
-#[tactic(auto, using(crate::proofs::Ahead::one_ended, crate::proofs::Ahead::order_behind))]
+#[tactic(auto, using(crate::proofs::Ahead::one_ended, crate::proofs::Ahead::order_after))]
 fn not_ended(ranges: &[CardRange], place: usize) -> &[CardRange]
     ensures same { (p : ℕ) → place ≤ p → is_left_out_spec result.now p ≡ is_left_out_spec ranges.now p }
     ensures order { begin_in_order_spec 0 ranges.now ≡ true → begin_in_order_spec 0 result.now ≡ true }
 {
     let mut rest = ranges;
-    while let Some((first, behind)) = rest.split_first() {
+    while let Some((first, more)) = rest.split_first() {
         if place < first.to {
             break;
         }
-        rest = behind;
+        rest = more;
     }
     rest
 }

@@ -53,8 +53,8 @@ impl Settings {
         }
     }
 
-    /// Those behind the start of a job.
-    fn behind(&self, job: &JobCards) -> Settings {
+    /// Those after the start of a job.
+    fn after(&self, job: &JobCards) -> Settings {
         let mut are_on = self.are_on;
         for (place, switch) in job.switches().iter().enumerate() {
             match switch {
@@ -80,11 +80,11 @@ pub fn lost_settings(jobs: &[JobEntry], card: usize) -> Option<Inherited> {
         let Statements::Sound(job) = &entry.statements else {
             continue;
         };
-        whole = whole.behind(job);
+        whole = whole.after(job);
         if is_left_out(entry, card) {
             continue;
         }
-        kept = kept.behind(job);
+        kept = kept.after(job);
         if !job.is_compile() {
             let lost = Inherited {
                 job: place,

@@ -21,7 +21,7 @@ pub enum Statements {
 /// A job of a deck.
 #[derive(Drop)]
 pub struct JobEntry {
-    /// Its cards, and what stands behind it in front of the next job.
+    /// Its cards, and those after it before the next job.
     pub cards: CardRange,
     /// What its statements say.
     pub statements: Statements,
@@ -65,7 +65,7 @@ impl JobEntry {
         }
     }
 
-    /// The place behind its last card.
+    /// The place after its last card.
     pub fn after(&self) -> usize
         ensures { result ≡ place_after (said self.now.statements) }
     {

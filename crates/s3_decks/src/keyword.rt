@@ -7,7 +7,7 @@ use s3_cards::ebcdic::BLANK;
 /// How many columns the `//` of a statement takes.
 const SLASHES: usize = 2;
 
-/// The columns of a statement's keyword: the first word behind its `//`, and any blanks between them (docs/OCL.md, "Cards"). A statement
+/// The columns of a statement's keyword: the first word after its `//`, and any blanks between them (docs/OCL.md, "Cards"). A statement
 /// without a word gives its last column.
 pub fn keyword_columns(card: &Card) -> Columns {
     let blanks = card

@@ -2,6 +2,7 @@
 
 use crate::inherited::Inherited;
 use crate::job_list::{JobEntry, Statements};
+use crate::names::Shown;
 use crate::{CardPlace, DeckText, push_characters, push_name};
 use s3_ocl::{FaultyJob, FileStatement, JobCards, Switch};
 use std::alloc::AllocError;
@@ -36,14 +37,14 @@ pub fn push_jobs(
 }
 
 /// Appends `day1.job, lines 1 to 12`, or both ends where a job goes on in another file.
-fn push_lines(
+pub(crate) fn push_lines(
     text: &mut String,
     first: CardPlace<'_>,
     last: CardPlace<'_>,
 ) -> Result<(), AllocError> {
     match (first.place, last.place) {
         (Some(from), Some(to)) if from.file == to.file && from.line <= to.line => {
-            let file = from.file;
+            let file = Shown(from.file);
             let first_line = from.line;
             let last_line = to.line;
             write!(text, "{file}, lines {first_line} to {last_line}")
@@ -81,7 +82,7 @@ fn push_file(text: &mut String, file: &FileStatement) -> Result<(), AllocError> 
     Ok(())
 }
 
-/// Appends what a kept job would inherit and from which job, and behind it the cards that it needs.
+/// Appends what a kept job would inherit and from which job, and then the cards that it needs.
 pub fn push_inherited(
     text: &mut String,
     deck: &DeckText<'_>,

@@ -2,6 +2,7 @@
 ghost use Rattle.std.specs.Prelude.{◌≡◌};
 ghost use Rattle.s3_decks.specs.Inner.Decks.{is_line as is_line_spec, line_seen};
 
+use crate::names::Shown;
 use std::fmt;
 use std::fmt::Display;
 
@@ -25,7 +26,7 @@ impl<'a> FilePlace<'a> {
 
 impl<'a> Display for FilePlace<'a> {
     fn fmt<W: fmt::Write>(&self, f: &mut fmt::Formatter<W>) -> fmt::Result {
-        let file = self.file;
+        let file = Shown(self.file);
         let line = self.line;
         write!(f, "{file}, line {line}")
     }
@@ -36,7 +37,7 @@ impl<'a> Display for FilePlace<'a> {
 pub struct CardPlace<'a> {
     /// The number of the card in the deck, from 1.
     pub card: usize,
-    /// Where it stands; `None` where the deck has no such card.
+    /// The line that it is; `None` if the deck has no such card.
     pub place: Option<FilePlace<'a>>,
 }
 

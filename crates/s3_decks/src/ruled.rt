@@ -4,7 +4,7 @@ use crate::characters::push_characters;
 use s3_cards::trim_end;
 use std::alloc::AllocError;
 
-/// What stands in front of each line.
+/// What each line begins with.
 const MARGIN: &'static str = "    ";
 
 /// Columns that are marked, from 1.
@@ -16,7 +16,7 @@ pub struct Columns {
     pub to: usize,
 }
 
-/// Appends EBCDIC codes under a ruler of columns, without the blanks behind them. The ruler has so many columns at least.
+/// Appends EBCDIC codes under a ruler of columns, without the blanks at their end. The ruler has so many columns at least.
 pub fn push_under_ruler(text: &mut String, codes: &[u8], columns: usize) -> Result<(), AllocError> {
     let shown = trim_end(codes);
     push_ruler(text, shown.len().max(columns))?;
@@ -25,7 +25,7 @@ pub fn push_under_ruler(text: &mut String, codes: &[u8], columns: usize) -> Resu
     text.push('\n')
 }
 
-/// Appends EBCDIC codes under a ruler of columns, without the blanks behind them, and a line that marks some columns, where
+/// Appends EBCDIC codes under a ruler of columns, without the blanks at their end, and a line that marks some columns, where
 /// any are to be marked.
 pub fn push_ruled(text: &mut String, codes: &[u8], marked: &[Columns]) -> Result<(), AllocError> {
     let last = last_marked(marked);

@@ -11,7 +11,7 @@ use s3_slots::standing_of;
 use std::alloc::{AllocError, Global};
 
 /// The area of the masters.
-const MASTERS: u16 = 0;
+pub(crate) const MASTERS: u16 = 0;
 
 /// A file of a job that doesn't start.
 #[derive(Drop)]

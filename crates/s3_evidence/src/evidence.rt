@@ -1,9 +1,11 @@
 //! What the pack has about a halt.
 
+use s3_cards::Name;
+
 /// What is wrong with the index of a file. Entries and records are counted from 1.
 #[derive(Clone, Copy)]
 pub enum IndexFlaw {
-    /// The key of this entry doesn't come behind that of the entry before.
+    /// The key of this entry isn't above that of the entry before.
     Order(u32),
     /// This entry names a record that the file doesn't have.
     Record {
@@ -40,15 +42,30 @@ pub enum Evidence {
         /// The record before it: the one that was read before, the last one of a load, or the one that is to be updated.
         before: Option<Vec<u8>>,
     },
-    /// The slot that blocks a label.
-    Slot {
-        /// The area: 0 for the masters, 1 and 2 for the levels.
-        area: u16,
-        /// The number of the slot in its area, 0 to 31.
-        slot: usize,
-        /// The 64 bytes of the slot.
-        bytes: Vec<u8>,
-    },
-    /// The index of a file; `None` where no flaw was found.
-    Index(Option<IndexFlaw>),
+    /// The slots that block labels of the job's FILE statements.
+    Slots(Vec<BlockingSlot>),
+    /// The indexes of the files that the job's FILE statements name.
+    Indexes(Vec<CheckedIndex>),
+}
+
+/// A damaged slot that blocks a label.
+#[derive(Drop)]
+pub struct BlockingSlot {
+    /// The label.
+    pub label: Name,
+    /// The area: 0 for the masters, 1 and 2 for the levels.
+    pub area: u16,
+    /// The number of the slot in its area, 0 to 31.
+    pub slot: usize,
+    /// The 64 bytes of the slot.
+    pub bytes: Vec<u8>,
+}
+
+/// The index of a file.
+#[derive(Drop)]
+pub struct CheckedIndex {
+    /// The label of the file.
+    pub label: Name,
+    /// Its first flaw; `None` if no flaw was found.
+    pub flaw: Option<IndexFlaw>,
 }

@@ -1,4 +1,4 @@
-//! What a halt is about: which job it is of, the source of its program, the file at which it stands, and what the pack has about
+//! What a halt is about: which job it is of, the source of its program, the file at which it halts, and what the pack has about
 //! it. docs/OPERATING.md says what is shown of it.
 //!
 //! What is proved: `look`, which reads the pack, keeps each world that is held. What is found is only tested.
@@ -16,5 +16,5 @@ mod wanted;
 
 pub use at_fault::{Asked, Found, JobFile, key_of};
 pub use begun::{Begun, Source};
-pub use evidence::{Evidence, IndexFlaw};
+pub use evidence::{BlockingSlot, CheckedIndex, Evidence, IndexFlaw};
 pub use looking::look;

@@ -7,15 +7,15 @@ ghost use Rattle.s3_bureau.specs.Inner.Held.{HoldsFor, is_open, level_of};
 ghost use Rattle.s3_bureau.specs.Inner.Stops.{failed_stop};
 ghost use Rattle.s3_evidence.specs.Inner.Looks.{Looks, stop_in};
 
-use crate::evidence::{Evidence, IndexFlaw};
+use crate::evidence::{BlockingSlot, CheckedIndex, Evidence, IndexFlaw};
 use crate::index::{entry_place, flaw_of, number_behind};
 use crate::reading::{Sectors, read_bytes, read_sectors};
-use crate::wanted::{RecordPlace, Wanted, find_wanted};
+use crate::wanted::{RecordPlace, SlotPlace, Wanted, find_wanted};
 use s3_bureau::{Bureau, Stop};
-use s3_cards::LevelId;
+use s3_cards::{LevelId, Name};
 use s3_labels::FileLabel;
 use s3_store::{PackStore, Stretch};
-use std::alloc::Global;
+use std::alloc::{AllocError, Global};
 
 /// The sectors of an area's labels.
 const AREA_SECTORS: u16 = 8;
@@ -73,8 +73,8 @@ fn read_evidence<S: PackStore>(
             let before = read_record(alloc, bureau, &label, before)?;
             Ok(Evidence::Records { last, before })
         }
-        Wanted::Slot { area, slot } => read_slot(alloc, bureau, area, slot),
-        Wanted::Index(label) => Ok(Evidence::Index(find_flaw(alloc, bureau, &label)?)),
+        Wanted::Slots(places) => Ok(Evidence::Slots(read_slots(alloc, bureau, &places)?)),
+        Wanted::Indexes(files) => Ok(Evidence::Indexes(check_indexes(alloc, bureau, &files)?)),
     }
 }
 
@@ -134,14 +134,38 @@ fn place_behind(entry: Option<Vec<u8>>) -> Option<u32> {
     number_behind(&entry?)?.checked_sub(1)
 }
 
-/// A slot of an area, 0 to 2, by its number there, 0 to 31.
+/// Slots by their places, as far as the pack has them.
+#[tactic(auto, using(crate::proofs::Looks::looks_none, crate::proofs::Looks::looks_refused, crate::proofs::Looks::looks_then))]
+fn read_slots<S: PackStore>(
+    alloc: Global,
+    bureau: &mut Bureau<S>,
+    places: &[SlotPlace],
+) -> Result<Vec<BlockingSlot>, Stop>
+    ensures { Looks (stop_in result) bureau.old bureau.new }
+{
+    let mut slots = Vec::new(alloc);
+    for place in places {
+        if let Some(bytes) = read_slot(alloc, bureau, place.area, place.slot)? {
+            let slot = BlockingSlot {
+                label: place.label,
+                area: place.area,
+                slot: place.slot,
+                bytes,
+            };
+            add(&mut slots, slot)?;
+        }
+    }
+    Ok(slots)
+}
+
+/// The bytes of a slot of an area, 0 to 2, by its number there, 0 to 31.
 #[tactic(auto, using(crate::proofs::Looks::looks_none, crate::proofs::Looks::looks_refused, crate::proofs::Looks::looks_then))]
 fn read_slot<S: PackStore>(
     alloc: Global,
     bureau: &mut Bureau<S>,
     area: u16,
     slot: usize,
-) -> Result<Evidence, Stop>
+) -> Result<Option<Vec<u8>>, Stop>
     ensures { Looks (stop_in result) bureau.old bureau.new }
 {
     let runs = [Stretch {
@@ -151,10 +175,33 @@ fn read_slot<S: PackStore>(
     let before = u64::from(area).saturating_mul(u64::from(AREA_SECTORS * SLOTS));
     let place = before.saturating_add(slot as u64);
     let at = place.saturating_mul(u64::from(SLOT_BYTES));
-    match read_bytes(alloc, bureau, &runs, at, SLOT_BYTES)? {
-        Some(bytes) => Ok(Evidence::Slot { area, slot, bytes }),
-        None => Ok(Evidence::Nothing),
+    read_bytes(alloc, bureau, &runs, at, SLOT_BYTES)
+}
+
+/// The first flaw of the index of each of these files.
+#[tactic(auto, using(crate::proofs::Looks::looks_none, crate::proofs::Looks::looks_refused, crate::proofs::Looks::looks_then))]
+fn check_indexes<S: PackStore>(
+    alloc: Global,
+    bureau: &mut Bureau<S>,
+    files: &[(Name, FileLabel)],
+) -> Result<Vec<CheckedIndex>, Stop>
+    ensures { Looks (stop_in result) bureau.old bureau.new }
+{
+    let mut indexes = Vec::new(alloc);
+    for file in files {
+        let flaw = find_flaw(alloc, bureau, &file.1)?;
+        let index = CheckedIndex {
+            label: file.0,
+            flaw,
+        };
+        add(&mut indexes, index)?;
     }
+    Ok(indexes)
+}
+
+/// Adds an item to a list.
+fn add<T: Drop>(list: &mut Vec<T>, item: T) -> Result<(), AllocError> {
+    Ok(list.push(item)?)
 }
 
 /// The first flaw of the index of a file.

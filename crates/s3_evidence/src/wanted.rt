@@ -1,17 +1,17 @@
 //! What is to be read of the pack for a halt.
 
-use crate::at_fault::{Asked, Found, JobFile};
-use crate::begun::{Begun, Source};
+use crate::at_fault::{Asked, Found, MASTERS};
+use crate::begun::Source;
 use s3_bureau::Bureau;
 use s3_cards::{LevelId, Name};
 use s3_cycle::{Cycle, Stand};
+use s3_decks::job_before;
 use s3_job_files::OpenFile;
 use s3_labels::{FileLabel, Organization, Slot, area_of};
 use s3_level::Level;
 use s3_lines::sheet::{
     CalculationTime, FileLine, Line, Operation, OutputKind, OutputLine, SheetLine,
 };
-use s3_opening::is_new;
 use s3_operator::HaltCode;
 use s3_store::PackStore;
 use std::alloc::{AllocError, Global};
@@ -42,15 +42,21 @@ pub(crate) enum Wanted {
         /// The one before it.
         before: Option<RecordPlace>,
     },
-    /// A slot of an area.
-    Slot {
-        /// The area, 0 to 2.
-        area: u16,
-        /// The number of the slot, 0 to 31.
-        slot: usize,
-    },
-    /// The index of a file.
-    Index(FileLabel),
+    /// Slots that block labels.
+    Slots(Vec<SlotPlace>),
+    /// The indexes of these files, each under its label.
+    Indexes(Vec<(Name, FileLabel)>),
+}
+
+/// A damaged slot under a label.
+#[derive(Clone, Copy)]
+pub(crate) struct SlotPlace {
+    /// The label.
+    pub(crate) label: Name,
+    /// The area, 0 to 2.
+    pub(crate) area: u16,
+    /// The number of the slot, 0 to 31.
+    pub(crate) slot: usize,
 }
 
 /// What is to be read of the pack for the halt that waits in a level.
@@ -77,7 +83,7 @@ pub(crate) fn find_wanted<S: PackStore>(
 
 // ---- a program at work
 
-/// The records that are to be read where a program at work halts. Its source isn't needed for that.
+/// The records that are to be read if a program at work halts. Its source isn't needed for that.
 fn wanted_at_work(held: &Level, code: HaltCode) -> Option<Wanted> {
     let cycle = held.cycle()?;
     let line = cycle.file_line(cycle.file_there()?)?;
@@ -227,7 +233,8 @@ impl Source {
 
 // ---- a job that doesn't start
 
-/// What is to be read where a job doesn't start.
+/// What is to be read if a job doesn't start: of each of its FILE statements, so that neither the jobs before it nor its source are read
+/// for that.
 fn wanted_at_start<S: PackStore>(
     alloc: Global,
     bureau: &Bureau<S>,
@@ -235,52 +242,78 @@ fn wanted_at_start<S: PackStore>(
     level: LevelId,
     code: HaltCode,
 ) -> Result<Wanted, AllocError> {
-    let begun = Begun::of(alloc, held)?;
-    let Some(job) = begun.statements() else {
-        return Ok(Wanted::Nothing);
-    };
-    let Some(source) = begun.source_of(alloc, held, job.program())? else {
+    let Some(job) = job_before(alloc, held.deck(), held.place())? else {
         return Ok(Wanted::Nothing);
     };
     let asked = Asked {
         level,
         areas: bureau.areas(),
         statements: job.files(),
-        switches: begun.switches(),
+        switches: [false; 8],
     };
-    let files = asked.files(alloc, &source.lines)?;
-    match asked.at_fault(code, &files) {
-        Some(place) => Ok(file_wanted(&asked, &files, place).unwrap_or(Wanted::Nothing)),
-        None => Ok(Wanted::Nothing),
+    match code {
+        HaltCode::DamagedLabel => Ok(Wanted::Slots(blocking_slots(alloc, &asked)?)),
+        _ => Ok(Wanted::Indexes(indexed_files(alloc, &asked)?)),
     }
 }
 
-/// What is to be read of the file for which a job doesn't start.
-fn file_wanted(asked: &Asked<'_>, files: &[JobFile], place: usize) -> Option<Wanted> {
-    let file = files.get(place)?;
-    let label = file.statement?.label;
-    if is_new(&file.line) {
-        return slot_wanted(asked, label, area_of(asked.level));
+/// The damaged slots under the labels of the FILE statements of a job, in the area of its level and among the masters.
+fn blocking_slots(alloc: Global, asked: &Asked<'_>) -> Result<Vec<SlotPlace>, AllocError> {
+    let mut slots = Vec::new(alloc);
+    for statement in asked.statements {
+        push_slot(&mut slots, asked, statement.label, area_of(asked.level))?;
+        push_slot(&mut slots, asked, statement.label, MASTERS)?;
     }
-    match asked.found(label) {
-        Found::Damage(area) => slot_wanted(asked, label, area),
-        Found::File(label, _) => Some(Wanted::Index(label)),
-        Found::Nothing => None,
-    }
+    Ok(slots)
 }
 
-/// The first damaged slot of an area that has a label.
-fn slot_wanted(asked: &Asked<'_>, label: Name, area: u16) -> Option<Wanted> {
-    let slot = asked
+/// Adds the first damaged slot of an area that has a label, if there is one that isn't among them.
+fn push_slot(
+    slots: &mut Vec<SlotPlace>,
+    asked: &Asked<'_>,
+    label: Name,
+    area: u16,
+) -> Result<(), AllocError> {
+    let found = asked
         .slots(area)
         .iter()
-        .position(|slot| is_damaged_under(label, slot))?;
-    Some(Wanted::Slot { area, slot })
+        .position(|slot| is_damaged_under(label, slot));
+    let is_known = slots
+        .iter()
+        .any(|slot| slot.area == area && slot.label == label);
+    match found {
+        Some(slot) if !is_known => Ok(slots.push(SlotPlace { label, area, slot })?),
+        _ => Ok(()),
+    }
 }
 
 fn is_damaged_under(label: Name, slot: &Slot) -> bool {
     match slot {
         Slot::Damaged(Some(name)) => *name == label,
         Slot::Damaged(None) | Slot::Free | Slot::Sound(_) => false,
+    }
+}
+
+/// The files with an index that the FILE statements of a job find, each once.
+fn indexed_files(alloc: Global, asked: &Asked<'_>) -> Result<Vec<(Name, FileLabel)>, AllocError> {
+    let mut files = Vec::new(alloc);
+    for statement in asked.statements {
+        push_indexed(&mut files, asked, statement.label)?;
+    }
+    Ok(files)
+}
+
+/// Adds the file that a label finds, if it has an index and isn't among them.
+fn push_indexed(
+    files: &mut Vec<(Name, FileLabel)>,
+    asked: &Asked<'_>,
+    label: Name,
+) -> Result<(), AllocError> {
+    let is_known = files.iter().any(|file| file.0 == label);
+    match asked.found(label) {
+        Found::File(file, _) if !is_known && file.organization == Organization::Indexed => {
+            Ok(files.push((label, file))?)
+        }
+        _ => Ok(()),
     }
 }

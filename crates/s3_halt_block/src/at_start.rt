@@ -7,7 +7,7 @@ use crate::slot_words::push_slot_at_fault;
 use s3_cards::{LevelId, Name};
 use s3_decks::{push_characters, push_name};
 use s3_evidence::{Asked, Begun, Evidence, Found, IndexFlaw, JobFile};
-use s3_labels::AreaSlots;
+use s3_labels::{AreaSlots, area_of};
 use s3_level::Level;
 use s3_opening::is_new;
 use s3_operator::HaltCode;
@@ -112,19 +112,34 @@ fn push_file(
     let Some(statement) = &file.statement else {
         return text.push_str(" has no FILE statement\n");
     };
-    text.push_str(words_behind(at.code, file))?;
+    text.push_str(words_after(at.code, file))?;
     text.push('\n')?;
     match at.code {
         HaltCode::LabelMismatch => push_layouts(text, alloc, at, asked, file, statement.label),
         HaltCode::RetainedFile => push_kept(text, asked.found(statement.label)),
-        HaltCode::DamagedLabel => push_slot_at_fault(text, at),
-        HaltCode::BadIndex => push_flaw(text, at.evidence),
+        HaltCode::DamagedLabel => {
+            push_slot_at_fault(
+                text,
+                at,
+                statement.label,
+                area_at_fault(asked, file, statement.label),
+            )
+        }
+        HaltCode::BadIndex => push_flaw(text, at.evidence, statement.label),
         _ => Ok(()),
     }
 }
 
-/// What is said of a file behind its label.
-fn words_behind(code: HaltCode, file: &JobFile) -> &'static str {
+/// The area in which damage blocks a label: that of the level for a file that is made.
+fn area_at_fault(asked: &Asked<'_>, file: &JobFile, label: Name) -> u16 {
+    match asked.found(label) {
+        Found::Damage(area) if !is_new(&file.line) => area,
+        _ => area_of(asked.level),
+    }
+}
+
+/// What is reported of a file after its label.
+fn words_after(code: HaltCode, file: &JobFile) -> &'static str {
     match code {
         HaltCode::NoLabel => ": no file has that label",
         HaltCode::DuplicateLabel => ", which an earlier file of the job has too",
@@ -164,9 +179,17 @@ fn push_date(text: &mut String, date: &[u8; 6]) -> Result<(), AllocError> {
     push_characters(text, &date[4..])
 }
 
-/// Appends what is wrong with an index.
-fn push_flaw(text: &mut String, evidence: &Evidence) -> Result<(), AllocError> {
-    let Evidence::Index(Some(flaw)) = evidence else {
+/// The flaw of the index of the file that a label finds, if one was found.
+fn flaw_of(evidence: &Evidence, label: Name) -> Option<IndexFlaw> {
+    let Evidence::Indexes(indexes) = evidence else {
+        return None;
+    };
+    indexes.iter().find(|index| index.label == label)?.flaw
+}
+
+/// Appends what is wrong with the index of the file that a label finds.
+fn push_flaw(text: &mut String, evidence: &Evidence, label: Name) -> Result<(), AllocError> {
+    let Some(flaw) = flaw_of(evidence, label) else {
         return Ok(());
     };
     match flaw {

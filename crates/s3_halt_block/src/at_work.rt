@@ -10,6 +10,10 @@ use s3_lines::sheet::{Device, FileLine};
 use s3_operator::HaltCode;
 use std::alloc::{AllocError, Global};
 
+/// What is reported at totals if the records that were read don't show which of them isn't processed yet.
+const UNSURE: &'static str =
+    "  these are totals: the record that was read last may not be processed yet\n";
+
 /// A program that halts.
 #[derive(Clone, Copy)]
 pub(crate) struct AtWork<'a> {
@@ -82,6 +86,9 @@ pub(crate) fn push_at_work(
     at: AtWork<'_>,
 ) -> Result<(), AllocError> {
     let shown = push_stand(text, alloc, at)?;
+    if shown.is_unsure {
+        text.push_str(UNSURE)?;
+    }
     push_last_card(text, at, &shown)?;
     for file in at.held.files() {
         push_file(text, file)?;

@@ -7,14 +7,14 @@ use crate::details::push_details;
 use crate::replies::{push_meaning, push_replies};
 use s3_bureau::Bureau;
 use s3_cards::{LevelId, Name};
-use s3_decks::{DeckText, JobEntry, Statements, push_name};
+use s3_decks::{DeckText, JobEntry, Statements, push_name, push_stray, strays_of};
 use s3_evidence::{Begun, Evidence, Source};
 use s3_level::Level;
 use s3_operator::Halt;
 use s3_store::PackStore;
 use std::alloc::{AllocError, Global};
 
-/// Appends the block of the halt that waits in a level: what it means, where it stands and what it is about, which replies it
+/// Appends the block of the halt that waits in a level: what it means, where it is and what it is about, which replies it
 /// allows and what each of them does. The deck's text is the one that the level's cards were read from, `begun` has followed the level
 /// up to this halt, and the evidence is what `look` gave for it.
 pub fn push_halt<S: PackStore>(
@@ -52,19 +52,22 @@ pub fn push_halt<S: PackStore>(
                 },
             )?;
         }
-        None => push_at_start(
-            text,
-            alloc,
-            AtStart {
-                cards,
-                held,
-                begun,
-                areas: bureau.areas(),
-                level,
-                code: halt.code,
-                evidence,
-            },
-        )?,
+        None => {
+            push_stray_cards(text, alloc, cards, begun)?;
+            push_at_start(
+                text,
+                alloc,
+                AtStart {
+                    cards,
+                    held,
+                    begun,
+                    areas: bureau.areas(),
+                    level,
+                    code: halt.code,
+                    evidence,
+                },
+            )?
+        }
     }
     push_replies(text, halt.code)
 }
@@ -103,6 +106,24 @@ fn push_beginning(
         cards.push_place(text, job.cards.from.saturating_add(1))?;
     }
     text.push('\n')
+}
+
+/// Appends which statements of further jobs the job that was begun last takes with it, if `/*` and `/&` may be missing.
+fn push_stray_cards(
+    text: &mut String,
+    alloc: Global,
+    cards: DeckCards<'_>,
+    begun: &Begun,
+) -> Result<(), AllocError> {
+    let Some(job) = begun.last() else {
+        return Ok(());
+    };
+    let strays = strays_of(alloc, cards.deck, job)?;
+    if strays.is_empty() {
+        return Ok(());
+    }
+    text.push_str("  the job ")?;
+    push_stray(text, cards.text, cards.deck, job, &strays)
 }
 
 /// The source of a program, without lines where the deck doesn't have it.

@@ -1,7 +1,8 @@
 //! What is wrong with the slot that blocks a label.
 
 use crate::at_start::AtStart;
-use s3_evidence::Evidence;
+use s3_cards::Name;
+use s3_evidence::{BlockingSlot, Evidence};
 use s3_labels::{AreaSlots, Slot};
 use s3_pack_check::{Damage, damage_of, region_of, slots_of};
 use s3_slots::judge;
@@ -11,25 +12,41 @@ use std::alloc::AllocError;
 const ENTANGLED: &'static str =
     "when the day began it overlapped the file of a slot before it, or had the label of one";
 
-/// Appends the damaged slot that blocks a label, and what is wrong with it, in the words of `bureau check`.
-pub(crate) fn push_slot_at_fault(text: &mut String, at: AtStart<'_>) -> Result<(), AllocError> {
-    let Evidence::Slot { area, slot, bytes } = at.evidence else {
+/// Appends the damaged slot that blocks a label in an area, and what is wrong with it, in the words of `bureau check`.
+pub(crate) fn push_slot_at_fault(
+    text: &mut String,
+    at: AtStart<'_>,
+    label: Name,
+    area: u16,
+) -> Result<(), AllocError> {
+    let Some(slot) = slot_of(at.evidence, label, area) else {
         return Ok(());
     };
-    write!(text, "  slot {slot} of ")?;
-    if *area == 0 {
+    let number = slot.slot;
+    write!(text, "  slot {number} of ")?;
+    if area == 0 {
         text.push_str("the masters")?;
     } else {
         write!(text, "level {area}")?;
     }
     text.push_str(" is damaged: ")?;
-    match damage_now(at.areas, *area, *slot, bytes) {
+    match damage_now(at.areas, area, number, &slot.bytes) {
         Some(damage) => writeln!(text, "{damage}"),
         None => writeln!(text, "{ENTANGLED}"),
     }
 }
 
-/// Why a mount would find a slot damaged now, by its bytes; none where it wouldn't. An area is 0 for the masters, 1 and 2 for the
+/// The slot that blocks a label in an area, if the pack was asked for it.
+fn slot_of(evidence: &Evidence, label: Name, area: u16) -> Option<&BlockingSlot> {
+    let Evidence::Slots(slots) = evidence else {
+        return None;
+    };
+    slots
+        .iter()
+        .find(|slot| slot.label == label && slot.area == area)
+}
+
+/// Why a mount would find a slot damaged now, by its bytes; none if it wouldn't. An area is 0 for the masters, 1 and 2 for the
 /// levels.
 fn damage_now(areas: &AreaSlots, area: u16, slot: usize, bytes: &[u8]) -> Option<Damage> {
     if area >= 3 {

@@ -21,6 +21,8 @@ pub(crate) struct Shown {
     pub(crate) is_before_shown: bool,
     /// Whether it waits for totals, which are of the cards before it.
     pub(crate) is_after_totals: bool,
+    /// Whether the program is at totals, and the records that were read don't show which of them isn't processed yet.
+    pub(crate) is_unsure: bool,
 }
 
 impl Shown {
@@ -30,18 +32,24 @@ impl Shown {
             marked: Vec::new(alloc),
             is_before_shown: false,
             is_after_totals: false,
+            is_unsure: false,
         }
     }
 
-    /// What is shown where totals may be taken: the cards on both sides of them, with their control fields.
+    /// What is shown at totals: the cards on both sides of them, with their control fields, if it is sure which these are.
     fn with_totals(alloc: Global, at: AtWork<'_>, is_total: bool) -> Result<Shown, AllocError> {
         match at.file_behind_totals() {
             Some(file) if is_total => Ok(Shown {
                 marked: level_fields(alloc, &at.source.lines, file.name, Sort::Control)?,
                 is_before_shown: true,
                 is_after_totals: true,
+                is_unsure: false,
             }),
-            _ => Ok(Shown::nothing(alloc)),
+            _ => {
+                let mut shown = Shown::nothing(alloc);
+                shown.is_unsure = is_total && !at.begun.is_ending();
+                Ok(shown)
+            }
         }
     }
 }
@@ -145,6 +153,7 @@ fn push_head(
         marked: marks_of_head(alloc, at, line.name)?,
         is_before_shown: is_out_of_sequence(at.code),
         is_after_totals: false,
+        is_unsure: false,
     };
     if is_on_cards(line) {
         return Ok(shown);
@@ -236,6 +245,7 @@ fn push_field_record(
             marked,
             is_before_shown: false,
             is_after_totals: false,
+            is_unsure: false,
         });
     }
     push_ruled(text, record, &marked)?;

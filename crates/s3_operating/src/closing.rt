@@ -127,8 +127,21 @@ impl<'a> Levels<'a> {
     fn summary(&self, one: Ended, two: Ended) -> Message {
         let mut message = Message::new(self.alloc);
         push_summary(&mut message, &self.one, one);
+        self.push_turns(&mut message, one);
         push_summary(&mut message, &self.two, two);
+        self.push_turns(&mut message, two);
         message
+    }
+
+    /// Appends how many turns a level may take, and what to do, if it was stopped by that.
+    fn push_turns(&self, message: &mut Message, ended: Ended) {
+        if matches!(ended.end, LevelEnd::CutByTurns) {
+            message.push("  it has taken ");
+            message.push_number(u64::from(self.settings.bounds.turns));
+            message.push(
+                " turns, the most that --turns allows: if the program isn't in a loop, give a larger number\n",
+            );
+        }
     }
 }
 

@@ -1,6 +1,6 @@
 //! The deck of a level on a day.
 
-use s3_decks::{DeckText, cards_len, count_lines};
+use s3_decks::{DeckText, Shown, cards_len, count_lines};
 use std::alloc::{AllocError, Global};
 
 /// A file of a deck.
@@ -120,6 +120,7 @@ impl<'a> DayDeck<'a> {
 
 /// Appends how many blank lines at the end of a file are passed over, if any are.
 fn push_blank_end(text: &mut String, file: &str, lines: usize) -> Result<(), AllocError> {
+    let file = Shown(file);
     match lines {
         0 => Ok(()),
         1 => writeln!(text, "  {file}: the last line is blank and is passed over"),

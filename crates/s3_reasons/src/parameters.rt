@@ -105,6 +105,8 @@ pub enum DateFault {
     Month(u8),
     /// This day.
     Day(u8),
+    /// It has eight digits.
+    EightDigits,
     /// It isn't six digits.
     Form,
 }
@@ -123,6 +125,9 @@ fn number_at(text: &[u8], place: usize) -> Option<u8> {
 
 /// What is wrong with a date.
 pub fn date_fault(text: &[u8]) -> DateFault {
+    if text.len() == 8 && text.iter().all(|byte| byte.is_ascii_digit()) {
+        return DateFault::EightDigits;
+    }
     let numbers = match text.len() {
         6 => (number_at(text, 0), number_at(text, 2)),
         8 => (number_at(text, 0), number_at(text, 3)),

@@ -141,7 +141,7 @@ impl Place {
         let before = self.number.saturating_sub(1);
         write!(
             text,
-            "a parameter is missing behind the comma of card {before}, so {word} is read in its place"
+            "a parameter is missing after the comma of card {before}, so {word} is read in its place"
         )
     }
 
@@ -173,7 +173,7 @@ impl Place {
             let number = self.number;
             return write!(
                 text,
-                "a parameter is missing behind the comma of card {number}"
+                "a parameter is missing after the comma of card {number}"
             );
         }
         match self.keyword {
@@ -242,6 +242,9 @@ fn push_date(text: &mut String, parameters: &str) -> Result<(), AllocError> {
             "month {month:02}; a date is MMDDYY or MM/DD/YY, the month first"
         ),
         DateFault::Day(day) => write!(text, "day {day:02}; a date is MMDDYY or MM/DD/YY"),
+        DateFault::EightDigits => text.push_str(
+            "eight digits; MMDDYY has six, two of them for the year",
+        ),
         DateFault::Form => {
             let takes = Keyword::Date.takes();
             write!(text, "DATE takes {takes}")

@@ -1,4 +1,3 @@
--- What the contracts of a run and of a session don't reach: characters of names, and words of refusals.
+-- What the contracts of a run and of a session don't reach: words of refusals.
 pub mod Calls
 pub mod Packs
-pub mod Shown

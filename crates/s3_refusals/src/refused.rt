@@ -2,10 +2,10 @@
 ghost use Rattle.std.specs.Prelude.{◌≡◌};
 ghost use Rattle.s3_cli.specs.Inner.Faults.{status_of};
 
-use crate::names::Shown;
 use crate::packs::pack_words;
 use crate::reasons::{Holder, Reason};
 use s3_cli::{CliFault, ImageFault, MigrateFault, RunFault, SessionFault, tell};
+use s3_decks::Shown;
 use s3_labels::MountFault;
 use std::io;
 use std::io::Write;

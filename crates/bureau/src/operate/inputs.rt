@@ -4,6 +4,7 @@ use super::begun::{named_file, words_kept};
 use super::fault::DayFault;
 use super::level_deck::LevelDeck;
 use super::order::Order;
+use super::strays::are_strays_accepted;
 use super::taking_up::take_up;
 use crate::new_pack::new_pack;
 use s3_cards::LevelId;
@@ -143,8 +144,13 @@ impl<'a> Decks<'a> {
         if order.redo.is_none() && self.one.text().is_empty() && self.two.text().is_empty() {
             return Err(DayFault::Usage(NO_CARDS));
         }
-        take_up(rt, LevelId::One, &mut self.one, order.from1)?;
-        take_up(rt, LevelId::Two, &mut self.two, order.from2)
+        take_up(rt, order, LevelId::One, &mut self.one)?;
+        take_up(rt, order, LevelId::Two, &mut self.two)
+    }
+
+    /// Reports jobs that go on over statements of the next ones. Whether the day is begun all the same.
+    pub fn are_accepted(&self, rt: &HostRuntime, order: &Order<'a>) -> Result<bool, DayFault<'a>> {
+        are_strays_accepted(rt, order, &self.one, &self.two)
     }
 }
 

@@ -6,11 +6,13 @@ use super::fault::DayFault;
 use super::inputs::read_text;
 use s3_cards::LevelId;
 use s3_day_log::NamedFile;
+use s3_decks::{cards_len, encoding_of};
 use s3_operating::JoinedFiles;
 use s3_paper_commands::{is_plain_text, tell_punched};
 use s3_punch::{Begun, Punched, punch};
-use s3_refusals::begins_as_pack;
+use s3_refusals::{Shown, begins_as_pack};
 use std::alloc::{AllocError, Global};
+use std::io::Write;
 
 /// The most bytes of a file of a deck that is read.
 const TEXT_LIMIT: usize = 4_194_304;
@@ -48,20 +50,37 @@ impl<'a> LevelDeck<'a> {
         let mut reading = Reading::new(rt.alloc(), paths, is_logged);
         for path in paths {
             let name: &'a str = *path;
-            let bytes = read_deck_file(rt, name)?;
+            let bytes = read_deck_file(rt, level, name)?;
             reading.add(rt, name, bytes)?;
         }
         reading.finish(level)
     }
 }
 
-/// The bytes of a file of a deck. A pack is refused.
-fn read_deck_file<'a>(rt: &HostRuntime, name: &'a str) -> Result<Vec<u8>, DayFault<'a>> {
+/// The bytes of a file of a deck. A pack is refused, and text in an encoding in which no deck is. A file without a card is reported.
+fn read_deck_file<'a>(
+    rt: &HostRuntime,
+    level: LevelId,
+    name: &'a str,
+) -> Result<Vec<u8>, DayFault<'a>> {
     let bytes = read_text(rt, name, TEXT_LIMIT)?;
     if begins_as_pack(&bytes) {
         return Err(DayFault::PackAsDeck(name));
     }
+    if let Some(encoding) = encoding_of(&bytes) {
+        report(rt, name, encoding.words());
+        return Err(DayFault::Deck(level));
+    }
+    if cards_len(&bytes) == 0 {
+        report(rt, name, "has no card");
+    }
     Ok(bytes)
+}
+
+/// Reports a sentence about a file.
+fn report(rt: &HostRuntime, name: &str, sentence: &str) {
+    let name = Shown(name);
+    let _ = writeln!(rt.stderr(), "{name} {sentence}");
 }
 
 impl<'a> Reading<'a> {

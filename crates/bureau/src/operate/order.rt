@@ -2,6 +2,7 @@
 
 use super::paper::Paper;
 use clap::ArgMatches;
+use s3_cards::LevelId;
 use s3_decks::Position;
 use s3_desk::Bounds;
 use s3_operating::Questioned;
@@ -96,6 +97,14 @@ impl<'a> Order<'a> {
             overwrites: words.get_flag("overwrite"),
             is_quiet: words.get_flag("quiet"),
         })
+    }
+
+    /// Where a level is taken up, if it is.
+    pub fn from(&self, level: LevelId) -> Option<Position<'a>> {
+        match level {
+            LevelId::One => self.from1,
+            LevelId::Two => self.from2,
+        }
     }
 }
 

@@ -1,25 +1,29 @@
 //! A day that is taken up at a line.
 
 use super::fault::DayFault;
+use super::order::Order;
+use super::strays::report_strays;
 use crate::refusal::FILE;
 use s3_cards::{CardFault, Deck, DeckFault, LevelId};
 use s3_decks::{
-    DeckText, Position, jobs_of, left_out_from, lost_settings, push_inherited, push_jobs,
+    DeckText, JobEntry, Position, job_cut_at, jobs_of, left_out_from, lost_settings, push_cut,
+    push_inherited, push_jobs,
 };
 use s3_host_files::StandardOutput;
 use s3_operating::{DayDeck, push_unread};
 use std::alloc::AllocError;
 use std::io::Write;
 
-/// Takes the deck of a level up at a line; a deck that can't be read stays whole. It is refused if the deck has no such line, and as
-/// `taken_up_at` refuses it.
+/// Takes the deck of a level up at the line that the options name for it, if they name one; a deck that can't be read stays whole. It
+/// is refused if the deck has no such line, if the line is inside a job that would be left out (unless the day of a log is done again,
+/// whose line may be such a one), and as `taken_up_at` refuses it.
 pub fn take_up<'a>(
     rt: &HostRuntime,
+    order: &Order<'a>,
     level: LevelId,
     deck: &mut DayDeck<'a>,
-    from: Option<Position<'a>>,
 ) -> Result<(), DayFault<'a>> {
-    let Some(position) = from else {
+    let Some(position) = order.from(level) else {
         return Ok(());
     };
     let text = deck.with_places(rt.alloc())?;
@@ -27,8 +31,12 @@ pub fn take_up<'a>(
         tell_no_line(rt, level);
         return Err(DayFault::NoTakingUp);
     };
-    if let Some(cards) = cards_of(rt, &text)? {
-        *deck = taken_up_at(rt, level, &text, &cards, card)?;
+    if let Some(cards) = cards_of(rt, text.text())? {
+        let jobs = jobs_of(rt.alloc(), &cards)?;
+        if order.redo.is_none() {
+            test_beginning(rt, level, &text, &jobs, card)?;
+        }
+        *deck = taken_up_at(rt, level, &text, &jobs, card)?;
     }
     Ok(())
 }
@@ -42,13 +50,30 @@ fn tell_no_line(rt: &HostRuntime, level: LevelId) {
     );
 }
 
-/// The cards of a deck; `None` if it can't be read.
-fn cards_of(rt: &HostRuntime, text: &DeckText<'_>) -> Result<Option<Deck>, AllocError> {
-    match Deck::read(rt.alloc(), text.text()) {
+/// The cards of a deck's text; `None` if it can't be read.
+pub fn cards_of(rt: &HostRuntime, text: &[u8]) -> Result<Option<Deck>, AllocError> {
+    match Deck::read(rt.alloc(), text) {
         Ok(deck) => Ok(Some(deck)),
         Err(DeckFault::At(..)) => Ok(None),
         Err(DeckFault::NoMemory) => Err(AllocError),
     }
+}
+
+/// Refuses a card that is inside a job which would be left out, and reports at which cards the day can be taken up.
+fn test_beginning<'a>(
+    rt: &HostRuntime,
+    level: LevelId,
+    text: &DeckText<'a>,
+    jobs: &[JobEntry],
+    card: usize,
+) -> Result<(), DayFault<'a>> {
+    let Some(place) = job_cut_at(jobs, card) else {
+        return Ok(());
+    };
+    let mut report = String::new(rt.alloc());
+    push_cut(&mut report, level, text, jobs, place, card)?;
+    let _ = rt.stderr().write_all(report.as_bytes());
+    Err(DayFault::NoTakingUp)
 }
 
 /// The deck of a level without the jobs before a card; refused if a job that is kept lacks what one of these set, which is reported.
@@ -56,24 +81,23 @@ fn taken_up_at<'a>(
     rt: &HostRuntime,
     level: LevelId,
     text: &DeckText<'a>,
-    deck: &Deck,
+    jobs: &[JobEntry],
     card: usize,
 ) -> Result<DayDeck<'a>, DayFault<'a>> {
     let alloc = rt.alloc();
-    let jobs = jobs_of(alloc, deck)?;
-    if let Some(lost) = lost_settings(&jobs, card) {
+    if let Some(lost) = lost_settings(jobs, card) {
         let number = level.number();
         let mut told = String::new(alloc);
         writeln!(told, "level {number}:")?;
-        push_inherited(&mut told, text, &jobs, &lost)?;
+        push_inherited(&mut told, text, jobs, &lost)?;
         let _ = rt.stderr().write_all(told.as_bytes());
         return Err(DayFault::NoTakingUp);
     }
-    let left_out = left_out_from(alloc, &jobs, card)?;
+    let left_out = left_out_from(alloc, jobs, card)?;
     Ok(DayDeck::TakenUp(text.without(alloc, &left_out)?))
 }
 
-/// Lists the jobs of both decks on standard output.
+/// Lists the jobs of both decks on standard output, and reports those that go on over statements of the next ones.
 pub fn list_jobs<'a>(
     rt: &HostRuntime,
     one: &DayDeck<'a>,
@@ -84,10 +108,11 @@ pub fn list_jobs<'a>(
     one.push_blank_ends(&mut told)?;
     push_level(rt, &mut told, LevelId::Two, two)?;
     two.push_blank_ends(&mut told)?;
-    match StandardOutput::new(rt).write_all(told.as_bytes()) {
-        Ok(()) => Ok(()),
-        Err(_) => Err(DayFault::Cli(FILE)),
+    if StandardOutput::new(rt).write_all(told.as_bytes()).is_err() {
+        return Err(DayFault::Cli(FILE));
     }
+    report_strays(rt, one, two)?;
+    Ok(())
 }
 
 /// Appends the jobs of the deck of a level.

@@ -3,16 +3,16 @@ use Rattle.std.specs.Prelude.{◌≡◌, ◌≤◌, ◌<◌, ◌+◌, ◌-◌, �
 use Rattle.std.specs.Char.{is_ascii_whitespace}
 use Rattle.std.specs.Str.{IsAsciiWhitespaceFrom}
 
--- the place behind the first line feed from a place on, or behind the text
-abbrev pub behind_line : List ℕ → ℕ → Option ℕ → ℕ
-behind_line text place None = length text
-behind_line text place (Some more) = place + more + 1
+-- the place after the first line feed from a place on, or the length of the text
+abbrev pub after_line : List ℕ → ℕ → Option ℕ → ℕ
+after_line text place None = length text
+after_line text place (Some more) = place + more + 1
 
--- the place behind the line that a place is in
+-- the place after the line that a place is in
 abbrev pub line_end : List ℕ → ℕ → ℕ
-line_end text place = behind_line text place (position (λ byte. byte == 10) (drop place text))
+line_end text place = after_line text place (position (λ byte. byte == 10) (drop place text))
 
--- where the cards of a text end, given the place behind which it has white space alone
+-- where the cards of a text end, given the place from which on it has white space alone
 abbrev pub cards_end : List ℕ → ℕ → ℕ
 cards_end text last = if last == 0 then 0 else line_end text last
 

@@ -32,7 +32,7 @@ ended text = text ++ lacking (slice_get text (length text - 1))
 abbrev pub first_lines : List ℕ → ℕ → List FileLine
 first_lines file count = map (λ number. (file, number)) (range_with_len 1 count)
 
--- a deck with a file behind those that it has
+-- a deck with a file after those that it has
 abbrev pub with_file : List ℕ → List ℕ → Assembled → Assembled
 with_file file text deck = record { text = deck.text ++ ended text; places = deck.places ++ first_lines file (length (lines text)) }
 
@@ -40,7 +40,7 @@ with_file file text deck = record { text = deck.text ++ ended text; places = dec
 abbrev pub lines_of : List ℕ → List ℕ → List FileLine
 lines_of file numbers = map (λ number. (file, number)) numbers
 
--- a deck with cards behind those that it has, each of them of the line of a file that has this number
+-- a deck with cards after those that it has, each of them of the line of a file that has this number
 abbrev pub with_cards : List ℕ → List ℕ → List ℕ → Assembled → Assembled
 with_cards file text numbers deck = record { text = deck.text ++ ended text; places = deck.places ++ lines_of file numbers }
 
@@ -61,7 +61,7 @@ card_of (Some file) number deck = option_map (λ place. place + 1) (position_fro
 abbrev pub is_left_out : List CardRange → ℕ → Bool
 is_left_out ranges place = list_any (λ range. nat_le range.from place && nat_lt place range.to) ranges
 
--- a list without what stands at places in these ranges
+-- a list without what is at places in these ranges
 abbrev pub kept : {X : Type 0} → List CardRange → List X → List X
 kept ranges xs = map (λ entry. entry.1) (filter (λ entry. not (is_left_out ranges entry.0)) (enumerate_from 0 xs))
 

@@ -1,6 +1,6 @@
 //! File names as a terminal shows them.
 ghost use Rattle.std.specs.Prelude.{◌≡◌};
-ghost use Rattle.s3_refusals.specs.Inner.Shown.{is_shown as is_shown_spec};
+ghost use Rattle.s3_decks.specs.Inner.Shown.{is_shown as is_shown_spec};
 
 use std::fmt;
 use std::fmt::Display;
