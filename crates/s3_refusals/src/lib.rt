@@ -17,4 +17,4 @@ pub use holder::holder_of;
 pub use names::{Shown, is_shown};
 pub use packs::{begins_as_pack, pack_words};
 pub use reasons::{Holder, Reason, call_words};
-pub use refused::{Refused, Work};
+pub use refused::{FileWork, Refused, Work};
