@@ -1,4 +1,4 @@
-//! The command's words, and what they ask for.
+//! The command line, and what its options ask for.
 ghost use Rattle.std.specs.Prelude.{◌≤◌, ◌≡◌};
 
 use crate::new_pack::new_pack;
@@ -7,7 +7,7 @@ use crate::refusal::{
     OUT_OF_MEMORY, fault_of, of_options, of_pack, reading, saving, session_refused,
 };
 use crate::version::write_version;
-use crate::words::command;
+use crate::words::{command, option_without_name};
 use clap::error::ErrorKind;
 use clap::{ArgMatches, Error};
 use s3_cli::{CliFault, Watched, image_with, list, migrate, session_on, write_table};
@@ -18,7 +18,8 @@ use s3_data_commands::load::load;
 use s3_data_commands::sort::sort;
 use s3_data_commands::unload::unload;
 use s3_host_files::{
-    FileFault, LockedPack, StandardOutput, read_pack, read_to_save, save_new_pack, save_pack,
+    FileFault, Limit, LockedPack, StandardOutput, keep_apart, read_pack, read_to_save,
+    save_new_pack, save_pack,
 };
 use s3_paper_commands::status::{DONE, REFUSED, WRONG_WORDS};
 use s3_paper_commands::words::value_of;
@@ -27,9 +28,9 @@ use s3_refusals::{Refused, Shown};
 use std::io::{IsTerminal, Write};
 use std::{env, fs, io};
 
-/// Does what the words of the command line ask, and gives the exit status: 0 where it is done; 4 or 5 where it is done but for what a
-/// person has to look at (docs/OPERATING.md, docs/LISTINGS.md, docs/DATA.md, docs/PACK_CARE.md); 2 where the words can't be read or
-/// followed; else that of the refusal, whose line it wrote on standard error (docs/RUNNING.md, "Refusals").
+/// Does what the command line asks, and gives the exit status: 0 if it is done; 4 or 5 if it is done and something waits for a person
+/// (docs/OPERATING.md, docs/LISTINGS.md, docs/DATA.md, docs/PACK_CARE.md); 2 if the options can't be read or followed; else the status of
+/// the refusal, whose line it has written on standard error (docs/RUNNING.md, "Refusals").
 pub fn execute(rt: &HostRuntime) -> u8
     ensures { result ≤ 5 }
 {
@@ -59,11 +60,29 @@ pub fn execute(rt: &HostRuntime) -> u8
     }
 }
 
-/// Says why words that were read can't be followed.
+/// Reports why options can't be followed.
 fn misuse(rt: &HostRuntime, reason: &str) -> u8
     ensures { result ≡ 2 }
 {
     let _ = writeln!(rt.stderr(), "error: {reason}");
+    WRONG_WORDS
+}
+
+/// Reports an empty file name, given the option that has it.
+fn misuse_empty(rt: &HostRuntime, option: &str) -> u8
+    ensures { result ≡ 2 }
+{
+    let _ = if option.is_empty() {
+        writeln!(
+            rt.stderr(),
+            "error: an empty file name was given; give the name of a file"
+        )
+    } else {
+        writeln!(
+            rt.stderr(),
+            "error: an empty file name was given for --{option}; give the name of a file"
+        )
+    };
     WRONG_WORDS
 }
 
@@ -80,7 +99,7 @@ fn tell_refused(rt: &HostRuntime, refused: &Refused<'_>) -> u8
     refused.tell(&mut rt.stderr(), rt.stderr().is_terminal())
 }
 
-/// Prints why the words can't be read, or the help or the version that they ask for.
+/// Prints why the options can't be read, or the help or the version that they ask for.
 fn explain(rt: &HostRuntime, error: &Error) -> u8
     ensures { result ≤ 5 }
 {
@@ -109,6 +128,9 @@ fn perform<'a>(rt: &'a HostRuntime, matches: &ArgMatches<'a>, words: &[String]) 
     let Some((name, matches)) = matches.subcommand() else {
         return misuse(rt, "no command is given");
     };
+    if let Some(option) = option_without_name(name, matches) {
+        return misuse_empty(rt, option);
+    }
     match name {
         "operate" => operate(rt, matches, words.get(2..).unwrap_or(&[])),
         "punch" => punch_files(rt, matches),
@@ -146,16 +168,17 @@ fn perform_plain(rt: &HostRuntime, name: &str, matches: &ArgMatches<'_>) -> u8
 /// `bureau run`.
 fn run<'a>(rt: &HostRuntime, matches: &ArgMatches<'a>) -> Result<(), Refused<'a>> {
     let (pack, locked) = pack_to_run(rt, matches)?;
-    tell_typed(rt);
+    let limit = limit_of(rt, matches.get_str("pack"))?;
+    report_typed(rt);
     let saved = session_over(rt, matches, pack)?;
     match matches.get_str("save") {
-        Some(path) => save_to(rt, path, locked, &saved),
+        Some(path) => save_to(rt, path, locked, limit, &saved),
         None => Ok(()),
     }
 }
 
-/// Says what a run waits for, if that is typed.
-fn tell_typed(rt: &HostRuntime) {
+/// Reports what a run waits for, if standard input is a terminal.
+fn report_typed(rt: &HostRuntime) {
     if rt.stdin().is_terminal() {
         let _ = writeln!(
             rt.stderr(),
@@ -186,10 +209,26 @@ fn pack_to_run<'a>(
     match (matches.get_str("pack"), matches.get_str("save")) {
         (Some(path), Some(save)) => read_locked(rt, path, save),
         (Some(path), None) => Ok((read(rt, path)?, None)),
-        (None, _) => match new_pack(rt.alloc()) {
-            Ok(pack) => Ok((pack, None)),
-            Err(fault) => Err(of_options(fault)),
-        },
+        (None, Some(save)) => {
+            keep_apart(rt, save).map_err(|fault| saving(rt, save, &fault))?;
+            Ok((made_pack(rt)?, None))
+        }
+        (None, None) => Ok((made_pack(rt)?, None)),
+    }
+}
+
+/// The new pack of a run that is given none.
+fn made_pack<'a>(rt: &HostRuntime) -> Result<Vec<u8>, Refused<'a>> {
+    new_pack(rt.alloc()).map_err(|fault| of_options(fault))
+}
+
+/// The most that a new pack lets anyone do: what the pack lets them do that was read, if one was.
+fn limit_of<'a>(rt: &HostRuntime, read: Option<&'a str>) -> Result<Option<Limit>, Refused<'a>> {
+    match read {
+        Some(path) => {
+            Limit::of(rt, path).map_err(|error| reading(rt, path, &FileFault::Call(error)))
+        }
+        None => Ok(None),
     }
 }
 
@@ -201,15 +240,19 @@ fn init(rt: &HostRuntime, matches: &ArgMatches<'_>) -> u8
     if is_new && is_occupied(rt, matches) {
         return refuse_occupied(rt, matches);
     }
-    let (pack, locked) = match made(rt, matches) {
+    let Made {
+        pack,
+        locked,
+        limit,
+    } = match made(rt, matches) {
         Ok(made) => made,
         Err(refused) => return tell_refused(rt, &refused),
     };
     let path = value_of(matches, "save");
     let done = if is_new {
-        save_new_pack(rt, path, &pack)
+        save_new_pack(rt, path, limit, &pack)
     } else {
-        save_pack(rt, path, locked, &pack)
+        save_pack(rt, path, locked, limit, &pack)
     };
     match done {
         Ok(()) => DONE,
@@ -218,12 +261,12 @@ fn init(rt: &HostRuntime, matches: &ArgMatches<'_>) -> u8
     }
 }
 
-/// Whether something is where `bureau init` is to save a new file. If that can't be told, the save fails with the reason.
+/// Whether something has the name under which `bureau init` saves a new file. If that isn't known, the save fails with the reason.
 fn is_occupied(rt: &HostRuntime, matches: &ArgMatches<'_>) -> bool {
     fs::symlink_metadata(rt, value_of(matches, "save")).is_ok()
 }
 
-/// Says that a new pack would be written over what stands there.
+/// Reports that a new pack would replace what is there.
 fn refuse_occupied(rt: &HostRuntime, matches: &ArgMatches<'_>) -> u8
     ensures { result ≡ 1 }
 {
@@ -235,12 +278,21 @@ fn refuse_occupied(rt: &HostRuntime, matches: &ArgMatches<'_>) -> u8
     REFUSED
 }
 
-/// The pack that `bureau init` makes, and the lock on the file that it was made from, if it is saved there.
-fn made<'a>(
-    rt: &HostRuntime,
-    matches: &ArgMatches<'a>,
-) -> Result<(Vec<u8>, Option<LockedPack>), Refused<'a>> {
+/// The pack that `bureau init` makes.
+#[derive(Drop)]
+struct Made {
+    /// Its bytes.
+    pack: Vec<u8>,
+    /// The lock on the file that it was made from, if it is saved there.
+    locked: Option<LockedPack>,
+    /// The most that its file lets anyone do: what the file lets them do that it was made from.
+    limit: Option<Limit>,
+}
+
+/// The pack that `bureau init` makes, of an old one or of none.
+fn made<'a>(rt: &HostRuntime, matches: &ArgMatches<'a>) -> Result<Made, Refused<'a>> {
     let from = matches.get_str("from");
+    let limit = limit_of(rt, from)?;
     let (old, locked) = match from {
         Some(path) => {
             let (old, locked) = read_locked(rt, path, value_of(matches, "save"))?;
@@ -258,7 +310,11 @@ fn made<'a>(
         quota(matches, "quota2"),
     )
     .map_err(|fault| of_pack(CliFault::Image(fault), from))?;
-    Ok((pack, locked))
+    Ok(Made {
+        pack,
+        locked,
+        limit,
+    })
 }
 
 /// `bureau list`.
@@ -278,25 +334,26 @@ fn migrate_pack<'a>(rt: &HostRuntime, matches: &ArgMatches<'a>) -> Result<(), Re
     let path = value_of(matches, "pack");
     let save = value_of(matches, "save");
     let (old, locked) = read_locked(rt, path, save)?;
+    let limit = limit_of(rt, Some(path))?;
     let pack = migrate(rt.alloc(), &old).map_err(|fault| of_pack(
         CliFault::Migrate(fault),
         Some(path),
     ))?;
-    save_to(rt, save, locked, &pack)
+    save_to(rt, save, locked, limit, &pack)
 }
 
-/// The number of tracks that a word gives; it has one by default.
+/// The number of tracks of an option, which has a default.
 fn tracks(matches: &ArgMatches<'_>, name: &str) -> u16 {
     matches.get_one::<u16>(name).unwrap_or(0)
 }
 
-/// The number of lines that a word gives; it has one by default.
+/// The number of lines of an option, which has a default.
 fn quota(matches: &ArgMatches<'_>, name: &str) -> u8 {
     matches.get_one::<u8>(name).unwrap_or(0)
 }
 
 fn read<'a>(rt: &HostRuntime, path: &'a str) -> Result<Vec<u8>, Refused<'a>> {
-    read_pack(rt, path).map_err(|error| reading(rt, path, &FileFault::Call(error)))
+    read_pack(rt, path).map_err(|fault| reading(rt, path, &fault))
 }
 
 /// The pack at a path for a command that saves to another or the same, with the lock on its file in the second case.
@@ -312,7 +369,8 @@ fn save_to<'a>(
     rt: &HostRuntime,
     path: &'a str,
     locked: Option<LockedPack>,
+    limit: Option<Limit>,
     pack: &[u8],
 ) -> Result<(), Refused<'a>> {
-    save_pack(rt, path, locked, pack).map_err(|fault| saving(rt, path, &fault))
+    save_pack(rt, path, locked, limit, pack).map_err(|fault| saving(rt, path, &fault))
 }

@@ -3,10 +3,12 @@ ghost use Rattle.std.specs.Prelude.{◌≤◌};
 
 mod begun;
 mod day;
+mod empty_decks;
 mod fault;
 mod inherited_words;
 mod inputs;
 mod level_deck;
+mod noted;
 mod order;
 mod outputs;
 mod paper;
@@ -21,6 +23,7 @@ use crate::words::command;
 use begun::test_same;
 use clap::ArgMatches;
 use day::{Prepared, operate_prepared};
+use empty_decks::report_empty_decks;
 use fault::DayFault;
 use inherited_words::words_again;
 use inputs::{DayPack, Decks, read_log, read_rules};
@@ -154,12 +157,28 @@ fn operate_with<'a>(
         Ok(order) => order,
         Err(reason) => return Err(DayFault::Usage(reason)),
     };
+    let lists_jobs = matches.get_flag("jobs");
+    if let Some(reason) = conflict_of(&order, lists_jobs) {
+        return Err(DayFault::Usage(reason));
+    }
     let decks = Decks::read(rt, &order, words, wants_checksums(&order, again))?;
-    if matches.get_flag("jobs") {
+    report_empty_decks(rt, &order);
+    if lists_jobs {
         list_jobs(rt, &decks.one, &decks.two)?;
         return Ok(DONE);
     }
     operate_decks(rt, &order, decks, again)
+}
+
+/// Why the options don't go together, if they don't.
+fn conflict_of(order: &Order<'_>, lists_jobs: bool) -> Option<&'static str> {
+    if lists_jobs && order.deck1.is_empty() && order.deck2.is_empty() {
+        return Some("--jobs lists the jobs of decks; give --deck1 FILE, --deck2 FILE or both");
+    }
+    if order.saves_unfinished && order.save.is_none() {
+        return Some("--save-unfinished goes with --save FILE, which names where the pack is saved");
+    }
+    None
 }
 
 /// Whether the files that are read are known by their checksums: for a log that is written, or for one that is done again.

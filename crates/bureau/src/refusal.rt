@@ -2,7 +2,7 @@
 
 use s3_cli::{CliFault, RunFault, SessionFault};
 use s3_host_files::FileFault;
-use s3_refusals::{Refused, Work, holder_of};
+use s3_refusals::{FileWork, Refused, Work, holder_of};
 use std::io;
 
 /// No memory is left.
@@ -20,7 +20,7 @@ pub fn fault_of(error: &io::Error) -> CliFault {
     }
 }
 
-/// A refusal for which no file is at fault.
+/// A refusal for which no file is in error.
 pub fn of_options<'a>(fault: CliFault) -> Refused<'a> {
     Refused {
         fault,
@@ -52,47 +52,42 @@ pub fn session_refused<'a>(
             return of_pack(CliFault::Session(fault), pack);
         }
     };
-    of_file(work)
+    Refused { fault: FILE, work }
 }
 
 /// Why a pack can't be read.
 pub fn reading<'a>(rt: &HostRuntime, path: &'a str, fault: &FileFault) -> Refused<'a> {
     match fault {
-        FileFault::InUse => in_use(rt, path),
-        // a read replaces nothing
-        FileFault::Exists | FileFault::NoPack => of_file(Work::NoPack(path)),
-        FileFault::Call(error) | FileFault::Unsynced(error) => of_call(
-            error,
-            Work::Reading(path, *error),
-        ),
+        FileFault::Call(error) => of_call(path, FileWork::Reading(*error), error),
+        fault => saving(rt, path, fault),
     }
 }
 
 /// Why a pack can't be saved.
 pub fn saving<'a>(rt: &HostRuntime, path: &'a str, fault: &FileFault) -> Refused<'a> {
     match fault {
-        FileFault::InUse => in_use(rt, path),
-        FileFault::Exists => of_file(Work::Exists(path)),
-        FileFault::NoPack => of_file(Work::NoPack(path)),
-        FileFault::Call(error) => of_call(error, Work::Saving(path, *error)),
-        FileFault::Unsynced(error) => of_file(Work::Unsynced(path, *error)),
+        FileFault::InUse => of_file(path, FileWork::InUse(holder_of(rt, path))),
+        FileFault::Exists => of_file(path, FileWork::Exists),
+        FileFault::NoPack => of_file(path, FileWork::NoPack),
+        FileFault::Hindered(hindrance) => of_file(path, FileWork::Hindered(*hindrance)),
+        FileFault::Stream(stream) => of_file(path, FileWork::Stream(*stream)),
+        FileFault::Call(error) => of_call(path, FileWork::Saving(*error), error),
+        FileFault::Unsynced(error) => of_file(path, FileWork::Unsynced(*error)),
     }
 }
 
-/// A pack that is in use is a file that can't be read or written.
-fn in_use<'a>(rt: &HostRuntime, path: &'a str) -> Refused<'a> {
-    of_file(Work::InUse(path, holder_of(rt, path)))
+/// A file that can't be read, or in which no pack is saved, and why.
+fn of_file<'a>(path: &'a str, work: FileWork) -> Refused<'a> {
+    Refused {
+        fault: FILE,
+        work: Work::File(path, work),
+    }
 }
 
-/// A file that can't be read or written, and in which work.
-fn of_file<'a>(work: Work<'a>) -> Refused<'a> {
-    Refused { fault: FILE, work }
-}
-
-/// A call on a file that failed in some work. If memory ran out, no file is at fault.
-fn of_call<'a>(error: &io::Error, work: Work<'a>) -> Refused<'a> {
+/// A call on a file that failed in some work. If memory ran out, no file is in error.
+fn of_call<'a>(path: &'a str, work: FileWork, error: &io::Error) -> Refused<'a> {
     match fault_of(error) {
-        CliFault::Session(SessionFault::File) => of_file(work),
+        CliFault::Session(SessionFault::File) => of_file(path, work),
         fault => of_options(fault),
     }
 }

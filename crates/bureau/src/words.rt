@@ -1,7 +1,7 @@
-//! The commands of the program, and their words.
+//! The commands of the program, and their options.
 
 use crate::new_pack::{PACK_HELP, TRACKS_TEXT};
-use clap::Command;
+use clap::{ArgMatches, Command};
 use s3_data_commands::check_pack::CHECK;
 use s3_data_commands::copy::COPY;
 use s3_data_commands::delete::DELETE;
@@ -13,7 +13,7 @@ use s3_paper_commands::words::{CommandWords, Takes, Word};
 use s3_paper_commands::{COMPILE, PUNCH};
 use std::alloc::{AllocError, Global};
 
-/// The levels of a new pack may have so many lines queued where the words don't say it.
+/// How many lines of a level may be queued in a new pack, by default.
 const QUOTA: &str = "64";
 
 /// The commands, in the order in which the help lists them.
@@ -21,7 +21,7 @@ const COMMANDS: [CommandWords; 13] = [
     RUN, OPERATE, PUNCH, COMPILE, INIT, LIST, CHECK, COPY, DELETE, SORT, UNLOAD, LOAD, MIGRATE,
 ];
 
-/// `bureau run` and its words.
+/// `bureau run` and its options.
 const RUN: CommandWords = CommandWords {
     name: "run",
     about: "Runs the decks and the script of standard input",
@@ -39,7 +39,7 @@ const RUN: CommandWords = CommandWords {
     ],
 };
 
-/// `bureau operate` and its words.
+/// `bureau operate` and its options.
 const OPERATE: CommandWords = CommandWords {
     name: "operate",
     about: "Runs the decks of both levels until they are done, and asks for replies as halts come",
@@ -62,7 +62,7 @@ const OPERATE: CommandWords = CommandWords {
         Word {
             name: "deck2",
             takes: Takes::Files,
-            help: "The deck of level 2, likewise",
+            help: "The deck of level 2; several files are one deck, as for level 1",
         },
         Word {
             name: "replies",
@@ -72,12 +72,12 @@ const OPERATE: CommandWords = CommandWords {
         Word {
             name: "turns",
             takes: Takes::U32("N"),
-            help: "The most turns that a level takes; 1000000000 if none is given",
+            help: "Stops a level after N turns; 1000000000 by default",
         },
         Word {
             name: "lines",
             takes: Takes::U32("N"),
-            help: "The most lines that a level prints; 1000000 if none is given",
+            help: "Stops a level after N of its lines are printed; its queued lines, up to 127, are printed too; 1000000 by default",
         },
         Word {
             name: "script",
@@ -132,27 +132,27 @@ const OPERATE: CommandWords = CommandWords {
         Word {
             name: "jobs",
             takes: Takes::Nothing,
-            help: "Lists the jobs of the decks, and runs none",
+            help: "Lists the jobs of the decks, and runs none; needs --deck1, --deck2 or both",
         },
         Word {
             name: "save-unfinished",
             takes: Takes::Nothing,
-            help: "Saves the pack also where a level isn't done",
+            help: "Saves the pack even if a level isn't done; needs --save",
         },
         Word {
             name: "overwrite",
             takes: Takes::Nothing,
-            help: "Writes over a script, a log, a deck or a pack that is there, and into a folder of pages that isn't empty",
+            help: "Replaces a script, a log, a deck or a pack that exists, and writes into a folder of pages that isn't empty",
         },
         Word {
             name: "quiet",
             takes: Takes::Nothing,
-            help: "Tells neither how far the work has come nor what rules or a log answered",
+            help: "Prints no progress, no replies of rules or a log, and no summary of a day with status 0",
         },
     ],
 };
 
-/// `bureau init` and its words.
+/// `bureau init` and its options.
 const INIT: CommandWords = CommandWords {
     name: "init",
     about: "Writes a new pack with free labels",
@@ -161,12 +161,12 @@ const INIT: CommandWords = CommandWords {
         Word {
             name: "new",
             takes: Takes::Nothing,
-            help: "Writes over nothing that is there",
+            help: "Refuses to replace anything that exists",
         },
         Word {
             name: "from",
             takes: Takes::Value("FILE"),
-            help: "An old pack: the sound files of its level 1 become the masters",
+            help: "An old pack: the valid files of its level 1 become the masters",
         },
         Word {
             name: "masters",
@@ -196,7 +196,7 @@ const INIT: CommandWords = CommandWords {
     ],
 };
 
-/// `bureau list` and its words.
+/// `bureau list` and its options.
 const LIST: CommandWords = CommandWords {
     name: "list",
     about: "Prints a line for each used label slot of a pack",
@@ -205,24 +205,24 @@ const LIST: CommandWords = CommandWords {
         Word {
             name: "table",
             takes: Takes::Nothing,
-            help: "A table instead, with regions, free room, extents and dates",
+            help: "A table instead, with regions, free space, extents and dates",
         },
     ],
 };
 
-/// `bureau migrate` and its words.
+/// `bureau migrate` and its options.
 const MIGRATE: CommandWords = CommandWords {
     name: "migrate",
     about: "Brings a pack of format 1 into format 2",
     words: &[PACK, SAVE],
 };
 
-/// The command line of the program. It is refused only where memory runs out.
+/// The command line of the program. It is refused only if memory runs out.
 pub fn command<'a>(alloc: Global) -> Result<Command<'a>, AllocError> {
     let commands = parsers(alloc)?;
     Command::new(alloc, "bureau")
         .about("A dual-program RPG II job shop")
-        // what `--version` prints is asked of the executable, and not of the parser
+        // `--version` prints what the executable has, and not the parser
         .version("")
         .subcommand_required(true)
         .subcommands(commands)
@@ -235,4 +235,34 @@ fn parsers<'a>(alloc: Global) -> Result<Vec<Command<'a>>, AllocError> {
         parsers.push(command.parser(alloc)?)?;
     }
     Ok(parsers)
+}
+
+/// How the help shows a value that is the name of a file or a folder.
+const FILES: [&str; 3] = ["FILE", "DIR", "LOG"];
+
+/// The option of a command that has an empty file name, if one has; an empty text for a file without an option.
+pub fn option_without_name(command: &str, matches: &ArgMatches<'_>) -> Option<&'static str> {
+    let command = COMMANDS.iter().find(|known| known.name == command)?;
+    let word = command
+        .words
+        .iter()
+        .find(|word| has_empty_name(**word, matches))?;
+    match word.takes {
+        Takes::FollowingFiles => Some(""),
+        _ => Some(word.name),
+    }
+}
+
+/// Whether an option of a command line has an empty file name.
+fn has_empty_name(word: Word, matches: &ArgMatches<'_>) -> bool {
+    match word.takes {
+        Takes::Value(shown) | Takes::Needed(shown) if FILES.contains(&shown) => {
+            matches.get_str(word.name) == Some("")
+        }
+        Takes::Files | Takes::FollowingFiles => {
+            let names = matches.get_strs(word.name).unwrap_or(&[]);
+            names.iter().any(|name| name.is_empty())
+        }
+        _ => false,
+    }
 }

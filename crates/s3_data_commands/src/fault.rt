@@ -1,9 +1,9 @@
 //! Why a command isn't done.
 ghost use Rattle.std.specs.Prelude.{◌≤◌};
 
-use s3_host_files::FileFault;
+use s3_host_files::{FileFault, Hindrance, StandardStream};
 use s3_paper_commands::status::{FILE_FAILED, PERSON_NEEDED, REFUSED, WRONG_WORDS};
-use std::alloc::{AllocError, AllocFailed};
+use std::alloc::{AllocError, AllocFailed, Global};
 use std::io;
 use std::io::{ErrorKind, Write};
 
@@ -131,12 +131,32 @@ pub fn of_pack(rt: &HostRuntime, used: Use, fault: &FileFault, path: &str) -> Fa
         FileFault::NoPack => refused_or_memory(format!(in rt.alloc();
             "{path} is there and is no pack, so no pack is saved over it; give another name, or remove that file"
         )),
-        FileFault::Unsynced(error) => match format!(in rt.alloc();
+        FileFault::Hindered(hindrance) => file_or_memory(hindered(rt.alloc(), *hindrance, path)),
+        FileFault::Stream(stream) => refused_or_memory(is_stream(rt.alloc(), *stream, path)),
+        FileFault::Unsynced(error) => file_or_memory(format!(in rt.alloc();
             "the pack is saved in {path}, but may not survive a power cut, because its folder can't be brought to the disk: {error}"
-        ) {
-            Ok(sentence) => Fault::File(sentence),
-            Err(_) => Fault::NoMemory,
-        },
+        )),
+    }
+}
+
+/// Why a file isn't replaced by a pack.
+fn hindered(alloc: Global, hindrance: Hindrance, path: &str) -> Result<String, AllocError> {
+    let words = hindrance.words();
+    format!(in alloc; "{path} {words}")
+}
+
+/// The sentence about a file that is also a standard stream.
+fn is_stream(alloc: Global, stream: StandardStream, path: &str) -> Result<String, AllocError> {
+    let stream = stream.name();
+    format!(in alloc;
+        "{path} is also {stream}, so what is printed would get into it; send {stream} to another file"
+    )
+}
+
+fn file_or_memory(sentence: Result<String, AllocError>) -> Fault {
+    match sentence {
+        Ok(sentence) => Fault::File(sentence),
+        Err(_) => Fault::NoMemory,
     }
 }
 

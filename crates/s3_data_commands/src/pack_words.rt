@@ -5,7 +5,7 @@ use crate::fault::{Fault, Use, of_call, of_pack};
 use crate::filled::Words;
 use clap::ArgMatches;
 use s3_cards::{LevelId, Name, is_name, to_ebcdic};
-use s3_host_files::{LockedPack, Target, read_pack, read_to_save, save_new_pack, save_pack};
+use s3_host_files::{Limit, LockedPack, Target, read_pack, read_to_save, save_new_pack, save_pack};
 use s3_labels::{LabelFault, MountFault};
 use s3_listing::{FreeRoom, file_size, free_room};
 use s3_pack_care::CareFault;
@@ -103,7 +103,7 @@ pub fn pack_of(rt: &HostRuntime, path: &str) -> Result<Vec<u8>, Fault> {
             test_begin(rt.alloc(), path, &pack)?;
             Ok(pack)
         }
-        Err(error) => Err(of_call(rt, Use::Reads, &error, path)),
+        Err(fault) => Err(of_pack(rt, Use::Reads, &fault, path)),
     }
 }
 
@@ -240,7 +240,8 @@ pub fn refused(sentence: Result<String, AllocError>) -> Fault {
     }
 }
 
-/// Saves a pack, whole or not at all. Without `--overwrite` a file that has appeared by now isn't written over.
+/// Saves a pack, whole or not at all. Without `--overwrite` a file that has appeared by now isn't overwritten. A new file lets nobody
+/// do more than the pack that was read.
 pub fn saved(
     rt: &HostRuntime,
     matches: &ArgMatches<'_>,
@@ -248,14 +249,26 @@ pub fn saved(
     locked: Option<LockedPack>,
     pack: &[u8],
 ) -> Result<(), Fault> {
+    let limit = limit_of(rt, matches)?;
     let done = if locked.is_none() && !matches.get_flag("overwrite") {
-        save_new_pack(rt, save, pack)
+        save_new_pack(rt, save, limit, pack)
     } else {
-        save_pack(rt, save, locked, pack)
+        save_pack(rt, save, locked, limit, pack)
     };
     match done {
         Ok(()) => Ok(()),
         Err(fault) => Err(of_pack(rt, Use::Saves, &fault, save)),
+    }
+}
+
+/// What a new file lets anyone do at most: what the pack does that the command changes.
+fn limit_of(rt: &HostRuntime, matches: &ArgMatches<'_>) -> Result<Option<Limit>, Fault> {
+    let Some(read) = matches.get_str("into").or(matches.get_str("pack")) else {
+        return Ok(None);
+    };
+    match Limit::of(rt, read) {
+        Ok(limit) => Ok(limit),
+        Err(error) => Err(of_call(rt, Use::Reads, &error, read)),
     }
 }
 

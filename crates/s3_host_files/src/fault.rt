@@ -1,16 +1,22 @@
-//! Why the file of a pack, or one beside it, can't be read or written.
+//! Why the file of a pack, or an output, can't be read or written.
 
+use super::naming::Hindrance;
+use super::streams::StandardStream;
 use std::io;
 
-/// Why the file of a pack, or one beside it, can't be read or written.
+/// Why the file of a pack, or an output, can't be read or written.
 #[derive(Debug, Drop)]
 pub enum FileFault {
     /// Another command that saves to the file, or writes it, is at work.
     InUse,
-    /// Something is there, and it isn't to be replaced.
+    /// A file of this name exists, and it isn't to be replaced.
     Exists,
-    /// The file that is there isn't a pack, so no pack takes its place.
+    /// The file isn't a pack, so no pack replaces it.
     NoPack,
+    /// The old file can't be replaced by a new one.
+    Hindered(Hindrance),
+    /// The file is this standard stream as well.
+    Stream(StandardStream),
     /// A call of the system failed, and the file is what it was.
     Call(io::Error),
     /// The pack is saved, but its folder couldn't be brought to the disk: it may not survive a power cut.
@@ -20,5 +26,11 @@ pub enum FileFault {
 impl From<io::Error> for FileFault {
     fn from(error: io::Error) -> FileFault {
         FileFault::Call(error)
+    }
+}
+
+impl From<Hindrance> for FileFault {
+    fn from(hindrance: Hindrance) -> FileFault {
+        FileFault::Hindered(hindrance)
     }
 }

@@ -5,6 +5,7 @@ use super::leftovers::remove_leftovers;
 use super::limits::Limit;
 use super::outputs::{keep_others_out, made_file};
 use super::replacing::test_place;
+use super::streams::{StandardStream, WRITTEN, stream_at};
 use std::fs::File;
 use std::io::ErrorKind;
 use std::path::{Path, PathBuf};
@@ -20,7 +21,7 @@ pub struct LockedFolder {
 }
 
 impl LockedFolder {
-    /// Locks a folder that is there; `InUse` where another command has it.
+    /// Locks a folder that exists; `InUse` if another command has it.
     pub fn lock(rt: &HostRuntime, path: &str) -> Result<LockedFolder, FileFault> {
         let folder = File::open(rt, path)?;
         keep_others_out(&folder)?;
@@ -33,7 +34,7 @@ pub fn test_folder(rt: &HostRuntime, path: &str) -> io::Result<()> {
     test_place(rt, tried(rt, path)?.as_path())
 }
 
-/// Whether a folder has nothing in it. What a trial left there that was killed goes first.
+/// Whether a folder has nothing in it. What a killed trial has left there is removed first.
 pub fn is_empty_folder(rt: &HostRuntime, path: &str) -> io::Result<bool> {
     remove_leftovers(rt, tried(rt, path)?.as_path(), None);
     let mut entries = fs::read_dir(rt, path)?;
@@ -44,12 +45,24 @@ pub fn is_empty_folder(rt: &HostRuntime, path: &str) -> io::Result<bool> {
     }
 }
 
+/// The stream that is also a file in a folder: standard output, standard error, or none.
+pub fn stream_in(rt: &HostRuntime, path: &str) -> io::Result<Option<StandardStream>> {
+    for entry in fs::read_dir(rt, path)? {
+        if let Ok(entry) = entry
+            && let Some(stream) = stream_at(rt, entry.path().as_str(), &WRITTEN)
+        {
+            return Ok(Some(stream));
+        }
+    }
+    Ok(None)
+}
+
 fn tried(rt: &HostRuntime, path: &str) -> io::Result<PathBuf> {
     Ok(Path::new(path).join(rt.alloc(), TRIED)?)
 }
 
-/// A file that is made anew at a path, within a limit, to be written. If something has that name, it goes first where it may be
-/// written over; of a link that is the link alone, and what it leads to stays as it is.
+/// A file that is made anew at a path, within a limit, to be written. If something has that name and may be overwritten, it is removed
+/// first; of a link, only the link is removed.
 pub fn create_anew(
     rt: &HostRuntime,
     path: &str,

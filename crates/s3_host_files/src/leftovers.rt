@@ -1,4 +1,4 @@
-//! The new files that killed saves left beside a pack.
+//! The new files that killed saves have left beside a pack.
 
 use super::locking::lock;
 use super::places::{are_same, folder_of, leads_to};
@@ -8,7 +8,7 @@ use std::fs::{Metadata, OpenOptions};
 use std::path::Path;
 use std::{fs, io};
 
-/// What stands between the name of a pack's file and the number of a new one.
+/// The text between the name of a pack's file and the number of a new file.
 const INFIX: &str = ".new-";
 
 /// The path of a new file beside another.
@@ -16,8 +16,8 @@ pub fn beside(rt: &HostRuntime, place: Path<'_>, number: u32) -> Result<String, 
     format!(in rt.alloc(); "{}{INFIX}{number}", place.as_str())
 }
 
-/// Removes what killed saves to a path left beside it, given the file that is there, if one is. What can't be removed stays: it
-/// hinders no save.
+/// Removes what killed saves to a path have left beside it, given the file that is there, if one is. A file that can't be removed stays,
+/// and hinders no save.
 pub fn remove_leftovers(rt: &HostRuntime, place: Path<'_>, there: Option<&Metadata>) {
     if let Ok(found) = numbered(rt, place) {
         for path in &found {
@@ -33,7 +33,7 @@ fn numbered(rt: &HostRuntime, place: Path<'_>) -> io::Result<Vec<String>> {
     let name = place.file_name().unwrap_or("");
     for entry in fs::read_dir(rt, folder_of(place))? {
         if let Ok(entry) = entry
-            && let Some(number) = number_behind(name, entry.file_name())
+            && let Some(number) = number_after(name, entry.file_name())
         {
             found.push(format!(in alloc; "{}{INFIX}{number}", place.as_str())?)?;
         }
@@ -41,8 +41,8 @@ fn numbered(rt: &HostRuntime, place: Path<'_>) -> io::Result<Vec<String>> {
     Ok(found)
 }
 
-/// The digits behind a name and the infix, if there is nothing else.
-fn number_behind<'a>(name: &str, entry: &'a str) -> Option<&'a str> {
+/// The digits after a name and the infix, if the entry has nothing else.
+fn number_after<'a>(name: &str, entry: &'a str) -> Option<&'a str> {
     let number = entry.strip_prefix(name)?.strip_prefix(INFIX)?;
     let is_number = !number.is_empty() && number.bytes().all(|byte| byte.is_ascii_digit());
     is_number.then_some(number)

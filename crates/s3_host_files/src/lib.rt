@@ -1,27 +1,33 @@
-//! Packs in files: read up to a limit, and saved whole or not at all, by one command at a time; other files that are written beside a
-//! pack, by one command each; and standard output.
+//! Packs in files: read up to a limit, and saved whole or not at all, by one command at a time; outputs, each written by one command;
+//! and standard output.
 //!
-//! Each call is proved safe and returns. What files give and take isn't claimed: they are used as the toolchain offers them, and
+//! What is proved: how a new file gets the name of an old one, by what is found there (`choose_naming`), which files a pack may replace
+//! (`can_begin_pack`), by what a change is noticed (`Contents::of`), and the names of the standard streams (`StandardStream::name`).
+//! Each call is safe and returns. What files give and take isn't claimed: they are used as the toolchain offers them, and
 //! `tools/kill-saves` and `tools/test-saves` test the saves.
 
 #![tactic(auto)]
 
+mod contents;
 mod fault;
 mod folders;
 mod leftovers;
 mod limits;
 mod locking;
+mod naming;
 mod outputs;
 mod places;
 mod reading;
 mod replacing;
 mod standard_output;
+mod streams;
 mod syncing;
 
 pub use fault::FileFault;
-pub use folders::{LockedFolder, create_anew, is_empty_folder, test_folder};
+pub use folders::{LockedFolder, create_anew, is_empty_folder, stream_in, test_folder};
 pub use limits::{Limit, make_folder};
-pub use locking::{LockedPack, Replaced};
+pub use locking::LockedPack;
+pub use naming::Hindrance;
 pub use outputs::{Kept, Output};
 pub use places::Target;
 use places::{existing, followed};
@@ -32,93 +38,106 @@ use std::fs::{File, OpenOptions};
 use std::io;
 use std::io::{ErrorKind, Write};
 use std::path::Path;
+pub use streams::{STREAMS, StandardStream, WRITTEN, keep_apart, stream_at};
 use syncing::sync_if_kept;
 
 /// The bytes of 65,535 sectors, the most that a pack can have.
 const PACK_LIMIT: usize = 16_776_960;
 
-/// The first 16,776,960 bytes of the file at a path, or all if there are fewer. It fails if the file can't be opened or read.
-pub fn read_pack(rt: &HostRuntime, path: &str) -> io::Result<Vec<u8>> {
+/// The first 16,776,960 bytes of the file at a path, or all if there are fewer. It fails if the file can't be opened or read;
+/// `Stream` if it is also standard output or standard error.
+pub fn read_pack(rt: &HostRuntime, path: &str) -> Result<Vec<u8>, FileFault> {
+    keep_apart(rt, path)?;
     let mut file = File::open(rt, path)?;
-    read_up_to(rt, &mut file, PACK_LIMIT)
+    Ok(read_up_to(rt, &mut file, PACK_LIMIT)?)
 }
 
-/// A pack as `read_pack` reads it, for a command that saves to a path. Where that leads to the same regular file, the
-/// file is locked before it is read, and stays so until the save, which takes the lock; `InUse` where another command
-/// has it.
+/// A pack as `read_pack` reads it, for a command that saves to a path. If that path leads to the same regular file, the file is locked
+/// before it is read, and stays so until the save, which takes the lock. `InUse` if another command has it; `Stream` if one of the
+/// files is also standard output or standard error.
 pub fn read_to_save(
     rt: &HostRuntime,
     path: &str,
     save: &str,
 ) -> Result<(Vec<u8>, Option<LockedPack>), FileFault> {
+    keep_apart(rt, path)?;
+    keep_apart(rt, save)?;
     match LockedPack::read_and_saved(rt, path, save)? {
-        Some(mut locked) => {
-            let bytes = read_up_to(rt, locked.file(), PACK_LIMIT)?;
-            Ok((bytes, Some(locked)))
-        }
+        Some((bytes, locked)) => Ok((bytes, Some(locked))),
         None => Ok((read_pack(rt, path)?, None)),
     }
 }
 
-/// Saves a pack whole or not at all where the path names a regular file or none: it is written to a new file beside it,
-/// which then takes its name. A link is followed. Anything else, as a device, is written in place. The lock is the one
-/// that the pack was read under; without one an old file is locked here, `InUse` where another command has it, `NoPack` where it is
-/// something else than a pack. A file that may not be written is left as it is. After `Ok` the disk has the pack. After `Unsynced` the
-/// file is the new pack too; after any other fault it is what it was.
+/// Saves a pack whole or not at all if the path leads to a regular file or to none: it is written to a new file beside it, which then
+/// gets the name. A link is followed. Anything else, as a device, is written in place. After `Ok` the disk has the pack. After
+/// `Unsynced` the file is the new pack too; after any other fault it is what it was.
+///
+/// An old file is replaced under the lock that the pack was read under, or is locked here. It keeps its mode. A new file gets the mode of
+/// a new file, within a limit. Refusals: `InUse` if another command has the old file, `NoPack` if it isn't a pack, `Hindered` if it may
+/// not be written, was changed since the lock or has lost its name to another file, and `Stream` if it is also standard output or
+/// standard error.
 pub fn save_pack(
     rt: &HostRuntime,
     path: &str,
     locked: Option<LockedPack>,
+    limit: Option<Limit>,
     bytes: &[u8],
 ) -> Result<(), FileFault> {
     if let Some(locked) = locked {
-        return replace(rt, &locked, bytes);
+        return replace(rt, locked, bytes);
     }
-    match save_new_pack(rt, path, bytes) {
+    match save_new_pack(rt, path, limit, bytes) {
         Err(FileFault::Exists) => {
-            let locked = LockedPack::replaced(rt, followed(rt, path)?, Replaced::Pack)?;
-            replace(rt, &locked, bytes)
+            let locked = LockedPack::replaced(rt, followed(rt, path)?)?;
+            replace(rt, locked, bytes)
         }
         done => done,
     }
 }
 
-/// Saves a pack as `save_pack` does, but where a file is there nothing is changed: `Exists`, also for one that appears meanwhile.
-pub fn save_new_pack(rt: &HostRuntime, path: &str, bytes: &[u8]) -> Result<(), FileFault> {
+/// Saves a pack as `save_pack` does, but changes nothing if a file is there: `Exists`, also for a file that appears meanwhile.
+pub fn save_new_pack(
+    rt: &HostRuntime,
+    path: &str,
+    limit: Option<Limit>,
+    bytes: &[u8],
+) -> Result<(), FileFault> {
+    keep_apart(rt, path)?;
     let place = followed(rt, path)?;
     match existing(rt, place.as_path())? {
-        None => save_first(rt, place.as_path(), bytes),
+        None => save_first(rt, place.as_path(), limit, bytes),
         Some(old) if old.is_file() => Err(FileFault::Exists),
         Some(_) => Ok(write_in_place(rt, place.as_path(), bytes)?),
     }
 }
 
-/// Tries whether a pack can be saved to a path later, and keeps the file for that: the lock is the one that the pack was read
-/// under, or is taken here where another regular file stands at the path; `InUse` where another command has it, `NoPack` where it may
-/// not be replaced. Nothing is changed.
+/// Tries whether a pack can be saved to a path later, and keeps the file for that: under the lock that the pack was read under, or, if
+/// another regular file is at the path, under a lock that is taken here. It is refused as `save_pack` is. Nothing is changed.
 pub fn prepare_save(
     rt: &HostRuntime,
     path: &str,
     locked: Option<LockedPack>,
-    replaced: Replaced,
 ) -> Result<Option<LockedPack>, FileFault> {
     if let Some(locked) = locked {
-        test_replacing(rt, &locked)?;
-        return Ok(Some(locked));
+        return Ok(Some(prepared(rt, locked)?));
     }
+    keep_apart(rt, path)?;
     let place = followed(rt, path)?;
     match existing(rt, place.as_path())? {
         None => {
             test_place(rt, place.as_path())?;
             Ok(None)
         }
-        Some(old) if old.is_file() => {
-            let locked = LockedPack::replaced(rt, place, replaced)?;
-            test_replacing(rt, &locked)?;
-            Ok(Some(locked))
-        }
+        Some(old) if old.is_file() => Ok(Some(prepared(rt, LockedPack::replaced(rt, place)?)?)),
         Some(_) => Ok(None),
     }
+}
+
+/// A locked pack that could be replaced now.
+fn prepared(rt: &HostRuntime, locked: LockedPack) -> Result<LockedPack, FileFault> {
+    let mut locked = locked;
+    test_replacing(rt, &mut locked)?;
+    Ok(locked)
 }
 
 /// All bytes of the file at a path, if they are no more than a limit; `FileTooLarge` if they are more.

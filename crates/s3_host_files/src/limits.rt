@@ -1,19 +1,19 @@
-//! What files beside a pack let anyone do: no more than the pack does.
+//! The access to files beside a pack: at most the access that the pack gives.
 
 use super::places::existing;
 use super::replacing::without_group;
-use std::fs::{DirBuilder, File, Permissions};
+use std::fs::{DirBuilder, File, Metadata, Permissions};
 use std::io;
 use std::os::unix::fs::{DirBuilderExt, MetadataExt, PermissionsExt};
 use std::path::Path;
 
-/// What the owner of a file may always do: read and write it.
+/// The owner may always read and write.
 const OWNER: u32 = 0o600;
 
-/// What all others may do with a file at most.
+/// The most that the group and others may do.
 const OTHERS: u32 = 0o066;
 
-/// The most that a file beside a pack lets anyone do: what the pack lets them do. The owner may always read and write it.
+/// The most that a file beside a pack lets anyone do: what the pack lets them do. Its owner may always read and write it.
 #[derive(Clone, Copy)]
 pub struct Limit {
     mode: u32,
@@ -37,20 +37,24 @@ impl Limit {
         self.mode
     }
 
-    /// Takes from an open file what the limit doesn't allow. A file of another group than the pack lets its group do no more than all
-    /// others.
+    /// Takes from an open file what the limit doesn't allow.
     pub fn restrict(&self, file: &File) -> io::Result<()> {
         let found = file.metadata()?;
-        let allowed = if found.gid() == self.group {
+        let mode = found.mode() & 0o7777;
+        let allowed = mode & self.allowed(&found);
+        if allowed == mode {
+            return Ok(());
+        }
+        file.set_permissions(Permissions::from_mode(allowed))
+    }
+
+    /// The mode that is allowed to a file at most. If its group isn't the pack's group, it gets only what others get.
+    pub fn allowed(&self, found: &Metadata) -> u32 {
+        if found.gid() == self.group {
             self.mode
         } else {
             without_group(self.mode)
-        };
-        let mode = found.mode() & 0o7777;
-        if mode & allowed == mode {
-            return Ok(());
         }
-        file.set_permissions(Permissions::from_mode(mode & allowed))
     }
 
     /// The mode of a folder in which such files are made: who may read them may look into it.

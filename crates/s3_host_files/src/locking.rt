@@ -1,40 +1,35 @@
-//! The lock that keeps a pack's file for one command.
+//! The lock that keeps the file of a pack for one command.
 
+use super::PACK_LIMIT;
+use super::contents::Contents;
 use super::fault::FileFault;
-use super::places::{followed, lead_to_one_file, leads_to};
-use super::reading::is_begun_pack;
+use super::naming::{AtName, Hindrance, Naming, can_begin_pack, choose_naming};
+use super::places::{are_same, existing, followed, lead_to_one_file, leads_to};
+use super::reading::read_up_to;
 use std::fs::{File, Metadata, OpenOptions, TryLockError};
 use std::io;
-use std::io::ErrorKind;
+use std::io::{ErrorKind, Seek, SeekFrom};
 use std::path::{Path, PathBuf};
 
-/// How often a file is opened anew whose name another one got before it was locked.
+/// How often a file is opened anew if another one got its name before it was locked.
 pub const TURNS: u32 = 10;
 
-/// What a pack may take the place of.
-#[derive(Clone, Copy)]
-pub enum Replaced {
-    /// A pack, or an empty file.
-    Pack,
-    /// Any regular file.
-    AnyFile,
-}
-
-/// The file of a pack, locked for this command: from before it is read, where it is, until a new one has its name.
+/// The file of a pack, locked for this command until a new one has its name, and what it had when it was locked.
 #[derive(Drop)]
 pub struct LockedPack {
     place: PathBuf,
     file: File,
+    contents: Contents,
 }
 
 impl LockedPack {
-    /// Locks the regular file that two paths lead to, if they lead to one: the path that a pack is read from, and the one
-    /// that it is saved to.
+    /// Locks the regular file that two paths lead to, if they lead to one: the path that a pack is read from, and the one that it is
+    /// saved to. Then it reads the file.
     pub fn read_and_saved(
         rt: &HostRuntime,
         read: &str,
         saved: &str,
-    ) -> Result<Option<LockedPack>, FileFault> {
+    ) -> Result<Option<(Vec<u8>, LockedPack)>, FileFault> {
         for _turn in 0..TURNS {
             if !lead_to_one_file(rt, read, saved) {
                 return Ok(None);
@@ -43,48 +38,105 @@ impl LockedPack {
             let file = open_to_read(rt, place.as_path())?;
             take_lock(&file)?;
             if leads_to(rt, place.as_path(), &file)? && leads_to(rt, Path::new(read), &file)? {
-                return Ok(Some(LockedPack { place, file }));
+                return Ok(Some(LockedPack::read(rt, place, file)?));
             }
         }
         Err(FileFault::InUse)
     }
 
-    /// Locks a regular file that a pack will replace; `NoPack` if it may not replace that.
-    pub fn replaced(
-        rt: &HostRuntime,
-        place: PathBuf,
-        replaced: Replaced,
-    ) -> Result<LockedPack, FileFault> {
+    /// Locks a regular file that a pack will replace; `NoPack` if it isn't a pack.
+    pub fn replaced(rt: &HostRuntime, place: PathBuf) -> Result<LockedPack, FileFault> {
         let mut options = OpenOptions::new();
         options.read(true).write(true);
         for _turn in 0..TURNS {
-            let mut file = options.open(rt, place.as_path())?;
+            let file = match options.open(rt, place.as_path()) {
+                Ok(file) => file,
+                Err(error) => return Err(opening_fault(&error)),
+            };
             take_lock(&file)?;
             if leads_to(rt, place.as_path(), &file)? {
-                test_old(rt, &mut file, replaced)?;
-                return Ok(LockedPack { place, file });
+                return LockedPack::of_pack(rt, place, file);
             }
         }
         Err(FileFault::InUse)
     }
 
-    /// Where the file stands, with no link at the end.
-    pub fn place(&self) -> Path<'_> {
-        self.place.as_path()
+    /// The pack of a locked file; `NoPack` if it isn't a pack.
+    fn of_pack(rt: &HostRuntime, place: PathBuf, file: File) -> Result<LockedPack, FileFault> {
+        let (bytes, locked) = LockedPack::read(rt, place, file)?;
+        if can_begin_pack(&bytes) {
+            Ok(locked)
+        } else {
+            Err(FileFault::NoPack)
+        }
     }
 
-    /// The file itself, open to be read where a pack is read from it.
-    pub fn file(&mut self) -> &mut File {
-        &mut self.file
+    /// Reads a locked file.
+    fn read(rt: &HostRuntime, place: PathBuf, file: File) -> io::Result<(Vec<u8>, LockedPack)> {
+        let mut file = file;
+        let bytes = read_up_to(rt, &mut file, PACK_LIMIT)?;
+        let contents = Contents::of(file.metadata()?.len(), &bytes);
+        let locked = LockedPack {
+            place,
+            file,
+            contents,
+        };
+        Ok((bytes, locked))
+    }
+
+    /// The path of the file, with no link at its end.
+    pub fn place(&self) -> Path<'_> {
+        self.place.as_path()
     }
 
     /// What the file is now.
     pub fn metadata(&self) -> io::Result<Metadata> {
         self.file.metadata()
     }
+
+    /// How a new file gets the name of this one now.
+    pub fn naming_now(&mut self, rt: &HostRuntime) -> Result<Naming, FileFault> {
+        let at_name = self.at_name(rt)?;
+        let may_write = self.may_write(rt, at_name)?;
+        let is_as_locked = self.has_contents_of_lock(rt)?;
+        Ok(choose_naming(at_name, may_write, is_as_locked)?)
+    }
+
+    /// What has the name of the file now.
+    fn at_name(&self, rt: &HostRuntime) -> io::Result<AtName> {
+        let locked = self.metadata()?;
+        Ok(match existing(rt, self.place())? {
+            None => AtName::Nothing,
+            Some(found) if are_same(&found, &locked) => AtName::Locked,
+            Some(_) => AtName::Other,
+        })
+    }
+
+    /// Whether the file may be written: its mode lets somebody write it, and the system lets this user. Its folder may let it be
+    /// replaced all the same. A file that has lost its name isn't tried.
+    fn may_write(&self, rt: &HostRuntime, at_name: AtName) -> io::Result<bool> {
+        if self.metadata()?.permissions().readonly() {
+            return Ok(false);
+        }
+        if at_name != AtName::Locked {
+            return Ok(true);
+        }
+        match OpenOptions::new().write(true).open(rt, self.place()) {
+            Ok(_) => Ok(true),
+            Err(error) if error.kind() == ErrorKind::PermissionDenied => Ok(false),
+            Err(error) => Err(error),
+        }
+    }
+
+    /// Whether the file has the contents that it had when it was locked.
+    fn has_contents_of_lock(&mut self, rt: &HostRuntime) -> io::Result<bool> {
+        self.file.seek(SeekFrom::Start(0))?;
+        let bytes = read_up_to(rt, &mut self.file, PACK_LIMIT)?;
+        Ok(Contents::of(self.file.metadata()?.len(), &bytes) == self.contents)
+    }
 }
 
-/// Opens a file to read it, and to write it where that is allowed, since some network folders give the lock only so.
+/// Opens a file to read it, and to write it if that is allowed, since some network folders give the lock only then.
 fn open_to_read(rt: &HostRuntime, place: Path<'_>) -> io::Result<File> {
     match OpenOptions::new().read(true).write(true).open(rt, place) {
         Err(error) if is_forbidden(&error) => File::open(rt, place),
@@ -99,16 +151,16 @@ fn is_forbidden(error: &io::Error) -> bool {
     )
 }
 
-/// Refuses an open file that a pack may not replace.
-fn test_old(rt: &HostRuntime, file: &mut File, replaced: Replaced) -> Result<(), FileFault> {
-    match replaced {
-        Replaced::AnyFile => Ok(()),
-        Replaced::Pack if is_begun_pack(rt, file)? => Ok(()),
-        Replaced::Pack => Err(FileFault::NoPack),
+/// Why a file that a pack will replace can't be opened.
+fn opening_fault(error: &io::Error) -> FileFault {
+    if error.kind() == ErrorKind::PermissionDenied {
+        FileFault::Hindered(Hindrance::Protected)
+    } else {
+        FileFault::Call(*error)
     }
 }
 
-/// Locks an open file, or tells that another command holds it.
+/// Locks an open file; `InUse` if another command has it.
 fn take_lock(file: &File) -> Result<(), FileFault> {
     if lock(file)? {
         Ok(())
@@ -117,8 +169,8 @@ fn take_lock(file: &File) -> Result<(), FileFault> {
     }
 }
 
-/// Locks an open file, if no other command holds it. The lock goes with the last handle of this opening, and with the
-/// process, however that ends.
+/// Locks an open file, if no other command holds it. The lock ends with the last handle of this opening, and with the process, however
+/// that ends.
 pub fn lock(file: &File) -> io::Result<bool> {
     match file.try_lock() {
         Ok(()) => Ok(true),

@@ -1,9 +1,10 @@
-//! Files that a command writes beside a pack.
+//! Outputs: files that a command writes in addition to its pack.
 
 use super::fault::FileFault;
 use super::limits::Limit;
 use super::locking::{TURNS, lock};
 use super::places::{existing, followed, leads_to};
+use super::streams::keep_apart;
 use super::syncing::{open_folder, sync_if_kept};
 use std::fs::{File, OpenOptions};
 use std::io;
@@ -11,11 +12,11 @@ use std::io::{ErrorKind, Write};
 use std::os::unix::fs::OpenOptionsExt;
 use std::path::Path;
 
-/// A file that is written. It keeps what it had until something is written. A regular file is locked as long as this lives.
+/// A file that is written. Its old contents stay until something is written. A regular file is locked as long as this lives.
 #[derive(Drop)]
 pub struct Output {
     file: File,
-    /// The folder of a file that was made, if it can be opened.
+    /// The folder of a new file, if it can be opened.
     folder: Option<File>,
     is_made: bool,
     is_emptied: bool,
@@ -30,14 +31,16 @@ pub struct Kept {
 }
 
 impl Output {
-    /// Makes a file at a path, or opens the one that is there, if it may be written over. Anything else, as a device or a pipe, is
-    /// opened as it is. `Exists` where a file may not be written over, `InUse` where another command writes it.
+    /// Makes a file at a path, or opens the file that is there, if it may be overwritten. Anything else, as a device or a pipe, is opened
+    /// as it is. `Exists` if the file may not be overwritten, `InUse` if another command writes it, and `Stream` if it is also standard
+    /// output or standard error.
     pub fn open(
         rt: &HostRuntime,
         path: &str,
         overwrites: bool,
         limit: Option<Limit>,
     ) -> Result<Output, FileFault> {
+        keep_apart(rt, path)?;
         if let Some(output) = opened_device(rt, path)? {
             return Ok(output);
         }
@@ -71,7 +74,7 @@ impl Output {
         })
     }
 
-    /// Removes what was there, once.
+    /// Removes the old contents, once.
     fn empty(&mut self) -> io::Result<()> {
         if !self.is_emptied {
             if self.file.metadata()?.is_file() {
@@ -83,7 +86,7 @@ impl Output {
         Ok(())
     }
 
-    /// Lets nobody do more with the file than the limit allows, as far as the user may change that.
+    /// Takes from the file what the limit doesn't allow, as far as the user may change that.
     fn restrict(&self) {
         if let Some(limit) = self.limit {
             let _ = limit.restrict(&self.file);
@@ -104,7 +107,7 @@ impl Write for Output {
 }
 
 impl Kept {
-    /// Brings what was written to the disk, and the name of a file that was made.
+    /// Brings what was written to the disk, and the name of a new file.
     pub fn sync(&self) -> io::Result<()> {
         sync_if_kept(&self.file)?;
         match &self.folder {
@@ -114,7 +117,7 @@ impl Kept {
     }
 }
 
-/// An output that is made; none where something has the name.
+/// An output to a new file; none if something has the name.
 fn made(
     rt: &HostRuntime,
     place: Path<'_>,
@@ -133,7 +136,7 @@ fn made(
     }))
 }
 
-/// A new file that nobody may do more with than a limit allows; none where something has the name.
+/// A new file within a limit; none if something has the name.
 pub fn made_file(
     rt: &HostRuntime,
     place: Path<'_>,
@@ -156,7 +159,7 @@ pub fn made_file(
     }
 }
 
-/// An output to something that is no regular file and keeps nothing; none where a regular file is, or nothing.
+/// An output to a device or a pipe, which keeps nothing; none if a regular file is there, or nothing.
 fn opened_device(rt: &HostRuntime, path: &str) -> io::Result<Option<Output>> {
     match existing(rt, Path::new(path))? {
         Some(found) if !found.is_file() => Ok(Some(Output {
@@ -170,7 +173,7 @@ fn opened_device(rt: &HostRuntime, path: &str) -> io::Result<Option<Output>> {
     }
 }
 
-/// An output to the file that is there; none where nothing is there any more.
+/// An output to the file that is there; none if it has gone.
 fn opened(
     rt: &HostRuntime,
     place: Path<'_>,
@@ -197,7 +200,7 @@ fn opened(
     }))
 }
 
-/// Locks an open file; `InUse` where another command has it. Where a file system has no locks it is used without one.
+/// Locks an open file; `InUse` if another command has it. If the file system has no locks, the file is used without one.
 pub fn keep_others_out(file: &File) -> Result<(), FileFault> {
     match lock(file) {
         Ok(false) => Err(FileFault::InUse),

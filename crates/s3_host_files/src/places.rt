@@ -1,4 +1,4 @@
-//! Where a path leads, and what stands there.
+//! Where a path leads, and what is there.
 
 use std::fs::{File, Metadata};
 use std::io::ErrorKind;
@@ -9,13 +9,13 @@ use std::{fs, io};
 /// How many links are followed one after another.
 const LINK_LIMIT: u32 = 40;
 
-/// Where the links lead that a path names one after another.
+/// The path at the end of the links that a path names.
 pub fn followed(rt: &HostRuntime, path: &str) -> io::Result<PathBuf> {
     let alloc = rt.alloc();
     let mut place = Path::new(path).to_path_buf(alloc)?;
     for _link in 0..LINK_LIMIT {
         match fs::symlink_metadata(rt, place.as_path()) {
-            Ok(found) if found.is_symlink() => place = behind(rt, place.as_path())?,
+            Ok(found) if found.is_symlink() => place = target_of(rt, place.as_path())?,
             Ok(_) => return Ok(place),
             Err(error) if error.kind() == ErrorKind::NotFound => return Ok(place),
             Err(error) => return Err(error),
@@ -24,8 +24,8 @@ pub fn followed(rt: &HostRuntime, path: &str) -> io::Result<PathBuf> {
     Err(io::Error::from(ErrorKind::FilesystemLoop))
 }
 
-/// What a link names, seen from its folder.
-fn behind(rt: &HostRuntime, link: Path<'_>) -> io::Result<PathBuf> {
+/// The path that a link names, from its folder.
+fn target_of(rt: &HostRuntime, link: Path<'_>) -> io::Result<PathBuf> {
     let target = fs::read_link(rt, link)?;
     match link.parent() {
         Some(folder) => Ok(folder.join(rt.alloc(), target.as_path())?),
@@ -33,7 +33,7 @@ fn behind(rt: &HostRuntime, link: Path<'_>) -> io::Result<PathBuf> {
     }
 }
 
-/// What stands at a path, if anything does.
+/// What is at a path, if anything is.
 pub fn existing(rt: &HostRuntime, place: Path<'_>) -> io::Result<Option<Metadata>> {
     match fs::metadata(rt, place) {
         Ok(found) => Ok(Some(found)),
@@ -42,7 +42,7 @@ pub fn existing(rt: &HostRuntime, place: Path<'_>) -> io::Result<Option<Metadata
     }
 }
 
-/// The folder that a path's last name stands in.
+/// The folder of a path's last name.
 pub fn folder_of<'a>(place: Path<'a>) -> Path<'a> {
     match place.parent() {
         Some(folder) if !folder.as_str().is_empty() => folder,
@@ -50,8 +50,7 @@ pub fn folder_of<'a>(place: Path<'a>) -> Path<'a> {
     }
 }
 
-/// Whether two paths lead to the same regular file. Where that can't be told they don't; what reads or saves there tells
-/// why.
+/// Whether two paths are known to lead to the same regular file. If not, the command that reads or saves there reports why.
 pub fn lead_to_one_file(rt: &HostRuntime, one: &str, other: &str) -> bool {
     match (fs::metadata(rt, one), fs::metadata(rt, other)) {
         (Ok(one), Ok(other)) => one.is_file() && are_same(&one, &other),
@@ -68,12 +67,12 @@ pub fn leads_to(rt: &HostRuntime, place: Path<'_>, file: &File) -> io::Result<bo
     }
 }
 
-/// Whether this is one file under whatever names.
+/// Whether these are one file, under any names.
 pub fn are_same(one: &Metadata, other: &Metadata) -> bool {
     one.dev() == other.dev() && one.ino() == other.ino()
 }
 
-/// Where a path leads: the file there, or the folder and the name of one that isn't there yet.
+/// Where a path leads: the file, or the folder and the name of a file that doesn't exist yet.
 #[derive(Drop)]
 pub struct Target {
     found: Option<Metadata>,
@@ -94,7 +93,7 @@ impl Target {
         })
     }
 
-    /// Whether a regular file stands there.
+    /// Whether a regular file is there.
     pub fn is_there(&self) -> bool {
         match &self.found {
             Some(found) => found.is_file(),
@@ -102,12 +101,12 @@ impl Target {
         }
     }
 
-    /// Whether it stands in this folder, be it there already or not.
+    /// Whether it is in this folder, or will be.
     pub fn is_in(&self, folder: &Metadata) -> bool {
         are_same(&self.folder, folder)
     }
 
-    /// Whether another path leads to the same regular file, be it there already or not.
+    /// Whether another path leads to the same regular file, even if the file doesn't exist yet.
     pub fn is_same(&self, other: &Target) -> bool {
         match (&self.found, &other.found) {
             (Some(one), Some(other)) => one.is_file() && are_same(one, other),

@@ -2,8 +2,10 @@
 
 use super::fault::FileFault;
 use super::leftovers::{beside, remove_leftovers};
+use super::limits::Limit;
 use super::locking::{LockedPack, lock};
-use super::places::{are_same, existing, leads_to};
+use super::naming::{Hindrance, Naming};
+use super::places::leads_to;
 use super::syncing::{open_folder, sync_if_kept};
 use std::fs::{File, Metadata, OpenOptions, Permissions};
 use std::io::{ErrorKind, Write};
@@ -11,117 +13,87 @@ use std::os::unix::fs::{MetadataExt, OpenOptionsExt, PermissionsExt, fchown};
 use std::path::Path;
 use std::{fs, io};
 
-/// The mode of a file that only its owner may read, as a new pack is until it is whole.
+/// The mode of a file that only its owner may read. A new pack has it until it is whole.
 const PRIVATE: u32 = 0o600;
 
-/// The mode that is asked for a file of no secrets. The system takes from it what the user's umask names.
+/// The mode that is asked for an ordinary file. The system reduces it by the umask.
 const USUAL: u32 = 0o666;
 
-/// A new file beside the one whose name it will take. It is locked as long as this lives, so that no other save takes it
-/// for one that was left over.
+/// A new file beside the one whose name it will take. It is locked as long as this lives, so that no other save takes it for a leftover.
 #[derive(Drop)]
 struct NewFile {
     path: String,
     file: File,
 }
 
-/// How a new file gets its name.
-#[derive(Clone, Copy)]
-enum Naming {
-    /// It takes the place of the file that has the name.
-    Replaces,
-    /// Nothing may have the name.
-    IsFirst,
-}
-
-/// Replaces the file of a pack, unless it may not be written. `InUse` where something else has its name by now, from one
-/// who doesn't ask for the lock.
-pub fn replace(rt: &HostRuntime, locked: &LockedPack, bytes: &[u8]) -> Result<(), FileFault> {
+/// Replaces the file of a pack. Right before the new file gets the name, the old one is compared with what it was when it was locked:
+/// `Hindered` if it may not be replaced. If the old file has lost its name, the new one is the first of that name.
+pub fn replace(rt: &HostRuntime, locked: LockedPack, bytes: &[u8]) -> Result<(), FileFault> {
+    let mut locked = locked;
     let old = locked.metadata()?;
-    let naming = match existing(rt, locked.place())? {
-        Some(found) if are_same(&found, &old) => {
-            permit(rt, locked.place(), &old)?;
-            Naming::Replaces
-        }
-        Some(_) => return Err(FileFault::InUse),
-        // it was removed or has another name now
-        None => Naming::IsFirst,
+    let folder = open_folder(rt, locked.place())?;
+    remove_leftovers(rt, locked.place(), Some(&old));
+    let mut new = NewFile::beside(rt, locked.place(), PRIVATE)?;
+    let naming = match new.fill_as(bytes, &old) {
+        Ok(()) => locked.naming_now(rt),
+        Err(error) => Err(FileFault::Call(error)),
     };
-    match replace_old(rt, locked.place(), &old, bytes, naming) {
-        Err(FileFault::Exists) => Err(FileFault::InUse),
+    match finish(rt, new, naming, locked.place(), &folder) {
+        Err(FileFault::Exists) => Err(FileFault::Hindered(Hindrance::Moved)),
         done => done,
     }
 }
 
 /// Tries whether the file of a pack could be replaced now. Nothing is changed.
-pub fn test_replacing(rt: &HostRuntime, locked: &LockedPack) -> io::Result<()> {
-    permit(rt, locked.place(), &locked.metadata()?)?;
-    test_place(rt, locked.place())
+pub fn test_replacing(rt: &HostRuntime, locked: &mut LockedPack) -> Result<(), FileFault> {
+    let _naming = locked.naming_now(rt)?;
+    Ok(test_place(rt, locked.place())?)
 }
 
-/// Tries whether a new file can be made beside a place, and its folder be opened. Nothing is changed.
+/// Tries whether a new file can be made beside a path, and whether the folder can be opened. Nothing is changed.
 pub fn test_place(rt: &HostRuntime, place: Path<'_>) -> io::Result<()> {
     let _folder = open_folder(rt, place)?;
     let empty = NewFile::beside(rt, place, PRIVATE)?;
     fs::remove_file(rt, empty.path.as_str())
 }
 
-/// Refuses a file that nobody may write, or that this user may not: its folder may let it be replaced all the same.
-fn permit(rt: &HostRuntime, place: Path<'_>, old: &Metadata) -> io::Result<()> {
-    if old.permissions().readonly() {
-        return Err(io::Error::from(ErrorKind::PermissionDenied));
-    }
-    let _writable = OpenOptions::new().write(true).open(rt, place)?;
-    Ok(())
-}
-
-fn replace_old(
+/// Saves a pack under a name that no file has; `Exists` if one has it by now. The pack gets the mode of a new file, within a limit.
+pub fn save_first(
     rt: &HostRuntime,
     place: Path<'_>,
-    old: &Metadata,
+    limit: Option<Limit>,
     bytes: &[u8],
-    naming: Naming,
 ) -> Result<(), FileFault> {
-    let folder = open_folder(rt, place)?;
-    remove_leftovers(rt, place, Some(old));
-    let mut new = NewFile::beside(rt, place, PRIVATE)?;
-    let filled = new.fill(bytes).and_then(|()| new.take_after(old));
-    finish(rt, new, filled, place, naming, &folder)
-}
-
-/// Saves a pack where no file stands yet; `Exists` where one does by now. It gets the mode of a file that is made plainly.
-pub fn save_first(rt: &HostRuntime, place: Path<'_>, bytes: &[u8]) -> Result<(), FileFault> {
     let folder = open_folder(rt, place)?;
     remove_leftovers(rt, place, None);
     let usual = usual_mode(rt, place)?;
     let mut new = NewFile::beside(rt, place, PRIVATE)?;
-    let filled = new
-        .fill(bytes)
-        .and_then(|()| new.file.set_permissions(usual));
-    finish(rt, new, filled, place, Naming::IsFirst, &folder)
+    let naming = match new.fill_within(bytes, usual, limit) {
+        Ok(()) => Ok(Naming::IsFirst),
+        Err(error) => Err(FileFault::Call(error)),
+    };
+    finish(rt, new, naming, place, &folder)
 }
 
-/// The mode that the system gives a new file in the folder of another: that of an empty one, which goes again.
-fn usual_mode(rt: &HostRuntime, place: Path<'_>) -> io::Result<Permissions> {
+/// The mode that the system gives a new file in the folder of another. It is read from an empty file, which is removed again.
+fn usual_mode(rt: &HostRuntime, place: Path<'_>) -> io::Result<u32> {
     let empty = NewFile::beside(rt, place, USUAL)?;
     let found = empty.file.metadata();
     fs::remove_file(rt, empty.path.as_str())?;
-    Ok(found?.permissions())
+    Ok(found?.mode())
 }
 
-/// Gives a new file that was filled the name that it is for, for good. It goes where anything failed before it has the
-/// name.
+/// Gives a new file its name, for good. The file is removed if anything fails before it has the name.
 fn finish(
     rt: &HostRuntime,
     new: NewFile,
-    filled: io::Result<()>,
+    naming: Result<Naming, FileFault>,
     place: Path<'_>,
-    naming: Naming,
     folder: &File,
 ) -> Result<(), FileFault> {
-    let named = match filled {
-        Ok(()) => new.take_name(rt, place, naming),
-        Err(error) => Err(FileFault::Call(error)),
+    let named = match naming {
+        Ok(naming) => new.take_name(rt, place, naming),
+        Err(fault) => Err(fault),
     };
     if named.is_err() {
         let _ = fs::remove_file(rt, new.path.as_str());
@@ -134,7 +106,7 @@ fn finish(
 }
 
 impl NewFile {
-    /// Makes one of the first name that is free.
+    /// Makes a file with the first name that is free.
     fn beside(rt: &HostRuntime, place: Path<'_>, mode: u32) -> io::Result<NewFile> {
         for number in 0..u32::MAX {
             let path = beside(rt, place, number)?;
@@ -145,8 +117,22 @@ impl NewFile {
         Err(io::Error::from(ErrorKind::AlreadyExists))
     }
 
-    fn fill(&mut self, bytes: &[u8]) -> io::Result<()> {
-        self.file.write_all(bytes)
+    /// Fills the file, gives it what it keeps of an old one, and brings it to the disk.
+    fn fill_as(&mut self, bytes: &[u8], old: &Metadata) -> io::Result<()> {
+        self.file.write_all(bytes)?;
+        self.take_after(old)?;
+        self.file.sync_all()
+    }
+
+    /// Fills the file, gives it a mode within a limit, and brings it to the disk.
+    fn fill_within(&mut self, bytes: &[u8], mode: u32, limit: Option<Limit>) -> io::Result<()> {
+        self.file.write_all(bytes)?;
+        let mode = match limit {
+            Some(limit) => mode & limit.allowed(&self.file.metadata()?),
+            None => mode,
+        };
+        self.file.set_permissions(Permissions::from_mode(mode))?;
+        self.file.sync_all()
     }
 
     /// Gives the file the owner, the group and the mode of an old one, as far as the user may.
@@ -162,26 +148,25 @@ impl NewFile {
         self.file.set_permissions(Permissions::from_mode(mode))
     }
 
-    /// Brings the file to the disk and gives it a name.
+    /// Gives the file a name.
     fn take_name(
         &self,
         rt: &HostRuntime,
         place: Path<'_>,
         naming: Naming,
     ) -> Result<(), FileFault> {
-        self.file.sync_all()?;
         match naming {
             Naming::Replaces => Ok(fs::rename(rt, self.path.as_str(), place)?),
             Naming::IsFirst => self.take_free_name(rt, place),
         }
     }
 
-    /// Gives the file a name that nothing has; `Exists` where something has it. A file system that gives no file a second name has
-    /// the name kept by an empty file first.
+    /// Gives the file a name that nothing has; `Exists` if something has it. If the file system gives no file a second name, an empty
+    /// file keeps the name first.
     fn take_free_name(&self, rt: &HostRuntime, place: Path<'_>) -> Result<(), FileFault> {
         match fs::hard_link(rt, self.path.as_str(), place) {
             Ok(()) => {
-                // if it can't be removed, the next save does it
+                // if the first name can't be removed, the next save removes it
                 let _ = fs::remove_file(rt, self.path.as_str());
                 Ok(())
             }
@@ -206,7 +191,7 @@ impl NewFile {
     }
 }
 
-/// Whether a file system gives no file a second name.
+/// Whether a call failed because the file system gives no file a second name.
 fn has_no_links(error: &io::Error) -> bool {
     matches!(
         error.kind(),
@@ -214,13 +199,13 @@ fn has_no_links(error: &io::Error) -> bool {
     )
 }
 
-/// A mode for a file that came into another group: no one may more than in the old one, be they in either group or none.
+/// A mode for a file that has come into another group: the group and others may do only what both could do before.
 pub fn without_group(mode: u32) -> u32 {
     let all = mode & (mode >> 3) & 0o007;
     (mode & !0o077) | (all << 3) | all
 }
 
-/// A new file, created and locked; none where something else has the name, or another save took it for a leftover.
+/// A new file, created and locked; none if something has the name, or if another save took the file for a leftover.
 fn claimed(rt: &HostRuntime, path: &str, mode: u32) -> io::Result<Option<File>> {
     let mut options = OpenOptions::new();
     options.read(true).write(true).create_new(true).mode(mode);
@@ -231,7 +216,7 @@ fn claimed(rt: &HostRuntime, path: &str, mode: u32) -> io::Result<Option<File>> 
     }
 }
 
-/// Locks a file that was created. It goes where that can't be done at all.
+/// Locks a file that was created. If the lock fails, the file is removed.
 fn keep(rt: &HostRuntime, path: &str, file: File) -> io::Result<Option<File>> {
     match is_ours(rt, path, &file) {
         Ok(true) => Ok(Some(file)),
@@ -243,7 +228,7 @@ fn keep(rt: &HostRuntime, path: &str, file: File) -> io::Result<Option<File>> {
     }
 }
 
-/// Locks a file that was created, unless another save, which took it for a leftover, has locked it or removed it.
+/// Locks a file that was created, unless another save took it for a leftover and has locked or removed it.
 fn is_ours(rt: &HostRuntime, path: &str, file: &File) -> io::Result<bool> {
     Ok(lock(file)? && leads_to(rt, Path::new(path), file)?)
 }

@@ -8,25 +8,30 @@ use std::time::Duration;
 /// How long a writer waits before it tries again, in milliseconds.
 const PAUSE: u64 = 5;
 
-/// Standard output. Where it takes nothing at the moment, as a pipe that doesn't block, a write waits until it does.
+/// Standard output. If it takes nothing at the moment, as a pipe that doesn't block, a write waits until it does.
 #[derive(Drop)]
 pub struct StandardOutput<'a> {
     rt: &'a HostRuntime,
-    has_lost_reader: bool,
+    failure: Option<io::Error>,
 }
 
 impl<'a> StandardOutput<'a> {
     /// Standard output before anything is written.
     pub fn new(rt: &'a HostRuntime) -> StandardOutput<'a> {
-        StandardOutput {
-            rt,
-            has_lost_reader: false,
-        }
+        StandardOutput { rt, failure: None }
+    }
+
+    /// Why the last write that failed did, if one has failed.
+    pub fn failure(&self) -> Option<io::Error> {
+        self.failure
     }
 
     /// Whether a write failed because nobody reads any more.
     pub fn has_lost_reader(&self) -> bool {
-        self.has_lost_reader
+        match self.failure {
+            Some(error) => error.kind() == ErrorKind::BrokenPipe,
+            None => false,
+        }
     }
 }
 
@@ -39,7 +44,7 @@ impl<'a> Write for StandardOutput<'a> {
                     sleep(self.rt, Duration::from_millis(PAUSE));
                 }
                 Err(error) => {
-                    self.has_lost_reader |= error.kind() == ErrorKind::BrokenPipe;
+                    self.failure = Some(error);
                     return Err(error);
                 }
                 Ok(count) => return Ok(count),

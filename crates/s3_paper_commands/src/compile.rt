@@ -14,7 +14,7 @@ use s3_source_listing::{Outcome, write_listing};
 use std::alloc::{AllocError, Global};
 use std::io::Write;
 
-/// `bureau compile` and its words.
+/// `bureau compile` and its options.
 pub const COMPILE: CommandWords = CommandWords {
     name: "compile",
     about: "Lists the sources of a deck with their diagnostics, and compiles nothing into a library",
@@ -22,7 +22,7 @@ pub const COMPILE: CommandWords = CommandWords {
         Word {
             name: "file",
             takes: Takes::FollowingFiles,
-            help: "The deck, where a source stands behind // LOAD $RPG,F1 and // RUN; several files are one deck; one whose name ends in .rpg or .punch is plain text",
+            help: "The deck; a source comes after // LOAD $RPG,F1 and // RUN; several files are one deck; a file whose name ends in .rpg or .punch is plain text",
         },
         Word {
             name: "cross-reference",
@@ -55,9 +55,9 @@ impl Order {
     }
 }
 
-/// Does what the words of `bureau compile` ask, and gives the exit status: 0 where every source compiles, 4 where one has diagnostics
-/// or a job has faulty statements, or with `--strict` where one has warnings, 3 where a file can't be read or the listing can't be written, 1 where the files are no deck or memory
-/// runs out.
+/// Does what the options of `bureau compile` ask, and gives the exit status: 0 if every source compiles, 4 if a source has diagnostics or a
+/// job has faulty statements, or with `--strict` if a source has warnings, 3 if a file can't be read or the listing can't be written, 1 if
+/// the files are no deck, one of them is also standard output or error, or memory runs out.
 pub fn compile_files<'a>(rt: &'a HostRuntime, matches: &ArgMatches<'a>) -> u8
     ensures { result ≤ 4 }
 {
@@ -89,7 +89,7 @@ fn list_text<'a>(
         Ok(deck) => write_on_output(rt, text, &deck, order),
         Err(DeckFault::NoMemory) => Err(CommandFault::NoMemory),
         Err(DeckFault::At(..)) => {
-            tell_unread(rt, text, is_one_file)?;
+            report_unread(rt, text, is_one_file)?;
             Ok(REFUSED)
         }
     }
@@ -114,7 +114,7 @@ fn write_on_output<'a>(
     }
 }
 
-/// The exit status of a listing. That a deck has no source is told.
+/// The exit status of a listing. It reports a deck without a source.
 fn status_of(rt: &HostRuntime, outcome: Outcome, is_strict: bool) -> u8 {
     if outcome.faults > 0 || (is_strict && outcome.warnings > 0) {
         return PERSON_NEEDED;
@@ -122,14 +122,14 @@ fn status_of(rt: &HostRuntime, outcome: Outcome, is_strict: bool) -> u8 {
     if outcome.sources == 0 {
         let _ = writeln!(
             rt.stderr(),
-            "The deck has no source: no job of it loads $RPG. A source stands in a job: put // LOAD $RPG,F1 and // RUN in front of it, and /* behind it."
+            "The deck has no source: no job of it loads $RPG. A source is in a job: put // LOAD $RPG,F1 and // RUN before it, and /* after it."
         );
     }
     DONE
 }
 
-/// Tells why the files are no deck: which cards can't be read, and what is to be done.
-fn tell_unread<'a>(
+/// Reports why the files are no deck: which cards can't be read, and what to do.
+fn report_unread<'a>(
     rt: &HostRuntime,
     text: &DeckText<'_>,
     is_one_file: bool,

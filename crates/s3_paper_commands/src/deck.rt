@@ -4,7 +4,7 @@ ghost use Rattle.std.specs.Prelude.{◌≤◌, IfOk};
 use crate::fault::CommandFault;
 use crate::punch::tell_punched;
 use s3_decks::{DeckText, cards_len};
-use s3_host_files::read_within;
+use s3_host_files::{WRITTEN, read_within, stream_at};
 use s3_punch::{Begun, Punched, punch};
 use s3_refusals::begins_as_pack;
 use std::alloc::AllocError;
@@ -18,13 +18,13 @@ const TEXT_LIMIT: usize = 4_194_304;
 pub enum ReadFiles<'a> {
     /// The text of a deck.
     Deck(DeckText<'a>),
-    /// Something is wrong with one of plain text, which was told.
+    /// A file of plain text is in error, which was reported.
     Faulty,
-    /// One can't be read, which was told.
+    /// A file can't be read, which was reported.
     Unread,
 }
 
-/// Where a deck stands behind some of its files.
+/// A deck after some of its files: where the next one begins, and whether one of them is in error.
 #[derive(Clone, Copy)]
 struct Standing {
     begun: Begun,
@@ -46,7 +46,7 @@ fn ends_in(path: &str, end: &[u8]) -> bool {
     }
 }
 
-/// The deck of some files, one behind the other. Each file that can't be read is told, and all that is wrong with those of plain text.
+/// The deck of some files, one after another. Each file that can't be read is reported, and all errors of those of plain text.
 pub fn read_deck<'a>(
     rt: &'a HostRuntime,
     paths: &[&'a str],
@@ -77,8 +77,11 @@ pub fn read_deck<'a>(
     })
 }
 
-/// The bytes of a file of a deck. A pack is refused.
+/// The bytes of a file of a deck. A pack is refused, and a file that is also standard output or standard error.
 pub fn read_deck_file<'a>(rt: &HostRuntime, name: &'a str) -> Result<Vec<u8>, CommandFault<'a>> {
+    if let Some(stream) = stream_at(rt, name, &WRITTEN) {
+        return Err(CommandFault::Stream(name, stream));
+    }
     match read_within(rt, name, TEXT_LIMIT) {
         Ok(bytes) if begins_as_pack(&bytes) => Err(CommandFault::Pack(name)),
         Ok(bytes) => Ok(bytes),
@@ -96,7 +99,7 @@ fn add_file<'a>(
     bytes: Vec<u8>,
 ) -> Result<Standing, AllocError>
     requires { standing.begun.cards ≤ 9999 }
-    ensures { IfOk result (λ behind. behind.begun.cards ≤ 9999) }
+    ensures { IfOk result (λ after. after.begun.cards ≤ 9999) }
 {
     if is_plain_text(name) {
         return add_text(rt, deck, standing, name, &bytes);
@@ -111,7 +114,7 @@ fn add_file<'a>(
     })
 }
 
-/// Puts the cards that are punched of a file behind those of a deck, and tells what is wrong with the file.
+/// Puts the cards that are punched of a file after those of a deck, and reports the errors of the file.
 fn add_text<'a>(
     rt: &HostRuntime,
     deck: &mut DeckText<'a>,
@@ -120,7 +123,7 @@ fn add_text<'a>(
     bytes: &[u8],
 ) -> Result<Standing, AllocError>
     requires { standing.begun.cards ≤ 9999 }
-    ensures { IfOk result (λ behind. behind.begun.cards ≤ 9999) }
+    ensures { IfOk result (λ after. after.begun.cards ≤ 9999) }
 {
     let punched = punch(rt.alloc(), bytes, &standing.begun)?;
     let is_faulty = tell_punched(rt, name, &punched);

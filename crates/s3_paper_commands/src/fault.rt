@@ -2,6 +2,7 @@
 ghost use Rattle.std.specs.Prelude.{◌≤◌};
 
 use crate::status::{FILE_FAILED, REFUSED};
+use s3_host_files::StandardStream;
 use s3_refusals::{Reason, Shown};
 use std::alloc::{AllocError, AllocFailed};
 use std::io;
@@ -18,6 +19,8 @@ pub enum CommandFault<'a> {
     TooLarge(&'a str),
     /// This file is a pack, and a deck is wanted.
     Pack(&'a str),
+    /// This file is a standard stream as well.
+    Stream(&'a str, StandardStream),
     /// Standard output can't be written.
     Output(io::Error),
 }
@@ -35,7 +38,7 @@ impl<'a, T: Drop> From<AllocFailed<T>> for CommandFault<'a> {
 }
 
 impl<'a> CommandFault<'a> {
-    /// What a failed call on a file is.
+    /// The fault of a failed call on a file.
     pub fn of(error: &io::Error, name: &'a str) -> CommandFault<'a> {
         if error.kind() == io::ErrorKind::OutOfMemory {
             CommandFault::NoMemory
@@ -44,7 +47,7 @@ impl<'a> CommandFault<'a> {
         }
     }
 
-    /// What a failed write of standard output is.
+    /// The fault of a failed write of standard output.
     pub fn of_output(error: &io::Error) -> CommandFault<'a> {
         if error.kind() == io::ErrorKind::OutOfMemory {
             CommandFault::NoMemory
@@ -53,40 +56,57 @@ impl<'a> CommandFault<'a> {
         }
     }
 
+    /// The exit status of the refusal.
+    fn status(&self) -> u8
+        ensures { result ≤ 3 }
+    {
+        match self {
+            CommandFault::File(_, _) | CommandFault::TooLarge(_) | CommandFault::Output(_) => {
+                FILE_FAILED
+            }
+            CommandFault::NoMemory | CommandFault::Pack(_) | CommandFault::Stream(_, _) => REFUSED,
+        }
+    }
+
     /// Writes the line of a refusal, and gives its exit status, 1 or 3.
     pub fn tell<W: Write>(&self, writer: &mut W) -> u8
         ensures { result ≤ 3 }
     {
+        let _ = self.write_line(writer);
+        self.status()
+    }
+
+    fn write_line<W: Write>(&self, writer: &mut W) -> io::Result<()> {
         match self {
-            CommandFault::NoMemory => {
-                let _ = writeln!(writer, "bureau: memory");
-                REFUSED
-            }
+            CommandFault::NoMemory => writeln!(writer, "bureau: memory"),
             CommandFault::File(name, error) => {
                 let (name, reason) = (Shown(*name), Reason(*error));
-                let _ = writeln!(writer, "bureau: {name} can't be read: {reason}");
-                FILE_FAILED
+                writeln!(writer, "bureau: {name} can't be read: {reason}")
             }
             CommandFault::TooLarge(name) => {
                 let name = Shown(*name);
-                let _ = writeln!(
+                writeln!(
                     writer,
                     "bureau: {name} can't be read: a file of a deck has at most 4,194,304 bytes; make several files of it"
-                );
-                FILE_FAILED
+                )
             }
             CommandFault::Pack(name) => {
                 let name = Shown(*name);
-                let _ = writeln!(
+                writeln!(
                     writer,
                     "bureau: {name} is a pack, not a deck; give a file with the cards of jobs"
-                );
-                REFUSED
+                )
+            }
+            CommandFault::Stream(name, stream) => {
+                let (name, stream) = (Shown(*name), stream.name());
+                writeln!(
+                    writer,
+                    "bureau: {name} is also {stream}, so what is printed would get into it; send {stream} to another file"
+                )
             }
             CommandFault::Output(error) => {
                 let reason = Reason(*error);
-                let _ = writeln!(writer, "bureau: standard output can't be written: {reason}");
-                FILE_FAILED
+                writeln!(writer, "bureau: standard output can't be written: {reason}")
             }
         }
     }

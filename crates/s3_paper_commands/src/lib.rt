@@ -1,8 +1,8 @@
 //! The commands around paper, over real files: `bureau punch`, which makes decks of plain text, and `bureau compile`, which lists the
-//! sources of a deck. `status` has the exit statuses of all commands of the program, and `words` the kinds of their words.
+//! sources of a deck. `status` has the exit statuses of all commands of the program, and `words` the kinds of their options.
 //!
 //! What is proved: each call is safe and returns, and gives a status in its range. What a text becomes is proved in `s3_punch`. The
-//! words, the lines that are told and the statuses are tested, by rows. What files and standard output give isn't claimed: they are
+//! options, the messages and the statuses are tested, by rows. What files and standard output give isn't claimed: they are
 //! used as the toolchain offers them.
 
 #![tactic(auto)]

@@ -12,7 +12,7 @@ use s3_refusals::{Shown, is_shown};
 use std::alloc::{AllocError, Global};
 use std::io::Write;
 
-/// `bureau punch` and its words.
+/// `bureau punch` and its options.
 pub const PUNCH: CommandWords = CommandWords {
     name: "punch",
     about: "Makes a deck of plain text: capitals, tabs to their columns, no comments; on standard output",
@@ -50,8 +50,8 @@ struct WholeDeck {
     is_faulty: bool,
 }
 
-/// Does what the words of `bureau punch` ask, and gives the exit status: 0 where the deck is written, 1 where something is wrong with
-/// the text or memory ran out, 3 where a file can't be read or standard output not be written.
+/// Does what the options of `bureau punch` ask, and gives the exit status: 0 if the deck is written, 1 if the text is in error, a file is
+/// also standard output or error, or memory ran out, 3 if a file can't be read or standard output can't be written.
 pub fn punch_files<'a>(rt: &HostRuntime, matches: &ArgMatches<'a>) -> u8
     ensures { result ≤ 3 }
 {
@@ -62,7 +62,7 @@ pub fn punch_files<'a>(rt: &HostRuntime, matches: &ArgMatches<'a>) -> u8
     }
 }
 
-/// Writes the deck of all files, and tells what was done, or tells what is wrong; answers whether the deck was written.
+/// Writes the deck of all files and reports the number of changes, or reports the errors. It returns whether the deck was written.
 fn write_deck<'a>(rt: &HostRuntime, matches: &ArgMatches<'a>) -> Result<bool, CommandFault<'a>> {
     let stacked = stacked(rt, matches)?;
     if stacked.is_faulty {
@@ -77,7 +77,7 @@ fn write_deck<'a>(rt: &HostRuntime, matches: &ArgMatches<'a>) -> Result<bool, Co
     }
 }
 
-/// Punches all files, one behind the other. What is wrong with them is told, and each change, where that is asked for.
+/// Punches all files, one after another. It reports their errors, and each change if that is asked for.
 fn stacked<'a>(rt: &HostRuntime, matches: &ArgMatches<'a>) -> Result<WholeDeck, CommandFault<'a>> {
     let alloc = rt.alloc();
     let mut begun = Begun::new(matches.get_flag("remarks"));
@@ -101,7 +101,7 @@ fn stacked<'a>(rt: &HostRuntime, matches: &ArgMatches<'a>) -> Result<WholeDeck, 
 }
 
 impl WholeDeck {
-    /// Puts a text behind the others. The last line of one that stands in front of another gets its end.
+    /// Puts a text after the others. The last line of the text before it gets its end.
     fn add(&mut self, punched: &Punched) -> Result<(), AllocError> {
         self.is_faulty |= !punched.faults.is_empty();
         self.counted = self.counted.with(&punched.changes);
@@ -140,7 +140,7 @@ impl Counted {
     }
 }
 
-/// Tells all that is wrong with a file.
+/// Reports all errors of a file.
 fn tell_faults(rt: &HostRuntime, file: &str, faults: &[PunchFault]) {
     for fault in faults {
         let line = fault.line;
@@ -160,7 +160,7 @@ fn tell_faults(rt: &HostRuntime, file: &str, faults: &[PunchFault]) {
     }
 }
 
-/// The code of the character that a reason is about, where a terminal wouldn't show it as it is.
+/// The code of the character that a reason is about, if a terminal doesn't show it as it is.
 fn unprintable(reason: PunchReason) -> Option<u32> {
     match reason {
         PunchReason::NoCardHas(character) if !is_shown(character) => Some(character as u32),
@@ -168,7 +168,7 @@ fn unprintable(reason: PunchReason) -> Option<u32> {
     }
 }
 
-/// Tells each line of a file that was changed.
+/// Reports each line of a file that was changed.
 fn tell_changes(rt: &HostRuntime, file: &str, changes: &[LineChange]) {
     for change in changes {
         let line = change.line;
@@ -178,7 +178,7 @@ fn tell_changes(rt: &HostRuntime, file: &str, changes: &[LineChange]) {
     }
 }
 
-/// Tells how many lines were changed and left out, where any were.
+/// Reports how many lines were changed and left out, if any were.
 fn tell_count(rt: &HostRuntime, counted: Counted) {
     if counted.is_nothing() {
         return;
@@ -191,8 +191,8 @@ fn tell_count(rt: &HostRuntime, counted: Counted) {
     );
 }
 
-/// Tells what is wrong with a file that was punched, or else how many of its lines were changed and left out, where any were. Answers
-/// whether anything is wrong.
+/// Reports the errors of a file that was punched, or else how many of its lines were changed and left out, if any were. It returns
+/// whether the file is in error.
 pub fn tell_punched(rt: &HostRuntime, file: &str, punched: &Punched) -> bool {
     if !punched.faults.is_empty() {
         tell_faults(rt, file, &punched.faults);

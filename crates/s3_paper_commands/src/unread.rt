@@ -8,8 +8,8 @@ use s3_punch::PunchReason;
 use s3_refusals::{Shown, is_shown};
 use std::alloc::{AllocError, Global};
 
-/// The most cards that are told one by one.
-const TOLD: usize = 20;
+/// The most cards that are reported one by one.
+const REPORTED: usize = 20;
 
 /// The most cards of a deck.
 const MAX_CARDS: usize = 9_999;
@@ -39,8 +39,8 @@ struct WrongCharacters {
 /// The cards that can't be read.
 #[derive(Drop)]
 struct Unread<'a> {
-    /// What is told of the first ones.
-    told: String,
+    /// The lines about the first ones.
+    lines: String,
     /// How many there are.
     count: usize,
     /// The first one that may be plain text.
@@ -100,12 +100,12 @@ fn push_character(text: &mut String, character: char) -> Result<(), AllocError> 
     }
 }
 
-/// Appends what is wrong with the characters of a card, and what is to be done where punching doesn't help.
+/// Appends what is wrong with the characters of a card, and what to do if punching doesn't help.
 fn push_wrong(text: &mut String, wrong: &WrongCharacters) -> Result<(), AllocError> {
     push_character(text, wrong.first)?;
     let more = wrong.more;
     if more > 0 {
-        write!(text, ", nor {more} more behind it")?;
+        write!(text, ", nor {more} more after it")?;
     }
     if is_typed(wrong.first) {
         Ok(())
@@ -140,8 +140,8 @@ fn push_fault(
 impl<'a> Unread<'a> {
     /// Notes a card that can't be read.
     fn note(&mut self, place: CardPlace<'a>, fault: &UnreadCard) -> Result<(), AllocError> {
-        if self.count < TOLD {
-            push_fault(&mut self.told, place, fault)?;
+        if self.count < REPORTED {
+            push_fault(&mut self.lines, place, fault)?;
         }
         self.count = self.count.saturating_add(1);
         if let UnreadCard::Characters(wrong) = fault {
@@ -155,7 +155,7 @@ impl<'a> Unread<'a> {
     /// The cards of a deck that can't be read.
     fn of(alloc: Global, deck: &DeckText<'a>) -> Result<Unread<'a>, AllocError> {
         let mut unread = Unread {
-            told: String::new(alloc),
+            lines: String::new(alloc),
             count: 0,
             typed: None,
         };
@@ -173,16 +173,16 @@ impl<'a> Unread<'a> {
     }
 }
 
-/// Why the files of a deck are none: each card that can't be read, up to twenty of them, how many more there are, and what is to be done.
-/// It is refused only where memory runs out.
+/// Why the files of a deck are none: each card that can't be read, up to twenty of them, how many more there are, and what to do.
+/// It is refused only if memory runs out.
 pub fn words_of_unread(
     alloc: Global,
     deck: &DeckText<'_>,
     is_one_file: bool,
 ) -> Result<String, AllocError> {
     let unread = Unread::of(alloc, deck)?;
-    let mut text = unread.told;
-    let more = unread.count.saturating_sub(TOLD);
+    let mut text = unread.lines;
+    let more = unread.count.saturating_sub(REPORTED);
     match more {
         0 => {}
         1 => text.push_str("Another card can't be read either.\n")?,
@@ -195,7 +195,7 @@ pub fn words_of_unread(
     Ok(text)
 }
 
-/// Appends that a deck has too many cards, where it has.
+/// Appends that a deck has too many cards, if it has.
 fn push_surplus(text: &mut String, deck: &DeckText<'_>) -> Result<(), AllocError> {
     if deck.card_count() <= MAX_CARDS {
         return Ok(());
@@ -205,8 +205,8 @@ fn push_surplus(text: &mut String, deck: &DeckText<'_>) -> Result<(), AllocError
     writeln!(text, "{place}, column 1: {reason}.")
 }
 
-/// Appends what is to be done with a file of plain text. A file that stands among others isn't punched alone, since what it is follows
-/// from those before it.
+/// Appends what to do with a file of plain text. One file of several isn't punched alone, since the files before it decide how it is
+/// punched.
 fn push_cure(text: &mut String, file: &str, is_one_file: bool) -> Result<(), AllocError> {
     let file = Shown(file);
     write!(

@@ -6,7 +6,7 @@ use std::os::unix::fs::MetadataExt;
 /// Where the system lists its locks.
 const LOCKS: &str = "/proc/locks";
 
-/// The process that holds the lock on a file, as far as the system tells it.
+/// The process that holds the lock on a file, if the system lists it.
 pub fn holder_of(rt: &HostRuntime, path: &str) -> Option<u32> {
     let file = fs::metadata(rt, path).ok()?.ino();
     let locks = fs::read_to_string(rt, LOCKS).ok()?;

@@ -14,5 +14,5 @@ mod refused;
 pub use holder::holder_of;
 pub use packs::{begins_as_pack, pack_words};
 pub use reasons::{Holder, Reason, call_words};
-pub use refused::{Refused, Work};
+pub use refused::{FileWork, Refused, Work};
 pub use s3_decks::{Shown, is_shown};

@@ -6,6 +6,7 @@ use crate::packs::pack_words;
 use crate::reasons::{Holder, Reason};
 use s3_cli::{CliFault, ImageFault, MigrateFault, RunFault, SessionFault, tell};
 use s3_decks::Shown;
+use s3_host_files::{Hindrance, StandardStream};
 use s3_labels::MountFault;
 use std::io;
 use std::io::Write;
@@ -13,26 +14,37 @@ use std::io::Write;
 /// What a command was at when it was refused.
 #[derive(Clone, Copy)]
 pub enum Work<'a> {
-    /// Neither a file nor standard input or output was at fault.
+    /// No file, and neither standard input nor output, was in error.
     Options,
-    /// A read of this file failed.
-    Reading(&'a str, io::Error),
-    /// The save of the pack to this file failed.
-    Saving(&'a str, io::Error),
-    /// This file was put there meanwhile, and isn't to be replaced.
-    Exists(&'a str),
-    /// This file is there and isn't a pack, so no pack takes its place.
-    NoPack(&'a str),
-    /// The pack is saved in this file, but its folder couldn't be brought to the disk.
-    Unsynced(&'a str, io::Error),
-    /// The pack of this file is in use, by a process that may be known.
-    InUse(&'a str, Option<u32>),
+    /// This file was in error, in this work.
+    File(&'a str, FileWork),
     /// A read of standard input failed.
     StandardInput,
     /// A write of standard output failed.
     StandardOutput,
     /// It had read this pack.
     Pack(&'a str),
+}
+
+/// Why a file can't be read, or a pack not be saved in it.
+#[derive(Clone, Copy)]
+pub enum FileWork {
+    /// A read of the file failed.
+    Reading(io::Error),
+    /// The save of the pack failed.
+    Saving(io::Error),
+    /// The file was put there meanwhile, and isn't to be replaced.
+    Exists,
+    /// The file isn't a pack, so no pack replaces it.
+    NoPack,
+    /// The file can't be replaced.
+    Hindered(Hindrance),
+    /// The file is this standard stream as well.
+    Stream(StandardStream),
+    /// The pack is saved, but its folder couldn't be brought to the disk.
+    Unsynced(io::Error),
+    /// The file is in use, by a process that may be known.
+    InUse(Option<u32>),
 }
 
 /// A refused command: its fault, which its line has, and what else is known.
@@ -59,42 +71,7 @@ impl<'a> Refused<'a> {
 
     fn explain<W: Write>(&self, writer: &mut W) -> io::Result<()> {
         match self.work {
-            Work::Reading(name, error) => {
-                let (name, reason) = (Shown(name), Reason(error));
-                writeln!(writer, "{name} can't be read: {reason}.")
-            }
-            Work::Saving(name, error) => {
-                let (name, reason) = (Shown(name), Reason(error));
-                writeln!(writer, "The pack isn't saved in {name}: {reason}.")
-            }
-            Work::Exists(name) => {
-                let name = Shown(name);
-                writeln!(
-                    writer,
-                    "The pack isn't saved: {name} was put there by another command. Give another name."
-                )
-            }
-            Work::NoPack(name) => {
-                let name = Shown(name);
-                writeln!(
-                    writer,
-                    "The pack isn't saved: {name} is there and isn't a pack, and stays as it is. Give another name, or remove that file."
-                )
-            }
-            Work::Unsynced(name, error) => {
-                let (name, reason) = (Shown(name), Reason(error));
-                writeln!(
-                    writer,
-                    "The pack is saved in {name}, but may not survive a power cut: its folder can't be brought to the disk: {reason}."
-                )
-            }
-            Work::InUse(name, process) => {
-                let (name, holder) = (Shown(name), Holder(process));
-                writeln!(
-                    writer,
-                    "{name} is in use: {holder}. Run this command again when that one is done."
-                )
-            }
+            Work::File(name, work) => explain_file(writer, name, work),
             Work::StandardInput => writeln!(
                 writer,
                 "Standard input can't be read, so nothing is done. Give a file with the decks and the script: `bureau run < FILE`."
@@ -107,6 +84,62 @@ impl<'a> Refused<'a> {
             Work::Options => explain_fault(writer, &self.fault, None),
         }
     }
+}
+
+/// Writes why a file can't be read, or a pack not be saved in it, and what to do.
+fn explain_file<W: Write>(writer: &mut W, name: &str, work: FileWork) -> io::Result<()> {
+    let name = Shown(name);
+    match work {
+        FileWork::Reading(error) => {
+            let reason = Reason(error);
+            writeln!(writer, "{name} can't be read: {reason}.")
+        }
+        FileWork::Saving(error) => {
+            let reason = Reason(error);
+            writeln!(writer, "The pack isn't saved in {name}: {reason}.")
+        }
+        FileWork::Exists => writeln!(
+            writer,
+            "The pack isn't saved: {name} was put there by another command. Give another name."
+        ),
+        FileWork::NoPack => writeln!(
+            writer,
+            "The pack isn't saved: {name} isn't a pack, and stays as it is. Give another name, or remove that file."
+        ),
+        FileWork::Hindered(hindrance) => {
+            let words = hindrance.words();
+            writeln!(writer, "The pack isn't saved: {name} {words}.")
+        }
+        FileWork::Stream(stream) => explain_stream(writer, name, stream),
+        FileWork::Unsynced(error) => explain_unsynced(writer, name, error),
+        FileWork::InUse(process) => {
+            let holder = Holder(process);
+            writeln!(
+                writer,
+                "{name} is in use: {holder}. Run this command again when that one is done."
+            )
+        }
+    }
+}
+
+fn explain_stream<W: Write>(
+    writer: &mut W,
+    name: Shown<'_>,
+    stream: StandardStream,
+) -> io::Result<()> {
+    let stream = stream.name();
+    writeln!(
+        writer,
+        "{name} is also {stream}, so what is printed would get into it. Nothing was done. Send {stream} to another file."
+    )
+}
+
+fn explain_unsynced<W: Write>(writer: &mut W, name: Shown<'_>, error: io::Error) -> io::Result<()> {
+    let reason = Reason(error);
+    writeln!(
+        writer,
+        "The pack is saved in {name}, but may not survive a power cut: its folder can't be brought to the disk: {reason}."
+    )
 }
 
 /// Writes what a fault means, and what to do; the pack is named if one was read.

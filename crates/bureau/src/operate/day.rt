@@ -4,7 +4,7 @@ use super::fault::DayFault;
 use super::order::Order;
 use super::outputs::{KeptOutputs, Output, Outputs, remove_made, write_deck};
 use super::paper::{Making, write_paper};
-use super::saving::end_day;
+use super::saving::{end_day, end_unwritten};
 use super::streams::Stream;
 use super::watch::Watch;
 use crate::refusal::{FILE, OUT_OF_MEMORY};
@@ -13,9 +13,11 @@ use s3_day_log::{Begun, DayLog};
 use s3_desk::{Day, operate_day};
 use s3_host_files::StandardOutput;
 use s3_operating::{Closing, Desk, Journal, Questioned, Reports, Seat, Settings, Tape, Verdict};
+use s3_refusals::Reason;
 use s3_replay::Performed;
 use s3_replies::Rules;
 use std::alloc::{AllocError, Global};
+use std::io;
 use std::io::{IsTerminal, Stdin, Write};
 
 /// The most bytes that `run` reads.
@@ -69,7 +71,7 @@ impl Over {
     }
 
     /// Whether the end of the day is reported: not if the day is to be quiet, and each job came to its end.
-    pub fn is_told(&self, order: &Order<'_>) -> bool {
+    pub fn is_reported(&self, order: &Order<'_>) -> bool {
         !order.is_quiet || self.closing.verdict != Verdict::Clean
     }
 }
@@ -101,9 +103,14 @@ pub fn operate_prepared<'n, 'a>(
     }
     match operated(rt.alloc(), order, pack, texts, &mut desk) {
         Ok(over) => {
-            write_decks(order, texts, deck1, deck2)?;
-            write_reports(rt, order, &mut desk, texts, &over, &kept)?;
-            end_day(rt, order, &mut desk, &kept, &over, locked)
+            let written = match write_decks(rt, order, texts, deck1, deck2) {
+                Ok(()) => write_reports(rt, order, &mut desk, texts, &over, &kept),
+                Err(fault) => Err(fault),
+            };
+            match written {
+                Ok(()) => end_day(rt, order, &mut desk, &kept, &over, locked),
+                Err(fault) => Err(end_unwritten(rt, order, &mut desk, &kept, fault)),
+            }
         }
         Err(fault) => {
             // if a deck is refused nothing is written, so what was made by trying goes again
@@ -117,13 +124,14 @@ pub fn operate_prepared<'n, 'a>(
 
 /// Writes both decks as they are run, as far as that is asked for.
 fn write_decks<'n>(
+    rt: &HostRuntime,
     order: &Order<'n>,
     texts: Texts<'_>,
     deck1: Option<Output>,
     deck2: Option<Output>,
 ) -> Result<(), DayFault<'n>> {
-    write_deck(deck1, order.deck_out1, texts.one)?;
-    write_deck(deck2, order.deck_out2, texts.two)
+    write_deck(rt, deck1, order.deck_out1, texts.one)?;
+    write_deck(rt, deck2, order.deck_out2, texts.two)
 }
 
 /// The desk before its day, with the files for the script and the log.
@@ -216,7 +224,7 @@ fn write_reports<'n>(
     kept: &KeptOutputs,
 ) -> Result<(), DayFault<'n>> {
     let is_written = desk.finish_reports(&over.day.outcome);
-    if over.is_told(order) {
+    if over.is_reported(order) {
         desk.tell("\n");
         desk.tell(over.closing.summary.as_str());
     }
@@ -229,7 +237,7 @@ fn write_reports<'n>(
             "what reads standard output has ended before the reports did; all else is done as asked\n",
         );
     } else if !is_written {
-        desk.tell("the reports can't be written to standard output, and no pack is saved\n");
+        report_output_failure(rt, desk.reports_to().failure());
         return Err(DayFault::Cli(FILE));
     }
     match order.paper {
@@ -237,12 +245,29 @@ fn write_reports<'n>(
             let making = Making {
                 overwrites: order.overwrites,
                 limit: kept.limit,
-                is_told: over.is_told(order),
+                is_reported: over.is_reported(order),
             };
             write_paper(rt, paper, making, desk, &over.day.outcome)
         }
         None => Ok(()),
     }
+}
+
+/// Reports why standard output can't be written.
+fn report_output_failure(rt: &HostRuntime, failure: Option<io::Error>) {
+    let _ = match failure {
+        Some(error) => {
+            let reason = Reason(error);
+            writeln!(
+                rt.stderr(),
+                "the reports can't be written to standard output: {reason}"
+            )
+        }
+        None => writeln!(
+            rt.stderr(),
+            "the reports can't be written to standard output"
+        ),
+    };
 }
 
 /// Why a day was ended before its time: its deck can't be read, its script or its log can't be written, or memory ran out.

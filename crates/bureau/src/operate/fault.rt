@@ -4,12 +4,34 @@ ghost use Rattle.std.specs.Prelude.{◌≤◌};
 use crate::refusal::OUT_OF_MEMORY;
 use s3_cards::LevelId;
 use s3_cli::{CliFault, tell};
-use s3_host_files::FileFault;
+use s3_host_files::{FileFault, Hindrance, StandardStream};
 use s3_paper_commands::status::{FILE_FAILED, REFUSED, WRONG_WORDS};
 use s3_refusals::{Reason, Shown};
 use std::alloc::{AllocError, AllocFailed};
 use std::io;
 use std::io::Write;
+
+/// The refusal of a file with too many bytes.
+const TOO_LARGE: &str =
+    "is too large: a deck or the rules have at most 4,194,304 bytes, a log 268,435,456";
+
+/// The refusal of a file of `--save` that isn't a pack.
+const NO_PACK: &str =
+    "is there and isn't a pack; give another name after --save, or remove that file";
+
+/// The refusal of a locked file.
+const IN_USE: &str =
+    "is in use: another command saves to it or writes it; try again when that one is done";
+
+/// The refusal of a file that exists.
+const EXISTS: &str = "is there already; give another name, or --overwrite to write over it";
+
+/// The refusal of a file of `--save` that exists and isn't the file of `--pack`.
+const OTHER_PACK: &str =
+    "is there already and isn't the pack that is read; name it after --pack, too, or give another name after --save; --overwrite would lose its files";
+
+/// The refusal of an output that has two uses.
+const SAME: &str = "is read or written for something else, too; give each output a file of its own";
 
 /// Why a day isn't operated, or not to its end.
 #[derive(Drop)]
@@ -26,17 +48,21 @@ pub enum DayFault<'a> {
     TooLarge(&'a str),
     /// This file of a deck is a pack.
     PackAsDeck(&'a str),
-    /// This file is there and isn't a pack, so no pack takes its place.
+    /// This file exists and isn't a pack, so no pack replaces it.
     NoPack(&'a str),
+    /// This file can't be replaced by the pack.
+    Hindered(&'a str, Hindrance),
+    /// This file is a standard stream as well.
+    Stream(&'a str, StandardStream),
     /// The pack is saved in this file, but its folder couldn't be brought to the disk.
     Unsynced(&'a str),
     /// Another command has this pack, or writes this output.
     InUse(&'a str),
-    /// The number of the first line of the rules that is none.
+    /// The number of the first bad line of the rules.
     Replies(usize),
     /// The deck of this level can't be read.
     Deck(LevelId),
-    /// This output would be written over what is there.
+    /// This output would overwrite a file.
     Exists(&'a str),
     /// The pack would be saved over this file, which isn't the pack that is read.
     OtherPack(&'a str),
@@ -46,7 +72,7 @@ pub enum DayFault<'a> {
     Within(&'a str),
     /// This folder of the pages isn't empty.
     NotEmpty(&'a str),
-    /// The day can't be taken up so.
+    /// The day can't be taken up at that line.
     NoTakingUp,
     /// The day isn't that of the log.
     Redo,
@@ -65,7 +91,7 @@ impl<'a, T: Drop> From<AllocFailed<T>> for DayFault<'a> {
 }
 
 impl<'a> DayFault<'a> {
-    /// What a failed call on a file is.
+    /// The fault of a failed call on a file.
     pub fn of(error: &io::Error, name: &'a str) -> DayFault<'a> {
         if error.kind() == io::ErrorKind::OutOfMemory {
             DayFault::Cli(OUT_OF_MEMORY)
@@ -74,12 +100,14 @@ impl<'a> DayFault<'a> {
         }
     }
 
-    /// Why the file of a pack can't be read or saved, or an output not be opened.
+    /// Why the file of a pack can't be read or saved, or an output can't be opened.
     pub fn of_pack(fault: &FileFault, name: &'a str) -> DayFault<'a> {
         match fault {
             FileFault::InUse => DayFault::InUse(name),
             FileFault::Exists => DayFault::Exists(name),
             FileFault::NoPack => DayFault::NoPack(name),
+            FileFault::Hindered(hindrance) => DayFault::Hindered(name, *hindrance),
+            FileFault::Stream(stream) => DayFault::Stream(name, *stream),
             FileFault::Call(error) => DayFault::of(error, name),
             FileFault::Unsynced(_) => DayFault::Unsynced(name),
         }
@@ -95,6 +123,7 @@ impl<'a> DayFault<'a> {
             | DayFault::Call(_, _)
             | DayFault::TooLarge(_)
             | DayFault::NoPack(_)
+            | DayFault::Hindered(_, _)
             | DayFault::Unsynced(_) => FILE_FAILED,
             _ => REFUSED,
         }
@@ -104,98 +133,89 @@ impl<'a> DayFault<'a> {
     pub fn tell<W: Write>(&self, writer: &mut W) -> u8
         ensures { result ≤ 3 }
     {
-        match self {
-            DayFault::Cli(fault) => return tell(writer, fault),
-            DayFault::Usage(reason) => {
-                let _ = writeln!(writer, "error: {reason}");
-                return WRONG_WORDS;
-            }
-            DayFault::Replies(line) => {
-                let _ = writeln!(writer, "bureau: replies {line}");
-            }
-            DayFault::Deck(LevelId::One) => tell_line(writer, "bureau: deck1"),
-            DayFault::Deck(LevelId::Two) => tell_line(writer, "bureau: deck2"),
-            DayFault::NoTakingUp => tell_line(writer, "bureau: from"),
-            DayFault::Redo => tell_line(writer, "bureau: redo"),
-            _ => return self.tell_named(writer),
+        if let DayFault::Cli(fault) = self {
+            return tell(writer, fault);
         }
-        REFUSED
+        let _ = self.write_line(writer);
+        self.status()
     }
 
-    /// Writes the line of a refusal that names a file, and gives its exit status.
-    fn tell_named<W: Write>(&self, writer: &mut W) -> u8
-        ensures { result ≤ 3 }
-    {
-        let (name, sentence) = match self {
-            DayFault::Call(name, error) => return tell_call(writer, *name, *error),
-            DayFault::File(name) => return tell_file(writer, *name, "isn't written whole"),
-            DayFault::TooLarge(name) => {
-                return tell_file(
-                    writer,
-                    *name,
-                    "is too large: a deck or the rules have at most 4,194,304 bytes, a log 268,435,456",
-                );
-            }
-            DayFault::NoPack(name) => {
-                return tell_file(
-                    writer,
-                    *name,
-                    "is there and isn't a pack; give another name after --save, or remove that file",
-                );
-            }
+    /// Writes the line of a refusal that isn't one of `run`.
+    fn write_line<W: Write>(&self, writer: &mut W) -> io::Result<()> {
+        match self {
+            DayFault::Usage(reason) => writeln!(writer, "error: {reason}"),
+            DayFault::Replies(line) => writeln!(writer, "bureau: replies {line}"),
+            DayFault::Deck(LevelId::One) => writeln!(writer, "bureau: deck1"),
+            DayFault::Deck(LevelId::Two) => writeln!(writer, "bureau: deck2"),
+            DayFault::NoTakingUp => writeln!(writer, "bureau: from"),
+            DayFault::Redo => writeln!(writer, "bureau: redo"),
+            DayFault::Call(name, error) => write_call(writer, *name, *error),
+            DayFault::Hindered(name, hindrance) => write_file(writer, *name, hindrance.words()),
+            DayFault::Stream(name, stream) => write_stream(writer, *name, *stream),
+            _ => match self.sentence() {
+                Some((name, sentence)) => write_file(writer, name, sentence),
+                None => Ok(()),
+            },
+        }
+    }
+
+    /// The file in error and the rest of the sentence about it, if the fault has no other value.
+    fn sentence(&self) -> Option<(&'a str, &'static str)> {
+        match self {
+            DayFault::File(name) => Some((*name, "isn't written whole")),
+            DayFault::TooLarge(name) => Some((*name, TOO_LARGE)),
+            DayFault::NoPack(name) => Some((*name, NO_PACK)),
             DayFault::Unsynced(name) => {
-                return tell_file(writer, *name, "is saved, but may not survive a power cut");
+                Some((*name, "is saved, but may not survive a power cut"))
             }
-            DayFault::InUse(name) => (
-                *name,
-                "is in use: another command saves to it or writes it; try again when that one is done",
-            ),
-            DayFault::PackAsDeck(name) => (*name, "is a pack, not a deck; name it after --pack"),
-            DayFault::Exists(name) => (
-                *name,
-                "is there already; give another name, or --overwrite to write over it",
-            ),
-            DayFault::OtherPack(name) => (
-                *name,
-                "is there already and isn't the pack that is read; name it after --pack, too, or give another name after --save; --overwrite would lose its files",
-            ),
-            DayFault::Same(name) => (
-                *name,
-                "is read or written for something else, too; give each output a file of its own",
-            ),
-            DayFault::Within(name) => (
+            DayFault::InUse(name) => Some((*name, IN_USE)),
+            DayFault::PackAsDeck(name) => {
+                Some((*name, "is a pack, not a deck; name it after --pack"))
+            }
+            DayFault::Exists(name) => Some((*name, EXISTS)),
+            DayFault::OtherPack(name) => Some((*name, OTHER_PACK)),
+            DayFault::Same(name) => Some((*name, SAME)),
+            DayFault::Within(name) => Some((
                 *name,
                 "is in the folder of --paper; give the pages a folder of their own",
-            ),
-            DayFault::NotEmpty(name) => (
+            )),
+            DayFault::NotEmpty(name) => Some((
                 *name,
                 "isn't empty; give --paper another folder, or --overwrite to write into it",
-            ),
-            _ => return REFUSED,
-        };
-        let _ = tell_file(writer, name, sentence);
-        REFUSED
+            )),
+            _ => None,
+        }
     }
-}
-
-fn tell_line<W: Write>(writer: &mut W, line: &str) {
-    let _ = writeln!(writer, "{line}");
 }
 
 /// Writes a sentence about a file.
-fn tell_file<W: Write>(writer: &mut W, name: &str, sentence: &str) -> u8
-    ensures { result ≤ 3 }
-{
+fn write_file<W: Write>(writer: &mut W, name: &str, sentence: &str) -> io::Result<()> {
     let name = Shown(name);
-    let _ = writeln!(writer, "bureau: {name} {sentence}");
-    FILE_FAILED
+    writeln!(writer, "bureau: {name} {sentence}")
 }
 
 /// Writes why a call on a file failed.
-fn tell_call<W: Write>(writer: &mut W, name: &str, error: io::Error) -> u8
-    ensures { result ≤ 3 }
-{
+fn write_call<W: Write>(writer: &mut W, name: &str, error: io::Error) -> io::Result<()> {
     let (name, reason) = (Shown(name), Reason(error));
-    let _ = writeln!(writer, "bureau: {name} can't be read or written: {reason}");
-    FILE_FAILED
+    writeln!(writer, "bureau: {name} can't be read or written: {reason}")
+}
+
+/// Writes that a file is also a standard stream.
+fn write_stream<W: Write>(writer: &mut W, name: &str, stream: StandardStream) -> io::Result<()> {
+    let name = Shown(name);
+    let stream = stream.name();
+    writeln!(
+        writer,
+        "bureau: {name} is also {stream}; give each a file of its own"
+    )
+}
+
+/// Reports why an output can't be written, and gives the fault.
+pub fn unwritten<'a>(rt: &HostRuntime, name: &'a str, error: &io::Error) -> DayFault<'a> {
+    if error.kind() == io::ErrorKind::OutOfMemory {
+        return DayFault::Cli(OUT_OF_MEMORY);
+    }
+    let (shown, reason) = (Shown(name), Reason(*error));
+    let _ = writeln!(rt.stderr(), "{shown} can't be written: {reason}");
+    DayFault::File(name)
 }

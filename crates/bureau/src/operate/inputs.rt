@@ -87,7 +87,7 @@ impl DayPack {
                 bytes,
                 locked: None,
             }),
-            Err(error) => Err(DayFault::of(&error, path)),
+            Err(fault) => Err(DayFault::of_pack(&fault, path)),
         }
     }
 }

@@ -1,16 +1,19 @@
-//! What a day writes, and that nothing of the user's is written over.
+//! The outputs of a day. None of them may overwrite a file that is read, another output or, without `--overwrite`, any file.
 
-use super::fault::DayFault;
+use super::fault::{DayFault, unwritten};
 use super::order::Order;
 use super::paper::Paper;
 pub use s3_host_files::Output;
-use s3_host_files::{Kept, Limit, LockedFolder, LockedPack, Replaced, Target, prepare_save};
+use s3_host_files::{
+    Kept, Limit, LockedFolder, LockedPack, STREAMS, StandardStream, Target, WRITTEN, prepare_save,
+    stream_at,
+};
 use std::alloc::Global;
 use std::fs::Metadata;
 use std::io::{ErrorKind, Write};
 use std::{fs, io};
 
-/// The outputs of a day, tried and ready.
+/// The outputs of a day, each of which can be written.
 #[derive(Drop)]
 pub struct Outputs<'a> {
     /// The script.
@@ -23,13 +26,13 @@ pub struct Outputs<'a> {
     pub deck2: Option<Output>,
     /// The lock on the file that the pack is saved to.
     pub locked: Option<LockedPack>,
-    /// What is needed of the outputs at the day's end.
+    /// The handles that the end of the day needs.
     pub kept: KeptOutputs,
     /// The files that were made by trying, and the folder of the pages.
     pub made: Vec<&'a str>,
 }
 
-/// What is needed of the outputs at the day's end, when the desk writes script and log.
+/// The handles of the outputs that the end of the day needs, when the desk has script and log.
 #[derive(Drop)]
 pub struct KeptOutputs {
     /// The script.
@@ -38,7 +41,7 @@ pub struct KeptOutputs {
     pub log: Option<Kept>,
     /// The folder of the pages, locked.
     folder: Option<LockedFolder>,
-    /// What files beside the pack let anyone do at most.
+    /// The most that new files let anyone do.
     pub limit: Option<Limit>,
 }
 
@@ -62,15 +65,27 @@ pub struct Files<'a> {
     written: Vec<Named<'a>>,
 }
 
-fn found<'a>(rt: &HostRuntime, name: &'a str) -> Result<Named<'a>, DayFault<'a>> {
+/// Where a path leads. It is refused if the file there is also one of these streams.
+fn found<'a>(
+    rt: &HostRuntime,
+    name: &'a str,
+    streams: &[StandardStream],
+) -> Result<Named<'a>, DayFault<'a>> {
+    if let Some(stream) = stream_at(rt, name, streams) {
+        return Err(DayFault::Stream(name, stream));
+    }
     match Target::find(rt, name) {
         Ok(target) => Ok(Named { name, target }),
         Err(error) => Err(DayFault::of(&error, name)),
     }
 }
 
-/// Refuses a pack that isn't there, so that a misspelt name isn't taken for an output over another pack; and outputs that are the
-/// same file as another output, as one that is read, or as one that is there.
+/// Refuses:
+///
+/// - a pack that doesn't exist, so that a misspelt name after `--pack` doesn't save a new pack over an old one;
+/// - an output that is the same file as another output, as a file that is read or as a standard stream;
+/// - without `--overwrite`, an output that exists;
+/// - a file that is read and is also standard output or standard error.
 pub fn test_outputs<'a>(rt: &HostRuntime, order: &Order<'a>) -> Result<(), DayFault<'a>> {
     let mut files = Files::new(rt.alloc());
     files.add_texts(rt, order)?;
@@ -106,17 +121,17 @@ impl<'a> Files<'a> {
     }
 
     fn add_text(&mut self, rt: &HostRuntime, name: &'a str) -> Result<(), DayFault<'a>> {
-        let text = found(rt, name)?;
+        let text = found(rt, name, &WRITTEN)?;
         self.texts.push(text)?;
         Ok(())
     }
 
-    /// Adds the pack that is read, if it is there.
+    /// Adds the pack that is read.
     fn add_pack(&mut self, rt: &HostRuntime, name: Option<&'a str>) -> Result<(), DayFault<'a>> {
         let Some(name) = name else {
             return Ok(());
         };
-        let pack = found(rt, name)?;
+        let pack = found(rt, name, &WRITTEN)?;
         if !pack.target.is_there() {
             return Err(no_pack(rt, name));
         }
@@ -124,13 +139,13 @@ impl<'a> Files<'a> {
         Ok(())
     }
 
-    /// Adds the file that the pack is saved to: no text that is read, and nothing that is there except the pack itself, unless that is
-    /// written over.
+    /// Adds the file that the pack is saved to. It may be the pack that is read, but no text that is read, and without `--overwrite` no
+    /// other file that exists.
     fn add_saved(&mut self, rt: &HostRuntime, order: &Order<'a>) -> Result<(), DayFault<'a>> {
         let Some(name) = order.save else {
             return Ok(());
         };
-        let save = found(rt, name)?;
+        let save = found(rt, name, &STREAMS)?;
         if has_same(&self.texts, &save) {
             return Err(DayFault::Same(name));
         }
@@ -154,14 +169,14 @@ impl<'a> Files<'a> {
         Ok(())
     }
 
-    /// Adds an output: nothing that is read, no other output, and nothing that is there, unless that is written over.
+    /// Adds an output. It may be no file that is read and no other output, and without `--overwrite` no file that exists.
     fn add_output(
         &mut self,
         rt: &HostRuntime,
         name: &'a str,
         overwrites: bool,
     ) -> Result<(), DayFault<'a>> {
-        let output = found(rt, name)?;
+        let output = found(rt, name, &STREAMS)?;
         if self.has(&output) {
             return Err(DayFault::Same(name));
         }
@@ -185,7 +200,7 @@ impl<'a> Files<'a> {
         has_same(&self.texts, file) || self.is_pack(file) || has_same(&self.written, file)
     }
 
-    /// The name of the first of these files that stands in a folder, if one does.
+    /// The name of the first of these files that is in a folder, if one is.
     pub fn name_within(&self, folder: &Metadata) -> Option<&'a str> {
         if let Some(name) = first_within(&self.texts, folder) {
             return Some(name);
@@ -222,7 +237,7 @@ fn has_same<'a>(others: &[Named<'a>], file: &Named<'a>) -> bool {
         .any(|other| other.target.is_same(&file.target))
 }
 
-/// The name of the first of some files that stands in a folder, if one does.
+/// The name of the first of some files that is in a folder, if one is.
 fn first_within<'a>(files: &[Named<'a>], folder: &Metadata) -> Option<&'a str> {
     for file in files {
         if file.target.is_in(folder) {
@@ -233,7 +248,7 @@ fn first_within<'a>(files: &[Named<'a>], folder: &Metadata) -> Option<&'a str> {
 }
 
 impl<'a> Outputs<'a> {
-    /// Tries all outputs: after `Ok` each can be written. After a fault the files that it made are removed.
+    /// Opens all outputs: after `Ok` each can be written. After a fault the files that it made are removed.
     pub fn open(
         rt: &HostRuntime,
         order: &Order<'a>,
@@ -291,7 +306,7 @@ impl<'a> Outputs<'a> {
         Ok(())
     }
 
-    /// Opens an output, if one is named. What is there stays until something is written.
+    /// Opens an output, if one is named. Its old contents stay until something is written.
     fn open_one(
         &mut self,
         rt: &HostRuntime,
@@ -313,7 +328,7 @@ impl<'a> Outputs<'a> {
     }
 }
 
-/// What files beside the pack let anyone do at most: what the file does that the pack is saved to, or the one that it is read from.
+/// The most that new files let anyone do: what the file lets them do that the pack is saved to, or else the file that it is read from.
 fn limit_of<'a>(rt: &HostRuntime, order: &Order<'a>) -> Result<Option<Limit>, DayFault<'a>> {
     if let Some(limit) = limit_by(rt, order.save)? {
         return Ok(Some(limit));
@@ -345,7 +360,7 @@ fn kept_of<'a>(
     }
 }
 
-/// The lock on the file that the pack is saved to, once that is tried, if the pack is to be saved.
+/// The lock on the file that the pack is saved to, after a trial of the save; none if the pack isn't saved, or the file doesn't exist.
 fn save_prepared<'a>(
     rt: &HostRuntime,
     order: &Order<'a>,
@@ -354,12 +369,7 @@ fn save_prepared<'a>(
     let Some(name) = order.save else {
         return Ok(None);
     };
-    let replaced = if order.overwrites {
-        Replaced::AnyFile
-    } else {
-        Replaced::Pack
-    };
-    match prepare_save(rt, name, locked, replaced) {
+    match prepare_save(rt, name, locked) {
         Ok(locked) => Ok(locked),
         Err(fault) => Err(DayFault::of_pack(&fault, name)),
     }
@@ -376,6 +386,7 @@ pub fn remove_made(rt: &HostRuntime, made: &[&str]) {
 
 /// Writes a deck as it is run, if that is asked for.
 pub fn write_deck<'a>(
+    rt: &HostRuntime,
     output: Option<Output>,
     name: Option<&'a str>,
     text: &[u8],
@@ -385,7 +396,7 @@ pub fn write_deck<'a>(
     };
     match write_whole(&mut output, text) {
         Ok(()) => Ok(()),
-        Err(error) => Err(DayFault::of(&error, name)),
+        Err(error) => Err(unwritten(rt, name, &error)),
     }
 }
 

@@ -1,14 +1,17 @@
 //! The pages of each job, in files of their own.
 
 use super::day::OwnDesk;
-use super::fault::DayFault;
+use super::fault::{DayFault, unwritten};
+use super::noted::Noted;
 use super::outputs::Files;
 use clap::ArgMatches;
 use s3_bureau::Outcome;
 use s3_cards::ebcdic::DIGIT_0;
 use s3_cards::{LevelId, Name, PrintLine};
 use s3_decks::{push_characters, push_name};
-use s3_host_files::{Limit, LockedFolder, create_anew, is_empty_folder, make_folder, test_folder};
+use s3_host_files::{
+    Limit, LockedFolder, create_anew, is_empty_folder, make_folder, stream_in, test_folder,
+};
 use s3_operating::PrintedJob;
 use s3_pages::{PaperFault, parts, write_pdf, write_text};
 use s3_refusals::Shown;
@@ -54,8 +57,8 @@ impl<'a> Paper<'a> {
         self.folder
     }
 
-    /// Refuses a folder that isn't empty, unless what is there is written over, and one in which a file stands that is read or
-    /// written. A folder that isn't there is made later.
+    /// Refuses a folder that isn't empty, unless its files may be overwritten, and a folder with a file that is read or written, as by a
+    /// standard stream. A folder that doesn't exist is made later.
     pub fn test_free(
         &self,
         rt: &HostRuntime,
@@ -63,16 +66,28 @@ impl<'a> Paper<'a> {
         files: &Files<'a>,
     ) -> Result<(), DayFault<'a>> {
         match fs::metadata(rt, self.folder) {
-            Ok(found) => match files.name_within(&found) {
-                Some(name) => Err(DayFault::Within(name)),
-                None => self.test_empty(rt, overwrites),
-            },
+            Ok(found) => {
+                if let Some(name) = files.name_within(&found) {
+                    return Err(DayFault::Within(name));
+                }
+                self.test_streams(rt)?;
+                self.test_empty(rt, overwrites)
+            }
             Err(error) if error.kind() == ErrorKind::NotFound => Ok(()),
             Err(error) => Err(DayFault::of(&error, self.folder)),
         }
     }
 
-    /// Refuses a folder that isn't empty, unless what is there is written over.
+    /// Refuses a folder with a file that is also standard output or standard error.
+    fn test_streams(&self, rt: &HostRuntime) -> Result<(), DayFault<'a>> {
+        match stream_in(rt, self.folder) {
+            Ok(Some(stream)) => Err(DayFault::Within(stream.name())),
+            Ok(None) => Ok(()),
+            Err(error) => Err(DayFault::of(&error, self.folder)),
+        }
+    }
+
+    /// Refuses a folder that isn't empty, unless its files may be overwritten.
     fn test_empty(&self, rt: &HostRuntime, overwrites: bool) -> Result<(), DayFault<'a>> {
         match is_empty_folder(rt, self.folder) {
             Ok(is_empty) if is_empty || overwrites => Ok(()),
@@ -81,7 +96,7 @@ impl<'a> Paper<'a> {
         }
     }
 
-    /// Makes the folder, if it isn't there. It answers whether it was made.
+    /// Makes the folder, if it doesn't exist. It returns whether it was made.
     pub fn make(&self, rt: &HostRuntime, limit: Option<Limit>) -> Result<bool, DayFault<'a>> {
         match make_folder(rt, self.folder, limit) {
             Ok(()) => Ok(true),
@@ -90,7 +105,7 @@ impl<'a> Paper<'a> {
         }
     }
 
-    /// Keeps the folder for this day, sees that it is still as `test_free` found it, and tries whether files can be made in it.
+    /// Locks the folder for this day, tests again that it is empty, and tries whether files can be made in it.
     pub fn lock(&self, rt: &HostRuntime, overwrites: bool) -> Result<LockedFolder, DayFault<'a>> {
         let locked = match LockedFolder::lock(rt, self.folder) {
             Ok(locked) => locked,
@@ -107,12 +122,12 @@ impl<'a> Paper<'a> {
 /// How the files of the pages are made.
 #[derive(Clone, Copy)]
 pub struct Making {
-    /// What is there is written over.
+    /// Files that exist are overwritten.
     pub overwrites: bool,
-    /// What the files let anyone do at most.
+    /// The most that the files let anyone do.
     pub limit: Option<Limit>,
-    /// It is reported where they are.
-    pub is_told: bool,
+    /// The folder is reported.
+    pub is_reported: bool,
 }
 
 /// How pages are written, given the form that is named, and whether the bars are left out.
@@ -137,14 +152,14 @@ pub fn write_paper<'n>(
 ) -> Result<(), DayFault<'n>> {
     let one = write_level(rt, paper, making, desk, LevelId::One, &outcome.one.report)?;
     let two = write_level(rt, paper, making, desk, LevelId::Two, &outcome.two.report)?;
-    if making.is_told {
-        tell_paper(rt, paper.folder, one.saturating_add(two));
+    if making.is_reported {
+        report_paper(rt, paper.folder, one.saturating_add(two));
     }
     Ok(())
 }
 
-/// Reports of how many jobs the pages were written, and where.
-fn tell_paper(rt: &HostRuntime, folder: &str, jobs: usize) {
+/// Reports where the pages are, and of how many jobs.
+fn report_paper(rt: &HostRuntime, folder: &str, jobs: usize) {
     let folder = Shown(folder);
     let _ = match jobs {
         0 => writeln!(rt.stderr(), "no job printed, so {folder} gets no pages"),
@@ -153,7 +168,7 @@ fn tell_paper(rt: &HostRuntime, folder: &str, jobs: usize) {
     };
 }
 
-/// Writes the pages of the jobs of a level, given its report. It answers of how many jobs there are pages.
+/// Writes the pages of the jobs of a level, given its report. It returns the number of jobs with pages.
 fn write_level<'n>(
     rt: &HostRuntime,
     paper: Paper<'n>,
@@ -169,7 +184,7 @@ fn write_level<'n>(
     write_jobs(rt, paper, making, level, &jobs, &lines)
 }
 
-/// Writes the pages of some jobs, given the lines of all of them. It answers of how many jobs there are pages.
+/// Writes the pages of some jobs, given the lines of all of them. It returns the number of jobs with pages.
 fn write_jobs<'n>(
     rt: &HostRuntime,
     paper: Paper<'n>,
@@ -199,7 +214,7 @@ fn counts_of(alloc: Global, jobs: &[PrintedJob]) -> Result<Vec<u64>, AllocError>
     Ok(counts)
 }
 
-/// Writes the pages of a job.
+/// Writes the pages of a job. If that fails, it reports why.
 fn write_job<'n>(
     rt: &HostRuntime,
     paper: Paper<'n>,
@@ -212,13 +227,37 @@ fn write_job<'n>(
     let title = title_of(rt.alloc(), level, job)?;
     match write_file(rt, path.as_str(), making, paper.form, title.as_str(), lines) {
         Ok(()) => Ok(()),
-        Err(PaperFault::NoMemory) => Err(DayFault::from(AllocError)),
-        Err(fault) => {
-            let path = Shown(path.as_str());
-            let _ = writeln!(rt.stderr(), "{path}: {fault}; the file isn't whole");
+        Err(Unwritten::NoMemory) => Err(DayFault::from(AllocError)),
+        Err(Unwritten::Call(error)) => {
+            // the line names the file, and the fault the folder
+            let _ = unwritten(rt, path.as_str(), &error);
+            Err(DayFault::File(paper.folder))
+        }
+        Err(Unwritten::TooLong) => {
+            report_too_long(rt, path.as_str());
             Err(DayFault::File(paper.folder))
         }
     }
+}
+
+/// Reports that a job has more pages than a document can have.
+fn report_too_long(rt: &HostRuntime, path: &str) {
+    let path = Shown(path);
+    let _ = writeln!(
+        rt.stderr(),
+        "{path} can't be written: the job has more pages than a PDF document can have; use --form text"
+    );
+}
+
+/// Why a file of pages isn't written.
+#[derive(Clone, Copy)]
+enum Unwritten {
+    /// Memory ran out.
+    NoMemory,
+    /// A call on the file failed.
+    Call(io::Error),
+    /// There are more pages, or more bytes, than a document can have.
+    TooLong,
 }
 
 /// Writes a file of pages.
@@ -229,23 +268,40 @@ fn write_file(
     form: Form,
     title: &str,
     lines: &[PrintLine],
-) -> Result<(), PaperFault> {
+) -> Result<(), Unwritten> {
     match create_anew(rt, path, making.overwrites, making.limit) {
-        Ok(file) => write_pages(rt.alloc(), file, form, title, lines),
-        Err(error) => Err(failed(&error)),
+        Ok(file) => write_noted(rt.alloc(), &mut Noted::new(file), form, title, lines),
+        Err(error) => Err(of_call(&error)),
+    }
+}
+
+/// Writes pages, and gives the reason of a write that failed.
+fn write_noted(
+    alloc: Global,
+    file: &mut Noted<File>,
+    form: Form,
+    title: &str,
+    lines: &[PrintLine],
+) -> Result<(), Unwritten> {
+    match (write_pages(alloc, file, form, title, lines), file.failure) {
+        (Ok(()), _) => Ok(()),
+        (Err(PaperFault::TooLong), _) => Err(Unwritten::TooLong),
+        (Err(PaperFault::File), Some(error)) => Err(of_call(&error)),
+        // each other failure is one of memory
+        (Err(_), _) => Err(Unwritten::NoMemory),
     }
 }
 
 fn write_pages(
     alloc: Global,
-    file: File,
+    file: &mut Noted<File>,
     form: Form,
     title: &str,
     lines: &[PrintLine],
 ) -> Result<(), PaperFault> {
     let mut writer = match BufWriter::new(alloc, file) {
         Ok(writer) => writer,
-        Err(error) => return Err(failed(&error)),
+        Err(_) => return Err(PaperFault::NoMemory),
     };
     match form {
         Form::Text => write_text(alloc, lines, &mut writer)?,
@@ -255,16 +311,16 @@ fn write_pages(
     }
     match writer.flush() {
         Ok(()) => Ok(()),
-        Err(error) => Err(failed(&error)),
+        Err(_) => Err(PaperFault::File),
     }
 }
 
-/// What a failed call on the file of a job's pages is.
-fn failed(error: &io::Error) -> PaperFault {
+/// What a failed call on a file of pages is.
+fn of_call(error: &io::Error) -> Unwritten {
     if error.kind() == ErrorKind::OutOfMemory {
-        PaperFault::NoMemory
+        Unwritten::NoMemory
     } else {
-        PaperFault::File
+        Unwritten::Call(*error)
     }
 }
 

@@ -5,14 +5,15 @@ use super::fault::DayFault;
 use super::order::Order;
 use super::outputs::KeptOutputs;
 use s3_day_log::{DayOver, Event, NamedFile, checksum};
-use s3_host_files::{FileFault, Kept, LockedPack, save_new_pack, save_pack};
+use s3_host_files::{FileFault, Kept, Limit, LockedPack, save_new_pack, save_pack};
 use s3_operating::Verdict;
 use s3_paper_commands::status::{DONE, FILE_FAILED, PASSED_OVER, PERSON_NEEDED};
+use s3_refusals::{Reason, Shown};
 use std::alloc::{AllocError, Global};
 use std::io;
 use std::io::Write;
 
-/// A day whose pack is saved: with what, and where.
+/// A pack that is about to be saved.
 #[derive(Clone, Copy)]
 struct Saving<'a, 'b> {
     /// The file.
@@ -21,8 +22,8 @@ struct Saving<'a, 'b> {
     sum: &'b str,
 }
 
-/// Saves the pack, if that is asked for and the day is one to be saved, reports what became of it, logs the end of the day, and gives
-/// the exit status.
+/// Saves the pack, if that is asked for and the day allows it, reports whether it is saved, logs the end of the day, and gives the
+/// exit status.
 pub fn end_day<'n>(
     rt: &HostRuntime,
     order: &Order<'n>,
@@ -31,19 +32,21 @@ pub fn end_day<'n>(
     over: &Over,
     locked: Option<LockedPack>,
 ) -> Result<u8, DayFault<'n>> {
-    if desk.has_script() {
-        sync(rt, &kept.script, order.script)?;
+    if let Err(fault) = sync_script(rt, order, desk, kept) {
+        return Err(end_unwritten(rt, order, desk, kept, fault));
     }
     let Some(path) = order.save else {
-        if over.is_told(order) {
+        if over.is_reported(order) {
             desk.tell("nothing is saved: there is no --save\n");
         }
         return end_unsaved(rt, order, desk, kept, over);
     };
     if over.is_unfinished() && !order.saves_unfinished {
-        desk.tell("the pack is not saved, and ");
-        desk.tell(path);
-        desk.tell(" is left alone: a level isn't done (--save-unfinished saves it so)\n");
+        report_unsaved(
+            rt,
+            path,
+            ": a level isn't done (--save-unfinished saves it so)",
+        );
         return end_unsaved(rt, order, desk, kept, over);
     }
     if !desk.wants_saved()? {
@@ -54,16 +57,78 @@ pub fn end_day<'n>(
         path,
         sum: sum.as_str(),
     };
-    note_saving(rt, order, desk, kept, saving)?;
-    match saved(rt, order, path, locked, &over.day.outcome.pack) {
-        Ok(()) => end_saved(rt, order, desk, kept, over, saving),
-        Err(FileFault::Unsynced(error)) => end_unsynced(rt, order, desk, kept, saving, &error),
+    save(rt, order, desk, kept, over, locked, saving)
+}
+
+/// Saves the pack, after the log has that it will be saved, and ends the day.
+fn save<'n>(
+    rt: &HostRuntime,
+    order: &Order<'n>,
+    desk: &mut OwnDesk<'_>,
+    kept: &KeptOutputs,
+    over: &Over,
+    locked: Option<LockedPack>,
+    saving: Saving<'n, '_>,
+) -> Result<u8, DayFault<'n>> {
+    if let Err(fault) = note_saving(rt, order, desk, kept, saving) {
+        return Err(end_unwritten(rt, order, desk, kept, fault));
+    }
+    // what comes after the save must not need memory for the name of the pack
+    let pack = saved_file(rt.alloc(), saving)?;
+    let path = saving.path;
+    match saved(rt, order, path, locked, kept.limit, &over.day.outcome.pack) {
+        Ok(()) => end_saved(rt, order, desk, kept, over, path, pack),
+        Err(FileFault::Unsynced(error)) => end_unsynced(rt, order, desk, kept, path, pack, &error),
         Err(fault) => end_failed(rt, order, desk, kept, path, &fault),
     }
 }
 
-/// Logs that the pack is going to be saved, and brings the log to the disk: so whoever finds a log without an end can tell by the pack
-/// whether it is saved.
+/// Ends a day of which an output isn't written, so that its pack isn't saved. This is reported, unless the desk has done so, and logged.
+/// It returns the fault.
+pub fn end_unwritten<'n>(
+    rt: &HostRuntime,
+    order: &Order<'n>,
+    desk: &mut OwnDesk<'_>,
+    kept: &KeptOutputs,
+    fault: DayFault<'n>,
+) -> DayFault<'n> {
+    if let Some(path) = order.save
+        && !desk.has_given_up()
+    {
+        report_unsaved(rt, path, "");
+    }
+    if !desk.has_log_failed() {
+        // the fault is the one that came first
+        let _ = log_end(rt, order, desk, kept, fault.status(), None);
+    }
+    fault
+}
+
+/// Reports that the pack isn't saved, and why, unless another line has the reason.
+fn report_unsaved(rt: &HostRuntime, path: &str, reason: &str) {
+    let path = Shown(path);
+    let _ = writeln!(
+        rt.stderr(),
+        "the pack is not saved, and {path} is left alone{reason}"
+    );
+}
+
+/// Brings the script to the disk, if one is written.
+fn sync_script<'n>(
+    rt: &HostRuntime,
+    order: &Order<'n>,
+    desk: &OwnDesk<'_>,
+    kept: &KeptOutputs,
+) -> Result<(), DayFault<'n>> {
+    if desk.has_script() {
+        sync(rt, &kept.script, order.script)
+    } else {
+        Ok(())
+    }
+}
+
+/// Logs that the pack is going to be saved, and brings the log to the disk. If the desk is killed, a log without an end and the pack
+/// show whether the pack is saved.
 fn note_saving<'n>(
     rt: &HostRuntime,
     order: &Order<'n>,
@@ -104,25 +169,34 @@ fn sync<'n>(
     };
     match output.sync() {
         Ok(()) => Ok(()),
-        Err(error) => {
-            let _ = writeln!(rt.stderr(), "{name} can't be brought to the disk: {error}");
-            Err(DayFault::of(&error, name))
-        }
+        Err(error) => Err(unsynced(rt, name, &error)),
     }
 }
 
-/// Saves the pack. A file that has appeared since the day began is written over only if that is asked for.
+/// Reports why an output can't be brought to the disk, and gives the fault.
+fn unsynced<'n>(rt: &HostRuntime, name: &'n str, error: &io::Error) -> DayFault<'n> {
+    let (shown, reason) = (Shown(name), Reason(*error));
+    let _ = writeln!(
+        rt.stderr(),
+        "{shown} can't be brought to the disk: {reason}"
+    );
+    DayFault::File(name)
+}
+
+/// Saves the pack. A file that has appeared since the day began is overwritten only if that is asked for. A new file lets nobody do more
+/// than the limit.
 fn saved(
     rt: &HostRuntime,
     order: &Order<'_>,
     path: &str,
     locked: Option<LockedPack>,
+    limit: Option<Limit>,
     pack: &[u8],
 ) -> Result<(), FileFault> {
     if locked.is_none() && !order.overwrites {
-        save_new_pack(rt, path, pack)
+        save_new_pack(rt, path, limit, pack)
     } else {
-        save_pack(rt, path, locked, pack)
+        save_pack(rt, path, locked, limit, pack)
     }
 }
 
@@ -133,20 +207,26 @@ fn end_saved<'n>(
     desk: &mut OwnDesk<'_>,
     kept: &KeptOutputs,
     over: &Over,
-    saving: Saving<'n, '_>,
+    path: &'n str,
+    pack: NamedFile,
 ) -> Result<u8, DayFault<'n>> {
-    if over.is_told(order) {
-        desk.tell("the pack is saved in ");
-        desk.tell(saving.path);
-        desk.tell(if over.is_unfinished() {
-            ", though a level isn't done: a job that is taken up begins anew, over the records that it has put\n"
-        } else {
-            "\n"
-        });
+    if over.is_reported(order) {
+        report_saved(rt, path, over.is_unfinished());
     }
     let status = status_of(over.closing.verdict);
-    end_over_saved(rt, order, desk, kept, status, saving)?;
+    end_over_saved(rt, order, desk, kept, status, path, pack)?;
     Ok(status)
+}
+
+/// Reports that the pack is saved, and what that means if a level isn't done.
+fn report_saved(rt: &HostRuntime, path: &str, is_unfinished: bool) {
+    let path = Shown(path);
+    let further = if is_unfinished {
+        ", though a level isn't done: a job that is taken up begins anew, over the records that it has put"
+    } else {
+        ""
+    };
+    let _ = writeln!(rt.stderr(), "the pack is saved in {path}{further}");
 }
 
 /// Ends a day whose pack is saved, though its folder couldn't be brought to the disk.
@@ -155,37 +235,39 @@ fn end_unsynced<'n>(
     order: &Order<'n>,
     desk: &mut OwnDesk<'_>,
     kept: &KeptOutputs,
-    saving: Saving<'n, '_>,
+    path: &'n str,
+    pack: NamedFile,
     error: &io::Error,
 ) -> Result<u8, DayFault<'n>> {
-    let path = saving.path;
+    let (shown, reason) = (Shown(path), Reason(*error));
     let _ = writeln!(
         rt.stderr(),
-        "the pack is saved in {path}, but may not survive a power cut, because its folder can't be brought to the disk: {error}"
+        "the pack is saved in {shown}, but may not survive a power cut, because its folder can't be brought to the disk: {reason}"
     );
-    end_over_saved(rt, order, desk, kept, FILE_FAILED, saving)?;
+    end_over_saved(rt, order, desk, kept, FILE_FAILED, path, pack)?;
     Err(DayFault::Unsynced(path))
 }
 
-/// Logs the end of a day whose pack is saved. A log that fails by now leaves the pack saved, which is reported.
+/// Logs the end of a day whose pack is saved. If the log fails by now, the pack stays saved, which is reported.
 fn end_over_saved<'n>(
     rt: &HostRuntime,
     order: &Order<'n>,
     desk: &mut OwnDesk<'_>,
     kept: &KeptOutputs,
     status: u8,
-    saving: Saving<'n, '_>,
+    path: &'n str,
+    pack: NamedFile,
 ) -> Result<(), DayFault<'n>> {
-    let pack = saved_file(rt.alloc(), saving)?;
-    let ended = log_end(rt, order, desk, kept, status, Some(pack));
-    if let Err(DayFault::File(log)) = &ended {
-        let path = saving.path;
-        let _ = writeln!(
-            rt.stderr(),
-            "{log} may lack the end of the day; the pack is saved in {path} all the same"
-        );
+    if log_end(rt, order, desk, kept, status, Some(pack)).is_ok() {
+        return Ok(());
     }
-    ended
+    let log = order.log.unwrap_or(path);
+    let (shown, path) = (Shown(log), Shown(path));
+    let _ = writeln!(
+        rt.stderr(),
+        "{shown} may lack the end of the day; the pack is saved in {path} all the same"
+    );
+    Err(DayFault::File(log))
 }
 
 /// Ends a day whose pack couldn't be saved.
@@ -197,31 +279,30 @@ fn end_failed<'n>(
     path: &'n str,
     fault: &FileFault,
 ) -> Result<u8, DayFault<'n>> {
-    tell_failed(rt, path, fault);
+    report_failed(rt, path, fault);
     let fault = DayFault::of_pack(fault, path);
     log_end(rt, order, desk, kept, fault.status(), None)?;
     Err(fault)
 }
 
 /// Reports why a pack isn't saved.
-fn tell_failed(rt: &HostRuntime, path: &str, fault: &FileFault) {
+fn report_failed(rt: &HostRuntime, path: &str, fault: &FileFault) {
+    let path = Shown(path);
     let _ = match fault {
-        FileFault::Call(error) | FileFault::Unsynced(error) => writeln!(
-            rt.stderr(),
-            "the pack is not saved in {path}: {error}"
-        ),
+        FileFault::Call(error) | FileFault::Unsynced(error) => {
+            let reason = Reason(*error);
+            writeln!(rt.stderr(), "the pack is not saved in {path}: {reason}")
+        }
         FileFault::Exists => writeln!(
             rt.stderr(),
             "the pack is not saved: {path} is there by now, and wasn't when the day began; give another name, or --overwrite to write over it"
         ),
-        FileFault::NoPack => writeln!(
-            rt.stderr(),
-            "the pack is not saved: {path} is there and is no pack; give another name after --save, or remove that file"
-        ),
-        FileFault::InUse => writeln!(
-            rt.stderr(),
-            "the pack is not saved: {path} was put there by another command while the day was operated"
-        ),
+        // the line of the refusal has the reason
+        FileFault::NoPack | FileFault::Hindered(_) | FileFault::Stream(_) | FileFault::InUse =>
+            writeln!(
+                rt.stderr(),
+                "the pack is not saved, and {path} is left alone"
+            ),
     };
 }
 
@@ -246,9 +327,7 @@ fn end_declined<'n>(
     kept: &KeptOutputs,
     path: &str,
 ) -> Result<u8, DayFault<'n>> {
-    desk.tell("the pack is not saved, and ");
-    desk.tell(path);
-    desk.tell(" is left alone: the answer was no\n");
+    report_unsaved(rt, path, ": the answer was no");
     log_end(rt, order, desk, kept, PERSON_NEEDED, None)?;
     Ok(PERSON_NEEDED)
 }

@@ -14,6 +14,14 @@ pub enum Stream<'a> {
 }
 
 impl<'a> Stream<'a> {
+    /// Why a write of a report failed, if one did.
+    pub fn failure(&self) -> Option<io::Error> {
+        match self {
+            Stream::Reports(stream) => stream.failure(),
+            Stream::Messages(_) => None,
+        }
+    }
+
     /// Whether a write of a report failed because nobody reads any more.
     pub fn has_lost_reader(&self) -> bool {
         match self {
