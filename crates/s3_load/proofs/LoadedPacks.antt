@@ -251,6 +251,7 @@ module _ (order : Order) (added : List (List ℕ)) (header : Header) (begun plac
     asked = asked_counted order label n placed.asked;
     records = in_order_same (counted label n) filled new counted_same ∙ more.records ∙ ap (λ rs. rs ++ added) placed.begins;
     vacant = placed.vacant;
+    kept = λ anew. let as_asked = placed.kept anew in record { retained = as_asked.retained; dated = as_asked.dated };
     continued = λ goes_on.
         let was = placed.continued goes_on in
         record { before = was.before; was = was.was; same = ap (λ (l : FileLabel). counted l n) was.same };

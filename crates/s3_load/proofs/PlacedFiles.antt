@@ -64,6 +64,7 @@ there_placed order areas contents label appends is stands asked =
       };
       undamaged = λ anew. let no : true ≡ false = sym appends ∙ anew in absurd cc;
       vacant = λ anew. let no : true ≡ false = sym appends ∙ anew in absurd cc;
+      kept = λ anew. let no : true ≡ false = sym appends ∙ anew in absurd cc;
       continued = λ _. record { before = label; was = there; same = refl };
       rest = record { labels = λ i few differ stays. refl; sectors = λ n out none. refl };
     }
@@ -218,6 +219,14 @@ not_direct key Sequential key_length key_start h = refl
 not_direct key Indexed key_length key_start h = refl
 not_direct None Direct key_length key_start h = absurd cc
 not_direct (Some key) Direct key_length key_start h = absurd cc
+
+new_retention : (new : NewFile) (extents : List Stretch) → (new_label new extents).retention ≡ new.retention
+unfolding new_label
+new_retention new extents = refl
+
+new_date : (new : NewFile) (extents : List Stretch) → (new_label new extents).date ≡ new.date
+unfolding new_label
+new_date new extents = refl
 
 new_length : (new : NewFile) (extents : List Stretch) → (new_label new extents).record_length ≡ new.record_length
 unfolding new_label
@@ -381,6 +390,10 @@ module _ (order : Order) (new : NewFile) (areas after : Areas) (s t : List (List
         no_records new label t other_kind is_new
         ∙ sym (ap (λ b. if b then records_under (standing order.name (slots_at order.level (areas_on areas.header s))) s else []) anew);
     vacant = λ _. vacant;
+    kept = λ _. record {
+      retained = ap (λ (l : FileLabel). l.retention) is_new ∙ new_retention new label.extents ∙ is_asked_for.retained;
+      dated = ap (λ (l : FileLabel). l.date) is_new ∙ new_date new label.extents ∙ is_asked_for.dated;
+    };
     continued = λ goes_on. let no : true ≡ false = sym goes_on ∙ anew in absurd cc;
     rest = record {
       labels = λ i few differ stays. others i few (λ at. stays (gone_at i at)) (λ at. let same : Some i ≡ Some slot = sym at ∙ free_at in let e : i ≡ slot = cc in differ e);

@@ -71,7 +71,7 @@ byte_in_sector bytes k low =
     ap (slice_get bytes) e ∙ sym (get_drop (n * 256) (k % 256) bytes) ∙ sym (get_take 256 (k % 256) (drop (n * 256) bytes) (omega arith))
     ∙ ap (λ s. slice_get s (k % 256)) (sym (sector_bytes-there (contents_of bytes) n v (sector_there bytes n low) whole))
 
--- ---- the bytes of a pack behind a call
+-- ---- the bytes of a changed pack
 -- the bytes that are saved: those of the sectors, and the old ones after the last sector
 pub record IsSaved (pack bytes : List ℕ) (store : List (List ℕ)) : Type 0 where
   pub seen : contents_of bytes ≡ store

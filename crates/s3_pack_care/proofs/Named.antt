@@ -38,7 +38,7 @@ first_is p k i (slot ∷ slots) h = by (λ later. first_is p (k + 1) i slots lat
           passes = λ x there. rest.passes x (sym (ap (slice_get (slot ∷ slots)) next) ∙ there);
         }
 
--- what stands under a name has that name
+-- the file that is found under a name has this name
 pub present_named : (name : Name) (slots : List Slot) (label : FileLabel) → standing name slots ≡ Present label → label.name ≡ name
 present_named name slots label stands = by (position_from (bears name) 0 slots) refl
   where

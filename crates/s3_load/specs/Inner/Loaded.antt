@@ -50,6 +50,8 @@ pub record IsNewOf (order : Order) (new : NewFile) : Type 0 where
   pub named : new.name ≡ order.name
   pub long : new.record_length ≡ order.layout.now.record_length
   pub keyed : has_key_by order.key new.organization new.key_length new.key_start ≡ true
+  pub retained : new.retention ≡ order.retention
+  pub dated : new.date ≡ order.date
 
 -- the records of the file that stands there, in the order in which they were written
 abbrev pub records_under : Standing → List (List ℕ) → List (List ℕ)
@@ -75,21 +77,26 @@ pub record KeepsOthers (order : Order) (slot : ℕ) (header : Header) (old new :
   pub freed : (a i : ℕ) → IsOther (area_of order.level) slot a i → IsReplaced order header old a i → slot_on header new a i ≡ Some Free
 
 -- ---- the slot of the file
--- a new file may come in place of what stands under its label: of nothing, or of a file that isn't permanent
+-- A new file may replace the file of its label, if that isn't permanent. A damaged slot of that label can't be replaced.
 abbrev pub MayBeReplaced : Standing → Type 0
 MayBeReplaced Absent = ⊤
 MayBeReplaced Blocked = ⊥
 MayBeReplaced (Present label) = is_permanent label.retention ≡ false
 
--- The slot that a make gives to a new file: the lowest that is free without the old file of its label. So it was free, or it had that
--- old file, which may be replaced. No master has the label.
+-- A make gives this slot to a new file: the lowest that is free without the old file of its label. So the slot was free, or it had the
+-- old file. The old file may be replaced, and no master has the label.
 pub record IsVacant (order : Order) (header : Header) (old : List (List ℕ)) (slot : ℕ) : Type 0 where
   pub lowest : free_slot (dropped order.name (slots_at order.level (areas_on header old))) ≡ Some slot
   pub was : (slot_on header old (area_of order.level) slot ≡ Some Free) ⊎ IsReplaced order header old (area_of order.level) slot
   pub replaceable : MayBeReplaced (standing order.name (slots_at order.level (areas_on header old)))
   pub unmastered : list_any (bears order.name) (areas_on header old).masters ≡ false
 
--- the slot had the file before, with the same label but for the count
+-- the label has the retention and the date that the order says
+pub record IsKeptFor (order : Order) (label : FileLabel) : Type 0 where
+  pub retained : label.retention ≡ order.retention
+  pub dated : label.date ≡ order.date
+
+-- the file was in this slot before, and only the count of its label has changed
 pub record IsContinued (order : Order) (header : Header) (old : List (List ℕ)) (slot : ℕ) (label : FileLabel) : Type 0 where
   pub before : FileLabel
   pub was : slot_on header old (area_of order.level) slot ≡ Some (Sound before)
@@ -104,13 +111,13 @@ abbrev pub HasNoDamage : Order → Header → List (List ℕ) → Type 0
 HasNoDamage order header contents = (i : ℕ) → i < 32 → is_damaged_at (slot_on header contents (area_of order.level) i) ≡ false
 
 -- ---- what stays
--- Of the labels of the level only that in the file's slot has changed, and that of a file which it replaces; of the sectors behind
--- the labels only these.
+-- Each slot of the level has the same bytes, except for the file's slot and the slot of a replaced file. Each sector that has no label
+-- of the level is the same, except for the file's own.
 pub record KeepsRest (order : Order) (slot : ℕ) (own : List ℕ) (header : Header) (old new : List (List ℕ)) : Type 0 where
   pub labels : (i : ℕ) → i < 32 → (i ≡ slot → ⊥) → ¬ IsReplaced order header old (area_of order.level) i → slot_bytes (area_of order.level) new i ≡ slot_bytes (area_of order.level) old i
   pub sectors : (n : ℕ) → ¬ IsLabelSector (area_of order.level) n → ¬ Contains own n → slice_get new n ≡ slice_get old n
 
--- that of the pack that has the file
+-- a pack with the file, in which the rest is kept
 abbrev pub ChangesLoaded : Order → Header → (old new : List (List ℕ)) → Type 0
 ChangesLoaded order header old new = ChangesFile (area_of order.level) order.name (IsReplaced order header old (area_of order.level)) old new
 
@@ -122,7 +129,7 @@ pub record IsInReplaced (order : Order) (contents : List (List ℕ)) (k : ℕ) :
   pub gone : IsReplaced order header contents (area_of order.level) slot
   pub at : IsInSlot (area_of order.level) slot k
 
--- byte k is of the file that a load leaves, or of the label of the one that it replaces
+-- byte k is in the loaded file, in its slot, or in the slot of the replaced file
 abbrev pub IsOfLoad : Order → (old new : List (List ℕ)) → (k : ℕ) → Type 0
 IsOfLoad order old new k = IsInLabelled (area_of order.level) order.name new k ⊎ IsInReplaced order old k
 
@@ -135,6 +142,7 @@ pub record IsPlaced (order : Order) (header : Header) (old new : List (List ℕ)
   pub asked : IsAsked order label
   pub begins : in_order label new ≡ records_before order header old
   pub vacant : order.appends ≡ false → IsVacant order header old slot
+  pub kept : order.appends ≡ false → IsKeptFor order label
   pub continued : order.appends ≡ true → IsContinued order header old slot label
   pub others : KeepsOthers order slot header old new
   pub undamaged : order.appends ≡ false → HasNoDamage order header old
@@ -165,6 +173,7 @@ pub record HasFile (order : Order) (added : List (List ℕ)) (header : Header) (
   pub records : in_order label new ≡ records_before order header old ++ added
   pub index : is_indexed label.organization ≡ true → HasGoodIndex label new
   pub vacant : order.appends ≡ false → IsVacant order header old slot
+  pub kept : order.appends ≡ false → IsKeptFor order label
   pub continued : order.appends ≡ true → IsContinued order header old slot label
   pub others : KeepsOthers order slot header old new
   pub undamaged : order.appends ≡ false → HasNoDamage order header old

@@ -38,7 +38,7 @@ pub record IsInChosen (area : ℕ) (chosen : Chosen) (contents : List (List ℕ)
   pub is : chosen_in chosen (slots_in area (areas_on header contents)) ≡ Some slot
   pub at : IsInSlot area slot k
 
--- this is so of the slot and the label of the file of a name in an area
+-- an area has a file of this name, and this is so of its slot and its label
 pub record IsOfFile (area : ℕ) (name : Name) (contents : List (List ℕ)) (is : ℕ → FileLabel → Type 0) : Type 0 where
   pub header : Header
   pub mounts : mounted contents ≡ Ok header
@@ -57,7 +57,8 @@ abbrev pub IsInLabelled : (area : ℕ) → Name → List (List ℕ) → (k : ℕ
 IsInLabelled area name contents k = IsOfFile area name contents (λ slot label. IsInSlot area slot k ⊎ IsInSectors (sectors_of label) k)
 
 -- ---- the same of sectors and slots, as inner functions say it
--- In the label area that has the file of a name only its slot, and these, have changed, and elsewhere only its sectors.
+-- Each slot of the area has the same bytes, except for the slot of the file of a name, and except for these. Each sector that has no
+-- label of the area is the same, except for the file's own.
 pub record ChangesFile (area : ℕ) (name : Name) (IsAlso : ℕ → Type 0) (old new : List (List ℕ)) : Type 0 where
   pub header : Header
   pub mounts : mounted new ≡ Ok header
