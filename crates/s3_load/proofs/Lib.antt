@@ -8,7 +8,6 @@ pub mod RecordLemmas
 pub mod RowLaws
 pub mod TableLemmas
 pub mod UndamagedSlots
-pub mod WholePacks
 pub mod Bytes
 pub mod KeyOrders
 pub mod KeyedAlike

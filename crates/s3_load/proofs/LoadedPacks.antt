@@ -1,18 +1,17 @@
 -- What filling a file and counting its records leave of a pack.
-use Rattle.std.proofs.Common.{◌≡◌, ◌≢◌, ℕ, zero, suc, ◌+◌, ◌-◌, ◌^◌, ◌<◌, ◌≤◌, inl, inr, Bool, true, false, cond, List, [], ◌∷◌, ◌++◌, length, map, slice_get, Option, Some, None, Ok, refl, sym, ap, ap₂, ◌∙◌, subst, arith}
+use Rattle.std.proofs.Common.{◌≡◌, ◌≢◌, ℕ, zero, suc, ◌+◌, ◌*◌, ◌/◌, ◌%◌, ◌^◌, ◌<◌, ◌≤◌, inl, inr, true, List, [], ◌∷◌, ◌++◌, length, map, slice_get, Option, Some, None, Ok, refl, sym, ap, ap₂, ◌∙◌, subst, arith}
 use Rattle.std.specs.List.{Contains, position_from, range_with_len}
 use Rattle.std.proofs.lemmas.Bool.{cases_eq}
 use Rattle.s3_cards.specs.declared.levels.LevelId.{LevelId}
 use Rattle.s3_cards.specs.declared.levels.LevelId.TheVariants.{One, Two}
 use Rattle.s3_cards.specs.declared.name.Name.{Name}
-use Rattle.s3_cards.proofs.NameLemmas.{same_name-equal}
-use Rattle.s3_store.specs.Bytes.{bytes_at}
+use Rattle.s3_store.specs.Bytes.{bytes_at, part}
 use Rattle.s3_store.specs.declared.stretch.Stretch.{Stretch}
 use Rattle.s3_store.proofs.SectorLists.{slice_get_set_other, slice_get_set_same}
 use Rattle.s3_store.proofs.SectorParts.{sector_bytes-same}
 use Rattle.s3_slots.specs.Header.{mounted, region_of}
 use Rattle.s3_slots.specs.Labels.{file_bytes, is_indexed, sectors_of}
-use Rattle.s3_slots.specs.Slots.{bears, is_count_of, is_well_formed, judged, slot_bytes, slots_of, standing}
+use Rattle.s3_slots.specs.Slots.{bears, is_count_of, is_well_formed, judged, labels_at, slot_bytes, slots_of, standing}
 use Rattle.s3_slots.specs.declared.header.Format.{Format}
 use Rattle.s3_slots.specs.declared.header.Header.{Header}
 use Rattle.s3_slots.specs.declared.label.FileLabel.{FileLabel}
@@ -34,10 +33,11 @@ use Rattle.s3_files.specs.Records.{records_in}
 use Rattle.s3_unload.specs.Inner.Ordered.{in_order}
 use Rattle.s3_pack_care.specs.Inner.Kept.{IsMounted, IsOther, slot_on}
 use Rattle.s3_pack_care.proofs.Copies.{files_apart, slot_stays}
+use Rattle.s3_pack_care.proofs.Named.{present_named}
 use Rattle.s3_pack_care.proofs.Relabelled.{file_behind, mounted_same}
 use Rattle.s3_load.specs.declared.order.Order.{Order}
 use Rattle.s3_load.specs.Inner.Filling.{ChangesOnly, HasGoodIndex, HasMore, counted}
-use Rattle.s3_load.specs.Inner.Loaded.{HasFile, IsAsked, IsCounted, IsPlaced}
+use Rattle.s3_load.specs.Inner.Loaded.{ChangesLoaded, HasFile, IsAsked, IsCounted, IsPlaced}
 use Rattle.s3_load.proofs.CountedSlots.{counted_slots, slots_later}
 
 -- ---- slots of a level's area
@@ -128,44 +128,6 @@ count_formed region label n h counts =
     let parts = formed_parts region label h in
     formed_from region (counted label n) (record { length = parts.length; key = parts.key; room = parts.room; some = parts.some; counted = counts; fits = parts.fits })
 
--- the first slot that passes a test passes it, and is one of them
-pub record IsFirst (p : Slot → Bool) (k i : ℕ) (slots : List Slot) : Type 0 where
-  pub above : k ≤ i
-  pub within : i < k + length slots
-  pub passes : (slot : Slot) → slice_get slots (i - k) ≡ Some slot → p slot ≡ true
-
-pub first_is : (p : Slot → Bool) (k i : ℕ) (slots : List Slot) → position_from p k slots ≡ Some i → IsFirst p k i slots
-first_is p k i [] h = absurd cc
-first_is p k i (slot ∷ slots) h = by (λ later. first_is p (k + 1) i slots later) (p slot) refl h
-  where
-    by : (position_from p (k + 1) slots ≡ Some i → IsFirst p (k + 1) i slots) → (b : Bool) → p slot ≡ b → cond b (Some k) (position_from p (k + 1) slots) ≡ Some i → IsFirst p k i (slot ∷ slots)
-    by go_on true is e =
-        let here : k ≡ i = cc in
-        let none : i - k ≡ 0 = omega (arith, here) in
-        record {
-          above = omega (arith, here);
-          within = omega (arith, here);
-          passes = λ x there. let first : Some slot ≡ Some x = sym (ap (slice_get (slot ∷ slots)) none) ∙ there in let same : slot ≡ x = cc in ap p (sym same) ∙ is;
-        }
-    by go_on false is e =
-        let rest = go_on e in
-        let next : i - k ≡ suc (i - (k + 1)) = omega (arith, rest.above) in
-        record {
-          above = omega (arith, rest.above);
-          within = omega (arith, rest.within);
-          passes = λ x there. rest.passes x (sym (ap (slice_get (slot ∷ slots)) next) ∙ there);
-        }
-
--- what stands under a name has that name
-pub present_named : (name : Name) (slots : List Slot) (label : FileLabel) → standing name slots ≡ Present label → label.name ≡ name
-present_named name slots label stands = by (position_from (bears name) 0 slots) refl
-  where
-    by : (place : Option ℕ) → position_from (bears name) 0 slots ≡ place → label.name ≡ name
-    by None e = absurd (present_somewhere name slots label stands e)
-    by (Some i) e =
-        let at : i - 0 ≡ i = omega arith in
-        same_name-equal label.name name ((first_is (bears name) 0 i slots e).passes (Sound label) (ap (slice_get slots) at ∙ present_is name slots label i stands e))
-
 module _ (level : LevelId) (name : Name) (n : ℕ) (areas : Areas) (old new : List (List ℕ)) (label : FileLabel) (is : IsMounted areas old) (stands : standing name (slots_at level areas) ≡ Present label)
     (may : is_count_of label.organization label.capacity n ≡ true) (small : n < 2 ^ 32) (written : WritesSlot name (slots_at level areas) (area_of level) (with_count_bytes n) old new)
     (others : (j : ℕ) → position_from (bears name) 0 (slots_at level areas) ≢ Some j → slot_bytes (area_of level) new j ≡ slot_bytes (area_of level) old j)
@@ -197,7 +159,8 @@ module _ (level : LevelId) (name : Name) (n : ℕ) (areas : Areas) (old new : Li
               ∙ sym (own_on level header old i))
           | inr differ ↦ slot_elsewhere header old new a i other.area_in (λ k sector. within k (λ mine. differ (omega (arith, sector.0, sector.1, mine.0, mine.1))))
         ];
-        behind = λ k low. within k (λ sector. omega (arith, sector.1, low, few));
+        labels = λ i differ. others i (λ here. let same : Some p ≡ Some i = sym at ∙ here in let e : p ≡ i = cc in differ (sym e));
+        sectors = within;
       }
 
   pub counted_is : IsCounted level name n areas.header old new
@@ -218,6 +181,13 @@ in_order_same label old new same = ap (records_in label.record_length label.coun
 file_bytes_are : (label : FileLabel) (contents : List (List ℕ)) → file_bytes label contents ≡ bytes_at (sectors_of label) contents
 unfolding file_bytes
 file_bytes_are label contents = refl
+
+nothing_in : (k : ℕ) → ¬ Contains [] k
+nothing_in k has = omega (arith, has.1)
+
+counted_sectors : (label : FileLabel) (n : ℕ) → sectors_of (counted label n) ≡ sectors_of label
+unfolding sectors_of
+counted_sectors label n = refl
 
 counted_bytes : (label : FileLabel) (n : ℕ) (contents : List (List ℕ)) → file_bytes (counted label n) contents ≡ file_bytes label contents
 unfolding file_bytes sectors_of
@@ -249,9 +219,13 @@ module _ (order : Order) (added : List (List ℕ)) (header : Header) (begun plac
   now_there : slot_on header new (area_of order.level) placed.slot ≡ Some (Sound (counted label n))
   now_there = ap (slot_on header new (area_of order.level)) (sym same_slot) ∙ is.there ∙ ap (λ (l : FileLabel). Some (Sound (counted l n))) same_label
 
+  -- no file has sectors among the labels
+  behind : (k : ℕ) → 168 ≤ k → slice_get new k ≡ slice_get filled k
+  behind k high = is.sectors k (λ sector. let level_few = area_few order.level in omega (arith, sector.1, high, level_few))
+
   -- the bytes of the file
   own_bytes : file_bytes label new ≡ file_bytes label filled
-  own_bytes = file_same label new filled (λ k has. sector_bytes-same filled new k (is.behind k (file_behind header placed_in (area_of order.level) placed.slot label k mounts (area_few order.level) placed.there has)))
+  own_bytes = file_same label new filled (λ k has. sector_bytes-same filled new k (behind k (file_behind header placed_in (area_of order.level) placed.slot label k mounts (area_few order.level) placed.there has)))
 
   counted_same : file_bytes (counted label n) new ≡ file_bytes (counted label n) filled
   counted_same = counted_bytes label n new ∙ own_bytes ∙ sym (counted_bytes label n filled)
@@ -264,7 +238,7 @@ module _ (order : Order) (added : List (List ℕ)) (header : Header) (begun plac
 
   other_bytes : (a i : ℕ) (one : FileLabel) → IsOther (area_of order.level) placed.slot a i → slot_on header placed_in a i ≡ Some (Sound one) → file_bytes one new ≡ file_bytes one placed_in
   other_bytes a i one other there = file_same one new placed_in (λ k has. sector_bytes-same placed_in new k
-      (is.behind k (file_behind header placed_in a i one k mounts other.area_in there has)
+      (behind k (file_behind header placed_in a i one k mounts other.area_in there has)
       ∙ only.others k (λ mine. files_apart header placed_in mounts (area_of order.level) placed.slot a i label one k (area_few order.level) other.area_in placed.there there other.other mine has)))
 
   pub has_file : HasFile order added header begun new
@@ -276,6 +250,11 @@ module _ (order : Order) (added : List (List ℕ)) (header : Header) (begun plac
     there = now_there;
     asked = asked_counted order label n placed.asked;
     records = in_order_same (counted label n) filled new counted_same ∙ more.records ∙ ap (λ rs. rs ++ added) placed.begins;
+    vacant = placed.vacant;
+    kept = λ anew. let as_asked = placed.kept anew in record { retained = as_asked.retained; dated = as_asked.dated };
+    continued = λ goes_on.
+        let was = placed.continued goes_on in
+        record { before = was.before; was = was.was; same = ap (λ (l : FileLabel). counted l n) was.same };
     index = λ indexed. good_same (counted label n) filled new counted_same (good indexed);
     others = record {
       kept = λ a i other stays.
@@ -287,6 +266,23 @@ module _ (order : Order) (added : List (List ℕ)) (header : Header) (begun plac
       freed = λ a i other replaced. other_slot a i other ∙ placed.others.freed a i other replaced;
     };
     undamaged = placed.undamaged;
+  }
+
+  pub loaded_only : length new ≡ length begun → ChangesLoaded order header begun new
+  loaded_only long = record {
+    header = header;
+    mounts = is.mounts;
+    slot = placed.slot;
+    label = counted label n;
+    there = now_there;
+    named = placed.asked.named;
+    labels = λ i few differ stays.
+        is.labels i (λ e. differ (e ∙ same_slot))
+        ∙ ap (λ sector. part sector (i % 4 * 64) 64)
+        (sector_bytes-same placed_in filled (labels_at (area_of order.level) + i / 4) (low (labels_at (area_of order.level) + i / 4) (let level_few = area_few order.level in omega (arith, few, level_few))))
+        ∙ placed.rest.labels i few differ stays;
+    sectors = λ k out none. is.sectors k out ∙ only.others k (λ has. none (subst (λ (s : List ℕ). Contains s k) (sym (counted_sectors label n)) has)) ∙ placed.rest.sectors k out (nothing_in k);
+    long = long;
   }
 
 -- the pack by its bytes

@@ -13,7 +13,7 @@ use Rattle.s3_slots.specs.Header.{mounted, region_of}
 use Rattle.s3_slots.specs.Labels.{file_bytes, is_direct}
 use Rattle.s3_slots.specs.Making.{capacity_of, dropped, first_count, made, new_label, put, put_at, put_in, put_over, is_permanent, tracks_of}
 use Rattle.s3_slots.specs.Placement.{free_slot, is_free, placed}
-use Rattle.s3_slots.specs.Slots.{bears, slots_of, standing}
+use Rattle.s3_slots.specs.Slots.{bears, slot_bytes, slots_of, standing}
 use Rattle.s3_slots.specs.declared.header.Format.{Format}
 use Rattle.s3_slots.specs.declared.header.Header.{Header}
 use Rattle.s3_slots.specs.declared.label.FileLabel.{FileLabel}
@@ -36,11 +36,12 @@ use Rattle.s3_files.specs.Records.{parts, records_in}
 use Rattle.s3_unload.specs.Inner.Ordered.{in_order}
 use Rattle.s3_pack_check.specs.Inner.Damages.{first_damaged, is_damaged}
 use Rattle.s3_pack_care.specs.Inner.Kept.{IsMounted, IsOther, slot_on}
-use Rattle.s3_pack_care.proofs.Placed.{nowhere}
+use Rattle.s3_pack_care.proofs.Named.{first_is}
+use Rattle.s3_pack_care.proofs.Placed.{free_there, nowhere}
 use Rattle.s3_pack_care.proofs.Relabelled.{file_behind, mounted_same}
 use Rattle.s3_load.specs.declared.order.Order.{Order}
-use Rattle.s3_load.specs.Inner.Loaded.{IsAsked, IsNewOf, IsPlaced, IsReplaced, has_key, has_key_by, is_damaged_at, records_under}
-use Rattle.s3_load.proofs.LoadedPacks.{area_few, first_is, own_at, own_mounted, own_on, own_within, slot_elsewhere, slots_long}
+use Rattle.s3_load.specs.Inner.Loaded.{IsAsked, IsNewOf, IsPlaced, IsReplaced, IsVacant, MayBeReplaced, has_key, has_key_by, is_damaged_at, records_under}
+use Rattle.s3_load.proofs.LoadedPacks.{area_few, own_at, own_mounted, own_on, own_within, slot_elsewhere, slots_long}
 use Rattle.s3_load.proofs.UndamagedSlots.{undamaged_says}
 
 -- ---- the file that is there
@@ -62,6 +63,10 @@ there_placed order areas contents label appends is stands asked =
         freed = λ a i other replaced. let no : true ≡ false = sym appends ∙ replaced.anew in absurd cc;
       };
       undamaged = λ anew. let no : true ≡ false = sym appends ∙ anew in absurd cc;
+      vacant = λ anew. let no : true ≡ false = sym appends ∙ anew in absurd cc;
+      kept = λ anew. let no : true ≡ false = sym appends ∙ anew in absurd cc;
+      continued = λ _. record { before = label; was = there; same = refl };
+      rest = record { labels = λ i few differ stays. refl; sectors = λ n out none. refl };
     }
 
 -- ---- a new file
@@ -80,6 +85,7 @@ pub record IsMade (new : NewFile) (slots after : List Slot) : Type 0 where
   pub label : FileLabel
   pub named : label.name ≡ new.name
   pub old : IsDropped new.name slots
+  pub free : free_slot (dropped new.name slots) ≡ Some at
   pub within : at < length (dropped new.name slots)
   pub set : after ≡ slice_set (dropped new.name slots) at (Sound label)
 
@@ -90,15 +96,15 @@ new_named new extents = refl
 put_made : (format : Format) (region : Stretch) (new : NewFile) (slots after : List Slot) → IsDropped new.name slots → put format region new (dropped new.name slots) ≡ Ok after → IsMade new slots after
 put_made format region new slots after old h = by (free_slot (dropped new.name slots)) refl h
   where
-    room : (at : ℕ) (extents : Option (List Stretch)) → at < length (dropped new.name slots) → put_in new (dropped new.name slots) at extents ≡ Ok after → IsMade new slots after
-    room at None low e = absurd cc
-    room at (Some extents) low e =
+    room : (at : ℕ) (extents : Option (List Stretch)) → free_slot (dropped new.name slots) ≡ Some at → at < length (dropped new.name slots) → put_in new (dropped new.name slots) at extents ≡ Ok after → IsMade new slots after
+    room at None free low e = absurd cc
+    room at (Some extents) free low e =
         let set : slice_set (dropped new.name slots) at (Sound (new_label new extents)) ≡ after = cc in
-        record { at = at; label = new_label new extents; named = new_named new extents; old = old; within = low; set = sym set }
+        record { at = at; label = new_label new extents; named = new_named new extents; old = old; free = free; within = low; set = sym set }
 
     by : (at : Option ℕ) → free_slot (dropped new.name slots) ≡ at → put_at format region new (dropped new.name slots) at ≡ Ok after → IsMade new slots after
     by None free e = absurd cc
-    by (Some at) free e = room at (placed format region (dropped new.name slots) (tracks_of new)) (let low = (first_is is_free 0 at (dropped new.name slots) free).within in omega (arith, low)) e
+    by (Some at) free e = room at (placed format region (dropped new.name slots) (tracks_of new)) free (let low = (first_is is_free 0 at (dropped new.name slots) free).within in omega (arith, low)) e
 
 pub made_is : (format : Format) (region : Stretch) (masters : List Slot) (new : NewFile) (slots after : List Slot) → made format region masters new slots ≡ Ok after → IsMade new slots after
 unfolding made
@@ -122,6 +128,28 @@ made_is format region masters new slots after h = own (list_any (bears new.name)
     own : (b : Bool) → (if b then Err Master else put_over format region new slots (standing new.name slots)) ≡ Ok after → IsMade new slots after
     own true k = absurd cc
     own false k = by (standing new.name slots) refl k
+
+-- what a make asks of the slots
+pub record IsMakeable (masters : List Slot) (name : Name) (slots : List Slot) : Type 0 where
+  pub unmastered : list_any (bears name) masters ≡ false
+  pub replaceable : MayBeReplaced (standing name slots)
+
+makeable : (format : Format) (region : Stretch) (masters : List Slot) (new : NewFile) (slots after : List Slot) → made format region masters new slots ≡ Ok after → IsMakeable masters new.name slots
+unfolding made
+makeable format region masters new slots after h = own (list_any (bears new.name) masters) refl h
+  where
+    over : (permanent : Bool) (old : FileLabel) → is_permanent old.retention ≡ permanent → (if permanent then Err Retained else put format region new (dropped new.name slots)) ≡ Ok after → MayBeReplaced (Present old)
+    over true old is k = absurd cc
+    over false old is k = is
+
+    by : (stands : Standing) → put_over format region new slots stands ≡ Ok after → MayBeReplaced stands
+    by Absent k = tt
+    by Blocked k = absurd cc
+    by (Present old) k = over (is_permanent old.retention) old refl k
+
+    own : (b : Bool) → list_any (bears new.name) masters ≡ b → (if b then Err Master else put_over format region new slots (standing new.name slots)) ≡ Ok after → IsMakeable masters new.name slots
+    own true is k = absurd cc
+    own false is k = record { unmastered = is; replaceable = by (standing new.name slots) k }
 
 -- a slot that isn't the new file's, nor the old one's
 kept_slot : (name : Name) (slots : List Slot) (i : ℕ) → IsDropped name slots → (position_from (bears name) 0 slots ≡ Some i → ⊥) → slice_get (dropped name slots) i ≡ slice_get slots i
@@ -192,6 +220,14 @@ not_direct key Indexed key_length key_start h = refl
 not_direct None Direct key_length key_start h = absurd cc
 not_direct (Some key) Direct key_length key_start h = absurd cc
 
+new_retention : (new : NewFile) (extents : List Stretch) → (new_label new extents).retention ≡ new.retention
+unfolding new_label
+new_retention new extents = refl
+
+new_date : (new : NewFile) (extents : List Stretch) → (new_label new extents).date ≡ new.date
+unfolding new_label
+new_date new extents = refl
+
 new_length : (new : NewFile) (extents : List Stretch) → (new_label new extents).record_length ≡ new.record_length
 unfolding new_label
 new_length new extents = refl
@@ -212,6 +248,7 @@ module _ (order : Order) (new : NewFile) (areas after : Areas) (s t : List (List
     (there : slice_get (slots_at order.level after) slot ≡ Some (Sound label)) (named : label.name ≡ new.name) (is_new : label ≡ new_label new label.extents) (says : KeepsSaid order.level areas s after t)
     (count : length t ≡ length s)
     (within : (i : ℕ) → ¬ IsOfMake (area_of order.level) new.name (made areas.header.format (region_at order.level areas) areas.masters new (slots_at order.level areas)) i → slice_get t i ≡ slice_get s i)
+    (others : (j : ℕ) → j < 32 → position_from (bears new.name) 0 (slots_at order.level areas) ≢ Some j → free_slot (dropped new.name (slots_at order.level areas)) ≢ Some j → slot_bytes (area_of order.level) t j ≡ slot_bytes (area_of order.level) s j)
     (is_asked_for : IsNewOf order new) where
   other_kind : is_direct new.organization ≡ false
   other_kind = not_direct order.key new.organization new.key_length new.key_start is_asked_for.keyed
@@ -312,6 +349,37 @@ module _ (order : Order) (new : NewFile) (areas after : Areas) (s t : List (List
   new_there : slot_on areas.header t (area_of order.level) slot ≡ Some (Sound label)
   new_there = now_on slot ∙ there
 
+  -- the slot of the new file
+  same_slots : slots_at order.level areas ≡ slots_at order.level (areas_on areas.header s)
+  same_slots = ap (slots_at order.level) is.judged
+
+  gone_at : (i : ℕ) → position_from (bears new.name) 0 (slots_at order.level areas) ≡ Some i → IsReplaced order areas.header s (area_of order.level) i
+  gone_at i at = record { anew = anew; own = refl; place = sym (ap₂ (λ name slots. position_from (bears name) 0 slots) own_name same_slots) ∙ at }
+
+  free_at : free_slot (dropped new.name (slots_at order.level areas)) ≡ Some slot
+  free_at = is_made.free ∙ ap Some (sym new_place)
+
+  was_free : slice_get (dropped new.name (slots_at order.level areas)) slot ≡ Some Free
+  was_free = free_there (dropped new.name (slots_at order.level areas)) slot free_at
+
+  was_there : IsDropped new.name (slots_at order.level areas) → (slot_on areas.header s (area_of order.level) slot ≡ Some Free) ⊎ IsReplaced order areas.header s (area_of order.level) slot
+  was_there (inl none) = inl (was_on slot ∙ sym (ap (λ l. slice_get l slot) none.1) ∙ was_free)
+  was_there (inr gone) = elim (cases_eq slot gone.place) [
+    | inl here ↦ inr (gone_at slot (gone.at ∙ ap Some (sym here)))
+    | inr differ ↦ inl (was_on slot ∙ sym (ap (λ l. slice_get l slot) gone.is ∙ slice_get_set_other (slots_at order.level areas) gone.place slot Free differ) ∙ was_free)
+  ]
+
+  allowed : IsMakeable areas.masters new.name (slots_at order.level areas)
+  allowed = makeable areas.header.format (region_at order.level areas) areas.masters new (slots_at order.level areas) (slots_at order.level after) make
+
+  vacant : IsVacant order areas.header s slot
+  vacant = record {
+    lowest = sym (ap₂ (λ name slots. free_slot (dropped name slots)) own_name same_slots) ∙ free_at;
+    was = was_there is_made.old;
+    replaceable = subst MayBeReplaced (ap₂ standing own_name same_slots) allowed.replaceable;
+    unmastered = sym (ap₂ (λ name masters. list_any (bears name) masters) own_name (ap (λ (a : Areas). a.masters) is.judged)) ∙ allowed.unmastered;
+  }
+
   pub made_placed : IsPlaced order areas.header s t label
   made_placed = record {
     slot = slot;
@@ -321,6 +389,16 @@ module _ (order : Order) (new : NewFile) (areas after : Areas) (s t : List (List
     begins =
         no_records new label t other_kind is_new
         ∙ sym (ap (λ b. if b then records_under (standing order.name (slots_at order.level (areas_on areas.header s))) s else []) anew);
+    vacant = λ _. vacant;
+    kept = λ _. record {
+      retained = ap (λ (l : FileLabel). l.retention) is_new ∙ new_retention new label.extents ∙ is_asked_for.retained;
+      dated = ap (λ (l : FileLabel). l.date) is_new ∙ new_date new label.extents ∙ is_asked_for.dated;
+    };
+    continued = λ goes_on. let no : true ≡ false = sym goes_on ∙ anew in absurd cc;
+    rest = record {
+      labels = λ i few differ stays. others i few (λ at. stays (gone_at i at)) (λ at. let same : Some i ≡ Some slot = sym at ∙ free_at in let e : i ≡ slot = cc in differ e);
+      sectors = λ n out none. frame n out;
+    };
     others = record {
       kept = λ a i other stays. record { slot = kept_slots a i other stays; bytes = λ one stands. kept_bytes a i one other.area_in stands };
       freed = λ a i other gone. rw gone.own (freed_there i other.slot_in (λ e. other.other gone.own e) (replaced_place a i gone));

@@ -4,11 +4,12 @@ ghost use Rattle.s3_slots.specs.Inner.Kept.{IsOfPack};
 ghost use Rattle.s3_labels.specs.Contents.{contents_of};
 ghost use Rattle.s3_labels.specs.Inner.Areas.{IsReady, slots_in};
 ghost use Rattle.s3_pack_check.specs.Inner.Damages.{first_damaged as first_damaged_spec};
+ghost use Rattle.s3_pack_care.specs.Inner.Frames.{ChangesBytes};
 ghost use Rattle.s3_pack_care.specs.Inner.Kept.{IsMounted};
 ghost use Rattle.s3_load.specs.Inner.Filling.{records_of};
 ghost use Rattle.csv.specs.Reading.{strip_bom};
 ghost use Rattle.s3_load.specs.Inner.Quotes.{open_quote};
-ghost use Rattle.s3_load.specs.Inner.Loaded.{HasFile, IsCounted, IsLoaded, IsPlaced};
+ghost use Rattle.s3_load.specs.Inner.Loaded.{ChangesLoaded, HasFile, IsCounted, IsLoaded, IsOfLoad, IsPlaced};
 
 use crate::fault::LoadFault;
 use crate::filling::{file_there, fill, may_have, new_file};
@@ -17,6 +18,7 @@ use crate::quotes::refuse_open_quote;
 use crate::rows::Row;
 use crate::table::read_table;
 use s3_labels::{AreaSlots, FileLabel, Pack, Refusal, Refused, Standing, area_of};
+use s3_pack_care::{bytes_after, saved};
 use s3_pack_check::first_damaged;
 use s3_slots::standing_of;
 use s3_store::MemoryStore;
@@ -25,8 +27,8 @@ use std::io::{ErrorKind, Read};
 
 /// The pack with the records of a table in a file of a level: a new file, which takes the place of a file of its label that isn't
 /// permanent, or behind the records of the file that is there. Records of a file with an index go in by their keys, whatever
-/// the order of the rows. Every other file stays as it was. Refused as `LoadFault` says; the pack that is given stays as it is.
-#[tactic(auto, using(crate::proofs::WholePacks::seen_few))]
+/// the order of the rows. No byte changes but those of the file and its label, and of the label of a file that is replaced. Refused
+/// as `LoadFault` says; the pack that is given stays as it is.
 pub fn load<R: Read + Drop>(
     alloc: Global,
     pack: &[u8],
@@ -34,6 +36,7 @@ pub fn load<R: Read + Drop>(
     reader: R,
 ) -> Result<Vec<u8>, LoadFault>
     ensures loaded { IfOk result (λ new. IsLoaded order.now (R.remaining reader) (contents_of pack.now) (contents_of new.items)) }
+    ensures only { IfOk result (λ new. ChangesBytes (IsOfLoad order.now (contents_of pack.now) (contents_of new.items)) pack.now new.items) }
     ensures closed { OnOk result ((text : List ℕ) → R.remaining reader ≡ Some text → open_quote order.now.delimiter (strip_bom text) ≡ None) }
 {
     let text = read_text(alloc, reader)?;
@@ -43,7 +46,7 @@ pub fn load<R: Read + Drop>(
     let placed = place_rows(alloc, &mut mounted, order, &rows);
     let Pack { pool, areas: _ } = mounted;
     placed?;
-    Ok(bytes_of(pool))
+    Ok(saved(pool, bytes_after(pack))?)
 }
 
 /// The whole of a text.
@@ -84,6 +87,7 @@ fn place_rows(
     requires ready { IsReady mounted.old.areas mounted.old.pool }
     requires mounted { IsMounted mounted.old.areas mounted.old.pool }
     ensures file { OnOk result (HasFile order.now (records_of rows.now) mounted.old.areas.header mounted.old.pool mounted.new.pool) }
+    ensures only { OnOk result (ChangesLoaded order.now mounted.old.areas.header mounted.old.pool mounted.new.pool) }
     ensures long { OnOk result (length mounted.new.pool ≡ length mounted.old.pool) }
 {
     let label = placed_label(mounted, order, rows.len())?;
@@ -168,13 +172,4 @@ fn set_count(
     }
     mounted.set_count(order.level, order.name, count)?;
     Ok(())
-}
-
-/// The bytes of the sectors of a pack.
-#[tactic(auto, using(crate::proofs::WholePacks::seen_alone))]
-fn bytes_of(pool: MemoryStore) -> Vec<u8>
-    requires { length pool ≤ 65535 }
-    ensures { contents_of result.items ≡ pool }
-{
-    pool.into_bytes()
 }

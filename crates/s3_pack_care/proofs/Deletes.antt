@@ -1,7 +1,6 @@
 -- A pack without a file, by its bytes.
 use Rattle.std.specs.Bool.{⊤}
-use Rattle.std.proofs.Common.{◌&&◌, not, Bool, true, false, ◌+◌, ◌*◌, ◌/◌, ◌%◌, Err, slice_get, ◌≡◌, ℕ, zero, suc, ◌<◌, ◌≤◌, List, [], ◌∷◌, length, replicate, take, Some, Ok, refl, sym, ap, ap₂, ◌∙◌, subst, arith}
-use Rattle.s3_store.specs.Contents.{sectors_of}
+use Rattle.std.proofs.Common.{◌&&◌, not, Bool, true, false, ◌+◌, ◌*◌, ◌/◌, ◌%◌, Err, slice_get, ◌≡◌, ℕ, ◌<◌, ◌≤◌, List, length, replicate, Some, Ok, sym, ap, ◌∙◌, subst, arith}
 use Rattle.s3_store.specs.Inner.Bytes.{with_piece}
 use Rattle.s3_slots.specs.Header.{mounted}
 use Rattle.s3_slots.specs.Placement.{is_free}
@@ -10,23 +9,15 @@ use Rattle.s3_slots.specs.declared.slot.Slot.{Slot}
 use Rattle.s3_slots.specs.declared.header.Header.{Header}
 use Rattle.s3_labels.specs.Contents.{contents_of}
 use Rattle.s3_labels.specs.Inner.Areas.{Areas, areas_on, slots_in}
-use Rattle.s3_pack_care.specs.Inner.Deleted.{IsChosen, MayFree, RefusesDelete, RefusesLabel, RefusesSlot, chosen_in, is_kept}
-use Rattle.s3_pack_care.specs.Inner.Kept.{AreOn, IsChanged, IsMountRefusal, IsMounted, IsRelabelled, IsWithout, RefusesWritten, with_slot}
+use Rattle.s3_pack_care.specs.Inner.Deleted.{IsChosen, IsFreed, MayFree, RefusesDelete, RefusesLabel, RefusesSlot, chosen_in, is_kept}
+use Rattle.s3_pack_care.specs.Inner.Frames.{ChangesBytes, IsInChosen, IsInSlot}
+use Rattle.s3_pack_care.specs.Inner.Kept.{AreOn, IsChanged, IsMountRefusal, IsMounted, IsWithout, RefusesWritten, with_slot}
 use Rattle.s3_pack_care.specs.declared.deleting.Chosen.{Chosen}
 use Rattle.s3_pack_care.specs.declared.deleting.Chosen.TheVariants.{Label, Slot as SlotNumber}
 use Rattle.s3_pack_care.specs.declared.fault.CareFault.{CareFault}
 use Rattle.s3_pack_care.specs.declared.fault.CareFault.TheVariants.{Damaged, Exists, Label as OfLabels, Mount, NoFile, NoMemory, NoName, NoSlot, Permanent, SourceLabel, SourceMount, Uncovers}
+use Rattle.s3_pack_care.proofs.Frames.{IsSaved, changes_bytes}
 use Rattle.s3_pack_care.proofs.Relabelled.{mounted_same, other_sector, without}
-
-take_short : (n : ℕ) (xs : List (List ℕ)) → length xs ≤ n → take n xs ≡ xs
-take_short zero [] h = refl
-take_short zero (x ∷ xs) h = absurd (omega (arith, h))
-take_short (suc n) [] h = refl
-take_short (suc n) (x ∷ xs) h = ap (λ l. x ∷ l) (take_short n xs (omega (arith, h)))
-
--- the sectors that a mount sees in the bytes of a store
-pub seen_whole : (bytes : List ℕ) (store : List (List ℕ)) → sectors_of bytes ≡ store → length store ≤ 65535 → contents_of bytes ≡ store
-seen_whole bytes store same few = ap (take 65535) same ∙ take_short 65535 store few
 
 -- a mount finds one header
 pub one_header : (contents : List (List ℕ)) (header other : Header) → mounted contents ≡ Ok header → mounted contents ≡ Ok other → header ≡ other
@@ -35,22 +26,32 @@ one_header contents header other a b =
     let both : Ok header ≡ Ok other = one ∙ b in
     cc
 
-pub deleted_is : (pack new : List ℕ) (chosen : Chosen) (area place : ℕ) (areas : Areas) (begun old after : List (List ℕ)) → area < 3 → place < 32 → begun ≡ contents_of pack → IsMounted areas begun → old ≡ begun
-    → chosen_in chosen (slots_in area areas) ≡ Some place → IsRelabelled area place (replicate 64 0) areas.header old after → sectors_of new ≡ after → length after ≤ 65535
-    → (header : Header) (slot : ℕ) → mounted (contents_of pack) ≡ Ok header → chosen_in chosen (slots_in area (areas_on header (contents_of pack))) ≡ Some slot
-    → IsWithout area slot header (contents_of pack) (contents_of new)
-deleted_is pack new chosen area place areas begun old after area_in place_in here is same at relabelled bytes few header slot mounts chosen_at =
-    let here_old : old ≡ contents_of pack = same ∙ here in
-    let is_mounted : mounted (contents_of pack) ≡ Ok areas.header = sym (ap mounted here) ∙ is.mounts in
-    let is_header : areas.header ≡ header = one_header (contents_of pack) areas.header header is_mounted mounts in
-    let is_areas : areas ≡ areas_on header (contents_of pack) = is.judged ∙ ap₂ areas_on is_header here in
-    let both : Some place ≡ Some slot = sym at ∙ ap (λ (a : Areas). chosen_in chosen (slots_in area a)) is_areas ∙ chosen_at in
-    let is_slot : place ≡ slot = cc in
-    let base : IsWithout area place areas.header old after = without area place areas.header old after area_in place_in (ap mounted here_old ∙ is_mounted) relabelled in
-    subst (λ (n : List (List ℕ)). IsWithout area slot header (contents_of pack) n) (sym (seen_whole new after bytes few))
-    (subst (λ (o : List (List ℕ)). IsWithout area slot header o after) here_old
-    (subst (λ (h : Header). IsWithout area slot h old after) is_header
-    (subst (λ (s : ℕ). IsWithout area s areas.header old after) is_slot base)))
+-- a slot that was freed, and the bytes that changed
+module _ (pack new : List ℕ) (chosen : Chosen) (area : ℕ) (after : List (List ℕ)) (area_in : area < 3) (freed : IsFreed area chosen (contents_of pack) after) (saved : IsSaved pack new after) where
+  pub deleted_is : (header : Header) (slot : ℕ) → mounted (contents_of pack) ≡ Ok header → chosen_in chosen (slots_in area (areas_on header (contents_of pack))) ≡ Some slot
+      → IsWithout area slot header (contents_of pack) (contents_of new)
+  deleted_is header slot mounts chosen_at =
+      let is_header : freed.header ≡ header = one_header (contents_of pack) freed.header header freed.mounts mounts in
+      let both : Some freed.slot ≡ Some slot = sym freed.is ∙ ap (λ (h : Header). chosen_in chosen (slots_in area (areas_on h (contents_of pack)))) is_header ∙ chosen_at in
+      let is_slot : freed.slot ≡ slot = cc in
+      let base : IsWithout area freed.slot freed.header (contents_of pack) after = without area freed.slot freed.header (contents_of pack) after area_in freed.slot_in freed.mounts freed.relabelled in
+      subst (λ (n : List (List ℕ)). IsWithout area slot header (contents_of pack) n) (sym saved.seen)
+      (subst (λ (h : Header). IsWithout area slot h (contents_of pack) after) is_header
+      (subst (λ (s : ℕ). IsWithout area s freed.header (contents_of pack) after) is_slot base))
+
+  pub deleted_only : ChangesBytes (IsInChosen area chosen (contents_of pack)) pack new
+  deleted_only =
+      changes_bytes pack new after saved area (λ i. i ≡ freed.slot) (λ n. ⊥) (IsInChosen area chosen (contents_of pack))
+      (λ i few differ. freed.relabelled.labels area i (record { area_in = area_in; slot_in = few; other = λ _ e. differ e }))
+      (λ n out none. freed.relabelled.sectors n (λ e. let small = freed.slot_in in out (omega (arith, e, small), omega (arith, e, small))))
+      (λ i k e within. record {
+        header = freed.header;
+        mounts = freed.mounts;
+        slot = freed.slot;
+        is = freed.is;
+        at = subst (λ j. IsInSlot area j k) e within;
+      })
+      (λ k h. absurd h)
 
 -- ---- when nothing is deleted
 not_both : (b : Bool) → b ≡ true → b ≡ false → ⊥

@@ -1,8 +1,10 @@
 pub mod Changed
 pub mod Copies
 pub mod Deletes
+pub mod Frames
 pub mod Judged
 pub mod Made
+pub mod Named
 pub mod Placed
 pub mod Refusals
 pub mod Relabelled

@@ -86,7 +86,7 @@ nowhere p k x xs h = elim (cases_Bool (p x)) [
   | inr fails ↦ (fails, sym (cond-false (p x) (Some k) (position_from p (k + 1) xs) fails) ∙ h)
 ]
 
-whole_at : (k : ℕ) (slots : List Slot) (i : ℕ) (slot : Slot) → position_from is_damaged k slots ≡ None → slice_get slots i ≡ Some slot → is_damaged slot ≡ false
+pub whole_at : (k : ℕ) (slots : List Slot) (i : ℕ) (slot : Slot) → position_from is_damaged k slots ≡ None → slice_get slots i ≡ Some slot → is_damaged slot ≡ false
 whole_at k [] i slot h there = absurd cc
 whole_at k (x ∷ slots) zero slot h there = let same : x ≡ slot = cc in sym (ap is_damaged same) ∙ (nowhere is_damaged k x slots h).0
 whole_at k (x ∷ slots) (suc i) slot h there = whole_at (k + 1) slots i slot (nowhere is_damaged k x slots h).1 there
@@ -98,7 +98,7 @@ judged_length format region earlier (bytes ∷ more) =
     let slot : Slot = judged format region earlier bytes in
     omega (arith, judged_length format region (earlier ++ slot ∷ []) more, length-append earlier (slot ∷ []))
 
-slots_32 : (format : Format) (region : Stretch) (area : ℕ) (contents : List (List ℕ)) → length (slots_of format region area contents) ≡ 32
+pub slots_32 : (format : Format) (region : Stretch) (area : ℕ) (contents : List (List ℕ)) → length (slots_of format region area contents) ≡ 32
 unfolding slots_of
 slots_32 format region area contents = judged_length format region [] (map (slot_bytes area contents) (range_with_len 0 32))
 
@@ -414,6 +414,7 @@ module _ (area slot sectors : ℕ) (name : Name) (source label : FileLabel) (hea
     written_is = record {
       mounts = mounted_same old new count (other_sector area slot at (label_bytes label) old new area_in slot_in enough width e set 0 (λ q. omega (arith, q))) ∙ mounts;
       own = own_bytes area slot at (label_bytes label) old new area_in slot_in enough width e set;
+      labels = other_bytes area slot at (label_bytes label) old new area_in slot_in enough width e set;
       others = others_stay;
       sectors = other_sector area slot at (label_bytes label) old new area_in slot_in enough width e set;
     }

@@ -86,6 +86,7 @@ relabelled_is area slot at bytes before after old new area_in slot_in room width
     record {
       mounts = mounts ∙ was.mounts;
       own = own_bytes area slot at bytes old new area_in slot_in room width e set;
+      labels = other_bytes area slot at bytes old new area_in slot_in room width e set;
       others = λ a i other.
           slot_kept before.header old new a i other.area_in other.slot_in (other_bytes area slot at bytes old new area_in slot_in room width e set a i other)
           (alike_on before after old new a i was is header (each a i other));
@@ -126,6 +127,7 @@ free_on header contents (suc (suc (suc n))) i few small zeros = absurd (omega (a
 pub without : (area slot : ℕ) (header : Header) (old new : List (List ℕ)) → area < 3 → slot < 32 → mounted old ≡ Ok header → IsRelabelled area slot (replicate 64 0) header old new → IsWithout area slot header old new
 without area slot header old new area_in slot_in mounts is = record {
   mounts = is.mounts;
+  zeros = is.own;
   free = free_on header new area slot area_in slot_in is.own;
   others = file_kept area slot (replicate 64 0) header old new area_in slot_in mounts is;
 }

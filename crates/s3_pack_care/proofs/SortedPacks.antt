@@ -1,7 +1,6 @@
 -- A pack in which a file was sorted.
-use Rattle.std.proofs.Common.{◌≡◌, ℕ, ◌<◌, ◌≤◌, true, All, List, length, slice_get, Ok, sym, ap, ◌∙◌, subst, arith}
+use Rattle.std.proofs.Common.{◌≡◌, ℕ, ◌<◌, true, All, List, length, slice_get, Ok, sym, ap, ◌∙◌, subst, arith}
 use Rattle.s3_cards.specs.declared.name.Name.{Name}
-use Rattle.s3_store.specs.Contents.{sectors_of as sectors_in_bytes}
 use Rattle.s3_store.proofs.SectorParts.{sector_bytes-same}
 use Rattle.s3_slots.specs.Header.{mounted}
 use Rattle.s3_slots.specs.Labels.{sectors_of}
@@ -11,13 +10,13 @@ use Rattle.s3_slots.specs.declared.label.FileLabel.{FileLabel}
 use Rattle.s3_slots.specs.declared.label.Organization.TheVariants.{Sequential}
 use Rattle.s3_slots.specs.declared.slot.Standing.TheVariants.{Present}
 use Rattle.s3_slots.proofs.Makes.{present_at}
-use Rattle.s3_labels.specs.Contents.{contents_of}
 use Rattle.s3_labels.specs.Inner.Areas.{Areas, areas_on, slots_in}
 use Rattle.s3_labels.proofs.MigratedPacks.{file_same}
 use Rattle.s3_pack_care.specs.Inner.Kept.{IsMounted}
 use Rattle.s3_pack_care.proofs.Copies.{files_apart, slot_stays, stands_on}
-use Rattle.s3_pack_care.proofs.Deletes.{seen_whole}
+use Rattle.s3_pack_care.proofs.Named.{present_named}
 use Rattle.s3_pack_care.proofs.Relabelled.{file_behind, mounted_same}
+use Rattle.s3_pack_care.specs.Inner.Frames.{ChangesRecords}
 use Rattle.s3_pack_care.specs.Inner.Keys.{fits, key_of}
 use Rattle.s3_pack_care.specs.Inner.Rows.{ChangesSectors}
 use Rattle.s3_pack_care.specs.Inner.Sorted.{IsArranged, IsSortedIn, records_of}
@@ -45,12 +44,25 @@ sorted_in area name fields header label areas old new area_in is mounts stands i
           file_same other new old (λ n has. sector_bytes-same old new n (kept n (λ mine. files_apart header old mounts area at.slot a i label other n area_in small at.there there differ mine has)));
     }
 
-pub sorted_is : (area : ℕ) (name : Name) (fields : List SortField) (label : FileLabel) (areas : Areas) (pack bytes : List ℕ) (begun old new : List (List ℕ)) → area < 3 → begun ≡ contents_of pack → IsMounted areas begun → old ≡ begun
-    → standing name (slots_in area areas) ≡ Present label → label.organization ≡ Sequential → All (λ field. fits field label.record_length ≡ true) fields → IsArranged (key_of fields) (records_of label old) (records_of label new) → length new ≡ length old
-    → ChangesSectors (sectors_of label) old new → sectors_in_bytes bytes ≡ new → length new ≤ 65535
-    → (header : Header) → mounted (contents_of pack) ≡ Ok header → IsSortedIn area name fields header (contents_of pack) (contents_of bytes)
-sorted_is area name fields label areas pack bytes begun old new area_in here is same stands in_order within sorted count kept stored few header mounts =
-    let old_is : old ≡ contents_of pack = same ∙ here in
-    subst (λ (n : List (List ℕ)). IsSortedIn area name fields header (contents_of pack) n) (sym (seen_whole bytes new stored few))
-    (subst (λ (o : List (List ℕ)). IsSortedIn area name fields header o new) old_is
-    (sorted_in area name fields header label areas old new area_in (subst (λ (s : List (List ℕ)). IsMounted areas s) (sym same) is) (ap mounted old_is ∙ mounts) stands in_order within sorted count kept))
+-- a file that was sorted in a mounted pack
+module _ (area : ℕ) (name : Name) (label : FileLabel) (areas : Areas) (begun old new : List (List ℕ)) (area_in : area < 3) (is : IsMounted areas begun) (same : old ≡ begun)
+    (stands : standing name (slots_in area areas) ≡ Present label) (kept : ChangesSectors (sectors_of label) old new) (count : length new ≡ length old) where
+  pub sorted_is : (fields : List SortField) → label.organization ≡ Sequential → All (λ field. fits field label.record_length ≡ true) fields → IsArranged (key_of fields) (records_of label old) (records_of label new)
+      → IsSortedIn area name fields areas.header begun new
+  sorted_is fields in_order within sorted =
+      subst (λ (o : List (List ℕ)). IsSortedIn area name fields areas.header o new) same
+      (sorted_in area name fields areas.header label areas old new area_in (subst (λ (s : List (List ℕ)). IsMounted areas s) (sym same) is) (ap mounted same ∙ is.mounts) stands in_order within sorted count kept)
+
+  pub sorted_only : ChangesRecords area name begun new
+  sorted_only =
+      let at = present_at name (slots_in area (areas_on areas.header begun)) label (stands_on area areas begun name label is stands areas.header is.mounts) in
+      record {
+        header = areas.header;
+        mounts = is.mounts;
+        slot = at.slot;
+        label = label;
+        there = at.there;
+        named = present_named name (slots_in area areas) label stands;
+        sectors = λ n out. kept n out ∙ ap (λ c. slice_get c n) same;
+        long = count ∙ ap length same;
+      }

@@ -17,10 +17,12 @@ ghost use Rattle.s3_labels.specs.Inner.Areas.{IsReady, slots_in};
 ghost use Rattle.s3_pack_check.specs.Inner.Damages.{first_damaged as first_damaged_spec};
 ghost use Rattle.s3_pack_check.specs.Inner.Wrongs.{region_in};
 ghost use Rattle.s3_pack_care.specs.Inner.Kept.{IsMounted};
+ghost use Rattle.s3_pack_care.specs.Inner.Frames.{ChangesBytes, ChangesFile, IsInLabelled};
 ghost use Rattle.s3_pack_care.specs.Inner.Copied.{IsCopy, IsRoom, IsSource, RefusesCopy, RefusesRoom, RefusesSource, masters_beside as masters_beside_spec, tracks_in};
 
 use crate::fault::CareFault;
 use crate::relabelling::{MountedPack, mount};
+use crate::saving::{bytes_after, saved};
 use s3_cards::{Name, is_name};
 use s3_files::{FileSectors, write_bytes};
 use s3_labels::{AreaSlots, FileLabel, LabelFault, NewFile, Size, Slot, Standing};
@@ -247,15 +249,41 @@ fn write_file(store: &mut MemoryStore, label: &FileLabel, bytes: &[u8]) -> Resul
     }
 }
 
+/// The sectors of a pack with a copy of a file. Refused as `copy` says.
+#[tactic(auto, using(crate::proofs::Refusals::source_refuses, crate::proofs::Refusals::mount_refuses, crate::proofs::Refusals::room_refuses, crate::proofs::Refusals::memory_refuses))]
+fn with_copy(
+    alloc: Global,
+    from: Vec<u8>,
+    from_area: u16,
+    name: Name,
+    into: MemoryStore,
+    area: u16,
+    new_name: Name,
+) -> Result<MemoryStore, CareFault>
+    requires from_area { from_area < 3 }
+    requires area { area < 3 }
+    ensures copied { IfOk result (IsCopy from_area name area new_name (contents_of from.items) into) }
+    ensures only { IfOk result (ChangesFile area new_name (λ i. ⊥) into) }
+    ensures refused { IfErr result (RefusesCopy from_area name area new_name (contents_of from.items) into) }
+{
+    let source = source_of(alloc, from, from_area, name)?;
+    let MountedPack { mut store, areas } = mount(alloc, into)?;
+    know_widths(&new_name.codes, &source.label.date);
+    let (slot, label) = room_for(alloc, &areas, area, new_name, &source.label)?;
+    write_label(&mut store, area, slot, &label)?;
+    write_file(&mut store, &label, &source.bytes)?;
+    Ok(store)
+}
+
 /// A pack with a copy of a file: of the file of a label in an area of a pack, into an area of another or the same, under a label
 /// that no file there has. The copy has the same records in the same order, and the same index. An area is 0 for the masters, 1
-/// or 2 for a level.
+/// or 2 for a level. The copy gets a free slot and free sectors, and no other byte of the pack changes.
 ///
 /// Refused with `SourceMount` or `Mount` by a header; with `SourceLabel` where there is no such file, or a damaged slot blocks its
 /// label; with `NoName` where the label of the copy isn't a name; with `Damaged` where a slot of the area is damaged, so that
 /// nothing is written over what it may hold; with `Exists` where a file has that label; with `Label` where, for a level, a master
 /// has it, or the area has no free slot or no room; and with `NoMemory`.
-#[tactic(auto, using(crate::proofs::Refusals::source_refuses, crate::proofs::Refusals::mount_refuses, crate::proofs::Refusals::room_refuses, crate::proofs::Refusals::memory_refuses))]
+#[tactic(auto, using(crate::proofs::Refusals::memory_refuses))]
 pub fn copy(
     alloc: Global,
     from: Vec<u8>,
@@ -268,13 +296,18 @@ pub fn copy(
     requires from_area { from_area < 3 }
     requires area { area < 3 }
     ensures copied { IfOk result (λ new. IsCopy from_area name area new_name (contents_of from.items) (contents_of into.items) (contents_of new.items)) }
+    ensures only { IfOk result (λ new. ChangesBytes (IsInLabelled area new_name (contents_of new.items)) into.items new.items) }
     ensures refused { IfErr result (RefusesCopy from_area name area new_name (contents_of from.items) (contents_of into.items)) }
 {
-    let source = source_of(alloc, from, from_area, name)?;
-    let MountedPack { mut store, areas } = mount(alloc, MemoryStore::from_bytes(into))?;
-    know_widths(&new_name.codes, &source.label.date);
-    let (slot, label) = room_for(alloc, &areas, area, new_name, &source.label)?;
-    write_label(&mut store, area, slot, &label)?;
-    write_file(&mut store, &label, &source.bytes)?;
-    Ok(store.into_bytes())
+    let after = Vec::from_slice(alloc, bytes_after(&into))?;
+    let store = with_copy(
+        alloc,
+        from,
+        from_area,
+        name,
+        MemoryStore::from_bytes(into),
+        area,
+        new_name,
+    )?;
+    Ok(saved(store, &after)?)
 }

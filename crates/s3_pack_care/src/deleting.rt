@@ -8,10 +8,12 @@ ghost use Rattle.s3_slots.specs.declared.header.Header.{Header};
 ghost use Rattle.s3_labels.specs.Contents.{contents_of};
 ghost use Rattle.s3_labels.specs.Inner.Areas.{areas_on, slots_in};
 ghost use Rattle.s3_pack_care.specs.Inner.Kept.{IsWithout};
-ghost use Rattle.s3_pack_care.specs.Inner.Deleted.{MayFree, MayGo, RefusesDelete, RefusesLabel, RefusesSlot, chosen_in, is_kept as is_kept_spec};
+ghost use Rattle.s3_pack_care.specs.Inner.Frames.{ChangesBytes, IsInChosen};
+ghost use Rattle.s3_pack_care.specs.Inner.Deleted.{IsFreed, MayFree, MayGo, RefusesDelete, RefusesLabel, RefusesSlot, chosen_in, is_kept as is_kept_spec};
 
 use crate::fault::CareFault;
 use crate::relabelling::{MountedPack, mount, relabelled};
+use crate::saving::{bytes_after, saved};
 use s3_cards::ebcdic::LETTER_P;
 use s3_cards::{Name, Retention};
 use s3_labels::{AreaSlots, Slot};
@@ -123,26 +125,21 @@ fn permit(slot: &Slot, bytes: &[u8; 64], is_permanent_meant: bool) -> Result<(),
     Ok(())
 }
 
-/// The pack of these bytes, its first 65,535 whole sectors, without a file of an area: 0 for the masters, 1 and 2 for the levels.
-/// The slot of the file is filled with zeros, and no other sector changes than that one.
-///
-/// Refused with `Mount` by the header; with `Label` where no sound file has the label, and with `NoFile` where the slot has none;
-/// with `NoSlot` where there is no such slot; with `Permanent` unless that is meant; with `Uncovers` where a slot that is damaged
-/// for what it has in common with the file would have a file again; and with `NoMemory`.
+/// The sectors of a pack without a file of an area: the slot of the file is filled with zeros. Refused as `delete` says.
 #[tactic(auto, using(crate::proofs::Deletes::mount_refuses, crate::proofs::Deletes::label_refuses, crate::proofs::Deletes::memory_refuses))]
-pub fn delete(
+fn freed(
     alloc: Global,
-    pack: Vec<u8>,
+    store: MemoryStore,
     area: u16,
     chosen: Chosen,
     is_permanent_meant: bool,
-) -> Result<Vec<u8>, CareFault>
+) -> Result<MemoryStore, CareFault>
     requires { area < 3 }
-    ensures deleted { IfOk result (λ new. (header : Header) (slot : ℕ) → mounted (contents_of pack.items) ≡ Ok header → chosen_in chosen (slots_in area (areas_on header (contents_of pack.items))) ≡ Some slot → IsWithout area slot header (contents_of pack.items) (contents_of new.items)) }
-    ensures permitted { IfOk result (λ new. MayGo area chosen is_permanent_meant (contents_of pack.items)) }
-    ensures refused { IfErr result (RefusesDelete area chosen is_permanent_meant (contents_of pack.items)) }
+    ensures freed { IfOk result (IsFreed area chosen store) }
+    ensures permitted { IfOk result (λ new. MayGo area chosen is_permanent_meant store) }
+    ensures refused { IfErr result (RefusesDelete area chosen is_permanent_meant store) }
 {
-    let MountedPack { mut store, areas } = mount(alloc, MemoryStore::from_bytes(pack))?;
+    let MountedPack { mut store, areas } = mount(alloc, store)?;
     let slot = slot_of(&areas, area, chosen)?;
     let bytes = read_slot(&mut store, area, slot)?;
     permit(
@@ -152,5 +149,36 @@ pub fn delete(
     )?;
     let new = relabelled(alloc, MountedPack { store, areas }, area, slot, &[0; 64])?;
     let MountedPack { store, areas: _ } = new;
-    Ok(store.into_bytes())
+    Ok(store)
+}
+
+/// The pack of these bytes without a file of an area: 0 for the masters, 1 and 2 for the levels. The slot of the file is filled with
+/// zeros, and no other byte changes.
+///
+/// Refused with `Mount` by the header; with `Label` where no sound file has the label, and with `NoFile` where the slot has none;
+/// with `NoSlot` where there is no such slot; with `Permanent` unless that is meant; with `Uncovers` where a slot that is damaged
+/// for what it has in common with the file would have a file again; and with `NoMemory`.
+#[tactic(auto, using(crate::proofs::Deletes::memory_refuses))]
+pub fn delete(
+    alloc: Global,
+    pack: Vec<u8>,
+    area: u16,
+    chosen: Chosen,
+    is_permanent_meant: bool,
+) -> Result<Vec<u8>, CareFault>
+    requires { area < 3 }
+    ensures deleted { IfOk result (λ new. (header : Header) (slot : ℕ) → mounted (contents_of pack.items) ≡ Ok header → chosen_in chosen (slots_in area (areas_on header (contents_of pack.items))) ≡ Some slot → IsWithout area slot header (contents_of pack.items) (contents_of new.items)) }
+    ensures only { IfOk result (λ new. ChangesBytes (IsInChosen area chosen (contents_of pack.items)) pack.items new.items) }
+    ensures permitted { IfOk result (λ new. MayGo area chosen is_permanent_meant (contents_of pack.items)) }
+    ensures refused { IfErr result (RefusesDelete area chosen is_permanent_meant (contents_of pack.items)) }
+{
+    let after = Vec::from_slice(alloc, bytes_after(&pack))?;
+    let store = freed(
+        alloc,
+        MemoryStore::from_bytes(pack),
+        area,
+        chosen,
+        is_permanent_meant,
+    )?;
+    Ok(saved(store, &after)?)
 }

@@ -4,9 +4,12 @@
 //!
 //! - If a call succeeds, each other slot of the three areas is judged as before, and each other file has the same bytes, those of
 //!   its index included, and therefore the same records (`IsWithout`, `IsWith`, `IsSorted`).
-//! - `delete` leaves the deleted slot free. `copy` gives the copied file the label of the source, except for its name and place, and
-//!   the source's bytes (`IsCopy`). `sort` leaves the same records, in an order in which no two neighbours are the wrong way round;
-//!   records with equal keys keep their order (`IsArranged`).
+//! - The new pack has as many bytes. Only these may have changed: the slot that is deleted; the slot and the sectors of the copy; the
+//!   sectors of the sorted file (`ChangesBytes`).
+//! - `delete` fills the slot with zeros. `copy` gives the copied file the label of the source, except for its name and place, and the
+//!   source's bytes. The copy gets a slot that was free, and sectors that no slot of the pack may have held (`IsCopy`). `sort` leaves
+//!   the same records, in an order in which no two neighbours are the wrong way round; records with equal keys keep their order
+//!   (`IsArranged`).
 //! - Each refusal comes only if its condition holds, and a call that succeeds meets none of these conditions (`RefusesDelete`,
 //!   `MayGo`, `RefusesCopy`, `Forbids`, `RefusesSort`). `copy` writes nothing into an area that has a damaged slot. `delete` is
 //!   refused if another slot, which is damaged because of what it shares with the file, would become valid (`IsUncovering`).
@@ -27,6 +30,7 @@ mod keys;
 mod rank_laws;
 mod relabelling;
 mod rows;
+mod saving;
 mod sort_fault;
 mod sorting;
 
@@ -36,5 +40,6 @@ pub use fault::CareFault;
 pub use fields::{Form, SortField};
 pub use rank_laws::ranks_are_in_the_order_of_numbers;
 pub use relabelling::{MountedPack, mount};
+pub use saving::{bytes_after, saved};
 pub use sort_fault::SortFault;
 pub use sorting::sort;

@@ -1,5 +1,5 @@
 //! A slot written, and all slots judged anew.
-ghost use Rattle.std.specs.Prelude.{◌≡◌, ◌≢◌, ◌<◌, ℕ, true, slice_get, Ok, Some, IfOk, IfErr, IfNone, IfSome, ◌&&◌, not, nat_eq};
+ghost use Rattle.std.specs.Prelude.{◌≡◌, ◌≢◌, ◌<◌, ℕ, true, length, slice_get, Ok, Some, IfOk, IfErr, IfNone, IfSome, ◌&&◌, not, nat_eq};
 ghost use Rattle.s3_slots.specs.Header.{mounted};
 ghost use Rattle.s3_labels.specs.Inner.Areas.{IsReady, slots_in};
 ghost use Rattle.s3_pack_care.specs.Inner.Kept.{IsMounted, IsMountRefusal, IsOther, IsChanged, IsRelabelled, RefusesWritten, alike, fault_of as fault_of_spec, same_kind};
@@ -125,6 +125,7 @@ pub fn relabelled(
     requires mounted { IsMounted pack.areas pack.store }
     requires ready { IsReady pack.areas pack.store }
     ensures ok { IfOk result (λ new. IsRelabelled area slot bytes.now pack.areas.header pack.store new.store) }
+    ensures long { IfOk result (λ new. length new.store ≡ length pack.store) }
     ensures mounted { IfOk result (λ new. IsMounted new.areas new.store) }
     ensures ready { IfOk result (λ new. IsReady new.areas new.store) }
     ensures refused { IfErr result (RefusesWritten area slot bytes.now pack.areas.header pack.store) }

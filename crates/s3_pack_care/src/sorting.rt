@@ -6,12 +6,14 @@ ghost use Rattle.s3_slots.specs.Labels.{sectors_of};
 ghost use Rattle.s3_slots.specs.declared.label.Organization.TheVariants.{Sequential as SequentialVariant};
 ghost use Rattle.s3_labels.specs.Contents.{contents_of};
 ghost use Rattle.s3_files.specs.Inner.Files.{AreStored, records};
+ghost use Rattle.s3_pack_care.specs.Inner.Frames.{ChangesBytes, ChangesRecords, IsInFile};
 ghost use Rattle.s3_pack_care.specs.Inner.Keys.{fits, key_of};
 ghost use Rattle.s3_pack_care.specs.Inner.Rows.{ChangesSectors, shape_of};
 ghost use Rattle.s3_pack_care.specs.Inner.Sorted.{IsArranged, IsFirstMisfit, IsSorted, RefusesFile, RefusesSort, records_of};
 
 use crate::fields::SortField;
 use crate::rows::{rows_of, write_rows};
+use crate::saving::{bytes_after, saved};
 use crate::sort_fault::SortFault;
 use crate::{MountedPack, mount};
 use s3_cards::Name;
@@ -82,9 +84,33 @@ fn sort_label(
     sort_file(alloc, store, &Sequential::of(label), fields)
 }
 
+/// The sectors of a pack with the records of a file sorted. Refused as `sort` says.
+fn sorted(
+    alloc: Global,
+    store: MemoryStore,
+    area: u16,
+    name: Name,
+    fields: &[SortField],
+) -> Result<MemoryStore, SortFault>
+    requires { area < 3 }
+    ensures sorted { IfOk result (IsSorted area name fields.now store) }
+    ensures only { IfOk result (ChangesRecords area name store) }
+    ensures refused { IfErr result (RefusesSort area name fields.now store) }
+{
+    let MountedPack { mut store, areas } = mount(alloc, store)?;
+    match standing_of(name, slots_of(&areas, area)) {
+        Standing::Absent => Err(SortFault::Label(LabelFault::NotFound)),
+        Standing::Blocked => Err(SortFault::Label(LabelFault::DamagedLabel)),
+        Standing::Present(label) => {
+            sort_label(alloc, &mut store, &label, fields)?;
+            Ok(store)
+        }
+    }
+}
+
 /// The pack of these bytes with the records of a file sorted: first by the first field, where that is the same by the next one,
-/// and where all are the same as they stood. The file has no index, and its records stand in order. An area is 0 for the masters,
-/// 1 or 2 for a level.
+/// and where all are the same as they stood. The file has no index, and its records stand in order. No byte outside of its sectors
+/// changes. An area is 0 for the masters, 1 or 2 for a level.
 ///
 /// Refused with `Mount` by the header; with `Label` where no sound file has the label; with `NotInOrder` where the file is indexed
 /// or direct; with `Field` where a field doesn't fit its records; and with `NoMemory`.
@@ -97,15 +123,10 @@ pub fn sort(
 ) -> Result<Vec<u8>, SortFault>
     requires { area < 3 }
     ensures sorted { IfOk result (λ new. IsSorted area name fields.now (contents_of pack.items) (contents_of new.items)) }
+    ensures only { IfOk result (λ new. ChangesBytes (IsInFile area name (contents_of pack.items)) pack.items new.items) }
     ensures refused { IfErr result (RefusesSort area name fields.now (contents_of pack.items)) }
 {
-    let MountedPack { mut store, areas } = mount(alloc, MemoryStore::from_bytes(pack))?;
-    match standing_of(name, slots_of(&areas, area)) {
-        Standing::Absent => Err(SortFault::Label(LabelFault::NotFound)),
-        Standing::Blocked => Err(SortFault::Label(LabelFault::DamagedLabel)),
-        Standing::Present(label) => {
-            sort_label(alloc, &mut store, &label, fields)?;
-            Ok(store.into_bytes())
-        }
-    }
+    let after = Vec::from_slice(alloc, bytes_after(&pack))?;
+    let store = sorted(alloc, MemoryStore::from_bytes(pack), area, name, fields)?;
+    Ok(saved(store, &after)?)
 }

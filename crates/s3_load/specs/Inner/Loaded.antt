@@ -1,12 +1,14 @@
 -- A file of a pack that a table was loaded into, and what stays of the pack.
-use Rattle.std.specs.Prelude.{◌≡◌, ◌<◌, ◌≤◌, ◌++◌, ◌==◌, ◌&&◌, ℕ, Bool, true, false, Option, Some, None, List, [], slice_get, Ok, if◌then◌else◌}
-use Rattle.std.specs.List.{position_from}
+use Rattle.std.specs.Prelude.{◌≡◌, ◌<◌, ◌⊎◌, ◌++◌, ◌==◌, ◌&&◌, ℕ, Bool, true, false, Option, Some, None, List, [], slice_get, Ok, ⊤, if◌then◌else◌}
+use Rattle.std.specs.List.{Contains, list_any, position_from}
 use Rattle.s3_cards.specs.declared.levels.LevelId.{LevelId}
 use Rattle.s3_cards.specs.declared.name.Name.{Name}
 use Rattle.s3_lines.specs.declared.sheet.KeyField.{KeyField}
 use Rattle.s3_slots.specs.Header.{mounted}
 use Rattle.s3_slots.specs.Labels.{is_indexed}
-use Rattle.s3_slots.specs.Slots.{bears, standing}
+use Rattle.s3_slots.specs.Making.{dropped, is_permanent}
+use Rattle.s3_slots.specs.Placement.{free_slot}
+use Rattle.s3_slots.specs.Slots.{bears, slot_bytes, standing}
 use Rattle.s3_slots.specs.declared.header.Header.{Header}
 use Rattle.s3_slots.specs.declared.label.FileLabel.{FileLabel}
 use Rattle.s3_slots.specs.declared.label.Organization.{Organization}
@@ -16,10 +18,11 @@ use Rattle.s3_slots.specs.declared.slot.Slot.{Slot}
 use Rattle.s3_slots.specs.declared.slot.Slot.TheVariants.{Free, Sound}
 use Rattle.s3_slots.specs.declared.slot.Standing.{Standing}
 use Rattle.s3_slots.specs.declared.slot.Standing.TheVariants.{Absent, Blocked, Present}
-use Rattle.s3_labels.specs.Areas.{area_of}
+use Rattle.s3_labels.specs.Areas.{IsLabelSector, area_of}
 use Rattle.s3_labels.specs.Inner.Areas.{areas_on, slots_at}
 use Rattle.s3_unload.specs.Inner.Ordered.{in_order}
 use Rattle.s3_pack_check.specs.Inner.Damages.{is_damaged}
+use Rattle.s3_pack_care.specs.Inner.Frames.{ChangesFile, IsInLabelled, IsInSlot}
 use Rattle.s3_pack_care.specs.Inner.Kept.{IsOther, KeepsFile, slot_on}
 use Rattle.s3_load.specs.declared.order.Order.{Order}
 use Rattle.s3_load.specs.declared.rows.Row.{Row}
@@ -47,6 +50,8 @@ pub record IsNewOf (order : Order) (new : NewFile) : Type 0 where
   pub named : new.name ≡ order.name
   pub long : new.record_length ≡ order.layout.now.record_length
   pub keyed : has_key_by order.key new.organization new.key_length new.key_start ≡ true
+  pub retained : new.retention ≡ order.retention
+  pub dated : new.date ≡ order.date
 
 -- the records of the file that stands there, in the order in which they were written
 abbrev pub records_under : Standing → List (List ℕ) → List (List ℕ)
@@ -71,6 +76,32 @@ pub record KeepsOthers (order : Order) (slot : ℕ) (header : Header) (old new :
   pub kept : (a i : ℕ) → IsOther (area_of order.level) slot a i → ¬ IsReplaced order header old a i → KeepsFile header old new a i
   pub freed : (a i : ℕ) → IsOther (area_of order.level) slot a i → IsReplaced order header old a i → slot_on header new a i ≡ Some Free
 
+-- ---- the slot of the file
+-- A new file may replace the file of its label, if that isn't permanent. A damaged slot of that label can't be replaced.
+abbrev pub MayBeReplaced : Standing → Type 0
+MayBeReplaced Absent = ⊤
+MayBeReplaced Blocked = ⊥
+MayBeReplaced (Present label) = is_permanent label.retention ≡ false
+
+-- A make gives this slot to a new file: the lowest that is free without the old file of its label. So the slot was free, or it had the
+-- old file. The old file may be replaced, and no master has the label.
+pub record IsVacant (order : Order) (header : Header) (old : List (List ℕ)) (slot : ℕ) : Type 0 where
+  pub lowest : free_slot (dropped order.name (slots_at order.level (areas_on header old))) ≡ Some slot
+  pub was : (slot_on header old (area_of order.level) slot ≡ Some Free) ⊎ IsReplaced order header old (area_of order.level) slot
+  pub replaceable : MayBeReplaced (standing order.name (slots_at order.level (areas_on header old)))
+  pub unmastered : list_any (bears order.name) (areas_on header old).masters ≡ false
+
+-- the label has the retention and the date that the order says
+pub record IsKeptFor (order : Order) (label : FileLabel) : Type 0 where
+  pub retained : label.retention ≡ order.retention
+  pub dated : label.date ≡ order.date
+
+-- the file was in this slot before, and only the count of its label has changed
+pub record IsContinued (order : Order) (header : Header) (old : List (List ℕ)) (slot : ℕ) (label : FileLabel) : Type 0 where
+  pub before : FileLabel
+  pub was : slot_on header old (area_of order.level) slot ≡ Some (Sound before)
+  pub same : label ≡ counted before label.count
+
 abbrev pub is_damaged_at : Option Slot → Bool
 is_damaged_at (Some slot) = is_damaged slot
 is_damaged_at None = false
@@ -78,6 +109,29 @@ is_damaged_at None = false
 -- no slot of the level's area is damaged
 abbrev pub HasNoDamage : Order → Header → List (List ℕ) → Type 0
 HasNoDamage order header contents = (i : ℕ) → i < 32 → is_damaged_at (slot_on header contents (area_of order.level) i) ≡ false
+
+-- ---- what stays
+-- Each slot of the level has the same bytes, except for the file's slot and the slot of a replaced file. Each sector that has no label
+-- of the level is the same, except for the file's own.
+pub record KeepsRest (order : Order) (slot : ℕ) (own : List ℕ) (header : Header) (old new : List (List ℕ)) : Type 0 where
+  pub labels : (i : ℕ) → i < 32 → (i ≡ slot → ⊥) → ¬ IsReplaced order header old (area_of order.level) i → slot_bytes (area_of order.level) new i ≡ slot_bytes (area_of order.level) old i
+  pub sectors : (n : ℕ) → ¬ IsLabelSector (area_of order.level) n → ¬ Contains own n → slice_get new n ≡ slice_get old n
+
+-- a pack with the file, in which the rest is kept
+abbrev pub ChangesLoaded : Order → Header → (old new : List (List ℕ)) → Type 0
+ChangesLoaded order header old new = ChangesFile (area_of order.level) order.name (IsReplaced order header old (area_of order.level)) old new
+
+-- byte k of a pack is in the slot of the file that is replaced
+pub record IsInReplaced (order : Order) (contents : List (List ℕ)) (k : ℕ) : Type 0 where
+  pub header : Header
+  pub mounts : mounted contents ≡ Ok header
+  pub slot : ℕ
+  pub gone : IsReplaced order header contents (area_of order.level) slot
+  pub at : IsInSlot (area_of order.level) slot k
+
+-- byte k is in the loaded file, in its slot, or in the slot of the replaced file
+abbrev pub IsOfLoad : Order → (old new : List (List ℕ)) → (k : ℕ) → Type 0
+IsOfLoad order old new k = IsInLabelled (area_of order.level) order.name new k ⊎ IsInReplaced order old k
 
 -- ---- steps
 -- the file that is asked for stands in a slot: a new one without records, where no slot was damaged, or the one that was there
@@ -87,8 +141,12 @@ pub record IsPlaced (order : Order) (header : Header) (old new : List (List ℕ)
   pub there : slot_on header new (area_of order.level) slot ≡ Some (Sound label)
   pub asked : IsAsked order label
   pub begins : in_order label new ≡ records_before order header old
+  pub vacant : order.appends ≡ false → IsVacant order header old slot
+  pub kept : order.appends ≡ false → IsKeptFor order label
+  pub continued : order.appends ≡ true → IsContinued order header old slot label
   pub others : KeepsOthers order slot header old new
   pub undamaged : order.appends ≡ false → HasNoDamage order header old
+  pub rest : KeepsRest order slot [] header old new
 
 -- the label of a level's file has another count, and nothing else has changed
 pub record IsCounted (level : LevelId) (name : Name) (count : ℕ) (header : Header) (old new : List (List ℕ)) : Type 0 where
@@ -99,11 +157,12 @@ pub record IsCounted (level : LevelId) (name : Name) (count : ℕ) (header : Hea
   pub named : label.name ≡ name
   pub there : slot_on header new (area_of level) slot ≡ Some (Sound (counted label count))
   pub others : (a i : ℕ) → IsOther (area_of level) slot a i → slot_on header new a i ≡ slot_on header old a i
-  pub behind : (n : ℕ) → 168 ≤ n → slice_get new n ≡ slice_get old n
+  pub labels : (i : ℕ) → (i ≡ slot → ⊥) → slot_bytes (area_of level) new i ≡ slot_bytes (area_of level) old i
+  pub sectors : (n : ℕ) → ¬ IsLabelSector (area_of level) n → slice_get new n ≡ slice_get old n
 
 -- ---- a pack with a file that was loaded
--- A slot of the level's area has the file that is asked for. Its records are those in front, if these go behind some, and then those
--- that were loaded; an index is that of all of them.
+-- A slot of the level's area has the file that is asked for: a new one where a make puts it, or the one that was there. Its records
+-- are those in front, if these go behind some, and then those that were loaded; an index is that of all of them.
 pub record HasFile (order : Order) (added : List (List ℕ)) (header : Header) (old new : List (List ℕ)) : Type 0 where
   pub mounts : mounted new ≡ Ok header
   pub slot : ℕ
@@ -113,6 +172,9 @@ pub record HasFile (order : Order) (added : List (List ℕ)) (header : Header) (
   pub asked : IsAsked order label
   pub records : in_order label new ≡ records_before order header old ++ added
   pub index : is_indexed label.organization ≡ true → HasGoodIndex label new
+  pub vacant : order.appends ≡ false → IsVacant order header old slot
+  pub kept : order.appends ≡ false → IsKeptFor order label
+  pub continued : order.appends ≡ true → IsContinued order header old slot label
   pub others : KeepsOthers order slot header old new
   pub undamaged : order.appends ≡ false → HasNoDamage order header old
 

@@ -10,12 +10,14 @@ use Rattle.s3_slots.specs.Inner.Kept.{IsOfPack}
 use Rattle.s3_slots.specs.Inner.Making.{refusal}
 use Rattle.s3_slots.specs.Labels.{sectors_of}
 use Rattle.s3_slots.specs.Placement.{free_slot, placed}
-use Rattle.s3_slots.specs.Slots.{bears, standing}
+use Rattle.s3_slots.specs.Inner.Labels.{label_bytes}
+use Rattle.s3_slots.specs.Slots.{bears, slot_bytes, standing}
+use Rattle.s3_slots.specs.Stretches.{IsIn}
 use Rattle.s3_slots.specs.declared.header.Header.{Header}
 use Rattle.s3_slots.specs.declared.label.FileLabel.{FileLabel}
 use Rattle.s3_slots.specs.declared.making.LabelFault.TheVariants.{Master, NoSlot as NoFreeSlot, NoSpace}
 use Rattle.s3_slots.specs.declared.slot.Slot.{Slot}
-use Rattle.s3_slots.specs.declared.slot.Slot.TheVariants.{Free, Sound}
+use Rattle.s3_slots.specs.declared.slot.Slot.TheVariants.{Damaged as DamagedSlot, Free, Sound}
 use Rattle.s3_slots.specs.declared.slot.Standing.TheVariants.{Absent, Present}
 use Rattle.s3_labels.specs.Inner.Areas.{Areas, areas_on, slots_in}
 use Rattle.s3_pack_check.specs.Inner.Damages.{first_damaged}
@@ -56,6 +58,17 @@ pub record IsRoom (area : ℕ) (name : Name) (source : FileLabel) (areas : Areas
   pub lies : placed areas.header.format (region_in area areas) (slots_in area areas) (tracks_in source) ≡ Some label.extents
   pub labelled : label ≡ copied_label name source label.extents
 
+-- ---- the room for a copy is nobody's
+-- a slot may hold a sector: that of its file, and, if it is damaged, any of its area's region
+abbrev pub MayHold : Stretch → Slot → (n : ℕ) → Type 0
+MayHold region Free n = ⊥
+MayHold region (Sound label) n = Contains (sectors_of label) n
+MayHold region (DamagedSlot name) n = IsIn region n
+
+-- no slot of the three areas may hold it
+abbrev pub IsFreeSector : Header → List (List ℕ) → (n : ℕ) → Type 0
+IsFreeSector header contents n = (a i : ℕ) (slot : Slot) → a < 3 → slot_on header contents a i ≡ Some slot → MayHold (region_in a (areas_on header contents)) slot n → ⊥
+
 -- ---- what a copy leaves
 -- the file in a slot has the label of a copy and these bytes; no sector but those of the file has changed
 pub record IsFilled (area slot : ℕ) (name : Name) (source : FileLabel) (bytes : List ℕ) (header : Header) (old new : List (List ℕ)) : Type 0 where
@@ -66,13 +79,16 @@ pub record IsFilled (area slot : ℕ) (name : Name) (source : FileLabel) (bytes 
   pub count : length new ≡ length old
   pub sectors : (n : ℕ) → ¬ Contains (sectors_of label) n → slice_get new n ≡ slice_get old n
 
--- a slot that was free has a file with the label of a copy and these bytes, and all other files are there
+-- a slot that was free has a file with the label of a copy and these bytes, in sectors that no slot may have held, and all other
+-- files are there
 pub record IsWith (area slot : ℕ) (name : Name) (source : FileLabel) (bytes : List ℕ) (header : Header) (old new : List (List ℕ)) : Type 0 where
   pub mounts : mounted new ≡ Ok header
   pub was_free : slot_on header old area slot ≡ Some Free
   pub label : FileLabel
   pub there : slot_on header new area slot ≡ Some (Sound label)
+  pub written : slot_bytes area new slot ≡ label_bytes label
   pub like : label ≡ copied_label name source label.extents
+  pub room : (n : ℕ) → Contains (sectors_of label) n → IsFreeSector header old n
   pub filled : bytes_at (sectors_of label) new ≡ bytes
   pub others : (a i : ℕ) → IsOther area slot a i → KeepsFile header old new a i
 

@@ -1,5 +1,5 @@
 -- Which slot is meant where a file is deleted, and when none is.
-use Rattle.std.specs.Prelude.{◌≡◌, ◌≤◌, ◌==◌, ◌&&◌, not, ℕ, Bool, true, false, List, replicate, slice_index, Option, Some, Ok, Err, ⊤}
+use Rattle.std.specs.Prelude.{◌≡◌, ◌<◌, ◌≤◌, ◌==◌, ◌&&◌, not, ℕ, Bool, true, false, List, length, replicate, slice_index, Option, Some, Ok, Err, ⊤}
 use Rattle.std.specs.List.{position_from}
 use Rattle.s3_cards.specs.declared.ebcdic.TheConstants.{LETTER_P}
 use Rattle.s3_slots.specs.Header.{mounted}
@@ -11,7 +11,7 @@ use Rattle.s3_slots.specs.declared.header.Header.{Header}
 use Rattle.s3_slots.specs.declared.slot.Slot.{Slot}
 use Rattle.s3_slots.specs.declared.slot.Slot.TheVariants.{Damaged, Free, Sound}
 use Rattle.s3_labels.specs.Inner.Areas.{areas_on, slots_in}
-use Rattle.s3_pack_care.specs.Inner.Kept.{AreOn, IsChanged, slot_on, with_slot}
+use Rattle.s3_pack_care.specs.Inner.Kept.{AreOn, IsChanged, IsRelabelled, slot_on, with_slot}
 use Rattle.s3_pack_care.specs.declared.deleting.Chosen.{Chosen}
 use Rattle.s3_pack_care.specs.declared.deleting.Chosen.TheVariants.{Label, Slot as SlotNumber}
 use Rattle.s3_pack_care.specs.declared.fault.CareFault.{CareFault}
@@ -78,3 +78,13 @@ RefusesDelete area chosen meant contents _ = ⊥
 -- the slot that is freed had a file or was damaged, and if it was to be kept, it was said that this is meant
 abbrev pub MayGo : (area : ℕ) → Chosen → (meant : Bool) → List (List ℕ) → Type 0
 MayGo area chosen meant contents = IsChosen area chosen contents (λ slot bytes. MayFree slot bytes meant)
+
+-- the slot that is meant has zeros, each other one has its own bytes and is judged as it was, and no other sector has changed
+pub record IsFreed (area : ℕ) (chosen : Chosen) (old new : List (List ℕ)) : Type 0 where
+  pub header : Header
+  pub mounts : mounted old ≡ Ok header
+  pub slot : ℕ
+  pub slot_in : slot < 32
+  pub is : chosen_in chosen (slots_in area (areas_on header old)) ≡ Some slot
+  pub relabelled : IsRelabelled area slot (replicate 64 0) header old new
+  pub long : length new ≡ length old

@@ -1,5 +1,5 @@
 -- What stays of a pack where a file of it is deleted, or one is added.
-use Rattle.std.specs.Prelude.{◌≡◌, ◌≢◌, ◌<◌, ◌+◌, ◌*◌, ◌/◌, ◌%◌, ℕ, Bool, true, false, List, slice_get, Option, Some, Ok, Err, ⊤}
+use Rattle.std.specs.Prelude.{◌≡◌, ◌≢◌, ◌<◌, ◌+◌, ◌*◌, ◌/◌, ◌%◌, ℕ, Bool, true, false, List, replicate, slice_get, Option, Some, Ok, Err, ⊤}
 use Rattle.s3_store.specs.Inner.Bytes.{with_piece}
 use Rattle.s3_slots.specs.Header.{mounted}
 use Rattle.s3_slots.specs.Labels.{file_bytes}
@@ -58,10 +58,11 @@ pub record IsOther (area slot a i : ℕ) : Type 0 where
   pub other : a ≡ area → i ≡ slot → ⊥
 
 -- ---- what a written slot leaves
--- one slot has these bytes, each other one is judged as it was, and no other sector has changed
+-- one slot has these bytes, each other one has its own and is judged as it was, and no other sector has changed
 pub record IsRelabelled (area slot : ℕ) (bytes : List ℕ) (header : Header) (old new : List (List ℕ)) : Type 0 where
   pub mounts : mounted new ≡ Ok header
   pub own : slot_bytes area new slot ≡ bytes
+  pub labels : (a i : ℕ) → IsOther area slot a i → slot_bytes a new i ≡ slot_bytes a old i
   pub others : (a i : ℕ) → IsOther area slot a i → slot_on header new a i ≡ slot_on header old a i
   pub sectors : (n : ℕ) → n ≢ labels_at area + slot / 4 → slice_get new n ≡ slice_get old n
 
@@ -87,8 +88,9 @@ pub record KeepsFile (header : Header) (old new : List (List ℕ)) (a i : ℕ) :
   pub slot : slot_on header new a i ≡ slot_on header old a i
   pub bytes : (label : FileLabel) → slot_on header old a i ≡ Some (Sound label) → file_bytes label new ≡ file_bytes label old
 
--- a slot is free, and all other files are there
+-- a slot is free and of zeros, and all other files are there
 pub record IsWithout (area slot : ℕ) (header : Header) (old new : List (List ℕ)) : Type 0 where
   pub mounts : mounted new ≡ Ok header
+  pub zeros : slot_bytes area new slot ≡ replicate 64 0
   pub free : slot_on header new area slot ≡ Some Free
   pub others : (a i : ℕ) → IsOther area slot a i → KeepsFile header old new a i

@@ -1,5 +1,5 @@
 use Rattle.std.proofs.Common.{◌∙◌, refl, sym}
-use Rattle.s3_load.proofs.LoadedPacks.{present_named}
+use Rattle.s3_pack_care.proofs.Named.{present_named}
 use Rattle.s3_load.proofs.filling.file_there.Goals as goal
 
 pub returns-then-is_of_kind-clause-asked : goal.returns-then-is_of_kind-clause-asked

@@ -9,11 +9,11 @@ returns-clause-placed c =
     let made = c.in_ok-label.ensures in
     made_placed c.args.order.now c.in_ok-new.new c.args.mounted.now.areas c.make.new.self.areas c.args.mounted.now.pool c.make.new.self.pool c.in_ok-label.label made.written.slot c.requires.anew c.requires.mounted c.make.ensures.ready
     (subst (λ a. first_damaged (slots_in a c.args.mounted.now.areas) ≡ None) c.area_of.ensures.value c.in_ok-refuse_damaged.ensures.none)
-    made.ok c.make.ensures.alone made.written.there made.named made.label made.says c.make.ensures.within.count c.make.ensures.within.contents c.in_ok-new.ensures.asked
+    made.ok c.make.ensures.alone made.written.there made.named made.label made.says c.make.ensures.within.count c.make.ensures.within.contents c.make.ensures.others c.in_ok-new.ensures.asked
 
 pub returns-clause-mounted : goal.returns-clause-mounted
 returns-clause-mounted c =
     let made = c.in_ok-label.ensures in
     made_mounted c.args.order.now c.in_ok-new.new c.args.mounted.now.areas c.make.new.self.areas c.args.mounted.now.pool c.make.new.self.pool c.in_ok-label.label made.written.slot c.requires.anew c.requires.mounted c.make.ensures.ready
     (subst (λ a. first_damaged (slots_in a c.args.mounted.now.areas) ≡ None) c.area_of.ensures.value c.in_ok-refuse_damaged.ensures.none)
-    made.ok c.make.ensures.alone made.written.there made.named made.label made.says c.make.ensures.within.count c.make.ensures.within.contents c.in_ok-new.ensures.asked
+    made.ok c.make.ensures.alone made.written.there made.named made.label made.says c.make.ensures.within.count c.make.ensures.within.contents c.make.ensures.others c.in_ok-new.ensures.asked

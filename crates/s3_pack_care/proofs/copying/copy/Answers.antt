@@ -1,61 +1,22 @@
-use Rattle.std.proofs.Common.{ℕ, ◌*◌, length, sym, ap, ◌∙◌, subst, arith}
-use Rattle.s3_slots.specs.Inner.Kept.{IsOfPack}
-use Rattle.s3_slots.specs.Labels.{sectors_of}
+use Rattle.std.proofs.Common.{ℕ, ◌*◌, List, length, drop, sym, ap, ◌∙◌, subst}
 use Rattle.s3_labels.specs.Contents.{contents_of}
-use Rattle.s3_labels.proofs.Regions.{ready_room}
-use Rattle.s3_pack_check.proofs.Files.{length_bytes}
-use Rattle.s3_pack_care.proofs.Copies.{area_region, as_many, copy_is, on_pack, source_key, source_length}
-use Rattle.s3_pack_care.specs.Inner.Copied.{RefusesCopy}
-use Rattle.s3_pack_care.proofs.Placed.{takes_tracks}
-use Rattle.s3_pack_care.proofs.Refusals.{handed_on, room_refuses}
+use Rattle.s3_pack_care.specs.Inner.Copied.{IsCopy}
+use Rattle.s3_pack_care.specs.Inner.Frames.{ChangesFile, IsInLabelled}
+use Rattle.s3_pack_care.proofs.Frames.{IsSaved, file_only, saved_is}
 use Rattle.s3_pack_care.proofs.copying.copy.Goals as goal
 
-pub room_for-requires-clause-fits : goal.room_for-requires-clause-fits
-room_for-requires-clause-fits c =
-    omega (arith, (area_region c.args.area c.in_ok-store.field-0.areas c.from_bytes.result c.requires.area c.in_ok-store.ensures.ready).high, c.in_ok-store.ensures.ready.few)
+filled : (c : goal.After-drop-after-2) → ChangesFile c.args.area c.args.new_name (λ i. ⊥) (contents_of c.args.into.items) c.in_ok-store.store
+filled c = subst (λ (s : List (List ℕ)). ChangesFile c.args.area c.args.new_name (λ i. ⊥) s c.in_ok-store.store) c.from_bytes.ensures c.in_ok-store.ensures.only
 
-pub room_for-requires-clause-whole : goal.room_for-requires-clause-whole
-room_for-requires-clause-whole c = (area_region c.args.area c.in_ok-store.field-0.areas c.from_bytes.result c.requires.area c.in_ok-store.ensures.ready).whole
-
-pub room_for-requires-clause-key : goal.room_for-requires-clause-key
-room_for-requires-clause-key c = source_key _ c.in_ok-source.source.label c.in_ok-source.ensures.source.on_pack
-
-pub room_for-requires-clause-length : goal.room_for-requires-clause-length
-room_for-requires-clause-length c = source_length _ c.in_ok-source.source.label c.in_ok-source.ensures.source.on_pack
-
-pub room_for-requires-clause-some : goal.room_for-requires-clause-some
-room_for-requires-clause-some c = (takes_tracks _ c.in_ok-source.source.label c.in_ok-source.ensures.source.on_pack).some
-
-pub write_label-requires-clause-room : goal.write_label-requires-clause-room
-write_label-requires-clause-room c =
-    omega (arith, ready_room c.in_ok-store.field-0.areas c.from_bytes.result c.in_ok-store.ensures.ready, ap length c.in_ok-store.ensures.same)
-
-pub write_file-requires-clause-on_pack : goal.write_file-requires-clause-on_pack
-write_file-requires-clause-on_pack c =
-    subst (λ (n : ℕ). IsOfPack n c.in_ok-slot.label) (sym (c.in_ok-write_label.ensures.count ∙ ap length c.in_ok-store.ensures.same))
-    (on_pack c.args.area c.in_ok-slot.slot (length (contents_of c.args.from.items)) c.args.new_name c.in_ok-source.source.label c.in_ok-slot.label c.in_ok-source.source.bytes.items c.in_ok-store.field-0.areas c.from_bytes.result
-    c.requires.area c.in_ok-slot.ensures.slot c.in_ok-store.ensures.ok c.in_ok-store.ensures.ready c.in_ok-source.ensures.source.on_pack c.know_widths.ensures.codes c.in_ok-slot.ensures.named c.know_widths.ensures.date
-    c.in_ok-slot.ensures.room)
-
-pub write_file-requires-clause-room : goal.write_file-requires-clause-room
-write_file-requires-clause-room c =
-    ap length c.deref.ensures.value ∙ ap length c.in_ok-source.ensures.source.has ∙ length_bytes (contents_of c.args.from.items) (sectors_of c.in_ok-source.source.label)
-    ∙ ap (λ (n : ℕ). 256 * n)
-    (sym (as_many c.args.area c.in_ok-slot.slot (length (contents_of c.args.from.items)) c.args.new_name c.in_ok-source.source.label c.in_ok-slot.label c.in_ok-source.source.bytes.items c.in_ok-store.field-0.areas c.from_bytes.result
-    c.requires.area c.in_ok-slot.ensures.slot c.in_ok-store.ensures.ok c.in_ok-store.ensures.ready c.in_ok-source.ensures.source.on_pack c.know_widths.ensures.codes c.in_ok-slot.ensures.named c.know_widths.ensures.date
-    c.in_ok-slot.ensures.room))
+is_saved : (c : goal.After-drop-after-2) → IsSaved c.args.into.items c.in_ok-saved.field-0.items c.in_ok-store.store
+is_saved c =
+    saved_is c.args.into.items c.in_ok-saved.field-0.items c.deref-2.result.now c.in_ok-store.store c.saved.ensures.sectors c.in_ok-saved.ensures.bytes
+    (c.deref-2.ensures.value ∙ c.in_ok-after.ensures.items ∙ c.bytes_after.ensures ∙ ap (λ (p : List ℕ). drop (256 * length (contents_of p)) p) c.deref.ensures.value) (filled c).long
 
 pub returns-clause-copied : goal.returns-clause-copied
 returns-clause-copied c =
-    copy_is c.args.from.items c.args.into.items c.into_bytes.result.items c.args.from_area c.args.name c.args.area c.in_ok-slot.slot c.args.new_name c.in_ok-source.source.label c.in_ok-slot.label c.in_ok-source.source.bytes.items
-    c.in_ok-store.field-0.areas c.from_bytes.result c.in_ok-store.field-0.store c.write_label.new.store c.write_file.new.store c.requires.area c.in_ok-slot.ensures.slot c.in_ok-source.ensures.source c.from_bytes.ensures
-    c.in_ok-store.ensures.ok c.in_ok-store.ensures.ready c.in_ok-store.ensures.same c.know_widths.ensures.codes c.in_ok-slot.ensures.named c.know_widths.ensures.date c.in_ok-slot.ensures.room
-    c.in_ok-write_label.ensures.width c.in_ok-write_label.ensures.written c.in_ok-write_label.ensures.count (c.in_ok-write_file.ensures.ok ∙ c.deref.ensures.value) c.in_ok-write_file.ensures.count c.in_ok-write_file.ensures.sectors
-    c.into_bytes.ensures.sectors
+    subst (λ (n : List (List ℕ)). IsCopy c.args.from_area c.args.name c.args.area c.args.new_name (contents_of c.args.from.items) (contents_of c.args.into.items) n) (sym (is_saved c).seen)
+    (subst (λ (s : List (List ℕ)). IsCopy c.args.from_area c.args.name c.args.area c.args.new_name (contents_of c.args.from.items) s c.in_ok-store.store) c.from_bytes.ensures c.in_ok-store.ensures.copied)
 
-pub returns-in_err-slot-clause-refused : goal.returns-in_err-slot-clause-refused
-returns-in_err-slot-clause-refused c =
-    handed_on (RefusesCopy c.args.from_area c.args.name c.args.area c.args.new_name (contents_of c.args.from.items) (contents_of c.args.into.items)) c.from_residual-in_err-slot.result c.in_err-slot.field-0.0
-    c.from_residual-in_err-slot.ensures.1
-    (room_refuses c.args.from_area c.args.name c.args.area c.args.new_name (contents_of c.args.from.items) (contents_of c.args.into.items) c.in_ok-source.source.label c.in_ok-source.source.bytes.items
-    c.in_ok-store.field-0.areas c.from_bytes.result c.from_bytes.ensures c.in_ok-store.ensures.ok c.in_ok-source.ensures.source c.in_err-slot.field-0.0 c.in_err-slot.ensures.refused)
+pub returns-clause-only : goal.returns-clause-only
+returns-clause-only c = file_only c.args.into.items c.in_ok-saved.field-0.items c.args.area c.args.new_name c.in_ok-store.store c.requires.area (is_saved c) (λ i. ⊥) (IsInLabelled c.args.area c.args.new_name (contents_of c.in_ok-saved.field-0.items)) (filled c) (λ k own. own) (λ i k none within. absurd none)

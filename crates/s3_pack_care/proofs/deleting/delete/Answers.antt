@@ -1,42 +1,23 @@
-use Rattle.std.proofs.Common.{ℕ, List, length, slice_get, sym, ap, ◌∙◌, subst, arith}
-use Rattle.s3_slots.specs.Slots.{slot_bytes}
+use Rattle.std.proofs.Common.{ℕ, ◌*◌, List, length, drop, ap, ◌∙◌, subst}
 use Rattle.s3_labels.specs.Contents.{contents_of}
-use Rattle.s3_labels.specs.Inner.Areas.{IsReady, slots_in}
-use Rattle.s3_labels.proofs.Regions.{ready_room}
-use Rattle.s3_pack_care.specs.Inner.Deleted.{MayFree, RefusesDelete}
-use Rattle.s3_pack_care.specs.Inner.Kept.{IsMounted}
-use Rattle.s3_pack_care.proofs.Deletes.{chosen_so, deleted_is, slot_refuses, trial_refuses}
-use Rattle.s3_pack_care.proofs.Refusals.{handed_on}
+use Rattle.s3_pack_care.specs.Inner.Deleted.{IsFreed, MayGo}
+use Rattle.s3_pack_care.proofs.Deletes.{deleted_is, deleted_only}
+use Rattle.s3_pack_care.proofs.Frames.{IsSaved, saved_is}
 use Rattle.s3_pack_care.proofs.deleting.delete.Goals as goal
 
-pub read_slot-requires-clause-room : goal.read_slot-requires-clause-room
-read_slot-requires-clause-room c = omega (arith, ready_room c.in_ok-store.field-0.areas c.from_bytes.result c.in_ok-store.ensures.ready, ap length c.in_ok-store.ensures.same)
+freed : (c : goal.After-drop-after-2) → IsFreed c.args.area c.args.chosen (contents_of c.args.pack.items) c.in_ok-store.store
+freed c = subst (λ (s : List (List ℕ)). IsFreed c.args.area c.args.chosen s c.in_ok-store.store) c.from_bytes.ensures c.in_ok-store.ensures.freed
 
-pub relabelled-requires-clause-mounted : goal.relabelled-requires-clause-mounted
-relabelled-requires-clause-mounted c = subst (λ (s : List (List ℕ)). IsMounted c.in_ok-store.field-0.areas s) (sym (c.read_slot.ensures.keeps ∙ c.in_ok-store.ensures.same)) c.in_ok-store.ensures.ok
-
-pub relabelled-requires-clause-ready : goal.relabelled-requires-clause-ready
-relabelled-requires-clause-ready c = subst (λ (s : List (List ℕ)). IsReady c.in_ok-store.field-0.areas s) (sym (c.read_slot.ensures.keeps ∙ c.in_ok-store.ensures.same)) c.in_ok-store.ensures.ready
+is_saved : (c : goal.After-drop-after-2) → IsSaved c.args.pack.items c.in_ok-saved.field-0.items c.in_ok-store.store
+is_saved c =
+    saved_is c.args.pack.items c.in_ok-saved.field-0.items c.deref-2.result.now c.in_ok-store.store c.saved.ensures.sectors c.in_ok-saved.ensures.bytes (c.deref-2.ensures.value ∙ c.in_ok-after.ensures.items ∙ c.bytes_after.ensures ∙ ap (λ (p : List ℕ). drop (256 * length (contents_of p)) p) c.deref.ensures.value)
+    (freed c).long
 
 pub returns-clause-deleted : goal.returns-clause-deleted
-returns-clause-deleted c = λ header slot mounts chosen.
-    deleted_is c.args.pack.items c.into_bytes.result.items c.args.chosen c.args.area c.in_ok-slot.slot c.in_ok-store.field-0.areas c.from_bytes.result c.read_slot.new.store c.in_ok-new.new.store
-    c.requires c.in_ok-slot.ensures.within c.from_bytes.ensures c.in_ok-store.ensures.ok (c.read_slot.ensures.keeps ∙ c.in_ok-store.ensures.same) c.in_ok-slot.ensures.chosen c.in_ok-new.ensures.ok c.into_bytes.ensures.sectors
-    c.in_ok-new.ensures.ready.few header slot mounts chosen
+returns-clause-deleted c = deleted_is c.args.pack.items c.in_ok-saved.field-0.items c.args.chosen c.args.area c.in_ok-store.store c.requires (freed c) (is_saved c)
+
+pub returns-clause-only : goal.returns-clause-only
+returns-clause-only c = deleted_only c.args.pack.items c.in_ok-saved.field-0.items c.args.chosen c.args.area c.in_ok-store.store c.requires (freed c) (is_saved c)
 
 pub returns-clause-permitted : goal.returns-clause-permitted
-returns-clause-permitted c =
-    chosen_so c.args.area c.args.chosen c.args.is_permanent_meant (contents_of c.args.pack.items) c.in_ok-store.field-0.areas c.from_bytes.result c.from_bytes.ensures c.in_ok-store.ensures.ok c.in_ok-slot.slot _ c.in_ok-bytes.bytes
-    (λ s b. MayFree s b c.args.is_permanent_meant) c.in_ok-slot.ensures.chosen (sym (ap (slice_get (slots_in c.args.area c.in_ok-store.field-0.areas)) c.from.ensures) ∙ c.slot.ensures) (c.in_ok-bytes.ensures.ok ∙ ap (λ s. slot_bytes c.args.area s c.in_ok-slot.slot) c.in_ok-store.ensures.same) c.in_ok-permit.ensures.permitted
-
-pub returns-in_err-permit-clause-refused : goal.returns-in_err-permit-clause-refused
-returns-in_err-permit-clause-refused c =
-    handed_on (RefusesDelete c.args.area c.args.chosen c.args.is_permanent_meant (contents_of c.args.pack.items)) c.from_residual-in_err-permit.result c.in_err-permit.field-0.0 c.from_residual-in_err-permit.ensures.1
-    (slot_refuses c.args.area c.args.chosen c.args.is_permanent_meant (contents_of c.args.pack.items) c.in_ok-store.field-0.areas c.from_bytes.result c.from_bytes.ensures c.in_ok-store.ensures.ok c.in_ok-slot.slot _ c.in_ok-bytes.bytes
-    c.in_err-permit.field-0.0 c.in_ok-slot.ensures.chosen (sym (ap (slice_get (slots_in c.args.area c.in_ok-store.field-0.areas)) c.from.ensures) ∙ c.slot.ensures) (c.in_ok-bytes.ensures.ok ∙ ap (λ s. slot_bytes c.args.area s c.in_ok-slot.slot) c.in_ok-store.ensures.same) c.in_err-permit.ensures.refused)
-
-pub returns-in_err-new-clause-refused : goal.returns-in_err-new-clause-refused
-returns-in_err-new-clause-refused c =
-    handed_on (RefusesDelete c.args.area c.args.chosen c.args.is_permanent_meant (contents_of c.args.pack.items)) c.from_residual-in_err-new.result c.in_err-new.field-0.0 c.from_residual-in_err-new.ensures.1
-    (trial_refuses c.args.area c.args.chosen c.args.is_permanent_meant (contents_of c.args.pack.items) c.in_ok-store.field-0.areas c.from_bytes.result c.from_bytes.ensures c.in_ok-store.ensures.ok c.in_ok-slot.slot
-    c.read_slot.new.store c.in_err-new.field-0.0 c.in_ok-slot.ensures.chosen (c.read_slot.ensures.keeps ∙ c.in_ok-store.ensures.same) c.in_err-new.ensures.refused)
+returns-clause-permitted c = subst (λ (s : List (List ℕ)). MayGo c.args.area c.args.chosen c.args.is_permanent_meant s) c.from_bytes.ensures c.in_ok-store.ensures.permitted

@@ -1,43 +1,22 @@
-use Rattle.std.proofs.Common.{◌≡◌, Ok, ℕ, List, length, sym, ap, ◌∙◌, subst, arith}
-use Rattle.s3_slots.specs.Inner.Kept.{IsOfPack}
-use Rattle.s3_slots.specs.Slots.{standing}
-use Rattle.s3_pack_care.proofs.Copies.{on_pack_by_name}
-use Rattle.s3_slots.specs.Header.{mounted}
+use Rattle.std.proofs.Common.{ℕ, ◌*◌, List, length, drop, sym, ap, ◌∙◌, subst}
 use Rattle.s3_labels.specs.Contents.{contents_of}
-use Rattle.s3_pack_care.specs.Inner.Sorted.{RefusesSort, of_care}
-use Rattle.s3_pack_care.proofs.SortRefusals.{absent_refuses, blocked_refuses, by_mount, handed_on}
-use Rattle.s3_pack_care.proofs.SortedPacks.{sorted_is}
+use Rattle.s3_pack_care.specs.Inner.Frames.{ChangesRecords}
+use Rattle.s3_pack_care.specs.Inner.Sorted.{IsSorted}
+use Rattle.s3_pack_care.proofs.Frames.{IsSaved, records_only, saved_is}
 use Rattle.s3_pack_care.proofs.sorting.sort.Goals as goal
 
-pub sort_label-requires : goal.sort_label-requires
-sort_label-requires c =
-    subst (λ (s : List (List ℕ)). IsOfPack (length s) c.in-Present.label) (sym c.in_ok-store.ensures.same)
-    (on_pack_by_name c.args.area c.in_ok-store.field-0.areas c.from_bytes.result c.args.name c.in-Present.label c.requires (sym (c.standing_of.ensures ∙ ap (standing c.args.name) c.slots_of.ensures.slots) ∙ c.in-Present.is) c.in_ok-store.ensures.ready)
+changed : (c : goal.After-drop-after-2) → ChangesRecords c.args.area c.args.name (contents_of c.args.pack.items) c.in_ok-store.store
+changed c = subst (λ (s : List (List ℕ)). ChangesRecords c.args.area c.args.name s c.in_ok-store.store) c.from_bytes.ensures c.in_ok-store.ensures.only
 
-pub returns-in_ok-sort_label-in-Present-clause-sorted : goal.returns-in_ok-sort_label-in-Present-clause-sorted
-returns-in_ok-sort_label-in-Present-clause-sorted c =
-    let is_mounted : mounted (contents_of c.args.pack.items) ≡ Ok c.in_ok-store.field-0.areas.header = sym (ap mounted c.from_bytes.ensures) ∙ c.in_ok-store.ensures.ok.mounts in
-    record {
-      header = c.in_ok-store.field-0.areas.header;
-      is_mounted = is_mounted;
-      sorted =
-          sorted_is c.args.area c.args.name c.args.fields.now c.in-Present.label c.in_ok-store.field-0.areas c.args.pack.items c.into_bytes.result.items c.from_bytes.result c.in_ok-store.field-0.store c.sort_label.new.store
-          c.requires c.from_bytes.ensures c.in_ok-store.ensures.ok c.in_ok-store.ensures.same (sym (c.standing_of.ensures ∙ ap (standing c.args.name) c.slots_of.ensures.slots) ∙ c.in-Present.is)
-          c.in_ok-sort_label-in-Present.ensures.in_order c.in_ok-sort_label-in-Present.ensures.within c.in_ok-sort_label-in-Present.ensures.sorted c.in_ok-sort_label-in-Present.ensures.count c.in_ok-sort_label-in-Present.ensures.others c.into_bytes.ensures.sectors
-          (omega (arith, c.in_ok-sort_label-in-Present.ensures.count, ap length c.in_ok-store.ensures.same, c.in_ok-store.ensures.ready.few)) c.in_ok-store.field-0.areas.header is_mounted;
-    }
+is_saved : (c : goal.After-drop-after-2) → IsSaved c.args.pack.items c.in_ok-saved.field-0.items c.in_ok-store.store
+is_saved c =
+    saved_is c.args.pack.items c.in_ok-saved.field-0.items c.deref-2.result.now c.in_ok-store.store c.saved.ensures.sectors c.in_ok-saved.ensures.bytes
+    (c.deref-2.ensures.value ∙ c.in_ok-after.ensures.items ∙ c.bytes_after.ensures ∙ ap (λ (p : List ℕ). drop (256 * length (contents_of p)) p) c.deref.ensures.value) (changed c).long
 
-pub returns-in_err-store-clause-refused : goal.returns-in_err-store-clause-refused
-returns-in_err-store-clause-refused c =
-    handed_on (RefusesSort c.args.area c.args.name c.args.fields.now (contents_of c.args.pack.items)) c.from_residual.result (of_care c.in_err-store.field-0.0) c.from_residual.ensures.1
-    (by_mount c.args.area c.args.name c.args.fields.now (contents_of c.args.pack.items) c.from_bytes.result c.in_err-store.field-0.0 c.from_bytes.ensures c.in_err-store.ensures.err)
+pub returns-clause-sorted : goal.returns-clause-sorted
+returns-clause-sorted c =
+    subst (λ (n : List (List ℕ)). IsSorted c.args.area c.args.name c.args.fields.now (contents_of c.args.pack.items) n) (sym (is_saved c).seen)
+    (subst (λ (s : List (List ℕ)). IsSorted c.args.area c.args.name c.args.fields.now s c.in_ok-store.store) c.from_bytes.ensures c.in_ok-store.ensures.sorted)
 
-pub returns-in-Absent-clause-refused : goal.returns-in-Absent-clause-refused
-returns-in-Absent-clause-refused c =
-    absent_refuses c.args.area c.args.name c.args.fields.now (contents_of c.args.pack.items) c.in_ok-store.field-0.areas c.from_bytes.result c.from_bytes.ensures c.in_ok-store.ensures.ok
-    (sym (c.standing_of.ensures ∙ ap (standing c.args.name) c.slots_of.ensures.slots) ∙ c.in-Absent.is)
-
-pub returns-in-Blocked-clause-refused : goal.returns-in-Blocked-clause-refused
-returns-in-Blocked-clause-refused c =
-    blocked_refuses c.args.area c.args.name c.args.fields.now (contents_of c.args.pack.items) c.in_ok-store.field-0.areas c.from_bytes.result c.from_bytes.ensures c.in_ok-store.ensures.ok
-    (sym (c.standing_of.ensures ∙ ap (standing c.args.name) c.slots_of.ensures.slots) ∙ c.in-Blocked.is)
+pub returns-clause-only : goal.returns-clause-only
+returns-clause-only c = records_only c.args.pack.items c.in_ok-saved.field-0.items c.args.area c.args.name c.in_ok-store.store c.requires (is_saved c) (changed c)
