@@ -1,1 +1,4 @@
 pub mod Answering
+pub mod WordLemmas
+pub mod ReadingLemmas
+pub mod ListLemmas

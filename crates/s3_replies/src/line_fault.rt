@@ -17,14 +17,17 @@ pub enum LineFault {
     /// The third word is no digit.
     #[error("the reply is one digit")]
     Digit,
-    /// The halt, or each of them, never allows the digit. The text has those that it allows.
-    #[error("the digit is never allowed here: it may be {0}")]
-    NotAllowed(&'static str),
+    /// The halt, or each of them, never allows the digit; it allows 0, 2 and 3.
+    #[error("the digit is never allowed here: it may be 0, 2 or 3")]
+    NotOfThree,
+    /// The halt never allows the digit; it allows 2 and 3.
+    #[error("the digit is never allowed here: it may be 2 or 3")]
+    NotOfTwo,
     /// The fourth word is no name of a program.
     #[error("a program's name begins with a letter, $ or @, and has at most 6 of these, # and digits")]
     Program,
     /// There are more than four words.
-    #[error("there is more behind the program's name")]
+    #[error("there is more after the program's name")]
     TooLong,
 }
 
