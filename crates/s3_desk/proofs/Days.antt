@@ -1,6 +1,5 @@
 -- A day over a pack: what comes of a bureau that was opened, operated and finished.
-use Rattle.std.proofs.Common.{◌≡◌, ℕ, List, [], ◌∷◌, true, Option, Some, None, Result, Ok, refl, sym, subst}
-use Rattle.std.specs.List.{AllByRecursion as Each}
+use Rattle.std.proofs.Common.{◌≡◌, ℕ, List, [], ◌∷◌, true, false, inl, Option, Some, None, Result, Ok, refl, sym, subst}
 use Rattle.s3_cards.specs.declared.levels.LevelId.{LevelId}
 use Rattle.s3_cards.specs.declared.levels.LevelId.TheVariants.{One, Two}
 use Rattle.s3_operator.specs.Halts.{ShownHalt}
@@ -18,10 +17,12 @@ use Rattle.s3_bureau.specs.Entries.{own}
 use Rattle.s3_bureau.specs.Sharing.{IsCommon, IsOwn}
 use Rattle.s3_bureau.specs.Inner.Held.{HoldsFor, State, header_of, held_by, is_open, level_of, rests}
 use Rattle.s3_bureau.specs.Inner.Underway.{LeavesSectors, Performs, ReadsDeck}
+use Rattle.s3_desk.specs.declared.ends.Bounds.{Bounds}
 use Rattle.s3_desk.specs.declared.ends.Ends.{Ends}
-use Rattle.s3_desk.specs.Inner.Days.{EndSo, HasWaitedIn, IsAnswered, WaitedIn, starts_in}
-use Rattle.s3_desk.specs.Inner.Desk.{AreAmong, Asks, EndsAs, HasWaited, Waited, answers_in, replies_in}
-use Rattle.s3_desk.specs.Inner.Events.{Asked, Event, Followed, Shown}
+use Rattle.s3_desk.specs.Inner.Days.{EndSo, IsAnswered, starts_in}
+use Rattle.s3_desk.specs.Inner.Desk.{EndsAs, HasReached}
+use Rattle.s3_desk.specs.Inner.Events.{Event}
+use Rattle.s3_desk.specs.Inner.Rounds.{Shows, Sits, SitsFrom}
 use Rattle.s3_desk.specs.Inner.Operated.{IsAfter, KeepsCommon}
 
 -- ---- before the first entry
@@ -84,35 +85,23 @@ pub starts_of : (bureau : State) (header : Header) (contents : List (List ℕ)) 
     → HoldsStarts bureau (header_of bureau) contents deck1 deck2 → HoldsStarts bureau header contents deck1 deck2
 starts_of bureau header contents deck1 deck2 mount is held = subst (λ (h : Header). HoldsStarts bureau h contents deck1 deck2) (same_header (header_of bureau) header (mounted contents) mount is) held
 
-waited_in : (starts : LevelId → World) (entries : List Entry) (bureau : State) → ((level : LevelId) → HoldsFor level bureau (starts level)) → (level : LevelId) (halt : ShownHalt)
-    → Waited (λ (b : State) (level : LevelId) (w : World). HoldsFor level b w) [] entries bureau level halt → WaitedIn starts entries level halt
-waited_in starts entries bureau held level halt waited = record {
-  front = waited.front;
-  behind = waited.behind;
-  whole = waited.whole;
-  unanswered = waited.unanswered;
-  waits = waited.waits bureau (λ level w is. is) (starts level) (held level);
-}
+no_halts : (level : LevelId) (header : Header) (contents : List (List ℕ)) (deck1 deck2 : List ℕ) → (starts_in header contents deck1 deck2 level).halts ≡ []
+no_halts One header contents deck1 deck2 = refl
+no_halts Two header contents deck1 deck2 = refl
 
-has_waited_in : (starts : LevelId → World) (entries : List Entry) (bureau : State) → ((level : LevelId) → HoldsFor level bureau (starts level)) → (event : Event)
-    → HasWaited (λ (b : State) (level : LevelId) (w : World). HoldsFor level b w) [] entries bureau event → HasWaitedIn starts entries event
-has_waited_in starts entries bureau held (Followed level) waited = tt
-has_waited_in starts entries bureau held (Shown level halt) waited = waited_in starts entries bureau held level halt waited
-has_waited_in starts entries bureau held (Asked level halt reply) waited = waited_in starts entries bureau held level halt waited
+-- before a day there is no halt, and none was shown
+nothing_shown : (halts : List ShownHalt) → halts ≡ [] → Shows halts [] false
+nothing_shown halts none = subst (λ (hs : List ShownHalt). Shows hs [] false) (sym none) (inl (record { all = refl; mark = refl }))
 
-all_waited_in : (starts : LevelId → World) (entries : List Entry) (bureau : State) → ((level : LevelId) → HoldsFor level bureau (starts level)) → (events : List Event)
-    → Each (HasWaited (λ (b : State) (level : LevelId) (w : World). HoldsFor level b w) [] entries bureau) events → Each (HasWaitedIn starts entries) events
-all_waited_in starts entries bureau held [] each = tt
-all_waited_in starts entries bureau held (event ∷ events) each = (has_waited_in starts entries bureau held event each.0, all_waited_in starts entries bureau held events each.1)
-
-pub answered_in : {O : Type 0} (meets : O → Event → O → Type 0) (starts : LevelId → World) (entries : List Entry) (bureau : State) (from to : O) → ((level : LevelId) → HoldsFor level bureau (starts level))
-    → Asks (λ (b : State) (level : LevelId) (w : World). HoldsFor level b w) meets [] entries bureau from to → IsAnswered meets starts entries from to
-answered_in meets starts entries bureau from to held asks = record {
-  events = asks.events;
-  met = asks.met;
-  waited = all_waited_in starts entries bureau held asks.events asks.waited;
-  given = subst (λ (es : List Entry). AreAmong (replies_in es) (answers_in asks.events)) (sym asks.whole) asks.given;
-}
+pub answered_in : {O : Type 0} (meets : O → Event → O → Type 0) (header : Header) (contents : List (List ℕ)) (deck1 deck2 : List ℕ) (bounds : Bounds) (entries : List Entry) (bureau : State) (ends : Ends) (from to : O)
+    → HoldsStarts bureau header contents deck1 deck2
+    → SitsFrom (λ (b : State) (level : LevelId) (w : World). HoldsFor level b w) meets (λ level es. HasReached level [] es bounds) [] entries bureau from to false false false false (Some ends)
+    → IsAnswered meets (starts_in header contents deck1 deck2) bounds entries ends from to
+answered_in meets header contents deck1 deck2 bounds entries bureau ends from to held sits =
+    let starts : LevelId → World = starts_in header contents deck1 deck2 in
+    let is : Sits meets starts (λ level es. HasReached level [] es bounds) [] entries from to false false (Some ends) =
+    sits bureau starts [] (record { held = held; performed = λ level w is. is; whole = refl }) (nothing_shown (starts One).halts (no_halts One header contents deck1 deck2)) (nothing_shown (starts Two).halts (no_halts Two header contents deck1 deck2)) in
+    record { day = is.day; whole = is.passes.whole; met = is.passes.met; fits = is.passes.fits; shown = is.left.0; one_halted = is.left.1.0; two_halted = is.left.1.1 }
 
 starts_rest : (level : LevelId) (header : Header) (contents : List (List ℕ)) (deck1 deck2 : List ℕ) → (starts_in header contents deck1 deck2 level).job ≡ None
 starts_rest One header contents deck1 deck2 = refl

@@ -1,10 +1,8 @@
 -- Entries that are noted at a desk, and those that aren't since they did nothing.
-use Rattle.std.proofs.Common.{◌≡◌, ◌≢◌, ◌⊎◌, inl, inr, ◌<◌, ◌≤◌, ◌+◌, ◌*◌, ℕ, zero, suc, Bool, true, false, List, [], ◌∷◌, ◌++◌, replicate, append_assoc, if◌then◌else◌, Result, Ok, Err, Option, Some, None, OnOk, refl, sym, ap, ap₂, subst, ◌∙◌, arith}
-use Rattle.std.specs.Prelude.{cond, filter, length, option_map}
-use Rattle.std.specs.List.{AllByRecursion as Each, cons_option}
+use Rattle.std.proofs.Common.{◌≡◌, ◌≢◌, ◌⊎◌, inl, inr, ◌<◌, ◌≤◌, ◌+◌, ◌*◌, ℕ, zero, suc, Bool, true, false, List, [], ◌∷◌, ◌++◌, replicate, append_assoc, if◌then◌else◌, Result, Ok, Err, refl, sym, ap, ap₂, subst, ◌∙◌, arith}
+use Rattle.std.specs.Prelude.{cond, filter, length}
 use Rattle.std.proofs.lemmas.List.{append-nil, length-append}
 use Rattle.std.proofs.lemmas.List.Elements.{filter-append}
-use Rattle.s3_operator.specs.Halts.{ShownHalt, last_halt}
 use Rattle.s3_cards.specs.Inner.Levels.{other}
 use Rattle.s3_cards.specs.declared.levels.LevelId.{LevelId}
 use Rattle.s3_cards.specs.declared.levels.LevelId.TheVariants.{One, Two}
@@ -30,9 +28,9 @@ use Rattle.s3_desk.specs.declared.desk.Went.{Went}
 use Rattle.s3_desk.specs.declared.desk.Went.TheVariants.{On, Rests, Cut}
 use Rattle.s3_bureau.specs.Entries.{own, with_action}
 use Rattle.s3_bureau.specs.Inner.Underway.{Performs}
-use Rattle.s3_desk.specs.Inner.Desk.{AreAmong, AreMet, Asks, AsksLevel, BothEnd, DidNothing, DrainsQueue, DrainsSoFar, EndsAs, GivesReply, GoesOn, HasReached, HasWaited, IsLeft, IsLeftAt, IsQuiet, IsSpent, Keeps, LevelGoes, LevelGoesOn, MayFollow, RestsAt, Spends, Uses, Waited, answer_in, answers_in, is_drain, is_reply, is_turn, lines_in, replies_in, replies_left, room, turns_in}
+use Rattle.s3_desk.specs.Inner.Desk.{AreMet, AsksLevel, BothEnd, Counts, DidNothing, DrainsQueue, DrainsSoFar, EndsAs, GivesReply, GoesOn, HasReached, HasReplied, IsLeft, IsLeftAt, IsQuiet, IsSpent, Keeps, LevelGoes, LevelGoesOn, RestsAt, Spends, Uses, is_drain, is_reply, is_turn, lines_in, replies_in, replies_left, replies_taken, room, turns_in}
 use Rattle.s3_desk.specs.Inner.Calls.{GoesAfter}
-use Rattle.s3_desk.specs.Inner.Events.{Asked, Event, Followed, Shown}
+use Rattle.s3_desk.specs.Inner.Events.{Event}
 use Rattle.s3_bureau.proofs.Performing.{performs_then, times_more}
 
 -- ---- entries that did nothing
@@ -154,27 +152,8 @@ replies_joined (x ∷ xs) ys = by (is_reply x.action) (replies_joined xs ys)
     by true later = ap (λ es. x ∷ es) later
     by false later = later
 
-answers_joined : (xs ys : List Event) → answers_in (xs ++ ys) ≡ answers_in xs ++ answers_in ys
-answers_joined [] ys = refl
-answers_joined (x ∷ xs) ys = by (answer_in x) (answers_joined xs ys)
-  where
-    by : (o : Option Entry) → answers_in (xs ++ ys) ≡ answers_in xs ++ answers_in ys → cons_option o (answers_in (xs ++ ys)) ≡ cons_option o (answers_in xs) ++ answers_in ys
-    by None later = later
-    by (Some entry) later = ap (λ es. entry ∷ es) later
-
--- ---- entries among others
-among_later : (xs ys zs : List Entry) → AreAmong xs zs → AreAmong xs (ys ++ zs)
-among_later xs [] zs are = are
-among_later [] (y ∷ ys) zs are = tt
-among_later (x ∷ xs) (y ∷ ys) zs are = inr (among_later (x ∷ xs) ys zs are)
-
-among_joined : (xs ys xs' ys' : List Entry) → AreAmong xs ys → AreAmong xs' ys' → AreAmong (xs ++ xs') (ys ++ ys')
-among_joined [] ys xs' ys' one other = among_later xs' ys ys' other
-among_joined (x ∷ xs) [] xs' ys' one other = absurd one
-among_joined (x ∷ xs) (y ∷ ys) xs' ys' (inl one) other = inl (one.0, among_joined xs ys xs' ys' one.1 other)
-among_joined (x ∷ xs) (y ∷ ys) xs' ys' (inr one) other = inr (among_joined (x ∷ xs) ys xs' ys' one other)
-
-met_joined : {O : Type 0} (meets : O → Event → O → Type 0) (one other : List Event) (from middle to : O) → AreMet meets from one middle → AreMet meets middle other to → AreMet meets from (one ++ other) to
+-- ---- what the operator met
+pub met_joined : {O : Type 0} (meets : O → Event → O → Type 0) (one other : List Event) (from middle to : O) → AreMet meets from one middle → AreMet meets middle other to → AreMet meets from (one ++ other) to
 met_joined meets [] other from middle to same more = subst (λ o. AreMet meets o other to) same more
 met_joined meets (event ∷ one) other from middle to met more = (met.0, (met.1.0, met_joined meets one other met.0 middle to met.1.1 more))
 
@@ -278,6 +257,34 @@ spent_cut level was is old new On uses not_on not_rests = absurd (not_on refl)
 spent_cut level was is old new Rests uses not_on not_rests = absurd (not_rests refl)
 spent_cut level was is old new Cut uses not_on not_rests = uses.all refl
 
+-- ---- how many replies are counted
+pub counts_then : (level : LevelId) (was between is : List Entry) (old middle new : ℕ) → Counts level was between old middle → Counts level between is middle new → Counts level was is old new
+counts_then level was between is old middle new ahead next = omega (arith, ahead, next)
+
+pub counts_same : (level : LevelId) (was is : List Entry) (answers : ℕ) → own level is ≡ own level was → Counts level was is answers answers
+counts_same level was is answers same = let count : replies_taken level is ≡ replies_taken level was = ap (λ (actions : List Action). length (filter is_reply actions)) same in omega (arith, count)
+
+more_replies : (level : LevelId) (was is more : List Entry) → is ≡ was ++ more → replies_taken level was ≤ replies_taken level is
+more_replies level was is more whole =
+    let count : replies_taken level is ≡ replies_taken level was + length (filter is_reply (own level more)) =
+    ap (λ es. length (filter is_reply (own level es))) whole
+    ∙ (ap (λ (actions : List Action). length (filter is_reply actions)) (own-append level was more)
+    ∙ (ap length (filter-append is_reply (own level was) (own level more)) ∙ length-append (filter is_reply (own level was)) (filter is_reply (own level more)))) in
+    omega (arith, count)
+
+pub has_replied : (level : LevelId) (was between is : List Entry) (old new : ℕ) → Counts level was between 0 old → Counts level between is old new → new ≡ 65535 → HasReplied level was is
+has_replied level was between is old new ahead next most = omega (arith, ahead, next, most)
+
+-- a level goes on, and no more replies are counted than before
+pub counts_fewer : (level : LevelId) (was is more : List Entry) (old new : ℕ) → is ≡ was ++ more → new ≤ old → Counts level was is old new
+counts_fewer level was is more old new whole fewer = omega (arith, more_replies level was is more whole, fewer)
+
+-- a reply is taken
+pub counts_reply : (level : LevelId) (digit : ℕ) (was is : List Entry) → is ≡ was ++ record { level = level; action = Reply digit } ∷ [] → Counts level was is 0 1
+counts_reply level digit was is whole =
+    let count : replies_taken level is ≡ replies_taken level was + 1 = fit_more is_reply was is 1 1 (record { level = level; action = Reply digit }) whole refl in
+    omega (arith, count)
+
 -- ---- what is left to do
 pub few_replies : (seat : Seat) → replies_left seat ≤ 65535
 few_replies seat = omega arith
@@ -340,9 +347,6 @@ module _ {M : Type 0} (holds : M → LevelId → World → Type 0) where
   -- ---- one behind the other
   unmoved : (was : List Entry) (old : M) → IsQuiet holds was was old old
   unmoved was old = record { same = refl; keeps = λ level w held. held }
-
-  pub quiet_none : (was : List Entry) (old : M) → IsQuiet holds was was old old
-  quiet_none = unmoved
 
   kept : (entries : List Entry) (first middle last : M) → Performs entries (holds first) (holds middle) → Keeps holds middle last → Performs entries (holds first) (holds last)
   kept entries first middle last performed keeps level w held = keeps level (solo w (own level entries)) (performed level w held)
@@ -439,7 +443,7 @@ module _ {M : Type 0} (holds : M → LevelId → World → Type 0) where
   pub asks_quiet : (level : LevelId) (was is : List Entry) (old new : M) (replied : Bool) → AsksLevel holds level was is old new (Ok replied) → replied ≡ false → IsQuiet holds was is old new
   asks_quiet level was is old new replied asks none = subst (λ (b : Bool). AsksLevel holds level was is old new (Ok b)) none asks
 
-  at_rest_so : (level : LevelId) (was is : List Entry) (old new : M) (went : Went) → LevelGoesOn holds level was is old new (Ok went) → went ≡ Rests → IsLeftAt holds level was is old new
+  pub at_rest_so : (level : LevelId) (was is : List Entry) (old new : M) (went : Went) → LevelGoesOn holds level was is old new (Ok went) → went ≡ Rests → IsLeftAt holds level was is old new
   at_rest_so level was is old new went goes is_at = subst (λ (x : Went). LevelGoesOn holds level was is old new (Ok x)) is_at goes
 
   module _ (was p1 p2 p3 p4 : List Entry) (old b1 b2 b3 b4 : M) (one two : Went) (one_goes : LevelGoesOn holds One was p1 old b1 (Ok one)) (two_goes : LevelGoesOn holds Two p1 p2 b1 b2 (Ok two)) where
@@ -473,174 +477,18 @@ module _ {M : Type 0} (holds : M → LevelId → World → Type 0) where
     two = λ first before. next.two first (ahead first before);
   }
 
-  pub both_cut : (was is : List Entry) (old new : M) → GoesOn holds was is old new → BothEnd holds was is old new (record { one = CutOff; two = CutOff })
-  both_cut was is old new goes = record { goes = goes; one = λ first before w held. tt; two = λ first before w held. tt }
-
-  -- ---- what the operator met
-  module _ {O : Type 0} (meets : O → Event → O → Type 0) where
-    -- nothing
-    pub asks_none : (level : LevelId) (was is : List Entry) (old new : M) (operator : O) → LevelGoes holds level [] was is old new → Asks holds meets was is old operator operator
-    asks_none level was is old new operator goes = record {
-      events = [];
-      met = refl;
-      waited = tt;
-      more = goes.more;
-      whole = goes.whole;
-      given = subst (λ (es : List Entry). AreAmong es []) (sym goes.are) tt;
-    }
-
-    pub asks_nothing : (was : List Entry) (old : M) (operator : O) → Asks holds meets was was old operator operator
-    asks_nothing was old operator = asks_none One was was old old operator (quiet_goes One was was old old (unmoved was old))
-
-    -- the level has gone on
-    pub asks_followed : (level : LevelId) (was is : List Entry) (old new : M) (from to : O) → meets from (Followed level) to → LevelGoes holds level [] was is old new → Asks holds meets was is old from to
-    asks_followed level was is old new from to met goes = record {
-      events = Followed level ∷ [];
-      met = (to, (met, refl));
-      waited = (tt, tt);
-      more = goes.more;
-      whole = goes.whole;
-      given = subst (λ (es : List Entry). AreAmong es []) (sym goes.are) tt;
-    }
-
-    pub asks_may_follow : (level : LevelId) (was is : List Entry) (old new : M) (from to : O) → MayFollow meets level from to → LevelGoes holds level [] was is old new → Asks holds meets was is old from to
-    asks_may_follow level was is old new from to (inl same) goes = subst (Asks holds meets was is old from) (sym same) (asks_none level was is old new from goes)
-    asks_may_follow level was is old new from to (inr met) goes = asks_followed level was is old new from to met goes
-
-    waited_on : (was between is more : List Entry) (old : M) (level : LevelId) (halt : ShownHalt) → is ≡ between ++ more → Waited holds was between old level halt → Waited holds was is old level halt
-    waited_on was between is more old level halt whole waited = record {
-      front = waited.front;
-      behind = waited.behind ++ more;
-      whole = whole ∙ (ap (λ es. es ++ more) waited.whole ∙ append_assoc waited.front waited.behind more);
-      unanswered = waited.unanswered;
-      waits = waited.waits;
-    }
-
-    has_waited_on : (was between is more : List Entry) (old : M) → is ≡ between ++ more → (event : Event) → HasWaited holds was between old event → HasWaited holds was is old event
-    has_waited_on was between is more old whole (Followed level) waited = tt
-    has_waited_on was between is more old whole (Shown level halt) waited = waited_on was between is more old level halt whole waited
-    has_waited_on was between is more old whole (Asked level halt reply) waited = waited_on was between is more old level halt whole waited
-
-    waited_before : (was between is : List Entry) (old middle : M) (level : LevelId) (halt : ShownHalt) → GoesOn holds was between old middle → Waited holds between is middle level halt → Waited holds was is old level halt
-    waited_before was between is old middle level halt goes waited = record {
-      front = waited.front;
-      behind = waited.behind;
-      whole = waited.whole;
-      unanswered = waited.unanswered;
-      waits = λ first before w held. waited.waits first (goes first before) w held;
-    }
-
-    has_waited_before : (was between is : List Entry) (old middle : M) → GoesOn holds was between old middle → (event : Event) → HasWaited holds between is middle event → HasWaited holds was is old event
-    has_waited_before was between is old middle goes (Followed level) waited = tt
-    has_waited_before was between is old middle goes (Shown level halt) waited = waited_before was between is old middle level halt goes waited
-    has_waited_before was between is old middle goes (Asked level halt reply) waited = waited_before was between is old middle level halt goes waited
-
-    all_waited : (P Q : Event → Type 0) (events : List Event) → ((event : Event) → P event → Q event) → Each P events → Each Q events
-    all_waited P Q [] go each = tt
-    all_waited P Q (event ∷ events) go each = (go event each.0, all_waited P Q events go each.1)
-
-    all_joined : (P : Event → Type 0) (one other : List Event) → Each P one → Each P other → Each P (one ++ other)
-    all_joined P [] other first second = second
-    all_joined P (event ∷ one) other first second = (first.0, all_joined P one other first.1 second)
-
-    -- one part of a day behind another
-    pub asks_then : (was between is : List Entry) (old middle : M) (from half to : O) → GoesOn holds was between old middle → Asks holds meets was between old from half → Asks holds meets between is middle half to
-        → Asks holds meets was is old from to
-    asks_then was between is old middle from half to goes ahead next = record {
-      events = ahead.events ++ next.events;
-      met = met_joined meets ahead.events next.events from half to ahead.met next.met;
-      waited = all_joined (HasWaited holds was is old) ahead.events next.events
-          (all_waited (HasWaited holds was between old) (HasWaited holds was is old) ahead.events (has_waited_on was between is next.more old next.whole) ahead.waited)
-          (all_waited (HasWaited holds between is middle) (HasWaited holds was is old) next.events (has_waited_before was between is old middle goes) next.waited);
-      more = ahead.more ++ next.more;
-      whole = next.whole ∙ (ap (λ es. es ++ next.more) ahead.whole ∙ append_assoc was ahead.more next.more);
-      given = subst (λ (es : List Entry). AreAmong es (answers_in (ahead.events ++ next.events))) (sym (replies_joined ahead.more next.more))
-          (subst (AreAmong (replies_in ahead.more ++ replies_in next.more)) (sym (answers_joined ahead.events next.events))
-          (among_joined (replies_in ahead.more) (answers_in ahead.events) (replies_in next.more) (answers_in next.events) ahead.given next.given));
-    }
-
-    waited_now : (was is more : List Entry) (old : M) (level : LevelId) (halt : ShownHalt) → is ≡ was ++ more → halt.reply ≡ None → ((w : World) → holds old level w → last_halt w.halts ≡ Some halt) → Waited holds was is old level halt
-    waited_now was is more old level halt whole unanswered waits = record {
-      front = was;
-      behind = more;
-      whole = whole;
-      unanswered = unanswered;
-      waits = λ first before w held. waits (solo w (own level was)) (before level w held);
-    }
-
-    -- a halt is shown
-    pub asks_shown : (was : List Entry) (old : M) (level : LevelId) (halt : ShownHalt) (from to : O) → meets from (Shown level halt) to → halt.reply ≡ None → ((w : World) → holds old level w → last_halt w.halts ≡ Some halt)
-        → Asks holds meets was was old from to
-    asks_shown was old level halt from to met unanswered waits = record {
-      events = Shown level halt ∷ [];
-      met = (to, (met, refl));
-      waited = (waited_now was was [] old level halt (sym (append-nil was)) unanswered waits, tt);
-      more = [];
-      whole = sym (append-nil was);
-      given = tt;
-    }
-
-    -- a halt is asked, and no reply taken
-    pub asks_in_vain : (was is : List Entry) (old : M) (level : LevelId) (halt : ShownHalt) (reply : Option ℕ) (from to : O) → meets from (Asked level halt reply) to → halt.reply ≡ None
-        → ((w : World) → holds old level w → last_halt w.halts ≡ Some halt) → is ≡ was → Asks holds meets was is old from to
-    asks_in_vain was is old level halt reply from to met unanswered waits same = record {
-      events = Asked level halt reply ∷ [];
-      met = (to, (met, refl));
-      waited = (waited_now was is [] old level halt (same ∙ sym (append-nil was)) unanswered waits, tt);
-      more = [];
-      whole = same ∙ sym (append-nil was);
-      given = tt;
-    }
-
-    -- a halt is asked, and its reply taken
-    pub asks_once : (was is : List Entry) (old new : M) (level : LevelId) (halt : ShownHalt) (reply : Option ℕ) (digit : ℕ) (from to : O) → meets from (Asked level halt reply) to → reply ≡ Some digit → halt.reply ≡ None
-        → ((w : World) → holds old level w → last_halt w.halts ≡ Some halt) → LevelGoes holds level (record { level = level; action = Reply digit } ∷ []) was is old new → Asks holds meets was is old from to
-    asks_once was is old new level halt reply digit from to met some unanswered waits goes = record {
-      events = Asked level halt reply ∷ [];
-      met = (to, (met, refl));
-      waited = (waited_now was is goes.more old level halt goes.whole unanswered waits, tt);
-      more = goes.more;
-      whole = goes.whole;
-      given = subst (λ (es : List Entry). AreAmong es (answers_in (Asked level halt reply ∷ []))) (sym goes.are)
-          (subst (λ (o : Option ℕ). AreAmong (record { level = level; action = Reply digit } ∷ []) (cons_option (option_map (λ digit. record { level = level; action = Reply digit }) o) [])) (sym some)
-          (inl (refl, tt)));
-    }
-
-    pub asks_given : (was is : List Entry) (old new : M) (level : LevelId) (halt : ShownHalt) (reply : Option ℕ) (digit : ℕ) (from to : O) (result : Result Bool Stop) → meets from (Asked level halt reply) to → reply ≡ Some digit
-        → halt.reply ≡ None → ((w : World) → holds old level w → last_halt w.halts ≡ Some halt) → GivesReply holds level digit was is old new result → OnOk result (Asks holds meets was is old from to)
-    asks_given was is old new level halt reply digit from to (Ok true) met some unanswered waits goes = asks_once was is old new level halt reply digit from to met some unanswered waits goes
-    asks_given was is old new level halt reply digit from to (Ok false) met some unanswered waits quiet = asks_in_vain was is old level halt reply from to met unanswered waits quiet.same
-    asks_given was is old new level halt reply digit from to (Err stop) met some unanswered waits given = tt
-
   pub gives_asks : (level : LevelId) (digit : ℕ) (was is : List Entry) (old new : M) (result : Result Bool Stop) → GivesReply holds level digit was is old new result → AsksLevel holds level was is old new result
-  gives_asks level digit was is old new (Ok true) goes = (record { level = level; action = Reply digit } ∷ [], goes)
+  gives_asks level digit was is old new (Ok true) takes = (record { level = level; action = Reply digit } ∷ [], takes.goes)
   gives_asks level digit was is old new (Ok false) quiet = quiet
   gives_asks level digit was is old new (Err stop) given = tt
 
   -- the other level has no entry more
+  pub goes_alone : (level : LevelId) (was is : List Entry) (old new : M) (went : Went) → LevelGoesOn holds level was is old new (Ok went) → own (other level) is ≡ own (other level) was
+  goes_alone level was is old new went goes = (level_goes level was is old new went goes).alone
+
   pub asks_alone : (level : LevelId) (was is : List Entry) (old new : M) (replied : Bool) → AsksLevel holds level was is old new (Ok replied) → own (other level) is ≡ own (other level) was
   asks_alone level was is old new true goes = goes.1.alone
   asks_alone level was is old new false quiet = ap (own (other level)) quiet.same
-
-  -- ---- what was met in a round
-  module _ {O : Type 0} (meets : O → Event → O → Type 0) (was p1 p2 p3 p4 : List Entry) (old b1 b2 b3 b4 : M) (one two : Went) (one_goes : LevelGoesOn holds One was p1 old b1 (Ok one))
-      (two_goes : LevelGoesOn holds Two p1 p2 b1 b2 (Ok two)) where
-    pub both_ask : (from half to : O) → Asks holds meets was p1 old from half → Asks holds meets p1 p2 b1 half to → Asks holds meets was p2 old from to
-    both_ask from half to first second = asks_then meets was p1 p2 old b1 from half to (level_goes One was p1 old b1 one one_goes).goes first second
-
-    pub first_ask : (from half to : O) → Asks holds meets was p2 old from half → Asks holds meets p2 p3 b2 half to → Asks holds meets was p3 old from to
-    first_ask from half to both first = asks_then meets was p2 p3 old b2 from half to (both_go was p1 p2 p3 p4 old b1 b2 b3 b4 one two one_goes two_goes) both first
-
-    pub all_ask : (from half to : O) → GoesOn holds p2 p3 b2 b3 → Asks holds meets was p3 old from half → Asks holds meets p3 p4 b3 half to → Asks holds meets was p4 old from to
-    all_ask from half to first_goes before second =
-        let go : GoesOn holds was p2 old b2 = both_go was p1 p2 p3 p4 old b1 b2 b3 b4 one two one_goes two_goes in
-        asks_then meets was p3 p4 old b3 from half to (λ first held. first_goes first (go first held)) before second
-
-    pub one_alone : own One p2 ≡ own One p1
-    one_alone = (level_goes Two p1 p2 b1 b2 two two_goes).alone
-
-    pub two_alone : own Two p1 ≡ own Two was
-    two_alone = (level_goes One was p1 old b1 one one_goes).alone
 
 -- ---- what came of a first state
 -- an entry acted, and was noted

@@ -3,4 +3,6 @@ pub mod Calls
 pub mod Days
 pub mod Desk
 pub mod Events
+pub mod Moments
 pub mod Operated
+pub mod Rounds

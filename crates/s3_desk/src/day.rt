@@ -1,5 +1,5 @@
 //! A day, from a pack and two decks to the texts of both levels and the pack.
-ghost use Rattle.std.specs.Prelude.{◌≡◌, ◌≢◌, ◌+◌, ℕ, [], List, true, None, Ok, Err, IfOk, OnOk};
+ghost use Rattle.std.specs.Prelude.{◌≡◌, ◌≢◌, ◌+◌, ℕ, [], List, true, false, None, Some, Ok, Err, IfOk, OnOk};
 ghost use Rattle.s3_cards.specs.declared.levels.LevelId.{LevelId};
 ghost use Rattle.s3_store.specs.Inner.State.{KeepsInStep};
 ghost use Rattle.s3_slots.specs.Header.{mounted};
@@ -15,9 +15,10 @@ ghost use Rattle.s3_bureau.specs.Sharing.{IsCommon, IsOwn};
 ghost use Rattle.s3_bureau.specs.Inner.Held.{HoldsFor, State, header_of, held_by, is_open};
 ghost use Rattle.s3_bureau.specs.Inner.Stops.{failed_stop};
 ghost use Rattle.s3_bureau.specs.Inner.Underway.{HasTexts, HaveFiles, HaveSlots, RunsOver};
-ghost use Rattle.s3_desk.specs.declared.ends.End.TheVariants.{Cut};
+ghost use Rattle.s3_desk.specs.declared.ends.End.TheVariants.{Cut, OutOfReplies};
 ghost use Rattle.s3_desk.specs.Inner.Days.{EndSo, IsAnswered, outcome_of, starts_in};
-ghost use Rattle.s3_desk.specs.Inner.Desk.{Asks, EndsAs, HasReached};
+ghost use Rattle.s3_desk.specs.Inner.Desk.{EndsAs, HasReached, HasReplied};
+ghost use Rattle.s3_desk.specs.Inner.Rounds.{SitsFrom};
 
 use crate::desk::operate;
 use crate::ends::{Bounds, Ends};
@@ -63,8 +64,12 @@ pub fn operate_day<O: Operator<Bureau<MemoryStore>>>(
     ensures one_cut { IfOk result (λ day. day.ends.one ≡ Cut → HasReached LevelId.One [] performed.new bounds) }
     ensures two_cut { IfOk result (λ day. day.ends.two ≡ Cut → HasReached LevelId.Two [] performed.new bounds) }
 
-    // The operator was shown and asked for halts that waited, and the replies are its own.
-    ensures answered { OnOk result ((header : Header) → mounted (contents_of pack.items) ≡ Ok header → IsAnswered O.meets (starts_in header (contents_of pack.items) deck1.now deck2.now) performed.new operator.old operator.new) }
+    ensures one_out { IfOk result (λ day. day.ends.one ≡ OutOfReplies → HasReplied LevelId.One [] performed.new) }
+    ensures two_out { IfOk result (λ day. day.ends.two ≡ OutOfReplies → HasReplied LevelId.Two [] performed.new) }
+
+    // The day is a list of moments: each halt is shown as it comes, and asked about at rest; what is performed are turns, drains, and
+    // each reply at its own question.
+    ensures answered { IfOk result (λ day. (header : Header) → mounted (contents_of pack.items) ≡ Ok header → IsAnswered O.meets (starts_in header (contents_of pack.items) deck1.now deck2.now) bounds performed.new day.ends operator.old operator.new) }
 {
     let store = MemoryStore::from_bytes(pack);
     *performed = Performed::new(alloc);
@@ -86,7 +91,9 @@ fn day_over<O: Operator<Bureau<MemoryStore>>>(
     ensures ends { IfOk result (λ day. (header : Header) → mounted store ≡ Ok header → EndSo (starts_in header store deck1.now deck2.now) performed.new day.ends) }
     ensures one_cut { IfOk result (λ day. day.ends.one ≡ Cut → HasReached LevelId.One [] performed.new bounds) }
     ensures two_cut { IfOk result (λ day. day.ends.two ≡ Cut → HasReached LevelId.Two [] performed.new bounds) }
-    ensures answered { OnOk result ((header : Header) → mounted store ≡ Ok header → IsAnswered O.meets (starts_in header store deck1.now deck2.now) performed.new operator.old operator.new) }
+    ensures one_out { IfOk result (λ day. day.ends.one ≡ OutOfReplies → HasReplied LevelId.One [] performed.new) }
+    ensures two_out { IfOk result (λ day. day.ends.two ≡ OutOfReplies → HasReplied LevelId.Two [] performed.new) }
+    ensures answered { IfOk result (λ day. (header : Header) → mounted store ≡ Ok header → IsAnswered O.meets (starts_in header store deck1.now deck2.now) bounds performed.new day.ends operator.old operator.new) }
 {
     let (cards1, refusal1) = read_deck(alloc, deck1)?;
     let (cards2, refusal2) = read_deck(alloc, deck2)?;
@@ -135,7 +142,9 @@ fn operate_to_end<S: PackStore, O: Operator<Bureau<S>>>(
     ensures two { IfOk result (λ day. (w : World) → HoldsFor LevelId.Two bureau.old w → EndsAs day.0.two (solo w (own LevelId.Two performed.new))) }
     ensures one_cut { IfOk result (λ day. day.0.one ≡ Cut → HasReached LevelId.One [] performed.new bounds) }
     ensures two_cut { IfOk result (λ day. day.0.two ≡ Cut → HasReached LevelId.Two [] performed.new bounds) }
-    ensures asks { OnOk result (Asks (λ (b : State) (level : LevelId) (w : World). HoldsFor level b w) O.meets [] performed.new bureau.old operator.old operator.new) }
+    ensures one_out { IfOk result (λ day. day.0.one ≡ OutOfReplies → HasReplied LevelId.One [] performed.new) }
+    ensures two_out { IfOk result (λ day. day.0.two ≡ OutOfReplies → HasReplied LevelId.Two [] performed.new) }
+    ensures sits { IfOk result (λ day. SitsFrom (λ (b : State) (level : LevelId) (w : World). HoldsFor level b w) O.meets (λ level entries. HasReached level [] entries bounds) [] performed.new bureau.old operator.old operator.new false false false false (Some day.0)) }
     ensures failures { bureau.new.beside.state.failures ≡ bureau.old.beside.state.failures + failed_stop result }
     ensures not_stopped { result ≢ Err Stopped }
 {

@@ -1,7 +1,9 @@
 //! A day at the desk, over two levels that take turns.
-ghost use Rattle.std.specs.Prelude.{◌≡◌, ◌≢◌, ◌⊎◌, ◌+◌, ◌<◌, List, None, Some, Err, true, false, is_some, IfOk, IfSome, OnOk};
+ghost use Rattle.std.specs.Prelude.{◌≡◌, ◌≢◌, ◌⊎◌, ◌+◌, ◌<◌, ◌≤◌, ℕ, List, None, Some, Err, true, false, is_some, if◌then◌else◌, IfOk, IfSome, OnOk};
 ghost use Rattle.s3_operator.specs.Inner.Halts.{halt_of};
-ghost use Rattle.s3_operator.specs.Halts.{is_waiting, last_halt};
+ghost use Rattle.s3_operator.specs.Halts.{is_waiting, last_halt, waiting as waiting_spec};
+ghost use Rattle.s3_operator.specs.Replies.{is_allowed};
+ghost use Rattle.s3_operator.specs.declared.halt_code.HaltCode.{HaltCode};
 ghost use Rattle.s3_solo.specs.World.{World};
 ghost use Rattle.s3_bureau.specs.declared.entry.Entry.{Entry};
 ghost use Rattle.s3_bureau.specs.declared.stop.Stop.TheVariants.{Stopped};
@@ -9,9 +11,10 @@ ghost use Rattle.s3_bureau.specs.Inner.Stops.{failed_stop};
 ghost use Rattle.s3_cards.specs.declared.levels.LevelId.{LevelId};
 ghost use Rattle.s3_desk.specs.declared.desk.Went.TheVariants.{On, Rests};
 ghost use Rattle.s3_desk.specs.declared.ends.Bounds.{Bounds};
-ghost use Rattle.s3_desk.specs.declared.ends.End.TheVariants.{Cut as CutOff};
+ghost use Rattle.s3_desk.specs.declared.ends.End.TheVariants.{Cut as CutOff, Halted, OutOfReplies};
 ghost use Rattle.s3_desk.specs.Inner.Calls.{GoesAfter, KeepsFrom, NeverStopped};
-ghost use Rattle.s3_desk.specs.Inner.Desk.{Asks, AsksLevel, DayEnds, DrainsQueue, EndsAs, GivesReply, HasReached, IsLeft, IsSpent, Keeps, LevelGoesOn, MayFollow, RoundEnds, Spends, TakesTurns, Uses, replies_left, work_left};
+ghost use Rattle.s3_desk.specs.Inner.Desk.{AsksLevel, Counts, DayEnds, DrainsQueue, EndsAs, GivesReply, HasReached, HasReplied, IsLeft, IsSpent, Keeps, LevelGoesOn, MayFollow, RoundEnds, Spends, TakesTurns, Uses, replies_left, work_left};
+ghost use Rattle.s3_desk.specs.Inner.Rounds.{Asks, Serves, ShowsHalt, SitsFrom, at_level};
 
 use crate::ends::{Bounds, End, Ends};
 use crate::machine::Machine;
@@ -24,6 +27,9 @@ use std::num::NonZeroU16;
 
 /// The most turns that a level takes before the other one has its own: both show their first halts early so.
 const STRIDE: u16 = 1_000;
+
+/// The most replies that a level takes with no turn and no line between them.
+const MOST_ANSWERS: u16 = u16::MAX;
 
 /// What came of a level's going on.
 #[derive(Clone, Copy, PartialEq, Eq)]
@@ -49,11 +55,13 @@ struct Seat {
 }
 
 impl Seat {
-    ghost use Rattle.std.specs.Prelude.{◌≡◌};
+    ghost use Rattle.std.specs.Prelude.{◌≡◌, false};
 
     /// A level before its first turn.
     fn new(bounds: Bounds) -> Seat
-        ensures { result.left ≡ bounds }
+        ensures left { result.left ≡ bounds }
+        ensures unshown { result.is_shown ≡ false }
+        ensures none { result.answers ≡ 0 }
     {
         Seat {
             left: bounds,
@@ -179,6 +187,17 @@ fn waiting<M: Machine>(bureau: &M, level: LevelId) -> Option<&Halt>
     }
 }
 
+/// Whether no halt has to be shown: the one that waits was, or none waits.
+fn has_no_new_halt<M: Machine>(bureau: &M, level: LevelId, is_shown: bool) -> bool
+    ensures yes { result ≡ true → (w : World) → M.holds bureau.now level w → (is_shown ≡ true) ⊎ (is_waiting w.halts ≡ false) }
+    ensures no { result ≡ false → (is_shown ≡ false) × ((w : World) → M.holds bureau.now level w → is_waiting w.halts ≡ true) }
+{
+    if is_shown {
+        return true;
+    }
+    waiting(bureau, level).is_none()
+}
+
 /// Shows the halt that waits in a level, if one waits that wasn't shown.
 fn show<M: Machine, O: Operator<M>>(
     alloc: Global,
@@ -188,7 +207,7 @@ fn show<M: Machine, O: Operator<M>>(
     operator: &mut O,
 ) -> Result<(), Stop>
     ensures held { OnOk result (Keeps M.holds bureau.old bureau.new) }
-    ensures asks { OnOk result ((was : List Entry) → Asks M.holds O.meets was was bureau.old operator.old operator.new) }
+    ensures shows { OnOk result (ShowsHalt M.holds O.meets level bureau.old operator.old operator.new seat.old.is_shown seat.new.is_shown) }
     ensures same_left { seat.new.left ≡ seat.old.left }
     ensures same_answers { seat.new.answers ≡ seat.old.answers }
     ensures after { OnOk result ((was : List Entry) → GoesAfter M.after was was bureau.old bureau.new) }
@@ -196,7 +215,7 @@ fn show<M: Machine, O: Operator<M>>(
     ensures failed { M.failures bureau.new ≡ M.failures bureau.old + failed_stop result }
     ensures not_stopped { (was : List Entry) → NeverStopped M.after was bureau.old result }
 {
-    if seat.is_shown || waiting(bureau, level).is_none() {
+    if has_no_new_halt(bureau, level, seat.is_shown) {
         return Ok(());
     }
     let evidence = bureau.look(alloc, level)?;
@@ -219,6 +238,8 @@ fn follow<M: Machine, O: Operator<M>>(
 ) -> Result<(), Stop>
     ensures met { OnOk result (MayFollow O.meets level operator.old operator.new) }
     ensures same_left { seat.new.left ≡ seat.old.left }
+    ensures same_shown { seat.new.is_shown ≡ seat.old.is_shown }
+    ensures fewer { seat.new.answers ≤ seat.old.answers }
     ensures answers { went ≢ On → replies_left seat.new ≡ replies_left seat.old }
     ensures no_device { failed_stop result ≡ 0 }
     ensures not_stopped { result ≢ Err Stopped }
@@ -247,8 +268,9 @@ fn serve<M: Machine, O: Operator<M>>(
     performed: &mut Performed,
 ) -> Result<Went, Stop>
     ensures goes { LevelGoesOn M.holds level performed.old performed.new bureau.old bureau.new result }
-    ensures asks { OnOk result (Asks M.holds O.meets performed.old performed.new bureau.old operator.old operator.new) }
+    ensures serves { OnOk result (Serves M.holds O.meets level performed.old performed.new bureau.old bureau.new operator.old operator.new seat.old.is_shown seat.new.is_shown) }
     ensures uses { IfOk result (λ went. Uses level performed.old performed.new seat.old.left seat.new.left went) }
+    ensures counts { OnOk result (Counts level performed.old performed.new seat.old.answers seat.new.answers) }
     ensures answers { IfOk result (λ went. went ≢ On → replies_left seat.new ≡ replies_left seat.old) }
     ensures after { OnOk result (GoesAfter M.after performed.old performed.new bureau.old bureau.new) }
     ensures kept { KeepsFrom M.keeps bureau.old bureau.new }
@@ -269,6 +291,7 @@ fn give<M: Machine>(
     performed: &mut Performed,
 ) -> Result<bool, Stop>
     ensures goes { GivesReply M.holds level digit performed.old performed.new bureau.old bureau.new result }
+    ensures allowed { IfOk result (λ is_taken. (w : World) (code : HaltCode) → M.holds bureau.old level w → waiting_spec w.halts ≡ Some code → is_allowed code digit ≡ is_taken) }
     ensures spends { OnOk result ((left : Bounds) → Spends level performed.old performed.new left left) }
     ensures after { OnOk result (GoesAfter M.after performed.old performed.new bureau.old bureau.new) }
     ensures kept { KeepsFrom M.keeps bureau.old bureau.new }
@@ -300,8 +323,9 @@ fn ask<M: Machine, O: Operator<M>>(
     performed: &mut Performed,
 ) -> Result<bool, Stop>
     ensures goes { AsksLevel M.holds level performed.old performed.new bureau.old bureau.new result }
-    ensures asks { OnOk result (Asks M.holds O.meets performed.old performed.new bureau.old operator.old operator.new) }
+    ensures asks { IfOk result (λ is_taken. (answers : ℕ) → Asks M.holds O.meets level Rests answers performed.old performed.new bureau.old operator.old operator.new is_taken) }
     ensures spends { OnOk result ((left : Bounds) → Spends level performed.old performed.new left left) }
+    ensures counts { IfOk result (λ is_taken. Counts level performed.old performed.new 0 (if is_taken then 1 else 0)) }
     ensures after { OnOk result (GoesAfter M.after performed.old performed.new bureau.old bureau.new) }
     ensures kept { KeepsFrom M.keeps bureau.old bureau.new }
     ensures failed { M.failures bureau.new ≡ M.failures bureau.old + failed_stop result }
@@ -316,6 +340,18 @@ fn ask<M: Machine, O: Operator<M>>(
     give(bureau, level, digit, performed)
 }
 
+/// Whether a level that went so, and counts so many replies, isn't asked about.
+fn isnt_asked(went: Went, answers: u16) -> bool
+    ensures yes { result ≡ true → (went ≢ Rests) ⊎ (answers ≡ 65535) }
+    ensures no { result ≡ false → (went ≡ Rests) × (answers ≢ 65535) }
+{
+    match went {
+        Went::On => true,
+        Went::Cut => true,
+        Went::Rests => answers == MOST_ANSWERS,
+    }
+}
+
 /// Asks for a level that is at rest. Whether a reply was taken.
 fn ask_at_rest<M: Machine, O: Operator<M>>(
     bureau: &mut M,
@@ -326,38 +362,56 @@ fn ask_at_rest<M: Machine, O: Operator<M>>(
     performed: &mut Performed,
 ) -> Result<bool, Stop>
     ensures goes { AsksLevel M.holds level performed.old performed.new bureau.old bureau.new result }
-    ensures asks { OnOk result (Asks M.holds O.meets performed.old performed.new bureau.old operator.old operator.new) }
+    ensures asks { IfOk result (λ is_taken. Asks M.holds O.meets level went seat.old.answers performed.old performed.new bureau.old operator.old operator.new is_taken) }
     ensures spends { OnOk result (Spends level performed.old performed.new seat.old.left seat.new.left) }
     ensures same_left { seat.new.left ≡ seat.old.left }
     ensures taken { IfOk result (λ is_taken. is_taken ≡ true → replies_left seat.new < replies_left seat.old) }
-    ensures not_taken { IfOk result (λ is_taken. is_taken ≡ false → replies_left seat.new ≡ replies_left seat.old) }
+    ensures not_taken { IfOk result (λ is_taken. is_taken ≡ false → seat.new.answers ≡ seat.old.answers) }
+    ensures shown_anew { IfOk result (λ is_taken. is_taken ≡ true → seat.new.is_shown ≡ false) }
+    ensures still_shown { IfOk result (λ is_taken. is_taken ≡ false → seat.new.is_shown ≡ seat.old.is_shown) }
+    ensures counts { OnOk result (Counts level performed.old performed.new seat.old.answers seat.new.answers) }
     ensures after { OnOk result (GoesAfter M.after performed.old performed.new bureau.old bureau.new) }
     ensures kept { KeepsFrom M.keeps bureau.old bureau.new }
     ensures failed { M.failures bureau.new ≡ M.failures bureau.old + failed_stop result }
     ensures not_stopped { NeverStopped M.after performed.old bureau.old result }
 {
-    if went != Went::Rests || seat.answers == u16::MAX {
+    if isnt_asked(went, seat.answers) {
         return Ok(false);
     }
     let is_taken = ask(bureau, level, operator, performed)?;
-    if !is_taken {
-        return Ok(false);
+    if is_taken {
+        seat.answers += 1;
+        seat.is_shown = false;
+        return Ok(true);
     }
-    seat.answers += 1;
-    seat.is_shown = false;
-    Ok(true)
+    Ok(false)
 }
 
-/// Where a level was left.
-fn end_of<M: Machine>(bureau: &M, level: LevelId, went: Went) -> End
+/// Where a level was left at a halt.
+fn end_at_halt(answers: u16) -> End
+    ensures few { result ≡ Halted → answers ≢ 65535 }
+    ensures out { result ≡ OutOfReplies → answers ≡ 65535 }
+    ensures either { (result ≡ Halted) ⊎ (result ≡ OutOfReplies) }
+{
+    if answers == MOST_ANSWERS {
+        End::OutOfReplies
+    } else {
+        End::Halted
+    }
+}
+
+/// Where a level was left whose seat counts so many replies.
+fn end_of<M: Machine>(bureau: &M, level: LevelId, went: Went, answers: u16) -> End
     ensures ends { (w : World) → M.holds bureau.now level w → (went ≡ Rests → IsLeft w) → EndsAs result w }
     ensures cut { result ≡ CutOff → went ≢ Rests }
+    ensures halted { result ≡ Halted → (went ≡ Rests) × ((answers ≢ 65535) × ((w : World) → M.holds bureau.now level w → is_waiting w.halts ≡ true)) }
+    ensures out { result ≡ OutOfReplies → answers ≡ 65535 }
 {
     match went {
         Went::On => End::Cut,
         Went::Cut => End::Cut,
         Went::Rests => match waiting(bureau, level) {
-            Some(_halt) => End::Halted,
+            Some(_halt) => end_at_halt(answers),
             None => End::Done,
         },
     }
@@ -385,11 +439,15 @@ fn round<M: Machine, O: Operator<M>>(
     performed: &mut Performed,
 ) -> Result<Option<Ends>, Stop>
     ensures ends { RoundEnds M.holds performed.old performed.new bureau.old bureau.new result }
-    ensures asks { OnOk result (Asks M.holds O.meets performed.old performed.new bureau.old operator.old operator.new) }
+    ensures sits { IfOk result (λ ends. SitsFrom M.holds O.meets (λ level entries. HasReached level performed.old entries (at_level seat_one.old.left seat_two.old.left level)) performed.old performed.new bureau.old operator.old operator.new seat_one.old.is_shown seat_two.old.is_shown seat_one.new.is_shown seat_two.new.is_shown ends) }
     ensures one_spends { OnOk result (Spends LevelId.One performed.old performed.new seat_one.old.left seat_one.new.left) }
     ensures two_spends { OnOk result (Spends LevelId.Two performed.old performed.new seat_two.old.left seat_two.new.left) }
     ensures one_cut { IfOk result (λ ends. IfSome ends (λ ends. ends.one ≡ CutOff → IsSpent seat_one.new.left)) }
     ensures two_cut { IfOk result (λ ends. IfSome ends (λ ends. ends.two ≡ CutOff → IsSpent seat_two.new.left)) }
+    ensures one_counts { OnOk result (Counts LevelId.One performed.old performed.new seat_one.old.answers seat_one.new.answers) }
+    ensures two_counts { OnOk result (Counts LevelId.Two performed.old performed.new seat_two.old.answers seat_two.new.answers) }
+    ensures one_out { IfOk result (λ ends. IfSome ends (λ ends. ends.one ≡ OutOfReplies → seat_one.new.answers ≡ 65535)) }
+    ensures two_out { IfOk result (λ ends. IfSome ends (λ ends. ends.two ≡ OutOfReplies → seat_two.new.answers ≡ 65535)) }
     ensures less_work { IfOk result (λ ends. ends ≡ None → work_left seat_one.new seat_two.new < work_left seat_one.old seat_two.old) }
     ensures after { OnOk result (GoesAfter M.after performed.old performed.new bureau.old bureau.new) }
     ensures kept { KeepsFrom M.keeps bureau.old bureau.new }
@@ -410,8 +468,8 @@ fn round<M: Machine, O: Operator<M>>(
         return Ok(None);
     }
     Ok(Some(Ends {
-        one: end_of(bureau, LevelId::One, one),
-        two: end_of(bureau, LevelId::Two, two),
+        one: end_of(bureau, LevelId::One, one, seat_one.answers),
+        two: end_of(bureau, LevelId::Two, two, seat_two.answers),
     }))
 }
 
@@ -425,11 +483,14 @@ pub fn operate<M: Machine, O: Operator<M>>(
 ) -> Result<Ends, Stop>
     // Each world has taken what was performed of its level, and each level was left so.
     ensures ends { DayEnds M.holds performed.old performed.new bureau.old bureau.new result }
-    // The operator was shown and asked for halts that waited, and the replies are its own.
-    ensures asks { OnOk result (Asks M.holds O.meets performed.old performed.new bureau.old operator.old operator.new) }
+    // Whatever the day was before, what happened since is a list of moments: each in its time, and each reply at its own question.
+    ensures sits { IfOk result (λ ends. SitsFrom M.holds O.meets (λ level entries. HasReached level performed.old entries bounds) performed.old performed.new bureau.old operator.old operator.new false false false false (Some ends)) }
     // One that was cut has taken as many turns as it may, or as many lines were drained.
     ensures one_cut { IfOk result (λ ends. ends.one ≡ CutOff → HasReached LevelId.One performed.old performed.new bounds) }
     ensures two_cut { IfOk result (λ ends. ends.two ≡ CutOff → HasReached LevelId.Two performed.old performed.new bounds) }
+    // One that is out of replies has taken 65,535 of them at least.
+    ensures one_out { IfOk result (λ ends. ends.one ≡ OutOfReplies → HasReplied LevelId.One performed.old performed.new) }
+    ensures two_out { IfOk result (λ ends. ends.two ≡ OutOfReplies → HasReplied LevelId.Two performed.old performed.new) }
     // What the machine's own relations say.
     ensures after { OnOk result (GoesAfter M.after performed.old performed.new bureau.old bureau.new) }
     ensures kept { KeepsFrom M.keeps bureau.old bureau.new }

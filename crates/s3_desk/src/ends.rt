@@ -14,8 +14,12 @@ pub struct Bounds {
 pub enum End {
     /// No job is at work, none is left, and no line is queued.
     Done,
-    /// A halt waits, and no line is queued.
+    /// A halt waits, and no line is queued. The operator was asked for a reply after all else was done, and gave none that the halt
+    /// allows.
     Halted,
+    /// A halt waits, and no line is queued. The operator isn't asked for a reply, since the level has taken 65,535 replies with no turn
+    /// and no line between them.
+    OutOfReplies,
     /// It has taken as many turns, or has printed as many lines, as it may.
     Cut,
 }

@@ -33,8 +33,8 @@ pub trait Operator<M: Machine> {
     ) -> Result<(), AllocError>
         ensures { meets self.old (Shown level (halt_of halt.now)) self.new };
 
-    /// The reply to a halt that waits in a level; with none it is left waiting. It is asked for only where neither level can go on.
-    /// A reply that the halt doesn't allow counts as none.
+    /// The reply to a halt that waits in a level; with none it is left waiting. It is asked for only when neither level can go on.
+    /// A reply that the halt allows is performed at once, before anything else; any other counts as none.
     fn reply(&mut self, machine: &M, level: LevelId, halt: &Halt) -> Option<u8>
         ensures { meets self.old (Asked level (halt_of halt.now) result) self.new };
 }

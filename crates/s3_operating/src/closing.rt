@@ -93,7 +93,7 @@ impl<'a> Levels<'a> {
     fn lines_of(&self, level: LevelId, end: End, texts: &LevelTexts) -> usize {
         match end {
             End::Cut => memchr_iter(b'\n', &texts.report).count(),
-            End::Done | End::Halted => {
+            End::Done | End::Halted | End::OutOfReplies => {
                 usize::try_from(self.tally.of(level).lines).unwrap_or(usize::MAX)
             }
         }
@@ -109,7 +109,7 @@ impl<'a> Levels<'a> {
             End::Cut if seat.is_idle => LevelEnd::Done,
             End::Done => LevelEnd::Done,
             End::Halted if is_stopped => LevelEnd::Stopped,
-            End::Halted => LevelEnd::Halted,
+            End::Halted | End::OutOfReplies => LevelEnd::Halted,
             End::Cut if self.has_all_turns(level) => LevelEnd::CutByTurns,
             End::Cut => LevelEnd::CutByLines,
         }

@@ -1,10 +1,9 @@
 -- What is done at a desk.
-use Rattle.std.specs.Prelude.{◌≡◌, ◌≢◌, ◌⊎◌, ◌+◌, ◌*◌, ◌-◌, ◌≤◌, ◌<◌, ℕ, Bool, true, false, List, [], ◌∷◌, ◌++◌, length, filter, filter_map, Option, Some, None, option_map, Result, Ok, Err}
-use Rattle.std.specs.List.{AllByRecursion}
+use Rattle.std.specs.Prelude.{◌≡◌, ◌≢◌, ◌⊎◌, ◌+◌, ◌*◌, ◌-◌, ◌≤◌, ◌<◌, ℕ, Bool, true, false, List, [], ◌∷◌, ◌++◌, length, filter, Option, Some, None, Result, Ok, Err}
 use Rattle.s3_cards.specs.Inner.Levels.{other}
 use Rattle.s3_cards.specs.declared.levels.LevelId.{LevelId}
 use Rattle.s3_cards.specs.declared.levels.LevelId.TheVariants.{One, Two}
-use Rattle.s3_operator.specs.Halts.{ShownHalt, is_waiting, last_halt}
+use Rattle.s3_operator.specs.Halts.{is_waiting}
 use Rattle.s3_solo.specs.declared.action.Action.{Action}
 use Rattle.s3_solo.specs.declared.action.Action.TheVariants.{Turn, Reply, Drain}
 use Rattle.s3_solo.specs.declared.action.Did.TheVariants.{Acted}
@@ -18,12 +17,12 @@ use Rattle.s3_bureau.specs.Entries.{own}
 use Rattle.s3_bureau.specs.Inner.Underway.{Performs}
 use Rattle.s3_desk.specs.declared.ends.Bounds.{Bounds}
 use Rattle.s3_desk.specs.declared.ends.End.{End}
-use Rattle.s3_desk.specs.declared.ends.End.TheVariants.{Done, Halted, Cut as CutOff}
+use Rattle.s3_desk.specs.declared.ends.End.TheVariants.{Done, Halted, OutOfReplies, Cut as CutOff}
 use Rattle.s3_desk.specs.declared.ends.Ends.{Ends}
 use Rattle.s3_desk.specs.declared.desk.Seat.{Seat}
 use Rattle.s3_desk.specs.declared.desk.Went.{Went}
 use Rattle.s3_desk.specs.declared.desk.Went.TheVariants.{On, Rests, Cut}
-use Rattle.s3_desk.specs.Inner.Events.{Asked, Event, Followed, Shown}
+use Rattle.s3_desk.specs.Inner.Events.{Event, Followed}
 
 -- ---- replies
 abbrev pub is_reply : Action → Bool
@@ -33,22 +32,6 @@ is_reply _ = false
 -- the replies among entries
 abbrev pub replies_in : List Entry → List Entry
 replies_in entries = filter (λ entry. is_reply entry.action) entries
-
--- the reply that an operator gave, if one was
-abbrev pub answer_in : Event → Option Entry
-answer_in (Followed level) = None
-answer_in (Shown level halt) = None
-answer_in (Asked level halt reply) = option_map (λ digit. record { level = level; action = Reply digit }) reply
-
--- the replies that an operator gave
-abbrev pub answers_in : List Event → List Entry
-answers_in events = filter_map answer_in events
-
--- these entries stand among others, in the same order
-abbrev pub AreAmong : List Entry → List Entry → Type 0
-AreAmong [] others = Unit {0}
-AreAmong (entry ∷ entries) [] = ⊥
-AreAmong (entry ∷ entries) (other ∷ others) = ((entry ≡ other) × AreAmong entries others) ⊎ AreAmong (entry ∷ entries) others
 
 -- these events were met, one after the other, by which an operator came from one state to another
 abbrev pub AreMet : {O : Type 0} → (O → Event → O → Type 0) → O → List Event → O → Type 0
@@ -76,6 +59,14 @@ turns_in level entries = length (filter is_turn (own level entries))
 abbrev pub lines_in : LevelId → List Entry → ℕ
 lines_in level entries = length (filter is_drain (own level entries))
 
+-- how many replies a level takes by entries
+abbrev pub replies_taken : LevelId → List Entry → ℕ
+replies_taken level entries = length (filter is_reply (own level entries))
+
+-- no more replies are counted than were taken
+abbrev pub Counts : (level : LevelId) (was is : List Entry) (old new : ℕ) → Type 0
+Counts level was is old new = replies_taken level was + new ≤ replies_taken level is + old
+
 -- a level has no turn left, or no line
 abbrev pub IsSpent : Bounds → Type 0
 IsSpent left = (left.turns ≡ 0) ⊎ (left.lines ≡ 0)
@@ -100,6 +91,10 @@ pub record Uses (level : LevelId) (was is : List Entry) (old new : Bounds) (went
 abbrev pub HasReached : LevelId → (was is : List Entry) → Bounds → Type 0
 HasReached level was is bounds = (turns_in level is ≡ turns_in level was + bounds.turns) ⊎ (lines_in level is ≡ lines_in level was + bounds.lines)
 
+-- a level has taken so many replies that the operator isn't asked again
+abbrev pub HasReplied : LevelId → (was is : List Entry) → Type 0
+HasReplied level was is = replies_taken level was + 65535 ≤ replies_taken level is
+
 -- how many replies may still be taken before the level goes on
 abbrev pub replies_left : Seat → ℕ
 replies_left seat = 65535 - seat.answers
@@ -114,10 +109,11 @@ pub record IsLeft (w : World) : Type 0 where
   pub rests : IsAtRest w
   pub empty : is_queued w.lines ≡ false
 
--- where a level was left: at rest, where no halt waits, or one does
+-- where a level was left: at rest, where no halt waits, or one does, or one does that isn't asked about
 abbrev pub EndsAs : End → World → Type 0
 EndsAs Done w = IsLeft w × (is_waiting w.halts ≡ false)
 EndsAs Halted w = IsLeft w × (is_waiting w.halts ≡ true)
+EndsAs OutOfReplies w = IsLeft w × (is_waiting w.halts ≡ true)
 EndsAs CutOff w = Unit {0}
 
 -- ---- a level that goes on, over what holds worlds
@@ -186,36 +182,16 @@ module _ {M : Type 0} (holds : M → LevelId → World → Type 0) where
   AsksLevel level was is old new (Ok false) = IsQuiet was is old new
   AsksLevel level was is old new (Err stop) = Unit {0}
 
+  -- the reply is the one entry that was performed
+  pub record TakesReply (level : LevelId) (digit : ℕ) (was is : List Entry) (old new : M) : Type 0 where
+    pub goes : LevelGoes level (record { level = level; action = Reply digit } ∷ []) was is old new
+    pub whole : is ≡ was ++ record { level = level; action = Reply digit } ∷ []
+
   -- a reply was given, and taken or not
   abbrev pub GivesReply : LevelId → (digit : ℕ) → (was is : List Entry) → (old new : M) → Result Bool Stop → Type 0
-  GivesReply level digit was is old new (Ok true) = LevelGoes level (record { level = level; action = Reply digit } ∷ []) was is old new
+  GivesReply level digit was is old new (Ok true) = TakesReply level digit was is old new
   GivesReply level digit was is old new (Ok false) = IsQuiet was is old new
   GivesReply level digit was is old new (Err stop) = Unit {0}
-
-  -- ---- what the operator met
-  -- behind the first of these entries the halt waited in each world of the level, without a reply
-  pub record Waited (was is : List Entry) (old : M) (level : LevelId) (halt : ShownHalt) : Type 0 where
-    pub front : List Entry
-    pub behind : List Entry
-    pub whole : is ≡ front ++ behind
-    pub unanswered : halt.reply ≡ None
-    pub waits : (first : M) → Performs was (holds first) (holds old) → (w : World) → holds first level w → last_halt (solo w (own level front)).halts ≡ Some halt
-
-  -- a halt that was shown, or asked, waited
-  abbrev pub HasWaited : (was is : List Entry) → (old : M) → Event → Type 0
-  HasWaited was is old (Followed level) = Unit {0}
-  HasWaited was is old (Shown level halt) = Waited was is old level halt
-  HasWaited was is old (Asked level halt reply) = Waited was is old level halt
-
-  -- The operator was shown and asked for halts that waited, one after the other; and the replies that were performed are among those
-  -- that it gave, in their order.
-  pub record Asks {O : Type 0} (meets : O → Event → O → Type 0) (was is : List Entry) (old : M) (from to : O) : Type 0 where
-    pub events : List Event
-    pub met : AreMet meets from events to
-    pub waited : AllByRecursion (HasWaited was is old) events
-    pub more : List Entry
-    pub whole : is ≡ was ++ more
-    pub given : AreAmong (replies_in more) (answers_in events)
 
   -- ---- a day
   -- each world that was held at first has come to its end by the level's own entries

@@ -27,4 +27,5 @@ pub returns-in-Ok-day-clause-answered : goal.returns-in-Ok-day-clause-answered
 returns-in-Ok-day-clause-answered g c =
     let held : HoldsStarts c.in-Ok.bureau (header_of c.in-Ok.bureau) c.args.store c.args.deck1.now c.args.deck2.now =
     λ level. starts_held level c.in-Ok.bureau c.args.store c.args.deck1.now c.args.deck2.now c.in_ok-cards1.cards1 c.in_ok-cards2.cards2 c.in_ok-cards1.refusal1 c.in_ok-cards2.refusal2 c.in_ok-cards1.ensures c.in_ok-cards2.ensures c.in-Ok.ensures.one c.in-Ok.ensures.two in
-    λ header is. answered_in g.O.Operator.meets (starts_in header c.args.store c.args.deck1.now c.args.deck2.now) c.operate_to_end-day.new.performed c.in-Ok.bureau c.args.operator.now c.operate_to_end-day.new.operator (starts_of c.in-Ok.bureau header c.args.store c.args.deck1.now c.args.deck2.now c.in-Ok.ensures.header is held) c.in-Ok-day.ensures.asks
+    λ header is. answered_in g.O.Operator.meets header c.args.store c.args.deck1.now c.args.deck2.now c.args.bounds c.operate_to_end-day.new.performed c.in-Ok.bureau c.in-Ok-day.ends c.args.operator.now c.operate_to_end-day.new.operator
+    (starts_of c.in-Ok.bureau header c.args.store c.args.deck1.now c.args.deck2.now c.in-Ok.ensures.header is held) c.in-Ok-day.ensures.sits

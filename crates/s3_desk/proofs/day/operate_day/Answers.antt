@@ -1,4 +1,4 @@
-use Rattle.std.proofs.Common.{ℕ, List, IfOk, Ok, OnOk, ◌≡◌, subst}
+use Rattle.std.proofs.Common.{ℕ, List, IfOk, Ok, ◌≡◌, subst}
 use Rattle.s3_slots.specs.Header.{mounted}
 use Rattle.s3_slots.specs.declared.header.Header.{Header}
 use Rattle.s3_bureau.proofs.Running.{runs_by}
@@ -16,5 +16,5 @@ returns-clause-ends g c =
 
 pub returns-clause-answered : goal.returns-clause-answered
 returns-clause-answered g c =
-    subst (λ (contents : List (List ℕ)). OnOk c.day_over.result ((header : Header) → mounted contents ≡ Ok header → IsAnswered g.O.Operator.meets (starts_in header contents c.args.deck1.now c.args.deck2.now) c.day_over.new.performed c.args.operator.now c.day_over.new.operator))
+    subst (λ (contents : List (List ℕ)). IfOk c.day_over.result (λ day. (header : Header) → mounted contents ≡ Ok header → IsAnswered g.O.Operator.meets (starts_in header contents c.args.deck1.now c.args.deck2.now) c.args.bounds c.day_over.new.performed day.ends c.args.operator.now c.day_over.new.operator))
     c.from_bytes-store.ensures c.day_over.ensures.answered

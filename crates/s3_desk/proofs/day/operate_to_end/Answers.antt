@@ -1,12 +1,13 @@
-use Rattle.std.proofs.Common.{rules, List, ◌∙◌, subst}
+use Rattle.std.proofs.Common.{rules, false, List, Some, ◌∙◌, subst}
 use Rattle.s3_cards.specs.declared.levels.LevelId.{LevelId}
 use Rattle.s3_cards.specs.declared.levels.LevelId.TheVariants.{One, Two}
 use Rattle.s3_solo.specs.World.{World}
 use Rattle.s3_bureau.specs.declared.entry.Entry.{Entry}
 use Rattle.s3_bureau.specs.Inner.Held.{HoldsFor, State, held_by}
 use Rattle.s3_bureau.proofs.Running.{files_stand, slots_stand, texts_shown}
-use Rattle.s3_desk.specs.Inner.Desk.{Asks, HasReached}
+use Rattle.s3_desk.specs.Inner.Desk.{HasReached, HasReplied}
 use Rattle.s3_desk.specs.Inner.Operated.{IsAfter}
+use Rattle.s3_desk.specs.Inner.Rounds.{SitsFrom}
 use Rattle.s3_desk.proofs.Days.{after_given, common_left, common_none, idle_left, performs_given}
 use Rattle.s3_desk.proofs.day.operate_to_end.Goals as goal
 
@@ -58,9 +59,18 @@ pub returns-clause-two_cut : goal.returns-clause-two_cut
 returns-clause-two_cut g c =
     λ cut. subst (λ (was : List Entry). HasReached Two was c.operate.new.performed c.args.bounds) c.requires.none (c.in_ok-ends.ensures.two_cut cut)
 
-pub returns-clause-asks : goal.returns-clause-asks
-returns-clause-asks g c =
-    subst (λ (was : List Entry). Asks (λ (b : State) (level : LevelId) (w : World). HoldsFor level b w) g.O.Operator.meets was c.operate.new.performed c.args.bureau.now c.args.operator.now c.operate.new.operator) c.requires.none c.in_ok-ends.ensures.asks
+pub returns-clause-one_out : goal.returns-clause-one_out
+returns-clause-one_out g c =
+    λ out. subst (λ (was : List Entry). HasReplied One was c.operate.new.performed) c.requires.none (c.in_ok-ends.ensures.one_out out)
+
+pub returns-clause-two_out : goal.returns-clause-two_out
+returns-clause-two_out g c =
+    λ out. subst (λ (was : List Entry). HasReplied Two was c.operate.new.performed) c.requires.none (c.in_ok-ends.ensures.two_out out)
+
+pub returns-clause-sits : goal.returns-clause-sits
+returns-clause-sits g c =
+    subst (λ (was : List Entry). SitsFrom (λ (b : State) (level : LevelId) (w : World). HoldsFor level b w) g.O.Operator.meets (λ level entries. HasReached level was entries c.args.bounds) was c.operate.new.performed c.args.bureau.now c.args.operator.now
+    c.operate.new.operator false false false false (Some c.in_ok-ends.ends)) c.requires.none c.in_ok-ends.ensures.sits
 
 pub returns-in_err-ends-clause-not_stopped : goal.returns-in_err-ends-clause-not_stopped
 returns-in_err-ends-clause-not_stopped g c =
