@@ -381,7 +381,7 @@ impl<'a> Levels<'a> {
         message
     }
 
-    /// Appends what may be answered to the halt of a level, and to that of the other one behind it, level 1 first.
+    /// Appends what may be answered to the halt of a level, and to that of the other one, level 1 first.
     fn push_choices(&self, message: &mut Message, level: LevelId) {
         let one = self.asked_in(level, LevelId::One);
         let two = self.asked_in(level, LevelId::Two);
@@ -507,7 +507,7 @@ impl<'a> Levels<'a> {
         Said::Nothing
     }
 
-    /// Tells what the replies do.
+    /// Explains what the replies do.
     fn help(&self, message: &mut Message, level: LevelId) -> Said {
         self.push_help_of(message, level, LevelId::One);
         self.push_help_of(message, level, LevelId::Two);
