@@ -55,6 +55,17 @@ pub enum Questioned {
     Person,
 }
 
+/// Whether the pack of a day that is over is to be saved.
+#[derive(Clone, Copy)]
+pub enum Wish {
+    /// It is.
+    Save,
+    /// It isn't: a person answered so.
+    Leave,
+    /// It isn't: the log has that answer.
+    LeaveByLog,
+}
+
 /// How a day is operated.
 #[derive(Clone, Copy)]
 pub struct Settings<'a> {
@@ -209,7 +220,7 @@ impl<'a, R: Read + Drop, W: Write + Drop, F: Write + Drop, C: Clock + Drop> Desk
         self.test_outputs()
     }
 
-    /// Begins the day, once: takes the decks as they were read, reports which can't be, and begins the log. `Err` stands also for
+    /// Begins the day, once: takes the decks as they were read, reports which can't be, and begins the log. `Err` is also returned for
     /// a day that is refused.
     fn begin<S: PackStore>(&mut self, machine: &Bureau<S>) -> Result<(), AllocError> {
         if self.has_begun {
@@ -456,12 +467,20 @@ impl<'a, R: Read + Drop, W: Write + Drop, F: Write + Drop, C: Clock + Drop> Desk
         Ok(false)
     }
 
-    /// Whether the pack is to be saved: if a reply ended a job after it had changed files, a person is asked.
-    pub fn wants_saved(&mut self) -> Result<bool, AllocError> {
-        if !self.levels.is_person_asked() || !self.levels.has_spoilt() {
-            return Ok(true);
+    /// Whether the pack is to be saved. If a reply ended a job after it had changed files, the answer of the log counts, if it has one;
+    /// otherwise a person is asked.
+    pub fn wants_saved(&mut self) -> Result<Wish, AllocError> {
+        if !self.levels.has_spoilt() {
+            return Ok(Wish::Save);
         }
-        self.agrees(SAVE)
+        if self.levels.is_declined_in_log() {
+            return Ok(Wish::LeaveByLog);
+        }
+        if !self.levels.is_person_asked() || self.agrees(SAVE)? {
+            Ok(Wish::Save)
+        } else {
+            Ok(Wish::Leave)
+        }
     }
 
     /// Reports a log or a script that can't be written. A person may choose to go on without it; else the day ends, which is `Err`.

@@ -117,6 +117,14 @@ impl<'a> Levels<'a> {
             || self.tally.of(level).lines >= u64::from(self.settings.bounds.lines)
     }
 
+    /// Whether the log of a day that is done again has the answer that the pack isn't to be saved.
+    pub(crate) fn is_declined_in_log(&self) -> bool {
+        match self.settings.logged {
+            Some(log) => log.is_declined,
+            None => false,
+        }
+    }
+
     /// Whether a person is asked.
     pub(crate) fn is_person_asked(&self) -> bool {
         matches!(self.settings.questioned, Questioned::Person)

@@ -35,7 +35,7 @@ mod unread;
 pub use clock::Clock;
 pub use closing::Closing;
 pub use day_deck::{DayDeck, JoinedFiles};
-pub use desk::{Desk, Questioned, Settings};
+pub use desk::{Desk, Questioned, Settings, Wish};
 pub use journal::Journal;
 pub use printed::PrintedJob;
 pub use reports::Reports;

@@ -6,11 +6,17 @@ use super::order::Order;
 use super::outputs::KeptOutputs;
 use s3_day_log::{DayOver, Event, NamedFile, checksum};
 use s3_host_files::{FileFault, Kept, LockedPack, save_new_pack, save_pack};
-use s3_operating::Verdict;
+use s3_operating::{Verdict, Wish};
 use s3_paper_commands::status::{DONE, FILE_FAILED, PASSED_OVER, PERSON_NEEDED};
 use std::alloc::{AllocError, Global};
 use std::io;
 use std::io::Write;
+
+/// Printed when the operator answered that the pack isn't to be saved.
+const ANSWERED_NO: &'static str = " is left alone: the answer was no\n";
+
+/// Printed when the log of the day that is done again has that answer.
+const LOGGED_NO: &'static str = " is left alone: in the log the answer was no\n";
 
 /// A day whose pack is saved: with what, and where.
 #[derive(Clone, Copy)]
@@ -46,8 +52,10 @@ pub fn end_day<'n>(
         desk.tell(" is left alone: a level isn't done (--save-unfinished saves it so)\n");
         return end_unsaved(rt, order, desk, kept, over);
     }
-    if !desk.wants_saved()? {
-        return end_declined(rt, order, desk, kept, path);
+    match desk.wants_saved()? {
+        Wish::Save => {}
+        Wish::Leave => return end_declined(rt, order, desk, kept, path, ANSWERED_NO),
+        Wish::LeaveByLog => return end_declined(rt, order, desk, kept, path, LOGGED_NO),
     }
     let sum = checksum(rt.alloc(), &over.day.outcome.pack)?;
     let saving = Saving {
@@ -245,10 +253,12 @@ fn end_declined<'n>(
     desk: &mut OwnDesk<'_>,
     kept: &KeptOutputs,
     path: &str,
+    why: &str,
 ) -> Result<u8, DayFault<'n>> {
     desk.tell("the pack is not saved, and ");
     desk.tell(path);
-    desk.tell(" is left alone: the answer was no\n");
+    desk.tell(why);
+    desk.note(Event::Declined)?;
     log_end(rt, order, desk, kept, PERSON_NEEDED, None)?;
     Ok(PERSON_NEEDED)
 }
